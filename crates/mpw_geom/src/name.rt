@@ -114,6 +114,14 @@ impl Name {
     }
 }
 
+impl Clone for Name {
+    ghost is_clone = { λ name copy. copy ≡ name };
+
+    fn clone(&self) -> Result<Name, AllocError> {
+        self.copy()
+    }
+}
+
 impl PartialEq for Name {
     ghost eq = { pointwise nat_eq };
 
