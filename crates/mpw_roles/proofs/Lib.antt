@@ -1,0 +1,5 @@
+pub mod Chains
+pub mod HierarchyLemmas
+pub mod MarksLemmas
+pub mod SearchLemmas
+pub mod TableLemmas
