@@ -224,7 +224,7 @@ junior_role h is a b (chain {middle = m} pair rest) = elim (junior_role h is m b
   | inr role ↦ inr role
 ]
 
-contains-filter : (p : Name → Bool) (xs : List Name) (b : Name) → contains_name (filter p xs) b ≡ (contains_name xs b && p b)
+pub contains-filter : (p : Name → Bool) (xs : List Name) (b : Name) → contains_name (filter p xs) b ≡ (contains_name xs b && p b)
 contains-filter p [] b = refl
 contains-filter p (x ∷ xs) b =
     elim (p x) as (λ t. p x ≡ t → contains_name (cond t (x ∷ filter p xs) (filter p xs)) b ≡ ((name_eq b x || contains_name xs b) && p b)) [

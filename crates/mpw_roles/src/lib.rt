@@ -7,8 +7,10 @@
 
 mod below;
 mod fault;
+mod laws;
 mod roles;
 
 pub use below::Below;
 pub use fault::RolesFault;
+pub use laws::order_is_chains;
 pub use roles::{MAX_ROLES, Roles};

@@ -1,5 +1,5 @@
 //! The roles with their immediate juniors.
-ghost use Rattle.std.specs.Prelude.{◌≡◌, ◌⊎◌, [], ◌∷◌, ◌++◌, not, length, Ok, Err, IfOk, IfErr, OnOk, OnErr};
+ghost use Rattle.std.specs.Prelude.{◌≡◌, ◌⊎◌, [], ◌∷◌, ◌++◌, not, length, true, Ok, Err, IfOk, IfErr, OnOk, OnErr};
 ghost use Rattle.indexmap.specs.IndexMap.{insert_entry};
 ghost use Rattle.mpw_geom.specs.Names.{name_eq, without_name, by_name};
 ghost use Rattle.mpw_roles.specs.Hierarchy.{Name as RoleName, role_names, is_role, is_immediate, immediate_juniors};
@@ -233,5 +233,12 @@ impl Roles {
     {
         let table = self.table.clone()?;
         Ok(Roles { table })
+    }
+
+    /// No cycle stands in any hierarchy, so the order is a partial order. A law: the function does nothing.
+    pub fn order_is_antisymmetric(&self)
+        ensures { (a b : RoleName) → at_least self.now a b ≡ true → at_least self.now b a ≡ true → a ≡ b }
+    {
+        let _roles = &self.table;
     }
 }
