@@ -11,6 +11,6 @@ mod desk;
 mod event;
 mod reply;
 
-pub use desk::{Core, MAX_EVENTS};
-pub use event::{Call, Calls, Event, Request};
+pub use desk::{Core, MAX_EVENTS, replay};
+pub use event::{Call, Event, Request};
 pub use reply::{Code, Denial, Line, Lines, Reply};

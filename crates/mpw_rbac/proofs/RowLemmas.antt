@@ -26,6 +26,9 @@ use Rattle.mpw_rbac.specs.Separation.{broken_sets}
 use Rattle.mpw_rbac.specs.Table.{with_value, has_key, value_at}
 use Rattle.mpw_rbac.proofs.TableLemmas.{insert-new, insert-present, is_some-value_at}
 
+abbrev ok_policy : Policy → Result Policy Refusal
+ok_policy p = Ok p
+
 -- the two tests that every administrative request begins with
 pub administered-facts : (p : Policy) (conn : ℕ) → rows.administered p conn ≡ Ok p → (is_some (session_of p conn) ≡ true) × (permits p conn Admin Desk ≡ true)
 administered-facts p conn ok = by (is_some (session_of p conn)) (permits p conn Admin Desk) ok
@@ -99,3 +102,24 @@ activate-ok p conn role sessions none there may new is =
     let holds : (rows.dsd_holds next).0 ≡ true = ap (λ sets. (rows.none_broken Dsd (broken_sets p.roles sets (map (λ (e : ℕ × Session). e.1.active) next.sessions))).0) none in
     let known : has_key (λ a b. a == b) p.sessions conn ≡ true = sym (is_some-value_at (λ a b. a == b) p.sessions conn) ∙ there in
     rw (there, may, new, holds) (ap (λ s. Ok (record p { sessions = s })) (sym (is ∙ insert-present (λ a b. a == b) p.sessions conn _ known)))
+
+pub ok-value : (p q : Policy) → ok_policy p ≡ Ok q → p ≡ q
+ok-value p q e = cc
+
+-- an accepted row leaves its new policy
+pub decided-value : (tests : List rows.Test) (next q : Policy) → decided tests next ≡ Ok q → next ≡ q
+decided-value [] next q e = ok-value next q e
+decided-value (t ∷ ts) next q e =
+    elim t.0 as (λ b. cond b (decided ts next) (Err t.1) ≡ Ok q → next ≡ q) [
+      | true ↦ λ f. decided-value ts next q f
+      | false ↦ λ f. cc
+    ] e
+
+-- and each of its tests has passed; here the second
+pub second-test : (a b : rows.Test) (tests : List rows.Test) (next q : Policy) → decided (a ∷ b ∷ tests) next ≡ Ok q → b.0 ≡ true
+second-test a b tests next q e = by a.0 b.0 e
+  where
+    by : (x y : Bool) → cond x (cond y (decided tests next) (Err b.1)) (Err a.1) ≡ Ok q → y ≡ true
+    by true true f = refl
+    by true false f = cc
+    by false y f = cc

@@ -1,5 +1,6 @@
 pub mod Fault
 pub mod Grant
+pub mod Laws
 pub mod Policy
 pub mod Rows
 pub mod Separation

@@ -6,12 +6,14 @@
 #![tactic(auto)]
 
 mod admin;
+mod laws;
 mod permission;
 mod policy;
 mod refusal;
 mod session;
 mod sessions;
 
+pub use laws::each_request_keeps_authorization;
 pub use permission::{Grant, Object, Operation};
 pub use policy::{MAX_GRANTS, MAX_USERS, Policy};
 pub use refusal::{PolicyFault, Refusal};

@@ -91,6 +91,7 @@ juniors-with_juniors (e ∷ es) r js c there =
       | true ↦ λ also. absurd (true≢false (sym ((bytes_decides c k).1 (same_name c r also ∙ same_name r k at)) ∙ other))
       | false ↦ λ _. refl
     ] refl
+
     apart_from : (c r k : Name) → name_eq c k ≡ true → name_eq r k ≡ false → name_eq c r ≡ false
     apart_from c r k here apart = elim (name_eq c r) as (λ b. name_eq c r ≡ b → b ≡ false) [
       | true ↦ λ also. absurd (true≢false (sym ((bytes_decides r k).1 (sym (same_name c r also) ∙ same_name c k here)) ∙ apart))
@@ -213,6 +214,7 @@ IsHierarchy-without_role h r is = record {
   where
     kept : (a b : Name) → is_immediate (without_role h r) a b ≡ true → contains_name (without_name (immediate_juniors (entries_without h r) a) r) b ≡ true
     kept a b pair = ap (λ l. contains_name l b) (sym (juniors-without (entries_without h r) r a)) ∙ pair
+
     fewer : (a b : Name) → is_immediate (without_role h r) a b ≡ true → is_immediate h a b ≡ true
     fewer a b pair = weaken_pair h r a b (contains-without _ r b (kept a b pair)).0
 

@@ -148,8 +148,8 @@ marked_names-filter p (e ∷ es) [] apart long is = absurd (omega arith)
 marked_names-filter p (e ∷ es) (m ∷ ms) apart long is =
     let head : m ≡ p e.0 = ap (λ b. cond b m (is_marked es ms e.0)) (sym (name_eq-refl e.0)) ∙ is e.0 (ap (λ b. b || is_role es e.0) (name_eq-refl e.0)) in
     let rest = marked_names-filter p es ms (IsDistinct-tail _ _ _ apart) (omega arith) (λ r there.
-        let other = apart-later e.0 (role_names es) r (IsDistinct-head _ _ _ apart) there in
-        ap (λ b. cond b m (is_marked es ms r)) (sym other) ∙ is r (or_right _ _ there)) in
+    let other = apart-later e.0 (role_names es) r (IsDistinct-head _ _ _ apart) there in
+    ap (λ b. cond b m (is_marked es ms r)) (sym other) ∙ is r (or_right _ _ there)) in
     ap (λ b. cond b (e.0 ∷ marked_names es ms) (marked_names es ms)) head ∙ ap (λ l. cond (p e.0) (e.0 ∷ l) l) rest
 
 -- whether a role is among the marked names

@@ -9,5 +9,4 @@ pub fn order_is_chains()
     ensures chains { (h : Hierarchy) (a b : Name) → (at_least h a b ≡ true) ↔ IsAtLeast h a b }
     ensures reflexive { (h : Hierarchy) (a : Name) → at_least h a a ≡ true }
     ensures transitive { (h : Hierarchy) (a b c : Name) → at_least h a b ≡ true → at_least h b c ≡ true → at_least h a c ≡ true }
-{
-}
+{}
