@@ -45,12 +45,12 @@ fn expand(table: &Table, marks: &mut [bool], expanded: &mut [bool], index: usize
     ensures seen { result ≡ false → get_or marks.old index false ≡ true → get_or expanded.old index false ≡ true }
     ensures work { result ≡ true → count_by not expanded.new < count_by not expanded.old }
 {
-    let Some((_, juniors)) = table.get_index(index) else {
-        return false;
-    };
     if !marks[index] || expanded[index] {
         return false;
     }
+    let Some((_, juniors)) = table.get_index(index) else {
+        return false;
+    };
     mark_all(table, marks, juniors.as_slice());
     expanded[index] = true;
     true

@@ -75,10 +75,10 @@ fn chain_of_512_roles(rt: HostRuntime) -> Result<(), Fail> {
         Some(RolesFault::Full)
     );
     for n in 1..512usize {
-        roles.inherit(&numbered(&rt, n)?, &numbered(&rt, n - 1)?)?;
+        roles.inherit(&numbered(&rt, n - 1)?, &numbered(&rt, n)?)?;
     }
-    let top = numbered(&rt, 511)?;
-    let bottom = numbered(&rt, 0)?;
+    let top = numbered(&rt, 0)?;
+    let bottom = numbered(&rt, 511)?;
     assert!(rt; roles.at_least(&top, &bottom));
     assert!(rt; !roles.at_least(&bottom, &top));
     assert_eq!(rt; roles.inherit(&bottom, &top).err(), Some(RolesFault::Cycle));
