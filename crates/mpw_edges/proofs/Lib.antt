@@ -1,0 +1,6 @@
+pub mod Adding
+pub mod Tests
+pub mod Region
+pub mod Found
+pub mod Exchange
+pub mod Maximal

@@ -1,0 +1,4 @@
+pub mod Edges
+pub mod Steps
+pub mod Pieces
+pub mod Pairs
