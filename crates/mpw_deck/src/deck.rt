@@ -1,10 +1,10 @@
 //! Decks, and what may be wrong with one's text.
 
-ghost use Rattle.std.specs.Prelude.{◌≡◌};
+ghost use Rattle.std.specs.Prelude.{◌≡◌, ◌↔◌, IfOk, IsTrue};
 ghost use Rattle.mpw_deck.specs.declared.deck.DeckKind.TheVariants.{Memory};
 
 use crate::rule::Rule;
-use std::alloc::AllocError;
+use std::alloc::{AllocError, Global};
 use std::marker::Model;
 use thiserror::Error;
 
@@ -42,12 +42,76 @@ impl Rules {
     }
 }
 
+impl Rules {
+    /// The same rules. Memory for one list.
+    ///
+    /// # Errors
+    /// Where there is no memory.
+    pub fn copy(&self) -> Result<Rules, AllocError>
+        ensures { IfOk result (λ rules. rules ≡ self.now) }
+    {
+        let alloc = *self.items.allocator();
+        Ok(Rules {
+            items: copied(alloc, self.items.as_slice())?,
+        })
+    }
+}
+
+/// The same rules, in order.
+fn copied(alloc: Global, rules: &[Rule]) -> Result<Vec<Rule>, AllocError>
+    ensures { IfOk result (λ v. v.items ≡ rules.now) }
+{
+    let mut copies = Vec::new(alloc);
+    for rule in rules {
+        copies.push(rule.copy()?)?;
+    }
+    Ok(copies)
+}
+
+/// Whether the lists have the same rules, in order.
+fn are_same(first: &[Rule], second: &[Rule]) -> bool
+    ensures { IsTrue result ↔ (first.now ≡ second.now) }
+{
+    if first.len() != second.len() {
+        return false;
+    }
+    for i in 0..first.len() {
+        if !first[i].is_same(&second[i]) {
+            return false;
+        }
+    }
+    true
+}
+
 /// A deck: the side of the tiles in nm, 256 to 2^30, and the rules, at most 256, with names of
 /// their own.
 #[derive(Debug, Drop)]
 pub struct Deck {
     pub tile: u32,
     pub rules: Rules,
+}
+
+impl Deck {
+    /// The same deck. Memory for the list of rules.
+    ///
+    /// # Errors
+    /// Where there is no memory.
+    pub fn copy(&self) -> Result<Deck, AllocError>
+        ensures { IfOk result (λ deck. deck ≡ self.now) }
+    {
+        let rules = self.rules.copy()?;
+        Ok(Deck {
+            tile: self.tile,
+            rules,
+        })
+    }
+
+    /// Whether the decks have equal sides of tiles and equal rules, in order.
+    pub fn is_same(&self, other: &Deck) -> bool
+        ensures { IsTrue result ↔ (self.now ≡ other.now) }
+    {
+        self.tile == other.tile && are_same(self.rules.as_slice(), other.rules.as_slice())
+    }
 }
 
 /// What is wrong with a line of a deck's text.

@@ -1,5 +1,9 @@
 //! Rules: a check with its layers, a name and a distance.
 
+ghost use Rattle.std.specs.Prelude.{◌≡◌, ◌↔◌, IfOk, IsTrue};
+
+use std::alloc::AllocError;
+
 use mpw_geom::{Layer, Name};
 
 /// A check, named after the KLayout DRC reference, with its layers.
@@ -17,4 +21,28 @@ pub struct Rule {
     pub name: Name,
     pub check: Check,
     pub distance: u32,
+}
+
+impl Rule {
+    /// The same rule. Constant time, and no memory but what counts a name's copies.
+    ///
+    /// # Errors
+    /// Where no more copies of the name can be counted.
+    pub fn copy(&self) -> Result<Rule, AllocError>
+        ensures { IfOk result (λ rule. rule ≡ self.now) }
+    {
+        let name = self.name.copy()?;
+        Ok(Rule {
+            name,
+            check: self.check,
+            distance: self.distance,
+        })
+    }
+
+    /// Whether the rules have equal names, checks with equal layers, and equal distances.
+    pub fn is_same(&self, other: &Rule) -> bool
+        ensures { IsTrue result ↔ (self.now ≡ other.now) }
+    {
+        self.name == other.name && self.check == other.check && self.distance == other.distance
+    }
 }

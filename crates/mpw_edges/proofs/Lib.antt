@@ -4,3 +4,4 @@ pub mod Region
 pub mod Found
 pub mod Exchange
 pub mod Maximal
+pub mod Window

@@ -123,7 +123,7 @@ run_of p = record { line = record { side = p.side; first = p.x1; second = p.x2 }
 abbrev pub StepsOf : Rule → Squares → Squares → Box2 → Axis → Line → ℤ → Type 0
 StepsOf rule a b core axis line j = HasStep rule a b core axis line.side line.first line.second j
 
-run_of_piece : (rule : Rule) (a b : Squares) (core : Box2) (p : Piece) (axis : Axis) → p.axis ≡ axis → IsPiece rule a b core p → IsRunOf (StepsOf rule a b core axis) (run_of p)
+pub run_of_piece : (rule : Rule) (a b : Squares) (core : Box2) (p : Piece) (axis : Axis) → p.axis ≡ axis → IsPiece rule a b core p → IsRunOf (StepsOf rule a b core axis) (run_of p)
 run_of_piece rule a b core p axis e h = record {
   filled = h.filled;
   steps = λ j l g. subst (λ (x : Axis). HasStep rule a b core x p.side p.x1 p.x2 j) e (h.steps j l g);
@@ -131,7 +131,7 @@ run_of_piece rule a b core p axis e h = record {
   above = λ s. h.above (subst (λ (x : Axis). HasStep rule a b core x p.side p.x1 p.x2 p.y1) (sym e) s);
 }
 
-piece_of_run : (rule : Rule) (a b : Squares) (core : Box2) (p : Piece) (axis : Axis) → p.axis ≡ axis → IsRunOf (StepsOf rule a b core axis) (run_of p) → IsPiece rule a b core p
+pub piece_of_run : (rule : Rule) (a b : Squares) (core : Box2) (p : Piece) (axis : Axis) → p.axis ≡ axis → IsRunOf (StepsOf rule a b core axis) (run_of p) → IsPiece rule a b core p
 piece_of_run rule a b core p axis e h = record {
   filled = h.filled;
   steps = λ j l g. subst (λ (x : Axis). HasStep rule a b core x p.side p.x1 p.x2 j) (sym e) (h.steps j l g);

@@ -2,3 +2,4 @@ pub mod Edges
 pub mod Steps
 pub mod Pieces
 pub mod Pairs
+pub mod Laws

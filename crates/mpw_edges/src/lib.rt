@@ -3,9 +3,11 @@
 #![tactic(auto)]
 
 mod edges;
+mod laws;
 mod pair;
 mod run;
 mod search;
 
+pub use laws::{exchange_exchanges_axes, window_decides};
 pub use run::{Axis, Piece};
 pub use search::pieces;

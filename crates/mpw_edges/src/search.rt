@@ -125,3 +125,6 @@ pub fn pieces(
     pieces.extend_from_slice(more.as_slice())?;
     Ok(pieces)
 }
+
+#[cfg(test)]
+mod tests;
