@@ -2,9 +2,8 @@
 
 ghost use Rattle.std.specs.Prelude.{◌≡◌, ◌↔◌, IfOk, IsTrue};
 
-use std::alloc::AllocError;
-
 use mpw_geom::{Layer, Name};
+use std::alloc::AllocError;
 
 /// A check, named after the KLayout DRC reference, with its layers.
 #[derive(Clone, Copy, Debug, PartialEq, Eq)]

@@ -121,3 +121,44 @@ fn boxes_of(alloc: Global, runs: &[Run]) -> Result<Vec<Box2>, AllocError>
         })
         .collect(alloc)
 }
+
+#[cfg(test)]
+mod tests {
+    use super::*;
+    use std::test::Fail;
+
+    fn boxed(x0: i64, y0: i64, x1: i64, y1: i64) -> Box2 {
+        Box2 { x0, y0, x1, y1 }
+    }
+
+    #[test]
+    fn overlaps_and_touching_boxes(rt: HostRuntime) -> Result<(), Fail> {
+        let alloc = rt.alloc();
+        let stairs = bands(alloc, &[boxed(5, 5, 20, 15), boxed(0, 0, 10, 10)])?;
+        let want = [
+            boxed(0, 0, 10, 5),
+            boxed(0, 5, 20, 10),
+            boxed(5, 10, 20, 15),
+        ];
+        assert_eq!(rt; stairs.as_slice(), want.as_slice());
+        let row = [
+            boxed(10, 0, 20, 10),
+            boxed(30, 0, 40, 10),
+            boxed(0, 0, 10, 10),
+            boxed(35, 0, 35, 10),
+        ];
+        let joined = bands(alloc, &row)?;
+        let want = [boxed(0, 0, 20, 10), boxed(30, 0, 40, 10)];
+        assert_eq!(rt; joined.as_slice(), want.as_slice());
+        assert_eq!(rt; bands(alloc, &[])?.as_slice().len(), 0);
+        Ok(())
+    }
+
+    #[test]
+    fn far_ends(rt: HostRuntime) -> Result<(), Fail> {
+        let all = [boxed(i64::MIN, i64::MIN, i64::MAX, i64::MAX)];
+        let region = bands(rt.alloc(), &all)?;
+        assert_eq!(rt; region.as_slice(), all.as_slice());
+        Ok(())
+    }
+}
