@@ -108,3 +108,11 @@ impl Names {
         Ok(Names { items })
     }
 }
+
+impl Clone for Names {
+    ghost is_clone = { λ names copy. copy ≡ names };
+
+    fn clone(&self) -> Result<Names, AllocError> {
+        self.copy()
+    }
+}

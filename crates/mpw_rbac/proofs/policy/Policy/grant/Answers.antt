@@ -1,0 +1,23 @@
+-- A new grant goes last.
+use Rattle.std.proofs.Common.{rules, ◌≡◌, ◌∙◌, sym, ap, subst, true, false, cond, Ok, [], ◌∷◌, ◌++◌, length}
+use Rattle.std.specs.Prelude.{nat_lt}
+use Rattle.std.specs.List.{list_any}
+use Rattle.mpw_roles.specs.Hierarchy.{is_role}
+use Rattle.mpw_rbac.specs.Grant.{grant_eq}
+use Rattle.mpw_rbac.specs.Policy.{Policy}
+use Rattle.mpw_rbac.specs.Rows as rows
+use Rattle.mpw_rbac.proofs.RowLemmas.{grant-ok}
+use Rattle.mpw_rbac.proofs.TableLemmas.{any-same}
+use Rattle.mpw_rbac.proofs.policy.Policy.grant.Goals as goal
+
+pub returns-clause-ok : goal.returns-clause-ok
+returns-clause-ok c =
+    let in' = c.self.inside in
+    let p : Policy = record { users = in'.users.entries; roles = in'.roles; granted = in'.granted.keys; ssd = []; dsd = []; sessions = in'.sessions.entries } in
+    let new = c.args.grant in
+    let ok : rows.administered p c.args.conn ≡ Ok p = subst (λ (q : Policy). rows.administered q c.args.conn ≡ Ok q) (sym c.self.view_is) c.in_ok-administers.ensures.ok in
+    let known : is_role p.roles new.role ≡ true = sym c.contains.ensures ∙ c.if-not-contains.false in
+    let unknown : list_any (grant_eq new) p.granted ≡ false = ap (λ (q : Policy). list_any (grant_eq new) q.granted) c.self.view_is ∙ sym c.has_grant.ensures ∙ c.if-has_grant.false in
+    let room : nat_lt (length p.granted) 4096 ≡ true = ap (λ (q : Policy). nat_lt (length q.granted) 4096) c.self.view_is ∙ sym c.has_room_for_grant.ensures ∙ c.if-not-has_room_for_grant.false in
+    let is : c.insert.new.self.keys ≡ p.granted ++ new ∷ [] = c.in_ok-insert.ensures.keys ∙ ap (λ b. cond b p.granted (p.granted ++ new ∷ [])) (any-same _ (grant_eq new) (λ g. search rules) p.granted ∙ unknown) in
+    rw (← c.self.view_is) (grant-ok p c.args.conn ok new c.insert.new.self.keys known unknown room is)

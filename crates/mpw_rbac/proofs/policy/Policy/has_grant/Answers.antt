@@ -1,0 +1,7 @@
+use Rattle.std.proofs.Common.{rules, ◌∙◌}
+use Rattle.mpw_rbac.specs.Grant.{grant_eq}
+use Rattle.mpw_rbac.proofs.TableLemmas.{any-same}
+use Rattle.mpw_rbac.proofs.policy.Policy.has_grant.Goals as goal
+
+pub returns : goal.returns
+returns c = rw (← c.self.view_is) (c.contains.ensures ∙ any-same _ (grant_eq c.args.grant.now) (λ g. search rules) c.self.inside.granted.keys)

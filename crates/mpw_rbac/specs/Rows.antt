@@ -1,0 +1,172 @@
+-- The requests of the policy: each with its tests in order, and the policy that it leaves where all pass.
+use Rattle.std.specs.Prelude.{◌≡◌, ℕ, Bool, true, false, not, ◌&&◌, ◌==◌, List, [], ◌∷◌, ◌++◌, length, map, filter, nat_lt, Result, Ok, Err, is_some, is_none, Option}
+use Rattle.std.specs.List.{list_any, list_all}
+use Rattle.std.specs.Option.{option_map_or}
+use Rattle.std.specs.Cmp.Lexicographic.{pointwise}
+use Rattle.std.specs.Prelude.{nat_eq}
+use Rattle.mpw_geom.specs.Names.{name_eq, contains_name}
+use Rattle.mpw_roles.specs.Decided.{decided}
+use Rattle.mpw_roles.specs.Hierarchy.{Name, Hierarchy, is_role, with_role}
+use Rattle.mpw_rbac.specs.declared.permission.Operation.{Operation}
+use Rattle.mpw_rbac.specs.declared.permission.Operation.TheVariants.{Admin}
+use Rattle.mpw_rbac.specs.declared.permission.Object.{Object}
+use Rattle.mpw_rbac.specs.declared.permission.Object.TheVariants.{Desk}
+use Rattle.mpw_rbac.specs.declared.permission.Grant.{Grant}
+use Rattle.mpw_rbac.specs.declared.session.User.{User}
+use Rattle.mpw_rbac.specs.declared.session.Session.{Session}
+use Rattle.mpw_rbac.specs.declared.refusal.Refusal.{Refusal}
+use Rattle.mpw_rbac.specs.declared.refusal.Refusal.TheVariants.{Opened, Login, NoSession, NotPermitted, NotAuthorized, Ssd, Dsd, Unknown, Known, Full}
+use Rattle.mpw_rbac.specs.Grant.{grant_eq}
+use Rattle.mpw_rbac.specs.declared.session.Identity.{Identity}
+use Rattle.mpw_rbac.specs.declared.refusal.PolicyFault.{PolicyFault}
+use Rattle.mpw_rbac.specs.declared.refusal.PolicyFault.TheVariants.{Refused, Memory}
+use Rattle.mpw_rbac.specs.Policy.{Policy, identity_of, is_user, assigned_roles, authorized, session_of, permits}
+use Rattle.mpw_rbac.specs.Separation.{broken_sets}
+use Rattle.mpw_rbac.specs.Table.{value_at, with_value, without_key}
+
+abbrev pub Test : Type 0
+Test = Bool × Refusal
+
+-- the connection has a session
+abbrev pub in_session : Policy → ℕ → Test
+in_session policy conn = (is_some (session_of policy conn), NoSession)
+
+-- the session may do the operation
+abbrev pub is_permitted : Policy → ℕ → Operation → Object → Test
+is_permitted policy conn operation object = (permits policy conn operation object, NotPermitted operation object)
+
+abbrev pub administers : Policy → ℕ → Test
+administers policy conn = is_permitted policy conn Admin Desk
+
+-- the tests that every administrative request begins with
+abbrev pub administered : Policy → ℕ → Result Policy Refusal
+administered policy conn = decided (in_session policy conn ∷ administers policy conn ∷ []) policy
+
+-- a fault is want of memory, or the refusal of the row
+abbrev pub IsFaultOf : {A : Type 0} → Result A Refusal → PolicyFault → Type 0
+IsFaultOf row (Refused refusal) = row ≡ Err refusal
+IsFaultOf row Memory = Unit {0}
+
+-- no set is broken, or the least name of one is told
+abbrev pub none_broken : (Name → Refusal) → List Name → Test
+none_broken told [] = (true, told [])
+none_broken told (name ∷ names) = (false, told name)
+
+-- the static sets hold for the authorized roles of every user
+abbrev pub ssd_holds : Policy → Test
+ssd_holds policy = none_broken Ssd (broken_sets policy.roles policy.ssd (map (λ (entry : Name × User). entry.1.roles) policy.users))
+
+-- the dynamic sets hold for the acting roles of every session
+abbrev pub dsd_holds : Policy → Test
+dsd_holds policy = none_broken Dsd (broken_sets policy.roles policy.dsd (map (λ (entry : ℕ × Session). entry.1.active) policy.sessions))
+
+-- whether the user is known with this digest
+abbrev pub is_login : Policy → Name → List ℕ → Bool
+is_login policy user digest = option_map_or (λ (u : User). pointwise nat_eq u.digest digest) (value_at name_eq policy.users user) false
+
+-- create_session, without active roles
+abbrev pub open_session : Policy → ℕ → Name → List ℕ → Result Policy Refusal
+open_session policy conn user digest =
+    decided
+    ((is_none (session_of policy conn), Opened) ∷ (is_login policy user digest, Login) ∷ [])
+    (record policy { sessions = policy.sessions ++ (conn, record { user = user; active = [] }) ∷ [] })
+
+-- the connection's session ends, if it has one
+abbrev pub end_session : Policy → ℕ → Policy
+end_session policy conn = record policy { sessions = without_key (λ a b. a == b) policy.sessions conn }
+
+-- delete_session
+abbrev pub close_session : Policy → ℕ → Result Policy Refusal
+close_session policy conn = decided (in_session policy conn ∷ []) (end_session policy conn)
+
+-- the user of a connection's session, and its active roles; neither where it has none
+abbrev pub user_of : Policy → ℕ → Name
+user_of policy conn = option_map_or (λ (s : Session). s.user) (session_of policy conn) []
+
+abbrev pub active_roles : Policy → ℕ → List Name
+active_roles policy conn = option_map_or (λ (s : Session). s.active) (session_of policy conn) []
+
+-- the policy in which the session has these active roles
+abbrev pub with_active : Policy → ℕ → List Name → Policy
+with_active policy conn active =
+    record policy { sessions = with_value (λ a b. a == b) policy.sessions conn (record { user = user_of policy conn; active = active }) }
+
+-- add_active_role
+abbrev pub activate : Policy → ℕ → Name → Result Policy Refusal
+activate policy conn role =
+    let next = with_active policy conn (active_roles policy conn ++ role ∷ []) in
+    decided
+    (in_session policy conn
+    ∷ (contains_name (authorized policy (user_of policy conn)) role, NotAuthorized role)
+    ∷ (not (contains_name (active_roles policy conn) role), Known)
+    ∷ dsd_holds next
+    ∷ [])
+    next
+
+-- what the session is told of itself
+abbrev pub whoami : Policy → ℕ → Result Identity Refusal
+whoami policy conn =
+    decided (in_session policy conn ∷ []) (identity_of policy (record { user = user_of policy conn; active = active_roles policy conn }))
+
+-- add_user, without assigned roles
+abbrev pub adduser : Policy → ℕ → Name → List ℕ → Result Policy Refusal
+adduser policy conn user digest =
+    decided
+    (in_session policy conn
+    ∷ administers policy conn
+    ∷ (not (is_user policy user), Known)
+    ∷ (nat_lt (length policy.users) 512, Full)
+    ∷ [])
+    (record policy { users = policy.users ++ (user, record { digest = digest; roles = [] }) ∷ [] })
+
+-- add_role
+abbrev pub addrole : Policy → ℕ → Name → Result Policy Refusal
+addrole policy conn role =
+    decided
+    (in_session policy conn
+    ∷ administers policy conn
+    ∷ (not (is_role policy.roles role), Known)
+    ∷ (nat_lt (length policy.roles) 512, Full)
+    ∷ [])
+    (record policy { roles = with_role policy.roles role })
+
+-- the digest of a user
+abbrev pub digest_of_user : Policy → Name → List ℕ
+digest_of_user policy user = option_map_or (λ (u : User). u.digest) (value_at name_eq policy.users user) []
+
+-- the policy in which a user has these assigned roles
+abbrev pub with_assigned : Policy → Name → List Name → Policy
+with_assigned policy user roles =
+    record policy { users = with_value name_eq policy.users user (record { digest = digest_of_user policy user; roles = roles }) }
+
+-- assign_user
+abbrev pub assign : Policy → ℕ → Name → Name → Result Policy Refusal
+assign policy conn user role =
+    let next = with_assigned policy user (assigned_roles policy user ++ role ∷ []) in
+    decided
+    (in_session policy conn
+    ∷ administers policy conn
+    ∷ (is_user policy user && is_role policy.roles role, Unknown)
+    ∷ (not (contains_name (assigned_roles policy user) role), Known)
+    ∷ ssd_holds next
+    ∷ [])
+    next
+
+-- grant_permission
+abbrev pub grant : Policy → ℕ → Grant → Result Policy Refusal
+grant policy conn new =
+    decided
+    (in_session policy conn
+    ∷ administers policy conn
+    ∷ (is_role policy.roles new.role, Unknown)
+    ∷ (not (list_any (grant_eq new) policy.granted), Known)
+    ∷ (nat_lt (length policy.granted) 4096, Full)
+    ∷ [])
+    (record policy { granted = policy.granted ++ new ∷ [] })
+
+-- revoke_permission
+abbrev pub revoke : Policy → ℕ → Grant → Result Policy Refusal
+revoke policy conn old =
+    decided
+    (in_session policy conn ∷ administers policy conn ∷ (list_any (grant_eq old) policy.granted, Unknown) ∷ [])
+    (record policy { granted = filter (λ other. not (grant_eq old other)) policy.granted })

@@ -1,0 +1,33 @@
+//! Operations, the objects that they are on, and grants of them.
+use mpw_geom::Name;
+
+/// What a session may do to an object (OPS).
+#[derive(Clone, Copy, Debug, PartialEq, Eq, Hash)]
+pub enum Operation {
+    Submit,
+    Use,
+    Read,
+    Place,
+    Admin,
+    Deck,
+    Run,
+    Waive,
+    Sign,
+    Verdict,
+    Audit,
+}
+
+/// What an operation is on (OBS): a cell, which need not exist, or the desk.
+#[derive(Clone, Debug, PartialEq, Eq, Hash, Drop)]
+pub enum Object {
+    Cell(Name),
+    Desk,
+}
+
+/// The permission for an operation on an object, granted to a role (PA).
+#[derive(Clone, Debug, PartialEq, Eq, Hash, Drop)]
+pub struct Grant {
+    pub operation: Operation,
+    pub object: Object,
+    pub role: Name,
+}

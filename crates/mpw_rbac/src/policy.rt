@@ -1,0 +1,219 @@
+//! The policy's tables, the questions that they answer, and sessions.
+ghost use Rattle.std.specs.Prelude.{◌≡◌, ℕ, [], ◌∷◌, ◌++◌, true, IfOk, IfErr, OnOk, OnErr, Ok, Err, Some, codes, nat_lt, length};
+ghost use Rattle.mpw_rbac.specs.Grant.{grant_eq};
+ghost use Rattle.std.specs.List.{list_any};
+ghost use Rattle.std.specs.Option.{option_copied};
+ghost use Rattle.mpw_geom.specs.Names.{name_eq, contains_name, by_name};
+ghost use Rattle.mpw_roles.specs.Hierarchy.{is_role};
+ghost use Rattle.mpw_roles.specs.Order.{roles_below};
+ghost use Rattle.mpw_rbac.specs.Policy.{permits, is_user, is_granted_to, session_of, assigned_roles, authorized, new_policy};
+ghost use Rattle.mpw_rbac.specs.Rows.{IsFaultOf, administered};
+ghost use Rattle.mpw_rbac.specs.Rows as rows;
+ghost use Rattle.mpw_rbac.specs.Sound.{active_authorized};
+ghost use Rattle.mpw_rbac.specs.Table.{value_at};
+
+use crate::{Digest, Grant, Identity, Object, Operation, PolicyFault, Refusal, Session, User};
+use indexmap::{IndexMap, IndexSet};
+use mpw_geom::{Name, Names};
+use mpw_roles::{Below, Roles};
+use std::alloc::{AllocError, Global};
+use std::marker::Model;
+
+/// The greatest number of users.
+pub const MAX_USERS: usize = 512;
+
+/// The greatest number of grants.
+pub const MAX_GRANTS: usize = 4096;
+
+/// Users, roles, grants and sessions, in the order in which they were added.
+#[derive(Drop)]
+pub struct Policy {
+    pub(crate) users: IndexMap<Name, User>,
+    pub(crate) roles: Roles,
+    pub(crate) granted: IndexSet<Grant>,
+    pub(crate) sessions: IndexMap<u32, Session>,
+}
+
+impl Model for Policy {
+    ghost use Rattle.std.specs.Prelude.{◌≡◌, true, []};
+    ghost use Rattle.mpw_rbac.specs.Policy.{Policy as PolicyState};
+    ghost use Rattle.mpw_rbac.specs.Sound.{active_authorized};
+
+    ghost Value = { PolicyState };
+
+    ghost view = { λ p. record { users = p.users.entries; roles = p.roles; granted = p.granted.keys; ssd = []; dsd = []; sessions = p.sessions.entries } };
+
+    ghost invariant = { λ p. active_authorized (record { users = p.users.entries; roles = p.roles; granted = p.granted.keys; ssd = []; dsd = []; sessions = p.sessions.entries }) ≡ true };
+}
+
+/// Whether one of the grants is of the operation on the object, to one of the roles.
+fn is_granted(
+    granted: &IndexSet<Grant>,
+    roles: &Below,
+    operation: Operation,
+    object: &Object,
+) -> bool
+    ensures { result ≡ list_any (is_granted_to roles.now operation object.now) granted.now.keys }
+{
+    granted.iter().any(
+        |grant: &Grant| -> bool
+            ensures { result ≡ is_granted_to roles.entry.now operation object.entry.now grant.now }
+        { operation == grant.operation && *object == grant.object && roles.contains(&grant.role) },
+    )
+}
+
+impl Policy {
+    /// The session of a connection.
+    pub(crate) fn session(&self, conn: u32) -> Option<&Session>
+        ensures { option_copied result ≡ session_of self.now conn }
+    {
+        self.sessions.get(&conn)
+    }
+
+    /// A user's digest and assigned roles.
+    pub(crate) fn user(&self, user: &Name) -> Option<&User>
+        ensures { option_copied result ≡ value_at name_eq self.now.users user.now }
+    {
+        self.users.get(user)
+    }
+
+    /// Whether that is a user.
+    pub(crate) fn is_user(&self, user: &Name) -> bool
+        ensures { result ≡ is_user self.now user.now }
+    {
+        self.users.contains_key(user)
+    }
+
+    /// Whether that is a role.
+    pub(crate) fn is_role(&self, role: &Name) -> bool
+        ensures { result ≡ is_role self.now.roles role.now }
+    {
+        self.roles.contains(role)
+    }
+
+    /// Whether the role is assigned to the user.
+    pub(crate) fn is_assigned(&self, user: &Name, role: &Name) -> bool
+        ensures { result ≡ contains_name (assigned_roles self.now user.now) role.now }
+    {
+        match self.user(user) {
+            Some(found) => found.roles.contains(role),
+            None => false,
+        }
+    }
+
+    /// Whether that was granted.
+    pub(crate) fn has_grant(&self, grant: &Grant) -> bool
+        ensures { result ≡ list_any (grant_eq grant.now) self.now.granted }
+    {
+        self.granted.contains(grant)
+    }
+
+    /// Whether one more user fits.
+    pub(crate) fn has_room_for_user(&self) -> bool
+        ensures { result ≡ nat_lt (length self.now.users) 512 }
+    {
+        self.users.len() < MAX_USERS
+    }
+
+    /// Whether one more grant fits.
+    pub(crate) fn has_room_for_grant(&self) -> bool
+        ensures { result ≡ nat_lt (length self.now.granted) 4096 }
+    {
+        self.granted.len() < MAX_GRANTS
+    }
+
+    /// Whether some acting role of the connection's session was granted the operation on the object. It takes no
+    /// memory, and costs a search of the hierarchy and a pass over the grants.
+    pub fn permits(&self, conn: u32, operation: Operation, object: &Object) -> bool
+        ensures { result ≡ permits self.now conn operation object.now }
+    {
+        match self.session(conn) {
+            Some(session) => {
+                let acting = self.roles.below(session.active.as_slice());
+                is_granted(&self.granted, &acting, operation, object)
+            }
+            None => false,
+        }
+    }
+
+    /// The tests that every administrative request begins with: a session, and the permission `admin desk`.
+    pub(crate) fn administers(&self, conn: u32) -> Result<(), PolicyFault>
+        ensures ok { OnOk result (administered self.now conn ≡ Ok self.now) }
+        ensures refused { IfErr result (IsFaultOf (administered self.now conn)) }
+    {
+        if self.session(conn).is_none() {
+            return Err(PolicyFault::Refused(Refusal::NoSession));
+        }
+        if !self.permits(conn, Operation::Admin, &Object::Desk) {
+            return Err(PolicyFault::Refused(Refusal::NotPermitted(Operation::Admin, Object::Desk)));
+        }
+        Ok(())
+    }
+
+    /// The new desk's policy: one user, the officer, with the role `officer`, which may administer the desk.
+    ///
+    /// # Errors
+    /// Where there is no room for it.
+    pub fn new(alloc: Global, officer: Name, digest: Digest) -> Result<Policy, PolicyFault>
+        ensures ok { IfOk result (λ policy. policy ≡ new_policy officer digest) }
+        ensures memory { IfErr result (λ fault. fault ≡ PolicyFault.Memory) }
+    {
+        let role = officer_role(alloc)?;
+        let mut roles = Roles::new(alloc);
+        roles.add(role.copy()?)?;
+        let mut assigned = Names::new(alloc);
+        assigned.push(role.copy()?)?;
+        let mut users = IndexMap::new(alloc);
+        users.insert(
+            officer,
+            User {
+                digest,
+                roles: assigned,
+            },
+        )?;
+        let mut granted = IndexSet::new(alloc);
+        let operation = Operation::Admin;
+        let object = Object::Desk;
+        granted.insert(Grant {
+            operation,
+            object,
+            role,
+        })?;
+        let sessions = IndexMap::new(alloc);
+        Ok(Policy {
+            users,
+            roles,
+            granted,
+            sessions,
+        })
+    }
+
+    /// The same policy, in memory of its own; the names share their text.
+    ///
+    /// # Errors
+    /// Where there is no room for it.
+    pub fn copy(&self) -> Result<Policy, AllocError>
+        ensures { IfOk result (λ policy. policy ≡ self.now) }
+    {
+        let users = self.users.clone()?;
+        let roles = self.roles.copy()?;
+        let granted = self.granted.clone()?;
+        let sessions = self.sessions.clone()?;
+        Ok(Policy {
+            users,
+            roles,
+            granted,
+            sessions,
+        })
+    }
+}
+
+/// The role of the officer.
+fn officer_role(alloc: Global) -> Result<Name, AllocError>
+    ensures { IfOk result (λ role. role ≡ codes "officer") }
+{
+    match Name::read(alloc, b"officer") {
+        Ok(role) => Ok(role),
+        Err(_) => Err(AllocError),
+    }
+}

@@ -1,0 +1,76 @@
+//! Why the policy refuses a request.
+ghost use Rattle.std.specs.Prelude.{◌≡◌};
+ghost use Rattle.mpw_rbac.specs.declared.refusal.PolicyFault.TheVariants.{Memory};
+ghost use Rattle.mpw_rbac.specs.Fault.{fault_of_roles};
+
+use crate::{Object, Operation};
+use mpw_geom::Name;
+use mpw_roles::RolesFault;
+use std::alloc::{AllocError, AllocFailed};
+use thiserror::Error;
+
+/// What the written policy answers in place of a change.
+#[derive(Debug, Drop, PartialEq, Eq)]
+pub enum Refusal {
+    /// The connection has a session already.
+    Opened,
+    /// No such user, or another token.
+    Login,
+    /// The connection has no session.
+    NoSession,
+    /// No acting role was granted the operation on the object.
+    NotPermitted(Operation, Object),
+    /// The name is no role, or none that the user is authorized for.
+    NotAuthorized(Name),
+    /// A static separation set would be broken: the least name of one.
+    Ssd(Name),
+    /// A dynamic separation set would be broken: the least name of one.
+    Dsd(Name),
+    /// What is named isn't there.
+    Unknown,
+    /// The pair would close a cycle.
+    Loop,
+    /// What is to be added is there.
+    Known,
+    /// A table is at its limit.
+    Full,
+}
+
+/// Why a call changed nothing.
+#[derive(Debug, Drop, Error)]
+pub enum PolicyFault {
+    #[error("the policy refuses it")]
+    Refused(Refusal),
+    #[error("out of memory")]
+    Memory,
+}
+
+impl From<AllocError> for PolicyFault {
+    ghost from_gives = { λ _ fault. fault ≡ Memory };
+
+    fn from(_error: AllocError) -> PolicyFault {
+        PolicyFault::Memory
+    }
+}
+
+impl<T: Drop> From<AllocFailed<T>> for PolicyFault {
+    ghost from_gives = { λ _ fault. fault ≡ Memory };
+
+    fn from(_error: AllocFailed<T>) -> PolicyFault {
+        PolicyFault::Memory
+    }
+}
+
+impl From<RolesFault> for PolicyFault {
+    ghost from_gives = { λ fault result. result ≡ fault_of_roles fault };
+
+    fn from(fault: RolesFault) -> PolicyFault {
+        match fault {
+            RolesFault::NoRole | RolesFault::NoPair => PolicyFault::Refused(Refusal::Unknown),
+            RolesFault::Known => PolicyFault::Refused(Refusal::Known),
+            RolesFault::Cycle => PolicyFault::Refused(Refusal::Loop),
+            RolesFault::Full => PolicyFault::Refused(Refusal::Full),
+            RolesFault::Memory => PolicyFault::Memory,
+        }
+    }
+}

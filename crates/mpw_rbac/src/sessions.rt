@@ -1,0 +1,186 @@
+//! Sessions: of one connection and one user each, with the active roles that the session chose.
+ghost use Rattle.std.specs.Prelude.{◌≡◌, true, false, not, is_some, ◌==◌, [], ◌∷◌, ◌++◌, IfOk, IfErr, OnOk, OnErr, Ok, Err};
+ghost use Rattle.mpw_geom.specs.Names.{contains_name, by_name};
+ghost use Rattle.mpw_rbac.specs.Policy.{session_of, authorized, identity_of};
+ghost use Rattle.mpw_rbac.specs.Rows.{IsFaultOf, is_login, end_session, active_roles, user_of};
+ghost use Rattle.mpw_rbac.specs.Rows as rows;
+
+use crate::{Digest, Identity, Policy, PolicyFault, Refusal, Session};
+use mpw_geom::{Name, Names};
+use std::alloc::AllocError;
+
+impl Policy {
+    /// Begins the connection's session for a user, without active roles (CreateSession).
+    ///
+    /// # Errors
+    /// `Opened`, then `Login` where the user is unknown or the digest another; or `Memory`. The policy is then as it
+    /// was.
+    pub fn open(&mut self, conn: u32, user: &Name, digest: &Digest) -> Result<(), PolicyFault>
+        ensures ok { OnOk result (rows.open_session self.old conn user.now digest.now ≡ Ok self.new) }
+        ensures refused { IfErr result (IsFaultOf (rows.open_session self.old conn user.now digest.now)) }
+        ensures err { OnErr result (self.new ≡ self.old) }
+    {
+        if self.has_session(conn) {
+            return Err(PolicyFault::Refused(Refusal::Opened));
+        }
+        if !self.is_login(user, digest) {
+            return Err(PolicyFault::Refused(Refusal::Login));
+        }
+        let session = Session {
+            user: user.copy()?,
+            active: Names::new(*self.sessions.allocator()),
+        };
+        self.sessions.insert(conn, session)?;
+        Ok(())
+    }
+
+    /// Ends the connection's session (DeleteSession). It takes no memory.
+    ///
+    /// # Errors
+    /// `NoSession`. The policy is then as it was.
+    pub fn close(&mut self, conn: u32) -> Result<(), PolicyFault>
+        ensures ok { OnOk result (rows.close_session self.old conn ≡ Ok self.new) }
+        ensures refused { IfErr result (IsFaultOf (rows.close_session self.old conn)) }
+        ensures err { OnErr result (self.new ≡ self.old) }
+    {
+        if !self.has_session(conn) {
+            return Err(PolicyFault::Refused(Refusal::NoSession));
+        }
+        self.end(conn);
+        Ok(())
+    }
+
+    /// Ends the connection's session, if it has one. It takes no memory.
+    pub fn end(&mut self, conn: u32)
+        ensures { self.new ≡ end_session self.old conn }
+    {
+        self.sessions.retain(
+            |other: &u32, session: &mut Session| -> bool
+                ensures { (result ≡ not (conn == other.now)) × (session.new ≡ session.old) }
+            {
+                let _session = session;
+                *other != conn
+            },
+        );
+    }
+
+    /// Makes a role active in the connection's session (AddActiveRole).
+    ///
+    /// # Errors
+    /// `NoSession`, `NotAuthorized`, `Known`, tested in this order; or `Memory`. The policy is then as it was.
+    pub fn activate(&mut self, conn: u32, role: &Name) -> Result<(), PolicyFault>
+        ensures ok { OnOk result (rows.activate self.old conn role.now ≡ Ok self.new) }
+        ensures refused { IfErr result (IsFaultOf (rows.activate self.old conn role.now)) }
+        ensures err { OnErr result (self.new ≡ self.old) }
+    {
+        if !self.has_session(conn) {
+            return Err(PolicyFault::Refused(Refusal::NoSession));
+        }
+        if !self.may_activate(conn, role) {
+            return Err(PolicyFault::Refused(Refusal::NotAuthorized(role.copy()?)));
+        }
+        if self.is_active(conn, role) {
+            return Err(PolicyFault::Refused(Refusal::Known));
+        }
+        let session = self.activated(conn, role)?;
+        self.sessions.insert(conn, session)?;
+        Ok(())
+    }
+
+    /// What the connection's session is told of itself.
+    ///
+    /// # Errors
+    /// `NoSession`; or `Memory`.
+    pub fn whoami(&self, conn: u32) -> Result<Identity, PolicyFault>
+        ensures ok { IfOk result (λ identity. rows.whoami self.now conn ≡ Ok identity) }
+        ensures refused { IfErr result (IsFaultOf (rows.whoami self.now conn)) }
+    {
+        let Some(session) = self.session(conn) else {
+            return Err(PolicyFault::Refused(Refusal::NoSession));
+        };
+        let user = session.user.copy()?;
+        let mut active = session.active.copy()?;
+        active.sort()?;
+        let authorized = self.authorized_by_name(&session.user)?;
+        Ok(Identity {
+            user,
+            active,
+            authorized,
+        })
+    }
+
+    /// Whether the connection has a session.
+    pub(crate) fn has_session(&self, conn: u32) -> bool
+        ensures { result ≡ is_some (session_of self.now conn) }
+    {
+        self.session(conn).is_some()
+    }
+
+    /// Whether the user is known with this digest.
+    fn is_login(&self, user: &Name, digest: &Digest) -> bool
+        ensures { result ≡ is_login self.now user.now digest.now }
+    {
+        match self.user(user) {
+            Some(found) => found.digest == *digest,
+            None => false,
+        }
+    }
+
+    /// Whether the user is authorized for the role.
+    fn is_authorized(&self, user: &Name, role: &Name) -> bool
+        ensures { result ≡ contains_name (authorized self.now user.now) role.now }
+    {
+        match self.user(user) {
+            Some(found) => self.roles.below(found.roles.as_slice()).contains(role),
+            None => self.roles.below(&[]).contains(role),
+        }
+    }
+
+    /// Whether the user of the connection's session is authorized for the role.
+    fn may_activate(&self, conn: u32, role: &Name) -> bool
+        requires { is_some (session_of self.now conn) ≡ true }
+        ensures { result ≡ contains_name (authorized self.now (user_of self.now conn)) role.now }
+    {
+        match self.session(conn) {
+            Some(session) => self.is_authorized(&session.user, role),
+            None => false,
+        }
+    }
+
+    /// Whether the role is active in the connection's session.
+    fn is_active(&self, conn: u32, role: &Name) -> bool
+        ensures { result ≡ contains_name (active_roles self.now conn) role.now }
+    {
+        match self.session(conn) {
+            Some(session) => session.active.contains(role),
+            None => false,
+        }
+    }
+
+    /// The connection's session with one more active role.
+    fn activated(&self, conn: u32, role: &Name) -> Result<Session, AllocError>
+        requires { is_some (session_of self.now conn) ≡ true }
+        ensures { IfOk result (λ next. next ≡ record { user = user_of self.now conn; active = active_roles self.now conn ++ role.now ∷ [] }) }
+    {
+        let Some(session) = self.session(conn) else {
+            return Err(AllocError);
+        };
+        let user = session.user.copy()?;
+        let mut active = session.active.copy()?;
+        active.push(role.copy()?)?;
+        Ok(Session { user, active })
+    }
+
+    /// The roles that a user is authorized for, by name.
+    fn authorized_by_name(&self, user: &Name) -> Result<Names, AllocError>
+        ensures { IfOk result (λ names. names ≡ by_name (authorized self.now user.now)) }
+    {
+        let alloc = *self.users.allocator();
+        let mut names = match self.user(user) {
+            Some(found) => self.roles.below(found.roles.as_slice()).names(alloc)?,
+            None => self.roles.below(&[]).names(alloc)?,
+        };
+        names.sort()?;
+        Ok(names)
+    }
+}

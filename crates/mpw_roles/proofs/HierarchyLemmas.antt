@@ -1,0 +1,264 @@
+-- Each change of a hierarchy leaves a hierarchy.
+use Rattle.std.proofs.Common.{◌≡◌, ℕ, suc, ◌+◌, ◌<◌, ◌≤◌, Bool, true, false, cond, not, ◌||◌, ◌&&◌, ◌⊎◌, inl, inr, List, [], ◌∷◌, ◌++◌, length, map, filter, refl, sym, ap, subst, ◌∙◌, true≢false, arith, length-append}
+use Rattle.std.specs.List.{list_any}
+use Rattle.std.proofs.lemmas.List.{length-map}
+use Rattle.std.specs.Cmp.Lexicographic.{bytes_decides}
+use Rattle.mpw_geom.specs.Names.{name_eq, contains_name, without_name}
+use Rattle.mpw_roles.specs.Hierarchy.{Name, Hierarchy, role_names, is_role, is_immediate, immediate_juniors, with_juniors, entries_without, with_role, without_role, with_pair, without_pair}
+use Rattle.mpw_roles.specs.Order.{at_least, is_below, roles_below, IsAtLeast, same, chain, IsHierarchy}
+use Rattle.mpw_roles.proofs.Chains.{same_name, name_eq-refl, or_right, or_cases, at_least-sound, at_least-complete, chain-trans, weaken_pair}
+
+-- fewer pairs, fewer chains
+pub chains-fewer : (h k : Hierarchy) → ((a b : Name) → is_immediate h a b ≡ true → is_immediate k a b ≡ true) → (a b : Name) → IsAtLeast h a b → IsAtLeast k a b
+chains-fewer h k fewer a b same = same
+chains-fewer h k fewer a b (chain {middle = m} pair rest) = chain (fewer a m pair) (chains-fewer h k fewer m b rest)
+
+pub at_least-fewer : (h k : Hierarchy) → ((a b : Name) → is_immediate h a b ≡ true → is_immediate k a b ≡ true) → (a b : Name) → at_least h a b ≡ true → at_least k a b ≡ true
+at_least-fewer h k fewer a b is = at_least-complete k a b (chains-fewer h k fewer a b (at_least-sound h a b is))
+
+acyclic-fewer : (h k : Hierarchy) → ((a b : Name) → is_immediate h a b ≡ true → is_immediate k a b ≡ true) → ((a b : Name) → at_least k a b ≡ true → at_least k b a ≡ true → a ≡ b)
+    → (a b : Name) → at_least h a b ≡ true → at_least h b a ≡ true → a ≡ b
+acyclic-fewer h k fewer acyclic a b down up = acyclic a b (at_least-fewer h k fewer a b down) (at_least-fewer h k fewer b a up)
+
+pub contains-append : (xs ys : List Name) (n : Name) → contains_name (xs ++ ys) n ≡ (contains_name xs n || contains_name ys n)
+contains-append [] ys n = refl
+contains-append (x ∷ xs) ys n = ap (λ b. name_eq n x || b) (contains-append xs ys n) ∙ or_assoc (name_eq n x) _ _
+  where
+    or_assoc : (a b c : Bool) → (a || (b || c)) ≡ ((a || b) || c)
+    or_assoc true b c = refl
+    or_assoc false b c = refl
+
+or_left : (a b : Bool) → a ≡ true → (a || b) ≡ true
+or_left true b e = refl
+or_left false b e = absurd (true≢false (sym e))
+
+-- a new role
+pub names-with_role : (h : Hierarchy) (r : Name) → role_names (with_role h r) ≡ role_names h ++ r ∷ []
+names-with_role [] r = refl
+names-with_role (e ∷ es) r = ap (λ l. e.0 ∷ l) (names-with_role es r)
+
+pub juniors-with_role : (h : Hierarchy) (r c : Name) → immediate_juniors (with_role h r) c ≡ immediate_juniors h c
+juniors-with_role [] r c = elim (name_eq c r) as (λ b. cond b [] (immediate_juniors [] c) ≡ []) [ true ↦ refl | false ↦ refl ]
+juniors-with_role (e ∷ es) r c = ap (cond (name_eq c e.0) e.1) (juniors-with_role es r c)
+
+pub IsHierarchy-empty : IsHierarchy []
+IsHierarchy-empty = record {
+  small = omega arith;
+  pairs_of_roles = λ a b is. absurd (true≢false (sym is));
+  acyclic = λ a b is _. alone a b (at_least-sound [] a b is);
+}
+  where
+    alone : (a b : Name) → IsAtLeast [] a b → a ≡ b
+    alone a b same = refl
+    alone a b (chain pair rest) = absurd (true≢false (sym pair))
+
+pub IsHierarchy-with_role : (h : Hierarchy) (r : Name) → length h < 512 → IsHierarchy h → IsHierarchy (with_role h r)
+IsHierarchy-with_role h r room is = record {
+  small = omega (arith, length-append h ((r, []) ∷ []));
+  pairs_of_roles = λ a b pair.
+      ap (λ l. contains_name l b) (names-with_role h r) ∙ contains-append (role_names h) (r ∷ []) b ∙ or_left _ _ (is.pairs_of_roles a b (fewer a b pair));
+  acyclic = acyclic-fewer (with_role h r) h fewer is.acyclic;
+}
+  where
+    fewer : (a b : Name) → is_immediate (with_role h r) a b ≡ true → is_immediate h a b ≡ true
+    fewer a b pair = ap (λ l. contains_name l b) (sym (juniors-with_role h r a)) ∙ pair
+
+-- other juniors of one role
+pub names-with_juniors : (h : Hierarchy) (r : Name) (js : List Name) → role_names (with_juniors h r js) ≡ role_names h
+names-with_juniors [] r js = refl
+names-with_juniors (e ∷ es) r js = elim (name_eq r e.0) as (λ b. role_names (cond b ((e.0, js) ∷ es) (e ∷ with_juniors es r js)) ≡ e.0 ∷ role_names es) [ true ↦ refl | false ↦ ap (λ l. e.0 ∷ l) (names-with_juniors es r js) ]
+
+length-with_juniors : (h : Hierarchy) (r : Name) (js : List Name) → length (with_juniors h r js) ≡ length h
+length-with_juniors [] r js = refl
+length-with_juniors (e ∷ es) r js = elim (name_eq r e.0) as (λ b. length (cond b ((e.0, js) ∷ es) (e ∷ with_juniors es r js)) ≡ suc (length es)) [ true ↦ refl | false ↦ ap suc (length-with_juniors es r js) ]
+
+pub juniors-with_juniors : (h : Hierarchy) (r : Name) (js : List Name) (c : Name) → is_role h r ≡ true → immediate_juniors (with_juniors h r js) c ≡ cond (name_eq c r) js (immediate_juniors h c)
+juniors-with_juniors [] r js c there = absurd (true≢false (sym there))
+juniors-with_juniors (e ∷ es) r js c there =
+    elim (name_eq r e.0) as (λ b. name_eq r e.0 ≡ b → (b || is_role es r) ≡ true → immediate_juniors (cond b ((e.0, js) ∷ es) (e ∷ with_juniors es r js)) c ≡ cond (name_eq c r) js (cond (name_eq c e.0) e.1 (immediate_juniors es c))) [
+      | true ↦ λ at _. elim (name_eq c e.0) as (λ b. name_eq c e.0 ≡ b → cond b js (immediate_juniors es c) ≡ cond (name_eq c r) js (cond b e.1 (immediate_juniors es c))) [
+        | true ↦ λ here. ap (λ b. cond b js e.1) (sym ((bytes_decides c r).1 (same_name c e.0 here ∙ sym (same_name r e.0 at))))
+        | false ↦ λ other. ap (λ b. cond b js (immediate_juniors es c)) (sym (differs c r e.0 at other))
+      ] refl
+      | false ↦ λ apart later. elim (name_eq c e.0) as (λ b. name_eq c e.0 ≡ b → cond b e.1 (immediate_juniors (with_juniors es r js) c) ≡ cond (name_eq c r) js (cond b e.1 (immediate_juniors es c))) [
+        | true ↦ λ here. ap (λ b. cond b js e.1) (sym (apart_from c r e.0 here apart))
+        | false ↦ λ _. juniors-with_juniors es r js c later
+      ] refl
+    ] refl there
+  where
+    differs : (c r k : Name) → name_eq r k ≡ true → name_eq c k ≡ false → name_eq c r ≡ false
+    differs c r k at other = elim (name_eq c r) as (λ b. name_eq c r ≡ b → b ≡ false) [
+      | true ↦ λ also. absurd (true≢false (sym ((bytes_decides c k).1 (same_name c r also ∙ same_name r k at)) ∙ other))
+      | false ↦ λ _. refl
+    ] refl
+    apart_from : (c r k : Name) → name_eq c k ≡ true → name_eq r k ≡ false → name_eq c r ≡ false
+    apart_from c r k here apart = elim (name_eq c r) as (λ b. name_eq c r ≡ b → b ≡ false) [
+      | true ↦ λ also. absurd (true≢false (sym ((bytes_decides r k).1 (sym (same_name c r also) ∙ same_name c k here)) ∙ apart))
+      | false ↦ λ _. refl
+    ] refl
+
+-- a pair after `with_pair` is that pair or was there
+pub with_pair-back : (h : Hierarchy) (s j : Name) → is_role h s ≡ true → (a b : Name) → is_immediate (with_pair h s j) a b ≡ true → (is_immediate h a b ≡ true) ⊎ ((a ≡ s) × (b ≡ j))
+with_pair-back h s j there a b pair =
+    let now : contains_name (cond (name_eq a s) (immediate_juniors h s ++ j ∷ []) (immediate_juniors h a)) b ≡ true = ap (λ l. contains_name l b) (sym (juniors-with_juniors h s _ a there)) ∙ pair in
+    elim (name_eq a s) as (λ t. name_eq a s ≡ t → contains_name (cond t (immediate_juniors h s ++ j ∷ []) (immediate_juniors h a)) b ≡ true → (is_immediate h a b ≡ true) ⊎ ((a ≡ s) × (b ≡ j))) [
+      | true ↦ λ at is. elim (or_cases _ _ (sym (contains-append (immediate_juniors h s) (j ∷ []) b) ∙ is)) [
+        | inl old ↦ inl (ap (λ k. is_immediate h k b) (same_name a s at) ∙ old)
+        | inr new ↦ inr (same_name a s at, same_name b j (elim (or_cases _ _ new) [ inl e ↦ e | inr e ↦ absurd (true≢false (sym e)) ]))
+      ]
+      | false ↦ λ _ is. inl is
+    ] refl now
+
+with_pair-chains : (h : Hierarchy) (s j : Name) → is_role h s ≡ true → (a b : Name) → IsAtLeast (with_pair h s j) a b → IsAtLeast h a b ⊎ (IsAtLeast h a s × IsAtLeast h j b)
+with_pair-chains h s j there a b same = inl same
+with_pair-chains h s j there a b (chain {middle = m} pair rest) =
+    elim (with_pair-back h s j there a m pair) [
+      | inl old ↦ elim (with_pair-chains h s j there m b rest) [
+        | inl below ↦ inl (chain old below)
+        | inr through ↦ inr (chain old through.0, through.1)
+      ]
+      | inr new ↦ elim (with_pair-chains h s j there m b rest) [
+        | inl below ↦ inr (subst (λ k. IsAtLeast h k s) (sym new.0) same, subst (λ k. IsAtLeast h k b) new.1 below)
+        | inr through ↦ inr (subst (λ k. IsAtLeast h k s) (sym new.0) same, through.1)
+      ]
+    ]
+
+pub IsHierarchy-with_pair : (h : Hierarchy) (s j : Name) → is_role h s ≡ true → is_role h j ≡ true → at_least h j s ≡ false → IsHierarchy h → IsHierarchy (with_pair h s j)
+IsHierarchy-with_pair h s j senior junior apart is = record {
+  small = let same = length-with_juniors h s (immediate_juniors h s ++ j ∷ []) in let before = is.small in omega arith;
+  pairs_of_roles = λ a b pair. ap (λ l. contains_name l b) (names-with_juniors h s _) ∙ elim (with_pair-back h s j senior a b pair) [
+    | inl old ↦ is.pairs_of_roles a b old
+    | inr new ↦ ap (is_role h) new.1 ∙ junior
+  ];
+  acyclic = λ a b down up. elim (with_pair-chains h s j senior a b (at_least-sound _ a b down)) [
+    | inl ab ↦ elim (with_pair-chains h s j senior b a (at_least-sound _ b a up)) [
+      | inl ba ↦ is.acyclic a b (at_least-complete h a b ab) (at_least-complete h b a ba)
+      | inr ba ↦ absurd (closed (chain-trans h j a s ba.1 (chain-trans h a b s ab ba.0)))
+    ]
+    | inr ab ↦ elim (with_pair-chains h s j senior b a (at_least-sound _ b a up)) [
+      | inl ba ↦ absurd (closed (chain-trans h j b s ab.1 (chain-trans h b a s ba ab.0)))
+      | inr ba ↦ absurd (closed (chain-trans h j b s ab.1 ba.0))
+    ]
+  ];
+}
+  where
+    closed : IsAtLeast h j s → ⊥
+    closed down = true≢false (sym (at_least-complete h j s down) ∙ apart)
+
+pub contains-without : (xs : List Name) (r b : Name) → contains_name (without_name xs r) b ≡ true → (contains_name xs b ≡ true) × (name_eq r b ≡ false)
+contains-without [] r b is = absurd (true≢false (sym is))
+contains-without (x ∷ xs) r b is =
+    elim (name_eq r x) as (λ t. name_eq r x ≡ t → contains_name (cond (not t) (x ∷ without_name xs r) (without_name xs r)) b ≡ true → ((name_eq b x || contains_name xs b) ≡ true) × (name_eq r b ≡ false)) [
+      | true ↦ λ _ later. let rest = contains-without xs r b later in (or_right (name_eq b x) (contains_name xs b) rest.0, rest.1)
+      | false ↦ λ other kept. elim (or_cases (name_eq b x) (contains_name (without_name xs r) b) kept) [
+        | inl here ↦ (or_left (name_eq b x) (contains_name xs b) here, ap (name_eq r) (same_name b x here) ∙ other)
+        | inr later ↦ let rest = contains-without xs r b later in (or_right (name_eq b x) (contains_name xs b) rest.0, rest.1)
+      ]
+    ] refl is
+
+pub IsHierarchy-without_pair : (h : Hierarchy) (s j : Name) → is_role h s ≡ true → IsHierarchy h → IsHierarchy (without_pair h s j)
+IsHierarchy-without_pair h s j there is = record {
+  small = let same = length-with_juniors h s (without_name (immediate_juniors h s) j) in let before = is.small in omega arith;
+  pairs_of_roles = λ a b pair. ap (λ l. contains_name l b) (names-with_juniors h s _) ∙ is.pairs_of_roles a b (fewer a b pair);
+  acyclic = acyclic-fewer (without_pair h s j) h fewer is.acyclic;
+}
+  where
+    fewer : (a b : Name) → is_immediate (without_pair h s j) a b ≡ true → is_immediate h a b ≡ true
+    fewer a b pair = elim (name_eq a s) as (λ t. name_eq a s ≡ t → contains_name (cond t (without_name (immediate_juniors h s) j) (immediate_juniors h a)) b ≡ true → is_immediate h a b ≡ true) [
+      | true ↦ λ at kept. ap (λ k. is_immediate h k b) (same_name a s at) ∙ (contains-without _ j b kept).0
+      | false ↦ λ _ kept. kept
+    ] refl (ap (λ l. contains_name l b) (sym (juniors-with_juniors h s _ a there)) ∙ pair)
+
+juniors-without : (es : Hierarchy) (r c : Name) → immediate_juniors (map (λ (e : Name × List Name). (e.0, without_name e.1 r)) es) c ≡ without_name (immediate_juniors es c) r
+juniors-without [] r c = refl
+juniors-without (e ∷ es) r c = elim (name_eq c e.0) as (λ b. cond b (without_name e.1 r) (immediate_juniors (map (λ (x : Name × List Name). (x.0, without_name x.1 r)) es) c) ≡ without_name (cond b e.1 (immediate_juniors es c)) r) [ true ↦ refl | false ↦ juniors-without es r c ]
+
+names-map : (es : Hierarchy) (r : Name) → role_names (map (λ (e : Name × List Name). (e.0, without_name e.1 r)) es) ≡ role_names es
+names-map [] r = refl
+names-map (e ∷ es) r = ap (λ l. e.0 ∷ l) (names-map es r)
+
+role-without : (h : Hierarchy) (r b : Name) → is_role h b ≡ true → name_eq r b ≡ false → is_role (entries_without h r) b ≡ true
+role-without [] r b there other = there
+role-without (e ∷ es) r b there other =
+    elim (name_eq r e.0) as (λ t. name_eq r e.0 ≡ t → is_role (cond (not t) (e ∷ entries_without es r) (entries_without es r)) b ≡ true) [
+      | true ↦ λ at. elim (or_cases (name_eq b e.0) (is_role es b) there) [
+        | inl here ↦ absurd (true≢false (sym ((bytes_decides r b).1 (same_name r e.0 at ∙ sym (same_name b e.0 here))) ∙ other))
+        | inr later ↦ role-without es r b later other
+      ]
+      | false ↦ λ _. elim (or_cases (name_eq b e.0) (is_role es b) there) [
+        | inl here ↦ or_left (name_eq b e.0) (is_role (entries_without es r) b) here
+        | inr later ↦ or_right (name_eq b e.0) (is_role (entries_without es r) b) (role-without es r b later other)
+      ]
+    ] refl
+
+no_longer : (h : Hierarchy) (r : Name) → length (entries_without h r) ≤ length h
+no_longer [] r = omega arith
+no_longer (e ∷ es) r =
+    let rest = no_longer es r in
+    elim (name_eq r e.0) as (λ b. length (cond (not b) (e ∷ entries_without es r) (entries_without es r)) ≤ suc (length es)) [ true ↦ omega arith | false ↦ omega arith ]
+
+shrinks : (h : Hierarchy) (r : Name) → length (without_role h r) ≤ length h
+shrinks h r =
+    let kept = no_longer h r in
+    let mapped : length (without_role h r) ≡ length (entries_without h r) = length-map (entries_without h r) (λ (e : Name × List Name). (e.0, without_name e.1 r)) in
+    omega arith
+
+pub IsHierarchy-without_role : (h : Hierarchy) (r : Name) → IsHierarchy h → IsHierarchy (without_role h r)
+IsHierarchy-without_role h r is = record {
+  small = let fewer_roles = shrinks h r in let before = is.small in omega arith;
+  pairs_of_roles = λ a b pair.
+      ap (λ l. contains_name l b) (names-map (entries_without h r) r) ∙ role-without h r b (is.pairs_of_roles a b (fewer a b pair)) (contains-without _ r b (kept a b pair)).1;
+  acyclic = acyclic-fewer (without_role h r) h fewer is.acyclic;
+}
+  where
+    kept : (a b : Name) → is_immediate (without_role h r) a b ≡ true → contains_name (without_name (immediate_juniors (entries_without h r) a) r) b ≡ true
+    kept a b pair = ap (λ l. contains_name l b) (sym (juniors-without (entries_without h r) r a)) ∙ pair
+    fewer : (a b : Name) → is_immediate (without_role h r) a b ≡ true → is_immediate h a b ≡ true
+    fewer a b pair = weaken_pair h r a b (contains-without _ r b (kept a b pair)).0
+
+-- a chain between two roles ends with a pair, so what it leads down to is a role
+junior_role : (h : Hierarchy) → IsHierarchy h → (a b : Name) → IsAtLeast h a b → (a ≡ b) ⊎ (is_role h b ≡ true)
+junior_role h is a b same = inl refl
+junior_role h is a b (chain {middle = m} pair rest) = elim (junior_role h is m b rest) [
+  | inl end ↦ inr (ap (is_role h) (sym end) ∙ is.pairs_of_roles a m pair)
+  | inr role ↦ inr role
+]
+
+pub contains-filter : (p : Name → Bool) (xs : List Name) (b : Name) → contains_name (filter p xs) b ≡ (contains_name xs b && p b)
+contains-filter p [] b = refl
+contains-filter p (x ∷ xs) b =
+    elim (p x) as (λ t. p x ≡ t → contains_name (cond t (x ∷ filter p xs) (filter p xs)) b ≡ ((name_eq b x || contains_name xs b) && p b)) [
+      | true ↦ λ passes. elim (name_eq b x) as (λ t. name_eq b x ≡ t → (t || contains_name (filter p xs) b) ≡ ((t || contains_name xs b) && p b)) [
+        | true ↦ λ here. sym passes ∙ ap p (sym (same_name b x here))
+        | false ↦ λ _. contains-filter p xs b
+      ] refl
+      | false ↦ λ fails. elim (name_eq b x) as (λ t. name_eq b x ≡ t → contains_name (filter p xs) b ≡ ((t || contains_name xs b) && p b)) [
+        | true ↦ λ here.
+            let none : p b ≡ false = ap p (same_name b x here) ∙ fails in
+            contains-filter p xs b ∙ ap (λ t. contains_name xs b && t) none ∙ and_false (contains_name xs b) ∙ sym none
+        | false ↦ λ _. contains-filter p xs b
+      ] refl
+    ] refl
+  where
+    and_false : (t : Bool) → (t && false) ≡ false
+    and_false true = refl
+    and_false false = refl
+
+-- the roles below one senior answer the order
+pub below-one : (h : Hierarchy) → IsHierarchy h → (a b : Name) → name_eq a b ≡ false → contains_name (roles_below h (a ∷ [])) b ≡ at_least h a b
+below-one h is a b apart =
+    contains-filter (is_below h (a ∷ [])) (role_names h) b
+    ∙ elim (at_least h a b) as (λ t. at_least h a b ≡ t → (is_role h b && (t || false)) ≡ t) [
+      | true ↦ λ down. elim (junior_role h is a b (at_least-sound h a b down)) [
+        | inl equal ↦ absurd (true≢false (sym ((bytes_decides a b).1 equal) ∙ apart))
+        | inr role ↦ ap (λ t. t && true) role
+      ]
+      | false ↦ λ _. and_false (is_role h b)
+    ] refl
+  where
+    and_false : (t : Bool) → (t && false) ≡ false
+    and_false true = refl
+    and_false false = refl
+
+pub at_least-refl : (h : Hierarchy) (a b : Name) → name_eq a b ≡ true → true ≡ at_least h a b
+at_least-refl h a b equal = sym (at_least-complete h a b (subst (IsAtLeast h a) (same_name a b equal) same))

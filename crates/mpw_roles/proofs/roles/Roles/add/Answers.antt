@@ -1,0 +1,24 @@
+-- A new role goes last, without pairs.
+use Rattle.std.proofs.Common.{◌≡◌, ◌∙◌, sym, ap, subst, arith, false, [], ◌<◌, length}
+use Rattle.indexmap.specs.IndexMap.{insert_entry}
+use Rattle.mpw_geom.specs.Names.{name_eq}
+use Rattle.mpw_roles.specs.Hierarchy.{is_role, with_role}
+use Rattle.mpw_roles.specs.Order.{IsHierarchy}
+use Rattle.mpw_roles.proofs.HierarchyLemmas.{IsHierarchy-with_role}
+use Rattle.mpw_roles.proofs.TableLemmas.{add-ok, insert-new}
+use Rattle.mpw_roles.proofs.roles.Roles.add.Goals as goal
+
+pub invariant_of-self-2 : goal.invariant_of-self-2
+invariant_of-self-2 c =
+    let h = c.self.inside.table.entries in
+    let new : is_role h c.args.role ≡ false = ap (λ k. is_role k c.args.role) c.self.view_is ∙ sym c.contains.ensures ∙ c.if-contains.false in
+    let room : length h < 512 = let same = ap length c.self.view_is in omega arith in
+    let is : c.put.new.table.entries ≡ with_role h c.args.role = c.in_ok-put.ensures.ok ∙ ap (insert_entry name_eq h c.args.role) c.new-juniors.ensures ∙ insert-new h c.args.role new in
+    subst IsHierarchy (sym is) (IsHierarchy-with_role h c.args.role room c.self.invariant)
+
+pub returns-clause-ok : goal.returns-clause-ok
+returns-clause-ok c =
+    let h = c.args.self.now in
+    let new : is_role h c.args.role ≡ false = sym c.contains.ensures ∙ c.if-contains.false in
+    let is : c.put.new.table.entries ≡ insert_entry name_eq h c.args.role [] = c.in_ok-put.ensures.ok ∙ (λ i. insert_entry name_eq (c.self.view_is i) c.args.role (c.new-juniors.ensures i)) in
+    add-ok h c.put.new.table.entries c.args.role new (omega arith) is

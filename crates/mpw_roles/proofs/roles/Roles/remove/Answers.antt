@@ -1,0 +1,18 @@
+-- What `retain` leaves is the hierarchy without the role.
+use Rattle.std.proofs.Common.{rules, ◌∙◌, ◌≡◌, sym, ap, subst, Ok, not, true}
+use Rattle.mpw_roles.specs.Hierarchy.{without_role, is_role}
+use Rattle.mpw_roles.specs.Order.{IsHierarchy}
+use Rattle.mpw_roles.proofs.HierarchyLemmas.{IsHierarchy-without_role}
+use Rattle.mpw_roles.proofs.TableLemmas.{remove-retained}
+use Rattle.mpw_roles.proofs.roles.Roles.remove.Goals as goal
+
+pub invariant_of-self : goal.invariant_of-self
+invariant_of-self c =
+    let left : c.retain.new.self.entries ≡ without_role c.self.inside.table.entries c.args.role.now = remove-retained _ c.args.role.now _ (λ name juniors b after f call. search rules) _ _ c.retain.ensures.filtered in
+    subst IsHierarchy (sym left) (IsHierarchy-without_role c.self.inside.table.entries c.args.role.now c.self.invariant)
+
+pub returns-clause-ok : goal.returns-clause-ok
+returns-clause-ok c =
+    let left : c.retain.new.self.entries ≡ without_role c.self.inside.table.entries c.args.role.now = remove-retained _ c.args.role.now _ (λ name juniors b after f call. search rules) _ _ c.retain.ensures.filtered in
+    let there : is_role c.args.self.now c.args.role.now ≡ true = sym c.contains.ensures ∙ c.if-not-contains.false in
+    rw there (ap Ok (sym (rw c.self.view_is at left)))

@@ -1,0 +1,34 @@
+-- The order of roles (ANSI INCITS 359-2004, 6.2.1): the reflexive and transitive closure of the immediate pairs.
+use Rattle.std.specs.Prelude.{◌≡◌, ℕ, ◌≤◌, zero, suc, Bool, true, ◌||◌, List, length, filter}
+use Rattle.std.specs.List.{list_any}
+use Rattle.mpw_geom.specs.Names.{name_eq}
+use Rattle.mpw_roles.specs.Hierarchy.{Name, Hierarchy, role_names, is_role, immediate_juniors, is_immediate, entries_without}
+
+-- the senior is the junior, or a chain of immediate pairs leads from it down to the junior
+pub data IsAtLeast (hierarchy : Hierarchy) : Name → Name → Type 0 where
+  same : {role : Name} → IsAtLeast hierarchy role role
+  chain : {senior middle junior : Name} → is_immediate hierarchy senior middle ≡ true → IsAtLeast hierarchy middle junior → IsAtLeast hierarchy senior junior
+
+-- the same as a test: a chain needs each role once, so it may go on without the pairs of the roles that it has left
+abbrev pub reaches : ℕ → Hierarchy → Name → Name → Bool
+reaches zero hierarchy senior junior = name_eq senior junior
+reaches (suc n) hierarchy senior junior =
+    name_eq senior junior
+    || list_any (λ middle. reaches n (entries_without hierarchy senior) middle junior) (immediate_juniors hierarchy senior)
+
+unfoldable pub at_least : Hierarchy → Name → Name → Bool
+at_least hierarchy senior junior = reaches (length hierarchy) hierarchy senior junior
+
+-- whether the role is at or below one of the seniors
+abbrev pub is_below : Hierarchy → List Name → Name → Bool
+is_below hierarchy seniors role = list_any (λ senior. at_least hierarchy senior role) seniors
+
+-- the roles at or below one of the seniors, in the order of the roles
+abbrev pub roles_below : Hierarchy → List Name → List Name
+roles_below hierarchy seniors = filter (is_below hierarchy seniors) (role_names hierarchy)
+
+-- what every hierarchy keeps: at most 512 roles, pairs of roles, and no cycle, so that the order is a partial order
+pub record IsHierarchy (hierarchy : Hierarchy) : Type 0 where
+  pub small : length hierarchy ≤ 512
+  pub pairs_of_roles : (senior junior : Name) → is_immediate hierarchy senior junior ≡ true → is_role hierarchy junior ≡ true
+  pub acyclic : (a b : Name) → at_least hierarchy a b ≡ true → at_least hierarchy b a ≡ true → a ≡ b
