@@ -5,3 +5,4 @@ pub mod Found
 pub mod Exchange
 pub mod Maximal
 pub mod Window
+pub mod Computed

@@ -3,3 +3,4 @@ pub mod Steps
 pub mod Pieces
 pub mod Pairs
 pub mod Laws
+pub mod Computed

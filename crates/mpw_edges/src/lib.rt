@@ -8,6 +8,6 @@ mod pair;
 mod run;
 mod search;
 
-pub use laws::{exchange_exchanges_axes, window_decides};
+pub use laws::{exchange_exchanges_axes, test_decides_pair_steps, window_decides};
 pub use run::{Axis, Piece};
 pub use search::pieces;

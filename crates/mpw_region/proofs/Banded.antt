@@ -42,24 +42,31 @@ rises_far rows h i j l b = elim (cases_lt i j) [
 place_of : (rows : List ℤ) (y : ℤ) → Contains rows y → (k : ℕ) × (k < length rows) × (get_or rows k (pos 0) ≡ y)
 place_of rows y c = (c.0, c.1, get_or_default rows c.0 (pos 0) y c.1 ∙ c.2)
 
+abbrev CrossesBandOf : List ℤ → Box2 → ℤ → ℤ → Type 0
+CrossesBandOf rows b i j = (line : Line) × HasStrip b rows line i × (line.first ≤ℤ j) × (j <ℤ line.second)
+
+strip_in_band : (rows : List ℤ) (b : Box2) (i j : ℤ) (k : ℕ) → k + 1 < length rows → get_or rows k (pos 0) ≤ℤ j → j <ℤ get_or rows (k + 1) (pos 0) → b.y0 ≤ℤ get_or rows k (pos 0) → get_or rows (k + 1) (pos 0) ≤ℤ b.y1 → HasSquare b i j → CrossesBandOf rows b i j
+strip_in_band rows b i j k inside below above low high s =
+    (band_of (get_or rows k (pos 0)) (get_or rows (k + 1) (pos 0)), ((k, inside, refl, omega (arith, ints, below, above)), low, high, s.0.0, s.0.1), below, above)
+
 -- a box that has the square crosses the band of its row
 pub strip_of_square : (rows : List ℤ) (b : Box2) (i j : ℤ) → Rises rows → HasBorders rows b → HasSquare b i j → (line : Line) × HasStrip b rows line i × (line.first ≤ℤ j) × (j <ℤ line.second)
-strip_of_square rows b i j rises borders s =
-    let p0 = place_of rows b.y0 borders.0 in
-    let p1 = place_of rows b.y1 borders.1 in
-    elim (cases_lt p0.0 p1.0) [
+strip_of_square rows b i j rises borders s = go (place_of rows b.y0 borders.0) (place_of rows b.y1 borders.1)
+  where
+    between : (m n : ℕ) → m < n → n < length rows → get_or rows m (pos 0) ≡ b.y0 → get_or rows n (pos 0) ≡ b.y1 → (k : ℕ) × (m ≤ k) × (k + 1 ≤ m + (n - m)) × (get_or rows k (pos 0) ≤ℤ j) × (j <ℤ get_or rows (k + 1) (pos 0)) → CrossesBandOf rows b i j
+    between m n less inside e f r =
+        strip_in_band rows b i j r.0 (omega (arith, r.2)) r.3 r.4
+        (omega (arith, ints, e, rises_far rows rises m r.0 r.1 (omega (arith, r.2))))
+        (omega (arith, ints, f, rises_far rows rises (r.0 + 1) n (omega (arith, r.2)) inside))
+        s
+
+    go : (k : ℕ) × (k < length rows) × (get_or rows k (pos 0) ≡ b.y0) → (k : ℕ) × (k < length rows) × (get_or rows k (pos 0) ≡ b.y1) → CrossesBandOf rows b i j
+    go p q = elim (cases_lt p.0 q.0) [
       | inl less ↦
-          let n = p1.0 - p0.0 in
-          let at_top : p0.0 + (p1.0 - p0.0) ≡ p1.0 = omega arith in
-          let r = band_at rows j (p1.0 - p0.0) p0.0 (omega (arith, p1.1)) (omega (arith, ints, p0.2, s.1.0)) (subst (λ m. j <ℤ get_or rows m (pos 0)) (sym at_top) (omega (arith, ints, p1.2, s.1.1))) in
-          let low = rises_far rows rises p0.0 r.0 r.1 (omega (arith, r.2, p1.1)) in
-          let high = rises_far rows rises (r.0 + 1) p1.0 (omega (arith, r.2)) p1.1 in (
-            band_of (get_or rows r.0 (pos 0)) (get_or rows (r.0 + 1) (pos 0)),
-            ((r.0, omega (arith, r.2, p1.1), refl, omega (arith, ints, r.3, r.4)), omega (arith, ints, p0.2, low), omega (arith, ints, p1.2, high), s.0.0, s.0.1),
-            r.3,
-            r.4,
-          )
-      | inr more ↦ absurd (omega (arith, ints, rises_far rows rises p1.0 p0.0 more p0.1, p0.2, p1.2, s.1.0, s.1.1))
+          between p.0 q.0 less q.1 p.2 q.2
+          (band_at rows j (q.0 - p.0) p.0 (omega (arith, q.1)) (omega (arith, ints, p.2, s.1.0))
+          (subst (λ m. j <ℤ get_or rows m (pos 0)) (let e : q.0 ≡ p.0 + (q.0 - p.0) = omega arith in e) (omega (arith, ints, q.2, s.1.1))))
+      | inr more ↦ absurd (omega (arith, ints, rises_far rows rises q.0 p.0 more p.1, p.2, q.2, s.1.0, s.1.1))
     ]
 
 -- what the joined runs are to the boxes
