@@ -34,6 +34,13 @@ impl Rules {
         Rules { items }
     }
 
+    /// The vector of the rules, in their order.
+    pub fn into_vec(self) -> Vec<Rule>
+        ensures { result.items ≡ self }
+    {
+        self.items
+    }
+
     /// The rules, in order.
     pub fn as_slice(&self) -> &[Rule]
         ensures { result.now ≡ self.now }
