@@ -1,0 +1,8 @@
+pub mod Adding
+pub mod Tests
+pub mod Region
+pub mod Found
+pub mod Exchange
+pub mod Maximal
+pub mod Window
+pub mod Computed

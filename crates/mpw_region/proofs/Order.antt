@@ -1,0 +1,85 @@
+use Rattle.std.proofs.Common.{◌≡◌, ℕ, ℤ, ◌≤ℤ◌, ◌<ℤ◌, ◌+◌, ◌-◌, zero, suc, ◌<◌, false, List, length, get_or, sym, refl, ap, ◌∙◌, subst, inl, inr, ◌⊎◌, arith}
+use Rattle.std.proofs.lemmas.Int.{ints}
+use Rattle.std.specs.Cmp.{IsTotalOrder}
+use Rattle.std.specs.Ordering.{nat_cmp, int_cmp, ordering_then, is_lt, ordering_reverse, MatchOrdering}
+use Rattle.std.specs.declared.cmp.Ordering.{Ordering}
+use Rattle.std.specs.declared.cmp.Ordering.TheVariants.{Less, Equal, Greater}
+use Rattle.std.proofs.lemmas.Cmp.{then_total, on_total, nat_cmp_total, int_cmp_total, int_ranked, ranked}
+use Rattle.mpw_region.specs.declared.runs.Line.{Line}
+use Rattle.mpw_region.specs.declared.runs.Run.{Run}
+use Rattle.mpw_region.specs.Runs.{line_cmp}
+use Rattle.mpw_region.specs.Order.{BeginsFirst, AreInOrder}
+
+pub line_total : IsTotalOrder line_cmp
+line_total = then_total (on_total (λ l. l.side) nat_cmp_total) (then_total (on_total (λ l. l.first) int_cmp_total) (on_total (λ l. l.second) int_cmp_total))
+
+nat_tied : (x y : ℕ) → nat_cmp x y ≡ Equal → x ≡ y
+nat_tied x y e = let h : MatchOrdering Equal (x < y) (x ≡ y) (y < x) = ranked x y Equal (sym e) in h
+
+int_tied : (x y : ℤ) → int_cmp x y ≡ Equal → x ≡ y
+int_tied x y e = let h : MatchOrdering Equal (x <ℤ y) (x ≡ y) (y <ℤ x) = int_ranked x y Equal (sym e) in h
+
+then_first : (o p : Ordering) → ordering_then o p ≡ Equal → o ≡ Equal
+then_first Less p e = cc
+then_first Equal p e = refl
+then_first Greater p e = cc
+
+then_second : (o p : Ordering) → ordering_then o p ≡ Equal → p ≡ Equal
+then_second Less p e = cc
+then_second Equal p e = e
+then_second Greater p e = cc
+
+same_line : (a b : Line) → a.side ≡ b.side → a.first ≡ b.first → a.second ≡ b.second → a ≡ b
+same_line a b e f g = ap (λ (p : ℕ × ℤ × ℤ). let l : Line = record { side = p.0; first = p.1; second = p.2 } in l) (let h : (let q : ℕ × ℤ × ℤ = (a.side, a.first, a.second) in q) ≡ (b.side, b.first, b.second) = cc in h)
+
+-- lines that compare alike are one line
+pub line_tied : (a b : Line) → line_cmp a b ≡ Equal → a ≡ b
+line_tied a b e =
+    let rest = then_second (nat_cmp a.side b.side) _ e in
+    same_line a b
+    (nat_tied _ _ (then_first (nat_cmp a.side b.side) _ e))
+    (int_tied _ _ (then_first (int_cmp a.first b.first) _ rest))
+    (int_tied _ _ (then_second (int_cmp a.first b.first) _ rest))
+
+reversed : (o : Ordering) → ordering_reverse o ≡ Greater → o ≡ Less
+reversed Less e = refl
+reversed Equal e = cc
+reversed Greater e = cc
+
+pub not_after : (x y : ℤ) → is_lt (int_cmp y x) ≡ false → x ≤ℤ y
+not_after x y e = grind (arith, ints)
+
+then_not_less : (o p : Ordering) → is_lt (ordering_then o p) ≡ false → (o ≡ Greater) ⊎ ((o ≡ Equal) × (is_lt p ≡ false))
+then_not_less Less p e = cc
+then_not_less Equal p e = inr (refl, e)
+then_not_less Greater p e = inl refl
+
+-- what a sort leaves of neighbours
+pub BeginsFirst-from_sort : (r s : Run) → is_lt (ordering_then (line_cmp s.line r.line) (ordering_then (int_cmp s.from r.from) (int_cmp s.to r.to))) ≡ false → BeginsFirst r s
+BeginsFirst-from_sort r s e =
+    elim (then_not_less (line_cmp s.line r.line) _ e) [
+      | inl g ↦ inl (reversed _ (sym (line_total.antisymm s.line r.line) ∙ g))
+      | inr h ↦ inr (sym (line_tied _ _ h.0), not_after _ _ (first_not_less _ _ h.1))
+    ]
+  where
+    first_not_less : (o p : Ordering) → is_lt (ordering_then o p) ≡ false → is_lt o ≡ false
+    first_not_less Less p f = f
+    first_not_less Equal p f = refl
+    first_not_less Greater p f = refl
+
+pub BeginsFirst-chain : (r s t : Run) → BeginsFirst r s → BeginsFirst s t → BeginsFirst r t
+BeginsFirst-chain r s t (inl p) (inl q) = inl (line_total.trans r.line s.line t.line p q)
+BeginsFirst-chain r s t (inl p) (inr q) = inl (ap (line_cmp r.line) (sym q.0) ∙ p)
+BeginsFirst-chain r s t (inr p) (inl q) = inl (ap (λ l. line_cmp l t.line) p.0 ∙ q)
+BeginsFirst-chain r s t (inr p) (inr q) = inr (p.0 ∙ q.0, omega (arith, ints, p.1, q.1))
+
+-- what follows of pairs at a distance, from neighbours
+far : (xs : List Run) (d : Run) → ((k : ℕ) → k + 1 < length xs → BeginsFirst (get_or xs k d) (get_or xs (k + 1) d)) → (n i j : ℕ) → j ≡ i + 1 + n → j < length xs → BeginsFirst (get_or xs i d) (get_or xs j d)
+far xs d h zero i j e b = subst (λ m. BeginsFirst (get_or xs i d) (get_or xs m d)) (let g : i + 1 ≡ j = omega arith in g) (h i (omega arith))
+far xs d h (suc n) i j e b =
+    BeginsFirst-chain (get_or xs i d) (get_or xs (i + 1 + n) d) (get_or xs j d)
+    (far xs d h n i (i + 1 + n) refl (omega arith))
+    (subst (λ m. BeginsFirst (get_or xs (i + 1 + n) d) (get_or xs m d)) (let g : i + 1 + n + 1 ≡ j = omega arith in g) (h (i + 1 + n) (omega arith)))
+
+pub AreInOrder-from_neighbours : (xs : List Run) → ((k : ℕ) (d : Run) → k + 1 < length xs → BeginsFirst (get_or xs k d) (get_or xs (k + 1) d)) → AreInOrder xs
+AreInOrder-from_neighbours xs h i j d l b = far xs d (λ k. h k d) (j - i - 1) i j (omega arith) b

@@ -1,0 +1,7 @@
+use Rattle.std.proofs.Common.{arith, get_or, ◌+◌}
+use Rattle.mpw_region.proofs.Order.{AreInOrder-from_neighbours, BeginsFirst-from_sort}
+use Rattle.mpw_region.proofs.runs.in_order.Goals as goal
+
+pub returns-clause-ordered : goal.returns-clause-ordered
+returns-clause-ordered c =
+    AreInOrder-from_neighbours c.sort.new.self.items (λ k d b. BeginsFirst-from_sort (get_or c.sort.new.self.items k d) (get_or c.sort.new.self.items (k + 1) d) (c.in_ok-sort.ensures.sorted k d (omega arith) b))

@@ -1,0 +1,5 @@
+pub mod Squares
+pub mod Runs
+pub mod Order
+pub mod Strips
+pub mod Banded

@@ -1,0 +1,45 @@
+//! A merged region: bands of rows, each with its columns.
+
+ghost use Rattle.std.specs.Prelude.{◌≡◌};
+ghost use Rattle.mpw_region.specs.Banded.{AreBands};
+
+use mpw_geom::Box2;
+use std::marker::Model;
+
+/// A set of unit squares as bands of rows. In contracts it is the list of its boxes: from below,
+/// and in each band from left to right with a gap between any two. What stands on it speaks of the
+/// squares alone, so whether neighbouring bands of equal columns are one is no part of its meaning.
+#[derive(Debug, Drop)]
+pub struct Bands {
+    boxes: Vec<Box2>,
+}
+
+impl Model for Bands {
+    ghost use Rattle.std.specs.Prelude.{List};
+    ghost use Rattle.mpw_geom.specs.declared.plane.Box2.{Box2};
+    ghost use Rattle.mpw_region.specs.Banded.{AreBands};
+
+    ghost Value = { List Box2 };
+
+    ghost view = { λ b. b.boxes.items };
+
+    ghost invariant = { λ b. AreBands b.boxes.items };
+}
+
+impl Bands {
+    /// The region of boxes that are bands already.
+    pub(crate) fn of(boxes: Vec<Box2>) -> Bands
+        requires { AreBands boxes.items }
+        ensures { result ≡ boxes.items }
+    {
+        Bands { boxes }
+    }
+
+    /// The boxes: bands of rows from below, and in each band intervals from left to right.
+    pub fn as_slice(&self) -> &[Box2]
+        ensures boxes { result.now ≡ self.now }
+        ensures banded { AreBands self.now }
+    {
+        self.boxes.as_slice()
+    }
+}

@@ -1,0 +1,94 @@
+//! Runs of whole numbers on lines, and how they are joined.
+
+ghost use Rattle.std.specs.Prelude.{◌≡◌, ◌↔◌, ◌≤ℤ◌, ◌<ℤ◌, ◌∷◌, ℤ, IfOk, All, MatchBool};
+ghost use Rattle.std.specs.List.Sorted.{IsPermutation};
+ghost use Rattle.mpw_region.specs.declared.runs.Line.{Line as LineValue};
+ghost use Rattle.mpw_region.specs.Runs.{CoversPlace, IsFilled, AreApart};
+ghost use Rattle.mpw_region.specs.Order.{AreInOrder, merged};
+
+use std::alloc::{AllocError, Global};
+
+/// What tells the lines apart on which runs lie: a side and two numbers, in nm.
+#[derive(Clone, Copy, Debug, PartialEq, Eq, PartialOrd, Ord)]
+pub struct Line {
+    pub side: u8,
+    pub first: i64,
+    pub second: i64,
+}
+
+/// The places from `from` to before `to` on a line, in nm.
+#[derive(Clone, Copy, Debug, PartialEq, Eq, PartialOrd, Ord)]
+pub struct Run {
+    pub line: Line,
+    pub from: i64,
+    pub to: i64,
+}
+
+impl Run {
+    /// Whether the next run overlaps or touches this one, on one line.
+    fn reaches(&self, next: &Run) -> bool
+        ensures { MatchBool result
+            ((self.now.line ≡ next.now.line) × (next.now.from ≤ℤ self.now.to))
+            ((self.now.line ≡ next.now.line) → self.now.to <ℤ next.now.from) }
+    {
+        self.line == next.line && next.from <= self.to
+    }
+
+    /// This run, lengthened to the end of the next.
+    fn merged(&self, next: &Run) -> Run
+        ensures { result ≡ merged self.now next.now }
+    {
+        Run {
+            line: self.line,
+            from: self.from,
+            to: self.to.max(next.to),
+        }
+    }
+}
+
+fn in_order(runs: Vec<Run>) -> Result<Vec<Run>, AllocError>
+    ensures moved { IfOk result (λ v. IsPermutation runs.items v.items) }
+    ensures ordered { IfOk result (λ v. AreInOrder v.items) }
+{
+    let mut runs = runs;
+    runs.sort()?;
+    Ok(runs)
+}
+
+/// Joins ordered runs that overlap or touch on one line, beginning with `first`.
+fn join(alloc: Global, first: Run, rest: &[Run]) -> Result<Vec<Run>, AllocError>
+    requires filled { All IsFilled (first ∷ rest.now) }
+    requires ordered { AreInOrder (first ∷ rest.now) }
+    ensures places { IfOk result (λ v. (line : LineValue) (at : ℤ) →
+        CoversPlace v.items line at ↔ CoversPlace (first ∷ rest.now) line at) }
+    ensures apart { IfOk result (λ v. AreApart v.items) }
+{
+    let mut joined = Vec::new(alloc);
+    let mut last = first;
+    for run in rest {
+        if last.reaches(run) {
+            last = last.merged(run);
+        } else {
+            joined.push(last)?;
+            last = *run;
+        }
+    }
+    joined.push(last)?;
+    Ok(joined)
+}
+
+/// The same places as the runs, by runs in order no two of which touch: on one line each ends
+/// before the next begins, with a gap. Runs are ordered by line (side, first, second), then by
+/// place. The cost is that of sorting the runs.
+pub fn joined(alloc: Global, runs: Vec<Run>) -> Result<Vec<Run>, AllocError>
+    requires { All IsFilled runs.items }
+    ensures places { IfOk result (λ v. (line : LineValue) (at : ℤ) →
+        CoversPlace v.items line at ↔ CoversPlace runs.items line at) }
+    ensures apart { IfOk result (λ v. AreApart v.items) }
+{
+    let runs = in_order(runs)?;
+    match runs.as_slice() {
+        [] => Ok(Vec::new(alloc)),
+        [first, rest @ ..] => join(alloc, *first, rest),
+    }
+}
