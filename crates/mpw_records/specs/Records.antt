@@ -1,5 +1,5 @@
 -- The records of a text: the first stands at 0, and each next one where the one before ends.
-use Rattle.std.specs.Prelude.{ℕ, zero, suc, ◌+◌, ◌-◌, ◌%◌, ◌||◌, ◌==◌, nat_lt, Bool, true, List, [], ◌∷◌, length, drop, slice_index, slice_range, Option, Some, None, Result, Ok, Err, if◌then◌else◌}
+use Rattle.std.specs.Prelude.{◌≡◌, ℕ, zero, suc, ◌+◌, ◌-◌, ◌%◌, ◌||◌, ◌==◌, nat_lt, Bool, true, List, [], ◌∷◌, length, drop, slice_index, slice_range, Option, Some, None, Result, Ok, Err, if◌then◌else◌}
 use Rattle.byteorder.specs.Endian.{big_number}
 use Rattle.mpw_records.specs.declared.fault.Code.{Code}
 use Rattle.mpw_records.specs.declared.fault.Code.TheVariants.{Short, BadLength}
@@ -15,9 +15,17 @@ pub record RawRecord : Type 0 where
   pub data_type : ℕ
   pub bytes : List ℕ
 
+-- The data has the type and the size that the record type asks for.
+abbrev pub IsSized : RawRecord → Type 0
+IsSized r = data_fault r.kind r.data_type (length r.bytes) ≡ None
+
 -- A record without where its data lies in memory.
 abbrev pub raw : Record → RawRecord
 raw r = record { offset = r.offset; kind = r.kind; data_type = r.data_type; bytes = r.bytes.now }
+
+-- What stands where a record is looked for: a record, or the fault in its place.
+abbrev pub Outcome : Type 0
+Outcome = Result RawRecord ReadFault
 
 abbrev pub seen : Result Record ReadFault → Result RawRecord ReadFault
 seen (Ok r) = Ok (raw r)
@@ -54,15 +62,15 @@ is_last (Ok r) = r.kind == ENDLIB
 is_last (Err f) = true
 
 -- The first of the records from an offset on, at most so many.
-unfoldable pub outcomes : ℕ → List ℕ → ℕ → List (Result RawRecord ReadFault)
+unfoldable pub outcomes : ℕ → List ℕ → ℕ → List Outcome
 outcomes zero text offset = []
 outcomes (suc most) text offset =
     front text offset ∷ (if is_last (front text offset) then [] else outcomes most text (offset + told_length (drop offset text)))
 
 -- The records from an offset on. No text has more records than bytes, with the fault behind them.
-abbrev pub outcomes_from : List ℕ → ℕ → List (Result RawRecord ReadFault)
+abbrev pub outcomes_from : List ℕ → ℕ → List Outcome
 outcomes_from text offset = outcomes (suc (length text)) text offset
 
 -- The records of a text up to ENDLIB, or up to the first fault and that fault.
-abbrev pub outcomes_of : List ℕ → List (Result RawRecord ReadFault)
+abbrev pub outcomes_of : List ℕ → List Outcome
 outcomes_of text = outcomes_from text 0

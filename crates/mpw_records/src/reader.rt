@@ -3,8 +3,8 @@
 //! To contracts it is the list of what `next` still gives: the records in order, and behind them the
 //! fault, if there is one.
 
-ghost use Rattle.std.specs.Prelude.{◌≡◌, [], ◌∷◌, IfSome, IfNone};
-ghost use Rattle.mpw_records.specs.Records.{outcomes_of, seen};
+ghost use Rattle.std.specs.Prelude.{◌≡◌, [], ◌∷◌, IfSome, IfNone, IfOk};
+ghost use Rattle.mpw_records.specs.Records.{outcomes_of, seen, raw, IsSized};
 
 use crate::fault::ReadFault;
 use crate::kind;
@@ -20,11 +20,10 @@ pub struct Records<'a> {
 }
 
 impl<'a> Model for Records<'a> {
-    ghost use Rattle.std.specs.Prelude.{◌≤◌, List, [], Result, length, if◌then◌else◌};
-    ghost use Rattle.mpw_records.specs.declared.fault.ReadFault.{ReadFault};
-    ghost use Rattle.mpw_records.specs.Records.{RawRecord, outcomes_from};
+    ghost use Rattle.std.specs.Prelude.{◌≤◌, List, [], length, if◌then◌else◌};
+    ghost use Rattle.mpw_records.specs.Records.{Outcome, outcomes_from};
 
-    ghost Value = { List (Result RawRecord ReadFault) };
+    ghost Value = { List Outcome };
 
     ghost view = { λ a. if a.ended then [] else outcomes_from a.bytes.now a.offset };
 
@@ -47,6 +46,7 @@ impl<'a> Records<'a> {
     /// It takes no memory, and looks at six bytes at most.
     pub fn next(&mut self) -> Option<Result<Record<'a>, ReadFault>>
         ensures some { IfSome result (λ outcome. self.old ≡ seen outcome ∷ self.new) }
+        ensures sized { IfSome result (λ outcome. IfOk outcome (λ r. IsSized (raw r))) }
         ensures none { IfNone result (self.old ≡ []) }
         ensures ended { IfNone result (self.new ≡ []) }
     {

@@ -1,9 +1,9 @@
 //! One record, and the tests that it passes.
 
-ghost use Rattle.std.specs.Prelude.{◌≡◌, ◌≤◌, ◌==◌, length};
+ghost use Rattle.std.specs.Prelude.{◌≡◌, ◌≤◌, ◌==◌, length, IfOk};
 ghost use Rattle.byteorder.specs.Endian.{big_number};
 ghost use Rattle.mpw_records.specs.Format.{data_fault, told};
-ghost use Rattle.mpw_records.specs.Records.{front, seen};
+ghost use Rattle.mpw_records.specs.Records.{front, seen, raw, IsSized};
 
 use crate::fault::{Code, ReadFault};
 use crate::kind;
@@ -57,7 +57,8 @@ fn fault_of_data(kind: u8, data_type: u8, size: usize) -> Option<Code>
 /// The record that begins at the offset, or its first fault.
 pub fn record_at(bytes: &[u8], offset: usize) -> Result<Record<'_>, ReadFault>
     requires { offset ≤ length bytes.now }
-    ensures { seen result ≡ front bytes.now offset }
+    ensures outcome { seen result ≡ front bytes.now offset }
+    ensures sized { IfOk result (λ r. IsSized (raw r)) }
 {
     let rest = &bytes[offset..];
     let fault = |code| ReadFault { code, offset };
