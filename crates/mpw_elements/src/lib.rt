@@ -2,7 +2,10 @@
 #![tactic(auto)]
 
 mod element;
+mod fault;
 mod points;
+mod reading;
 
 pub use element::{Boundary, Element, Path, Reference};
+pub use fault::ReadError;
 pub use points::Points;
