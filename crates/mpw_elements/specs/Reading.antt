@@ -45,11 +45,16 @@ field start [] = Err (record { code = Unexpected; offset = start })
 field start (Err f ∷ rs) = Err f
 field start (Ok r ∷ rs) = if is_skipped r.kind then field start rs else Ok (r, rs)
 
+-- A record that must be of this type.
+unfoldable pub demanded : ℕ → RawRecord → Result RawRecord ReadFault
+demanded kind r = if r.kind == kind then Ok r else Err (fault_at Unexpected r)
+
 -- The next record of an element, which must be of this type.
 unfoldable pub expected : ℕ → ℕ → List Outcome → Reading RawRecord
 expected start kind rs = do
-  r ← field start rs
-  if r.0.kind == kind then Ok r else Err (fault_at Unexpected r.0)
+  next ← field start rs
+  r ← demanded kind next.0
+  Ok (r, next.1)
 
 -- A record that may stand next, with the value that it tells, else a default; and the record behind it.
 unfoldable pub optional : {V : Type 0} → ℕ → ℕ → (RawRecord → Result V ReadFault) → V → RawRecord → List Outcome → Reading (V × RawRecord)

@@ -1,5 +1,5 @@
 -- What the data of a record tells, and the faults of a value, at its record.
-use Rattle.std.specs.Prelude.{◌≡◌, ℕ, zero, suc, ◌+◌, ◌-◌, ◌*◌, ◌/◌, ◌%◌, ◌&&◌, ◌||◌, ◌==◌, not, nat_lt, nat_le, Bool, true, false, ℤ, pos, negsuc, neg_ℤ, ◌-ℤ◌, ◌*ℤ◌, unsigned_abs, int_div, int_rem, List, [], ◌∷◌, length, take, drop, map, slice_index_or, bit_and, Option, Some, None, Result, Ok, Err, if◌then◌else◌}
+use Rattle.std.specs.Prelude.{◌≡◌, ◌<◌, ◌^◌, ℕ, zero, suc, ◌+◌, ◌-◌, ◌*◌, ◌/◌, ◌%◌, ◌&&◌, ◌||◌, ◌==◌, not, nat_lt, nat_le, Bool, true, false, ℤ, pos, negsuc, neg_ℤ, ◌-ℤ◌, ◌*ℤ◌, unsigned_abs, int_div, int_rem, List, [], ◌∷◌, length, take, drop, map, slice_index_or, bit_and, Option, Some, None, Result, Ok, Err, if◌then◌else◌}
 use Rattle.std.specs.Int.{w32, cast_signed}
 use Rattle.std.specs.List.{dedup, list_all, range_with_len}
 use Rattle.std.specs.Ordering.{int_eq}
@@ -11,6 +11,7 @@ use Rattle.mpw_records.specs.declared.fault.Code.TheVariants.{BadName, BadSize, 
 use Rattle.mpw_records.specs.declared.fault.ReadFault.{ReadFault}
 use Rattle.mpw_records.specs.Records.{RawRecord}
 use Rattle.mpw_real8.specs.Real.{real_value, is_whole}
+use Rattle.mpw_elements.specs.declared.values.Grid.{Grid}
 use Rattle.mpw_elements.specs.Element.{same_point, is_manhattan_step, each_step, closed}
 use Rattle.mpw_elements.specs.Reading.{fault_at}
 
@@ -25,6 +26,11 @@ unfoldable pub scaled : ℕ → List ℕ → ℤ
 scaled unit bytes = cast_signed w32 (big_number 4 bytes) *ℤ pos unit
 
 -- ---- points
+
+-- A point of a four-byte XY, at a unit of at most 1000 nm.
+pub record IsNear (p : Point) : Type 0 where
+  pub x : unsigned_abs p.x < 2 ^ 42
+  pub y : unsigned_abs p.y < 2 ^ 42
 
 abbrev pub point_at : ℕ → List ℕ → ℕ → Point
 point_at unit bytes i = record { x = scaled unit (drop (8 * i) bytes); y = scaled unit (drop (8 * i + 4) bytes) }
@@ -106,8 +112,8 @@ unfoldable pub mirrored_of : RawRecord → Result Bool ReadFault
 mirrored_of r = if bit_and (short_of r) 2 == 0 then Ok (not (bit_and (short_of r) 0x8000 == 0)) else Err (fault_at Absolute r)
 
 -- A magnification of exactly 1.
-unfoldable pub magnification_of : RawRecord → Result ℕ ReadFault
-magnification_of r = if is_whole (real_value r.bytes) (pos 1) then Ok 1 else Err (fault_at Magnification r)
+unfoldable pub magnification_of : RawRecord → Result (Unit {0}) ReadFault
+magnification_of r = if is_whole (real_value r.bytes) (pos 1) then Ok tt else Err (fault_at Magnification r)
 
 -- The quarter turns of an angle: a multiple of 90 degrees from -360 to 360.
 unfoldable pub turns : ℤ → Option ℕ
@@ -151,27 +157,27 @@ counts_of r =
 abbrev pub divides : ℕ → ℤ → Bool
 divides n z = int_eq (int_rem z (pos n)) (pos 0)
 
+-- The whole number of which n make z, if there is one.
+abbrev pub part_of : ℕ → ℤ → Option ℤ
+part_of n z = if divides n z then Some (int_div z (pos n)) else None
+
+abbrev pub both : Option ℤ → Option ℤ → Option Point
+both (Some x) (Some y) = Some (record { x = x; y = y })
+both (Some x) None = None
+both None y = None
+
 -- The step of which n lead from a point to another, if it is whole.
-unfoldable pub step_of : ℕ → Point → Point → Option Point
-step_of n p q =
-    if divides n (q.x -ℤ p.x) && divides n (q.y -ℤ p.y)
-    then Some (record { x = int_div (q.x -ℤ p.x) (pos n); y = int_div (q.y -ℤ p.y) (pos n) })
-    else None
+abbrev pub step_of : ℕ → Point → Point → Option Point
+step_of n p q = both (part_of n (q.x -ℤ p.x)) (part_of n (q.y -ℤ p.y))
 
--- Where an array begins, and its steps.
-pub record Pitch3 : Type 0 where
-  pub origin : Point
-  pub column_step : Point
-  pub row_step : Point
-
-abbrev pub pitch_or_fault : Point → Option Point → Option Point → RawRecord → Result Pitch3 ReadFault
-pitch_or_fault origin (Some column) (Some row) r = Ok (record { origin = origin; column_step = column; row_step = row })
-pitch_or_fault origin (Some column) None r = Err (fault_at Pitch r)
-pitch_or_fault origin None row r = Err (fault_at Pitch r)
+abbrev pub grid_or_fault : Point → Option Point → Option Point → RawRecord → Result Grid ReadFault
+grid_or_fault origin (Some column) (Some row) r = Ok (record { origin = origin; column_step = column; row_step = row })
+grid_or_fault origin (Some column) None r = Err (fault_at Pitch r)
+grid_or_fault origin None row r = Err (fault_at Pitch r)
 
 -- XY of an array: the origin, the origin after all columns, and the origin after all rows.
-unfoldable pub pitch_of : ℕ → ℕ × ℕ → RawRecord → Result Pitch3 ReadFault
-pitch_of unit counts r =
+unfoldable pub grid_of : ℕ → ℕ → ℕ → RawRecord → Result Grid ReadFault
+grid_of unit columns rows r =
     if length r.bytes == 24
-    then pitch_or_fault (point_at unit r.bytes 0) (step_of counts.0 (point_at unit r.bytes 0) (point_at unit r.bytes 1)) (step_of counts.1 (point_at unit r.bytes 0) (point_at unit r.bytes 2)) r
+    then grid_or_fault (point_at unit r.bytes 0) (step_of columns (point_at unit r.bytes 0) (point_at unit r.bytes 1)) (step_of rows (point_at unit r.bytes 0) (point_at unit r.bytes 2)) r
     else Err (fault_at BadSize r)

@@ -5,6 +5,8 @@ mod element;
 mod fault;
 mod points;
 mod reading;
+mod shape;
+mod values;
 
 pub use element::{Boundary, Element, Path, Reference};
 pub use fault::ReadError;

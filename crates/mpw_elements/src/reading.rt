@@ -1,8 +1,8 @@
 //! Reading on in the records of an element.
 
 ghost use Rattle.std.specs.Prelude.{◌≡◌, IfOk};
-ghost use Rattle.mpw_records.specs.Records.{raw, IsSized};
-ghost use Rattle.mpw_elements.specs.Reading.{Gives, is_skipped, field, expected, fault_at};
+ghost use Rattle.mpw_records.specs.Records.{raw, seen as raw_result, IsSized};
+ghost use Rattle.mpw_elements.specs.Reading.{Gives, is_skipped, field, demanded, expected, fault_at};
 
 use crate::fault::ReadError;
 use mpw_records::{kind, Code, ReadFault, Record, Records};
@@ -43,6 +43,19 @@ pub fn next_field<'a>(records: &mut Records<'a>, start: usize) -> Result<Record<
     }))
 }
 
+/// A record that must be of a type.
+#[tactic(auto, unfolding(crate::specs::Reading::demanded))]
+pub fn demand(found: Record<'_>, kind: u8) -> Result<Record<'_>, ReadFault>
+    ensures demanded { raw_result result ≡ demanded kind (raw found.entry) }
+    ensures same { IfOk result (λ r. r ≡ found.entry) }
+    ensures kind { IfOk result (λ r. r.kind ≡ kind) }
+{
+    if found.kind != kind {
+        return Err(fault_of(Code::Unexpected, found));
+    }
+    Ok(found)
+}
+
 /// The next record of the element, which must be of a type.
 #[tactic(auto, unfolding(crate::specs::Reading::expected))]
 pub fn expect<'a>(
@@ -54,9 +67,6 @@ pub fn expect<'a>(
     ensures kind { IfOk result (λ r. r.kind ≡ kind) }
     ensures sized { IfOk result (λ r. IsSized (raw r)) }
 {
-    let record = next_field(records, start)?;
-    if record.kind != kind {
-        return Err(ReadError::Fault(fault_of(Code::Unexpected, record)));
-    }
-    Ok(record)
+    let found = next_field(records, start)?;
+    Ok(demand(found, kind)?)
 }
