@@ -29,3 +29,23 @@ data_fault kind data_type size =
     else if kind == BGNEXTN then told (data_type == 3) (size == 4)
     else if kind == ENDEXTN then told (data_type == 3) (size == 4)
     else None
+
+-- The bytes that a record's data has at least.
+unfoldable pub least_size : ℕ → ℕ
+least_size kind =
+    if kind == UNITS then 16
+    else if kind == STRNAME then 2
+    else if kind == LAYER then 2
+    else if kind == DATATYPE then 2
+    else if kind == WIDTH then 4
+    else if kind == XY then 0
+    else if kind == SNAME then 2
+    else if kind == COLROW then 4
+    else if kind == STRANS then 2
+    else if kind == MAG then 8
+    else if kind == ANGLE then 8
+    else if kind == PATHTYPE then 2
+    else if kind == BOXTYPE then 2
+    else if kind == BGNEXTN then 4
+    else if kind == ENDEXTN then 4
+    else 0

@@ -1,12 +1,12 @@
 -- The records of a text: the first stands at 0, and each next one where the one before ends.
-use Rattle.std.specs.Prelude.{◌≡◌, ℕ, zero, suc, ◌+◌, ◌-◌, ◌%◌, ◌||◌, ◌==◌, nat_lt, Bool, true, List, [], ◌∷◌, length, drop, slice_index, slice_range, Option, Some, None, Result, Ok, Err, if◌then◌else◌}
+use Rattle.std.specs.Prelude.{◌≤◌, ℕ, zero, suc, ◌+◌, ◌-◌, ◌%◌, ◌||◌, ◌==◌, nat_lt, Bool, true, List, [], ◌∷◌, length, drop, slice_index, slice_range, Option, Some, None, Result, Ok, Err, if◌then◌else◌}
 use Rattle.byteorder.specs.Endian.{big_number}
 use Rattle.mpw_records.specs.declared.fault.Code.{Code}
 use Rattle.mpw_records.specs.declared.fault.Code.TheVariants.{Short, BadLength}
 use Rattle.mpw_records.specs.declared.fault.ReadFault.{ReadFault}
 use Rattle.mpw_records.specs.declared.kind.TheConstants.{ENDLIB}
 use Rattle.mpw_records.specs.declared.record.Record.{Record}
-use Rattle.mpw_records.specs.Format.{data_fault}
+use Rattle.mpw_records.specs.Format.{data_fault, least_size}
 
 -- A record: its offset in the text, its type, its data type and its data.
 pub record RawRecord : Type 0 where
@@ -15,9 +15,9 @@ pub record RawRecord : Type 0 where
   pub data_type : ℕ
   pub bytes : List ℕ
 
--- The data has the type and the size that the record type asks for.
+-- The data has at least the size that the record type asks for.
 abbrev pub IsSized : RawRecord → Type 0
-IsSized r = data_fault r.kind r.data_type (length r.bytes) ≡ None
+IsSized r = least_size r.kind ≤ length r.bytes
 
 -- A record without where its data lies in memory.
 abbrev pub raw : Record → RawRecord
