@@ -1,10 +1,14 @@
 //! The elements of a GDSII structure: boundaries, paths and references, in nm.
 #![tactic(auto)]
 
+mod boundary;
 mod element;
 mod fault;
+mod path;
 mod points;
+mod read;
 mod reading;
+mod reference;
 mod shape;
 mod values;
 

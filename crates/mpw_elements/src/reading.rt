@@ -1,6 +1,7 @@
 //! Reading on in the records of an element.
 
-ghost use Rattle.std.specs.Prelude.{◌≡◌, IfOk};
+ghost use Rattle.std.specs.Prelude.{◌≡◌, ◌≤◌, ◌==◌, length, IsTrue, IfOk};
+ghost use Rattle.mpw_records.specs.Format.{least_size};
 ghost use Rattle.mpw_records.specs.Records.{raw, seen as raw_result, IsSized};
 ghost use Rattle.mpw_elements.specs.Reading.{Gives, is_skipped, field, demanded, expected, fault_at};
 
@@ -43,14 +44,24 @@ pub fn next_field<'a>(records: &mut Records<'a>, start: usize) -> Result<Record<
     }))
 }
 
+/// Whether a record is of a type.
+pub fn is_kind(found: Record<'_>, kind: u8) -> bool
+    requires { IsSized (raw found) }
+    ensures kind { result ≡ (found.entry.kind == kind) }
+    ensures least { IsTrue result → least_size kind ≤ length found.entry.bytes.now }
+{
+    found.kind == kind
+}
+
 /// A record that must be of a type.
 #[tactic(auto, unfolding(crate::specs::Reading::demanded))]
 pub fn demand(found: Record<'_>, kind: u8) -> Result<Record<'_>, ReadFault>
+    requires { IsSized (raw found) }
     ensures demanded { raw_result result ≡ demanded kind (raw found.entry) }
     ensures same { IfOk result (λ r. r ≡ found.entry) }
-    ensures kind { IfOk result (λ r. r.kind ≡ kind) }
+    ensures least { IfOk result (λ r. least_size kind ≤ length r.bytes.now) }
 {
-    if found.kind != kind {
+    if !is_kind(found, kind) {
         return Err(fault_of(Code::Unexpected, found));
     }
     Ok(found)
@@ -64,8 +75,7 @@ pub fn expect<'a>(
     kind: u8,
 ) -> Result<Record<'a>, ReadError>
     ensures expected { Gives raw result records.new (expected start kind records.old) }
-    ensures kind { IfOk result (λ r. r.kind ≡ kind) }
-    ensures sized { IfOk result (λ r. IsSized (raw r)) }
+    ensures least { IfOk result (λ r. least_size kind ≤ length r.bytes.now) }
 {
     let found = next_field(records, start)?;
     Ok(demand(found, kind)?)

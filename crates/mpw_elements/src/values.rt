@@ -189,7 +189,9 @@ pub fn orient(mirrored: bool, turns: u8) -> Orient
 #[tactic(auto, unfolding(crate::specs::Values::counts_of))]
 pub fn counts(from: Record<'_>) -> Result<(u16, u16), ReadFault>
     requires { 4 ≤ length from.bytes.now }
-    ensures { result ≡ counts_of (raw from.entry) }
+    ensures counts { result ≡ counts_of (raw from.entry) }
+    ensures columns { IfOk result (λ n. 1 ≤ n.0) }
+    ensures rows { IfOk result (λ n. 1 ≤ n.1) }
 {
     let columns = BigEndian::read_u16(from.bytes);
     let rows = BigEndian::read_u16(&from.bytes[2..]);
