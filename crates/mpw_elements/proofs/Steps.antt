@@ -1,9 +1,9 @@
 -- The steps of a list of points, one at a time.
-use Rattle.std.proofs.Common.{◌≡◌, ℕ, zero, suc, ◌+◌, ◌-◌, ◌<◌, ◌≤◌, Bool, true, false, ◌&&◌, List, [], ◌∷◌, ◌++◌, length, get_or, take, drop, refl, sym, ap, ◌∙◌, add-one, arith, drop-cons}
+use Rattle.std.proofs.Common.{◌≡◌, ℕ, zero, suc, ◌+◌, ◌-◌, ◌<◌, ◌≤◌, Bool, true, false, ◌&&◌, List, [], ◌∷◌, ◌++◌, length, get_or, drop, refl, ap, ◌∙◌, add-one, arith, drop-cons}
 use Rattle.std.proofs.Common.{eqb, inl, inr}
 use Rattle.std.proofs.lemmas.Bool.Decides.{eqb_tells}
 use Rattle.mpw_geom.specs.declared.plane.Point.{Point}
-use Rattle.mpw_elements.specs.Element.{is_manhattan_step, each_step, closed}
+use Rattle.mpw_elements.specs.Element.{each_step, closed}
 
 module _ (f : Point → Point → Bool) (d : Point) where
   pub step_at : (ps : List Point) (i : ℕ) → i + 1 < length ps → each_step f (drop i ps) ≡ (f (get_or ps i d) (get_or ps (i + 1) d) && each_step f (drop (i + 1) ps))

@@ -1,9 +1,8 @@
 -- The elements by their records, from the first to ENDEL (GDSII Stream, "Stream syntax").
-use Rattle.std.specs.Prelude.{ℕ, ◌||◌, ◌==◌, Bool, ℤ, pos, List, [], ◌∷◌, Option, Some, None, Result, Ok, Err, if◌then◌else◌}
+use Rattle.std.specs.Prelude.{ℕ, ◌||◌, ◌==◌, pos, List, [], ◌∷◌, Option, Some, None, Ok, Err, if◌then◌else◌}
 use Rattle.mpw_geom.specs.declared.plane.Orient.{Orient}
 use Rattle.mpw_geom.specs.declared.plane.Orient.TheVariants.{R0}
 use Rattle.mpw_records.specs.declared.fault.Code.TheVariants.{Unexpected}
-use Rattle.mpw_records.specs.declared.fault.ReadFault.{ReadFault}
 use Rattle.mpw_records.specs.declared.kind.TheConstants.{ENDLIB, BOUNDARY, PATH, SREF, AREF, TEXT, LAYER, DATATYPE, WIDTH, XY, ENDEL, SNAME, COLROW, NODE, STRANS, MAG, ANGLE, PATHTYPE, BOX, BOXTYPE, BGNEXTN, ENDEXTN}
 use Rattle.mpw_records.specs.Records.{RawRecord, Outcome}
 use Rattle.mpw_elements.specs.declared.element.Boundary.{Boundary}
@@ -37,13 +36,16 @@ path start unit rs = do
   xy ← demanded XY end.0.1
   centre ← centre_of unit xy
   last ← expected start ENDEL end.1
-  Ok (record {
-    layer = record { layer = short_of layer.0; datatype = short_of datatype.0 };
-    width = width.0.0;
-    begin = lengthening path_type.0.0 width.0.0 begin.0.0;
-    end = lengthening path_type.0.0 width.0.0 end.0.0;
-    points = centre;
-  }, last.1)
+  Ok (
+    record {
+      layer = record { layer = short_of layer.0; datatype = short_of datatype.0 };
+      width = width.0.0;
+      begin = lengthening path_type.0.0 width.0.0 begin.0.0;
+      end = lengthening path_type.0.0 width.0.0 end.0.0;
+      points = centre;
+    },
+    last.1,
+  )
 
 -- [STRANS [MAG] [ANGLE]]: the orientation, and the record behind it.
 unfoldable pub orientation : (start : ℕ) → RawRecord → List Outcome → Reading (Orient × RawRecord)

@@ -11,7 +11,7 @@ use crate::reading::expect;
 use crate::shape::corners;
 use crate::values::short;
 use mpw_geom::Layer;
-use mpw_records::{kind, Records};
+use mpw_records::{Records, kind};
 use std::alloc::Global;
 
 /// The boundary whose first record was read, which begins at `start`. A box has BOXTYPE in the place

@@ -15,3 +15,4 @@ mod values;
 pub use element::{Boundary, Element, Path, Reference};
 pub use fault::ReadError;
 pub use points::Points;
+pub use read::read_element;

@@ -14,7 +14,7 @@ use crate::reading::{demand, expect, is_kind, next_field};
 use crate::shape::{centre, scale};
 use crate::values::{lengthening, path_type, short, width};
 use mpw_geom::Layer;
-use mpw_records::{kind, Record, Records};
+use mpw_records::{Record, Records, kind};
 use std::alloc::Global;
 
 /// PATHTYPE, if the record is one, else 0; and the record behind it.

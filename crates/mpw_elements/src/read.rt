@@ -1,6 +1,6 @@
 //! Elements by their records.
 
-ghost use Rattle.std.specs.Prelude.{◌≡◌, ◌≤◌, [], length, OnErr};
+ghost use Rattle.std.specs.Prelude.{◌≡◌, ◌≤◌, [], OnErr};
 ghost use Rattle.mpw_records.specs.Records.{raw};
 ghost use Rattle.mpw_elements.specs.Reading.{Gives};
 ghost use Rattle.mpw_elements.specs.Grammar.{ignored, element};
@@ -11,7 +11,7 @@ use crate::fault::ReadError;
 use crate::path::read_path;
 use crate::reading::fault_of;
 use crate::reference::{read_array, read_single};
-use mpw_records::{kind, Code, ReadFault, Record, Records};
+use mpw_records::{Code, ReadFault, Record, Records, kind};
 use std::alloc::Global;
 
 /// Goes on behind ENDEL.
@@ -69,4 +69,31 @@ fn one_element(
         }
         _ => Err(ReadError::Fault(fault_of(Code::Unexpected, first))),
     }
+}
+
+/// Reads an element whose first record, `first`, was given by `records`, up to its ENDEL: an
+/// element, or none where a TEXT or a NODE ends, which are passed over. Each four-byte number is
+/// multiplied by `unit`, in nm, before it is tested.
+///
+/// It takes memory for the points and the name of an element alone, and looks at each byte a fixed
+/// number of times.
+///
+/// # Errors
+/// The fault of the first record that can't stand where it stands, by the order of tests; or want of
+/// memory. From then on `records` gives nothing.
+pub fn read_element(
+    alloc: Global,
+    records: &mut Records<'_>,
+    first: Record<'_>,
+    unit: u16,
+) -> Result<Option<Element>, ReadError>
+    requires { unit ≤ 1000 }
+    ensures read { Gives (λ e. e) result records.new (element unit (raw first.entry) records.old) }
+    ensures err { OnErr result (records.new ≡ []) }
+{
+    let outcome = one_element(alloc, records, first, unit);
+    if outcome.is_err() {
+        records.stop();
+    }
+    outcome
 }

@@ -6,7 +6,7 @@ ghost use Rattle.mpw_records.specs.Records.{raw, seen as raw_result, IsSized};
 ghost use Rattle.mpw_elements.specs.Reading.{Gives, is_skipped, field, demanded, expected, fault_at};
 
 use crate::fault::ReadError;
-use mpw_records::{kind, Code, ReadFault, Record, Records};
+use mpw_records::{Code, ReadFault, Record, Records, kind};
 
 /// A fault of a record.
 pub fn fault_of(code: Code, at: Record<'_>) -> ReadFault

@@ -12,7 +12,7 @@ use crate::fault::ReadError;
 use crate::reading::{demand, expect, is_kind, next_field};
 use crate::values::{counts, magnification, mirrored, name, orient, place, read_grid, turns};
 use mpw_geom::{Orient, Point};
-use mpw_records::{kind, Record, Records};
+use mpw_records::{Record, Records, kind};
 use std::alloc::Global;
 
 /// Past MAG, if the record is one: the record behind it.

@@ -1,7 +1,6 @@
-use Rattle.std.proofs.Common.{◌≡◌, ◌∷◌, sym, ap, ◌∙◌}
+use Rattle.std.proofs.Common.{◌∷◌, sym, ap, ◌∙◌}
 use Rattle.std.proofs.lemmas.Result.{err_from_is_err_and}
 use Rattle.mpw_records.specs.Records.{raw, seen}
-use Rattle.mpw_elements.specs.Reading.{field}
 use Rattle.mpw_elements.proofs.Fields.{field_end, field_err, field_skip, field_ok}
 use Rattle.mpw_elements.proofs.reading.next_field.Goals as goal
 

@@ -1,4 +1,4 @@
-use Rattle.std.proofs.Common.{◌≡◌, ◌-◌, drop, sym, ◌∙◌, arith, length-drop}
+use Rattle.std.proofs.Common.{◌-◌, drop, sym, ◌∙◌, arith, length-drop}
 use Rattle.mpw_elements.specs.Element.{is_manhattan_step}
 use Rattle.mpw_elements.specs.Values.{no_point}
 use Rattle.mpw_elements.proofs.Steps.{short_true}

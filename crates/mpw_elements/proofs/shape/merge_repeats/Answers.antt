@@ -1,4 +1,3 @@
-use Rattle.std.proofs.Common.{◌≡◌, ◌∷◌, [], ◌++◌, List, sym, ap, ◌∙◌, arith}
 use Rattle.std.proofs.lemmas.List.Filters.{dedup_is}
 use Rattle.mpw_elements.specs.Element.{same_point}
 use Rattle.mpw_elements.proofs.shape.merge_repeats.Goals as goal

@@ -1,4 +1,4 @@
-use Rattle.std.proofs.Common.{◌≡◌, ◌-◌, length, take, sym, ap, ◌∙◌, arith}
+use Rattle.std.proofs.Common.{◌≡◌, take, sym, ◌∙◌, arith}
 use Rattle.mpw_elements.specs.Values.{without_nuls}
 use Rattle.mpw_elements.proofs.Numbers.{trim_zero, trim_done, none_left}
 use Rattle.mpw_elements.proofs.values.trim_nuls.Goals as goal
