@@ -16,3 +16,5 @@ pub use element::{Boundary, Element, Path, Reference};
 pub use fault::ReadError;
 pub use points::Points;
 pub use read::read_element;
+pub use reading::{demand, fault_of};
+pub use values::read_name;

@@ -10,7 +10,7 @@ ghost use Rattle.mpw_elements.specs.Grammar.{orientation, single, array};
 use crate::element::Reference;
 use crate::fault::ReadError;
 use crate::reading::{demand, expect, is_kind, next_field};
-use crate::values::{counts, magnification, mirrored, name, orient, place, read_grid, turns};
+use crate::values::{counts, magnification, mirrored, orient, place, read_grid, read_name, turns};
 use mpw_geom::{Orient, Point};
 use mpw_records::{Record, Records, kind};
 use std::alloc::Global;
@@ -83,7 +83,7 @@ pub fn read_single(
     requires { unit ≤ 1000 }
     ensures { Gives (λ r. r) result records.new (single start unit records.old) }
 {
-    let name = name(alloc, expect(records, start, kind::SNAME)?)?;
+    let name = read_name(alloc, expect(records, start, kind::SNAME)?)?;
     let found = next_field(records, start)?;
     let (orient, found) = orientation(records, start, found)?;
     let origin = place(unit, demand(found, kind::XY)?)?;
@@ -110,7 +110,7 @@ pub fn read_array(
     requires { unit ≤ 1000 }
     ensures { Gives (λ r. r) result records.new (array start unit records.old) }
 {
-    let name = name(alloc, expect(records, start, kind::SNAME)?)?;
+    let name = read_name(alloc, expect(records, start, kind::SNAME)?)?;
     let found = next_field(records, start)?;
     let (orient, found) = orientation(records, start, found)?;
     let (columns, rows) = counts(demand(found, kind::COLROW)?)?;

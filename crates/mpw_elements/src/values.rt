@@ -2,7 +2,6 @@
 
 ghost use Rattle.std.specs.Prelude.{◌≡◌, ◌<◌, ◌≤◌, ◌^◌, ◌-ℤ◌, unsigned_abs, ℕ, pos, length, IfOk};
 ghost use Rattle.mpw_records.specs.Records.{raw, IsSized};
-ghost use Rattle.mpw_real8.specs.Real.{real_value};
 ghost use Rattle.mpw_elements.specs.Reading.{GivesValue};
 ghost use Rattle.mpw_elements.specs.Values.{short_of, place_of, path_type_of, width_of, lengthening, without_nuls, name_of, mirrored_of, magnification_of, turns, turns_of, orient_of, counts_of, part_of, both, IsNear, step_of, grid_of};
 
@@ -93,9 +92,12 @@ fn trim_nuls(bytes: &[u8]) -> &[u8]
     &bytes[..end]
 }
 
-/// The name of a structure.
+/// The name that a STRNAME or SNAME record tells, without the NULs at its end.
+///
+/// # Errors
+/// `BadName` at the record, or want of memory.
 #[tactic(auto, unfolding(crate::specs::Values::name_of))]
-pub fn name(alloc: Global, from: Record<'_>) -> Result<Name, ReadError>
+pub fn read_name(alloc: Global, from: Record<'_>) -> Result<Name, ReadError>
     ensures { GivesValue (λ name. name) result (name_of (raw from.entry)) }
 {
     match Name::read(alloc, trim_nuls(from.bytes)) {
@@ -118,21 +120,13 @@ pub fn mirrored(from: Record<'_>) -> Result<bool, ReadFault>
     Ok(flags & 0x8000 != 0)
 }
 
-fn real(from: Record<'_>) -> Real8
-    requires { 8 ≤ length from.bytes.now }
-    ensures { result ≡ real_value from.entry.bytes.now }
-{
-    let b = from.bytes;
-    Real8::of([b[0], b[1], b[2], b[3], b[4], b[5], b[6], b[7]])
-}
-
 /// A magnification of 1.
 #[tactic(auto, unfolding(crate::specs::Values::magnification_of))]
 pub fn magnification(from: Record<'_>) -> Result<(), ReadFault>
     requires { 8 ≤ length from.bytes.now }
     ensures { result ≡ magnification_of (raw from.entry) }
 {
-    if !real(from).is_whole(1) {
+    if !Real8::read(from.bytes).is_whole(1) {
         return Err(fault_of(Code::Magnification, from));
     }
     Ok(())
@@ -163,7 +157,7 @@ pub fn turns(from: Record<'_>) -> Result<u8, ReadFault>
     requires { 8 ≤ length from.bytes.now }
     ensures { result ≡ turns_of (raw from.entry) }
 {
-    match quarter_turns(&real(from)) {
+    match quarter_turns(&Real8::read(from.bytes)) {
         Some(turns) => Ok(turns),
         None => Err(fault_of(Code::Angle, from)),
     }

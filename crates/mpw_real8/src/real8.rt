@@ -1,6 +1,6 @@
 //! A real and the two questions that a layout asks of it.
 
-ghost use Rattle.std.specs.Prelude.{◌≡◌, ℕ, ◌*◌, ◌^◌, ◌<◌, ◌≤◌, ◌==◌};
+ghost use Rattle.std.specs.Prelude.{◌≡◌, ℕ, ◌*◌, ◌^◌, ◌<◌, ◌≤◌, ◌==◌, length, IfSome};
 ghost use Rattle.mpw_real8.specs.Real.{real_value, is_whole, nanometres, is_nanometres, first_near};
 
 use byteorder::{BigEndian, ByteOrder};
@@ -38,6 +38,16 @@ impl Real8 {
         }
     }
 
+    /// The real that the first eight bytes spell.
+    pub fn read(bytes: &[u8]) -> Real8
+        requires { 8 ≤ length bytes.now }
+        ensures { result ≡ real_value bytes.now }
+    {
+        Real8::of([
+            bytes[0], bytes[1], bytes[2], bytes[3], bytes[4], bytes[5], bytes[6], bytes[7],
+        ])
+    }
+
     /// Whether the value is this whole number, exactly.
     pub fn is_whole(&self, number: i32) -> bool
         ensures { result ≡ is_whole self.now number }
@@ -54,7 +64,9 @@ impl Real8 {
     /// The number of whole nanometres that a value in metres is, from 1 to 1000, where it is within
     /// one part in 10^9 of it. It tries each number, some microseconds in all.
     pub fn nanometres(&self) -> Option<u16>
-        ensures { result ≡ nanometres self.now }
+        ensures value { result ≡ nanometres self.now }
+        ensures least { IfSome result (λ number. 1 ≤ number) }
+        ensures most { IfSome result (λ number. number ≤ 1000) }
     {
         if self.negative && self.mantissa != 0 {
             return None;
@@ -66,7 +78,9 @@ impl Real8 {
 /// The first number of nanometres that `mantissa * 16^exponent`, in metres, is near to.
 fn nearest(mantissa: u64, exponent: u8) -> Option<u16>
     requires { mantissa < 2 ^ 56 }
-    ensures { result ≡ first_near (mantissa * 16 ^ exponent) 1 1000 }
+    ensures value { result ≡ first_near (mantissa * 16 ^ exponent) 1 1000 }
+    ensures least { IfSome result (λ number. 1 ≤ number) }
+    ensures most { IfSome result (λ number. number ≤ 1000) }
 {
     for number in 1..=1000 {
         if is_near(mantissa, exponent, number) {

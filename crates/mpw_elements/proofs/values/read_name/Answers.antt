@@ -2,7 +2,7 @@ use Rattle.std.proofs.Common.{Ok, sym, ap, subst, ◌∙◌}
 use Rattle.mpw_geom.specs.Name.{IsName}
 use Rattle.mpw_records.specs.Records.{raw}
 use Rattle.mpw_elements.proofs.Numbers.{named}
-use Rattle.mpw_elements.proofs.values.name.Goals as goal
+use Rattle.mpw_elements.proofs.values.read_name.Goals as goal
 
 pub returns-in-Ok : goal.returns-in-Ok
 returns-in-Ok c =
