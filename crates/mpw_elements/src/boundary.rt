@@ -1,6 +1,6 @@
 //! BOUNDARY and BOX.
 
-ghost use Rattle.std.specs.Prelude.{◌≤◌};
+ghost use Rattle.std.specs.Prelude.{◌≤◌, length};
 ghost use Rattle.mpw_records.specs.Format.{least_size};
 ghost use Rattle.mpw_elements.specs.Reading.{Gives};
 ghost use Rattle.mpw_elements.specs.Grammar.{boundary};
@@ -26,7 +26,8 @@ pub fn read_boundary(
 ) -> Result<Boundary, ReadError>
     requires unit { unit ≤ 1000 }
     requires datatype { 2 ≤ least_size datatype }
-    ensures { Gives (λ b. b) result records.new (boundary start unit datatype records.old) }
+    ensures boundary { Gives (λ b. b) result records.new (boundary start unit datatype records.old) }
+    ensures rest { length records.new ≤ length records.old }
 {
     let layer = short(expect(records, start, kind::LAYER)?);
     let datatype = short(expect(records, start, datatype)?);

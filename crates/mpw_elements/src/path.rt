@@ -1,6 +1,6 @@
 //! PATH.
 
-ghost use Rattle.std.specs.Prelude.{◌≤◌, IfOk, pos};
+ghost use Rattle.std.specs.Prelude.{◌≤◌, length, IfOk, pos};
 ghost use Rattle.mpw_records.specs.declared.kind.TheConstants.{PATHTYPE, WIDTH};
 ghost use Rattle.mpw_records.specs.Format.{least_size};
 ghost use Rattle.mpw_records.specs.Records.{raw, IsSized};
@@ -26,6 +26,7 @@ fn optional_path_type<'a>(
 ) -> Result<(u16, Record<'a>), ReadError>
     requires { IsSized (raw found) }
     ensures value { Gives (λ x. (x.0, raw x.1)) result records.new (optional start PATHTYPE path_type_of 0 (raw found.entry) records.old) }
+    ensures rest { length records.new ≤ length records.old }
     ensures sized { IfOk result (λ x. IsSized (raw x.1)) }
 {
     if !is_kind(found, kind::PATHTYPE) {
@@ -46,6 +47,7 @@ fn optional_width<'a>(
     requires unit { unit ≤ 1000 }
     requires found { IsSized (raw found) }
     ensures value { Gives (λ x. (x.0, raw x.1)) result records.new (optional start WIDTH (width_of unit) (pos 0) (raw found.entry) records.old) }
+    ensures rest { length records.new ≤ length records.old }
     ensures sized { IfOk result (λ x. IsSized (raw x.1)) }
 {
     if !is_kind(found, kind::WIDTH) {
@@ -68,6 +70,7 @@ fn optional_extension<'a>(
     requires kind { 4 ≤ least_size kind }
     requires found { IsSized (raw found) }
     ensures value { Gives (λ x. (x.0, raw x.1)) result records.new (optional start kind (extension_of unit) (pos 0) (raw found.entry) records.old) }
+    ensures rest { length records.new ≤ length records.old }
     ensures sized { IfOk result (λ x. IsSized (raw x.1)) }
 {
     if !is_kind(found, kind) {
@@ -86,7 +89,8 @@ pub fn read_path(
     unit: u16,
 ) -> Result<Path, ReadError>
     requires { unit ≤ 1000 }
-    ensures { Gives (λ p. p) result records.new (path start unit records.old) }
+    ensures path { Gives (λ p. p) result records.new (path start unit records.old) }
+    ensures rest { length records.new ≤ length records.old }
 {
     let layer = short(expect(records, start, kind::LAYER)?);
     let datatype = short(expect(records, start, kind::DATATYPE)?);

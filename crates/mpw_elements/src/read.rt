@@ -1,6 +1,6 @@
 //! Elements by their records.
 
-ghost use Rattle.std.specs.Prelude.{◌≡◌, ◌≤◌, [], OnErr};
+ghost use Rattle.std.specs.Prelude.{◌≡◌, ◌≤◌, [], length, OnErr};
 ghost use Rattle.mpw_records.specs.Records.{raw};
 ghost use Rattle.mpw_elements.specs.Reading.{Gives};
 ghost use Rattle.mpw_elements.specs.Grammar.{ignored, element};
@@ -16,7 +16,8 @@ use std::alloc::Global;
 
 /// Goes on behind ENDEL.
 fn skip(records: &mut Records<'_>, start: usize) -> Result<(), ReadError>
-    ensures { Gives (λ x. x) result records.new (ignored start records.old) }
+    ensures ignored { Gives (λ x. x) result records.new (ignored start records.old) }
+    ensures rest { length records.new ≤ length records.old }
 {
     while let Some(outcome) = records.next() {
         let found = outcome?;
@@ -42,7 +43,8 @@ fn one_element(
     unit: u16,
 ) -> Result<Option<Element>, ReadError>
     requires { unit ≤ 1000 }
-    ensures { Gives (λ e. e) result records.new (element unit (raw first.entry) records.old) }
+    ensures element { Gives (λ e. e) result records.new (element unit (raw first.entry) records.old) }
+    ensures rest { length records.new ≤ length records.old }
 {
     let start = first.offset;
     match first.kind {
@@ -90,6 +92,7 @@ pub fn read_element(
     requires { unit ≤ 1000 }
     ensures read { Gives (λ e. e) result records.new (element unit (raw first.entry) records.old) }
     ensures err { OnErr result (records.new ≡ []) }
+    ensures rest { length records.new ≤ length records.old }
 {
     let outcome = one_element(alloc, records, first, unit);
     if outcome.is_err() {

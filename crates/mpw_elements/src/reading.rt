@@ -30,6 +30,7 @@ fn is_skipped(kind: u8) -> bool
 /// The next record of the element that began at `start`, without those that say nothing of it.
 pub fn next_field<'a>(records: &mut Records<'a>, start: usize) -> Result<Record<'a>, ReadError>
     ensures field { Gives raw result records.new (field start records.old) }
+    ensures rest { length records.new ≤ length records.old }
     ensures sized { IfOk result (λ r. IsSized (raw r)) }
 {
     while let Some(outcome) = records.next() {
@@ -75,6 +76,7 @@ pub fn expect<'a>(
     kind: u8,
 ) -> Result<Record<'a>, ReadError>
     ensures expected { Gives raw result records.new (expected start kind records.old) }
+    ensures rest { length records.new ≤ length records.old }
     ensures least { IfOk result (λ r. least_size kind ≤ length r.bytes.now) }
 {
     let found = next_field(records, start)?;

@@ -1,6 +1,6 @@
 //! SREF and AREF.
 
-ghost use Rattle.std.specs.Prelude.{◌≤◌, IfOk};
+ghost use Rattle.std.specs.Prelude.{◌≤◌, length, IfOk};
 ghost use Rattle.mpw_records.specs.declared.kind.TheConstants.{MAG, ANGLE};
 ghost use Rattle.mpw_records.specs.Records.{raw, IsSized};
 ghost use Rattle.mpw_elements.specs.Reading.{Gives, optional};
@@ -24,6 +24,7 @@ fn optional_magnification<'a>(
 ) -> Result<Record<'a>, ReadError>
     requires { IsSized (raw found) }
     ensures value { Gives (λ x. (tt, raw x)) result records.new (optional start MAG magnification_of tt (raw found.entry) records.old) }
+    ensures rest { length records.new ≤ length records.old }
     ensures sized { IfOk result (λ x. IsSized (raw x)) }
 {
     if !is_kind(found, kind::MAG) {
@@ -42,6 +43,7 @@ fn optional_turns<'a>(
 ) -> Result<(u8, Record<'a>), ReadError>
     requires { IsSized (raw found) }
     ensures value { Gives (λ x. (x.0, raw x.1)) result records.new (optional start ANGLE turns_of 0 (raw found.entry) records.old) }
+    ensures rest { length records.new ≤ length records.old }
     ensures sized { IfOk result (λ x. IsSized (raw x.1)) }
 {
     if !is_kind(found, kind::ANGLE) {
@@ -60,6 +62,7 @@ fn orientation<'a>(
 ) -> Result<(Orient, Record<'a>), ReadError>
     requires { IsSized (raw found) }
     ensures value { Gives (λ x. (x.0, raw x.1)) result records.new (orientation start (raw found.entry) records.old) }
+    ensures rest { length records.new ≤ length records.old }
     ensures sized { IfOk result (λ x. IsSized (raw x.1)) }
 {
     if !is_kind(found, kind::STRANS) {
@@ -81,7 +84,8 @@ pub fn read_single(
     unit: u16,
 ) -> Result<Reference, ReadError>
     requires { unit ≤ 1000 }
-    ensures { Gives (λ r. r) result records.new (single start unit records.old) }
+    ensures reference { Gives (λ r. r) result records.new (single start unit records.old) }
+    ensures rest { length records.new ≤ length records.old }
 {
     let name = read_name(alloc, expect(records, start, kind::SNAME)?)?;
     let found = next_field(records, start)?;
@@ -108,7 +112,8 @@ pub fn read_array(
     unit: u16,
 ) -> Result<Reference, ReadError>
     requires { unit ≤ 1000 }
-    ensures { Gives (λ r. r) result records.new (array start unit records.old) }
+    ensures reference { Gives (λ r. r) result records.new (array start unit records.old) }
+    ensures rest { length records.new ≤ length records.old }
 {
     let name = read_name(alloc, expect(records, start, kind::SNAME)?)?;
     let found = next_field(records, start)?;
