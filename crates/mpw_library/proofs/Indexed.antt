@@ -34,7 +34,7 @@ pub indexed_push : (m n : BTreeMap (List ℕ) ℕ) (ss : List Structure) (s : St
     → AreIndexed n (ss ++ s ∷ [])
 indexed_push m n ss s place last indexed new updates = record {
   at = λ q.
-    let b = pointwise nat_eq s.name q in
-    let absent : b ≡ true → place_of ss q ≡ None = λ e. ap (place_of ss) (sym ((bytes_eq-Decides s.name q).0 e)) ∙ new in
-    updates q ∙ rw (← texts_ties s.name q, indexed.at q, last) (at_q b (length ss) (place_of ss q) absent) ∙ sym (place_push 0 ss s q);
+      let b = pointwise nat_eq s.name q in
+      let absent : b ≡ true → place_of ss q ≡ None = λ e. ap (place_of ss) (sym ((bytes_eq-Decides s.name q).0 e)) ∙ new in
+      updates q ∙ rw (← texts_ties s.name q, indexed.at q, last) (at_q b (length ss) (place_of ss q) absent) ∙ sym (place_push 0 ss s q);
 }

@@ -77,10 +77,10 @@ unfoldable pub item : ℕ → List Outcome → Reading Item
 item unit rs = do
   next ← next_record rs
   if next.0.kind == ENDSTR then Ok (items.End, next.1)
-  else if is_between next.0.kind then Ok (items.Other, next.1)
-  else (do
-    e ← element unit next.0 next.1
-    Ok (item_of e.0, e.1))
+      else if is_between next.0.kind then Ok (items.Other, next.1)
+      else (do
+        e ← element unit next.0 next.1
+        Ok (item_of e.0, e.1))
 
 abbrev pub is_end : Item → Bool
 is_end items.End = true
@@ -122,10 +122,10 @@ unfoldable pub next_structure : ℕ → List Structure → List Outcome → Read
 next_structure unit ss rs = do
   next ← next_record rs
   if next.0.kind == ENDLIB then Ok (None, next.1)
-  else (do
-    begin ← demanded BGNSTR next.0
-    s ← structure unit ss next.1
-    Ok (Some s.0, s.1))
+      else (do
+        begin ← demanded BGNSTR next.0
+        s ← structure unit ss next.1
+        Ok (Some s.0, s.1))
 
 abbrev pub added : Option Structure → List Structure
 added None = []

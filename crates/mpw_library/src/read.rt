@@ -1,6 +1,6 @@
 //! Reading a whole text.
 
-ghost use Rattle.std.specs.Prelude.{◌≡◌, ◌≤◌, ◌==◌, None, length, IsTrue, IfOk, IfSome};
+ghost use Rattle.std.specs.Prelude.{◌≡◌, ◌<◌, ◌≤◌, ◌==◌, ◌||◌, None, length, IsTrue, OnOk, IfOk, IfSome};
 ghost use Rattle.mpw_records.specs.Format.{least_size};
 ghost use Rattle.mpw_records.specs.Records.{raw, IsSized};
 ghost use Rattle.mpw_elements.specs.Reading.{Gives, GivesValue, demanded};
@@ -10,9 +10,9 @@ ghost use Rattle.mpw_library.specs.Places.{place_of};
 use crate::elements::Elements;
 use crate::library::Library;
 use crate::structures::{Structure, Structures};
-use mpw_elements::{demand, fault_of, read_element, read_name, Element, ReadError};
+use mpw_elements::{Element, ReadError, demand, fault_of, read_element, read_name};
 use mpw_real8::Real8;
-use mpw_records::{kind, Code, ReadFault, Record, Records};
+use mpw_records::{Code, ReadFault, Record, Records, kind};
 use std::alloc::Global;
 
 /// What stands next in a structure.
@@ -29,6 +29,8 @@ pub enum Item {
 /// The next record.
 fn next_record<'a>(records: &mut Records<'a>) -> Result<Record<'a>, ReadError>
     ensures record { Gives raw result records.new (next_record records.old) }
+    ensures rest { OnOk result (length records.new < length records.old) }
+    ensures at_most { length records.new ≤ length records.old }
     ensures sized { IfOk result (λ r. IsSized (raw r)) }
 {
     match records.next() {
@@ -44,6 +46,7 @@ fn next_record<'a>(records: &mut Records<'a>) -> Result<Record<'a>, ReadError>
 #[tactic(auto, unfolding(crate::specs::Grammar::next_is))]
 fn next_is<'a>(records: &mut Records<'a>, kind: u8) -> Result<Record<'a>, ReadError>
     ensures record { Gives raw result records.new (next_is kind records.old) }
+    ensures rest { length records.new ≤ length records.old }
     ensures least { IfOk result (λ r. least_size kind ≤ length r.bytes.now) }
 {
     let found = next_record(records)?;
@@ -66,15 +69,20 @@ fn unit(from: Record<'_>) -> Result<u16, ReadFault>
 fn ends_head(kind: u8) -> bool
     ensures { result ≡ ends_head kind }
 {
-    matches!(kind, kind::HEADER | kind::BGNLIB | kind::BGNSTR | kind::ENDLIB)
+    matches!(
+        kind,
+        kind::HEADER | kind::BGNLIB | kind::BGNSTR | kind::ENDLIB
+    )
+}
+
+fn is_refused(kind: u8, unwanted: u8) -> bool
+    ensures { result ≡ ((kind == unwanted) || ends_head kind) }
+{
+    kind == unwanted || ends_head(kind)
 }
 
 /// The first record of the wanted type in the head, behind none of the unwanted one.
-fn up_to<'a>(
-    records: &mut Records<'a>,
-    wanted: u8,
-    unwanted: u8,
-) -> Result<Record<'a>, ReadError>
+fn up_to<'a>(records: &mut Records<'a>, wanted: u8, unwanted: u8) -> Result<Record<'a>, ReadError>
     ensures record { Gives raw result records.new (up_to wanted unwanted records.old) }
     ensures least { IfOk result (λ r. least_size wanted ≤ length r.bytes.now) }
 {
@@ -83,7 +91,7 @@ fn up_to<'a>(
         if found.kind == wanted {
             return Ok(found);
         }
-        if found.kind == unwanted || ends_head(found.kind) {
+        if is_refused(found.kind, unwanted) {
             return Err(ReadError::Fault(fault_of(Code::Unexpected, found)));
         }
     }
@@ -113,7 +121,9 @@ fn is_between(kind: u8) -> bool
 #[tactic(auto, unfolding(crate::specs::Grammar::item))]
 fn next_item(alloc: Global, records: &mut Records<'_>, unit: u16) -> Result<Item, ReadError>
     requires { unit ≤ 1000 }
-    ensures { Gives (λ i. i) result records.new (item unit records.old) }
+    ensures item { Gives (λ i. i) result records.new (item unit records.old) }
+    ensures rest { OnOk result (length records.new < length records.old) }
+    ensures at_most { length records.new ≤ length records.old }
 {
     let found = next_record(records)?;
     if found.kind == kind::ENDSTR {
@@ -129,13 +139,10 @@ fn next_item(alloc: Global, records: &mut Records<'_>, unit: u16) -> Result<Item
 }
 
 /// The elements up to ENDSTR.
-fn read_elements(
-    alloc: Global,
-    records: &mut Records<'_>,
-    unit: u16,
-) -> Result<Elements, ReadError>
+fn read_elements(alloc: Global, records: &mut Records<'_>, unit: u16) -> Result<Elements, ReadError>
     requires { unit ≤ 1000 }
-    ensures { Gives (λ es. es) result records.new (all_elements unit records.old) }
+    ensures elements { Gives (λ es. es) result records.new (all_elements unit records.old) }
+    ensures rest { length records.new ≤ length records.old }
 {
     let mut elements = Vec::new(alloc);
     loop {
@@ -157,6 +164,7 @@ fn read_structure(
 ) -> Result<Structure, ReadError>
     requires { unit ≤ 1000 }
     ensures structure { Gives (λ s. s) result records.new (structure unit before.now records.old) }
+    ensures rest { length records.new ≤ length records.old }
     ensures new { IfOk result (λ s. place_of before.now s.name ≡ None) }
 {
     let strname = next_is(records, kind::STRNAME)?;
@@ -178,6 +186,7 @@ fn next_structure(
 ) -> Result<Option<Structure>, ReadError>
     requires { unit ≤ 1000 }
     ensures structure { Gives (λ s. s) result records.new (next_structure unit before.now records.old) }
+    ensures rest { OnOk result (length records.new < length records.old) }
     ensures new { IfOk result (λ found. IfSome found (λ s. place_of before.now s.name ≡ None)) }
 {
     let found = next_record(records)?;
