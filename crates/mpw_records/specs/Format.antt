@@ -38,7 +38,7 @@ least_size kind =
     else if kind == LAYER then 2
     else if kind == DATATYPE then 2
     else if kind == WIDTH then 4
-    else if kind == XY then 0
+    else if kind == XY then 8
     else if kind == SNAME then 2
     else if kind == COLROW then 4
     else if kind == STRANS then 2
