@@ -1,5 +1,5 @@
 -- Reading one thing behind another, as a loop does.
-use Rattle.std.proofs.Common.{◌≡◌, ℕ, zero, suc, ◌+◌, ◌<◌, ◌≤◌, Bool, true, false, cond, eqb, ◌||◌, List, [], ◌∷◌, ◌++◌, length, Option, Some, None, is_some, Result, Ok, Err, refl, sym, ap, ◌∙◌, inl, inr, arith}
+use Rattle.std.proofs.Common.{◌≡◌, ℕ, zero, suc, ◌<◌, ◌≤◌, true, false, cond, eqb, ◌||◌, List, [], ◌∷◌, ◌++◌, length, Option, Some, None, is_some, Result, Ok, Err, refl, sym, ap, ◌∙◌, inl, inr, arith}
 use Rattle.std.proofs.lemmas.Bool.Decides.{eqb_tells}
 use Rattle.std.proofs.lemmas.List.{append-nil}
 use Rattle.mpw_records.specs.declared.fault.Code.TheVariants.{Unexpected}
@@ -8,7 +8,7 @@ use Rattle.mpw_records.specs.Records.{RawRecord, Outcome}
 use Rattle.mpw_elements.specs.declared.element.Element.{Element}
 use Rattle.mpw_elements.specs.declared.fault.ReadError.{ReadError}
 use Rattle.mpw_elements.specs.declared.fault.ReadError.TheVariants as errors
-use Rattle.mpw_elements.specs.Reading.{Reading, Fails, ◌>>=◌, fault_at}
+use Rattle.mpw_elements.specs.Reading.{Reading, Fails, fault_at}
 use Rattle.mpw_library.specs.declared.read.Item.{Item}
 use Rattle.mpw_library.specs.declared.read.Item.TheVariants as items
 use Rattle.mpw_library.specs.declared.structures.Structure.{Structure}

@@ -1,9 +1,9 @@
-use Rattle.std.proofs.Common.{◌≡◌, Ok, sym, ap, ◌∙◌, arith, refl}
+use Rattle.std.proofs.Common.{Ok, sym, ap, ◌∙◌, arith, refl}
 use Rattle.std.proofs.lemmas.Result.{err_from_is_err_and}
 use Rattle.mpw_library.specs.declared.read.Item.{Item}
 use Rattle.mpw_library.specs.declared.read.Item.TheVariants as items
 use Rattle.mpw_library.specs.Grammar.{all_elements}
-use Rattle.mpw_library.proofs.Loops.{elements_start, elements_err, elements_end, elements_more, elements_other}
+use Rattle.mpw_library.proofs.Loops.{elements_err, elements_end, elements_more, elements_other}
 use Rattle.mpw_library.proofs.read.read_elements.Goals as goal
 
 pub returns-in_err-next_item-clause-elements : goal.returns-in_err-next_item-clause-elements

@@ -1,4 +1,4 @@
-use Rattle.std.proofs.Common.{◌≡◌, ◌∷◌, Err, sym, ap, ◌∙◌}
+use Rattle.std.proofs.Common.{◌∷◌, Err, sym, ap, ◌∙◌}
 use Rattle.std.proofs.lemmas.Result.{err_from_is_err_and}
 use Rattle.mpw_records.specs.Records.{raw, seen}
 use Rattle.mpw_library.proofs.Loops.{up_to_end, up_to_err, up_to_found, up_to_refused, up_to_more}

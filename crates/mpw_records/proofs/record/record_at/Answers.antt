@@ -1,5 +1,4 @@
-use Rattle.std.proofs.Common.{◌≡◌, ◌-◌, ◌≤◌, length, List, ℕ, sym, ◌∙◌, arith, length-take, length-drop}
-use Rattle.mpw_records.specs.Format.{data_fault, least_size}
+use Rattle.std.proofs.Common.{sym, arith, length-take, length-drop}
 use Rattle.mpw_records.proofs.Sizes.{least_from_none}
 use Rattle.mpw_records.proofs.record.record_at.Goals as goal
 
