@@ -1,0 +1,10 @@
+use Rattle.std.proofs.Common.{◌-◌, drop, sym, ◌∙◌, arith, length-drop}
+use Rattle.mpw_elements.specs.Element.{is_manhattan_step}
+use Rattle.mpw_elements.specs.Values.{no_point}
+use Rattle.mpw_elements.proofs.Steps.{short_true}
+use Rattle.mpw_elements.proofs.shape.is_manhattan.Goals as goal
+
+pub returns : goal.returns
+returns c =
+    let left = drop (c.loop-index.index - 1) c.args.points.now in
+    sym (short_true is_manhattan_step no_point left (omega (arith, length-drop (c.loop-index.index - 1) c.args.points.now))) ∙ c.loop-index.invariant

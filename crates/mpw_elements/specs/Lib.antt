@@ -1,0 +1,4 @@
+pub mod Element
+pub mod Reading
+pub mod Values
+pub mod Grammar

@@ -1,0 +1,39 @@
+//! BOUNDARY and BOX.
+
+ghost use Rattle.std.specs.Prelude.{◌≤◌, length};
+ghost use Rattle.mpw_records.specs.Format.{least_size};
+ghost use Rattle.mpw_elements.specs.Reading.{Gives};
+ghost use Rattle.mpw_elements.specs.Grammar.{boundary};
+
+use crate::element::Boundary;
+use crate::fault::ReadError;
+use crate::reading::expect;
+use crate::shape::corners;
+use crate::values::short;
+use mpw_geom::Layer;
+use mpw_records::{Records, kind};
+use std::alloc::Global;
+
+/// The boundary whose first record was read, which begins at `start`. A box has BOXTYPE in the place
+/// of DATATYPE.
+#[tactic(auto, unfolding(crate::specs::Grammar::boundary, mpw_records::specs::Format::least_size))]
+pub fn read_boundary(
+    alloc: Global,
+    records: &mut Records<'_>,
+    start: usize,
+    unit: u16,
+    datatype: u8,
+) -> Result<Boundary, ReadError>
+    requires unit { unit ≤ 1000 }
+    requires datatype { 2 ≤ least_size datatype }
+    ensures boundary { Gives (λ b. b) result records.new (boundary start unit datatype records.old) }
+    ensures rest { length records.new ≤ length records.old }
+{
+    let layer = short(expect(records, start, kind::LAYER)?);
+    let datatype = short(expect(records, start, datatype)?);
+    let xy = expect(records, start, kind::XY)?;
+    let points = corners(alloc, unit, xy)?;
+    expect(records, start, kind::ENDEL)?;
+    let layer = Layer { layer, datatype };
+    Ok(Boundary { layer, points })
+}

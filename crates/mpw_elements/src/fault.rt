@@ -1,0 +1,41 @@
+//! Why an element or a library couldn't be read.
+
+ghost use Rattle.std.specs.Prelude.{◌≡◌};
+ghost use Rattle.mpw_elements.specs.declared.fault.ReadError.TheVariants.{Memory, Fault};
+
+use mpw_records::ReadFault;
+use std::alloc::{AllocError, AllocFailed};
+use thiserror::Error;
+
+/// The first fault of a text, or want of memory.
+#[derive(Debug, Drop, Error)]
+pub enum ReadError {
+    #[error("out of memory")]
+    Memory,
+    #[error("{0}")]
+    Fault(ReadFault),
+}
+
+impl From<AllocError> for ReadError {
+    ghost from_gives = { λ _ e. e ≡ Memory };
+
+    fn from(_error: AllocError) -> ReadError {
+        ReadError::Memory
+    }
+}
+
+impl<T: Drop> From<AllocFailed<T>> for ReadError {
+    ghost from_gives = { λ _ e. e ≡ Memory };
+
+    fn from(_error: AllocFailed<T>) -> ReadError {
+        ReadError::Memory
+    }
+}
+
+impl From<ReadFault> for ReadError {
+    ghost from_gives = { λ f e. e ≡ Fault f };
+
+    fn from(fault: ReadFault) -> ReadError {
+        ReadError::Fault(fault)
+    }
+}

@@ -1,0 +1,20 @@
+//! The elements of a GDSII structure: boundaries, paths and references, in nm.
+#![tactic(auto)]
+
+mod boundary;
+mod element;
+mod fault;
+mod path;
+mod points;
+mod read;
+mod reading;
+mod reference;
+mod shape;
+mod values;
+
+pub use element::{Boundary, Element, Path, Reference};
+pub use fault::ReadError;
+pub use points::Points;
+pub use read::read_element;
+pub use reading::{demand, fault_of};
+pub use values::read_name;

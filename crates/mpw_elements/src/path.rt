@@ -1,0 +1,111 @@
+//! PATH.
+
+ghost use Rattle.std.specs.Prelude.{◌≤◌, length, IfOk, pos};
+ghost use Rattle.mpw_records.specs.declared.kind.TheConstants.{PATHTYPE, WIDTH};
+ghost use Rattle.mpw_records.specs.Format.{least_size};
+ghost use Rattle.mpw_records.specs.Records.{raw, IsSized};
+ghost use Rattle.mpw_elements.specs.Reading.{Gives, optional};
+ghost use Rattle.mpw_elements.specs.Values.{path_type_of, width_of, extension_of};
+ghost use Rattle.mpw_elements.specs.Grammar.{path};
+
+use crate::element::Path;
+use crate::fault::ReadError;
+use crate::reading::{demand, expect, is_kind, next_field};
+use crate::shape::{centre, scale};
+use crate::values::{lengthening, path_type, short, width};
+use mpw_geom::Layer;
+use mpw_records::{Record, Records, kind};
+use std::alloc::Global;
+
+/// PATHTYPE, if the record is one, else 0; and the record behind it.
+#[tactic(auto, unfolding(crate::specs::Reading::optional, mpw_records::specs::Format::least_size))]
+fn optional_path_type<'a>(
+    records: &mut Records<'a>,
+    start: usize,
+    found: Record<'a>,
+) -> Result<(u16, Record<'a>), ReadError>
+    requires { IsSized (raw found) }
+    ensures value { Gives (λ x. (x.0, raw x.1)) result records.new (optional start PATHTYPE path_type_of 0 (raw found.entry) records.old) }
+    ensures rest { length records.new ≤ length records.old }
+    ensures sized { IfOk result (λ x. IsSized (raw x.1)) }
+{
+    if !is_kind(found, kind::PATHTYPE) {
+        return Ok((0, found));
+    }
+    let value = path_type(found)?;
+    Ok((value, next_field(records, start)?))
+}
+
+/// WIDTH, if the record is one, else 0; and the record behind it.
+#[tactic(auto, unfolding(crate::specs::Reading::optional, mpw_records::specs::Format::least_size))]
+fn optional_width<'a>(
+    records: &mut Records<'a>,
+    start: usize,
+    unit: u16,
+    found: Record<'a>,
+) -> Result<(i64, Record<'a>), ReadError>
+    requires unit { unit ≤ 1000 }
+    requires found { IsSized (raw found) }
+    ensures value { Gives (λ x. (x.0, raw x.1)) result records.new (optional start WIDTH (width_of unit) (pos 0) (raw found.entry) records.old) }
+    ensures rest { length records.new ≤ length records.old }
+    ensures sized { IfOk result (λ x. IsSized (raw x.1)) }
+{
+    if !is_kind(found, kind::WIDTH) {
+        return Ok((0, found));
+    }
+    let value = width(unit, found)?;
+    Ok((value, next_field(records, start)?))
+}
+
+/// BGNEXTN or ENDEXTN, if the record is one, else 0; and the record behind it.
+#[tactic(auto, unfolding(crate::specs::Reading::optional, mpw_records::specs::Format::least_size))]
+fn optional_extension<'a>(
+    records: &mut Records<'a>,
+    start: usize,
+    unit: u16,
+    kind: u8,
+    found: Record<'a>,
+) -> Result<(i64, Record<'a>), ReadError>
+    requires unit { unit ≤ 1000 }
+    requires kind { 4 ≤ least_size kind }
+    requires found { IsSized (raw found) }
+    ensures value { Gives (λ x. (x.0, raw x.1)) result records.new (optional start kind (extension_of unit) (pos 0) (raw found.entry) records.old) }
+    ensures rest { length records.new ≤ length records.old }
+    ensures sized { IfOk result (λ x. IsSized (raw x.1)) }
+{
+    if !is_kind(found, kind) {
+        return Ok((0, found));
+    }
+    let value = scale(unit, found.bytes);
+    Ok((value, next_field(records, start)?))
+}
+
+/// The path whose first record was read, which begins at `start`.
+#[tactic(auto, unfolding(crate::specs::Grammar::path, mpw_records::specs::Format::least_size))]
+pub fn read_path(
+    alloc: Global,
+    records: &mut Records<'_>,
+    start: usize,
+    unit: u16,
+) -> Result<Path, ReadError>
+    requires { unit ≤ 1000 }
+    ensures path { Gives (λ p. p) result records.new (path start unit records.old) }
+    ensures rest { length records.new ≤ length records.old }
+{
+    let layer = short(expect(records, start, kind::LAYER)?);
+    let datatype = short(expect(records, start, kind::DATATYPE)?);
+    let found = next_field(records, start)?;
+    let (path_type, found) = optional_path_type(records, start, found)?;
+    let (width, found) = optional_width(records, start, unit, found)?;
+    let (begin, found) = optional_extension(records, start, unit, kind::BGNEXTN, found)?;
+    let (end, found) = optional_extension(records, start, unit, kind::ENDEXTN, found)?;
+    let points = centre(alloc, unit, demand(found, kind::XY)?)?;
+    expect(records, start, kind::ENDEL)?;
+    Ok(Path {
+        layer: Layer { layer, datatype },
+        width,
+        begin: lengthening(path_type, width, begin),
+        end: lengthening(path_type, width, end),
+        points,
+    })
+}

@@ -1,0 +1,102 @@
+//! Elements by their records.
+
+ghost use Rattle.std.specs.Prelude.{◌≡◌, ◌≤◌, [], length, OnErr};
+ghost use Rattle.mpw_records.specs.Records.{raw};
+ghost use Rattle.mpw_elements.specs.Reading.{Gives};
+ghost use Rattle.mpw_elements.specs.Grammar.{ignored, element};
+
+use crate::boundary::read_boundary;
+use crate::element::Element;
+use crate::fault::ReadError;
+use crate::path::read_path;
+use crate::reading::fault_of;
+use crate::reference::{read_array, read_single};
+use mpw_records::{Code, ReadFault, Record, Records, kind};
+use std::alloc::Global;
+
+/// Goes on behind ENDEL.
+fn skip(records: &mut Records<'_>, start: usize) -> Result<(), ReadError>
+    ensures ignored { Gives (λ x. x) result records.new (ignored start records.old) }
+    ensures rest { length records.new ≤ length records.old }
+{
+    while let Some(outcome) = records.next() {
+        let found = outcome?;
+        if found.kind == kind::ENDEL {
+            return Ok(());
+        }
+        if found.kind == kind::ENDLIB {
+            return Err(ReadError::Fault(fault_of(Code::Unexpected, found)));
+        }
+    }
+    Err(ReadError::Fault(ReadFault {
+        code: Code::Unexpected,
+        offset: start,
+    }))
+}
+
+/// An element, if its first record begins one.
+#[tactic(auto, unfolding(crate::specs::Grammar::element, mpw_records::specs::Format::least_size))]
+fn one_element(
+    alloc: Global,
+    records: &mut Records<'_>,
+    first: Record<'_>,
+    unit: u16,
+) -> Result<Option<Element>, ReadError>
+    requires { unit ≤ 1000 }
+    ensures element { Gives (λ e. e) result records.new (element unit (raw first.entry) records.old) }
+    ensures rest { length records.new ≤ length records.old }
+{
+    let start = first.offset;
+    match first.kind {
+        kind::BOUNDARY => {
+            let boundary = read_boundary(alloc, records, start, unit, kind::DATATYPE)?;
+            Ok(Some(Element::Boundary(boundary)))
+        }
+        kind::BOX => {
+            let boundary = read_boundary(alloc, records, start, unit, kind::BOXTYPE)?;
+            Ok(Some(Element::Boundary(boundary)))
+        }
+        kind::PATH => Ok(Some(Element::Path(read_path(alloc, records, start, unit)?))),
+        kind::SREF => {
+            let reference = read_single(alloc, records, start, unit)?;
+            Ok(Some(Element::Reference(reference)))
+        }
+        kind::AREF => {
+            let reference = read_array(alloc, records, start, unit)?;
+            Ok(Some(Element::Reference(reference)))
+        }
+        kind::TEXT | kind::NODE => {
+            skip(records, start)?;
+            Ok(None)
+        }
+        _ => Err(ReadError::Fault(fault_of(Code::Unexpected, first))),
+    }
+}
+
+/// Reads an element whose first record, `first`, was given by `records`, up to its ENDEL: an
+/// element, or none where a TEXT or a NODE ends, which are passed over. Each four-byte number is
+/// multiplied by `unit`, in nm, before it is tested.
+///
+/// It takes memory for the points and the name of an element alone, and looks at each byte a fixed
+/// number of times.
+///
+/// # Errors
+/// The fault of the first record that can't stand where it stands, by the order of tests; or want of
+/// memory. From then on `records` gives nothing.
+pub fn read_element(
+    alloc: Global,
+    records: &mut Records<'_>,
+    first: Record<'_>,
+    unit: u16,
+) -> Result<Option<Element>, ReadError>
+    requires { unit ≤ 1000 }
+    ensures read { Gives (λ e. e) result records.new (element unit (raw first.entry) records.old) }
+    ensures err { OnErr result (records.new ≡ []) }
+    ensures rest { length records.new ≤ length records.old }
+{
+    let outcome = one_element(alloc, records, first, unit);
+    if outcome.is_err() {
+        records.stop();
+    }
+    outcome
+}

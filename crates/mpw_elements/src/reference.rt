@@ -1,0 +1,134 @@
+//! SREF and AREF.
+
+ghost use Rattle.std.specs.Prelude.{◌≤◌, length, IfOk};
+ghost use Rattle.mpw_records.specs.declared.kind.TheConstants.{MAG, ANGLE};
+ghost use Rattle.mpw_records.specs.Records.{raw, IsSized};
+ghost use Rattle.mpw_elements.specs.Reading.{Gives, optional};
+ghost use Rattle.mpw_elements.specs.Values.{magnification_of, turns_of};
+ghost use Rattle.mpw_elements.specs.Grammar.{orientation, single, array};
+
+use crate::element::Reference;
+use crate::fault::ReadError;
+use crate::reading::{demand, expect, is_kind, next_field};
+use crate::values::{counts, magnification, mirrored, orient, place, read_grid, read_name, turns};
+use mpw_geom::{Orient, Point};
+use mpw_records::{Record, Records, kind};
+use std::alloc::Global;
+
+/// Past MAG, if the record is one: the record behind it.
+#[tactic(auto, unfolding(crate::specs::Reading::optional, mpw_records::specs::Format::least_size))]
+fn optional_magnification<'a>(
+    records: &mut Records<'a>,
+    start: usize,
+    found: Record<'a>,
+) -> Result<Record<'a>, ReadError>
+    requires { IsSized (raw found) }
+    ensures value { Gives (λ x. (tt, raw x)) result records.new (optional start MAG magnification_of tt (raw found.entry) records.old) }
+    ensures rest { length records.new ≤ length records.old }
+    ensures sized { IfOk result (λ x. IsSized (raw x)) }
+{
+    if !is_kind(found, kind::MAG) {
+        return Ok(found);
+    }
+    magnification(found)?;
+    Ok(next_field(records, start)?)
+}
+
+/// The quarter turns of ANGLE, if the record is one, else 0; and the record behind it.
+#[tactic(auto, unfolding(crate::specs::Reading::optional, mpw_records::specs::Format::least_size))]
+fn optional_turns<'a>(
+    records: &mut Records<'a>,
+    start: usize,
+    found: Record<'a>,
+) -> Result<(u8, Record<'a>), ReadError>
+    requires { IsSized (raw found) }
+    ensures value { Gives (λ x. (x.0, raw x.1)) result records.new (optional start ANGLE turns_of 0 (raw found.entry) records.old) }
+    ensures rest { length records.new ≤ length records.old }
+    ensures sized { IfOk result (λ x. IsSized (raw x.1)) }
+{
+    if !is_kind(found, kind::ANGLE) {
+        return Ok((0, found));
+    }
+    let value = turns(found)?;
+    Ok((value, next_field(records, start)?))
+}
+
+/// The orientation, and the record behind it.
+#[tactic(auto, unfolding(crate::specs::Grammar::orientation, mpw_records::specs::Format::least_size))]
+fn orientation<'a>(
+    records: &mut Records<'a>,
+    start: usize,
+    found: Record<'a>,
+) -> Result<(Orient, Record<'a>), ReadError>
+    requires { IsSized (raw found) }
+    ensures value { Gives (λ x. (x.0, raw x.1)) result records.new (orientation start (raw found.entry) records.old) }
+    ensures rest { length records.new ≤ length records.old }
+    ensures sized { IfOk result (λ x. IsSized (raw x.1)) }
+{
+    if !is_kind(found, kind::STRANS) {
+        return Ok((Orient::R0, found));
+    }
+    let mirrored = mirrored(found)?;
+    let found = next_field(records, start)?;
+    let found = optional_magnification(records, start, found)?;
+    let (turns, found) = optional_turns(records, start, found)?;
+    Ok((orient(mirrored, turns), found))
+}
+
+/// The reference whose SREF was read, which begins at `start`.
+#[tactic(auto, unfolding(crate::specs::Grammar::single))]
+pub fn read_single(
+    alloc: Global,
+    records: &mut Records<'_>,
+    start: usize,
+    unit: u16,
+) -> Result<Reference, ReadError>
+    requires { unit ≤ 1000 }
+    ensures reference { Gives (λ r. r) result records.new (single start unit records.old) }
+    ensures rest { length records.new ≤ length records.old }
+{
+    let name = read_name(alloc, expect(records, start, kind::SNAME)?)?;
+    let found = next_field(records, start)?;
+    let (orient, found) = orientation(records, start, found)?;
+    let origin = place(unit, demand(found, kind::XY)?)?;
+    expect(records, start, kind::ENDEL)?;
+    Ok(Reference {
+        name,
+        orient,
+        origin,
+        columns: 1,
+        rows: 1,
+        column_step: Point { x: 0, y: 0 },
+        row_step: Point { x: 0, y: 0 },
+    })
+}
+
+/// The reference whose AREF was read, which begins at `start`.
+#[tactic(auto, unfolding(crate::specs::Grammar::array, mpw_records::specs::Format::least_size))]
+pub fn read_array(
+    alloc: Global,
+    records: &mut Records<'_>,
+    start: usize,
+    unit: u16,
+) -> Result<Reference, ReadError>
+    requires { unit ≤ 1000 }
+    ensures reference { Gives (λ r. r) result records.new (array start unit records.old) }
+    ensures rest { length records.new ≤ length records.old }
+{
+    let name = read_name(alloc, expect(records, start, kind::SNAME)?)?;
+    let found = next_field(records, start)?;
+    let (orient, found) = orientation(records, start, found)?;
+    let (columns, rows) = counts(demand(found, kind::COLROW)?)?;
+    let xy = expect(records, start, kind::XY)?;
+    let grid = read_grid(unit, columns, rows, xy)?;
+    expect(records, start, kind::ENDEL)?;
+    Ok(Reference {
+        name,
+        orient,
+        origin: grid.origin,
+        columns,
+        rows,
+        column_step: grid.column_step,
+        row_step: grid.row_step,
+    })
+}

@@ -1,0 +1,265 @@
+//! What a record of an element tells, and the faults of its value.
+
+ghost use Rattle.std.specs.Prelude.{◌≡◌, ◌<◌, ◌≤◌, ◌^◌, ◌-ℤ◌, unsigned_abs, ℕ, pos, length, IfOk};
+ghost use Rattle.mpw_records.specs.Records.{raw, IsSized};
+ghost use Rattle.mpw_elements.specs.Reading.{GivesValue};
+ghost use Rattle.mpw_elements.specs.Values.{short_of, place_of, path_type_of, width_of, lengthening, without_nuls, name_of, mirrored_of, magnification_of, turns, turns_of, orient_of, counts_of, part_of, both, IsNear, step_of, grid_of};
+
+use crate::fault::ReadError;
+use crate::reading::fault_of;
+use crate::shape::{point, scale};
+use byteorder::{BigEndian, ByteOrder};
+use mpw_geom::{Name, NameFault, Orient, Point};
+use mpw_real8::Real8;
+use mpw_records::{Code, ReadFault, Record};
+use std::alloc::Global;
+
+/// Where an array begins, and its steps, in nm.
+#[derive(Clone, Copy, Debug)]
+pub struct Grid {
+    pub origin: Point,
+    pub column_step: Point,
+    pub row_step: Point,
+}
+
+/// The two-byte number of a record, 0 to 65535.
+pub fn short(from: Record<'_>) -> u16
+    requires { 2 ≤ length from.bytes.now }
+    ensures { result ≡ short_of (raw from.entry) }
+{
+    BigEndian::read_u16(from.bytes)
+}
+
+/// The one point of a reference.
+#[tactic(auto, unfolding(crate::specs::Values::place_of))]
+pub fn place(unit: u16, xy: Record<'_>) -> Result<Point, ReadFault>
+    requires { unit ≤ 1000 }
+    ensures { result ≡ place_of unit (raw xy.entry) }
+{
+    if xy.bytes.len() != 8 {
+        return Err(fault_of(Code::BadSize, xy));
+    }
+    Ok(point(unit, xy.bytes, 0))
+}
+
+/// PATHTYPE: 0, 2 or 4.
+#[tactic(auto, unfolding(crate::specs::Values::path_type_of))]
+pub fn path_type(from: Record<'_>) -> Result<u16, ReadFault>
+    requires { 2 ≤ length from.bytes.now }
+    ensures { result ≡ path_type_of (raw from.entry) }
+{
+    match short(from) {
+        0 => Ok(0),
+        2 => Ok(2),
+        4 => Ok(4),
+        _ => Err(fault_of(Code::RoundPath, from)),
+    }
+}
+
+/// WIDTH as an absolute value in nm.
+#[tactic(auto, unfolding(crate::specs::Values::width_of))]
+pub fn width(unit: u16, from: Record<'_>) -> Result<i64, ReadFault>
+    requires unit { unit ≤ 1000 }
+    requires bytes { 4 ≤ length from.bytes.now }
+    ensures { result ≡ width_of unit (raw from.entry) }
+{
+    let width = scale(unit, from.bytes).unsigned_abs();
+    if width % 2 != 0 {
+        return Err(fault_of(Code::OddWidth, from));
+    }
+    Ok(width as i64)
+}
+
+/// How far an end of a path of a type is lengthened, where BGNEXTN or ENDEXTN gives so much.
+pub fn lengthening(path_type: u16, width: i64, given: i64) -> i64
+    ensures { result ≡ lengthening path_type width given }
+{
+    match path_type {
+        4 => given,
+        2 => width / 2,
+        _ => 0,
+    }
+}
+
+/// The bytes without the NULs at their end.
+fn trim_nuls(bytes: &[u8]) -> &[u8]
+    ensures { result.now ≡ without_nuls bytes.now }
+{
+    let mut end = bytes.len();
+    while end > 0 && bytes[end - 1] == 0 {
+        end -= 1;
+    }
+    &bytes[..end]
+}
+
+/// The name that a STRNAME or SNAME record tells, without the NULs at its end.
+///
+/// # Errors
+/// `BadName` at the record, or want of memory.
+#[tactic(auto, unfolding(crate::specs::Values::name_of))]
+pub fn read_name(alloc: Global, from: Record<'_>) -> Result<Name, ReadError>
+    ensures { GivesValue (λ name. name) result (name_of (raw from.entry)) }
+{
+    match Name::read(alloc, trim_nuls(from.bytes)) {
+        Ok(name) => Ok(name),
+        Err(NameFault::Memory) => Err(ReadError::Memory),
+        Err(NameFault::BadName) => Err(ReadError::Fault(fault_of(Code::BadName, from))),
+    }
+}
+
+/// Whether STRANS mirrors.
+#[tactic(auto, unfolding(crate::specs::Values::mirrored_of))]
+pub fn mirrored(from: Record<'_>) -> Result<bool, ReadFault>
+    requires { 2 ≤ length from.bytes.now }
+    ensures { result ≡ mirrored_of (raw from.entry) }
+{
+    let flags = short(from);
+    if flags & 0x0002 != 0 {
+        return Err(fault_of(Code::Absolute, from));
+    }
+    Ok(flags & 0x8000 != 0)
+}
+
+/// A magnification of 1.
+#[tactic(auto, unfolding(crate::specs::Values::magnification_of))]
+pub fn magnification(from: Record<'_>) -> Result<(), ReadFault>
+    requires { 8 ≤ length from.bytes.now }
+    ensures { result ≡ magnification_of (raw from.entry) }
+{
+    if !Real8::read(from.bytes).is_whole(1) {
+        return Err(fault_of(Code::Magnification, from));
+    }
+    Ok(())
+}
+
+/// The quarter turns of an angle.
+#[tactic(auto, unfolding(crate::specs::Values::turns))]
+fn quarter_turns(angle: &Real8) -> Option<u8>
+    ensures { result ≡ turns angle.now }
+{
+    if angle.is_whole(0) || angle.is_whole(360) || angle.is_whole(-360) {
+        return Some(0);
+    }
+    if angle.is_whole(90) || angle.is_whole(-270) {
+        return Some(1);
+    }
+    if angle.is_whole(180) || angle.is_whole(-180) {
+        return Some(2);
+    }
+    if angle.is_whole(270) || angle.is_whole(-90) {
+        return Some(3);
+    }
+    None
+}
+
+/// The quarter turns of ANGLE.
+pub fn turns(from: Record<'_>) -> Result<u8, ReadFault>
+    requires { 8 ≤ length from.bytes.now }
+    ensures { result ≡ turns_of (raw from.entry) }
+{
+    match quarter_turns(&Real8::read(from.bytes)) {
+        Some(turns) => Ok(turns),
+        None => Err(fault_of(Code::Angle, from)),
+    }
+}
+
+/// Mirrored about the x axis or not, and then turned.
+pub fn orient(mirrored: bool, turns: u8) -> Orient
+    ensures { result ≡ orient_of mirrored turns }
+{
+    match (mirrored, turns) {
+        (false, 0) => Orient::R0,
+        (false, 1) => Orient::R90,
+        (false, 2) => Orient::R180,
+        (false, _) => Orient::R270,
+        (true, 0) => Orient::M0,
+        (true, 1) => Orient::M90,
+        (true, 2) => Orient::M180,
+        (true, _) => Orient::M270,
+    }
+}
+
+/// The columns and the rows of COLROW.
+#[tactic(auto, unfolding(crate::specs::Values::counts_of))]
+pub fn counts(from: Record<'_>) -> Result<(u16, u16), ReadFault>
+    requires { 4 ≤ length from.bytes.now }
+    ensures counts { result ≡ counts_of (raw from.entry) }
+    ensures columns { IfOk result (λ n. 1 ≤ n.0) }
+    ensures rows { IfOk result (λ n. 1 ≤ n.1) }
+{
+    let columns = BigEndian::read_u16(from.bytes);
+    let rows = BigEndian::read_u16(&from.bytes[2..]);
+    if !(1..=32767).contains(&columns) || !(1..=32767).contains(&rows) {
+        return Err(fault_of(Code::Columns, from));
+    }
+    Ok((columns, rows))
+}
+
+/// A whole number of nm of which `count` make a length, if there is one.
+fn part(count: u16, whole: i64) -> Option<i64>
+    requires { 1 ≤ count }
+    ensures { result ≡ part_of count whole }
+{
+    let count = i64::from(count);
+    if whole % count != 0 {
+        return None;
+    }
+    Some(whole / count)
+}
+
+/// The distance from one coordinate to another.
+fn difference(from: i64, to: i64) -> i64
+    requires from { unsigned_abs from < 2 ^ 42 }
+    requires to { unsigned_abs to < 2 ^ 42 }
+    ensures { result ≡ to -ℤ from }
+{
+    to - from
+}
+
+fn both(x: Option<i64>, y: Option<i64>) -> Option<Point>
+    ensures { result ≡ both x y }
+{
+    match (x, y) {
+        (Some(x), Some(y)) => Some(Point { x, y }),
+        _ => None,
+    }
+}
+
+/// The step of which `count` lead from a point to another, if it is whole.
+fn step(count: u16, from: Point, to: Point) -> Option<Point>
+    requires count { 1 ≤ count }
+    requires from { IsNear from }
+    requires to { IsNear to }
+    ensures { result ≡ step_of count from to }
+{
+    let across = difference(from.x, to.x);
+    let up = difference(from.y, to.y);
+    both(part(count, across), part(count, up))
+}
+
+/// Where an array of so many columns and rows begins, and its steps.
+#[tactic(auto, unfolding(crate::specs::Values::grid_of))]
+pub fn read_grid(unit: u16, columns: u16, rows: u16, xy: Record<'_>) -> Result<Grid, ReadFault>
+    requires unit { unit ≤ 1000 }
+    requires columns { 1 ≤ columns }
+    requires rows { 1 ≤ rows }
+    ensures { result ≡ grid_of unit columns rows (raw xy.entry) }
+{
+    if xy.bytes.len() != 24 {
+        return Err(fault_of(Code::BadSize, xy));
+    }
+    let origin = point(unit, xy.bytes, 0);
+    let last_column = point(unit, xy.bytes, 1);
+    let last_row = point(unit, xy.bytes, 2);
+    let Some(column_step) = step(columns, origin, last_column) else {
+        return Err(fault_of(Code::Pitch, xy));
+    };
+    let Some(row_step) = step(rows, origin, last_row) else {
+        return Err(fault_of(Code::Pitch, xy));
+    };
+    Ok(Grid {
+        origin,
+        column_step,
+        row_step,
+    })
+}

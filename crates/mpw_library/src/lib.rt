@@ -1,0 +1,15 @@
+//! A whole GDSII library: its structures, each with its elements, in nm.
+//!
+//! `read_library(alloc, bytes)` reads a text from front to end once. It answers a [`Library`], or the
+//! first fault by offset.
+#![tactic(auto)]
+
+mod elements;
+mod library;
+mod read;
+mod structures;
+
+pub use elements::Elements;
+pub use library::Library;
+pub use read::read_library;
+pub use structures::{Structure, Structures};

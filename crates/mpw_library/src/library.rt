@@ -1,0 +1,62 @@
+//! A library that was read.
+
+ghost use Rattle.std.specs.Prelude.{◌≡◌, IfOk};
+ghost use Rattle.mpw_library.specs.Places.{place_of};
+
+use crate::structures::{Structure, Structures};
+use mpw_geom::Name;
+use std::alloc::{AllocError, Global};
+use std::marker::Model;
+use std::sync::Arc;
+
+/// The structures of a library. Copies share them.
+#[derive(Drop)]
+pub struct Library {
+    structures: Arc<Structures>,
+}
+
+impl Model for Library {
+    ghost use Rattle.std.specs.Prelude.{List};
+    ghost use Rattle.mpw_library.specs.declared.structures.Structure.{Structure};
+
+    ghost Value = { List Structure };
+
+    ghost view = { λ a. a.structures.value };
+}
+
+impl Library {
+    /// A library of structures. An error is want of memory.
+    pub fn new(alloc: Global, structures: Structures) -> Result<Library, AllocError>
+        ensures { IfOk result (λ library. library ≡ structures) }
+    {
+        Ok(Library {
+            structures: Arc::new(alloc, structures)?,
+        })
+    }
+
+    /// The structures in file order.
+    pub fn structures(&self) -> &[Structure]
+        ensures { result.now ≡ self.now }
+    {
+        self.structures.as_slice()
+    }
+
+    /// Where the structure of a name stands, in logarithmic time.
+    pub fn position(&self, name: &Name) -> Option<usize>
+        ensures { result ≡ place_of self.now name.now }
+    {
+        self.structures.position(name)
+    }
+
+    /// The same library, in constant time and without further memory.
+    ///
+    /// # Errors
+    /// Where no more copies can be counted.
+    pub fn copy(&self) -> Result<Library, AllocError>
+        ensures { IfOk result (λ library. library ≡ self.now) }
+    {
+        Ok(Library {
+            structures: self.structures.clone()?,
+        })
+    }
+}

@@ -1,0 +1,77 @@
+//! The structures of a library, in file order, and found by their names.
+
+ghost use Rattle.std.specs.Prelude.{◌≡◌, [], ◌∷◌, ◌++◌, None, OnOk, OnErr, is_some};
+ghost use Rattle.mpw_library.specs.Places.{place_of};
+
+use crate::elements::Elements;
+use mpw_geom::Name;
+use std::alloc::{AllocError, Global};
+use std::collections::BTreeMap;
+use std::marker::Model;
+
+/// A structure: a name and what stands in it.
+#[derive(Debug, Drop)]
+pub struct Structure {
+    pub name: Name,
+    pub elements: Elements,
+}
+
+/// Structures in file order, each with a name of its own. A name is found in logarithmic time.
+#[derive(Drop)]
+pub struct Structures {
+    items: Vec<Structure>,
+    places: BTreeMap<Name, usize>,
+}
+
+impl Model for Structures {
+    ghost use Rattle.std.specs.Prelude.{List};
+    ghost use Rattle.mpw_library.specs.declared.structures.Structure.{Structure};
+
+    ghost Value = { List Structure };
+
+    ghost use Rattle.mpw_library.specs.Places.{AreIndexed};
+
+    ghost view = { λ a. a.items.items };
+
+    ghost invariant = { λ a. AreIndexed a.places a.items.items };
+}
+
+impl Structures {
+    /// No structures. Takes no memory.
+    pub fn new(alloc: Global) -> Structures
+        ensures { result ≡ [] }
+    {
+        Structures {
+            items: Vec::new(alloc),
+            places: BTreeMap::new(alloc),
+        }
+    }
+
+    /// The structures in file order.
+    pub fn as_slice(&self) -> &[Structure]
+        ensures { result.now ≡ self.now }
+    {
+        &self.items
+    }
+
+    /// Where the structure of a name stands.
+    pub fn position(&self, name: &Name) -> Option<usize>
+        ensures { result ≡ place_of self.now name.now }
+    {
+        self.places.get(name).copied()
+    }
+
+    /// Adds a structure of a new name at the end. An error is want of memory, and changes nothing.
+    pub fn push(&mut self, structure: Structure) -> Result<(), AllocError>
+        requires { place_of self.old structure.name ≡ None }
+        ensures ok { OnOk result (self.new ≡ self.old ++ structure ∷ []) }
+        ensures err { OnErr result (self.new ≡ self.old) }
+    {
+        self.items.reserve(1)?;
+        let name = structure.name.copy()?;
+        let place = self.items.len();
+        self.places.insert(name, place)?;
+        self.items.push(structure)?;
+        Ok(())
+    }
+}
