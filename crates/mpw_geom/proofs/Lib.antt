@@ -1,0 +1,4 @@
+pub mod Chains
+pub mod Meets
+pub mod Tests
+pub mod Turns
