@@ -1,0 +1,74 @@
+//! The elements that have a shape or place one.
+
+ghost use Rattle.std.specs.Prelude.{◌≡◌, IfOk};
+
+use crate::points::Points;
+use mpw_geom::Layer;
+use std::alloc::AllocError;
+
+/// A polygon by its corners in file order, without the closing point (GDSII Stream, BOUNDARY and
+/// BOX). Other repeats stay. The edge from the last corner to the first is implied.
+#[derive(Debug, Drop)]
+pub struct Boundary {
+    pub layer: Layer,
+    pub points: Points,
+}
+
+/// A wire along a centre line (GDSII Stream, PATH). Consecutive repeats are taken as one point.
+#[derive(Debug, Drop)]
+pub struct Path {
+    pub layer: Layer,
+    /// The whole width in nm, even, 0 where none was given.
+    pub width: i64,
+    /// How far the first segment is lengthened backwards, in nm. It may be negative.
+    pub begin: i64,
+    /// How far the last segment is lengthened forwards, in nm. It may be negative.
+    pub end: i64,
+    pub points: Points,
+}
+
+/// An element of a structure.
+#[derive(Debug, Drop)]
+pub enum Element {
+    Boundary(Boundary),
+    Path(Path),
+}
+
+impl Boundary {
+    /// The same boundary, in memory of its own. An error is want of memory.
+    pub fn copy(&self) -> Result<Boundary, AllocError>
+        ensures { IfOk result (λ boundary. boundary ≡ self.now) }
+    {
+        Ok(Boundary {
+            layer: self.layer,
+            points: self.points.copy()?,
+        })
+    }
+}
+
+impl Path {
+    /// The same path, in memory of its own. An error is want of memory.
+    pub fn copy(&self) -> Result<Path, AllocError>
+        ensures { IfOk result (λ path. path ≡ self.now) }
+    {
+        Ok(Path {
+            layer: self.layer,
+            width: self.width,
+            begin: self.begin,
+            end: self.end,
+            points: self.points.copy()?,
+        })
+    }
+}
+
+impl Element {
+    /// The same element, in memory of its own. An error is want of memory.
+    pub fn copy(&self) -> Result<Element, AllocError>
+        ensures { IfOk result (λ element. element ≡ self.now) }
+    {
+        match self {
+            Element::Boundary(boundary) => Ok(Element::Boundary(boundary.copy()?)),
+            Element::Path(path) => Ok(Element::Path(path.copy()?)),
+        }
+    }
+}

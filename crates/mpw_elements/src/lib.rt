@@ -1,0 +1,8 @@
+//! The elements of a GDSII structure: boundaries, paths and references, in nm.
+#![tactic(auto)]
+
+mod element;
+mod points;
+
+pub use element::{Boundary, Element, Path};
+pub use points::Points;

@@ -1,0 +1,54 @@
+//! A list of points, which contracts see as a list.
+
+ghost use Rattle.std.specs.Prelude.{◌≡◌, IfOk};
+
+use mpw_geom::Point;
+use std::alloc::AllocError;
+use std::marker::Model;
+
+/// The points of an element in file order, in nm. One allocation, however many there are.
+#[derive(Debug, Drop)]
+pub struct Points {
+    items: Vec<Point>,
+}
+
+impl Model for Points {
+    ghost use Rattle.std.specs.Prelude.{List};
+    ghost use Rattle.mpw_geom.specs.declared.plane.Point.{Point};
+
+    ghost Value = { List Point };
+
+    ghost view = { λ a. a.items.items };
+}
+
+impl Points {
+    /// The points of a vector. Takes no memory.
+    pub fn from_vec(points: Vec<Point>) -> Points
+        ensures { result ≡ points.items }
+    {
+        Points { items: points }
+    }
+
+    /// The vector of the points. Takes no memory.
+    pub fn into_vec(self) -> Vec<Point>
+        ensures { result.items ≡ self }
+    {
+        self.items
+    }
+
+    /// The points in file order.
+    pub fn as_slice(&self) -> &[Point]
+        ensures { result.now ≡ self.now }
+    {
+        &self.items
+    }
+
+    /// The same points, in memory of their own. An error is want of memory.
+    pub fn copy(&self) -> Result<Points, AllocError>
+        ensures { IfOk result (λ points. points ≡ self.now) }
+    {
+        Ok(Points {
+            items: self.items.clone()?,
+        })
+    }
+}
