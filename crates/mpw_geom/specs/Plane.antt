@@ -1,5 +1,5 @@
 -- Coordinates, unit squares, and the points and squares of a box. All lengths are in nm.
-use Rattle.std.specs.Prelude.{◌≤ℤ◌, ◌^◌, Bool, ◌&&◌, ℤ, pos, neg_ℤ, ◌+ℤ◌, int_lt, int_le, List}
+use Rattle.std.specs.Prelude.{◌≤ℤ◌, ◌<ℤ◌, ◌^◌, Bool, ◌&&◌, ℤ, pos, neg_ℤ, ◌+ℤ◌, int_lt, int_le, List}
 use Rattle.std.specs.List.{list_any}
 use Rattle.std.specs.Int.{int_min, int_max}
 use Rattle.mpw_geom.specs.declared.plane.Box2.{Box2}
@@ -26,6 +26,11 @@ pub record IsBoxInPlane (b : Box2) : Type 0 where
 pub record IsOrdered (b : Box2) : Type 0 where
   pub x : b.x0 ≤ℤ b.x1
   pub y : b.y0 ≤ℤ b.y1
+
+-- the box has a unit square at all
+pub record HasArea (b : Box2) : Type 0 where
+  pub width : b.x0 <ℤ b.x1
+  pub height : b.y0 <ℤ b.y1
 
 -- the unit square from (column, row) to (column + 1, row + 1)
 pub record Square : Type 0 where

@@ -1,0 +1,4 @@
+pub mod Columns
+pub mod Counts
+pub mod Lists
+pub mod Swept

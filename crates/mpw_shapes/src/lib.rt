@@ -1,0 +1,6 @@
+//! The exact unit squares of boundaries and paths, as rectangles.
+#![tactic(auto)]
+
+mod band;
+mod boxes;
+mod edge;
