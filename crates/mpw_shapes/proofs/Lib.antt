@@ -1,4 +1,6 @@
+pub mod Chains
 pub mod Columns
 pub mod Counts
 pub mod Lists
+pub mod Order
 pub mod Swept
