@@ -47,3 +47,11 @@ IsBalanced edges row = count_by (rises_in row) edges ≡ count_by (falls_in row)
 -- the row lies between the first and the last of the rows
 unfoldable pub is_between : ℤ → ℤ → ℤ → Bool
 is_between y0 y1 row = int_le y0 row && int_lt row y1
+
+-- no edge has an end strictly between two neighbouring rows
+abbrev pub AreClear : List ℤ → List Edge → Type 0
+AreClear rows edges = (k : ℕ) → k + 1 < length rows → All (IsClear (slice_index_or rows k (pos 0)) (slice_index_or rows (k + 1) (pos 0))) edges
+
+-- as many edges go up across each row from y0 to before y1 as go down
+abbrev pub AreBalanced : List Edge → ℤ → ℤ → Type 0
+AreBalanced edges y0 y1 = (row : ℤ) → y0 ≤ℤ row → row <ℤ y1 → IsBalanced edges row

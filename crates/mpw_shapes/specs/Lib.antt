@@ -1,2 +1,3 @@
 pub mod Boundary
 pub mod Edges
+pub mod Stacks

@@ -1,6 +1,6 @@
 //! One band of rows, in which no edge begins or ends.
 
-ghost use Rattle.std.specs.Prelude.{◌≡◌, ◌+◌, ◌<◌, ◌^◌, ◌==◌, ◌&&◌, ◌<ℤ◌, if◌then◌else◌, ℤ, All, IfOk, int_le};
+ghost use Rattle.std.specs.Prelude.{◌≡◌, ◌+◌, ◌<◌, ◌^◌, ◌==◌, ◌&&◌, ◌<ℤ◌, if◌then◌else◌, ℤ, All, IfOk, int_le, length, pos, slice_index_or};
 ghost use Rattle.mpw_geom.specs.Plane.{Square, HasArea, any_has_square};
 ghost use Rattle.mpw_shapes.specs.Edges.{AreFromLeft, IsBalanced, IsClear, edges_have, is_between};
 
@@ -17,6 +17,17 @@ pub(crate) struct Band {
 }
 
 impl Band {
+    /// The rows from one of the list to before the next one.
+    pub fn between(rows: &[i64], at: usize) -> Band
+        requires { at + 1 < length rows.now }
+        ensures { result ≡ record { low = slice_index_or rows.now at (pos 0); high = slice_index_or rows.now (at + 1) (pos 0) } }
+    {
+        Band {
+            low: rows[at],
+            high: rows[at + 1],
+        }
+    }
+
     /// Whether the edge reaches through the whole band.
     fn is_crossed_by(self, edge: Edge) -> bool
         ensures { result ≡ (int_le edge.low self.low && int_le self.high edge.high) }

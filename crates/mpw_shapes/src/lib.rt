@@ -4,3 +4,5 @@
 mod band;
 mod boxes;
 mod edge;
+mod stack;
+mod sweep;
