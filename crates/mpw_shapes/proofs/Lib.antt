@@ -6,3 +6,4 @@ pub mod Halves
 pub mod Lists
 pub mod Order
 pub mod Swept
+pub mod Whole

@@ -45,11 +45,11 @@ at_edge edges row k d c sorted h le p q agree n nk =
       let le' : (get_or edges i d).x ≤ℤ c = omega (arith, ints, sorted i k d (omega arith) h) in
       rw same (agree (get_or edges i d) le'))
 
-rises_left_at : (s : Square) (e : Edge) → e.x ≤ℤ s.column → rises_left s e ≡ rises_in s.row e
+pub rises_left_at : (s : Square) (e : Edge) → e.x ≤ℤ s.column → rises_left s e ≡ rises_in s.row e
 unfolding rises_left
 rises_left_at s e h = rw (test_from_le e.x s.column h)
 
-falls_left_at : (s : Square) (e : Edge) → e.x ≤ℤ s.column → falls_left s e ≡ falls_in s.row e
+pub falls_left_at : (s : Square) (e : Edge) → e.x ≤ℤ s.column → falls_left s e ≡ falls_in s.row e
 unfolding falls_left
 falls_left_at s e h = rw (test_from_le e.x s.column h)
 

@@ -2,7 +2,10 @@
 #![tactic(auto)]
 
 mod band;
+mod boundary;
 mod boxes;
 mod edge;
 mod stack;
 mod sweep;
+
+pub use boundary::boundary_rectangles;

@@ -3,7 +3,7 @@
 ghost use Rattle.std.specs.Prelude.{◌≡◌, ◌≤◌, ◌<◌, ◌+◌, ◌&&◌, ◌||◌, pos, ℤ, All, IfOk, OnOk, length, int_lt, slice_index_or};
 ghost use Rattle.std.specs.List.{filter};
 ghost use Rattle.mpw_geom.specs.Plane.{Square, HasArea, any_has_square};
-ghost use Rattle.mpw_shapes.specs.Edges.{AreFromLeft, AreFromBelow, AreClear, AreBalanced, IsClear, edges_have, is_between};
+ghost use Rattle.mpw_shapes.specs.Edges.{AreFromLeft, AreFromBelow, AreClear, AreBalanced, HasEndsAmong, IsBalanced, IsClear, edges_have, is_between};
 ghost use Rattle.mpw_shapes.specs.Stacks.{IsFilled, stack_has};
 
 use crate::band::{Band, boxes_of_band};
@@ -55,7 +55,7 @@ fn add_band(alloc: Global, edges: &[Edge], band: Band, stack: &mut Stack) -> Res
 /// Puts on the stack the boxes of the rows between the places `from` and `to`. Edges that end
 /// outside a half of the rows are left out of it, so that this takes O(n log n) for n edges, and
 /// for each band the number of edges that cross it.
-pub(crate) fn sweep(alloc: Global, edges: &[Edge], rows: &[i64], from: usize, to: usize, stack: &mut Stack) -> Result<(), AllocError>
+fn sweep(alloc: Global, edges: &[Edge], rows: &[i64], from: usize, to: usize, stack: &mut Stack) -> Result<(), AllocError>
     requires in_order { from ≤ to }
     requires in_range { to < length rows.now }
     requires from_left { AreFromLeft edges.now }
@@ -77,5 +77,22 @@ pub(crate) fn sweep(alloc: Global, edges: &[Edge], rows: &[i64], from: usize, to
     sweep(alloc, &below, rows, from, middle, stack)?;
     let above = edges_above(alloc, edges, rows, middle)?;
     sweep(alloc, &above, rows, middle, to, stack)?;
+    Ok(())
+}
+
+/// Puts on the stack the boxes of all the squares round which the edges wind.
+pub(crate) fn sweep_all(alloc: Global, edges: &[Edge], rows: &[i64], stack: &mut Stack) -> Result<(), AllocError>
+    requires from_left { AreFromLeft edges.now }
+    requires from_below { AreFromBelow rows.now }
+    requires ends { All (HasEndsAmong rows.now) edges.now }
+    requires balanced { (row : ℤ) → IsBalanced edges.now row }
+    requires filled { IsFilled stack.old }
+    ensures squares { OnOk result ((s : Square) → stack_has stack.new s ≡ (stack_has stack.old s || edges_have edges.now s)) }
+    ensures filled { OnOk result (IsFilled stack.new) }
+{
+    if rows.is_empty() {
+        return Ok(());
+    }
+    sweep(alloc, edges, rows, 0, rows.len() - 1, stack)?;
     Ok(())
 }
