@@ -7,3 +7,4 @@ pub mod Lists
 pub mod Order
 pub mod Swept
 pub mod Whole
+pub mod Wires

@@ -1,3 +1,5 @@
 pub mod Boundary
 pub mod Edges
+pub mod Element
+pub mod Path
 pub mod Stacks

@@ -5,7 +5,11 @@ mod band;
 mod boundary;
 mod boxes;
 mod edge;
+mod path;
 mod stack;
 mod sweep;
+
+#[cfg(test)]
+mod tests;
 
 pub use boundary::boundary_rectangles;
