@@ -3,6 +3,7 @@ pub mod Chains
 pub mod Columns
 pub mod Counts
 pub mod Halves
+pub mod Laid
 pub mod Lists
 pub mod Order
 pub mod Swept

@@ -64,9 +64,19 @@ impl Wire {
             ..self
         }
     }
+
+    /// The same up to the end of the path.
+    fn to_end_of(self, path: &Path) -> Wire
+        ensures { result ≡ record { half = self.half; before = self.before; behind = path.now.end } }
+    {
+        Wire {
+            behind: path.end,
+            ..self
+        }
+    }
 }
 
-/// The first segment of a path, which ends at an inner point.
+/// The first segment of a path, up to an inner point.
 fn first_wire(path: &Path) -> Wire
     ensures { result ≡ record { half = int_div path.now.width (pos 2); before = path.now.begin; behind = int_div path.now.width (pos 2) } }
 {
@@ -76,4 +86,26 @@ fn first_wire(path: &Path) -> Wire
         before: path.begin,
         behind: half,
     }
+}
+
+/// One rectangle for each segment of the centre line (GDSII Stream release 6, PATH), without those
+/// that have no area. An error is want of memory. Takes time by the number of points.
+pub(crate) fn path_rectangles(alloc: Global, path: &Path) -> Result<Vec<Box2>, AllocError>
+    requires { IsPath path.now }
+    ensures squares { IfOk result (λ boxes. (s : Square) → any_has_square boxes.items s ≡ path_has path.now s) }
+    ensures area { IfOk result (λ boxes. All HasArea boxes.items) }
+{
+    let mut boxes = Vec::new(alloc);
+    let mut wire = first_wire(path);
+    let mut rest = path.points.as_slice();
+    while rest.len() > 2 {
+        push_box(&mut boxes, wire.box_along(rest[0], rest[1]))?;
+        wire = wire.from_inner();
+        rest = &rest[1..];
+    }
+    if rest.len() == 2 {
+        let last = wire.to_end_of(path);
+        push_box(&mut boxes, last.box_along(rest[0], rest[1]))?;
+    }
+    Ok(boxes)
 }
