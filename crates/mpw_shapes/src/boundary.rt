@@ -35,7 +35,7 @@ fn heights_of(alloc: Global, corners: &[Point]) -> Result<Vec<i64>, AllocError>
 /// neighbouring heights the number of vertical edges that cross it. Of a simple polygon these are the
 /// ends of the band's intervals; equal intervals of adjacent bands are one rectangle, so that there
 /// are O(n) rectangles.
-pub fn boundary_rectangles(alloc: Global, corners: &[Point]) -> Result<Vec<Box2>, AllocError>
+pub(crate) fn boundary_rectangles(alloc: Global, corners: &[Point]) -> Result<Vec<Box2>, AllocError>
     ensures squares { IfOk result (λ boxes. (s : Square) → any_has_square boxes.items s ≡ boundary_has corners.now s) }
     ensures area { IfOk result (λ boxes. All HasArea boxes.items) }
 {

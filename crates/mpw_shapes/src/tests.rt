@@ -1,6 +1,7 @@
 use super::*;
 use crate::boundary::boundary_rectangles;
-use mpw_geom::{Box2, Point};
+use mpw_elements::{Boundary, Element, Path, Points};
+use mpw_geom::{Box2, Layer, Point};
 use std::alloc::Global;
 use std::test::Fail;
 
@@ -168,4 +169,18 @@ fn a_staircase_gives_a_box_a_step(rt: HostRuntime) -> Result<(), Fail> {
     let boxes = boundary_rectangles(rt.alloc(), &points)?;
     assert_eq!(rt; boxes.len(), 4000);
     Ok(())
+}
+
+const METAL: Layer = Layer { layer: 1, datatype: 0 };
+
+/// The boxes of a path of width 10, each as its four coordinates.
+fn path_boxes<const N: usize>(alloc: Global, begin: i64, end: i64, places: [(i64, i64); N]) -> Result<Vec<Box2>, Fail> {
+    let path = Path {
+        layer: METAL,
+        width: 10,
+        begin,
+        end,
+        points: Points::from_vec(corners(alloc, places)?),
+    };
+    Ok(crate::path::path_rectangles(alloc, &path)?)
 }
