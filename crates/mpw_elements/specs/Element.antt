@@ -2,8 +2,10 @@
 use Rattle.std.specs.Prelude.{◌≡◌, ℕ, ◌*◌, ◌^◌, ◌≤◌, ◌&&◌, ◌||◌, not, Bool, true, IsTrue, ℤ, pos, neg_ℤ, ◌<ℤ◌, List, [], ◌∷◌, ◌++◌, length, take, All}
 use Rattle.std.specs.Ordering.{int_eq}
 use Rattle.mpw_geom.specs.declared.plane.Point.{Point}
+use Rattle.mpw_geom.specs.Name.{IsName}
 use Rattle.mpw_elements.specs.declared.element.Boundary.{Boundary}
 use Rattle.mpw_elements.specs.declared.element.Path.{Path}
+use Rattle.mpw_elements.specs.declared.element.Reference.{Reference}
 use Rattle.mpw_elements.specs.declared.element.Element.{Element}
 use Rattle.mpw_elements.specs.declared.element.Element.TheVariants as elements
 
@@ -54,7 +56,22 @@ pub record IsPath (p : Path) : Type 0 where
   pub segments : IsTrue (each_step is_segment p.points)
   pub points_within_reach : All IsPointWithinReach p.points
 
+-- The columns and rows of an array.
+pub record IsCount (n : ℕ) : Type 0 where
+  pub least : 1 ≤ n
+  pub most : n ≤ 32767
+
+-- A reference names a structure, and places it at least once.
+pub record IsReference (r : Reference) : Type 0 where
+  pub name : IsName r.name
+  pub columns : IsCount r.columns
+  pub rows : IsCount r.rows
+  pub origin : IsPointWithinReach r.origin
+  pub column_step : IsPointWithinReach r.column_step
+  pub row_step : IsPointWithinReach r.row_step
+
 -- What reading an element gives.
 abbrev pub IsElement : Element → Type 0
 IsElement (elements.Boundary b) = IsBoundary b
 IsElement (elements.Path p) = IsPath p
+IsElement (elements.Reference r) = IsReference r

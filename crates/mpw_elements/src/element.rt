@@ -3,7 +3,7 @@
 ghost use Rattle.std.specs.Prelude.{◌≡◌, IfOk};
 
 use crate::points::Points;
-use mpw_geom::Layer;
+use mpw_geom::{Layer, Name, Orient, Point};
 use std::alloc::AllocError;
 
 /// A polygon by its corners in file order, without the closing point (GDSII Stream, BOUNDARY and
@@ -27,11 +27,30 @@ pub struct Path {
     pub points: Points,
 }
 
+/// Places a structure, once or in rows and columns (GDSII Stream, SREF and AREF).
+#[derive(Debug, Drop)]
+pub struct Reference {
+    /// The structure that is placed.
+    pub name: Name,
+    pub orient: Orient,
+    /// Where the structure's origin comes, for the first column of the first row, in nm.
+    pub origin: Point,
+    /// 1 to 32767; 1 where a single structure is placed.
+    pub columns: u16,
+    /// 1 to 32767; 1 where a single structure is placed.
+    pub rows: u16,
+    /// From one column to the next, in nm; no step where a single structure is placed.
+    pub column_step: Point,
+    /// From one row to the next, in nm; no step where a single structure is placed.
+    pub row_step: Point,
+}
+
 /// An element of a structure.
 #[derive(Debug, Drop)]
 pub enum Element {
     Boundary(Boundary),
     Path(Path),
+    Reference(Reference),
 }
 
 impl Boundary {
@@ -61,6 +80,23 @@ impl Path {
     }
 }
 
+impl Reference {
+    /// The same reference. An error is want of memory.
+    pub fn copy(&self) -> Result<Reference, AllocError>
+        ensures { IfOk result (λ reference. reference ≡ self.now) }
+    {
+        Ok(Reference {
+            name: self.name.copy()?,
+            orient: self.orient,
+            origin: self.origin,
+            columns: self.columns,
+            rows: self.rows,
+            column_step: self.column_step,
+            row_step: self.row_step,
+        })
+    }
+}
+
 impl Element {
     /// The same element, in memory of its own. An error is want of memory.
     pub fn copy(&self) -> Result<Element, AllocError>
@@ -69,6 +105,7 @@ impl Element {
         match self {
             Element::Boundary(boundary) => Ok(Element::Boundary(boundary.copy()?)),
             Element::Path(path) => Ok(Element::Path(path.copy()?)),
+            Element::Reference(reference) => Ok(Element::Reference(reference.copy()?)),
         }
     }
 }

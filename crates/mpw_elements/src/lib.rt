@@ -4,5 +4,5 @@
 mod element;
 mod points;
 
-pub use element::{Boundary, Element, Path};
+pub use element::{Boundary, Element, Path, Reference};
 pub use points::Points;

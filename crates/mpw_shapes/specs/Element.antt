@@ -1,5 +1,5 @@
 -- The unit squares of an element.
-use Rattle.std.specs.Prelude.{Bool}
+use Rattle.std.specs.Prelude.{Bool, false}
 use Rattle.mpw_geom.specs.Plane.{Square}
 use Rattle.mpw_elements.specs.declared.element.Element.{Element}
 use Rattle.mpw_elements.specs.declared.element.Element.TheVariants as elements
@@ -10,3 +10,4 @@ use Rattle.mpw_shapes.specs.Path.{path_has}
 abbrev pub element_has : Element → Square → Bool
 element_has (elements.Boundary b) s = boundary_has b.points s
 element_has (elements.Path p) s = path_has p s
+element_has (elements.Reference r) s = false

@@ -14,7 +14,7 @@ use std::alloc::{AllocError, Global};
 /// Rectangles whose union is the element's set of unit squares, in nm. They may overlap, and each
 /// has area. An error is want of memory.
 ///
-/// A path of n points gives at most n - 1 rectangles and takes O(n). For a boundary see the module
+/// A reference has none. A path of n points gives at most n - 1 rectangles and takes O(n). For a boundary see the module
 /// documentation: O(n log n) and, for each band, the edges that cross it.
 pub fn rectangles(alloc: Global, element: &Element) -> Result<Vec<Box2>, AllocError>
     requires { IsElement element.now }
@@ -24,5 +24,6 @@ pub fn rectangles(alloc: Global, element: &Element) -> Result<Vec<Box2>, AllocEr
     match element {
         Element::Boundary(boundary) => boundary_rectangles(alloc, boundary.points.as_slice()),
         Element::Path(path) => path_rectangles(alloc, path),
+        Element::Reference(_) => Ok(Vec::new(alloc)),
     }
 }

@@ -1,0 +1,15 @@
+use Rattle.std.proofs.Common.{◌+◌, ◌*◌, ◌^◌, ◌-◌, sym, ◌∙◌, arith}
+use Rattle.mpw_real8.proofs.Near.{found, goes_on, none_left}
+use Rattle.mpw_real8.proofs.real8.nearest.Goals as goal
+
+pub returns-then-is_near : goal.returns-then-is_near
+returns-then-is_near c =
+    sym (found (c.args.mantissa * 16 ^ c.args.exponent) c.loop-number.number (1001 - c.loop-number.number) (omega arith) (sym c.is_near.ensures ∙ c.if-is_near.true)) ∙ c.loop-number.invariant
+
+pub loop-number-preserved : goal.loop-number-preserved
+loop-number-preserved c =
+    sym (goes_on (c.args.mantissa * 16 ^ c.args.exponent) c.loop-number.number (1001 - c.loop-number.number) (1001 - (c.loop-number.number + 1)) (omega arith) (sym c.is_near.ensures ∙ c.if-is_near.false)) ∙ c.loop-number.invariant
+
+pub returns : goal.returns
+returns c =
+    sym (none_left (c.args.mantissa * 16 ^ c.args.exponent) c.loop-number.number (1001 - c.loop-number.number) (omega arith)) ∙ c.loop-number.invariant

@@ -1,0 +1,73 @@
+//! A reader that goes through a text record by record.
+//!
+//! To contracts it is the list of what `next` still gives: the records in order, and behind them the
+//! fault, if there is one.
+
+ghost use Rattle.std.specs.Prelude.{◌≡◌, [], ◌∷◌, IfSome, IfNone};
+ghost use Rattle.mpw_records.specs.Records.{outcomes_of, seen};
+
+use crate::fault::ReadFault;
+use crate::kind;
+use crate::record::{Record, record_at};
+use std::marker::Model;
+
+/// The records of a text that are still to come.
+#[derive(Drop)]
+pub struct Records<'a> {
+    bytes: &'a [u8],
+    offset: usize,
+    ended: bool,
+}
+
+impl<'a> Model for Records<'a> {
+    ghost use Rattle.std.specs.Prelude.{◌≤◌, List, [], Result, length, if◌then◌else◌};
+    ghost use Rattle.mpw_records.specs.declared.fault.ReadFault.{ReadFault};
+    ghost use Rattle.mpw_records.specs.Records.{RawRecord, outcomes_from};
+
+    ghost Value = { List (Result RawRecord ReadFault) };
+
+    ghost view = { λ a. if a.ended then [] else outcomes_from a.bytes.now a.offset };
+
+    ghost invariant = { λ a. a.offset ≤ length a.bytes.now };
+}
+
+impl<'a> Records<'a> {
+    /// The records of a text, from its front. Takes no memory.
+    pub fn new(bytes: &'a [u8]) -> Records<'a>
+        ensures { result ≡ outcomes_of bytes.now }
+    {
+        Records {
+            bytes,
+            offset: 0,
+            ended: false,
+        }
+    }
+
+    /// The next record, or the fault in its place. There is none behind ENDLIB and behind a fault.
+    /// It takes no memory, and looks at six bytes at most.
+    pub fn next(&mut self) -> Option<Result<Record<'a>, ReadFault>>
+        ensures some { IfSome result (λ outcome. self.old ≡ seen outcome ∷ self.new) }
+        ensures none { IfNone result (self.old ≡ []) }
+        ensures ended { IfNone result (self.new ≡ []) }
+    {
+        if self.ended {
+            return None;
+        }
+        let outcome = record_at(self.bytes, self.offset);
+        match outcome {
+            Ok(record) => {
+                self.offset += 4 + record.bytes.len();
+                self.ended = record.kind == kind::ENDLIB;
+            }
+            Err(_) => self.ended = true,
+        }
+        Some(outcome)
+    }
+
+    /// Gives nothing from now on.
+    pub fn stop(&mut self)
+        ensures { self.new ≡ [] }
+    {
+        self.ended = true;
+    }
+}
