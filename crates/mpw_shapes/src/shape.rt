@@ -16,6 +16,7 @@ use std::alloc::{AllocError, Global};
 ///
 /// A reference has none. A path of n points gives at most n - 1 rectangles and takes O(n). For a boundary see the module
 /// documentation: O(n log n) and, for each band, the edges that cross it.
+#[tactic(auto, unfolding(mpw_geom::specs::Plane::any_has_square))]
 pub fn rectangles(alloc: Global, element: &Element) -> Result<Vec<Box2>, AllocError>
     requires { IsElement element.now }
     ensures squares { IfOk result (λ boxes. (s : Square) → any_has_square boxes.items s ≡ element_has element.now s) }

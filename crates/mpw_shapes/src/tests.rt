@@ -173,14 +173,25 @@ fn a_staircase_gives_a_box_a_step(rt: HostRuntime) -> Result<(), Fail> {
 
 const METAL: Layer = Layer { layer: 1, datatype: 0 };
 
-/// The boxes of a path of width 10, each as its four coordinates.
-fn path_boxes<const N: usize>(alloc: Global, begin: i64, end: i64, places: [(i64, i64); N]) -> Result<Vec<Box2>, Fail> {
-    let path = Path {
+fn wire(points: Vec<Point>, begin: i64, end: i64) -> Path {
+    Path {
         layer: METAL,
         width: 10,
         begin,
         end,
-        points: Points::from_vec(corners(alloc, places)?),
-    };
-    Ok(crate::path::path_rectangles(alloc, &path)?)
+        points: Points::from_vec(points),
+    }
+}
+
+fn span(x0: i64, y0: i64, x1: i64, y1: i64) -> Box2 {
+    Box2 { x0, y0, x1, y1 }
+}
+
+#[test]
+#[tactic(auto, unfolding(mpw_elements::specs::Element::closed))]
+fn an_angle_is_filled_at_the_inner_point(rt: HostRuntime) -> Result<(), Fail> {
+    let path = wire(corners(rt.alloc(), [(0, 0), (100, 0), (100, 50)])?, 0, 0);
+    let boxes = path_rectangles(rt.alloc(), &path)?;
+    assert_eq!(rt; boxes.as_slice(), [span(0, -5, 105, 5), span(95, -5, 105, 50)].as_slice());
+    Ok(())
 }
