@@ -110,11 +110,11 @@ pub not_rising : (s : Square) (p q : Point) → q.y ≤ℤ p.y → rises_across 
 unfolding rises_across
 not_rising s p q h =
     false_from_ne_true (int_le p.x s.column && (int_le p.y s.row && int_lt s.row q.y)) (λ t.
-      let a = and_parts (int_le p.x s.column) (int_le p.y s.row && int_lt s.row q.y) t in
-      let b = and_parts (int_le p.y s.row) (int_lt s.row q.y) a.1 in
-      let u = le_from_test p.y s.row b.0 in
-      let v = lt_from_test s.row q.y b.1 in
-      omega (arith, ints))
+    let a = and_parts (int_le p.x s.column) (int_le p.y s.row && int_lt s.row q.y) t in
+    let b = and_parts (int_le p.y s.row) (int_lt s.row q.y) a.1 in
+    let u = le_from_test p.y s.row b.0 in
+    let v = lt_from_test s.row q.y b.1 in
+    omega (arith, ints))
 
 and_nothing : (b : Bool) → (b && false) ≡ false
 and_nothing true = refl

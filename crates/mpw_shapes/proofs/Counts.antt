@@ -26,8 +26,8 @@ count_by_next p xs k d h = sum_by_more (λ x. cond (p x) 1 0) xs k d h
 pub cases_lt_z : (a b : ℤ) → (a <ℤ b) ⊎ (b ≤ℤ a)
 cases_lt_z a b =
     elim (int_lt a b) as (λ t. (int_lt a b ≡ t) → (a <ℤ b) ⊎ (b ≤ℤ a)) [
-      true ↦ λ h. inl (lt_from_test a b h)
-    | false ↦ λ h. inr (le_from_false a b h)
+      | true ↦ λ h. inl (lt_from_test a b h)
+      | false ↦ λ h. inr (le_from_false a b h)
     ] refl
   where
     le_from_false : (a b : ℤ) → int_lt a b ≡ false → b ≤ℤ a
@@ -38,16 +38,16 @@ pub crosses_alike : (y0 y1 row : ℤ) (e : Edge) → IsClear y0 y1 e → y0 ≤�
 crosses_alike y0 y1 row e clear u v =
     same_tests (int_le e.low row && int_lt row e.high) (int_le e.low y0 && int_le y1 e.high)
     (λ h.
-      let p = and_parts (int_le e.low row) (int_lt row e.high) h in
-      let a = le_from_test e.low row p.0 in
-      let b = lt_from_test row e.high p.1 in
-      and_from (int_le e.low y0) (int_le y1 e.high)
-      (test_from_le e.low y0 (elim clear.low [ inl x ↦ x | inr x ↦ absurd (omega (arith, ints)) ]))
-      (test_from_le y1 e.high (elim clear.high [ inl x ↦ absurd (omega (arith, ints)) | inr x ↦ x ])))
+    let p = and_parts (int_le e.low row) (int_lt row e.high) h in
+    let a = le_from_test e.low row p.0 in
+    let b = lt_from_test row e.high p.1 in
+    and_from (int_le e.low y0) (int_le y1 e.high)
+    (test_from_le e.low y0 (elim clear.low [ inl x ↦ x | inr x ↦ absurd (omega (arith, ints)) ]))
+    (test_from_le y1 e.high (elim clear.high [ inl x ↦ absurd (omega (arith, ints)) | inr x ↦ x ])))
     (λ h.
-      let p = and_parts (int_le e.low y0) (int_le y1 e.high) h in
-      let a = le_from_test e.low y0 p.0 in
-      let b = le_from_test y1 e.high p.1 in
-      and_from (int_le e.low row) (int_lt row e.high)
-      (test_from_le e.low row (omega (arith, ints)))
-      (test_from_lt row e.high (omega (arith, ints))))
+    let p = and_parts (int_le e.low y0) (int_le y1 e.high) h in
+    let a = le_from_test e.low y0 p.0 in
+    let b = le_from_test y1 e.high p.1 in
+    and_from (int_le e.low row) (int_lt row e.high)
+    (test_from_le e.low row (omega (arith, ints)))
+    (test_from_lt row e.high (omega (arith, ints))))

@@ -26,8 +26,8 @@ count_by-filter p q f [] = refl
 count_by-filter {X} p q f (x ∷ xs) =
     let rest = count_by-filter p q f xs in
     elim (q x) as (λ t. (q x ≡ t) → count_by p (cond t (x ∷ filter q xs) (filter q xs)) ≡ count_by p (x ∷ xs)) [
-      true ↦ λ t. sum_by-cons (λ x. cond (p x) 1 0) x (filter q xs) ∙ rw rest (sym (sum_by-cons (λ x. cond (p x) 1 0) x xs))
-    | false ↦ λ t. rest ∙ sym (sum_by-cons (λ x. cond (p x) 1 0) x xs ∙ rw (not_passed (p x) (λ h. true≢false (sym (f x h) ∙ t))) (omega arith))
+      | true ↦ λ t. sum_by-cons (λ x. cond (p x) 1 0) x (filter q xs) ∙ rw rest (sym (sum_by-cons (λ x. cond (p x) 1 0) x xs))
+      | false ↦ λ t. rest ∙ sym (sum_by-cons (λ x. cond (p x) 1 0) x xs ∙ rw (not_passed (p x) (λ h. true≢false (sym (f x h) ∙ t))) (omega arith))
     ] refl
   where
     not_passed : (b : Bool) → (b ≡ true → ⊥) → b ≡ false
@@ -90,8 +90,8 @@ pub kept_order : (q : Edge → Bool) (edges : List Edge) → AreFromLeft edges �
 kept_order q edges sorted i j d l h =
     let pairs = AllPairs-filter (λ (a b : Edge). a.x ≤ℤ b.x) q edges (λ i j d l h. sorted i j d (omega arith) h) in
     elim (cases_lt i j) [
-      inl lt ↦ pairs i j d lt h
-    | inr ge ↦ let e : i ≡ j = omega arith in rw e (omega (arith, ints))
+      | inl lt ↦ pairs i j d lt h
+      | inr ge ↦ let e : i ≡ j = omega arith in rw e (omega (arith, ints))
     ]
 
 -- the two halves of the rows
@@ -99,8 +99,8 @@ pub halves : (a b c row : ℤ) (whole below above : Bool) → a ≤ℤ b → b �
 unfolding is_between
 halves a b c row whole below above u v f g =
     elim (cases_lt_z row b) [
-      inl lt ↦ rw (f lt, test_from_lt row b lt, not_le_test b row lt, test_from_lt row c (omega (arith, ints))) (or_false (int_le a row && true && whole))
-    | inr le ↦ rw (g le, not_lt_test row b le, test_from_le b row le, test_from_le a row (omega (arith, ints)))
+      | inl lt ↦ rw (f lt, test_from_lt row b lt, not_le_test b row lt, test_from_lt row c (omega (arith, ints))) (or_false (int_le a row && true && whole))
+      | inr le ↦ rw (g le, not_lt_test row b le, test_from_le b row le, test_from_le a row (omega (arith, ints)))
     ]
   where
     or_false : (x : Bool) → (x || false) ≡ x
@@ -112,10 +112,10 @@ pub no_rows : (y0 y1 row : ℤ) (has whole : Bool) → y1 ≤ℤ y0 → has ≡ 
 unfolding is_between
 no_rows y0 y1 row has whole h =
     elim (cases_lt_z row y0) [
-      inl lt ↦ rw (not_le_test y0 row lt) (or_nothing has)
-    | inr le ↦
-      let out : y1 ≤ℤ row = omega (arith, ints) in
-      rw (not_lt_test row y1 out, test_from_le y0 row le) (or_nothing has)
+      | inl lt ↦ rw (not_le_test y0 row lt) (or_nothing has)
+      | inr le ↦
+          let out : y1 ≤ℤ row = omega (arith, ints) in
+          rw (not_lt_test row y1 out, test_from_le y0 row le) (or_nothing has)
     ]
   where
     or_nothing : (x : Bool) → x ≡ (x || false)

@@ -5,6 +5,7 @@ pub mod Counts
 pub mod Halves
 pub mod Laid
 pub mod Lists
+pub mod NearLemmas
 pub mod Order
 pub mod Swept
 pub mod Whole

@@ -26,8 +26,8 @@ any_push boxes b s = list_any-append (λ b. has_square b s) boxes (b ∷ []) ∙
 pub empty_box : (b : Box2) (s : Square) → ((b.x1 ≤ℤ b.x0) ⊎ (b.y1 ≤ℤ b.y0)) → has_square b s ≡ false
 empty_box b s e =
     false_from_ne_true (has_square b s) (λ h.
-      let i = SquareIn-from_test b s h in
-      elim e [ inl x ↦ omega (arith, ints, i.left, i.right) | inr y ↦ omega (arith, ints, i.bottom, i.top) ])
+    let i = SquareIn-from_test b s h in
+    elim e [ inl x ↦ omega (arith, ints, i.left, i.right) | inr y ↦ omega (arith, ints, i.bottom, i.top) ])
 
 pub any_push_empty : (boxes : List Box2) (b : Box2) (s : Square) → ((b.x1 ≤ℤ b.x0) ⊎ (b.y1 ≤ℤ b.y0)) → any_has_square boxes s ≡ (any_has_square boxes s || has_square b s)
 any_push_empty boxes b s e = or_false (any_has_square boxes s) ∙ rw (empty_box b s e)
@@ -39,20 +39,20 @@ joined_boxes lower upper both s a b e f g is =
     ap (λ (x : Box2). has_square x s) is
     ∙ same_tests (has_square whole s) (has_square upper s || has_square lower s)
     (λ h.
-      let i = SquareIn-from_test whole s h in
-      elim (cases_lt_z s.row lower.y1) [
-        inl below ↦ or_right (has_square upper s) (has_square lower s) (test_from_SquareIn lower s (record { left = omega (arith, ints, i.left); right = omega (arith, ints, i.right); bottom = i.bottom; top = below }))
+    let i = SquareIn-from_test whole s h in
+    elim (cases_lt_z s.row lower.y1) [
+      | inl below ↦ or_right (has_square upper s) (has_square lower s) (test_from_SquareIn lower s (record { left = omega (arith, ints, i.left); right = omega (arith, ints, i.right); bottom = i.bottom; top = below }))
       | inr above ↦ or_left (has_square upper s) (has_square lower s) (test_from_SquareIn upper s (record { left = i.left; right = i.right; bottom = omega (arith, ints, g); top = i.top }))
-      ])
+    ])
     (λ h.
-      elim (or_cases (has_square upper s) (has_square lower s) h) [
-        inl u ↦
-        let i = SquareIn-from_test upper s u in
-        test_from_SquareIn whole s (record { left = i.left; right = i.right; bottom = omega (arith, ints, i.bottom, a.height, g); top = i.top })
+    elim (or_cases (has_square upper s) (has_square lower s) h) [
+      | inl u ↦
+          let i = SquareIn-from_test upper s u in
+          test_from_SquareIn whole s (record { left = i.left; right = i.right; bottom = omega (arith, ints, i.bottom, a.height, g); top = i.top })
       | inr l ↦
-        let i = SquareIn-from_test lower s l in
-        test_from_SquareIn whole s (record { left = omega (arith, ints, i.left); right = omega (arith, ints, i.right); bottom = i.bottom; top = omega (arith, ints, i.top, b.height, g) })
-      ])
+          let i = SquareIn-from_test lower s l in
+          test_from_SquareIn whole s (record { left = omega (arith, ints, i.left); right = omega (arith, ints, i.right); bottom = i.bottom; top = omega (arith, ints, i.top, b.height, g) })
+    ])
 
 pub joined_area : (lower upper both : Box2) → HasArea lower → HasArea upper → lower.y1 ≡ upper.y0 → both ≡ record { x0 = upper.x0; y0 = lower.y0; x1 = upper.x1; y1 = upper.y1 } → HasArea both
 joined_area lower upper both a b g is =

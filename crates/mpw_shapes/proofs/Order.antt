@@ -16,8 +16,8 @@ le_from_not_lt a b h = grind (arith, ints)
 le_from_cmp : (a b : ℤ) → is_lt (int_cmp a b) ≡ false → b ≤ℤ a
 le_from_cmp a b h =
     elim (int_lt a b) as (λ t. (int_lt a b ≡ t) → b ≤ℤ a) [
-      true ↦ λ t. absurd (true≢false (rw t at h))
-    | false ↦ λ t. le_from_not_lt a b t
+      | true ↦ λ t. absurd (true≢false (rw t at h))
+      | false ↦ λ t. le_from_not_lt a b t
     ] refl
 
 pub from_left_from_sorted : (edges : List Edge) → IsSortedByKey (λ (e : Edge). e.x) int_cmp edges → AreFromLeft edges

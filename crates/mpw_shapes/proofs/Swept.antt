@@ -39,11 +39,11 @@ pub record Swept (edges : List Edge) (y0 y1 : ℤ) (k : ℕ) (ups downs : ℕ) (
 at_edge : (edges : List Edge) (row : ℤ) (k : ℕ) (d : Edge) (c : ℤ) → AreFromLeft edges → k < length edges → (get_or edges k d).x ≤ℤ c → (p : ℤ → Edge → Bool) (q : Square → Edge → Bool) → ((e : Edge) → e.x ≤ℤ c → q (at c row) e ≡ p row e) → (n : ℕ) → n ≤ k + 1 → count_by (q (at c row)) (take n edges) ≡ count_by (p row) (take n edges)
 at_edge edges row k d c sorted h le p q agree n nk =
     count_by_agree (q (at c row)) (p row) (take n edges) (λ i e l.
-      let m : i < n = omega (arith, length-take n edges) in
-      let o : i < length edges = omega (arith, length-take n edges) in
-      let same = get_or-take n edges i e m ∙ get_or_default edges i e d o in
-      let le' : (get_or edges i d).x ≤ℤ c = omega (arith, ints, sorted i k d (omega arith) h) in
-      rw same (agree (get_or edges i d) le'))
+    let m : i < n = omega (arith, length-take n edges) in
+    let o : i < length edges = omega (arith, length-take n edges) in
+    let same = get_or-take n edges i e m ∙ get_or_default edges i e d o in
+    let le' : (get_or edges i d).x ≤ℤ c = omega (arith, ints, sorted i k d (omega arith) h) in
+    rw same (agree (get_or edges i d) le'))
 
 pub rises_left_at : (s : Square) (e : Edge) → e.x ≤ℤ s.column → rises_left s e ≡ rises_in s.row e
 unfolding rises_left
@@ -169,19 +169,19 @@ module _ (edges : List Edge) (y0 y1 : ℤ) (k : ℕ) (d : Edge) (ups downs : ℕ
   next_inside c n le =
       let p = next_passes c in
       elim (cases_lt_z c (get_or edges k d).x) [
-        inr right ↦ rw (p.up' right, p.down' right, ne_eqb ups' downs' n)
-      | inl left ↦
-        elim (cases_eq ups downs) [
-          inl e ↦ absurd (let f = next_opening e in omega (arith, ints))
-        | inr m ↦ rw (p.left_up left, p.left_down left) (w.inside c m (rw (next_staying m) at le))
-        ]
+        | inr right ↦ rw (p.up' right, p.down' right, ne_eqb ups' downs' n)
+        | inl left ↦
+            elim (cases_eq ups downs) [
+              | inl e ↦ absurd (let f = next_opening e in omega (arith, ints))
+              | inr m ↦ rw (p.left_up left, p.left_down left) (w.inside c m (rw (next_staying m) at le))
+            ]
       ]
 
   next_begun : (m : ℕ) (e : Edge) → k + 1 ≤ m → m < length edges → start' ≤ℤ (get_or edges m e).x
   next_begun m e le lt =
       elim (cases_eq ups downs) [
-        inl same ↦ rw (next_opening same) (rw (get_or_default edges k d e h) (sorted k m e (omega arith) lt))
-      | inr n ↦ rw (next_staying n) (w.begun m e n (omega arith) lt)
+        | inl same ↦ rw (next_opening same) (rw (get_or_default edges k d e h) (sorted k m e (omega arith) lt))
+        | inr n ↦ rw (next_staying n) (w.begun m e n (omega arith) lt)
       ]
 
   pub swept_next : ups' ≢ downs' → Swept edges y0 y1 (k + 1) ups' downs' start' boxes
@@ -191,8 +191,8 @@ module _ (edges : List Edge) (y0 y1 : ℤ) (k : ℕ) (d : Edge) (ups downs : ℕ
     few = next_few;
     squares = λ s.
         elim (cases_eq ups downs) [
-          inl same ↦ w.squares s ∙ ap (λ (b : Bool). is_between y0 y1 s.row && b) (sym (rw (next_opening same) (filled_opening _ _ _ _ _ _ _ _ _ _ start (next_passes s.column) same n)))
-        | inr m ↦ w.squares s ∙ ap (λ (b : Bool). is_between y0 y1 s.row && b) (sym (rw (next_staying m) (filled_staying _ _ _ _ _ _ _ _ _ _ start (next_passes s.column) m n (w.begun k d m (omega arith) h))))
+          | inl same ↦ w.squares s ∙ ap (λ (b : Bool). is_between y0 y1 s.row && b) (sym (rw (next_opening same) (filled_opening _ _ _ _ _ _ _ _ _ _ start (next_passes s.column) same n)))
+          | inr m ↦ w.squares s ∙ ap (λ (b : Bool). is_between y0 y1 s.row && b) (sym (rw (next_staying m) (filled_staying _ _ _ _ _ _ _ _ _ _ start (next_passes s.column) m n (w.begun k d m (omega arith) h))))
         ];
     inside = next_inside;
     begun = λ m e _ le lt. next_begun m e le lt;
@@ -250,8 +250,8 @@ swept_all edges y0 y1 ups downs start boxes w balanced clear s =
     let down : downs ≡ count_by (falls_in y0) edges = rw whole at w.down in
     let even : ups ≡ downs = up ∙ balanced ∙ sym down in
     elim (is_between y0 y1 s.row) as (λ t. (is_between y0 y1 s.row ≡ t) → any_has_square boxes s ≡ (is_between y0 y1 s.row && not (count_by (rises_left s) edges == count_by (falls_left s) edges))) [
-      true ↦ λ t. w.squares s ∙ rw (whole, eq-eqb ups downs even, and_all (not (count_by (rises_left (at s.column y0)) edges == count_by (falls_left (at s.column y0)) edges)), alike_up edges y0 y1 s clear t, alike_down edges y0 y1 s clear t)
-    | false ↦ λ t. w.squares s ∙ rw t
+      | true ↦ λ t. w.squares s ∙ rw (whole, eq-eqb ups downs even, and_all (not (count_by (rises_left (at s.column y0)) edges == count_by (falls_left (at s.column y0)) edges)), alike_up edges y0 y1 s clear t, alike_down edges y0 y1 s clear t)
+      | false ↦ λ t. w.squares s ∙ rw t
     ] refl
 
 -- what an array of edges gives past its end

@@ -39,16 +39,16 @@ step_even : (s : Square) (p q : Point) → p.x ≤ℤ s.column → q.x ≤ℤ s.
 unfolding rises_across
 step_even s p q u v =
     elim (cases_lt_z s.row p.y) [
-      inl a ↦
-      elim (cases_lt_z s.row q.y) [
-        inl b ↦ rw (test_from_le p.x s.column u, test_from_le q.x s.column v, test_from_lt s.row p.y a, test_from_lt s.row q.y b, not_le_test p.y s.row a, not_le_test q.y s.row b)
-      | inr b ↦ rw (test_from_le p.x s.column u, test_from_le q.x s.column v, test_from_lt s.row p.y a, not_lt_test s.row q.y b, not_le_test p.y s.row a, test_from_le q.y s.row b)
-      ]
-    | inr a ↦
-      elim (cases_lt_z s.row q.y) [
-        inl b ↦ rw (test_from_le p.x s.column u, test_from_le q.x s.column v, not_lt_test s.row p.y a, test_from_lt s.row q.y b, test_from_le p.y s.row a, not_le_test q.y s.row b)
-      | inr b ↦ rw (test_from_le p.x s.column u, test_from_le q.x s.column v, not_lt_test s.row p.y a, not_lt_test s.row q.y b, test_from_le p.y s.row a, test_from_le q.y s.row b)
-      ]
+      | inl a ↦
+          elim (cases_lt_z s.row q.y) [
+            | inl b ↦ rw (test_from_le p.x s.column u, test_from_le q.x s.column v, test_from_lt s.row p.y a, test_from_lt s.row q.y b, not_le_test p.y s.row a, not_le_test q.y s.row b)
+            | inr b ↦ rw (test_from_le p.x s.column u, test_from_le q.x s.column v, test_from_lt s.row p.y a, not_lt_test s.row q.y b, not_le_test p.y s.row a, test_from_le q.y s.row b)
+          ]
+      | inr a ↦
+          elim (cases_lt_z s.row q.y) [
+            | inl b ↦ rw (test_from_le p.x s.column u, test_from_le q.x s.column v, not_lt_test s.row p.y a, test_from_lt s.row q.y b, test_from_le p.y s.row a, not_le_test q.y s.row b)
+            | inr b ↦ rw (test_from_le p.x s.column u, test_from_le q.x s.column v, not_lt_test s.row p.y a, not_lt_test s.row q.y b, test_from_le p.y s.row a, test_from_le q.y s.row b)
+          ]
     ]
 
 chain_even : (s : Square) (p : Point) (ps : List Point) → p.x ≤ℤ s.column → All (λ (q : Point). q.x ≤ℤ s.column) ps → count_steps (λ p q. rises_across s p q) (p ∷ ps) + above s.row p ≡ count_steps (λ p q. rises_across s q p) (p ∷ ps) + above s.row (last_of p ps)
@@ -90,8 +90,8 @@ row_read rows z has = get_or_default rows has.0 (pos 0) z has.1 ∙ has.2
 outside_gap : (rows : List ℤ) (k : ℕ) (z : ℤ) → AreFromBelow rows → k + 1 < length rows → Contains rows z → (z ≤ℤ get_or rows k (pos 0)) ⊎ (get_or rows (k + 1) (pos 0) ≤ℤ z)
 outside_gap rows k z sorted h has =
     elim (cases_lt k has.0) [
-      inl lt ↦ inr (rw (row_read rows z has) at (sorted (k + 1) has.0 (pos 0) (omega arith) has.1))
-    | inr ge ↦ inl (rw (row_read rows z has) at (sorted has.0 k (pos 0) ge (omega arith)))
+      | inl lt ↦ inr (rw (row_read rows z has) at (sorted (k + 1) has.0 (pos 0) (omega arith) has.1))
+      | inr ge ↦ inl (rw (row_read rows z has) at (sorted has.0 k (pos 0) ge (omega arith)))
     ]
 
 above_first : (rows : List ℤ) (z : ℤ) → AreFromBelow rows → Contains rows z → get_or rows 0 (pos 0) ≤ℤ z
@@ -123,19 +123,19 @@ uncounted_up : (s : Square) (e : Edge) → (s.row <ℤ e.low) ⊎ (e.high ≤ℤ
 unfolding rises_left rises_in
 uncounted_up s e h =
     false_from_ne_true (int_le e.x s.column && (e.is_up && (int_le e.low s.row && int_lt s.row e.high))) (λ t.
-      let a = and_parts (int_le e.low s.row) (int_lt s.row e.high) (and_parts e.is_up (int_le e.low s.row && int_lt s.row e.high) (and_parts (int_le e.x s.column) (e.is_up && (int_le e.low s.row && int_lt s.row e.high)) t).1).1 in
-      let u = le_from_test e.low s.row a.0 in
-      let v = lt_from_test s.row e.high a.1 in
-      elim h [ inl x ↦ omega (arith, ints) | inr x ↦ omega (arith, ints) ])
+    let a = and_parts (int_le e.low s.row) (int_lt s.row e.high) (and_parts e.is_up (int_le e.low s.row && int_lt s.row e.high) (and_parts (int_le e.x s.column) (e.is_up && (int_le e.low s.row && int_lt s.row e.high)) t).1).1 in
+    let u = le_from_test e.low s.row a.0 in
+    let v = lt_from_test s.row e.high a.1 in
+    elim h [ inl x ↦ omega (arith, ints) | inr x ↦ omega (arith, ints) ])
 
 uncounted_down : (s : Square) (e : Edge) → (s.row <ℤ e.low) ⊎ (e.high ≤ℤ s.row) → falls_left s e ≡ false
 unfolding falls_left falls_in
 uncounted_down s e h =
     false_from_ne_true (int_le e.x s.column && (not e.is_up && (int_le e.low s.row && int_lt s.row e.high))) (λ t.
-      let a = and_parts (int_le e.low s.row) (int_lt s.row e.high) (and_parts (not e.is_up) (int_le e.low s.row && int_lt s.row e.high) (and_parts (int_le e.x s.column) (not e.is_up && (int_le e.low s.row && int_lt s.row e.high)) t).1).1 in
-      let u = le_from_test e.low s.row a.0 in
-      let v = lt_from_test s.row e.high a.1 in
-      elim h [ inl x ↦ omega (arith, ints) | inr x ↦ omega (arith, ints) ])
+    let a = and_parts (int_le e.low s.row) (int_lt s.row e.high) (and_parts (not e.is_up) (int_le e.low s.row && int_lt s.row e.high) (and_parts (int_le e.x s.column) (not e.is_up && (int_le e.low s.row && int_lt s.row e.high)) t).1).1 in
+    let u = le_from_test e.low s.row a.0 in
+    let v = lt_from_test s.row e.high a.1 in
+    elim h [ inl x ↦ omega (arith, ints) | inr x ↦ omega (arith, ints) ])
 
 no_squares : (edges : List Edge) (s : Square) → All (λ (e : Edge). (s.row <ℤ e.low) ⊎ (e.high ≤ℤ s.row)) edges → edges_have edges s ≡ false
 unfolding edges_have
@@ -149,12 +149,12 @@ all_rows rows edges s sorted ends =
     let y0 = get_or rows 0 (pos 0) in
     let y1 = get_or rows (length rows - 1) (pos 0) in
     elim (cases_lt_z s.row y0) [
-      inl lt ↦ rw (not_le_test y0 s.row lt, no_squares edges s (λ i d l. inl (let a = above_first rows (get_or edges i d).low sorted (ends i d l).0 in omega (arith, ints))))
-    | inr le ↦
-      elim (cases_lt_z s.row y1) [
-        inl lt ↦ rw (test_from_le y0 s.row le, test_from_lt s.row y1 lt)
-      | inr ge ↦ rw (test_from_le y0 s.row le, not_lt_test s.row y1 ge, no_squares edges s (λ i d l. inr (let a = below_last rows (get_or edges i d).high sorted (ends i d l).1 in omega (arith, ints))))
-      ]
+      | inl lt ↦ rw (not_le_test y0 s.row lt, no_squares edges s (λ i d l. inl (let a = above_first rows (get_or edges i d).low sorted (ends i d l).0 in omega (arith, ints))))
+      | inr le ↦
+          elim (cases_lt_z s.row y1) [
+            | inl lt ↦ rw (test_from_le y0 s.row le, test_from_lt s.row y1 lt)
+            | inr ge ↦ rw (test_from_le y0 s.row le, not_lt_test s.row y1 ge, no_squares edges s (λ i d l. inr (let a = below_last rows (get_or edges i d).high sorted (ends i d l).1 in omega (arith, ints))))
+          ]
     ]
 
 -- without rows there are no edges

@@ -1,5 +1,6 @@
 pub mod Boundary
 pub mod Edges
 pub mod Element
+pub mod Near
 pub mod Path
 pub mod Stacks

@@ -9,14 +9,14 @@ use Rattle.mpw_elements.specs.declared.element.Path.{Path}
 -- the segment from p to q, `before` longer at p and `behind` longer at q, with half the width on each side
 unfoldable pub wire_box : ℤ → ℤ → ℤ → Point → Point → Box2
 wire_box half before behind p q =
-  if int_eq p.y q.y then
+    if int_eq p.y q.y then
     (if int_lt p.x q.x
-     then record { x0 = p.x -ℤ before; y0 = p.y -ℤ half; x1 = q.x +ℤ behind; y1 = p.y +ℤ half }
-     else record { x0 = q.x -ℤ behind; y0 = p.y -ℤ half; x1 = p.x +ℤ before; y1 = p.y +ℤ half })
-  else
+    then record { x0 = p.x -ℤ before; y0 = p.y -ℤ half; x1 = q.x +ℤ behind; y1 = p.y +ℤ half }
+    else record { x0 = q.x -ℤ behind; y0 = p.y -ℤ half; x1 = p.x +ℤ before; y1 = p.y +ℤ half })
+    else
     (if int_lt p.y q.y
-     then record { x0 = p.x -ℤ half; y0 = p.y -ℤ before; x1 = p.x +ℤ half; y1 = q.y +ℤ behind }
-     else record { x0 = p.x -ℤ half; y0 = q.y -ℤ behind; x1 = p.x +ℤ half; y1 = p.y +ℤ before })
+    then record { x0 = p.x -ℤ half; y0 = p.y -ℤ before; x1 = p.x +ℤ half; y1 = q.y +ℤ behind }
+    else record { x0 = p.x -ℤ half; y0 = q.y -ℤ behind; x1 = p.x +ℤ half; y1 = p.y +ℤ before })
 
 -- the boxes of a centre line: half the width longer at inner points, `before` at the first point and `end` at the last
 unfoldable pub wire_boxes : ℤ → ℤ → ℤ → List Point → List Box2

@@ -86,7 +86,11 @@ impl Crossing {
 
 /// The boxes of the band's squares round which the edges wind, from left to right. Takes time by
 /// the number of edges.
-pub(crate) fn boxes_of_band(alloc: Global, edges: &[Edge], band: Band) -> Result<Vec<Box2>, AllocError>
+pub(crate) fn boxes_of_band(
+    alloc: Global,
+    edges: &[Edge],
+    band: Band,
+) -> Result<Vec<Box2>, AllocError>
     requires from_left { AreFromLeft edges.now }
     requires clear { All (IsClear band.low band.high) edges.now }
     requires balanced { IsBalanced edges.now band.low }

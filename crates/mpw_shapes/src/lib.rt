@@ -15,10 +15,8 @@ mod boxes;
 mod edge;
 mod path;
 mod shape;
-
 mod stack;
 mod sweep;
-
 #[cfg(test)]
 mod tests;
 

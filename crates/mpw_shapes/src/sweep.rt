@@ -12,7 +12,12 @@ use crate::stack::Stack;
 use std::alloc::{AllocError, Global};
 
 /// The edges that begin below the row.
-fn edges_below(alloc: Global, edges: &[Edge], rows: &[i64], at: usize) -> Result<Vec<Edge>, AllocError>
+fn edges_below(
+    alloc: Global,
+    edges: &[Edge],
+    rows: &[i64],
+    at: usize,
+) -> Result<Vec<Edge>, AllocError>
     requires { at < length rows.now }
     ensures { IfOk result (λ below. below.items ≡ filter (λ e. int_lt e.low (slice_index_or rows.now at (pos 0))) edges.now) }
 {
@@ -25,7 +30,12 @@ fn edges_below(alloc: Global, edges: &[Edge], rows: &[i64], at: usize) -> Result
 }
 
 /// The edges that end above the row.
-fn edges_above(alloc: Global, edges: &[Edge], rows: &[i64], at: usize) -> Result<Vec<Edge>, AllocError>
+fn edges_above(
+    alloc: Global,
+    edges: &[Edge],
+    rows: &[i64],
+    at: usize,
+) -> Result<Vec<Edge>, AllocError>
     requires { at < length rows.now }
     ensures { IfOk result (λ above. above.items ≡ filter (λ e. int_lt (slice_index_or rows.now at (pos 0)) e.high) edges.now) }
 {
@@ -55,7 +65,14 @@ fn add_band(alloc: Global, edges: &[Edge], band: Band, stack: &mut Stack) -> Res
 /// Puts on the stack the boxes of the rows between the places `from` and `to`. Edges that end
 /// outside a half of the rows are left out of it, so that this takes O(n log n) for n edges, and
 /// for each band the number of edges that cross it.
-fn sweep(alloc: Global, edges: &[Edge], rows: &[i64], from: usize, to: usize, stack: &mut Stack) -> Result<(), AllocError>
+fn sweep(
+    alloc: Global,
+    edges: &[Edge],
+    rows: &[i64],
+    from: usize,
+    to: usize,
+    stack: &mut Stack,
+) -> Result<(), AllocError>
     requires in_order { from ≤ to }
     requires in_range { to < length rows.now }
     requires from_left { AreFromLeft edges.now }
@@ -81,7 +98,12 @@ fn sweep(alloc: Global, edges: &[Edge], rows: &[i64], from: usize, to: usize, st
 }
 
 /// Puts on the stack the boxes of all the squares round which the edges wind.
-pub(crate) fn sweep_all(alloc: Global, edges: &[Edge], rows: &[i64], stack: &mut Stack) -> Result<(), AllocError>
+pub(crate) fn sweep_all(
+    alloc: Global,
+    edges: &[Edge],
+    rows: &[i64],
+    stack: &mut Stack,
+) -> Result<(), AllocError>
     requires from_left { AreFromLeft edges.now }
     requires from_below { AreFromBelow rows.now }
     requires ends { All (HasEndsAmong rows.now) edges.now }

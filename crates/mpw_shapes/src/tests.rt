@@ -1,8 +1,15 @@
+//! Worked examples, random boundaries against a grid, and the number of boxes.
+
+ghost use Rattle.std.specs.Prelude.{◌≤◌, IsTrue, length};
+ghost use Rattle.std.specs.List.{list_all};
+ghost use Rattle.mpw_elements.specs.Element.{IsWithinReach, each_step, is_segment};
+ghost use Rattle.mpw_shapes.specs.Near.{is_near};
+
 use super::*;
 use crate::boundary::boundary_rectangles;
-use mpw_elements::{Boundary, Element, Path, Points};
+use mpw_elements::{Element, Path, Points};
 use mpw_geom::{Box2, Layer, Point};
-use std::alloc::Global;
+use std::alloc::{AllocError, Global};
 use std::test::Fail;
 
 fn corners<const N: usize>(alloc: Global, places: [(i64, i64); N]) -> Result<Vec<Point>, Fail> {
@@ -85,9 +92,15 @@ fn spikes_and_repeats_add_nothing(rt: HostRuntime) -> Result<(), Fail> {
     let alloc = rt.alloc();
     let square = corners(alloc, [(0, 0), (10, 0), (10, 10), (0, 10)])?;
     assert_eq!(rt; count(&boundary_rectangles(alloc, &square)?), 100);
-    let spike = corners(alloc, [(0, 0), (10, 0), (10, 10), (10, 15), (10, 10), (0, 10)])?;
+    let spike = corners(
+        alloc,
+        [(0, 0), (10, 0), (10, 10), (10, 15), (10, 10), (0, 10)],
+    )?;
     assert_eq!(rt; count(&boundary_rectangles(alloc, &spike)?), 100);
-    let repeat = corners(alloc, [(0, 0), (0, 0), (10, 0), (10, 10), (10, 10), (0, 10)])?;
+    let repeat = corners(
+        alloc,
+        [(0, 0), (0, 0), (10, 0), (10, 10), (10, 10), (0, 10)],
+    )?;
     assert_eq!(rt; count(&boundary_rectangles(alloc, &repeat)?), 100);
     let line = corners(alloc, [(0, 0), (10, 0)])?;
     assert!(rt; boundary_rectangles(alloc, &line)?.is_empty());
@@ -102,7 +115,16 @@ fn a_loop_run_twice_is_no_hole(rt: HostRuntime) -> Result<(), Fail> {
     // The same square twice round, which winds 2 times; even-odd counting would leave it out.
     let twice = corners(
         alloc,
-        [(0, 0), (10, 0), (10, 10), (0, 10), (0, 0), (10, 0), (10, 10), (0, 10)],
+        [
+            (0, 0),
+            (10, 0),
+            (10, 10),
+            (0, 10),
+            (0, 0),
+            (10, 0),
+            (10, 10),
+            (0, 10),
+        ],
     )?;
     assert_eq!(rt; count(&boundary_rectangles(alloc, &twice)?), 100);
     Ok(())
@@ -115,7 +137,9 @@ fn scribble(alloc: Global, seed: u64) -> Result<Vec<Point>, Fail> {
     let mut y = 0i64;
     points.push(Point { x: 0, y: 0 })?;
     for _ in 0..6u8 {
-        state = state.wrapping_mul(6364136223846793005).wrapping_add(1442695040888963407);
+        state = state
+            .wrapping_mul(6364136223846793005)
+            .wrapping_add(1442695040888963407);
         let x = ((state >> 40) % 8) as i64;
         points.push(Point { x, y })?;
         y = ((state >> 50) % 8) as i64;
@@ -143,11 +167,12 @@ fn random_boundaries_agree_with_a_grid(rt: HostRuntime) -> Result<(), Fail> {
 fn a_comb_gives_a_box_a_tooth(rt: HostRuntime) -> Result<(), Fail> {
     // 2,000 teeth of width 1 on a bar, each 4 corners: 8,000 corners.
     let mut points = Vec::new(rt.alloc());
-    for tooth in 0..2000i64 {
-        points.push(Point { x: 2 * tooth, y: 0 })?;
-        points.push(Point { x: 2 * tooth, y: 10 })?;
-        points.push(Point { x: 2 * tooth + 1, y: 10 })?;
-        points.push(Point { x: 2 * tooth + 1, y: 0 })?;
+    for tooth in 0..2000u16 {
+        let x = 2 * i64::from(tooth);
+        points.push(Point { x, y: 0 })?;
+        points.push(Point { x, y: 10 })?;
+        points.push(Point { x: x + 1, y: 10 })?;
+        points.push(Point { x: x + 1, y: 0 })?;
     }
     points.push(Point { x: 4000, y: 0 })?;
     points.push(Point { x: 4000, y: -5 })?;
@@ -162,7 +187,10 @@ fn a_staircase_gives_a_box_a_step(rt: HostRuntime) -> Result<(), Fail> {
     let mut points = Vec::new(rt.alloc());
     for step in 0..4000i64 {
         points.push(Point { x: step, y: step })?;
-        points.push(Point { x: step + 1, y: step })?;
+        points.push(Point {
+            x: step + 1,
+            y: step,
+        })?;
     }
     points.push(Point { x: 4000, y: 4000 })?;
     points.push(Point { x: 0, y: 4000 })?;
@@ -171,27 +199,67 @@ fn a_staircase_gives_a_box_a_step(rt: HostRuntime) -> Result<(), Fail> {
     Ok(())
 }
 
-const METAL: Layer = Layer { layer: 1, datatype: 0 };
-
-fn wire(points: Vec<Point>, begin: i64, end: i64) -> Path {
-    Path {
-        layer: METAL,
-        width: 10,
-        begin,
-        end,
-        points: Points::from_vec(points),
-    }
-}
+const METAL: Layer = Layer {
+    layer: 1,
+    datatype: 0,
+};
 
 fn span(x0: i64, y0: i64, x1: i64, y1: i64) -> Box2 {
     Box2 { x0, y0, x1, y1 }
 }
 
+/// The boxes of a path of width 10.
+fn boxes_of_wire(
+    alloc: Global,
+    points: Vec<Point>,
+    begin: i64,
+    end: i64,
+) -> Result<Vec<Box2>, AllocError>
+    requires several { 2 ≤ length points.items }
+    requires segments { IsTrue (each_step is_segment points.items) }
+    requires near { IsTrue (list_all is_near points.items) }
+    requires begin { IsWithinReach begin }
+    requires end { IsWithinReach end }
+{
+    let path = Path {
+        layer: METAL,
+        width: 10,
+        begin,
+        end,
+        points: Points::from_vec(points),
+    };
+    rectangles(alloc, &Element::Path(path))
+}
+
 #[test]
-#[tactic(auto, unfolding(mpw_elements::specs::Element::closed))]
-fn an_angle_is_filled_at_the_inner_point(rt: HostRuntime) -> Result<(), Fail> {
-    let path = wire(corners(rt.alloc(), [(0, 0), (100, 0), (100, 50)])?, 0, 0);
-    let boxes = path_rectangles(rt.alloc(), &path)?;
-    assert_eq!(rt; boxes.as_slice(), [span(0, -5, 105, 5), span(95, -5, 105, 50)].as_slice());
+fn a_bend_is_filled_at_the_inner_point(rt: HostRuntime) -> Result<(), Fail> {
+    let alloc = rt.alloc();
+    let points = vec![in alloc;
+        Point { x: 0, y: 0 },
+        Point { x: 100, y: 0 },
+        Point { x: 100, y: 50 },
+    ]?;
+    let boxes = boxes_of_wire(alloc, points, 0, 0)?;
+    assert_eq!(rt;
+        boxes.as_slice(),
+        [span(0, -5, 105, 5), span(95, -5, 105, 50)].as_slice()
+    );
+    Ok(())
+}
+
+#[test]
+fn ends_are_lengthened_and_shortened(rt: HostRuntime) -> Result<(), Fail> {
+    let alloc = rt.alloc();
+    let points = vec![in alloc; Point { x: 0, y: 0 }, Point { x: 100, y: 0 }]?;
+    let boxes = boxes_of_wire(alloc, points, 5, 5)?;
+    assert_eq!(rt; boxes.as_slice(), [span(-5, -5, 105, 5)].as_slice());
+    let points = vec![in alloc; Point { x: 0, y: 0 }, Point { x: 100, y: 0 }]?;
+    let boxes = boxes_of_wire(alloc, points, 3, -20)?;
+    assert_eq!(rt; boxes.as_slice(), [span(-3, -5, 80, 5)].as_slice());
+    let points = vec![in alloc; Point { x: 0, y: 100 }, Point { x: 0, y: 0 }]?;
+    let boxes = boxes_of_wire(alloc, points, 3, -20)?;
+    assert_eq!(rt; boxes.as_slice(), [span(-5, 20, 5, 103)].as_slice());
+    let points = vec![in alloc; Point { x: 0, y: 0 }, Point { x: 10, y: 0 }]?;
+    assert!(rt; boxes_of_wire(alloc, points, -5, -5)?.is_empty());
     Ok(())
 }

@@ -15,16 +15,16 @@ loop-edge-preserved c =
     let clear = c.requires.clear k no_edge h in
     let before = c.loop-edge.invariant in
     elim c.if-is_crossed_by.branch [
-      then-is_crossed_by+then-crossing+in_ok-push_box w ↦
-      let z = crossed edges band.low band.high k no_edge _ _ _ _ _ _ clear c.requires.rows (sym w.if-is_crossed_by.true ∙ c.is_crossed_by.ensures) w.past-crossing.ensures.ups w.past-crossing.ensures.downs w.past-crossing.ensures.start in
-      let m = w.in_ok-push_box.ensures in
-      rw (w.boxes-is, w.crossing-is) (swept_closed edges band.low band.high k no_edge _ _ _ _ _ _ _ before c.requires.from_left h z _ _ w.if-crossing.true w.box_to.ensures m.squares (m.area before.area))
-    | then-is_crossed_by+else-crossing w ↦
-      let z = crossed edges band.low band.high k no_edge _ _ _ _ _ _ clear c.requires.rows (sym w.if-is_crossed_by.true ∙ c.is_crossed_by.ensures) w.past-crossing.ensures.ups w.past-crossing.ensures.downs w.past-crossing.ensures.start in
-      rw (w.boxes-is, w.crossing-is) (swept_next edges band.low band.high k no_edge _ _ _ _ _ _ _ before c.requires.from_left h z w.if-crossing.false)
-    | else-is_crossed_by w ↦
-      let t = sym w.if-is_crossed_by.false ∙ c.is_crossed_by.ensures in
-      rw (w.boxes-is, w.crossing-is) (swept_past edges band.low band.high k no_edge _ _ _ _ before h (rises_not _ _ _ clear c.requires.rows t) (falls_not _ _ _ clear c.requires.rows t))
+      | then-is_crossed_by+then-crossing+in_ok-push_box w ↦
+          let z = crossed edges band.low band.high k no_edge _ _ _ _ _ _ clear c.requires.rows (sym w.if-is_crossed_by.true ∙ c.is_crossed_by.ensures) w.past-crossing.ensures.ups w.past-crossing.ensures.downs w.past-crossing.ensures.start in
+          let m = w.in_ok-push_box.ensures in
+          rw (w.boxes-is, w.crossing-is) (swept_closed edges band.low band.high k no_edge _ _ _ _ _ _ _ before c.requires.from_left h z _ _ w.if-crossing.true w.box_to.ensures m.squares (m.area before.area))
+      | then-is_crossed_by+else-crossing w ↦
+          let z = crossed edges band.low band.high k no_edge _ _ _ _ _ _ clear c.requires.rows (sym w.if-is_crossed_by.true ∙ c.is_crossed_by.ensures) w.past-crossing.ensures.ups w.past-crossing.ensures.downs w.past-crossing.ensures.start in
+          rw (w.boxes-is, w.crossing-is) (swept_next edges band.low band.high k no_edge _ _ _ _ _ _ _ before c.requires.from_left h z w.if-crossing.false)
+      | else-is_crossed_by w ↦
+          let t = sym w.if-is_crossed_by.false ∙ c.is_crossed_by.ensures in
+          rw (w.boxes-is, w.crossing-is) (swept_past edges band.low band.high k no_edge _ _ _ _ before h (rises_not _ _ _ clear c.requires.rows t) (falls_not _ _ _ clear c.requires.rows t))
     ]
 
 pub returns-clause-squares : goal.returns-clause-squares

@@ -20,6 +20,6 @@ returns-in_ok-push-clause-area c =
 
 pub returns-else-b-clause-squares : goal.returns-else-b-clause-squares
 returns-else-b-clause-squares c = λ s. any_push_empty c.args.boxes.now.items c.args.b s (elim c.else-b.branch [
-      else-b-via-then-b+else-b-2 w ↦ inr (omega (arith, ints, w.if-b-2.false))
-    | else-b-via-else-b w ↦ inl (omega (arith, ints, w.if-b.false))
-    ])
+  | else-b-via-then-b+else-b-2 w ↦ inr (omega (arith, ints, w.if-b-2.false))
+  | else-b-via-else-b w ↦ inl (omega (arith, ints, w.if-b.false))
+])

@@ -24,8 +24,8 @@ returns-clause-squares c =
     let rest = c.loop-rest.rest.now in
     let t = c.loop-rest.invariant in
     elim c.if-rest-eq2.branch [
-      then-rest-eq2+in_ok-push_box-2 w ↦
-      λ s. rw w.boxes-is (laid_last c.args.path.now c.loop-rest.wire w.to_end_of-last.result rest _ _ _ t (omega (arith, w.if-rest-eq2.true)) w.box_along-then-rest-eq2.ensures w.to_end_of-last.ensures w.in_ok-push_box-2.ensures.squares s)
-    | else-rest-eq2 w ↦
-      λ s. rw w.boxes-is (laid_all c.args.path.now c.loop-rest.wire rest _ t (omega (arith, w.if-rest-eq2.false, c.loop-rest-test.false)) s)
+      | then-rest-eq2+in_ok-push_box-2 w ↦
+          λ s. rw w.boxes-is (laid_last c.args.path.now c.loop-rest.wire w.to_end_of-last.result rest _ _ _ t (omega (arith, w.if-rest-eq2.true)) w.box_along-then-rest-eq2.ensures w.to_end_of-last.ensures w.in_ok-push_box-2.ensures.squares s)
+      | else-rest-eq2 w ↦
+          λ s. rw w.boxes-is (laid_all c.args.path.now c.loop-rest.wire rest _ t (omega (arith, w.if-rest-eq2.false, c.loop-rest-test.false)) s)
     ]

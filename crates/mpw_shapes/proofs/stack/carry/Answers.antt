@@ -13,10 +13,10 @@ loop-lower-preserved c =
     let h = c.loop-lower-test.true in
     let m = c.continue_at.ensures in
     elim c.if-not-continue_at.branch [
-      then-not-continue_at+in_ok-push w ↦
-      rw w.done-is (carried_more lower k no_box _ _ _ _ _ _ c.continue_at.result c.loop-lower.invariant h m.squares (λ s. kept_off _ _ _ s _ w.if-not-continue_at.true w.in_ok-push.ensures.items) m.area (λ all. All-same HasArea _ _ w.in_ok-push.ensures.items (All-push HasArea _ _ all (c.requires.reaching k no_box h))))
-    | else-not-continue_at w ↦
-      rw w.done-is (carried_more lower k no_box _ _ _ _ _ _ c.continue_at.result c.loop-lower.invariant h m.squares (λ s. kept_on _ _ _ s _ w.if-not-continue_at.false refl) m.area (λ all. all))
+      | then-not-continue_at+in_ok-push w ↦
+          rw w.done-is (carried_more lower k no_box _ _ _ _ _ _ c.continue_at.result c.loop-lower.invariant h m.squares (λ s. kept_off _ _ _ s _ w.if-not-continue_at.true w.in_ok-push.ensures.items) m.area (λ all. All-same HasArea _ _ w.in_ok-push.ensures.items (All-push HasArea _ _ all (c.requires.reaching k no_box h))))
+      | else-not-continue_at w ↦
+          rw w.done-is (carried_more lower k no_box _ _ _ _ _ _ c.continue_at.result c.loop-lower.invariant h m.squares (λ s. kept_on _ _ _ s _ w.if-not-continue_at.false refl) m.area (λ all. all))
     ]
 
 pub returns-clause-squares : goal.returns-clause-squares
