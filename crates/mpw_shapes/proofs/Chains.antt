@@ -1,5 +1,5 @@
 -- Counts along a chain of points.
-use Rattle.std.proofs.Common.{◌≡◌, refl, sym, ◌∙◌, ap, ℕ, suc, ◌+◌, ◌-◌, ◌<◌, ◌≤◌, ◌≤ℤ◌, ℤ, pos, Bool, true, false, ◌&&◌, cond, arith, List, [], ◌∷◌, ◌++◌, length, get_or, take, All, Contains, count_by, map}
+use Rattle.std.proofs.Common.{◌≡◌, refl, ◌∙◌, ℕ, suc, ◌+◌, ◌-◌, ◌<◌, ◌≤ℤ◌, ℤ, pos, Bool, true, false, ◌&&◌, cond, arith, List, [], ◌∷◌, ◌++◌, length, get_or, take, All, Contains, count_by, map}
 use Rattle.std.specs.Prelude.{int_le, int_lt}
 use Rattle.std.proofs.lemmas.Int.{ints}
 use Rattle.std.proofs.lemmas.Bool.{and_parts, false_from_ne_true}

@@ -1,6 +1,6 @@
 -- One column of a band, as an edge at x is passed: U and D of the edges left of the column go up and down, of `ups`
 -- and `downs` edges so far. A prime marks what is so after the edge.
-use Rattle.std.proofs.Common.{◌≡◌, ◌≢◌, ◌⊎◌, inl, inr, refl, sym, ◌∙◌, ap, ℕ, ◌≤ℤ◌, ◌<ℤ◌, ℤ, Bool, true, false, not, ◌&&◌, ◌||◌, eqb, arith}
+use Rattle.std.proofs.Common.{◌≡◌, ◌≢◌, inl, inr, refl, ℕ, ◌≤ℤ◌, ◌<ℤ◌, ℤ, Bool, true, false, not, ◌&&◌, ◌||◌, arith}
 use Rattle.std.specs.Prelude.{int_lt, int_le, ◌==◌}
 use Rattle.std.proofs.lemmas.Int.{ints}
 use Rattle.std.proofs.lemmas.Bool.{eq-eqb, ne_eqb}

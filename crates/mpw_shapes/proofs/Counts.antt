@@ -1,14 +1,13 @@
 -- Counts of edges that cross a row.
-use Rattle.std.proofs.Common.{◌≡◌, ◌≢◌, ◌⊎◌, inl, inr, refl, sym, ◌∙◌, ap, ℕ, suc, ◌+◌, ◌<◌, ◌≤◌, ◌≤ℤ◌, ◌<ℤ◌, ℤ, Bool, true, false, not, ◌&&◌, cond, arith, List, [], ◌∷◌, length, get_or, take, All, count_by}
-use Rattle.std.specs.Prelude.{int_lt, int_le, ◌==◌}
+use Rattle.std.proofs.Common.{◌≡◌, ◌⊎◌, inl, inr, refl, sym, ◌∙◌, ℕ, ◌+◌, ◌<◌, ◌≤ℤ◌, ◌<ℤ◌, ℤ, Bool, true, false, ◌&&◌, cond, arith, List, [], ◌∷◌, length, get_or, take, All, count_by}
+use Rattle.std.specs.Prelude.{int_lt, int_le}
 use Rattle.std.proofs.lemmas.Int.{ints}
 use Rattle.std.proofs.lemmas.Bool.{and_parts, and_from}
 use Rattle.std.proofs.lemmas.List.Sums.{sum_by-cons, sum_by_more}
 use Rattle.std.proofs.lemmas.List.Elements.{All-head, All-tail}
-use Rattle.mpw_geom.specs.Plane.{Square}
 use Rattle.mpw_geom.proofs.Tests.{le_from_test, test_from_le, lt_from_test, test_from_lt, same_tests}
 use Rattle.mpw_shapes.specs.declared.edge.Edge.{Edge}
-use Rattle.mpw_shapes.specs.Edges.{rises_in, falls_in, rises_left, falls_left, IsClear, is_between}
+use Rattle.mpw_shapes.specs.Edges.{IsClear}
 
 -- two tests that agree on each element of a list count alike
 pub count_by_agree : {X : Type 0} (p q : X → Bool) (xs : List X) → All (λ x. p x ≡ q x) xs → count_by p xs ≡ count_by q xs

@@ -1,6 +1,6 @@
 -- The edges of a half of the rows.
-use Rattle.std.proofs.Common.{◌≡◌, ◌⊎◌, inl, inr, refl, sym, ◌∙◌, ap, ℕ, ◌+◌, ◌<◌, ◌≤◌, ◌≤ℤ◌, ◌<ℤ◌, ℤ, pos, Bool, true, false, not, ◌&&◌, ◌||◌, cond, arith, List, [], ◌∷◌, length, get_or, All, count_by}
-use Rattle.std.specs.Prelude.{int_lt, int_le, ◌==◌}
+use Rattle.std.proofs.Common.{◌≡◌, inl, inr, refl, sym, ◌∙◌, ap, ◌+◌, ◌≤ℤ◌, ◌<ℤ◌, ℤ, pos, Bool, true, false, not, ◌&&◌, ◌||◌, cond, arith, List, [], ◌∷◌, get_or, count_by}
+use Rattle.std.specs.Prelude.{int_lt, int_le}
 use Rattle.std.specs.List.{filter}
 use Rattle.std.proofs.lemmas.Int.{ints}
 use Rattle.std.proofs.lemmas.Bool.{and_parts, cases_lt, true≢false}

@@ -7,6 +7,8 @@ pub mod Laid
 pub mod Lists
 pub mod NearLemmas
 pub mod Order
+pub mod PlacedBoundary
+pub mod PlacedPath
 pub mod Swept
 pub mod Whole
 pub mod Wires

@@ -1,5 +1,5 @@
 -- What the sorts give.
-use Rattle.std.proofs.Common.{◌≡◌, refl, ℕ, ◌<◌, ◌≤◌, ◌≤ℤ◌, ℤ, Bool, true, false, List, length, get_or, arith}
+use Rattle.std.proofs.Common.{◌≡◌, refl, ◌≤ℤ◌, ℤ, true, false, List, get_or, arith}
 use Rattle.std.specs.Prelude.{int_lt}
 use Rattle.std.specs.Ordering.{int_cmp, is_lt}
 use Rattle.std.specs.List.Sorted.{IsSortedByKey}

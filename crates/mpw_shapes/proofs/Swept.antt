@@ -1,5 +1,5 @@
 -- What holds as the edges of a band are passed from left to right.
-use Rattle.std.proofs.Common.{◌≡◌, ◌≢◌, ◌⊎◌, inl, inr, refl, sym, ◌∙◌, ap, ℕ, suc, ◌+◌, ◌<◌, ◌≤◌, ◌≤ℤ◌, ◌<ℤ◌, ℤ, pos, Bool, true, false, not, ◌&&◌, ◌||◌, cond, arith, List, [], ◌∷◌, ◌++◌, length, get_or, take, All, count_by}
+use Rattle.std.proofs.Common.{◌≡◌, ◌≢◌, inl, inr, refl, sym, ◌∙◌, ap, ℕ, ◌+◌, ◌<◌, ◌≤◌, ◌≤ℤ◌, ◌<ℤ◌, ℤ, pos, Bool, true, false, not, ◌&&◌, ◌||◌, cond, arith, List, [], length, get_or, take, All, count_by}
 use Rattle.std.specs.Prelude.{int_lt, int_le, ◌==◌}
 use Rattle.std.proofs.lemmas.Int.{ints}
 use Rattle.std.proofs.lemmas.List.{take_all, get_or-take, get_or_default, length-take}
@@ -7,7 +7,7 @@ use Rattle.std.proofs.lemmas.Bool.{cases_eq, eq-eqb, ne_eqb, and_parts}
 use Rattle.std.proofs.lemmas.List.Elements.{All-nil}
 use Rattle.mpw_geom.specs.declared.plane.Box2.{Box2}
 use Rattle.mpw_geom.specs.Plane.{Square, HasArea, any_has_square, has_square}
-use Rattle.mpw_geom.proofs.Tests.{le_from_test, test_from_le, lt_from_test, test_from_lt, same_tests}
+use Rattle.mpw_geom.proofs.Tests.{le_from_test, test_from_le, lt_from_test}
 use Rattle.mpw_shapes.specs.declared.edge.Edge.{Edge}
 use Rattle.mpw_shapes.specs.Edges.{rises_in, falls_in, rises_left, falls_left, edges_have, AreFromLeft, IsBalanced, IsClear, is_between}
 use Rattle.mpw_shapes.proofs.Columns.{filled, not_le_test, Passes, filled_opening, filled_staying, filled_closing}

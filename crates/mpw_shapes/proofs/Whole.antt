@@ -1,5 +1,5 @@
 -- The edges of a closed boundary as a whole.
-use Rattle.std.proofs.Common.{◌≡◌, ◌⊎◌, inl, inr, refl, sym, ◌∙◌, ap, ℕ, ◌+◌, ◌-◌, ◌<◌, ◌≤◌, ◌≤ℤ◌, ◌<ℤ◌, ℤ, pos, ◌-ℤ◌, Bool, true, false, not, ◌&&◌, ◌||◌, cond, arith, List, [], ◌∷◌, ◌++◌, length, get_or, take, map, All, Contains, count_by}
+use Rattle.std.proofs.Common.{◌≡◌, ◌⊎◌, inl, inr, refl, sym, ◌∙◌, ℕ, ◌+◌, ◌-◌, ◌<◌, ◌≤ℤ◌, ◌<ℤ◌, ℤ, pos, ◌-ℤ◌, false, not, ◌&&◌, cond, arith, List, [], ◌∷◌, ◌++◌, length, get_or, All, Contains, count_by}
 use Rattle.std.specs.Prelude.{int_lt, int_le, ◌==◌}
 use Rattle.std.specs.Int.{int_max}
 use Rattle.std.specs.Ordering.{int_eq}
@@ -9,15 +9,14 @@ use Rattle.std.proofs.lemmas.Bool.{cases_lt, eqb-true, eq-eqb, false_from_ne_tru
 use Rattle.std.proofs.lemmas.Bool.Decides.{Decides-int_eq}
 use Rattle.std.proofs.lemmas.List.{get_or_default}
 use Rattle.std.proofs.lemmas.List.Sums.{sum_by-cons}
-use Rattle.std.proofs.lemmas.List.Elements.{All-nil, All-cons, All-head, All-tail, All-append, All-take, All-weaker}
-use Rattle.std.proofs.lemmas.List.Sorted.{Contains-permutation, length_permutation}
+use Rattle.std.proofs.lemmas.List.Elements.{All-nil, All-cons, All-head, All-tail, All-append, All-weaker}
+use Rattle.std.proofs.lemmas.List.Sorted.{Contains-permutation}
 use Rattle.mpw_geom.specs.declared.plane.Point.{Point}
 use Rattle.mpw_geom.specs.Plane.{Square}
 use Rattle.mpw_geom.proofs.Tests.{le_from_test, test_from_le, lt_from_test, test_from_lt, same_tests}
-use Rattle.mpw_elements.specs.Element.{closed}
 use Rattle.mpw_shapes.specs.declared.edge.Edge.{Edge}
 use Rattle.mpw_shapes.specs.Boundary.{count_steps, rises_across, upward, downward, winding, boundary_has}
-use Rattle.mpw_shapes.specs.Edges.{HasEndsAmong, rises_in, falls_in, rises_left, falls_left, edges_have, AreFromBelow, AreClear, AreBalanced, IsBalanced, IsClear, is_between}
+use Rattle.mpw_shapes.specs.Edges.{HasEndsAmong, rises_in, falls_in, rises_left, falls_left, edges_have, AreFromBelow, AreClear, IsBalanced, is_between}
 use Rattle.mpw_shapes.proofs.Chains.{last_of, last_of_push}
 use Rattle.mpw_shapes.proofs.Columns.{not_lt_test, not_le_test}
 use Rattle.mpw_shapes.proofs.Counts.{cases_lt_z, count_by_agree}
@@ -163,7 +162,7 @@ no_rows_no_edges rows edges s h ends =
     no_squares edges s (λ i d l. let t = (ends i d l).0.1 in absurd (omega (arith, h)))
 
 -- the winding number is 0 where as many edges go up as down
-winding_is : (u d : ℕ) → int_eq (pos u -ℤ pos d) (pos 0) ≡ (u == d)
+pub winding_is : (u d : ℕ) → int_eq (pos u -ℤ pos d) (pos 0) ≡ (u == d)
 winding_is u d =
     same_tests (int_eq (pos u -ℤ pos d) (pos 0)) (u == d)
     (λ h. eq-eqb u d (omega (arith, ints, (Decides-int_eq (pos u -ℤ pos d) (pos 0)).0 h)))

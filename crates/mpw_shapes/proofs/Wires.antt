@@ -1,15 +1,12 @@
 -- The boxes of a centre line.
-use Rattle.std.proofs.Common.{◌≡◌, ◌≢◌, refl, sym, ◌∙◌, ap, ◌⊎◌, inl, inr, ℕ, ◌<◌, ◌≤◌, suc, ℤ, pos, ◌+ℤ◌, ◌-ℤ◌, ◌≤ℤ◌, ◌<ℤ◌, Bool, true, false, ◌||◌, List, [], ◌∷◌, ◌++◌, length, get_or, drop, arith, All}
-use Rattle.std.specs.Prelude.{int_lt}
+use Rattle.std.proofs.Common.{◌≡◌, ◌≢◌, ℤ, ◌+ℤ◌, ◌-ℤ◌, ◌≤ℤ◌, ◌<ℤ◌, true, false}
 use Rattle.std.specs.Ordering.{int_eq}
-use Rattle.std.proofs.lemmas.Int.{ints}
 use Rattle.std.proofs.lemmas.Bool.{false_from_ne_true}
 use Rattle.std.proofs.lemmas.Bool.Decides.{Decides-int_eq}
 use Rattle.mpw_geom.specs.declared.plane.Box2.{Box2}
 use Rattle.mpw_geom.specs.declared.plane.Point.{Point}
-use Rattle.mpw_geom.specs.Plane.{Square, any_has_square, has_square}
 use Rattle.mpw_geom.proofs.Tests.{test_from_lt}
-use Rattle.mpw_shapes.specs.Path.{wire_box, wire_boxes}
+use Rattle.mpw_shapes.specs.Path.{wire_box}
 use Rattle.mpw_shapes.proofs.Columns.{not_lt_test}
 
 pub same_box : (b c : Box2) → b.x0 ≡ c.x0 → b.y0 ≡ c.y0 → b.x1 ≡ c.x1 → b.y1 ≡ c.y1 → b ≡ c

@@ -1,6 +1,5 @@
 -- Vertical edges in bands of rows.
-use Rattle.std.specs.Prelude.{◌≡◌, ℕ, ◌<◌, ◌≤◌, ◌+◌, ◌==◌, Bool, not, ◌&&◌, ◌⊎◌, ℤ, int_le, int_lt, ◌≤ℤ◌, ◌<ℤ◌, pos, List, length, slice_index_or, All, Contains, map, count_by}
-use Rattle.mpw_geom.specs.declared.plane.Point.{Point}
+use Rattle.std.specs.Prelude.{◌≡◌, ℕ, ◌<◌, ◌≤◌, ◌+◌, ◌==◌, Bool, not, ◌&&◌, ◌⊎◌, ℤ, int_le, int_lt, ◌≤ℤ◌, ◌<ℤ◌, pos, List, length, slice_index_or, All, Contains, count_by}
 use Rattle.mpw_geom.specs.Plane.{Square}
 use Rattle.mpw_shapes.specs.declared.edge.Edge.{Edge}
 

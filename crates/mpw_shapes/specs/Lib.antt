@@ -3,4 +3,5 @@ pub mod Edges
 pub mod Element
 pub mod Near
 pub mod Path
+pub mod Placed
 pub mod Stacks

@@ -20,4 +20,4 @@ mod sweep;
 #[cfg(test)]
 mod tests;
 
-pub use shape::rectangles;
+pub use shape::{rectangles, squares_are_placed};

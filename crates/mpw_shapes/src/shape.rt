@@ -4,6 +4,7 @@ ghost use Rattle.std.specs.Prelude.{◌≡◌, All, IfOk};
 ghost use Rattle.mpw_geom.specs.Plane.{Square, HasArea, any_has_square};
 ghost use Rattle.mpw_elements.specs.Element.{IsElement};
 ghost use Rattle.mpw_shapes.specs.Element.{element_has};
+ghost use Rattle.mpw_shapes.specs.Placed.{BoundarySquaresArePlaced, PathSquaresArePlaced};
 
 use crate::boundary::boundary_rectangles;
 use crate::path::path_rectangles;
@@ -28,3 +29,10 @@ pub fn rectangles(alloc: Global, element: &Element) -> Result<Vec<Box2>, AllocEr
         Element::Reference(_) => Ok(Vec::new(alloc)),
     }
 }
+
+/// A law of the definitions: a placing takes the unit squares of a boundary, and of a path, to the
+/// unit squares of the placed boundary or path, and no others.
+pub fn squares_are_placed()
+    ensures boundaries { BoundarySquaresArePlaced }
+    ensures paths { PathSquaresArePlaced }
+{}

@@ -1,5 +1,5 @@
-use Rattle.std.proofs.Common.{◌≡◌, ◌∙◌, sym, refl, ap, arith, true, false, length}
-use Rattle.mpw_shapes.proofs.Swept.{Swept, no_edge, crossed, rises_not, falls_not, swept_none, swept_past, swept_next, swept_closed, swept_all}
+use Rattle.std.proofs.Common.{◌≡◌, ◌∙◌, sym, arith, length}
+use Rattle.mpw_shapes.proofs.Swept.{no_edge, crossed, rises_not, falls_not, swept_none, swept_past, swept_next, swept_closed, swept_all}
 use Rattle.mpw_shapes.proofs.band.boxes_of_band.Goals as goal
 use Rattle.mpw_shapes.proofs.band.boxes_of_band.Goals.{then-is_crossed_by+then-crossing+in_ok-push_box, then-is_crossed_by+else-crossing, else-is_crossed_by}
 

@@ -1,4 +1,4 @@
-use Rattle.std.proofs.Common.{◌≡◌, ◌∙◌, sym, ap, Bool, false, ◌||◌, List}
+use Rattle.std.proofs.Common.{◌∙◌, ap, Bool, ◌||◌, List}
 use Rattle.mpw_shapes.specs.declared.edge.Edge.{Edge}
 use Rattle.mpw_shapes.specs.Edges.{edges_have}
 use Rattle.mpw_shapes.proofs.Chains.{heights_of}

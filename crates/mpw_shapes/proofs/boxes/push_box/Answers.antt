@@ -1,4 +1,4 @@
-use Rattle.std.proofs.Common.{◌∙◌, ap, inl, inr, rules, arith, List}
+use Rattle.std.proofs.Common.{◌∙◌, ap, inl, inr, arith, List}
 use Rattle.std.proofs.lemmas.Int.{ints}
 use Rattle.std.proofs.lemmas.List.Elements.{All-push, All-same}
 use Rattle.mpw_geom.specs.declared.plane.Box2.{Box2}

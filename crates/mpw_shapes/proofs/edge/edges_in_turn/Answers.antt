@@ -2,7 +2,7 @@ use Rattle.std.proofs.Common.{◌≡◌, refl, ◌<◌, ◌∙◌, sym, ap, leng
 use Rattle.std.proofs.lemmas.Bool.{eqb-true, eqb-false}
 use Rattle.mpw_shapes.specs.declared.edge.Edge.{Edge}
 use Rattle.mpw_shapes.specs.Edges.{rises_left, falls_left}
-use Rattle.mpw_shapes.proofs.Chains.{Taken, taken_none, taken_more, taken_up, taken_down, upward_none, downward_none}
+use Rattle.mpw_shapes.proofs.Chains.{taken_none, taken_more, taken_up, taken_down, upward_none, downward_none}
 use Rattle.mpw_shapes.proofs.edge.edges_in_turn.Goals as goal
 
 pub returns-then-is_empty-clause-up : goal.returns-then-is_empty-clause-up

@@ -1,9 +1,6 @@
-use Rattle.std.proofs.Common.{◌≡◌, ◌∙◌, sym, ap, length, drop, take, ◌-◌, ◌<◌, arith, List}
+use Rattle.std.proofs.Common.{◌≡◌, length, drop, take, ◌-◌, arith}
 use Rattle.std.proofs.lemmas.List.{take_all, length-drop}
-use Rattle.mpw_geom.specs.declared.plane.Box2.{Box2}
-use Rattle.mpw_geom.specs.declared.plane.Point.{Point}
-use Rattle.mpw_geom.specs.Plane.{any_has_square}
-use Rattle.mpw_shapes.proofs.Laid.{Laid, laid_none, laid_more, laid_last, laid_all}
+use Rattle.mpw_shapes.proofs.Laid.{laid_none, laid_more, laid_last, laid_all}
 use Rattle.mpw_shapes.proofs.path.path_rectangles.Goals as goal
 use Rattle.mpw_shapes.proofs.path.path_rectangles.Goals.{then-rest-eq2+in_ok-push_box-2, else-rest-eq2}
 

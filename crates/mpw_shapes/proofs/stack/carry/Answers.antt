@@ -1,8 +1,7 @@
-use Rattle.std.proofs.Common.{◌≡◌, refl, ap, length, List, arith}
+use Rattle.std.proofs.Common.{◌≡◌, refl, length, arith}
 use Rattle.std.proofs.lemmas.List.Elements.{All-push, All-same}
-use Rattle.mpw_geom.specs.declared.plane.Box2.{Box2}
 use Rattle.mpw_geom.specs.Plane.{HasArea}
-use Rattle.mpw_shapes.proofs.Carried.{Carried, carried_more, carried_all, kept_off, kept_on, no_box}
+use Rattle.mpw_shapes.proofs.Carried.{carried_more, carried_all, kept_off, kept_on, no_box}
 use Rattle.mpw_shapes.proofs.stack.carry.Goals as goal
 use Rattle.mpw_shapes.proofs.stack.carry.Goals.{then-not-continue_at+in_ok-push, else-not-continue_at}
 

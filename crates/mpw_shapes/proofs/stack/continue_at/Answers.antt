@@ -1,6 +1,5 @@
-use Rattle.std.proofs.Common.{length, ◌<◌, ◌≡◌, sym, ◌∙◌, get_or, arith}
+use Rattle.std.proofs.Common.{length, ◌<◌, ◌≡◌, sym, get_or, arith}
 use Rattle.std.proofs.lemmas.List.Elements.{All-set}
-use Rattle.mpw_geom.specs.declared.plane.Box2.{Box2}
 use Rattle.mpw_geom.specs.Plane.{HasArea}
 use Rattle.mpw_shapes.proofs.Lists.{any-set, area_at, joined_boxes, joined_area}
 use Rattle.mpw_shapes.proofs.stack.continue_at.Goals as goal

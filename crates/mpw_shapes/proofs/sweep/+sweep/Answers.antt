@@ -1,7 +1,6 @@
-use Rattle.std.proofs.Common.{◌≡◌, ◌∙◌, sym, ap, subst, ◌≤ℤ◌, ◌≤◌, ◌<◌, ◌+◌, ◌-◌, ◌/◌, ℕ, ℤ, List, length, arith, rules, pos, get_or}
+use Rattle.std.proofs.Common.{◌≡◌, ◌∙◌, sym, ap, subst, ◌≤ℤ◌, ◌+◌, ◌-◌, ◌/◌, ℕ, List, arith, rules, pos, get_or}
 use Rattle.std.specs.Prelude.{int_lt}
 use Rattle.std.specs.List.{filter}
-use Rattle.std.proofs.lemmas.Int.{ints}
 use Rattle.mpw_shapes.specs.declared.edge.Edge.{Edge}
 use Rattle.mpw_shapes.specs.Edges.{AreFromLeft, AreClear, AreBalanced, edges_have}
 use Rattle.mpw_shapes.proofs.Halves.{no_rows, both_halves, below_squares, above_squares, below_balanced, above_balanced, kept_clear, kept_order}

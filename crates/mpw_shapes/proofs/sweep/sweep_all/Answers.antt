@@ -1,5 +1,5 @@
-use Rattle.std.proofs.Common.{◌≡◌, ◌∙◌, sym, ap, Bool, true, false, ◌||◌, refl, length, arith}
-use Rattle.std.proofs.lemmas.Bool.{eqb-true, eqb-false}
+use Rattle.std.proofs.Common.{◌≡◌, ◌∙◌, sym, Bool, true, false, ◌||◌, refl}
+use Rattle.std.proofs.lemmas.Bool.{eqb-true}
 use Rattle.mpw_shapes.proofs.Whole.{clear_gaps, all_rows, no_rows_no_edges}
 use Rattle.mpw_shapes.proofs.sweep.sweep_all.Goals as goal
 

@@ -1,4 +1,4 @@
-use Rattle.std.proofs.Common.{◌≡◌, refl, arith}
+use Rattle.std.proofs.Common.{refl, arith}
 use Rattle.std.proofs.lemmas.Int.{ints}
 use Rattle.mpw_shapes.proofs.NearLemmas.{all_near}
 use Rattle.mpw_shapes.proofs.tests.boxes_of_wire.Goals as goal

@@ -1,4 +1,4 @@
-use Rattle.std.proofs.Common.{◌≡◌, ◌∙◌, refl, ap, Bool, true, false, ◌||◌}
+use Rattle.std.proofs.Common.{◌≡◌, ◌∙◌, refl, Bool, true, false, ◌||◌}
 use Rattle.mpw_geom.specs.Plane.{any_has_square}
 use Rattle.mpw_shapes.specs.Stacks.{stack_has}
 use Rattle.mpw_shapes.proofs.stack.Stack.add.Goals as goal
