@@ -1,2 +1,6 @@
+pub mod Chains
+pub mod Meets
 pub mod NameLemmas
 pub mod NamesLemmas
+pub mod Tests
+pub mod Turns

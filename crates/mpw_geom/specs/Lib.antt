@@ -1,2 +1,4 @@
 pub mod Name
 pub mod Names
+pub mod Placing
+pub mod Plane

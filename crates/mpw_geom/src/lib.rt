@@ -1,10 +1,12 @@
-//! Plane geometry in whole nanometres, and names: points, boxes, layers, orientations.
+//! Plane geometry in whole nanometres, and names: points, boxes, layers, orientations, placings.
 #![tactic(auto)]
 
 mod name;
 mod names;
+mod placing;
 mod plane;
 
 pub use name::{MAX_NAME, Name, NameFault, is_name, is_visible};
 pub use names::Names;
+pub use placing::Placing;
 pub use plane::{Box2, Layer, Orient, Point};

@@ -1,5 +1,10 @@
 //! Points, boxes, layers and orientations. Coordinates are whole nanometres.
 
+ghost use Rattle.std.specs.Prelude.{◌≡◌, ◌↔◌, IsTrue, int_le, ◌≤ℤ◌, pos};
+ghost use Rattle.std.specs.Int.{int_max, int_min};
+ghost use Rattle.mpw_geom.specs.Plane.{box_between, has_point};
+ghost use Rattle.mpw_geom.specs.declared.plane.Point.{Point};
+
 /// A point, in nm.
 #[derive(Clone, Copy, Debug, PartialEq, Eq)]
 pub struct Point {
@@ -35,4 +40,68 @@ pub enum Orient {
     M90,
     M180,
     M270,
+}
+
+impl Box2 {
+    #[tactic(auto, unfolding(crate::specs::Plane::box_between))]
+    /// The box that has the two points as opposite corners, in whichever order.
+    pub fn between(p: Point, q: Point) -> Box2
+        ensures { result ≡ box_between p q }
+    {
+        Box2 {
+            x0: p.x.min(q.x),
+            y0: p.y.min(q.y),
+            x1: p.x.max(q.x),
+            y1: p.y.max(q.y),
+        }
+    }
+
+    /// Whether the two closed boxes share a point; a common corner or edge is enough. Takes no
+    /// memory.
+    pub fn meets(self, other: Box2) -> bool
+        ensures { IsTrue result ↔ ((p : Point) × IsTrue (has_point self p) × IsTrue (has_point other p)) }
+    {
+        self.shares_column(other) && self.shares_row(other)
+    }
+
+    fn shares_column(self, other: Box2) -> bool
+        ensures { result ≡ int_le (int_max self.x0 other.x0) (int_min self.x1 other.x1) }
+    {
+        self.x0.max(other.x0) <= self.x1.min(other.x1)
+    }
+
+    fn shares_row(self, other: Box2) -> bool
+        ensures { result ≡ int_le (int_max self.y0 other.y0) (int_min self.y1 other.y1) }
+    {
+        self.y0.max(other.y0) <= self.y1.min(other.y1)
+    }
+}
+
+#[cfg(test)]
+mod tests {
+    use super::*;
+
+    fn unit(x: i64, y: i64) -> Box2
+        requires x { x ≤ℤ pos 1000 }
+        requires y { y ≤ℤ pos 1000 }
+    {
+        Box2 {
+            x0: x,
+            y0: y,
+            x1: x + 1,
+            y1: y + 1,
+        }
+    }
+
+    #[test]
+    fn a_common_corner_meets(rt: HostRuntime) {
+        assert!(rt; unit(0, 0).meets(unit(1, 1)));
+        assert!(rt; unit(0, 0).meets(unit(-1, 1)));
+        assert!(rt; !unit(0, 0).meets(unit(2, 0)));
+        assert!(rt; !unit(0, 0).meets(unit(0, 2)));
+        assert_eq!(rt;
+            Box2::between(Point { x: 1, y: 0 }, Point { x: 0, y: 1 }),
+            unit(0, 0)
+        );
+    }
 }

@@ -1,0 +1,5 @@
+use Rattle.mpw_geom.proofs.Turns.{placed_closed}
+use Rattle.mpw_geom.proofs.placing.squares_go_with_points.Goals as goal
+
+pub returns : goal.returns
+returns c = placed_closed

@@ -1,0 +1,68 @@
+-- Coordinates, unit squares, and the points and squares of a box. All lengths are in nm.
+use Rattle.std.specs.Prelude.{◌≤ℤ◌, ◌<ℤ◌, ◌^◌, Bool, ◌&&◌, ℤ, pos, neg_ℤ, ◌+ℤ◌, int_lt, int_le, List}
+use Rattle.std.specs.List.{list_any}
+use Rattle.std.specs.Int.{int_min, int_max}
+use Rattle.mpw_geom.specs.declared.plane.Box2.{Box2}
+use Rattle.mpw_geom.specs.declared.plane.Point.{Point}
+
+-- a coordinate that a caller may hand in: -2^48 to 2^48
+pub record IsCoordinate (z : ℤ) : Type 0 where
+  pub low : neg_ℤ (pos (2 ^ 48)) ≤ℤ z
+  pub high : z ≤ℤ pos (2 ^ 48)
+
+-- a point that a caller may hand in
+pub record IsInPlane (p : Point) : Type 0 where
+  pub x : IsCoordinate p.x
+  pub y : IsCoordinate p.y
+
+-- a box that a caller may hand in
+pub record IsBoxInPlane (b : Box2) : Type 0 where
+  pub x0 : IsCoordinate b.x0
+  pub y0 : IsCoordinate b.y0
+  pub x1 : IsCoordinate b.x1
+  pub y1 : IsCoordinate b.y1
+
+-- the first corner of the box is the lower left one
+pub record IsOrdered (b : Box2) : Type 0 where
+  pub x : b.x0 ≤ℤ b.x1
+  pub y : b.y0 ≤ℤ b.y1
+
+-- the box has a unit square at all
+pub record HasArea (b : Box2) : Type 0 where
+  pub width : b.x0 <ℤ b.x1
+  pub height : b.y0 <ℤ b.y1
+
+-- the unit square from (column, row) to (column + 1, row + 1)
+pub record Square : Type 0 where
+  pub column : ℤ
+  pub row : ℤ
+
+-- the closed box has the point
+unfoldable pub has_point : Box2 → Point → Bool
+has_point b p = int_le b.x0 p.x && int_le p.x b.x1 && int_le b.y0 p.y && int_le p.y b.y1
+
+-- the unit square lies in the box
+unfoldable pub has_square : Box2 → Square → Bool
+has_square b s = int_le b.x0 s.column && int_lt s.column b.x1 && int_le b.y0 s.row && int_lt s.row b.y1
+
+-- some box of the list has the unit square
+unfoldable pub any_has_square : List Box2 → Square → Bool
+any_has_square boxes s = list_any (λ b. has_square b s) boxes
+
+-- the closed unit square as a box
+unfoldable pub closed_square : Square → Box2
+closed_square s = record {
+  x0 = s.column;
+  y0 = s.row;
+  x1 = s.column +ℤ pos 1;
+  y1 = s.row +ℤ pos 1;
+}
+
+-- the box that has the two points as opposite corners
+unfoldable pub box_between : Point → Point → Box2
+box_between p q = record {
+  x0 = int_min p.x q.x;
+  y0 = int_min p.y q.y;
+  x1 = int_max p.x q.x;
+  y1 = int_max p.y q.y;
+}

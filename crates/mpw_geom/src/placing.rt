@@ -1,0 +1,213 @@
+//! Placings: an orientation and then a displacement (GDSII Stream release 6, SREF and AREF).
+//!
+//! No call here takes memory. Callers keep coordinates between -2^48 and 2^48 nm, so that no sum
+//! wraps.
+
+ghost use Rattle.std.specs.Prelude.{◌≡◌, ◌↔◌, IsTrue};
+ghost use Rattle.mpw_geom.specs.Plane.{IsInPlane, IsBoxInPlane, IsOrdered, Square, has_point, has_square};
+ghost use Rattle.mpw_geom.specs.Placing.{oriented_point, oriented_square, mirrored_point, mirrored_square, turned_point, turned_square, placed_point, placed_square, PlacedSquaresHavePlacedPoints};
+ghost use Rattle.mpw_geom.specs.declared.plane.Point.{Point};
+
+use crate::plane::{Box2, Orient, Point};
+
+/// How a structure stands in its parent: mirrored and turned by `orient`, then moved by `by`, in nm.
+#[derive(Clone, Copy, Debug, PartialEq, Eq)]
+pub struct Placing {
+    pub orient: Orient,
+    pub by: Point,
+}
+
+impl Orient {
+    /// Where the orientation takes the point, about the origin.
+    #[tactic(auto, unfolding(crate::specs::Placing::oriented_point))]
+    pub fn apply(self, p: Point) -> Point
+        requires { IsInPlane p }
+        ensures point { result ≡ oriented_point self p }
+        ensures in_plane { IsInPlane result }
+    {
+        let Point { x, y } = p;
+        match self {
+            Orient::R0 => p,
+            Orient::R90 => Point { x: -y, y: x },
+            Orient::R180 => Point { x: -x, y: -y },
+            Orient::R270 => Point { x: y, y: -x },
+            Orient::M0 => Point { x, y: -y },
+            Orient::M90 => Point { x: y, y: x },
+            Orient::M180 => Point { x: -x, y },
+            Orient::M270 => Point { x: -y, y: -x },
+        }
+    }
+
+    /// The orientation that undoes this one.
+    #[tactic(auto, using(crate::proofs::Turns::negations), unfolding(crate::specs::Placing::oriented_point, crate::specs::Placing::oriented_square))]
+    pub fn inverse(self) -> Orient
+        ensures left { (p : Point) → oriented_point result (oriented_point self p) ≡ p }
+        ensures right { (p : Point) → oriented_point self (oriented_point result p) ≡ p }
+        ensures left_squares { (s : Square) → oriented_square result (oriented_square self s) ≡ s }
+        ensures right_squares { (s : Square) → oriented_square self (oriented_square result s) ≡ s }
+    {
+        match self {
+            Orient::R0 => Orient::R0,
+            Orient::R90 => Orient::R270,
+            Orient::R180 => Orient::R180,
+            Orient::R270 => Orient::R90,
+            Orient::M0 => Orient::M0,
+            Orient::M90 => Orient::M90,
+            Orient::M180 => Orient::M180,
+            Orient::M270 => Orient::M270,
+        }
+    }
+
+    /// The orientation that is this one and then `next`.
+    #[tactic(auto, using(crate::proofs::Turns::negations), unfolding(crate::specs::Placing::oriented_point, crate::specs::Placing::oriented_square))]
+    pub fn then(self, next: Orient) -> Orient
+        ensures points { (p : Point) → oriented_point result p ≡ oriented_point next (oriented_point self p) }
+        ensures squares { (s : Square) → oriented_square result s ≡ oriented_square next (oriented_square self s) }
+    {
+        match next {
+            Orient::R0 => self,
+            Orient::R90 => self.turned(),
+            Orient::R180 => self.turned().turned(),
+            Orient::R270 => self.turned().turned().turned(),
+            Orient::M0 => self.mirrored(),
+            Orient::M90 => self.mirrored().turned(),
+            Orient::M180 => self.mirrored().turned().turned(),
+            Orient::M270 => self.mirrored().turned().turned().turned(),
+        }
+    }
+
+    #[tactic(auto, using(crate::proofs::Turns::negations), unfolding(crate::specs::Placing::oriented_point, crate::specs::Placing::oriented_square))]
+    fn turned(self) -> Orient
+        ensures points { (p : Point) → oriented_point result p ≡ turned_point (oriented_point self p) }
+        ensures squares { (s : Square) → oriented_square result s ≡ turned_square (oriented_square self s) }
+    {
+        match self {
+            Orient::R0 => Orient::R90,
+            Orient::R90 => Orient::R180,
+            Orient::R180 => Orient::R270,
+            Orient::R270 => Orient::R0,
+            Orient::M0 => Orient::M90,
+            Orient::M90 => Orient::M180,
+            Orient::M180 => Orient::M270,
+            Orient::M270 => Orient::M0,
+        }
+    }
+
+    #[tactic(auto, using(crate::proofs::Turns::negations), unfolding(crate::specs::Placing::oriented_point, crate::specs::Placing::oriented_square))]
+    fn mirrored(self) -> Orient
+        ensures points { (p : Point) → oriented_point result p ≡ mirrored_point (oriented_point self p) }
+        ensures squares { (s : Square) → oriented_square result s ≡ mirrored_square (oriented_square self s) }
+    {
+        match self {
+            Orient::R0 => Orient::M0,
+            Orient::R90 => Orient::M270,
+            Orient::R180 => Orient::M180,
+            Orient::R270 => Orient::M90,
+            Orient::M0 => Orient::R0,
+            Orient::M90 => Orient::R270,
+            Orient::M180 => Orient::R180,
+            Orient::M270 => Orient::R90,
+        }
+    }
+}
+
+impl Placing {
+    /// Where the placing takes the point.
+    #[tactic(auto, unfolding(crate::specs::Placing::placed_point))]
+    pub fn apply(self, p: Point) -> Point
+        requires point { IsInPlane p }
+        requires displacement { IsInPlane self.by }
+        ensures { result ≡ placed_point self p }
+    {
+        let Point { x, y } = self.orient.apply(p);
+        Point {
+            x: x + self.by.x,
+            y: y + self.by.y,
+        }
+    }
+
+    /// Where the placing takes the box: the box of the placed corners.
+    pub fn apply_box(self, b: Box2) -> Box2
+        requires ordered { IsOrdered b }
+        requires corners { IsBoxInPlane b }
+        requires displacement { IsInPlane self.by }
+        ensures points { (p : Point) → has_point result (placed_point self p) ≡ has_point b p }
+        ensures squares { (s : Square) → has_square result (placed_square self s) ≡ has_square b s }
+    {
+        let p = self.apply(Point { x: b.x0, y: b.y0 });
+        let q = self.apply(Point { x: b.x1, y: b.y1 });
+        Box2::between(p, q)
+    }
+
+    /// The placing that is this one and then `next`.
+    pub fn then(self, next: Placing) -> Placing
+        requires inner { IsInPlane self.by }
+        requires outer { IsInPlane next.by }
+        ensures displacement { result.by ≡ placed_point next self.by }
+        ensures points { (p : Point) → placed_point result p ≡ placed_point next (placed_point self p) }
+        ensures squares { (s : Square) → placed_square result s ≡ placed_square next (placed_square self s) }
+    {
+        Placing {
+            orient: self.orient.then(next.orient),
+            by: next.apply(self.by),
+        }
+    }
+}
+
+/// A law of the definitions: a placing takes a closed unit square's points to the points of the
+/// placed closed unit square, and no others.
+pub fn squares_go_with_points()
+    ensures { PlacedSquaresHavePlacedPoints }
+{}
+
+#[cfg(test)]
+mod tests {
+    use super::*;
+
+    const CORNER: Point = Point { x: 3, y: 1 };
+
+    #[test]
+    fn a_mirror_comes_before_the_turn(rt: HostRuntime) {
+        assert_eq!(rt; Orient::M90.apply(CORNER), Point { x: 1, y: 3 });
+        assert_eq!(rt; Orient::R90.apply(CORNER), Point { x: -1, y: 3 });
+        assert_eq!(rt; Orient::M270.inverse(), Orient::M270);
+        assert_eq!(rt; Orient::R90.inverse(), Orient::R270);
+    }
+
+    #[test]
+    #[tactic(auto, unfolding(crate::specs::Placing::placed_point, crate::specs::Placing::oriented_point))]
+    fn the_first_placing_is_applied_first(rt: HostRuntime) {
+        let inner = Placing {
+            orient: Orient::R90,
+            by: Point { x: 10, y: 0 },
+        };
+        let outer = Placing {
+            orient: Orient::M0,
+            by: Point { x: 0, y: 100 },
+        };
+        // (3, 1) turns to (-1, 3), moves to (9, 3), mirrors to (9, -3), moves to (9, 97).
+        assert_eq!(rt; inner.then(outer).apply(CORNER), Point { x: 9, y: 97 });
+    }
+
+    #[test]
+    #[tactic(auto, unfolding(crate::specs::Placing::placed_point, crate::specs::Placing::oriented_point))]
+    fn a_box_is_placed_whole(rt: HostRuntime) {
+        let placing = Placing {
+            orient: Orient::R90,
+            by: Point { x: 100, y: 0 },
+        };
+        let bar = Box2 {
+            x0: 0,
+            y0: 0,
+            x1: 30,
+            y1: 5,
+        };
+        let upright = Box2 {
+            x0: 95,
+            y0: 0,
+            x1: 100,
+            y1: 30,
+        };
+        assert_eq!(rt; placing.apply_box(bar), upright);
+    }
+}

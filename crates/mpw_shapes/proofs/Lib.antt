@@ -1,0 +1,14 @@
+pub mod Carried
+pub mod Chains
+pub mod Columns
+pub mod Counts
+pub mod Halves
+pub mod Laid
+pub mod Lists
+pub mod NearLemmas
+pub mod Order
+pub mod PlacedBoundary
+pub mod PlacedPath
+pub mod Swept
+pub mod Whole
+pub mod Wires

@@ -1,0 +1,38 @@
+//! The rectangles of an element.
+
+ghost use Rattle.std.specs.Prelude.{◌≡◌, All, IfOk};
+ghost use Rattle.mpw_geom.specs.Plane.{Square, HasArea, any_has_square};
+ghost use Rattle.mpw_elements.specs.Element.{IsElement};
+ghost use Rattle.mpw_shapes.specs.Element.{element_has};
+ghost use Rattle.mpw_shapes.specs.Placed.{BoundarySquaresArePlaced, PathSquaresArePlaced};
+
+use crate::boundary::boundary_rectangles;
+use crate::path::path_rectangles;
+use mpw_elements::Element;
+use mpw_geom::Box2;
+use std::alloc::{AllocError, Global};
+
+/// Rectangles whose union is the element's set of unit squares, in nm. They may overlap, and each
+/// has area. An error is want of memory.
+///
+/// A reference has none. A path of n points gives at most n - 1 rectangles and takes O(n). For a boundary see the module
+/// documentation: O(n log n) and, for each band, the edges that cross it.
+#[tactic(auto, unfolding(mpw_geom::specs::Plane::any_has_square))]
+pub fn rectangles(alloc: Global, element: &Element) -> Result<Vec<Box2>, AllocError>
+    requires { IsElement element.now }
+    ensures squares { IfOk result (λ boxes. (s : Square) → any_has_square boxes.items s ≡ element_has element.now s) }
+    ensures area { IfOk result (λ boxes. All HasArea boxes.items) }
+{
+    match element {
+        Element::Boundary(boundary) => boundary_rectangles(alloc, boundary.points.as_slice()),
+        Element::Path(path) => path_rectangles(alloc, path),
+        Element::Reference(_) => Ok(Vec::new(alloc)),
+    }
+}
+
+/// A law of the definitions: a placing takes the unit squares of a boundary, and of a path, to the
+/// unit squares of the placed boundary or path, and no others.
+pub fn squares_are_placed()
+    ensures boundaries { BoundarySquaresArePlaced }
+    ensures paths { PathSquaresArePlaced }
+{}
