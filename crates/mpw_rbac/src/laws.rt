@@ -18,5 +18,4 @@ pub fn each_request_keeps_authorization()
     ensures assign { (conn : ℕ) (user role : List ℕ) → KeepsAuthorization (λ p. rows.assign p conn user role) }
     ensures grant { (conn : ℕ) (grant : Grant) → KeepsAuthorization (λ p. rows.grant p conn grant) }
     ensures revoke { (conn : ℕ) (grant : Grant) → KeepsAuthorization (λ p. rows.revoke p conn grant) }
-{
-}
+{}

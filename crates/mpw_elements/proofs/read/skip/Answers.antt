@@ -20,7 +20,7 @@ returns-then-found-eq-ENDLIB-clause-ignored c =
 pub loop-outcome-preserved : goal.loop-outcome-preserved
 loop-outcome-preserved c = record {
   same =
-    sym (ignored_more c.args.start _ c.next.new.self (raw c.in_ok-found.found) (c.in-Some.ensures.some ∙ ap (λ o. seen o ∷ c.next.new.self) c.in_ok-found.was) c.if-found-eq-ENDEL.false c.if-found-eq-ENDLIB.false) ∙ c.loop-outcome.invariant.same;
+      sym (ignored_more c.args.start _ c.next.new.self (raw c.in_ok-found.found) (c.in-Some.ensures.some ∙ ap (λ o. seen o ∷ c.next.new.self) c.in_ok-found.was) c.if-found-eq-ENDEL.false c.if-found-eq-ENDLIB.false) ∙ c.loop-outcome.invariant.same;
   rest = omega (arith, ap length c.in-Some.ensures.some);
 }
 

@@ -16,7 +16,7 @@ returns-then-not-is_skipped-clause-field c =
 pub loop-outcome-preserved : goal.loop-outcome-preserved
 loop-outcome-preserved c = record {
   same =
-    sym (field_skip c.args.start _ c.next.new.self (raw c.in_ok-record.record) (c.in-Some.ensures.some ∙ ap (λ o. seen o ∷ c.next.new.self) c.in_ok-record.was) (sym c.is_skipped.ensures ∙ c.if-not-is_skipped.false)) ∙ c.loop-outcome.invariant.same;
+      sym (field_skip c.args.start _ c.next.new.self (raw c.in_ok-record.record) (c.in-Some.ensures.some ∙ ap (λ o. seen o ∷ c.next.new.self) c.in_ok-record.was) (sym c.is_skipped.ensures ∙ c.if-not-is_skipped.false)) ∙ c.loop-outcome.invariant.same;
   rest = omega (arith, ap length c.in-Some.ensures.some);
 }
 
