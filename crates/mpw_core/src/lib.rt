@@ -14,3 +14,6 @@ mod reply;
 pub use desk::{Core, MAX_EVENTS, replay};
 pub use event::{Call, Event, Request};
 pub use reply::{Code, Denial, Line, Lines, Reply};
+
+#[cfg(test)]
+mod tests;
