@@ -9,10 +9,12 @@
 mod answer;
 mod desk;
 mod event;
+mod laws;
 mod reply;
 
 pub use desk::{Core, MAX_EVENTS, replay};
 pub use event::{Call, Event, Request};
+pub use laws::every_state_keeps_authorization;
 pub use reply::{Code, Denial, Line, Lines, Reply};
 
 #[cfg(test)]

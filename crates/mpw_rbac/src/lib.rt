@@ -13,8 +13,14 @@ mod refusal;
 mod session;
 mod sessions;
 
-pub use laws::each_request_keeps_authorization;
+pub use laws::{
+    denied_only_without_the_permission, each_request_keeps_authorization,
+    more_active_roles_never_permit_less,
+};
 pub use permission::{Grant, Object, Operation};
 pub use policy::{MAX_GRANTS, MAX_USERS, Policy};
 pub use refusal::{PolicyFault, Refusal};
 pub use session::{Digest, Identity, Session, User};
+
+#[cfg(test)]
+mod tests;
