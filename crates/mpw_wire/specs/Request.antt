@@ -1,0 +1,126 @@
+-- The text of a request line: its words, and the request that they ask.
+use Rattle.std.specs.Prelude.{ℕ, List, [], ◌∷◌, codes, Option, Some, None, option_map, option_and_then, if◌then◌else◌}
+use Rattle.sha2.specs.Sha256.{sha256}
+use Rattle.mpw_geom.specs.Names.{name_eq}
+use Rattle.mpw_rbac.specs.declared.permission.Grant as permission
+use Rattle.mpw_rbac.specs.declared.permission.Operation.{Operation}
+use Rattle.mpw_rbac.specs.declared.permission.Operation.TheVariants.{Submit, Use, Read, Place, Admin, Deck, Run, Waive, Sign, Verdict, Audit}
+use Rattle.mpw_rbac.specs.declared.permission.Object.{Object}
+use Rattle.mpw_rbac.specs.declared.permission.Object.TheVariants.{Cell, Desk}
+use Rattle.mpw_core.specs.declared.event.Request.{Request}
+use Rattle.mpw_core.specs.declared.event.Request.TheVariants.{Open, Close, Activate, Whoami, AddUser, AddRole, Assign, Grant, Revoke}
+use Rattle.mpw_wire.specs.Words.{words, is_visible_word}
+
+infixl 10 ◌>>=◌
+abbrev pub ◌>>=◌ : {A B : Type 0} → Option A → (A → Option B) → Option B
+option >>= next = option_and_then next option
+
+-- the name that a word is; `-` is none in a request
+unfoldable pub name_of : List ℕ → Option (List ℕ)
+name_of word =
+    if name_eq word (codes "-") then None
+    else if is_visible_word word then Some word
+    else None
+
+-- the digest of the token that a word is
+unfoldable pub token_of : List ℕ → Option (List ℕ)
+token_of word = if is_visible_word word then Some (sha256 word) else None
+
+-- the operation that a word names
+unfoldable pub operation_of : List ℕ → Option Operation
+operation_of word =
+    if name_eq word (codes "submit") then Some Submit
+    else if name_eq word (codes "use") then Some Use
+    else if name_eq word (codes "read") then Some Read
+    else if name_eq word (codes "place") then Some Place
+    else if name_eq word (codes "admin") then Some Admin
+    else if name_eq word (codes "deck") then Some Deck
+    else if name_eq word (codes "run") then Some Run
+    else if name_eq word (codes "waive") then Some Waive
+    else if name_eq word (codes "sign") then Some Sign
+    else if name_eq word (codes "verdict") then Some Verdict
+    else if name_eq word (codes "audit") then Some Audit
+    else None
+
+abbrev pub cell_of : List ℕ → Option Object
+cell_of word = option_map Cell (name_of word)
+
+abbrev pub desk_of : List ℕ → Option Object
+desk_of word = if name_eq word (codes "desk") then Some Desk else None
+
+-- an operation on a cell has its name as object, and one on the desk has the word `desk`
+unfoldable pub object_of : Operation → List ℕ → Option Object
+object_of Submit word = cell_of word
+object_of Use word = cell_of word
+object_of Read word = cell_of word
+object_of Place word = cell_of word
+object_of Admin word = desk_of word
+object_of Deck word = desk_of word
+object_of Run word = desk_of word
+object_of Waive word = desk_of word
+object_of Sign word = desk_of word
+object_of Verdict word = desk_of word
+object_of Audit word = desk_of word
+
+-- a grant is an operation, an object of it and a role
+unfoldable pub grant_of : List ℕ → List ℕ → List ℕ → Option permission.Grant
+grant_of operation object role = do
+  operation ← operation_of operation
+  object ← object_of operation object
+  role ← name_of role
+  Some (record { operation = operation; object = object; role = role })
+
+-- a user's name, and the digest of a token
+unfoldable pub login_of : List ℕ → List ℕ → Option (List ℕ × List ℕ)
+login_of user token = do
+  user ← name_of user
+  digest ← token_of token
+  Some (user, digest)
+
+-- a user's name and a role's
+unfoldable pub assignment_of : List ℕ → List ℕ → Option Request
+assignment_of user role = do
+  user ← name_of user
+  role ← name_of role
+  Some (Assign user role)
+
+-- the requests of a verb alone
+unfoldable pub bare_request : List ℕ → Option Request
+bare_request verb =
+    if name_eq verb (codes "close") then Some Close
+    else if name_eq verb (codes "whoami") then Some Whoami
+    else None
+
+-- the requests of a verb and one word
+unfoldable pub request_of_one : List ℕ → List ℕ → Option Request
+request_of_one verb role =
+    if name_eq verb (codes "activate") then option_map Activate (name_of role)
+    else if name_eq verb (codes "addrole") then option_map AddRole (name_of role)
+    else None
+
+-- the requests of a verb and two words
+unfoldable pub request_of_two : List ℕ → List ℕ → List ℕ → Option Request
+request_of_two verb user other =
+    if name_eq verb (codes "open") then option_map (λ login. Open login.0 login.1) (login_of user other)
+    else if name_eq verb (codes "adduser") then option_map (λ login. AddUser login.0 login.1) (login_of user other)
+    else if name_eq verb (codes "assign") then assignment_of user other
+    else None
+
+-- the requests of a verb and three words
+unfoldable pub request_of_three : List ℕ → List ℕ → List ℕ → List ℕ → Option Request
+request_of_three verb operation object role =
+    if name_eq verb (codes "grant") then option_map Grant (grant_of operation object role)
+    else if name_eq verb (codes "revoke") then option_map Revoke (grant_of operation object role)
+    else None
+
+abbrev pub request_of_words : List (List ℕ) → Option Request
+request_of_words [] = None
+request_of_words (verb ∷ []) = bare_request verb
+request_of_words (verb ∷ a ∷ []) = request_of_one verb a
+request_of_words (verb ∷ a ∷ b ∷ []) = request_of_two verb a b
+request_of_words (verb ∷ a ∷ b ∷ c ∷ []) = request_of_three verb a b c
+request_of_words (verb ∷ a ∷ b ∷ c ∷ d ∷ more) = None
+
+-- the request whose text a line is
+abbrev pub request_of : List ℕ → Option Request
+request_of line = request_of_words (words line)

@@ -1,0 +1,61 @@
+//! Digests of tokens: SHA-256 of FIPS 180-4.
+ghost use Rattle.std.specs.Prelude.{◌≡◌, ◌↔◌, length, IsSome, IfSome};
+ghost use Rattle.std.specs.List.{AllPass};
+ghost use Rattle.hex.specs.Hex.{decode_of, is_hex_digit};
+ghost use Rattle.sha2.specs.Sha256.{sha256};
+
+use hex::FromHex;
+use sha2::{Digest, Sha256};
+
+/// The SHA-256 of the bytes. One pass, and no memory.
+pub fn digest_of(bytes: &[u8]) -> [u8; 32]
+    ensures { result ≡ sha256 bytes.now }
+{
+    Sha256::digest(bytes)
+}
+
+/// The digest that exactly 64 hexadecimal digits of either case spell, the high four bits of each byte first, and
+/// `None` for every other text.
+pub fn read_digest(text: &str) -> Option<[u8; 32]>
+    ensures value { IfSome result (λ digest. decode_of text.now ≡ Ok digest) }
+    ensures found { IsSome result ↔ ((length text.now ≡ 64) × AllPass is_hex_digit text.now) }
+{
+    <[u8; 32] as FromHex>::from_hex(text).ok()
+}
+
+#[cfg(test)]
+mod tests {
+    use super::*;
+    use std::test::Fail;
+
+    const ABC: &str = "ba7816bf8f01cfea414140de5dae2223b00361a396177a9cb410ff61f20015ad";
+
+    const UPPER: &str = "BA7816BF8F01CFEA414140DE5DAE2223B00361A396177A9CB410FF61F20015AD";
+
+    fn read(text: &str) -> Option<[u8; 32]> {
+        read_digest(text)
+    }
+
+    fn digest(bytes: &[u8]) -> [u8; 32] {
+        digest_of(bytes)
+    }
+
+    #[test]
+    fn digest_of_abc(rt: HostRuntime) -> Result<(), Fail> {
+        assert!(rt; read(ABC) == Some(digest(b"abc")));
+        assert!(rt; read(UPPER) == Some(digest(b"abc")));
+        assert!(rt; read("").is_none());
+        assert!(rt; read("ba7816bf").is_none());
+        assert!(rt;
+            read(
+                "ga7816bf8f01cfea414140de5dae2223b00361a396177a9cb410ff61f20015ad"
+            ).is_none()
+        );
+        assert!(rt;
+            read(
+                "ba7816bf8f01cfea414140de5dae2223b00361a396177a9cb410ff61f20015ad0"
+            ).is_none()
+        );
+        Ok(())
+    }
+}

@@ -1,0 +1,243 @@
+//! Request lines.
+ghost use Rattle.std.specs.Prelude.{◌≡◌, IfOk};
+ghost use Rattle.mpw_core.specs.declared.event.Request.TheVariants as ask;
+ghost use Rattle.mpw_geom.specs.Names.{name_eq};
+ghost use Rattle.mpw_wire.specs.Request.{name_of, token_of, operation_of, object_of, grant_of, login_of, assignment_of, bare_request, request_of_one, request_of_two, request_of_three, request_of};
+
+use crate::digest::digest_of;
+use crate::words::{Arguments, cut, read_arguments};
+use mpw_core::Request;
+use mpw_geom::{Name, NameFault, is_name};
+use mpw_rbac::{Digest, Grant, Object, Operation};
+use std::alloc::{AllocError, Global};
+
+/// Whether a word is this text.
+fn is(word: &[u8], text: &str) -> bool
+    ensures { result ≡ name_eq word.now text.now }
+{
+    word == text.as_bytes()
+}
+
+/// The name that a word is.
+#[tactic(auto, using(crate::proofs::WordLemmas::read_word, crate::proofs::WordLemmas::refused_word), unfolding(crate::specs::Request::name_of))]
+fn name(alloc: Global, word: &[u8]) -> Result<Option<Name>, AllocError>
+    ensures { IfOk result (λ name. name ≡ name_of word.now) }
+{
+    if is(word, "-") {
+        return Ok(None);
+    }
+    match Name::read(alloc, word) {
+        Ok(name) => Ok(Some(name)),
+        Err(NameFault::BadName) => Ok(None),
+        Err(NameFault::Memory) => Err(AllocError),
+    }
+}
+
+/// The digest of the token that a word is.
+#[tactic(auto, using(crate::proofs::WordLemmas::read_word, crate::proofs::WordLemmas::refused_word), unfolding(crate::specs::Request::token_of))]
+fn token(word: &[u8]) -> Option<Digest>
+    ensures { result ≡ token_of word.now }
+{
+    if is_name(word) {
+        Some(digest_of(word))
+    } else {
+        None
+    }
+}
+
+/// The operation that a word names.
+#[tactic(auto, unfolding(crate::specs::Request::operation_of))]
+fn operation(word: &[u8]) -> Option<Operation>
+    ensures { result ≡ operation_of word.now }
+{
+    if is(word, "submit") {
+        Some(Operation::Submit)
+    } else if is(word, "use") {
+        Some(Operation::Use)
+    } else if is(word, "read") {
+        Some(Operation::Read)
+    } else if is(word, "place") {
+        Some(Operation::Place)
+    } else if is(word, "admin") {
+        Some(Operation::Admin)
+    } else if is(word, "deck") {
+        Some(Operation::Deck)
+    } else if is(word, "run") {
+        Some(Operation::Run)
+    } else if is(word, "waive") {
+        Some(Operation::Waive)
+    } else if is(word, "sign") {
+        Some(Operation::Sign)
+    } else if is(word, "verdict") {
+        Some(Operation::Verdict)
+    } else if is(word, "audit") {
+        Some(Operation::Audit)
+    } else {
+        None
+    }
+}
+
+/// The object of an operation that a word is.
+#[tactic(auto, unfolding(crate::specs::Request::object_of))]
+fn object(alloc: Global, operation: Operation, word: &[u8]) -> Result<Option<Object>, AllocError>
+    ensures { IfOk result (λ object. object ≡ object_of operation word.now) }
+{
+    match operation {
+        Operation::Submit | Operation::Use | Operation::Read | Operation::Place => {
+            match name(alloc, word)? {
+                Some(cell) => Ok(Some(Object::Cell(cell))),
+                None => Ok(None),
+            }
+        }
+        _ if is(word, "desk") => Ok(Some(Object::Desk)),
+        _ => Ok(None),
+    }
+}
+
+/// The grant that three words name.
+#[tactic(auto, unfolding(crate::specs::Request::grant_of))]
+fn grant(
+    alloc: Global,
+    operation_word: &[u8],
+    object_word: &[u8],
+    role_word: &[u8],
+) -> Result<Option<Grant>, AllocError>
+    ensures { IfOk result (λ grant. grant ≡ grant_of operation_word.now object_word.now role_word.now) }
+{
+    let Some(operation) = operation(operation_word) else {
+        return Ok(None);
+    };
+    let Some(object) = object(alloc, operation, object_word)? else {
+        return Ok(None);
+    };
+    let Some(role) = name(alloc, role_word)? else {
+        return Ok(None);
+    };
+    Ok(Some(Grant {
+        operation,
+        object,
+        role,
+    }))
+}
+
+/// The requests of a verb alone.
+#[tactic(auto, unfolding(crate::specs::Request::bare_request))]
+fn bare(verb: &[u8]) -> Option<Request>
+    ensures { result ≡ bare_request verb.now }
+{
+    if is(verb, "close") {
+        Some(Request::Close)
+    } else if is(verb, "whoami") {
+        Some(Request::Whoami)
+    } else {
+        None
+    }
+}
+
+/// The requests of a verb and one word.
+#[tactic(auto, unfolding(crate::specs::Request::request_of_one))]
+fn of_one(alloc: Global, verb: &[u8], word: &[u8]) -> Result<Option<Request>, AllocError>
+    ensures { IfOk result (λ request. request ≡ request_of_one verb.now word.now) }
+{
+    if is(verb, "activate") {
+        Ok(name(alloc, word)?.map(|role| Request::Activate { role }))
+    } else if is(verb, "addrole") {
+        Ok(name(alloc, word)?.map(|role| Request::AddRole { role }))
+    } else {
+        Ok(None)
+    }
+}
+
+/// The user and the digest that two words give.
+#[tactic(auto, unfolding(crate::specs::Request::login_of))]
+fn login(
+    alloc: Global,
+    user_word: &[u8],
+    token_word: &[u8],
+) -> Result<Option<(Name, Digest)>, AllocError>
+    ensures { IfOk result (λ login. login ≡ login_of user_word.now token_word.now) }
+{
+    let Some(user) = name(alloc, user_word)? else {
+        return Ok(None);
+    };
+    let Some(digest) = token(token_word) else {
+        return Ok(None);
+    };
+    Ok(Some((user, digest)))
+}
+
+/// The user and the role that two words give.
+#[tactic(auto, unfolding(crate::specs::Request::assignment_of))]
+fn assignment(
+    alloc: Global,
+    user_word: &[u8],
+    role_word: &[u8],
+) -> Result<Option<Request>, AllocError>
+    ensures { IfOk result (λ request. request ≡ assignment_of user_word.now role_word.now) }
+{
+    let Some(user) = name(alloc, user_word)? else {
+        return Ok(None);
+    };
+    let Some(role) = name(alloc, role_word)? else {
+        return Ok(None);
+    };
+    Ok(Some(Request::Assign { user, role }))
+}
+
+/// The requests of a verb and two words.
+#[tactic(auto, unfolding(crate::specs::Request::request_of_two))]
+fn of_two(
+    alloc: Global,
+    verb: &[u8],
+    first: &[u8],
+    second: &[u8],
+) -> Result<Option<Request>, AllocError>
+    ensures { IfOk result (λ request. request ≡ request_of_two verb.now first.now second.now) }
+{
+    if is(verb, "open") {
+        Ok(login(alloc, first, second)?.map(|(user, digest)| Request::Open { user, digest }))
+    } else if is(verb, "adduser") {
+        Ok(login(alloc, first, second)?.map(|(user, digest)| Request::AddUser { user, digest }))
+    } else if is(verb, "assign") {
+        assignment(alloc, first, second)
+    } else {
+        Ok(None)
+    }
+}
+
+/// The requests of a verb and three words.
+#[tactic(auto, unfolding(crate::specs::Request::request_of_three))]
+fn of_three(
+    alloc: Global,
+    verb: &[u8],
+    first: &[u8],
+    second: &[u8],
+    third: &[u8],
+) -> Result<Option<Request>, AllocError>
+    ensures { IfOk result (λ request. request ≡ request_of_three verb.now first.now second.now third.now) }
+{
+    if is(verb, "grant") {
+        Ok(grant(alloc, first, second, third)?.map(|grant| Request::Grant { grant }))
+    } else if is(verb, "revoke") {
+        Ok(grant(alloc, first, second, third)?.map(|grant| Request::Revoke { grant }))
+    } else {
+        Ok(None)
+    }
+}
+
+/// The request whose text a line is, without its line feed, and `None` where it is none's. One pass, and two at a token.
+///
+/// # Errors
+/// Where there is no room for a name.
+pub fn parse_request(alloc: Global, line: &[u8]) -> Result<Option<Request>, AllocError>
+    ensures { IfOk result (λ request. request ≡ request_of line.now) }
+{
+    let (verb, rest) = cut(line);
+    match read_arguments(rest) {
+        Arguments::Zero => Ok(bare(verb)),
+        Arguments::One(first) => of_one(alloc, verb, first),
+        Arguments::Two(first, second) => of_two(alloc, verb, first, second),
+        Arguments::Three(first, second, third) => of_three(alloc, verb, first, second, third),
+        Arguments::More => Ok(None),
+    }
+}
