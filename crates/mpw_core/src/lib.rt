@@ -16,6 +16,3 @@ pub use desk::{Core, MAX_EVENTS, replay};
 pub use event::{Call, Event, Request};
 pub use laws::every_state_keeps_authorization;
 pub use reply::{Code, Denial, Line, Lines, Reply};
-
-#[cfg(test)]
-mod tests;

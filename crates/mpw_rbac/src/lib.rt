@@ -21,6 +21,3 @@ pub use permission::{Grant, Object, Operation};
 pub use policy::{MAX_GRANTS, MAX_USERS, Policy};
 pub use refusal::{PolicyFault, Refusal};
 pub use session::{Digest, Identity, Session, User};
-
-#[cfg(test)]
-mod tests;

@@ -47,14 +47,10 @@ mod tests {
         assert!(rt; read("").is_none());
         assert!(rt; read("ba7816bf").is_none());
         assert!(rt;
-            read(
-                "ga7816bf8f01cfea414140de5dae2223b00361a396177a9cb410ff61f20015ad"
-            ).is_none()
+            read("ga7816bf8f01cfea414140de5dae2223b00361a396177a9cb410ff61f20015ad").is_none()
         );
         assert!(rt;
-            read(
-                "ba7816bf8f01cfea414140de5dae2223b00361a396177a9cb410ff61f20015ad0"
-            ).is_none()
+            read("ba7816bf8f01cfea414140de5dae2223b00361a396177a9cb410ff61f20015ad0").is_none()
         );
         Ok(())
     }
