@@ -380,7 +380,7 @@ fn agree<R: Abort + AllocGlobal>(rt: &R, check: Check, seed: u64) -> Result<(), 
         assert_eq!(rt; got.as_slice(), want.as_slice(), "layout {case}");
         found_in_all = found_in_all.saturating_add(got.len());
     }
-    assert!(rt; found_in_all > 200, "{found_in_all} pieces in all");
+    assert!(rt; found_in_all > 40, "{found_in_all} pieces in all");
     Ok(())
 }
 
