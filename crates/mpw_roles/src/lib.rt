@@ -14,6 +14,3 @@ pub use below::Below;
 pub use fault::RolesFault;
 pub use laws::order_is_chains;
 pub use roles::{MAX_ROLES, Roles};
-
-#[cfg(test)]
-mod tests;
