@@ -7,7 +7,7 @@ use Rattle.mpw_deck.specs.declared.rule.Rule.{Rule}
 use Rattle.mpw_deck.specs.declared.deck.DeckKind.TheVariants.{Word, Number, Layer, SameLayer, DoubleRule, Tile, Rules, Memory}
 use Rattle.mpw_deck.specs.Reads.{Refuses}
 use Rattle.mpw_deck.specs.Reading.{next_rule, rules_of, tile_of, at_line, deck_of_lines, ◌>>=◌}
-use Rattle.mpw_deck.specs.Text.{words_of}
+use Rattle.mpw_text.specs.Text.{words_of}
 
 after : ℕ → List Rule → List (List ℕ) → Result Rule DeckKind → Result (List Rule) DeckFault
 after n rules lines told = elim told [ Ok rule ↦ rules_of (n + 1) (rules ++ rule ∷ []) lines | Err kind ↦ Err (record { kind = kind; line = n }) ]

@@ -15,7 +15,7 @@ use Rattle.mpw_deck.specs.declared.line.OneLayer.{OneLayer}
 use Rattle.mpw_deck.specs.declared.line.OneLayer.TheVariants as one
 use Rattle.mpw_deck.specs.declared.line.TwoLayers.{TwoLayers}
 use Rattle.mpw_deck.specs.declared.line.TwoLayers.TheVariants as two
-use Rattle.mpw_deck.specs.Text.{lines_of, words_of, number_of}
+use Rattle.mpw_text.specs.Text.{lines_of, words_of, number_of}
 
 infixl 10 ◌>>=◌
 abbrev pub ◌>>=◌ : {A B E : Type 0} → Result A E → (A → Result B E) → Result B E

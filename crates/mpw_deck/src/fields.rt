@@ -6,9 +6,8 @@ ghost use Rattle.mpw_deck.specs.Reading.{is_rule_name, layer_from, layer_of, rul
 ghost use Rattle.mpw_deck.specs.Reads.{Reads};
 
 use crate::deck::DeckKind;
-use crate::number::number;
-use crate::words::parts;
 use mpw_geom::{Layer, Name, NameFault};
+use mpw_text::{parts, read_number};
 use std::alloc::Global;
 
 /// Whether all bytes are visible, and none is a colon.
@@ -47,8 +46,8 @@ fn layer_from(halves: &[&[u8]]) -> Option<Layer>
     let [layer, datatype] = halves else {
         return None;
     };
-    let layer = number(layer, 0, 65535)?;
-    let datatype = number(datatype, 0, 65535)?;
+    let layer = read_number(layer, 0, 65535)?;
+    let datatype = read_number(datatype, 0, 65535)?;
     Some(Layer {
         layer: layer as u16,
         datatype: datatype as u16,
@@ -72,7 +71,7 @@ pub(crate) fn layer(alloc: Global, word: &[u8]) -> Result<Layer, DeckKind>
 pub(crate) fn distance(word: &[u8]) -> Result<u32, DeckKind>
     ensures { result ≡ distance_of word.now }
 {
-    match number(word, 1, 65535) {
+    match read_number(word, 1, 65535) {
         Some(distance) => Ok(distance),
         None => Err(DeckKind::Number),
     }

@@ -6,10 +6,8 @@
 mod deck;
 mod fields;
 mod line;
-mod number;
 mod read;
 mod rule;
-mod words;
 
 pub use deck::{Deck, DeckFault, DeckKind, MAX_RULES, Rules};
 pub use read::read_deck;

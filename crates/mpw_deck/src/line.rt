@@ -18,10 +18,9 @@ ghost use Rattle.mpw_deck.specs.Reads.{Reads};
 
 use crate::deck::{DeckKind, MAX_RULES};
 use crate::fields::{distance, layer, rule_name};
-use crate::number::number;
 use crate::rule::{Check, Rule};
-use crate::words::parts;
 use mpw_geom::{Layer, Name};
+use mpw_text::{parts, read_number};
 use std::alloc::Global;
 
 /// The checks of one layer.
@@ -178,7 +177,7 @@ pub(crate) fn tile(words: &[&[u8]]) -> Result<u32, DeckKind>
     let [_, side] = words else {
         return Err(DeckKind::Word);
     };
-    match number(side, 256, 1 << 30) {
+    match read_number(side, 256, 1 << 30) {
         Some(side) => Ok(side),
         None => Err(DeckKind::Number),
     }

@@ -3,12 +3,12 @@
 ghost use Rattle.std.specs.Prelude.{◌≡◌, ◌≢◌, [], map, IfOk, IfErr, Ok, Err};
 ghost use Rattle.mpw_deck.specs.declared.deck.DeckKind.TheVariants.{Memory};
 ghost use Rattle.mpw_deck.specs.Reading.{rules_of, tile_of, deck_of};
-ghost use Rattle.mpw_deck.specs.Text.{words_of};
+ghost use Rattle.mpw_text.specs.Text.{words_of};
 
 use crate::deck::{Deck, DeckFault, DeckKind, Rules};
 use crate::line::{next_rule, tile};
 use crate::rule::Rule;
-use crate::words::{lines, parts};
+use mpw_text::{lines, parts};
 use std::alloc::Global;
 
 /// Want of memory at a line.

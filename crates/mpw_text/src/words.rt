@@ -2,12 +2,12 @@
 
 ghost use Rattle.std.specs.Prelude.{◌≡◌, ◌==◌, map, IfOk};
 ghost use Rattle.std.specs.List.{slice_split};
-ghost use Rattle.mpw_deck.specs.Text.{lines_of, is_last_empty};
+ghost use Rattle.mpw_text.specs.Text.{lines_of, is_last_empty};
 
 use std::alloc::{AllocError, Global};
 
 /// The parts of the bytes between separators, empty ones too.
-pub(crate) fn parts(alloc: Global, bytes: &[u8], separator: u8) -> Result<Vec<&[u8]>, AllocError>
+pub fn parts(alloc: Global, bytes: &[u8], separator: u8) -> Result<Vec<&[u8]>, AllocError>
     ensures { IfOk result (λ v.
         map (λ x. x.now) v.items ≡ slice_split (λ b. b == separator) bytes.now) }
 {
@@ -25,7 +25,7 @@ fn is_last_empty(parts: &[&[u8]]) -> bool
 }
 
 /// The lines of a text. Each ends with a line feed, which the last may lack.
-pub(crate) fn lines(alloc: Global, text: &[u8]) -> Result<Vec<&[u8]>, AllocError>
+pub fn lines(alloc: Global, text: &[u8]) -> Result<Vec<&[u8]>, AllocError>
     ensures { IfOk result (λ v. map (λ x. x.now) v.items ≡ lines_of text.now) }
 {
     let mut lines = parts(alloc, text, b'\n')?;

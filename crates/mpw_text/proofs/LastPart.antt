@@ -1,5 +1,5 @@
 use Rattle.std.proofs.Common.{◌≡◌, ℕ, ◌-◌, ◌≤◌, suc, ◌==◌, List, [], ◌∷◌, length, get_or, map, refl, ap, ◌∙◌, arith, Bor}
-use Rattle.mpw_deck.specs.Text.{is_last_empty}
+use Rattle.mpw_text.specs.Text.{is_last_empty}
 
 -- the test of the last part, at where it lies
 pub is_last_empty-at : (parts : List (Bor (List ℕ))) (d : Bor (List ℕ)) → 1 ≤ length parts → (length (get_or parts (length parts - 1) d).now == 0) ≡ is_last_empty (map (λ x. x.now) parts)

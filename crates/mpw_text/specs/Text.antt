@@ -1,4 +1,4 @@
--- Lines, words and numbers of a deck's text.
+-- Lines, words and numbers of a text.
 use Rattle.std.specs.Prelude.{ℕ, ◌+◌, ◌-◌, ◌*◌, Bool, false, ◌&&◌, ◌||◌, not, List, [], ◌∷◌, length, take, fold, ◌==◌, nat_le, if◌then◌else◌, Option, Some, None}
 use Rattle.std.specs.List.{slice_split, list_all}
 

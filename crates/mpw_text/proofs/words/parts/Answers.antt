@@ -1,7 +1,7 @@
 use Rattle.std.proofs.Common.{rules, ◌==◌}
 use Rattle.std.proofs.lemmas.Iterator.Consumers.{map_from_collect}
 use Rattle.std.proofs.lemmas.Iterator.Splits.{YieldsList-from_slice_split}
-use Rattle.mpw_deck.proofs.words.parts.Goals as goal
+use Rattle.mpw_text.proofs.words.parts.Goals as goal
 
 pub returns : goal.returns
 returns c =

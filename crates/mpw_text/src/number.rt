@@ -1,8 +1,8 @@
-//! Numbers in a deck's text: decimal, without leading zeros.
+//! Decimal numbers, without leading zeros.
 
 ghost use Rattle.std.specs.Prelude.{◌≡◌, ◌≤◌, ◌<◌, ◌+◌, ◌-◌, ◌^◌, nat_le, ◌&&◌, All, min, IfSome};
 ghost use Rattle.std.specs.List.{list_all};
-ghost use Rattle.mpw_deck.specs.Text.{is_decimal, decimal_value, number_of};
+ghost use Rattle.mpw_text.specs.Text.{is_decimal, decimal_value, number_of};
 
 /// Whether all bytes are decimal digits.
 fn are_digits(word: &[u8]) -> bool
@@ -35,8 +35,23 @@ fn value(digits: &[u8]) -> u64
     value
 }
 
-/// The number that a word spells, where it lies from `low` to `high`.
-pub(crate) fn number(word: &[u8], low: u32, high: u32) -> Option<u32>
+/// The number that a word spells, where it lies from `low` to `high`. One pass.
+pub fn read_count(word: &[u8], low: usize, high: usize) -> Option<usize>
+    requires { high < 2 ^ 64 - 1 }
+    ensures { result ≡ number_of low high word.now }
+{
+    if !is_decimal(word) {
+        return None;
+    }
+    let n = value(word) as usize;
+    if n < low || n > high {
+        return None;
+    }
+    Some(n)
+}
+
+/// The number that a word spells, where it lies from `low` to `high`. One pass.
+pub fn read_number(word: &[u8], low: u32, high: u32) -> Option<u32>
     ensures value { result ≡ number_of low high word.now }
     ensures limit { IfSome result (λ n. n ≤ high) }
 {
