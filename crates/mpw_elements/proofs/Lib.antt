@@ -1,3 +1,4 @@
 pub mod Fields
-pub mod Steps
 pub mod Numbers
+pub mod Shapes
+pub mod Steps

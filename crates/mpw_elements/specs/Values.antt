@@ -12,7 +12,7 @@ use Rattle.mpw_records.specs.declared.fault.ReadFault.{ReadFault}
 use Rattle.mpw_records.specs.Records.{RawRecord}
 use Rattle.mpw_real8.specs.Real.{real_value, is_whole}
 use Rattle.mpw_elements.specs.declared.values.Grid.{Grid}
-use Rattle.mpw_elements.specs.Element.{same_point, is_manhattan_step, each_step, closed}
+use Rattle.mpw_elements.specs.Element.{IsPointWithinReach, same_point, is_manhattan_step, each_step, closed}
 use Rattle.mpw_elements.specs.Reading.{fault_at}
 
 -- ---- numbers
@@ -169,6 +169,12 @@ both None y = None
 -- The step of which n lead from a point to another, if it is whole.
 abbrev pub step_of : ℕ → Point → Point → Option Point
 step_of n p q = both (part_of n (q.x -ℤ p.x)) (part_of n (q.y -ℤ p.y))
+
+-- The origin and the steps of an array are within reach.
+pub record IsGrid (g : Grid) : Type 0 where
+  pub origin : IsPointWithinReach g.origin
+  pub column_step : IsPointWithinReach g.column_step
+  pub row_step : IsPointWithinReach g.row_step
 
 abbrev pub grid_or_fault : Point → Option Point → Option Point → RawRecord → Result Grid ReadFault
 grid_or_fault origin (Some column) (Some row) r = Ok (record { origin = origin; column_step = column; row_step = row })

@@ -1,7 +1,8 @@
 //! BOUNDARY and BOX.
 
-ghost use Rattle.std.specs.Prelude.{◌≤◌, length};
+ghost use Rattle.std.specs.Prelude.{◌≤◌, length, IfOk};
 ghost use Rattle.mpw_records.specs.Format.{least_size};
+ghost use Rattle.mpw_elements.specs.Element.{IsBoundary};
 ghost use Rattle.mpw_elements.specs.Reading.{Gives};
 ghost use Rattle.mpw_elements.specs.Grammar.{boundary};
 
@@ -27,6 +28,7 @@ pub fn read_boundary(
     requires unit { unit ≤ 1000 }
     requires datatype { 2 ≤ least_size datatype }
     ensures boundary { Gives (λ b. b) result records.new (boundary start unit datatype records.old) }
+    ensures shape { IfOk result IsBoundary }
     ensures rest { length records.new ≤ length records.old }
 {
     let layer = short(expect(records, start, kind::LAYER)?);

@@ -58,10 +58,9 @@ impl Boundary {
     pub fn copy(&self) -> Result<Boundary, AllocError>
         ensures { IfOk result (λ boundary. boundary ≡ self.now) }
     {
-        Ok(Boundary {
-            layer: self.layer,
-            points: self.points.copy()?,
-        })
+        let layer = self.layer;
+        let points = self.points.copy()?;
+        Ok(Boundary { layer, points })
     }
 }
 

@@ -1,7 +1,8 @@
 //! Elements by their records.
 
-ghost use Rattle.std.specs.Prelude.{◌≡◌, ◌≤◌, [], length, OnErr};
+ghost use Rattle.std.specs.Prelude.{◌≡◌, ◌≤◌, [], length, IfOk, IfSome, OnErr};
 ghost use Rattle.mpw_records.specs.Records.{raw};
+ghost use Rattle.mpw_elements.specs.Element.{IsElement};
 ghost use Rattle.mpw_elements.specs.Reading.{Gives};
 ghost use Rattle.mpw_elements.specs.Grammar.{ignored, element};
 
@@ -44,6 +45,7 @@ fn one_element(
 ) -> Result<Option<Element>, ReadError>
     requires { unit ≤ 1000 }
     ensures element { Gives (λ e. e) result records.new (element unit (raw first.entry) records.old) }
+    ensures shape { IfOk result (λ found. IfSome found IsElement) }
     ensures rest { length records.new ≤ length records.old }
 {
     let start = first.offset;
@@ -91,6 +93,7 @@ pub fn read_element(
 ) -> Result<Option<Element>, ReadError>
     requires { unit ≤ 1000 }
     ensures read { Gives (λ e. e) result records.new (element unit (raw first.entry) records.old) }
+    ensures shape { IfOk result (λ found. IfSome found IsElement) }
     ensures err { OnErr result (records.new ≡ []) }
     ensures rest { length records.new ≤ length records.old }
 {

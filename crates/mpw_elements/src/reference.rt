@@ -3,6 +3,7 @@
 ghost use Rattle.std.specs.Prelude.{◌≤◌, length, IfOk};
 ghost use Rattle.mpw_records.specs.declared.kind.TheConstants.{MAG, ANGLE};
 ghost use Rattle.mpw_records.specs.Records.{raw, IsSized};
+ghost use Rattle.mpw_elements.specs.Element.{IsReference};
 ghost use Rattle.mpw_elements.specs.Reading.{Gives, optional};
 ghost use Rattle.mpw_elements.specs.Values.{magnification_of, turns_of};
 ghost use Rattle.mpw_elements.specs.Grammar.{orientation, single, array};
@@ -85,6 +86,7 @@ pub fn read_single(
 ) -> Result<Reference, ReadError>
     requires { unit ≤ 1000 }
     ensures reference { Gives (λ r. r) result records.new (single start unit records.old) }
+    ensures shape { IfOk result IsReference }
     ensures rest { length records.new ≤ length records.old }
 {
     let name = read_name(alloc, expect(records, start, kind::SNAME)?)?;
@@ -113,6 +115,7 @@ pub fn read_array(
 ) -> Result<Reference, ReadError>
     requires { unit ≤ 1000 }
     ensures reference { Gives (λ r. r) result records.new (array start unit records.old) }
+    ensures shape { IfOk result IsReference }
     ensures rest { length records.new ≤ length records.old }
 {
     let name = read_name(alloc, expect(records, start, kind::SNAME)?)?;

@@ -1,9 +1,11 @@
 //! What a record of an element tells, and the faults of its value.
 
-ghost use Rattle.std.specs.Prelude.{◌≡◌, ◌<◌, ◌≤◌, ◌^◌, ◌-ℤ◌, unsigned_abs, ℕ, pos, length, IfOk};
+ghost use Rattle.std.specs.Prelude.{◌≡◌, ◌<◌, ◌≤◌, ◌^◌, ◌-ℤ◌, unsigned_abs, ℕ, pos, length, IfOk, IfSome};
 ghost use Rattle.mpw_records.specs.Records.{raw, IsSized};
+ghost use Rattle.mpw_geom.specs.Name.{IsName};
+ghost use Rattle.mpw_elements.specs.Element.{IsWithinReach, IsPointWithinReach, IsWidth, IsCount};
 ghost use Rattle.mpw_elements.specs.Reading.{GivesValue};
-ghost use Rattle.mpw_elements.specs.Values.{short_of, place_of, path_type_of, width_of, lengthening, without_nuls, name_of, mirrored_of, magnification_of, turns, turns_of, orient_of, counts_of, part_of, both, IsNear, step_of, grid_of};
+ghost use Rattle.mpw_elements.specs.Values.{short_of, place_of, path_type_of, width_of, lengthening, without_nuls, name_of, mirrored_of, magnification_of, turns, turns_of, orient_of, counts_of, part_of, both, IsGrid, IsNear, step_of, grid_of};
 
 use crate::fault::ReadError;
 use crate::reading::fault_of;
@@ -31,10 +33,11 @@ pub fn short(from: Record<'_>) -> u16
 }
 
 /// The one point of a reference.
-#[tactic(auto, unfolding(crate::specs::Values::place_of))]
+#[tactic(auto, using(crate::proofs::Shapes::near_point), unfolding(crate::specs::Values::place_of))]
 pub fn place(unit: u16, xy: Record<'_>) -> Result<Point, ReadFault>
     requires { unit ≤ 1000 }
-    ensures { result ≡ place_of unit (raw xy.entry) }
+    ensures place { result ≡ place_of unit (raw xy.entry) }
+    ensures reach { IfOk result IsPointWithinReach }
 {
     if xy.bytes.len() != 8 {
         return Err(fault_of(Code::BadSize, xy));
@@ -61,7 +64,8 @@ pub fn path_type(from: Record<'_>) -> Result<u16, ReadFault>
 pub fn width(unit: u16, from: Record<'_>) -> Result<i64, ReadFault>
     requires unit { unit ≤ 1000 }
     requires bytes { 4 ≤ length from.bytes.now }
-    ensures { result ≡ width_of unit (raw from.entry) }
+    ensures width { result ≡ width_of unit (raw from.entry) }
+    ensures even { IfOk result IsWidth }
 {
     let width = scale(unit, from.bytes).unsigned_abs();
     if width % 2 != 0 {
@@ -72,7 +76,8 @@ pub fn width(unit: u16, from: Record<'_>) -> Result<i64, ReadFault>
 
 /// How far an end of a path of a type is lengthened, where BGNEXTN or ENDEXTN gives so much.
 pub fn lengthening(path_type: u16, width: i64, given: i64) -> i64
-    ensures { result ≡ lengthening path_type width given }
+    ensures lengthening { result ≡ lengthening path_type width given }
+    ensures reach { IsWidth width → IsWithinReach given → IsWithinReach result }
 {
     match path_type {
         4 => given,
@@ -98,7 +103,8 @@ fn trim_nuls(bytes: &[u8]) -> &[u8]
 /// `BadName` at the record, or want of memory.
 #[tactic(auto, unfolding(crate::specs::Values::name_of))]
 pub fn read_name(alloc: Global, from: Record<'_>) -> Result<Name, ReadError>
-    ensures { GivesValue (λ name. name) result (name_of (raw from.entry)) }
+    ensures name { GivesValue (λ name. name) result (name_of (raw from.entry)) }
+    ensures is_name { IfOk result IsName }
 {
     match Name::read(alloc, trim_nuls(from.bytes)) {
         Ok(name) => Ok(name),
@@ -184,8 +190,8 @@ pub fn orient(mirrored: bool, turns: u8) -> Orient
 pub fn counts(from: Record<'_>) -> Result<(u16, u16), ReadFault>
     requires { 4 ≤ length from.bytes.now }
     ensures counts { result ≡ counts_of (raw from.entry) }
-    ensures columns { IfOk result (λ n. 1 ≤ n.0) }
-    ensures rows { IfOk result (λ n. 1 ≤ n.1) }
+    ensures columns { IfOk result (λ n. IsCount n.0) }
+    ensures rows { IfOk result (λ n. IsCount n.1) }
 {
     let columns = BigEndian::read_u16(from.bytes);
     let rows = BigEndian::read_u16(&from.bytes[2..]);
@@ -197,8 +203,10 @@ pub fn counts(from: Record<'_>) -> Result<(u16, u16), ReadFault>
 
 /// A whole number of nm of which `count` make a length, if there is one.
 fn part(count: u16, whole: i64) -> Option<i64>
-    requires { 1 ≤ count }
-    ensures { result ≡ part_of count whole }
+    requires count { 1 ≤ count }
+    requires whole { unsigned_abs whole < 2 ^ 43 }
+    ensures part { result ≡ part_of count whole }
+    ensures reach { IfSome result IsWithinReach }
 {
     let count = i64::from(count);
     if whole % count != 0 {
@@ -211,13 +219,15 @@ fn part(count: u16, whole: i64) -> Option<i64>
 fn difference(from: i64, to: i64) -> i64
     requires from { unsigned_abs from < 2 ^ 42 }
     requires to { unsigned_abs to < 2 ^ 42 }
-    ensures { result ≡ to -ℤ from }
+    ensures difference { result ≡ to -ℤ from }
+    ensures bound { unsigned_abs result < 2 ^ 43 }
 {
     to - from
 }
 
 fn both(x: Option<i64>, y: Option<i64>) -> Option<Point>
-    ensures { result ≡ both x y }
+    ensures both { result ≡ both x y }
+    ensures reach { IfSome x IsWithinReach → IfSome y IsWithinReach → IfSome result IsPointWithinReach }
 {
     match (x, y) {
         (Some(x), Some(y)) => Some(Point { x, y }),
@@ -230,7 +240,8 @@ fn step(count: u16, from: Point, to: Point) -> Option<Point>
     requires count { 1 ≤ count }
     requires from { IsNear from }
     requires to { IsNear to }
-    ensures { result ≡ step_of count from to }
+    ensures step { result ≡ step_of count from to }
+    ensures reach { IfSome result IsPointWithinReach }
 {
     let across = difference(from.x, to.x);
     let up = difference(from.y, to.y);
@@ -243,7 +254,8 @@ pub fn read_grid(unit: u16, columns: u16, rows: u16, xy: Record<'_>) -> Result<G
     requires unit { unit ≤ 1000 }
     requires columns { 1 ≤ columns }
     requires rows { 1 ≤ rows }
-    ensures { result ≡ grid_of unit columns rows (raw xy.entry) }
+    ensures grid { result ≡ grid_of unit columns rows (raw xy.entry) }
+    ensures reach { IfOk result IsGrid }
 {
     if xy.bytes.len() != 24 {
         return Err(fault_of(Code::BadSize, xy));

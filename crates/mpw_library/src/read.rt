@@ -1,10 +1,12 @@
 //! Reading a whole text.
 
-ghost use Rattle.std.specs.Prelude.{◌≡◌, ◌<◌, ◌≤◌, ◌==◌, ◌||◌, None, length, IsTrue, OnOk, IfOk, IfSome};
+ghost use Rattle.std.specs.Prelude.{◌≡◌, ◌<◌, ◌≤◌, ◌==◌, ◌||◌, None, length, IsTrue, OnOk, IfOk, IfSome, All};
 ghost use Rattle.mpw_records.specs.Format.{least_size};
 ghost use Rattle.mpw_records.specs.Records.{raw, IsSized};
+ghost use Rattle.mpw_elements.specs.Element.{IsElement};
 ghost use Rattle.mpw_elements.specs.Reading.{Gives, GivesValue, demanded};
 ghost use Rattle.mpw_library.specs.Grammar.{gone, next_record, next_is, unit_of, ends_head, up_to, head, is_between, item, all_elements, structure, next_structure, all_structures, library_of};
+ghost use Rattle.mpw_library.specs.Library.{IsItem, IsStructure, IsLibrary};
 ghost use Rattle.mpw_library.specs.Places.{place_of};
 
 use crate::elements::Elements;
@@ -122,6 +124,7 @@ fn is_between(kind: u8) -> bool
 fn next_item(alloc: Global, records: &mut Records<'_>, unit: u16) -> Result<Item, ReadError>
     requires { unit ≤ 1000 }
     ensures item { Gives (λ i. i) result records.new (item unit records.old) }
+    ensures shape { IfOk result IsItem }
     ensures rest { OnOk result (length records.new < length records.old) }
     ensures at_most { length records.new ≤ length records.old }
 {
@@ -142,6 +145,7 @@ fn next_item(alloc: Global, records: &mut Records<'_>, unit: u16) -> Result<Item
 fn read_elements(alloc: Global, records: &mut Records<'_>, unit: u16) -> Result<Elements, ReadError>
     requires { unit ≤ 1000 }
     ensures elements { Gives (λ es. es) result records.new (all_elements unit records.old) }
+    ensures shape { IfOk result (All IsElement) }
     ensures rest { length records.new ≤ length records.old }
 {
     let mut elements = Vec::new(alloc);
@@ -164,6 +168,7 @@ fn read_structure(
 ) -> Result<Structure, ReadError>
     requires { unit ≤ 1000 }
     ensures structure { Gives (λ s. s) result records.new (structure unit before.now records.old) }
+    ensures shape { IfOk result IsStructure }
     ensures rest { length records.new ≤ length records.old }
     ensures new { IfOk result (λ s. place_of before.now s.name ≡ None) }
 {
@@ -186,6 +191,7 @@ fn next_structure(
 ) -> Result<Option<Structure>, ReadError>
     requires { unit ≤ 1000 }
     ensures structure { Gives (λ s. s) result records.new (next_structure unit before.now records.old) }
+    ensures shape { IfOk result (λ found. IfSome found IsStructure) }
     ensures rest { OnOk result (length records.new < length records.old) }
     ensures new { IfOk result (λ found. IfSome found (λ s. place_of before.now s.name ≡ None)) }
 {
@@ -204,7 +210,8 @@ fn read_structures(
     unit: u16,
 ) -> Result<Structures, ReadError>
     requires { unit ≤ 1000 }
-    ensures { Gives (λ ss. ss) result records.new (all_structures unit records.old) }
+    ensures structures { Gives (λ ss. ss) result records.new (all_structures unit records.old) }
+    ensures shape { IfOk result IsLibrary }
 {
     let mut structures = Structures::new(alloc);
     while let Some(structure) = next_structure(alloc, records, unit, &structures)? {
@@ -223,7 +230,8 @@ fn read_structures(
 /// The first fault by offset, with the first code in the order of the tests; or want of memory.
 #[tactic(auto, unfolding(crate::specs::Grammar::library))]
 pub fn read_library(alloc: Global, bytes: &[u8]) -> Result<Library, ReadError>
-    ensures { GivesValue (λ library. library) result (library_of bytes.now) }
+    ensures library { GivesValue (λ library. library) result (library_of bytes.now) }
+    ensures shape { IfOk result IsLibrary }
 {
     let mut records = Records::new(bytes);
     next_is(&mut records, kind::HEADER)?;

@@ -1,18 +1,25 @@
-//! Small GDSII libraries for tests, written in a short notation.
+//! Small GDSII libraries for tests, built record by record.
 //!
-//! `sample(alloc, "TOP: b 1/0 0 0 10 20; s PAD 5 5; PAD: b 2/0 0 0 1 1")` is the text of a library
-//! with a unit of 1 nm. Items are parted by semicolons, and a structure begins at `NAME:`.
-//! - `b L/D x0 y0 x1 y1` is a rectangle on a layer with a datatype;
-//! - `s NAME x y` places a structure;
-//! - `a NAME columns rows x y x y x y` places an array, with the three points of its XY.
-//!
-//! The parts of a [`Sample`] build what the notation doesn't have.
+//! A [`Sample`] begins with a unit, takes structures with their elements, and gives its bytes:
+//! ```text
+//! let mut text = Sample::new(alloc, NANOMETRE)?;
+//! text.begin("TOP")?;
+//! text.boundary(1, 0, &[(0, 0), (10, 0), (10, 20), (0, 20), (0, 0)])?;
+//! text.place("PAD", 5, 5)?;
+//! text.end()?;
+//! let bytes = text.finish()?;
+//! ```
+//! Every call adds its records whole, or changes nothing.
 #![tactic(auto)]
 
+mod encode;
+mod error;
+#[cfg(test)]
 mod notation;
+mod record;
+mod sample;
 #[cfg(test)]
 mod tests;
-mod text;
 
-pub use notation::{SampleError, sample};
-pub use text::{NANOMETRE, Sample};
+pub use error::SampleError;
+pub use sample::{NANOMETRE, Sample};

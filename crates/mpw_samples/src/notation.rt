@@ -1,50 +1,48 @@
-//! The short notation.
+//! The short notation of the tests: `NAME:` begins a structure, and semicolons part the items.
+//! - `b L/D x0 y0 x1 y1` is a rectangle on a layer with a datatype;
+//! - `s NAME x y` places a structure;
+//! - `a NAME columns rows x y x y x y` places an array, with the three points of its XY.
 
-use crate::text::{NANOMETRE, Sample};
-use std::alloc::{AllocError, AllocFailed, Global};
+use crate::error::SampleError;
+use crate::sample::{NANOMETRE, Sample};
+use std::alloc::Global;
 use thiserror::Error;
 
 /// Why a notation gives no text.
 #[derive(Debug, Drop, Error)]
-pub enum SampleError {
+pub enum NotationError {
     #[error("not in the notation of samples")]
     Notation,
-    #[error("out of memory")]
-    Memory,
+    #[error("{0}")]
+    Sample(SampleError),
 }
 
-impl From<AllocError> for SampleError {
-    fn from(_error: AllocError) -> SampleError {
-        SampleError::Memory
+impl From<SampleError> for NotationError {
+    fn from(error: SampleError) -> NotationError {
+        NotationError::Sample(error)
     }
 }
 
-impl<T: Drop> From<AllocFailed<T>> for SampleError {
-    fn from(_error: AllocFailed<T>) -> SampleError {
-        SampleError::Memory
-    }
+fn word<'a>(found: Option<&'a str>) -> Result<&'a str, NotationError> {
+    found.ok_or(NotationError::Notation)
 }
 
-fn word<'a>(found: Option<&'a str>) -> Result<&'a str, SampleError> {
-    found.ok_or(SampleError::Notation)
-}
-
-fn number(found: Option<&str>) -> Result<i32, SampleError> {
+fn number(found: Option<&str>) -> Result<i32, NotationError> {
     match word(found)?.parse::<i32>() {
         Ok(number) => Ok(number),
-        Err(_) => Err(SampleError::Notation),
+        Err(_) => Err(NotationError::Notation),
     }
 }
 
-fn short(found: &str) -> Result<u16, SampleError> {
+fn short(found: &str) -> Result<u16, NotationError> {
     match found.parse::<u16>() {
         Ok(number) => Ok(number),
-        Err(_) => Err(SampleError::Notation),
+        Err(_) => Err(NotationError::Notation),
     }
 }
 
 /// Adds one item behind the others. `open` tells whether a structure was begun.
-fn add_item(text: &mut Sample, open: &mut bool, item: &str) -> Result<(), SampleError> {
+fn add_item(text: &mut Sample, open: &mut bool, item: &str) -> Result<(), NotationError> {
     let mut words = item.split_whitespace();
     let Some(mut first) = words.next() else {
         return Ok(());
@@ -64,7 +62,7 @@ fn add_item(text: &mut Sample, open: &mut bool, item: &str) -> Result<(), Sample
         "b" => {
             let (layer, datatype) = word(words.next())?
                 .split_once('/')
-                .ok_or(SampleError::Notation)?;
+                .ok_or(NotationError::Notation)?;
             let (layer, datatype) = (short(layer)?, short(datatype)?);
             let (x0, y0) = (number(words.next())?, number(words.next())?);
             let (x1, y1) = (number(words.next())?, number(words.next())?);
@@ -86,16 +84,13 @@ fn add_item(text: &mut Sample, open: &mut bool, item: &str) -> Result<(), Sample
             let last_row = (number(words.next())?, number(words.next())?);
             text.array(name, columns, rows, &[origin, last_column, last_row])?;
         }
-        _ => return Err(SampleError::Notation),
+        _ => return Err(NotationError::Notation),
     }
     Ok(())
 }
 
-/// The text of a library in the notation of this crate.
-///
-/// # Errors
-/// `Notation` where an item has another form; `Memory`.
-pub fn sample(alloc: Global, notation: &str) -> Result<Vec<u8>, SampleError> {
+/// The text of a library in the notation.
+pub fn sample(alloc: Global, notation: &str) -> Result<Vec<u8>, NotationError> {
     let mut text = Sample::new(alloc, NANOMETRE)?;
     let mut open = false;
     for item in notation.split(';') {

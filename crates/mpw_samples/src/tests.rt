@@ -1,6 +1,7 @@
 //! The reader of libraries on small texts, with offsets counted by hand.
 
 use super::*;
+use crate::notation::sample;
 use mpw_elements::{Boundary, Element, Path, ReadError, Reference};
 use mpw_geom::{Layer, Orient, Point};
 use mpw_library::{Library, read_library};
@@ -413,5 +414,24 @@ fn places_in_the_grammar(rt: HostRuntime) -> Result<(), Fail> {
     let mut spaced = Sample::new(alloc, NANOMETRE)?;
     spaced.begin("A B")?;
     refused(&rt, &spaced.finish()?, Code::BadName, 88);
+    Ok(())
+}
+
+#[test]
+fn copies(rt: HostRuntime) -> Result<(), Fail> {
+    let alloc = rt.alloc();
+    let bytes = sample(alloc, "TOP: s PAD 7 -7")?;
+    let library = read_library(alloc, &bytes)?.copy()?;
+    match only(&library).ok_or("an element")?.copy()? {
+        Element::Reference(placed) => assert_eq!(rt; placed.origin, at(7, -7)),
+        _ => assert!(rt; false),
+    }
+    let bytes = wired(alloc, NANOMETRE, &[(kind::WIDTH, 4)], &[(0, 0), (9, 0)])?;
+    let library = read_library(alloc, &bytes)?;
+    assert_eq!(rt; path(&library).ok_or("a path")?.copy()?.width, 4);
+    let bytes = sample(alloc, "TOP: b 1/0 0 0 10 20")?;
+    let library = read_library(alloc, &bytes)?;
+    let copy = boundary(&library).ok_or("a boundary")?.copy()?;
+    assert_eq!(rt; copy.points.as_slice().len(), 4);
     Ok(())
 }

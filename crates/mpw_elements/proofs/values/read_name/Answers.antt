@@ -4,6 +4,6 @@ use Rattle.mpw_records.specs.Records.{raw}
 use Rattle.mpw_elements.proofs.Numbers.{named}
 use Rattle.mpw_elements.proofs.values.read_name.Goals as goal
 
-pub returns-in-Ok : goal.returns-in-Ok
-returns-in-Ok c =
+pub returns-in-Ok-clause-name : goal.returns-in-Ok-clause-name
+returns-in-Ok-clause-name c =
     named (raw c.args.from) (subst IsName c.trim_nuls.ensures c.in-Ok.ensures.is_name) ∙ ap Ok (sym (c.in-Ok.ensures.ok ∙ c.trim_nuls.ensures))

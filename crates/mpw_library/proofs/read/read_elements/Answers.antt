@@ -1,7 +1,10 @@
-use Rattle.std.proofs.Common.{Ok, sym, ap, ◌∙◌, arith, refl}
+use Rattle.std.proofs.Common.{Ok, sym, ap, subst, ◌∙◌, arith, refl}
+use Rattle.std.proofs.lemmas.List.Elements.{All-push}
 use Rattle.std.proofs.lemmas.Result.{err_from_is_err_and}
+use Rattle.mpw_elements.specs.Element.{IsElement}
 use Rattle.mpw_library.specs.declared.read.Item.{Item}
 use Rattle.mpw_library.specs.declared.read.Item.TheVariants as items
+use Rattle.mpw_library.specs.Library.{IsItem}
 use Rattle.mpw_library.specs.Grammar.{all_elements}
 use Rattle.mpw_library.proofs.Loops.{elements_err, elements_end, elements_more, elements_other}
 use Rattle.mpw_library.proofs.read.read_elements.Goals as goal
@@ -25,6 +28,7 @@ loop-elements-preserved-in-Other c =
     record {
       same = elements_other c.args.unit c.loop-elements.elements.items c.loop-elements.records rest (all_elements c.args.unit c.args.records.now) c.loop-elements.invariant.same c.in_ok-next_item.ensures.rest next;
       rest = omega (arith, c.in_ok-next_item.ensures.rest);
+      shape = c.loop-elements.invariant.shape;
     }
 
 pub loop-elements-preserved : goal.loop-elements-preserved
@@ -34,4 +38,5 @@ loop-elements-preserved c =
     record {
       same = rw c.in_ok-push-in-Placed.ensures.items (elements_more c.args.unit c.loop-elements.elements.items c.loop-elements.records rest (items.Placed c.in-Placed.element) (all_elements c.args.unit c.args.records.now) c.loop-elements.invariant.same c.in_ok-next_item.ensures.rest next refl);
       rest = omega (arith, c.in_ok-next_item.ensures.rest);
+      shape = rw c.in_ok-push-in-Placed.ensures.items (All-push IsElement c.loop-elements.elements.items c.in-Placed.element c.loop-elements.invariant.shape (subst IsItem c.in-Placed.is c.in_ok-next_item.ensures.shape));
     }

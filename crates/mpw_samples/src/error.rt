@@ -1,0 +1,33 @@
+//! Why a sample couldn't grow.
+
+ghost use Rattle.std.specs.Prelude.{◌≡◌};
+ghost use Rattle.mpw_samples.specs.declared.error.SampleError.TheVariants.{Memory};
+
+use std::alloc::{AllocError, AllocFailed};
+use thiserror::Error;
+
+/// Why records weren't added.
+#[derive(Debug, Drop, Error)]
+pub enum SampleError {
+    /// A record's data has more than 65531 bytes.
+    #[error("a record has at most 65531 bytes of data")]
+    TooLong,
+    #[error("out of memory")]
+    Memory,
+}
+
+impl From<AllocError> for SampleError {
+    ghost from_gives = { λ _ e. e ≡ Memory };
+
+    fn from(_error: AllocError) -> SampleError {
+        SampleError::Memory
+    }
+}
+
+impl<T: Drop> From<AllocFailed<T>> for SampleError {
+    ghost from_gives = { λ _ e. e ≡ Memory };
+
+    fn from(_error: AllocFailed<T>) -> SampleError {
+        SampleError::Memory
+    }
+}
