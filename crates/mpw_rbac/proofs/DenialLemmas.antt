@@ -1,15 +1,19 @@
 -- A denial names what the session lacks.
-use Rattle.std.proofs.Common.{◌≡◌, ℕ, Bool, true, false, cond, not, ◌||◌, ◌&&◌, ◌⊎◌, inl, inr, List, [], ◌∷◌, ◌++◌, length, Result, Ok, Err, refl, sym, ap, ◌∙◌, true≢false}
-use Rattle.std.specs.Prelude.{nat_lt, filter}
-use Rattle.std.specs.List.{list_any}
+use Rattle.std.proofs.Common.{◌≡◌, ℕ, Bool, true, false, cond, not, ◌||◌, ◌&&◌, inl, inr, List, [], ◌∷◌, ◌++◌, Option, None, Some, Result, Err, refl, ap, subst, true≢false}
+use Rattle.std.specs.Prelude.{nat_lt, length}
+use Rattle.std.specs.List.{list_any, list_all}
 use Rattle.mpw_geom.specs.Names.{contains_name}
 use Rattle.mpw_roles.specs.Decided.{decided}
-use Rattle.mpw_roles.specs.Hierarchy.{Name, is_role, with_role}
-use Rattle.mpw_roles.specs.Order.{roles_below}
+use Rattle.mpw_roles.specs.Hierarchy.{Name, is_role, is_immediate}
+use Rattle.mpw_roles.specs.Order.{at_least, roles_below}
 use Rattle.mpw_roles.proofs.CallerLemmas.{or_cases, or_right, roles_below-grows}
-use Rattle.mpw_rbac.specs.Grant.{grant_eq, operation_eq, object_eq}
-use Rattle.mpw_rbac.specs.Laws.{DeniesRightly}
-use Rattle.mpw_rbac.specs.Policy.{Policy, authorized, assigned_roles, is_user, permits, is_granted_to, session_permits}
+use Rattle.mpw_separation.specs.Least.{least_name, IsLeast}
+use Rattle.mpw_separation.specs.Separation.{broken_names, has_set}
+use Rattle.mpw_separation.specs.declared.set.SeparationSet.{SeparationSet}
+use Rattle.mpw_separation.proofs.LeastLemmas.{least-is}
+use Rattle.mpw_rbac.specs.Grant.{operation_eq, object_eq}
+use Rattle.mpw_rbac.specs.Laws.{DeniesRightly, IsLeastStatic, IsLeastDynamic}
+use Rattle.mpw_rbac.specs.Policy.{Policy, authorized, assigned_roles, is_user, permits, is_granted_to, session_permits, trim, assigned_lists, active_lists}
 use Rattle.mpw_rbac.specs.Rows as rows
 use Rattle.mpw_rbac.specs.declared.permission.Grant.{Grant}
 use Rattle.mpw_rbac.specs.declared.permission.Object.{Object}
@@ -17,7 +21,11 @@ use Rattle.mpw_rbac.specs.declared.permission.Object.TheVariants.{Desk}
 use Rattle.mpw_rbac.specs.declared.permission.Operation.{Operation}
 use Rattle.mpw_rbac.specs.declared.permission.Operation.TheVariants.{Admin}
 use Rattle.mpw_rbac.specs.declared.refusal.Refusal.{Refusal}
-use Rattle.mpw_rbac.specs.declared.refusal.Refusal.TheVariants.{NoSession, NotPermitted, NotAuthorized, Unknown, Known, Full, Ssd, Dsd}
+use Rattle.mpw_rbac.specs.declared.refusal.Refusal.TheVariants.{NoSession, NotPermitted, NotAuthorized, Unknown, Known, Full, Used, Loop, Ssd, Dsd}
+use Rattle.mpw_rbac.specs.Sound.{sets_hold}
+use Rattle.mpw_rbac.proofs.LawLemmas.{static-holds}
+use Rattle.mpw_rbac.proofs.RowLemmas.{AllPass}
+use Rattle.mpw_rbac.proofs.RowTests as row
 
 and_three : (a b c d : Bool) → (c ≡ true → d ≡ true) → (a && (b && c)) ≡ true → (a && (b && d)) ≡ true
 and_three true true c d more is = more is
@@ -67,58 +75,216 @@ admin-denied p conn operation object tests next none is = by (rows.in_session p 
     by true false e f = cc
     by false b e f = cc
 
-ssd-other : (operation : Operation) (object : Object) (names : List Name) → (rows.none_broken Ssd names).1 ≡ NotPermitted operation object → ⊥
-ssd-other operation object [] e = cc
-ssd-other operation object (n ∷ ns) e = cc
+-- refusals of other kinds
+abbrev IsPlain : Refusal → Type 0
+IsPlain denial = (Known ≡ denial → ⊥) × (Unknown ≡ denial → ⊥) × (Full ≡ denial → ⊥) × (Used ≡ denial → ⊥) × (Loop ≡ denial → ⊥) × (NoSession ≡ denial → ⊥)
 
-dsd-other : (role : Name) (names : List Name) → (rows.none_broken Dsd names).1 ≡ NotAuthorized role → ⊥
-dsd-other role [] e = cc
-dsd-other role (n ∷ ns) e = cc
+permission-plain : (operation : Operation) (object : Object) → IsPlain (NotPermitted operation object)
+permission-plain operation object = (λ e. cc, λ e. cc, λ e. cc, λ e. cc, λ e. cc, λ e. cc)
 
-known-other : (operation : Operation) (object : Object) → Known ≡ NotPermitted operation object → ⊥
-known-other operation object e = cc
+activation-plain : (role : Name) → IsPlain (NotAuthorized role)
+activation-plain role = (λ e. cc, λ e. cc, λ e. cc, λ e. cc, λ e. cc, λ e. cc)
 
-full-other : (operation : Operation) (object : Object) → Full ≡ NotPermitted operation object → ⊥
-full-other operation object e = cc
+ssd-plain : (name : Name) → IsPlain (Ssd name)
+ssd-plain name = (λ e. cc, λ e. cc, λ e. cc, λ e. cc, λ e. cc, λ e. cc)
 
-unknown-other : (operation : Operation) (object : Object) → Unknown ≡ NotPermitted operation object → ⊥
-unknown-other operation object e = cc
+dsd-plain : (name : Name) → IsPlain (Dsd name)
+dsd-plain name = (λ e. cc, λ e. cc, λ e. cc, λ e. cc, λ e. cc, λ e. cc)
+
+ssd-permission : (operation : Operation) (object : Object) (o : Option Name) → (rows.none_broken Ssd o).1 ≡ NotPermitted operation object → ⊥
+ssd-permission operation object None e = cc
+ssd-permission operation object (Some n) e = cc
+
+dsd-permission : (operation : Operation) (object : Object) (o : Option Name) → (rows.none_broken Dsd o).1 ≡ NotPermitted operation object → ⊥
+dsd-permission operation object None e = cc
+dsd-permission operation object (Some n) e = cc
+
+dsd-activation : (role : Name) (o : Option Name) → (rows.none_broken Dsd o).1 ≡ NotAuthorized role → ⊥
+dsd-activation role None e = cc
+dsd-activation role (Some n) e = cc
+
+dsd-static : (name : Name) (o : Option Name) → (rows.none_broken Dsd o).1 ≡ Ssd name → ⊥
+dsd-static name None e = cc
+dsd-static name (Some n) e = cc
+
+ssd-dynamic : (name : Name) (o : Option Name) → (rows.none_broken Ssd o).1 ≡ Dsd name → ⊥
+ssd-dynamic name None e = cc
+ssd-dynamic name (Some n) e = cc
+
+admin-static : (name : Name) → NotPermitted Admin Desk ≡ Ssd name → ⊥
+admin-static name e = cc
+
+admin-dynamic : (name : Name) → NotPermitted Admin Desk ≡ Dsd name → ⊥
+admin-dynamic name e = cc
+
+activation-dynamic : (role name : Name) → NotAuthorized role ≡ Dsd name → ⊥
+activation-dynamic role name e = cc
 
 pub denies-adduser : (conn : ℕ) (user digest : List ℕ) → DeniesRightly conn (λ p. rows.adduser p conn user digest)
 denies-adduser conn user digest p op obj is =
-    admin-denied p conn op obj ((not (is_user p user), Known) ∷ (nat_lt (length p.users) 512, Full) ∷ []) (record p { users = p.users ++ (user, record { digest = digest; roles = [] }) ∷ [] })
-    (known-other op obj, (full-other op obj, tt)) is
+    let f = permission-plain op obj in
+    admin-denied p conn op obj (row.adduser-tests p user) (row.user_added p user digest) (f.0, (f.2, tt)) is
+
+pub denies-deluser : (conn : ℕ) (user : List ℕ) → DeniesRightly conn (λ p. rows.deluser p conn user)
+denies-deluser conn user p op obj is =
+    let f = permission-plain op obj in
+    admin-denied p conn op obj (row.deluser-tests p user) (trim (row.user_deleted p user)) (f.1, tt) is
 
 pub denies-addrole : (conn : ℕ) (role : List ℕ) → DeniesRightly conn (λ p. rows.addrole p conn role)
 denies-addrole conn role p op obj is =
-    admin-denied p conn op obj ((not (is_role p.roles role), Known) ∷ (nat_lt (length p.roles) 512, Full) ∷ []) (record p { roles = with_role p.roles role })
-    (known-other op obj, (full-other op obj, tt)) is
+    let f = permission-plain op obj in
+    admin-denied p conn op obj (row.addrole-tests p role) (row.role_added p role) (f.0, (f.2, tt)) is
+
+pub denies-delrole : (conn : ℕ) (role : List ℕ) → DeniesRightly conn (λ p. rows.delrole p conn role)
+denies-delrole conn role p op obj is =
+    let f = permission-plain op obj in
+    admin-denied p conn op obj (row.delrole-tests p role) (trim (rows.without_role_of p role)) (f.1, (f.3, tt)) is
 
 pub denies-assign : (conn : ℕ) (user role : List ℕ) → DeniesRightly conn (λ p. rows.assign p conn user role)
 denies-assign conn user role p op obj is =
-    let next = rows.with_assigned p user (assigned_roles p user ++ role ∷ []) in
-    admin-denied p conn op obj ((is_user p user && is_role p.roles role, Unknown) ∷ (not (contains_name (assigned_roles p user) role), Known) ∷ rows.ssd_holds next ∷ []) next
-    (unknown-other op obj, (known-other op obj, (ssd-other op obj _, tt))) is
+    let f = permission-plain op obj in
+    admin-denied p conn op obj (row.assign-tests p user role) (row.assigned p user role) (f.1, (f.0, (ssd-permission op obj _, tt))) is
+
+pub denies-deassign : (conn : ℕ) (user role : List ℕ) → DeniesRightly conn (λ p. rows.deassign p conn user role)
+denies-deassign conn user role p op obj is =
+    let f = permission-plain op obj in
+    admin-denied p conn op obj (row.deassign-tests p user role) (trim (row.deassigned p user role)) (f.1, tt) is
 
 pub denies-grant : (conn : ℕ) (new : Grant) → DeniesRightly conn (λ p. rows.grant p conn new)
 denies-grant conn new p op obj is =
-    admin-denied p conn op obj ((is_role p.roles new.role, Unknown) ∷ (not (list_any (grant_eq new) p.granted), Known) ∷ (nat_lt (length p.granted) 4096, Full) ∷ []) (record p { granted = p.granted ++ new ∷ [] })
-    (unknown-other op obj, (known-other op obj, (full-other op obj, tt))) is
+    let f = permission-plain op obj in
+    admin-denied p conn op obj (row.grant-tests p new) (row.grant_added p new) (f.1, (f.0, (f.2, tt))) is
 
 pub denies-revoke : (conn : ℕ) (old : Grant) → DeniesRightly conn (λ p. rows.revoke p conn old)
 denies-revoke conn old p op obj is =
-    admin-denied p conn op obj ((list_any (grant_eq old) p.granted, Unknown) ∷ []) (record p { granted = filter (λ other. not (grant_eq old other)) p.granted })
-    (unknown-other op obj, tt) is
+    let f = permission-plain op obj in
+    admin-denied p conn op obj (row.revoke-tests p old) (row.grant_revoked p old) (f.1, tt) is
+
+pub denies-inherit : (conn : ℕ) (senior junior : List ℕ) → DeniesRightly conn (λ p. rows.inherit p conn senior junior)
+denies-inherit conn senior junior p op obj is =
+    let f = permission-plain op obj in
+    admin-denied p conn op obj (row.inherit-tests p senior junior) (row.inherited p senior junior) (f.1, (f.0, (f.4, (ssd-permission op obj _, (dsd-permission op obj _, tt))))) is
+
+pub denies-uninherit : (conn : ℕ) (senior junior : List ℕ) → DeniesRightly conn (λ p. rows.uninherit p conn senior junior)
+denies-uninherit conn senior junior p op obj is =
+    let f = permission-plain op obj in
+    admin-denied p conn op obj (row.uninherit-tests p senior junior) (trim (row.uninherited p senior junior)) (f.1, tt) is
+
+pub denies-ssd : (conn : ℕ) (set : SeparationSet) → DeniesRightly conn (λ p. rows.ssd p conn set)
+denies-ssd conn set p op obj is =
+    let f = permission-plain op obj in
+    admin-denied p conn op obj (row.ssd-tests p set) (row.ssd_made p set) (f.0, (f.1, (ssd-permission op obj _, (f.2, tt)))) is
+
+pub denies-dsd : (conn : ℕ) (set : SeparationSet) → DeniesRightly conn (λ p. rows.dsd p conn set)
+denies-dsd conn set p op obj is =
+    let f = permission-plain op obj in
+    admin-denied p conn op obj (row.dsd-tests p set) (row.dsd_made p set) (f.0, (f.1, (dsd-permission op obj _, (f.2, tt)))) is
+
+pub denies-unssd : (conn : ℕ) (name : List ℕ) → DeniesRightly conn (λ p. rows.unssd p conn name)
+denies-unssd conn name p op obj is =
+    let f = permission-plain op obj in
+    admin-denied p conn op obj (row.unssd-tests p name) (row.ssd_removed p name) (f.1, tt) is
+
+pub denies-undsd : (conn : ℕ) (name : List ℕ) → DeniesRightly conn (λ p. rows.undsd p conn name)
+denies-undsd conn name p op obj is =
+    let f = permission-plain op obj in
+    admin-denied p conn op obj (row.undsd-tests p name) (row.dsd_removed p name) (f.1, tt) is
+
+-- a denial that only one of the tests tells
+told-by : (denial : Refusal) (before : List rows.Test) (t : rows.Test) (later : List rows.Test) (next : Policy) → NoneDenies denial before → NoneDenies denial later
+    → decided (before ++ t ∷ later) next ≡ refused denial → (t.0 ≡ false) × (t.1 ≡ denial)
+told-by denial [] t later next none after is =
+    elim t.0 as (λ b. cond b (decided later next) (Err t.1) ≡ refused denial → (b ≡ false) × (t.1 ≡ denial)) [
+      | true ↦ λ e. absurd (none-denied denial later next after e)
+      | false ↦ λ e. (refl, refusal-same t.1 denial e)
+    ] is
+told-by denial (x ∷ xs) t later next none after is =
+    elim x.0 as (λ b. cond b (decided (xs ++ t ∷ later) next) (Err x.1) ≡ refused denial → (t.0 ≡ false) × (t.1 ≡ denial)) [
+      | true ↦ λ e. told-by denial xs t later next none.1 after e
+      | false ↦ λ e. absurd (none.0 (refusal-same x.1 denial e))
+    ] is
+
+-- and the tests before it have passed
+passed-before : (denial : Refusal) (before later : List rows.Test) (next : Policy) → NoneDenies denial before → decided (before ++ later) next ≡ refused denial → AllPass before
+passed-before denial [] later next none is = tt
+passed-before denial (x ∷ xs) later next none is =
+    elim x.0 as (λ b. cond b (decided (xs ++ later) next) (Err x.1) ≡ refused denial → (b ≡ true) × AllPass xs) [
+      | true ↦ λ e. (refl, passed-before denial xs later next none.1 e)
+      | false ↦ λ e. absurd (none.0 (refusal-same x.1 denial e))
+    ] is
+
+static-named : (o : Option Name) (name : Name) → (rows.none_broken Ssd o).0 ≡ false → (rows.none_broken Ssd o).1 ≡ Ssd name → o ≡ Some name
+static-named None name is told = absurd (true≢false is)
+static-named (Some n) name is told = cc
+
+dynamic-named : (o : Option Name) (name : Name) → (rows.none_broken Dsd o).0 ≡ false → (rows.none_broken Dsd o).1 ≡ Dsd name → o ≡ Some name
+dynamic-named None name is told = absurd (true≢false is)
+dynamic-named (Some n) name is told = cc
+
+least-static : (p : Policy) (name : Name) → ((rows.ssd_holds p).0 ≡ false) × ((rows.ssd_holds p).1 ≡ Ssd name) → IsLeastStatic p name
+least-static p name told =
+    let names = broken_names p.roles p.ssd (assigned_lists p.users) in
+    subst (IsLeast names) (static-named (least_name names) name told.0 told.1) (least-is names)
+
+least-dynamic : (p : Policy) (name : Name) → ((rows.dsd_holds p).0 ≡ false) × ((rows.dsd_holds p).1 ≡ Dsd name) → IsLeastDynamic p name
+least-dynamic p name told =
+    let names = broken_names p.roles p.dsd (active_lists p.sessions) in
+    subst (IsLeast names) (dynamic-named (least_name names) name told.0 told.1) (least-is names)
+
+pub least-assign : (p : Policy) (conn : ℕ) (user role name : List ℕ) → rows.assign p conn user role ≡ Err (Ssd name) → IsLeastStatic (row.assigned p user role) name
+least-assign p conn user role name is =
+    let f = ssd-plain name in
+    let before : List rows.Test = rows.in_session p conn ∷ rows.administers p conn ∷ (is_user p user && is_role p.roles role, Unknown) ∷ (not (contains_name (assigned_roles p user) role), Known) ∷ [] in
+    least-static (row.assigned p user role) name (told-by (Ssd name) before (rows.ssd_holds (row.assigned p user role)) [] (row.assigned p user role) (f.5, (admin-static name, (f.1, (f.0, tt)))) tt is)
+
+abbrev inherit-before : Policy → ℕ → Name → Name → List rows.Test
+inherit-before p conn senior junior =
+    rows.in_session p conn
+    ∷ rows.administers p conn
+    ∷ (is_role p.roles senior && is_role p.roles junior, Unknown)
+    ∷ (not (is_immediate p.roles senior junior), Known)
+    ∷ (not (at_least p.roles junior senior), Loop)
+    ∷ []
+
+pub least-inherit_static : (p : Policy) (conn : ℕ) (senior junior name : List ℕ) → rows.inherit p conn senior junior ≡ Err (Ssd name) → IsLeastStatic (row.inherited p senior junior) name
+least-inherit_static p conn senior junior name is =
+    let f = ssd-plain name in
+    let next = row.inherited p senior junior in
+    least-static next name (told-by (Ssd name) (inherit-before p conn senior junior) (rows.ssd_holds next) (rows.dsd_holds next ∷ []) next (f.5, (admin-static name, (f.1, (f.0, (f.4, tt))))) (dsd-static name _, tt) is)
+
+pub least-inherit_dynamic : (p : Policy) (conn : ℕ) (senior junior name : List ℕ) → rows.inherit p conn senior junior ≡ Err (Dsd name) → IsLeastDynamic (row.inherited p senior junior) name
+least-inherit_dynamic p conn senior junior name is =
+    let f = dsd-plain name in
+    let next = row.inherited p senior junior in
+    least-dynamic next name (told-by (Dsd name) (inherit-before p conn senior junior ++ rows.ssd_holds next ∷ []) (rows.dsd_holds next) [] next (f.5, (admin-dynamic name, (f.1, (f.0, (f.4, (ssd-dynamic name _, tt)))))) tt is)
+
+-- where a dynamic set is told, the static ones hold
+pub static-first : (p : Policy) (conn : ℕ) (senior junior name : List ℕ) → rows.inherit p conn senior junior ≡ Err (Dsd name) → sets_hold (row.inherited p senior junior).roles p.ssd (assigned_lists p.users) ≡ true
+static-first p conn senior junior name is =
+    let f = dsd-plain name in
+    let next = row.inherited p senior junior in
+    let t = passed-before (Dsd name) (inherit-before p conn senior junior ++ rows.ssd_holds next ∷ []) (rows.dsd_holds next ∷ []) next (f.5, (admin-dynamic name, (f.1, (f.0, (f.4, (ssd-dynamic name _, tt)))))) is in
+    static-holds next t.1.1.1.1.1.0
+
+pub least-activate : (p : Policy) (conn : ℕ) (role name : List ℕ) → rows.activate p conn role ≡ Err (Dsd name) → IsLeastDynamic (row.activated p conn role) name
+least-activate p conn role name is =
+    let f = dsd-plain name in
+    let before : List rows.Test = rows.in_session p conn ∷ (contains_name (authorized p (rows.user_of p conn)) role, NotAuthorized role) ∷ (not (contains_name (rows.active_roles p conn) role), Known) ∷ [] in
+    least-dynamic (row.activated p conn role) name (told-by (Dsd name) before (rows.dsd_holds (row.activated p conn role)) [] (row.activated p conn role) (f.5, (activation-dynamic role name, (f.0, tt))) tt is)
+
+pub least-ssd : (p : Policy) (conn : ℕ) (set : SeparationSet) (name : List ℕ) → rows.ssd p conn set ≡ Err (Ssd name) → IsLeastStatic (row.ssd_made p set) name
+least-ssd p conn set name is =
+    let f = ssd-plain name in
+    let before : List rows.Test = rows.in_session p conn ∷ rows.administers p conn ∷ (not (has_set p.ssd set.name), Known) ∷ (list_all (is_role p.roles) set.roles, Unknown) ∷ [] in
+    least-static (row.ssd_made p set) name (told-by (Ssd name) before (rows.ssd_holds (row.ssd_made p set)) ((nat_lt (length p.ssd) 64, Full) ∷ []) (row.ssd_made p set) (f.5, (admin-static name, (f.0, (f.1, tt)))) (f.2, tt) is)
+
+pub least-dsd : (p : Policy) (conn : ℕ) (set : SeparationSet) (name : List ℕ) → rows.dsd p conn set ≡ Err (Dsd name) → IsLeastDynamic (row.dsd_made p set) name
+least-dsd p conn set name is =
+    let f = dsd-plain name in
+    let before : List rows.Test = rows.in_session p conn ∷ rows.administers p conn ∷ (not (has_set p.dsd set.name), Known) ∷ (list_all (is_role p.roles) set.roles, Unknown) ∷ [] in
+    least-dynamic (row.dsd_made p set) name (told-by (Dsd name) before (rows.dsd_holds (row.dsd_made p set)) ((nat_lt (length p.dsd) 64, Full) ∷ []) (row.dsd_made p set) (f.5, (admin-dynamic name, (f.0, (f.1, tt)))) (f.2, tt) is)
 
 pub denies-activate : (p : Policy) (conn : ℕ) (role other : List ℕ) → rows.activate p conn role ≡ Err (NotAuthorized other) → contains_name (authorized p (rows.user_of p conn)) role ≡ false
 denies-activate p conn role other is =
-    let next = rows.with_active p conn (rows.active_roles p conn ++ role ∷ []) in
-    by (rows.in_session p conn).0 (contains_name (authorized p (rows.user_of p conn)) role) ((not (contains_name (rows.active_roles p conn) role), Known) ∷ rows.dsd_holds next ∷ []) next (known-role, (dsd-other other _, tt)) is
-  where
-    known-role : Known ≡ NotAuthorized other → ⊥
-    known-role e = cc
-
-    by : (a b : Bool) (tests : List rows.Test) (n : Policy) → NoneDenies (NotAuthorized other) tests → cond a (cond b (decided tests n) (refused (NotAuthorized role))) (refused NoSession) ≡ refused (NotAuthorized other) → b ≡ false
-    by true true tests n none f = absurd (none-denied (NotAuthorized other) tests n none f)
-    by true false tests n none f = refl
-    by false b tests n none f = cc
+    let f = activation-plain other in
+    (told-by (NotAuthorized other) (rows.in_session p conn ∷ []) (contains_name (authorized p (rows.user_of p conn)) role, NotAuthorized role) ((not (contains_name (rows.active_roles p conn) role), Known) ∷ rows.dsd_holds (row.activated p conn role) ∷ []) (row.activated p conn role) (f.5, tt) (f.0, (dsd-activation other _, tt)) is).0

@@ -1,5 +1,11 @@
+pub mod ActiveLemmas
+pub mod ApartLemmas
 pub mod DenialLemmas
+pub mod HolderLemmas
+pub mod KeepLemmas
 pub mod LawLemmas
 pub mod RowLemmas
+pub mod RowTests
+pub mod SeparationLemmas
 pub mod SoundLemmas
 pub mod TableLemmas

@@ -1,17 +1,17 @@
 -- Each change of the policy keeps that every active role is authorized.
-use Rattle.std.proofs.Common.{◌≡◌, ℕ, Bool, true, false, cond, not, ◌||◌, ◌&&◌, ◌⊎◌, inl, inr, ◌==◌, List, [], ◌∷◌, ◌++◌, filter, Option, None, Some, refl, sym, ap, subst, ◌∙◌, true≢false}
-use Rattle.std.specs.List.{list_any, list_all}
+use Rattle.std.proofs.Common.{◌≡◌, ℕ, Bool, true, false, cond, not, ◌||◌, ◌&&◌, inl, inr, ◌==◌, List, [], ◌∷◌, ◌++◌, filter, None, Some, refl, sym, ap, ◌∙◌, true≢false}
+use Rattle.std.specs.List.{list_all}
 use Rattle.std.specs.Option.{option_map_or}
 use Rattle.mpw_geom.specs.Names.{name_eq, contains_name}
-use Rattle.mpw_roles.specs.Hierarchy.{Name, Hierarchy, is_role, is_immediate, with_role}
+use Rattle.mpw_roles.specs.Hierarchy.{Name, with_role}
 use Rattle.mpw_roles.specs.Order.{roles_below}
-use Rattle.mpw_roles.proofs.CallerLemmas.{same_name, or_right, or_cases, roles_below-grows, pairs-with_role, roles-with_role, contains-append}
+use Rattle.mpw_roles.proofs.CallerLemmas.{or_right, or_cases, roles_below-grows, pairs-with_role, roles-with_role, contains-append}
 use Rattle.mpw_rbac.specs.declared.session.User.{User}
 use Rattle.mpw_rbac.specs.declared.session.Session.{Session}
-use Rattle.mpw_rbac.specs.Policy.{Policy, is_user, authorized, assigned_roles, session_of}
+use Rattle.mpw_rbac.specs.Policy.{Policy, is_user, authorized, assigned_roles}
 use Rattle.mpw_rbac.specs.Rows as rows
 use Rattle.mpw_rbac.specs.Sound.{is_authorized_session, active_authorized}
-use Rattle.mpw_rbac.specs.Table.{has_key, value_at, with_value, without_key}
+use Rattle.mpw_rbac.specs.Table.{has_key, value_at, with_value}
 
 and_both : (a b : Bool) → a ≡ true → b ≡ true → (a && b) ≡ true
 and_both true b p q = q

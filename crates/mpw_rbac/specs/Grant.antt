@@ -1,5 +1,5 @@
 -- Grants, by their parts.
-use Rattle.std.specs.Prelude.{ℕ, Bool, true, false, ◌&&◌, ◌==◌, List}
+use Rattle.std.specs.Prelude.{ℕ, Bool, true, false, ◌&&◌, ◌==◌}
 use Rattle.mpw_geom.specs.Names.{name_eq}
 use Rattle.mpw_rbac.specs.declared.permission.Operation.{Operation}
 use Rattle.mpw_rbac.specs.declared.permission.Operation.TheVariants.{Submit, Use, Read, Place, Admin, Deck, Run, Waive, Sign, Verdict, Audit}

@@ -3,6 +3,5 @@ pub mod Grant
 pub mod Laws
 pub mod Policy
 pub mod Rows
-pub mod Separation
 pub mod Sound
 pub mod Table

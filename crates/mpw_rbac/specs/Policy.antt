@@ -1,6 +1,6 @@
 -- The policy (ANSI INCITS 359-2004, core RBAC with a general role hierarchy and separation of duty).
-use Rattle.std.specs.Prelude.{◌≡◌, ℕ, Bool, true, false, ◌&&◌, not, ◌==◌, List, [], ◌∷◌, ◌++◌, map, filter, Option, None, Some, codes}
-use Rattle.std.specs.List.{list_any, list_all}
+use Rattle.std.specs.Prelude.{ℕ, Bool, false, ◌&&◌, ◌==◌, List, [], ◌∷◌, map, filter, Option, codes}
+use Rattle.std.specs.List.{list_any}
 use Rattle.std.specs.Option.{option_map_or}
 use Rattle.mpw_geom.specs.Names.{name_eq, contains_name, by_name}
 use Rattle.mpw_roles.specs.Hierarchy.{Name, Hierarchy}
@@ -14,8 +14,9 @@ use Rattle.mpw_rbac.specs.declared.session.User.{User}
 use Rattle.mpw_rbac.specs.declared.session.Session.{Session}
 use Rattle.mpw_rbac.specs.declared.session.Identity.{Identity}
 use Rattle.mpw_rbac.specs.Grant.{operation_eq, object_eq}
-use Rattle.mpw_rbac.specs.Separation.{SeparationSet}
-use Rattle.mpw_rbac.specs.Table.{value_at, has_key, with_value, without_key}
+use Rattle.mpw_separation.specs.Separation.{Sets}
+use Rattle.mpw_separation.specs.declared.set.SeparationSet.{SeparationSet}
+use Rattle.mpw_rbac.specs.Table.{value_at, has_key}
 
 -- Users with their digests and assigned roles (USERS, UA), roles with their immediate juniors (ROLES, RH), grants (PA),
 -- the sets of separation, and sessions by connection; each in the order in which it was added.
@@ -26,6 +27,11 @@ pub record Policy : Type 0 where
   pub ssd : List SeparationSet
   pub dsd : List SeparationSet
   pub sessions : List (ℕ × Session)
+
+-- the policy of these tables
+abbrev pub policy_of : List (Name × User) → Hierarchy → List Grant → Sets → List (ℕ × Session) → Policy
+policy_of users roles granted sets sessions =
+    record { users = users; roles = roles; granted = granted; ssd = sets.ssd; dsd = sets.dsd; sessions = sessions }
 
 abbrev pub is_user : Policy → Name → Bool
 is_user policy user = has_key name_eq policy.users user
@@ -64,10 +70,23 @@ abbrev pub kept_roles : Policy → Session → Session
 kept_roles policy session = record session { active = filter (contains_name (authorized policy session.user)) session.active }
 
 -- each session keeps those active roles that its user is authorized for, and a deleted user's sessions end
+abbrev pub kept_sessions : Policy → List (ℕ × Session) → List (ℕ × Session)
+kept_sessions policy sessions = map (λ entry. (entry.0, kept_roles policy entry.1)) (filter (λ (entry : ℕ × Session). is_user policy entry.1.user) sessions)
+
 abbrev pub trim : Policy → Policy
-trim policy = record policy {
-  sessions = map (λ entry. (entry.0, kept_roles policy entry.1)) (filter (λ (entry : ℕ × Session). is_user policy entry.1.user) policy.sessions);
-}
+trim policy = record policy { sessions = kept_sessions policy policy.sessions }
+
+-- the policy of these users and roles, and of nothing else
+abbrev pub users_and_roles : List (Name × User) → Hierarchy → Policy
+users_and_roles users roles = record { users = users; roles = roles; granted = []; ssd = []; dsd = []; sessions = [] }
+
+-- the roles assigned to each user
+abbrev pub assigned_lists : List (Name × User) → List (List Name)
+assigned_lists users = map (λ entry. entry.1.roles) users
+
+-- the roles that are active in each session
+abbrev pub active_lists : List (ℕ × Session) → List (List Name)
+active_lists sessions = map (λ entry. entry.1.active) sessions
 
 -- what `whoami` tells: the user, and the active and the authorized roles, each by name
 abbrev pub identity_of : Policy → Session → Identity

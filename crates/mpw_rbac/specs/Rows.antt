@@ -1,12 +1,13 @@
 -- The requests of the policy: each with its tests in order, and the policy that it leaves where all pass.
-use Rattle.std.specs.Prelude.{◌≡◌, ℕ, Bool, true, false, not, ◌&&◌, ◌==◌, List, [], ◌∷◌, ◌++◌, length, map, filter, nat_lt, Result, Ok, Err, is_some, is_none, Option}
+use Rattle.std.specs.Prelude.{◌≡◌, ℕ, Bool, true, false, not, ◌&&◌, ◌||◌, ◌==◌, List, [], ◌∷◌, ◌++◌, length, map, filter, nat_lt, Result, Err, is_some, is_none, Option, None, Some}
 use Rattle.std.specs.List.{list_any, list_all}
 use Rattle.std.specs.Option.{option_map_or}
 use Rattle.std.specs.Cmp.Lexicographic.{pointwise}
 use Rattle.std.specs.Prelude.{nat_eq}
-use Rattle.mpw_geom.specs.Names.{name_eq, contains_name}
+use Rattle.mpw_geom.specs.Names.{name_eq, contains_name, without_name}
 use Rattle.mpw_roles.specs.Decided.{decided}
-use Rattle.mpw_roles.specs.Hierarchy.{Name, Hierarchy, is_role, with_role}
+use Rattle.mpw_roles.specs.Hierarchy.{Name, is_role, is_immediate, with_role, without_role, with_pair, without_pair}
+use Rattle.mpw_roles.specs.Order.{at_least}
 use Rattle.mpw_rbac.specs.declared.permission.Operation.{Operation}
 use Rattle.mpw_rbac.specs.declared.permission.Operation.TheVariants.{Admin}
 use Rattle.mpw_rbac.specs.declared.permission.Object.{Object}
@@ -15,13 +16,14 @@ use Rattle.mpw_rbac.specs.declared.permission.Grant.{Grant}
 use Rattle.mpw_rbac.specs.declared.session.User.{User}
 use Rattle.mpw_rbac.specs.declared.session.Session.{Session}
 use Rattle.mpw_rbac.specs.declared.refusal.Refusal.{Refusal}
-use Rattle.mpw_rbac.specs.declared.refusal.Refusal.TheVariants.{Opened, Login, NoSession, NotPermitted, NotAuthorized, Ssd, Dsd, Unknown, Known, Full}
+use Rattle.mpw_rbac.specs.declared.refusal.Refusal.TheVariants.{Opened, Login, NoSession, NotPermitted, NotAuthorized, Ssd, Dsd, Unknown, Known, Full, Used, Loop}
 use Rattle.mpw_rbac.specs.Grant.{grant_eq}
 use Rattle.mpw_rbac.specs.declared.session.Identity.{Identity}
 use Rattle.mpw_rbac.specs.declared.refusal.PolicyFault.{PolicyFault}
 use Rattle.mpw_rbac.specs.declared.refusal.PolicyFault.TheVariants.{Refused, Memory}
-use Rattle.mpw_rbac.specs.Policy.{Policy, identity_of, is_user, assigned_roles, authorized, session_of, permits}
-use Rattle.mpw_rbac.specs.Separation.{broken_sets}
+use Rattle.mpw_rbac.specs.Policy.{Policy, identity_of, is_user, assigned_roles, authorized, session_of, permits, trim, assigned_lists, active_lists}
+use Rattle.mpw_separation.specs.declared.set.SeparationSet.{SeparationSet}
+use Rattle.mpw_separation.specs.Separation.{least_broken, has_set, without_set, uses_role}
 use Rattle.mpw_rbac.specs.Table.{value_at, with_value, without_key}
 
 abbrev pub Test : Type 0
@@ -48,17 +50,17 @@ IsFaultOf row (Refused refusal) = row ≡ Err refusal
 IsFaultOf row Memory = Unit {0}
 
 -- no set is broken, or the least name of one is told
-abbrev pub none_broken : (Name → Refusal) → List Name → Test
-none_broken told [] = (true, told [])
-none_broken told (name ∷ names) = (false, told name)
+abbrev pub none_broken : (Name → Refusal) → Option Name → Test
+none_broken told None = (true, told [])
+none_broken told (Some name) = (false, told name)
 
 -- the static sets hold for the authorized roles of every user
 abbrev pub ssd_holds : Policy → Test
-ssd_holds policy = none_broken Ssd (broken_sets policy.roles policy.ssd (map (λ (entry : Name × User). entry.1.roles) policy.users))
+ssd_holds policy = none_broken Ssd (least_broken policy.roles policy.ssd (assigned_lists policy.users))
 
 -- the dynamic sets hold for the acting roles of every session
 abbrev pub dsd_holds : Policy → Test
-dsd_holds policy = none_broken Dsd (broken_sets policy.roles policy.dsd (map (λ (entry : ℕ × Session). entry.1.active) policy.sessions))
+dsd_holds policy = none_broken Dsd (least_broken policy.roles policy.dsd (active_lists policy.sessions))
 
 -- whether the user is known with this digest
 abbrev pub is_login : Policy → Name → List ℕ → Bool
@@ -103,6 +105,13 @@ activate policy conn role =
     ∷ [])
     next
 
+-- drop_active_role
+abbrev pub drop_role : Policy → ℕ → Name → Result Policy Refusal
+drop_role policy conn role =
+    decided
+    (in_session policy conn ∷ (contains_name (active_roles policy conn) role, Unknown) ∷ [])
+    (with_active policy conn (without_name (active_roles policy conn) role))
+
 -- what the session is told of itself
 abbrev pub whoami : Policy → ℕ → Result Identity Refusal
 whoami policy conn =
@@ -119,6 +128,13 @@ adduser policy conn user digest =
     ∷ [])
     (record policy { users = policy.users ++ (user, record { digest = digest; roles = [] }) ∷ [] })
 
+-- delete_user: the user's sessions end
+abbrev pub deluser : Policy → ℕ → Name → Result Policy Refusal
+deluser policy conn user =
+    decided
+    (in_session policy conn ∷ administers policy conn ∷ (is_user policy user, Unknown) ∷ [])
+    (trim (record policy { users = without_key name_eq policy.users user }))
+
 -- add_role
 abbrev pub addrole : Policy → ℕ → Name → Result Policy Refusal
 addrole policy conn role =
@@ -129,6 +145,32 @@ addrole policy conn role =
     ∷ (nat_lt (length policy.roles) 512, Full)
     ∷ [])
     (record policy { roles = with_role policy.roles role })
+
+-- the users without the assignments of a role, and the grants without those to it
+abbrev pub unassigned : List (Name × User) → Name → List (Name × User)
+unassigned users role = map (λ (entry : Name × User). (entry.0, record entry.1 { roles = without_name entry.1.roles role })) users
+
+abbrev pub ungranted : List Grant → Name → List Grant
+ungranted granted role = filter (λ (grant : Grant). not (name_eq role grant.role)) granted
+
+-- a role goes with its assignments, its grants and each pair that it is in
+abbrev pub without_role_of : Policy → Name → Policy
+without_role_of policy role = record policy {
+  users = unassigned policy.users role;
+  roles = without_role policy.roles role;
+  granted = ungranted policy.granted role;
+}
+
+-- delete_role: a role of a set stays
+abbrev pub delrole : Policy → ℕ → Name → Result Policy Refusal
+delrole policy conn role =
+    decided
+    (in_session policy conn
+    ∷ administers policy conn
+    ∷ (is_role policy.roles role, Unknown)
+    ∷ (not (uses_role policy.ssd role || uses_role policy.dsd role), Used)
+    ∷ [])
+    (trim (without_role_of policy role))
 
 -- the digest of a user
 abbrev pub digest_of_user : Policy → Name → List ℕ
@@ -152,6 +194,13 @@ assign policy conn user role =
     ∷ [])
     next
 
+-- deassign_user
+abbrev pub deassign : Policy → ℕ → Name → Name → Result Policy Refusal
+deassign policy conn user role =
+    decided
+    (in_session policy conn ∷ administers policy conn ∷ (contains_name (assigned_roles policy user) role, Unknown) ∷ [])
+    (trim (with_assigned policy user (without_name (assigned_roles policy user) role)))
+
 -- grant_permission
 abbrev pub grant : Policy → ℕ → Grant → Result Policy Refusal
 grant policy conn new =
@@ -170,3 +219,67 @@ revoke policy conn old =
     decided
     (in_session policy conn ∷ administers policy conn ∷ (list_any (grant_eq old) policy.granted, Unknown) ∷ [])
     (record policy { granted = filter (λ other. not (grant_eq old other)) policy.granted })
+
+-- add_inheritance
+abbrev pub inherit : Policy → ℕ → Name → Name → Result Policy Refusal
+inherit policy conn senior junior =
+    let next = record policy { roles = with_pair policy.roles senior junior } in
+    decided
+    (in_session policy conn
+    ∷ administers policy conn
+    ∷ (is_role policy.roles senior && is_role policy.roles junior, Unknown)
+    ∷ (not (is_immediate policy.roles senior junior), Known)
+    ∷ (not (at_least policy.roles junior senior), Loop)
+    ∷ ssd_holds next
+    ∷ dsd_holds next
+    ∷ [])
+    next
+
+-- delete_inheritance
+abbrev pub uninherit : Policy → ℕ → Name → Name → Result Policy Refusal
+uninherit policy conn senior junior =
+    decided
+    (in_session policy conn ∷ administers policy conn ∷ (is_immediate policy.roles senior junior, Unknown) ∷ [])
+    (trim (record policy { roles = without_pair policy.roles senior junior }))
+
+-- create_ssd_set
+abbrev pub ssd : Policy → ℕ → SeparationSet → Result Policy Refusal
+ssd policy conn set =
+    let next = record policy { ssd = policy.ssd ++ set ∷ [] } in
+    decided
+    (in_session policy conn
+    ∷ administers policy conn
+    ∷ (not (has_set policy.ssd set.name), Known)
+    ∷ (list_all (is_role policy.roles) set.roles, Unknown)
+    ∷ ssd_holds next
+    ∷ (nat_lt (length policy.ssd) 64, Full)
+    ∷ [])
+    next
+
+-- create_dsd_set
+abbrev pub dsd : Policy → ℕ → SeparationSet → Result Policy Refusal
+dsd policy conn set =
+    let next = record policy { dsd = policy.dsd ++ set ∷ [] } in
+    decided
+    (in_session policy conn
+    ∷ administers policy conn
+    ∷ (not (has_set policy.dsd set.name), Known)
+    ∷ (list_all (is_role policy.roles) set.roles, Unknown)
+    ∷ dsd_holds next
+    ∷ (nat_lt (length policy.dsd) 64, Full)
+    ∷ [])
+    next
+
+-- delete_ssd_set
+abbrev pub unssd : Policy → ℕ → Name → Result Policy Refusal
+unssd policy conn name =
+    decided
+    (in_session policy conn ∷ administers policy conn ∷ (has_set policy.ssd name, Unknown) ∷ [])
+    (record policy { ssd = without_set policy.ssd name })
+
+-- delete_dsd_set
+abbrev pub undsd : Policy → ℕ → Name → Result Policy Refusal
+undsd policy conn name =
+    decided
+    (in_session policy conn ∷ administers policy conn ∷ (has_set policy.dsd name, Unknown) ∷ [])
+    (record policy { dsd = without_set policy.dsd name })

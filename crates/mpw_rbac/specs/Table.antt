@@ -1,5 +1,5 @@
 -- A table: keys with values, in the order in which the keys were added.
-use Rattle.std.specs.Prelude.{Bool, not, List, [], ◌∷◌, ◌++◌, map, filter, Option, None, Some, if◌then◌else◌}
+use Rattle.std.specs.Prelude.{Bool, not, List, [], ◌∷◌, filter, Option, None, Some, if◌then◌else◌}
 use Rattle.std.specs.List.{list_any}
 
 module _ {K V : Type 0} (eq : K → K → Bool) where

@@ -1,21 +1,26 @@
-//! The access control policy of the desk: users, roles, grants and sessions
-//! (ANSI INCITS 359-2004, core RBAC with a general role hierarchy).
+//! The access control policy of the desk: users, roles, grants, separation sets and sessions
+//! (ANSI INCITS 359-2004, core RBAC with a general role hierarchy and separation of duty).
 //!
 //! [`Policy`] answers each request by the tests of its row, in their order: the first that fails refuses it, and a
 //! refused request changes nothing.
 #![tactic(auto)]
 
 mod admin;
+mod hierarchy;
 mod laws;
 mod permission;
 mod policy;
 mod refusal;
+mod separation;
 mod session;
 mod sessions;
+mod trim;
 
 pub use laws::{
-    denied_only_without_the_permission, each_request_keeps_authorization,
-    more_active_roles_never_permit_less,
+    denied_only_for_the_least_broken_set, denied_only_without_the_permission,
+    each_request_keeps_authorization, each_request_keeps_separation,
+    more_active_roles_never_permit_less, only_activation_adds_active_roles,
+    sound_policies_keep_duties_apart, static_sets_are_tested_first,
 };
 pub use permission::{Grant, Object, Operation};
 pub use policy::{MAX_GRANTS, MAX_USERS, Policy};

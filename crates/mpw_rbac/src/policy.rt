@@ -9,13 +9,13 @@ ghost use Rattle.mpw_roles.specs.Order.{roles_below};
 ghost use Rattle.mpw_rbac.specs.Policy.{permits, is_user, is_granted_to, session_of, assigned_roles, authorized, new_policy};
 ghost use Rattle.mpw_rbac.specs.Rows.{IsFaultOf, administered};
 ghost use Rattle.mpw_rbac.specs.Rows as rows;
-ghost use Rattle.mpw_rbac.specs.Sound.{active_authorized};
 ghost use Rattle.mpw_rbac.specs.Table.{value_at};
 
 use crate::{Digest, Grant, Identity, Object, Operation, PolicyFault, Refusal, Session, User};
 use indexmap::{IndexMap, IndexSet};
 use mpw_geom::{Name, Names};
 use mpw_roles::{Below, Roles};
+use mpw_separation::Sets;
 use std::alloc::{AllocError, Global};
 use std::marker::Model;
 
@@ -25,25 +25,25 @@ pub const MAX_USERS: usize = 512;
 /// The greatest number of grants.
 pub const MAX_GRANTS: usize = 4096;
 
-/// Users, roles, grants and sessions, in the order in which they were added.
+/// Users, roles, grants, separation sets and sessions, in the order in which they were added.
 #[derive(Drop)]
 pub struct Policy {
     pub(crate) users: IndexMap<Name, User>,
     pub(crate) roles: Roles,
     pub(crate) granted: IndexSet<Grant>,
+    pub(crate) sets: Sets,
     pub(crate) sessions: IndexMap<u32, Session>,
 }
 
 impl Model for Policy {
-    ghost use Rattle.std.specs.Prelude.{◌≡◌, true, []};
-    ghost use Rattle.mpw_rbac.specs.Policy.{Policy as PolicyState};
-    ghost use Rattle.mpw_rbac.specs.Sound.{active_authorized};
+    ghost use Rattle.mpw_rbac.specs.Policy.{Policy as PolicyState, policy_of};
+    ghost use Rattle.mpw_rbac.specs.Sound.{Sound};
 
     ghost Value = { PolicyState };
 
-    ghost view = { λ p. record { users = p.users.entries; roles = p.roles; granted = p.granted.keys; ssd = []; dsd = []; sessions = p.sessions.entries } };
+    ghost view = { λ p. policy_of p.users.entries p.roles p.granted.keys p.sets p.sessions.entries };
 
-    ghost invariant = { λ p. active_authorized (record { users = p.users.entries; roles = p.roles; granted = p.granted.keys; ssd = []; dsd = []; sessions = p.sessions.entries }) ≡ true };
+    ghost invariant = { λ p. Sound (policy_of p.users.entries p.roles p.granted.keys p.sets p.sessions.entries) };
 }
 
 /// Whether one of the grants is of the operation on the object, to one of the roles.
@@ -179,11 +179,13 @@ impl Policy {
             object,
             role,
         })?;
+        let sets = Sets::new(alloc);
         let sessions = IndexMap::new(alloc);
         Ok(Policy {
             users,
             roles,
             granted,
+            sets,
             sessions,
         })
     }
@@ -195,17 +197,40 @@ impl Policy {
     pub fn copy(&self) -> Result<Policy, AllocError>
         ensures { IfOk result (λ policy. policy ≡ self.now) }
     {
-        let users = self.users.clone()?;
+        let users = copy_users(&self.users)?;
         let roles = self.roles.copy()?;
-        let granted = self.granted.clone()?;
-        let sessions = self.sessions.clone()?;
+        let granted = copy_granted(&self.granted)?;
+        let sets = self.sets.copy()?;
+        let sessions = copy_sessions(&self.sessions)?;
         Ok(Policy {
             users,
             roles,
             granted,
+            sets,
             sessions,
         })
     }
+}
+
+/// The same users.
+fn copy_users(users: &IndexMap<Name, User>) -> Result<IndexMap<Name, User>, AllocError>
+    ensures { IfOk result (λ copy. copy.entries ≡ users.now.entries) }
+{
+    users.clone()
+}
+
+/// The same grants.
+fn copy_granted(granted: &IndexSet<Grant>) -> Result<IndexSet<Grant>, AllocError>
+    ensures { IfOk result (λ copy. copy.keys ≡ granted.now.keys) }
+{
+    granted.clone()
+}
+
+/// The same sessions.
+fn copy_sessions(sessions: &IndexMap<u32, Session>) -> Result<IndexMap<u32, Session>, AllocError>
+    ensures { IfOk result (λ copy. copy.entries ≡ sessions.now.entries) }
+{
+    sessions.clone()
 }
 
 /// The role of the officer.

@@ -1,11 +1,12 @@
 //! Why the policy refuses a request.
 ghost use Rattle.std.specs.Prelude.{◌≡◌};
 ghost use Rattle.mpw_rbac.specs.declared.refusal.PolicyFault.TheVariants.{Memory};
-ghost use Rattle.mpw_rbac.specs.Fault.{fault_of_roles};
+ghost use Rattle.mpw_rbac.specs.Fault.{fault_of_roles, fault_of_sets};
 
 use crate::{Object, Operation};
 use mpw_geom::Name;
 use mpw_roles::RolesFault;
+use mpw_separation::SetsFault;
 use std::alloc::{AllocError, AllocFailed};
 use thiserror::Error;
 
@@ -32,6 +33,8 @@ pub enum Refusal {
     Loop,
     /// What is to be added is there.
     Known,
+    /// The role is one of a separation set.
+    Used,
     /// A table is at its limit.
     Full,
 }
@@ -71,6 +74,19 @@ impl From<RolesFault> for PolicyFault {
             RolesFault::Cycle => PolicyFault::Refused(Refusal::Loop),
             RolesFault::Full => PolicyFault::Refused(Refusal::Full),
             RolesFault::Memory => PolicyFault::Memory,
+        }
+    }
+}
+
+impl From<SetsFault> for PolicyFault {
+    ghost from_gives = { λ fault result. result ≡ fault_of_sets fault };
+
+    fn from(fault: SetsFault) -> PolicyFault {
+        match fault {
+            SetsFault::Known => PolicyFault::Refused(Refusal::Known),
+            SetsFault::Unknown => PolicyFault::Refused(Refusal::Unknown),
+            SetsFault::Full => PolicyFault::Refused(Refusal::Full),
+            SetsFault::Memory => PolicyFault::Memory,
         }
     }
 }

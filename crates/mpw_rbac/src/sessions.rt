@@ -1,12 +1,15 @@
 //! Sessions: of one connection and one user each, with the active roles that the session chose.
 ghost use Rattle.std.specs.Prelude.{◌≡◌, true, false, not, is_some, ◌==◌, [], ◌∷◌, ◌++◌, IfOk, IfErr, OnOk, OnErr, Ok, Err};
-ghost use Rattle.mpw_geom.specs.Names.{contains_name, by_name};
+ghost use Rattle.std.specs.Option.{option_copied};
+ghost use Rattle.mpw_geom.specs.Names.{contains_name, without_name, by_name};
+ghost use Rattle.mpw_separation.specs.Separation.{least_broken};
 ghost use Rattle.mpw_rbac.specs.Policy.{session_of, authorized, identity_of};
 ghost use Rattle.mpw_rbac.specs.Rows.{IsFaultOf, is_login, end_session, active_roles, user_of};
 ghost use Rattle.mpw_rbac.specs.Rows as rows;
 
 use crate::{Digest, Identity, Policy, PolicyFault, Refusal, Session};
 use mpw_geom::{Name, Names};
+use mpw_separation::Kind;
 use std::alloc::AllocError;
 
 impl Policy {
@@ -67,7 +70,7 @@ impl Policy {
     /// Makes a role active in the connection's session (AddActiveRole).
     ///
     /// # Errors
-    /// `NoSession`, `NotAuthorized`, `Known`, tested in this order; or `Memory`. The policy is then as it was.
+    /// `NoSession`, `NotAuthorized`, `Known`, `Dsd`, tested in this order; or `Memory`. The policy is then as it was.
     pub fn activate(&mut self, conn: u32, role: &Name) -> Result<(), PolicyFault>
         ensures ok { OnOk result (rows.activate self.old conn role.now ≡ Ok self.new) }
         ensures refused { IfErr result (IsFaultOf (rows.activate self.old conn role.now)) }
@@ -83,6 +86,29 @@ impl Policy {
             return Err(PolicyFault::Refused(Refusal::Known));
         }
         let session = self.activated(conn, role)?;
+        if let Some(name) = self.broken_by_active(session.active.as_slice()) {
+            return Err(PolicyFault::Refused(Refusal::Dsd(name.copy()?)));
+        }
+        self.sessions.insert(conn, session)?;
+        Ok(())
+    }
+
+    /// Lets a role of the connection's session be active no longer (DropActiveRole).
+    ///
+    /// # Errors
+    /// `NoSession`, then `Unknown` where the role isn't active; or `Memory`. The policy is then as it was.
+    pub fn drop_role(&mut self, conn: u32, role: &Name) -> Result<(), PolicyFault>
+        ensures ok { OnOk result (rows.drop_role self.old conn role.now ≡ Ok self.new) }
+        ensures refused { IfErr result (IsFaultOf (rows.drop_role self.old conn role.now)) }
+        ensures err { OnErr result (self.new ≡ self.old) }
+    {
+        if !self.has_session(conn) {
+            return Err(PolicyFault::Refused(Refusal::NoSession));
+        }
+        if !self.is_active(conn, role) {
+            return Err(PolicyFault::Refused(Refusal::Unknown));
+        }
+        let session = self.dropped(conn, role)?;
         self.sessions.insert(conn, session)?;
         Ok(())
     }
@@ -110,7 +136,7 @@ impl Policy {
     }
 
     /// Whether the connection has a session.
-    pub(crate) fn has_session(&self, conn: u32) -> bool
+    pub fn has_session(&self, conn: u32) -> bool
         ensures { result ≡ is_some (session_of self.now conn) }
     {
         self.session(conn).is_some()
@@ -169,6 +195,27 @@ impl Policy {
         let mut active = session.active.copy()?;
         active.push(role.copy()?)?;
         Ok(Session { user, active })
+    }
+
+    /// The connection's session with one active role less.
+    fn dropped(&self, conn: u32, role: &Name) -> Result<Session, AllocError>
+        requires { is_some (session_of self.now conn) ≡ true }
+        ensures { IfOk result (λ next. next ≡ record { user = user_of self.now conn; active = without_name (active_roles self.now conn) role.now }) }
+    {
+        let Some(session) = self.session(conn) else {
+            return Err(AllocError);
+        };
+        let user = session.user.copy()?;
+        let mut active = session.active.copy()?;
+        active.remove(role);
+        Ok(Session { user, active })
+    }
+
+    /// The least name of the dynamic sets that these active roles break.
+    fn broken_by_active(&self, active: &[Name]) -> Option<&Name>
+        ensures { option_copied result ≡ least_broken self.now.roles self.now.dsd (active.now ∷ []) }
+    {
+        self.sets.first_broken(Kind::Dynamic, &self.roles, active)
     }
 
     /// The roles that a user is authorized for, by name.

@@ -5,8 +5,8 @@ use Rattle.std.proofs.lemmas.List.{length-map}
 use Rattle.std.specs.Cmp.Lexicographic.{bytes_decides}
 use Rattle.mpw_geom.specs.Names.{name_eq, contains_name, without_name}
 use Rattle.mpw_roles.specs.Hierarchy.{Name, Hierarchy, role_names, is_role, is_immediate, immediate_juniors, with_juniors, entries_without, with_role, without_role, with_pair, without_pair}
-use Rattle.mpw_roles.specs.Order.{at_least, is_below, roles_below, IsAtLeast, same, chain, IsHierarchy}
-use Rattle.mpw_roles.proofs.Chains.{same_name, name_eq-refl, or_right, or_cases, at_least-sound, at_least-complete, chain-trans, weaken_pair}
+use Rattle.mpw_roles.specs.Order.{at_least, is_below, roles_below, are_distinct, IsAtLeast, same, chain, IsHierarchy}
+use Rattle.mpw_roles.proofs.Chains.{same_name, name_eq-refl, or_right, or_cases, at_least-sound, at_least-complete, chain-trans, weaken_pair, juniors-without_same, juniors-without_other}
 
 -- fewer pairs, fewer chains
 pub chains-fewer : (h k : Hierarchy) → ((a b : Name) → is_immediate h a b ≡ true → is_immediate k a b ≡ true) → (a b : Name) → IsAtLeast h a b → IsAtLeast k a b
@@ -16,9 +16,24 @@ chains-fewer h k fewer a b (chain {middle = m} pair rest) = chain (fewer a m pai
 pub at_least-fewer : (h k : Hierarchy) → ((a b : Name) → is_immediate h a b ≡ true → is_immediate k a b ≡ true) → (a b : Name) → at_least h a b ≡ true → at_least k a b ≡ true
 at_least-fewer h k fewer a b is = at_least-complete k a b (chains-fewer h k fewer a b (at_least-sound h a b is))
 
-acyclic-fewer : (h k : Hierarchy) → ((a b : Name) → is_immediate h a b ≡ true → is_immediate k a b ≡ true) → ((a b : Name) → at_least k a b ≡ true → at_least k b a ≡ true → a ≡ b)
-    → (a b : Name) → at_least h a b ≡ true → at_least h b a ≡ true → a ≡ b
-acyclic-fewer h k fewer acyclic a b down up = acyclic a b (at_least-fewer h k fewer a b down) (at_least-fewer h k fewer b a up)
+-- no pair's junior is at least its senior
+abbrev IsAcyclic : Hierarchy → Type 0
+IsAcyclic h = (a b : Name) → is_immediate h a b ≡ true → at_least h b a ≡ false
+
+refuted : (b : Bool) → (b ≡ true → ⊥) → b ≡ false
+refuted true never = absurd (never refl)
+refuted false never = refl
+
+acyclic-fewer : (h k : Hierarchy) → ((a b : Name) → is_immediate h a b ≡ true → is_immediate k a b ≡ true) → IsAcyclic k → IsAcyclic h
+acyclic-fewer h k fewer acyclic a b pair = refuted (at_least h b a) (λ up. true≢false (sym (at_least-fewer h k fewer b a up) ∙ acyclic a b (fewer a b pair)))
+
+chains-antisymmetric : (h : Hierarchy) → IsAcyclic h → (a b : Name) → IsAtLeast h a b → IsAtLeast h b a → a ≡ b
+chains-antisymmetric h acyclic a b same up = refl
+chains-antisymmetric h acyclic a b (chain {middle = m} pair rest) up = absurd (true≢false (sym (at_least-complete h m a (chain-trans h m b a rest up)) ∙ acyclic a m pair))
+
+-- no two roles are at least each other
+pub antisymmetric : (h : Hierarchy) → IsHierarchy h → (a b : Name) → at_least h a b ≡ true → at_least h b a ≡ true → a ≡ b
+antisymmetric h is a b down up = chains-antisymmetric h is.acyclic a b (at_least-sound h a b down) (at_least-sound h b a up)
 
 pub contains-append : (xs ys : List Name) (n : Name) → contains_name (xs ++ ys) n ≡ (contains_name xs n || contains_name ys n)
 contains-append [] ys n = refl
@@ -44,17 +59,46 @@ juniors-with_role (e ∷ es) r c = ap (cond (name_eq c e.0) e.1) (juniors-with_r
 pub IsHierarchy-empty : IsHierarchy []
 IsHierarchy-empty = record {
   small = omega arith;
+  roles_once = refl;
+  pairs_once = λ a. refl;
   pairs_of_roles = λ a b is. absurd (true≢false (sym is));
-  acyclic = λ a b is _. alone a b (at_least-sound [] a b is);
+  acyclic = λ a b is. absurd (true≢false (sym is));
 }
-  where
-    alone : (a b : Name) → IsAtLeast [] a b → a ≡ b
-    alone a b same = refl
-    alone a b (chain pair rest) = absurd (true≢false (sym pair))
 
-pub IsHierarchy-with_role : (h : Hierarchy) (r : Name) → length h < 512 → IsHierarchy h → IsHierarchy (with_role h r)
-IsHierarchy-with_role h r room is = record {
+-- lists of distinct names
+name_eq-apart : (a b : Name) → name_eq a b ≡ false → name_eq b a ≡ false
+name_eq-apart a b apart = refuted (name_eq b a) (λ is. true≢false (sym ((bytes_decides a b).1 (sym (same_name b a is))) ∙ apart))
+
+and_parts : (a b : Bool) → (a && b) ≡ true → (a ≡ true) × (b ≡ true)
+and_parts true b e = (refl, e)
+and_parts false b e = absurd (true≢false (sym e))
+
+and_both : (a b : Bool) → a ≡ true → b ≡ true → (a && b) ≡ true
+and_both true b p q = q
+and_both false b p q = absurd (true≢false (sym p))
+
+not_parts : (a b : Bool) → (a || b) ≡ false → (a ≡ false) × (b ≡ false)
+not_parts true b e = absurd (true≢false e)
+not_parts false b e = (refl, e)
+
+not_true : (a : Bool) → not a ≡ true → a ≡ false
+not_true true e = absurd (true≢false (sym e))
+not_true false e = refl
+
+distinct-append : (xs : List Name) (n : Name) → are_distinct xs ≡ true → contains_name xs n ≡ false → are_distinct (xs ++ n ∷ []) ≡ true
+distinct-append [] n once new = refl
+distinct-append (x ∷ xs) n once new =
+    let parts = and_parts (not (contains_name xs x)) (are_distinct xs) once in
+    let apart = not_parts (name_eq n x) (contains_name xs n) new in
+    let first : contains_name xs x ≡ false = not_true (contains_name xs x) parts.0 in
+    let other : name_eq x n ≡ false = name_eq-apart n x apart.0 in
+    and_both (not (contains_name (xs ++ n ∷ []) x)) _ (ap not (contains-append xs (n ∷ []) x ∙ (λ i. first i || (other i || false)))) (distinct-append xs n parts.1 apart.1)
+
+pub IsHierarchy-with_role : (h : Hierarchy) (r : Name) → length h < 512 → is_role h r ≡ false → IsHierarchy h → IsHierarchy (with_role h r)
+IsHierarchy-with_role h r room new is = record {
   small = omega (arith, length-append h ((r, []) ∷ []));
+  roles_once = ap are_distinct (names-with_role h r) ∙ distinct-append (role_names h) r is.roles_once new;
+  pairs_once = λ a. ap are_distinct (juniors-with_role h r a) ∙ is.pairs_once a;
   pairs_of_roles = λ a b pair.
       ap (λ l. contains_name l b) (names-with_role h r) ∙ contains-append (role_names h) (r ∷ []) b ∙ or_left _ _ (is.pairs_of_roles a b (fewer a b pair));
   acyclic = acyclic-fewer (with_role h r) h fewer is.acyclic;
@@ -110,6 +154,14 @@ with_pair-back h s j there a b pair =
       | false ↦ λ _ is. inl is
     ] refl now
 
+pub pairs-with_pair : (h : Hierarchy) (s j : Name) → is_role h s ≡ true → (a b : Name) → is_immediate h a b ≡ true → is_immediate (with_pair h s j) a b ≡ true
+pairs-with_pair h s j there a b pair =
+    ap (λ l. contains_name l b) (juniors-with_juniors h s _ a there)
+    ∙ elim (name_eq a s) as (λ t. name_eq a s ≡ t → contains_name (cond t (immediate_juniors h s ++ j ∷ []) (immediate_juniors h a)) b ≡ true) [
+      | true ↦ λ at. contains-append (immediate_juniors h s) (j ∷ []) b ∙ or_left _ _ (ap (λ k. is_immediate h k b) (sym (same_name a s at)) ∙ pair)
+      | false ↦ λ _. pair
+    ] refl
+
 with_pair-chains : (h : Hierarchy) (s j : Name) → is_role h s ≡ true → (a b : Name) → IsAtLeast (with_pair h s j) a b → IsAtLeast h a b ⊎ (IsAtLeast h a s × IsAtLeast h j b)
 with_pair-chains h s j there a b same = inl same
 with_pair-chains h s j there a b (chain {middle = m} pair rest) =
@@ -124,27 +176,29 @@ with_pair-chains h s j there a b (chain {middle = m} pair rest) =
       ]
     ]
 
-pub IsHierarchy-with_pair : (h : Hierarchy) (s j : Name) → is_role h s ≡ true → is_role h j ≡ true → at_least h j s ≡ false → IsHierarchy h → IsHierarchy (with_pair h s j)
-IsHierarchy-with_pair h s j senior junior apart is = record {
+pub IsHierarchy-with_pair : (h : Hierarchy) (s j : Name) → is_role h s ≡ true → is_role h j ≡ true → is_immediate h s j ≡ false → at_least h j s ≡ false → IsHierarchy h → IsHierarchy (with_pair h s j)
+IsHierarchy-with_pair h s j senior junior new apart is = record {
   small = let same = length-with_juniors h s (immediate_juniors h s ++ j ∷ []) in let before = is.small in omega arith;
   pairs_of_roles = λ a b pair. ap (λ l. contains_name l b) (names-with_juniors h s _) ∙ elim (with_pair-back h s j senior a b pair) [
     | inl old ↦ is.pairs_of_roles a b old
     | inr new ↦ ap (is_role h) new.1 ∙ junior
   ];
-  acyclic = λ a b down up. elim (with_pair-chains h s j senior a b (at_least-sound _ a b down)) [
-    | inl ab ↦ elim (with_pair-chains h s j senior b a (at_least-sound _ b a up)) [
-      | inl ba ↦ is.acyclic a b (at_least-complete h a b ab) (at_least-complete h b a ba)
-      | inr ba ↦ absurd (closed (chain-trans h j a s ba.1 (chain-trans h a b s ab ba.0)))
-    ]
-    | inr ab ↦ elim (with_pair-chains h s j senior b a (at_least-sound _ b a up)) [
-      | inl ba ↦ absurd (closed (chain-trans h j b s ab.1 (chain-trans h b a s ba ab.0)))
-      | inr ba ↦ absurd (closed (chain-trans h j b s ab.1 ba.0))
-    ]
+  roles_once = ap are_distinct (names-with_juniors h s _) ∙ is.roles_once;
+  pairs_once = λ a. ap are_distinct (juniors-with_juniors h s _ a senior) ∙ elim (name_eq a s) as (λ t. are_distinct (cond t (immediate_juniors h s ++ j ∷ []) (immediate_juniors h a)) ≡ true) [
+    | true ↦ distinct-append (immediate_juniors h s) j (is.pairs_once s) new
+    | false ↦ is.pairs_once a
   ];
+  acyclic = λ a b pair. refuted (at_least (with_pair h s j) b a) (λ up. turns a b (with_pair-back h s j senior a b pair) (with_pair-chains h s j senior b a (at_least-sound _ b a up)));
 }
   where
     closed : IsAtLeast h j s → ⊥
     closed down = true≢false (sym (at_least-complete h j s down) ∙ apart)
+
+    turns : (a b : Name) → (is_immediate h a b ≡ true) ⊎ ((a ≡ s) × (b ≡ j)) → IsAtLeast h b a ⊎ (IsAtLeast h b s × IsAtLeast h j a) → ⊥
+    turns a b (inl old) (inl up) = true≢false (sym (at_least-complete h b a up) ∙ is.acyclic a b old)
+    turns a b (inl old) (inr through) = closed (chain-trans h j a s through.1 (chain old through.0))
+    turns a b (inr new_pair) (inl up) = closed (subst (λ k. IsAtLeast h j k) new_pair.0 (subst (λ k. IsAtLeast h k a) new_pair.1 up))
+    turns a b (inr new_pair) (inr through) = closed (subst (λ k. IsAtLeast h k s) new_pair.1 through.0)
 
 pub contains-without : (xs : List Name) (r b : Name) → contains_name (without_name xs r) b ≡ true → (contains_name xs b ≡ true) × (name_eq r b ≡ false)
 contains-without [] r b is = absurd (true≢false (sym is))
@@ -157,18 +211,37 @@ contains-without (x ∷ xs) r b is =
       ]
     ] refl is
 
+distinct-without : (xs : List Name) (r : Name) → are_distinct xs ≡ true → are_distinct (without_name xs r) ≡ true
+distinct-without [] r once = refl
+distinct-without (x ∷ xs) r once =
+    let parts = and_parts (not (contains_name xs x)) (are_distinct xs) once in
+    let rest = distinct-without xs r parts.1 in
+    let first : contains_name (without_name xs r) x ≡ false = refuted (contains_name (without_name xs r) x) (λ is. true≢false (sym (contains-without xs r x is).0 ∙ not_true (contains_name xs x) parts.0)) in
+    elim (name_eq r x) as (λ t. are_distinct (cond (not t) (x ∷ without_name xs r) (without_name xs r)) ≡ true) [
+      | true ↦ rest
+      | false ↦ and_both (not (contains_name (without_name xs r) x)) _ (ap not first) rest
+    ]
+
+pub pairs-without_pair : (h : Hierarchy) (s j : Name) → is_role h s ≡ true → (a b : Name) → is_immediate (without_pair h s j) a b ≡ true → is_immediate h a b ≡ true
+pairs-without_pair h s j there a b pair = elim (name_eq a s) as (λ t. name_eq a s ≡ t → contains_name (cond t (without_name (immediate_juniors h s) j) (immediate_juniors h a)) b ≡ true → is_immediate h a b ≡ true) [
+  | true ↦ λ at kept. ap (λ k. is_immediate h k b) (same_name a s at) ∙ (contains-without _ j b kept).0
+  | false ↦ λ _ kept. kept
+] refl (ap (λ l. contains_name l b) (sym (juniors-with_juniors h s _ a there)) ∙ pair)
+
 pub IsHierarchy-without_pair : (h : Hierarchy) (s j : Name) → is_role h s ≡ true → IsHierarchy h → IsHierarchy (without_pair h s j)
 IsHierarchy-without_pair h s j there is = record {
   small = let same = length-with_juniors h s (without_name (immediate_juniors h s) j) in let before = is.small in omega arith;
+  roles_once = ap are_distinct (names-with_juniors h s _) ∙ is.roles_once;
+  pairs_once = λ a. ap are_distinct (juniors-with_juniors h s _ a there) ∙ elim (name_eq a s) as (λ t. are_distinct (cond t (without_name (immediate_juniors h s) j) (immediate_juniors h a)) ≡ true) [
+    | true ↦ distinct-without (immediate_juniors h s) j (is.pairs_once s)
+    | false ↦ is.pairs_once a
+  ];
   pairs_of_roles = λ a b pair. ap (λ l. contains_name l b) (names-with_juniors h s _) ∙ is.pairs_of_roles a b (fewer a b pair);
   acyclic = acyclic-fewer (without_pair h s j) h fewer is.acyclic;
 }
   where
     fewer : (a b : Name) → is_immediate (without_pair h s j) a b ≡ true → is_immediate h a b ≡ true
-    fewer a b pair = elim (name_eq a s) as (λ t. name_eq a s ≡ t → contains_name (cond t (without_name (immediate_juniors h s) j) (immediate_juniors h a)) b ≡ true → is_immediate h a b ≡ true) [
-      | true ↦ λ at kept. ap (λ k. is_immediate h k b) (same_name a s at) ∙ (contains-without _ j b kept).0
-      | false ↦ λ _ kept. kept
-    ] refl (ap (λ l. contains_name l b) (sym (juniors-with_juniors h s _ a there)) ∙ pair)
+    fewer = pairs-without_pair h s j there
 
 juniors-without : (es : Hierarchy) (r c : Name) → immediate_juniors (map (λ (e : Name × List Name). (e.0, without_name e.1 r)) es) c ≡ without_name (immediate_juniors es c) r
 juniors-without [] r c = refl
@@ -192,6 +265,14 @@ role-without (e ∷ es) r b there other =
       ]
     ] refl
 
+names-entries_without : (h : Hierarchy) (r : Name) → role_names (entries_without h r) ≡ without_name (role_names h) r
+names-entries_without [] r = refl
+names-entries_without (e ∷ es) r =
+    elim (name_eq r e.0) as (λ t. role_names (cond (not t) (e ∷ entries_without es r) (entries_without es r)) ≡ cond (not t) (e.0 ∷ without_name (role_names es) r) (without_name (role_names es) r)) [
+      | true ↦ names-entries_without es r
+      | false ↦ ap (λ l. e.0 ∷ l) (names-entries_without es r)
+    ]
+
 no_longer : (h : Hierarchy) (r : Name) → length (entries_without h r) ≤ length h
 no_longer [] r = omega arith
 no_longer (e ∷ es) r =
@@ -204,19 +285,36 @@ shrinks h r =
     let mapped : length (without_role h r) ≡ length (entries_without h r) = length-map (entries_without h r) (λ (e : Name × List Name). (e.0, without_name e.1 r)) in
     omega arith
 
+juniors-left : (h : Hierarchy) (r a b : Name) → is_immediate (without_role h r) a b ≡ true → contains_name (without_name (immediate_juniors (entries_without h r) a) r) b ≡ true
+juniors-left h r a b pair = ap (λ l. contains_name l b) (sym (juniors-without (entries_without h r) r a)) ∙ pair
+
+pub pairs-without_role : (h : Hierarchy) (r a b : Name) → is_immediate (without_role h r) a b ≡ true → is_immediate h a b ≡ true
+pairs-without_role h r a b pair = weaken_pair h r a b (contains-without _ r b (juniors-left h r a b pair)).0
+
+pub names-without_role : (h : Hierarchy) (r : Name) → role_names (without_role h r) ≡ without_name (role_names h) r
+names-without_role h r = names-map (entries_without h r) r ∙ names-entries_without h r
+
+pub roles-left : (h : Hierarchy) (r b : Name) → is_role h b ≡ true → name_eq r b ≡ false → is_role (without_role h r) b ≡ true
+roles-left h r b there other = ap (λ l. contains_name l b) (names-map (entries_without h r) r) ∙ role-without h r b there other
+
 pub IsHierarchy-without_role : (h : Hierarchy) (r : Name) → IsHierarchy h → IsHierarchy (without_role h r)
 IsHierarchy-without_role h r is = record {
   small = let fewer_roles = shrinks h r in let before = is.small in omega arith;
+  roles_once = ap are_distinct (names-map (entries_without h r) r ∙ names-entries_without h r) ∙ distinct-without (role_names h) r is.roles_once;
+  pairs_once = λ a. ap are_distinct (juniors-without (entries_without h r) r a) ∙ distinct-without (immediate_juniors (entries_without h r) a) r (left_once a);
   pairs_of_roles = λ a b pair.
-      ap (λ l. contains_name l b) (names-map (entries_without h r) r) ∙ role-without h r b (is.pairs_of_roles a b (fewer a b pair)) (contains-without _ r b (kept a b pair)).1;
+      ap (λ l. contains_name l b) (names-map (entries_without h r) r) ∙ role-without h r b (is.pairs_of_roles a b (fewer a b pair)) (contains-without _ r b (juniors-left h r a b pair)).1;
   acyclic = acyclic-fewer (without_role h r) h fewer is.acyclic;
 }
   where
-    kept : (a b : Name) → is_immediate (without_role h r) a b ≡ true → contains_name (without_name (immediate_juniors (entries_without h r) a) r) b ≡ true
-    kept a b pair = ap (λ l. contains_name l b) (sym (juniors-without (entries_without h r) r a)) ∙ pair
+    left_once : (a : Name) → are_distinct (immediate_juniors (entries_without h r) a) ≡ true
+    left_once a = elim (name_eq r a) as (λ t. name_eq r a ≡ t → are_distinct (immediate_juniors (entries_without h r) a) ≡ true) [
+      | true ↦ λ at. ap (λ k. are_distinct (immediate_juniors (entries_without h r) k)) (sym (same_name r a at)) ∙ ap are_distinct (juniors-without_same h r)
+      | false ↦ λ apart. ap are_distinct (juniors-without_other h r a apart) ∙ is.pairs_once a
+    ] refl
 
     fewer : (a b : Name) → is_immediate (without_role h r) a b ≡ true → is_immediate h a b ≡ true
-    fewer a b pair = weaken_pair h r a b (contains-without _ r b (kept a b pair)).0
+    fewer = pairs-without_role h r
 
 -- a chain between two roles ends with a pair, so what it leads down to is a role
 junior_role : (h : Hierarchy) → IsHierarchy h → (a b : Name) → IsAtLeast h a b → (a ≡ b) ⊎ (is_role h b ≡ true)

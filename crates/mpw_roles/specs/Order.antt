@@ -1,7 +1,7 @@
 -- The order of roles (ANSI INCITS 359-2004, 6.2.1): the reflexive and transitive closure of the immediate pairs.
-use Rattle.std.specs.Prelude.{◌≡◌, ℕ, ◌≤◌, zero, suc, Bool, true, ◌||◌, List, length, filter}
+use Rattle.std.specs.Prelude.{◌≡◌, ℕ, ◌≤◌, zero, suc, Bool, true, false, not, ◌||◌, ◌&&◌, List, [], ◌∷◌, length, filter}
 use Rattle.std.specs.List.{list_any}
-use Rattle.mpw_geom.specs.Names.{name_eq}
+use Rattle.mpw_geom.specs.Names.{name_eq, contains_name}
 use Rattle.mpw_roles.specs.Hierarchy.{Name, Hierarchy, role_names, is_role, immediate_juniors, is_immediate, entries_without}
 
 -- the senior is the junior, or a chain of immediate pairs leads from it down to the junior
@@ -27,8 +27,16 @@ is_below hierarchy seniors role = list_any (λ senior. at_least hierarchy senior
 abbrev pub roles_below : Hierarchy → List Name → List Name
 roles_below hierarchy seniors = filter (is_below hierarchy seniors) (role_names hierarchy)
 
--- what every hierarchy keeps: at most 512 roles, pairs of roles, and no cycle, so that the order is a partial order
+-- whether no name stands twice
+abbrev pub are_distinct : List Name → Bool
+are_distinct [] = true
+are_distinct (name ∷ names) = not (contains_name names name) && are_distinct names
+
+-- what every hierarchy keeps: at most 512 roles, each once; pairs of roles, each once; and no chain from a junior of a
+-- pair up to its senior, so that the order is a partial order
 pub record IsHierarchy (hierarchy : Hierarchy) : Type 0 where
   pub small : length hierarchy ≤ 512
+  pub roles_once : are_distinct (role_names hierarchy) ≡ true
+  pub pairs_once : (senior : Name) → are_distinct (immediate_juniors hierarchy senior) ≡ true
   pub pairs_of_roles : (senior junior : Name) → is_immediate hierarchy senior junior ≡ true → is_role hierarchy junior ≡ true
-  pub acyclic : (a b : Name) → at_least hierarchy a b ≡ true → at_least hierarchy b a ≡ true → a ≡ b
+  pub acyclic : (senior junior : Name) → is_immediate hierarchy senior junior ≡ true → at_least hierarchy junior senior ≡ false

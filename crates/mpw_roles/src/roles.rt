@@ -3,7 +3,7 @@ ghost use Rattle.std.specs.Prelude.{◌≡◌, ◌⊎◌, [], ◌∷◌, ◌++�
 ghost use Rattle.indexmap.specs.IndexMap.{insert_entry};
 ghost use Rattle.mpw_geom.specs.Names.{name_eq, without_name, by_name};
 ghost use Rattle.mpw_roles.specs.Hierarchy.{Name as RoleName, role_names, is_role, is_immediate, immediate_juniors};
-ghost use Rattle.mpw_roles.specs.Order.{at_least, roles_below};
+ghost use Rattle.mpw_roles.specs.Order.{at_least, roles_below, IsHierarchy};
 ghost use Rattle.mpw_roles.specs.Rows as rows;
 
 use crate::{Below, RolesFault};
@@ -233,6 +233,14 @@ impl Roles {
     {
         let table = self.table.clone()?;
         Ok(Roles { table })
+    }
+
+    /// Every value keeps what a hierarchy keeps: 512 roles at most, each once, pairs of roles, each once, and no cycle.
+    /// A law: the function does nothing.
+    pub fn is_hierarchy(&self)
+        ensures { IsHierarchy self.now }
+    {
+        let _roles = &self.table;
     }
 
     /// No cycle stands in any hierarchy, so the order is a partial order. A law: the function does nothing.

@@ -8,5 +8,14 @@ returns c = record {
   assign = denial.denies-assign;
   grant = denial.denies-grant;
   revoke = denial.denies-revoke;
+  deluser = denial.denies-deluser;
+  delrole = denial.denies-delrole;
+  deassign = denial.denies-deassign;
+  inherit = denial.denies-inherit;
+  uninherit = denial.denies-uninherit;
+  ssd = denial.denies-ssd;
+  dsd = denial.denies-dsd;
+  unssd = denial.denies-unssd;
+  undsd = denial.denies-undsd;
   activate = denial.denies-activate;
 }

@@ -13,4 +13,14 @@ returns c = record {
   assign = law.keeps-assign;
   grant = law.keeps-grant;
   revoke = law.keeps-revoke;
+  drop_role = law.keeps-drop_role;
+  deluser = law.keeps-deluser;
+  delrole = law.keeps-delrole;
+  deassign = law.keeps-deassign;
+  inherit = law.keeps-inherit;
+  uninherit = law.keeps-uninherit;
+  ssd = law.keeps-ssd;
+  dsd = law.keeps-dsd;
+  unssd = law.keeps-unssd;
+  undsd = law.keeps-undsd;
 }

@@ -3,28 +3,28 @@ use Rattle.std.proofs.Common.{◌≡◌, ◌∙◌, sym, ap, subst, true, false,
 use Rattle.std.specs.Prelude.{nat_lt}
 use Rattle.indexmap.specs.IndexMap.{insert_entry}
 use Rattle.mpw_geom.specs.Names.{name_eq}
-use Rattle.mpw_rbac.specs.Policy.{Policy, is_user}
+use Rattle.mpw_rbac.specs.Policy.{Policy, policy_of, is_user}
 use Rattle.mpw_rbac.specs.Rows as rows
-use Rattle.mpw_rbac.specs.Sound.{active_authorized}
+use Rattle.mpw_rbac.specs.Sound.{Sound}
 use Rattle.mpw_rbac.proofs.RowLemmas.{adduser-ok}
-use Rattle.mpw_rbac.proofs.SoundLemmas.{sound-adduser}
+use Rattle.mpw_rbac.proofs.KeepLemmas.{keep-adduser}
 use Rattle.mpw_rbac.proofs.TableLemmas.{insert-new}
 use Rattle.mpw_rbac.proofs.policy.Policy.adduser.Goals as goal
 
 pub invariant_of-self-2 : goal.invariant_of-self-2
 invariant_of-self-2 c =
     let in' = c.self.inside in
-    let p : Policy = record { users = in'.users.entries; roles = in'.roles; granted = in'.granted.keys; ssd = []; dsd = []; sessions = in'.sessions.entries } in
+    let p = policy_of in'.users.entries in'.roles in'.granted.keys in'.sets in'.sessions.entries in
     let user = c.args.user in
     let new : is_user p user ≡ false = ap (λ (q : Policy). is_user q user) c.self.view_is ∙ sym c.is_user.ensures ∙ c.if-is_user.false in
     let is : c.insert.new.self.entries ≡ p.users ++ (user, record { digest = c.args.digest; roles = [] }) ∷ [] =
     c.in_ok-insert.ensures.entries ∙ ap (λ rs. insert_entry name_eq p.users user (record { digest = c.args.digest; roles = rs })) c.new-roles.ensures ∙ insert-new name_eq p.users user _ new in
-    subst (λ us. active_authorized (record p { users = us }) ≡ true) (sym is) (sound-adduser p user c.args.digest c.self.invariant)
+    subst (λ us. Sound (record p { users = us })) (sym is) (keep-adduser p user c.args.digest c.self.invariant)
 
 pub returns-clause-ok : goal.returns-clause-ok
 returns-clause-ok c =
     let in' = c.self.inside in
-    let p : Policy = record { users = in'.users.entries; roles = in'.roles; granted = in'.granted.keys; ssd = []; dsd = []; sessions = in'.sessions.entries } in
+    let p = policy_of in'.users.entries in'.roles in'.granted.keys in'.sets in'.sessions.entries in
     let user = c.args.user in
     let new : is_user p user ≡ false = ap (λ (q : Policy). is_user q user) c.self.view_is ∙ sym c.is_user.ensures ∙ c.if-is_user.false in
     let room : nat_lt (length p.users) 512 ≡ true = ap (λ (q : Policy). nat_lt (length q.users) 512) c.self.view_is ∙ sym c.has_room_for_user.ensures ∙ c.if-not-has_room_for_user.false in

@@ -4,7 +4,7 @@ use Rattle.std.specs.Prelude.{nat_lt}
 use Rattle.std.specs.List.{list_any}
 use Rattle.mpw_roles.specs.Hierarchy.{is_role}
 use Rattle.mpw_rbac.specs.Grant.{grant_eq}
-use Rattle.mpw_rbac.specs.Policy.{Policy}
+use Rattle.mpw_rbac.specs.Policy.{Policy, policy_of}
 use Rattle.mpw_rbac.specs.Rows as rows
 use Rattle.mpw_rbac.proofs.RowLemmas.{grant-ok}
 use Rattle.mpw_rbac.proofs.TableLemmas.{any-same}
@@ -13,7 +13,7 @@ use Rattle.mpw_rbac.proofs.policy.Policy.grant.Goals as goal
 pub returns-clause-ok : goal.returns-clause-ok
 returns-clause-ok c =
     let in' = c.self.inside in
-    let p : Policy = record { users = in'.users.entries; roles = in'.roles; granted = in'.granted.keys; ssd = []; dsd = []; sessions = in'.sessions.entries } in
+    let p = policy_of in'.users.entries in'.roles in'.granted.keys in'.sets in'.sessions.entries in
     let new = c.args.grant in
     let ok : rows.administered p c.args.conn ≡ Ok p = subst (λ (q : Policy). rows.administered q c.args.conn ≡ Ok q) (sym c.self.view_is) c.in_ok-administers.ensures.ok in
     let known : is_role p.roles new.role ≡ true = sym c.contains.ensures ∙ c.if-not-contains.false in

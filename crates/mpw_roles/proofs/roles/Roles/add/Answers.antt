@@ -14,7 +14,7 @@ invariant_of-self-2 c =
     let new : is_role h c.args.role ≡ false = ap (λ k. is_role k c.args.role) c.self.view_is ∙ sym c.contains.ensures ∙ c.if-contains.false in
     let room : length h < 512 = let same = ap length c.self.view_is in omega arith in
     let is : c.put.new.table.entries ≡ with_role h c.args.role = c.in_ok-put.ensures.ok ∙ ap (insert_entry name_eq h c.args.role) c.new-juniors.ensures ∙ insert-new h c.args.role new in
-    subst IsHierarchy (sym is) (IsHierarchy-with_role h c.args.role room c.self.invariant)
+    subst IsHierarchy (sym is) (IsHierarchy-with_role h c.args.role room new c.self.invariant)
 
 pub returns-clause-ok : goal.returns-clause-ok
 returns-clause-ok c =

@@ -1,0 +1,19 @@
+//! Separation of duty: sets of roles of which nobody may have too many at once
+//! (ANSI INCITS 359-2004, 6.3 static and 6.4 dynamic separation of duty).
+//!
+//! [`Sets`] keeps the sets of both kinds. A set is broken by some seniors where as many of its roles as its cardinality
+//! are at or below one of them. Whose seniors are asked about is the caller's matter: a user's assigned roles for the
+//! static sets, a session's active roles for the dynamic ones.
+#![tactic(auto)]
+
+mod fault;
+mod least;
+mod set;
+mod sets;
+#[cfg(test)]
+mod tests;
+
+pub use fault::SetsFault;
+pub use least::lesser;
+pub use set::{Kind, SeparationSet};
+pub use sets::{MAX_SETS, Sets};
