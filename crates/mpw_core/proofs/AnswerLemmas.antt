@@ -10,7 +10,7 @@ use Rattle.mpw_core.specs.declared.answer.Answer.{Answer}
 use Rattle.mpw_core.specs.Answer.{IsRefusal, Gives, policy_after, row_of}
 use Rattle.mpw_core.specs.Step.{Outcome, changed, outcome_of}
 use Rattle.mpw_core.specs.declared.event.Request.{Request}
-use Rattle.mpw_core.specs.declared.event.Request.TheVariants.{Open, Close, Activate, Whoami, AddUser, AddRole, Assign, Grant, Revoke}
+use Rattle.mpw_core.specs.declared.event.Request.TheVariants.{Open, Close, Activate, DropRole, Whoami, AddUser, DelUser, AddRole, DelRole, Assign, Deassign, Grant, Revoke, Inherit, Uninherit, Ssd, Dsd, UnSsd, UnDsd}
 
 pub refused-gives : (policy : Policy) (row : Result Policy Refusal) (fault : PolicyFault) (result : Result Answer AllocError) → IsFaultOf row fault → IfOk result (λ a. IsRefusal fault a.reply a.next)
     → IfOk result (λ a. Gives policy (changed (record { policy = policy }) row) a.reply a.next)
@@ -32,3 +32,13 @@ row-outcome policy conn (AddRole role) other = refl
 row-outcome policy conn (Assign user role) other = refl
 row-outcome policy conn (Grant grant) other = refl
 row-outcome policy conn (Revoke grant) other = refl
+row-outcome policy conn (DropRole role) other = refl
+row-outcome policy conn (DelUser user) other = refl
+row-outcome policy conn (DelRole role) other = refl
+row-outcome policy conn (Deassign user role) other = refl
+row-outcome policy conn (Inherit senior junior) other = refl
+row-outcome policy conn (Uninherit senior junior) other = refl
+row-outcome policy conn (Ssd set) other = refl
+row-outcome policy conn (Dsd set) other = refl
+row-outcome policy conn (UnSsd name) other = refl
+row-outcome policy conn (UnDsd name) other = refl

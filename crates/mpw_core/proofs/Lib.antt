@@ -1,3 +1,4 @@
 pub mod AnswerLemmas
 pub mod AuthorizationLemmas
 pub mod HistoryLemmas
+pub mod RefusalLemmas

@@ -37,6 +37,7 @@ fn told(refusal: Refusal) -> Reply
         Refusal::Unknown => Reply::Refused(Code::Unknown),
         Refusal::Loop => Reply::Refused(Code::Loop),
         Refusal::Known => Reply::Refused(Code::Known),
+        Refusal::Used => Reply::Refused(Code::Used),
         Refusal::Full => Reply::Refused(Code::Full),
     }
 }
@@ -76,12 +77,22 @@ fn make(policy: &mut Policy, conn: u32, request: &Request) -> Result<(), PolicyF
         Request::Open { user, digest } => policy.open(conn, user, digest),
         Request::Close => policy.close(conn),
         Request::Activate { role } => policy.activate(conn, role),
+        Request::DropRole { role } => policy.drop_role(conn, role),
         Request::Whoami => Ok(()),
         Request::AddUser { user, digest } => policy.adduser(conn, user.copy()?, *digest),
+        Request::DelUser { user } => policy.deluser(conn, user),
         Request::AddRole { role } => policy.addrole(conn, role.copy()?),
+        Request::DelRole { role } => policy.delrole(conn, role),
         Request::Assign { user, role } => policy.assign(conn, user, role),
+        Request::Deassign { user, role } => policy.deassign(conn, user, role),
         Request::Grant { grant } => policy.grant(conn, grant.clone()?),
         Request::Revoke { grant } => policy.revoke(conn, grant),
+        Request::Inherit { senior, junior } => policy.inherit(conn, senior, junior),
+        Request::Uninherit { senior, junior } => policy.uninherit(conn, senior, junior),
+        Request::Ssd { set } => policy.ssd(conn, set.clone()?),
+        Request::Dsd { set } => policy.dsd(conn, set.clone()?),
+        Request::UnSsd { name } => policy.unssd(conn, name),
+        Request::UnDsd { name } => policy.undsd(conn, name),
     }
 }
 
@@ -125,6 +136,24 @@ fn ask(alloc: Global, policy: &Policy, conn: u32, request: &Request) -> Result<A
     changed(alloc, next, made)
 }
 
+/// Answers a connection's end. Where the connection has no session there is nothing to change, and nothing is copied.
+fn gone(policy: &Policy, conn: u32) -> Result<Answer, AllocError>
+    ensures { IfOk result (λ answer. Gives policy.now (record { reply = Reply.Gone; state = record { policy = end_session policy.now conn } }) answer.reply answer.next) }
+{
+    if !policy.has_session(conn) {
+        return Ok(Answer {
+            reply: Reply::Gone,
+            next: None,
+        });
+    }
+    let mut next = policy.copy()?;
+    next.end(conn);
+    Ok(Answer {
+        reply: Reply::Gone,
+        next: Some(next),
+    })
+}
+
 /// The answer to an event. It takes the policy's size at most, and its own.
 ///
 /// # Errors
@@ -135,13 +164,6 @@ pub(crate) fn prepare(alloc: Global, policy: &Policy, event: &Event) -> Result<A
 {
     match event {
         Event::Ask { conn, request } => ask(alloc, policy, *conn, request),
-        Event::Gone { conn } => {
-            let mut next = policy.copy()?;
-            next.end(*conn);
-            Ok(Answer {
-                reply: Reply::Gone,
-                next: Some(next),
-            })
-        }
+        Event::Gone { conn } => gone(policy, *conn),
     }
 }

@@ -1,11 +1,37 @@
 //! Laws of the definitions alone. Each function has an empty body: its contract is the law.
-ghost use Rattle.std.specs.Prelude.{◌≡◌, ℕ, List, true};
-ghost use Rattle.mpw_rbac.specs.Sound.{active_authorized};
+ghost use Rattle.std.specs.Prelude.{◌≡◌, ℕ, List, true, false, None};
+ghost use Rattle.mpw_rbac.specs.Policy.{is_user, session_of};
+ghost use Rattle.mpw_rbac.specs.Rows.{is_login};
+ghost use Rattle.mpw_rbac.specs.Sound.{active_authorized, Sound};
 ghost use Rattle.mpw_core.specs.History.{state_after};
-ghost use Rattle.mpw_core.specs.Step.{new_state};
+ghost use Rattle.mpw_core.specs.Step.{State, new_state, outcome_of, reply_of, after};
+ghost use Rattle.mpw_core.specs.declared.event.Event.{Event};
+ghost use Rattle.mpw_core.specs.declared.event.Request.TheVariants as Request;
+ghost use Rattle.mpw_core.specs.declared.reply.Code.{Code};
+ghost use Rattle.mpw_core.specs.declared.reply.Denial.{Denial};
+ghost use Rattle.mpw_core.specs.declared.reply.Denial.TheVariants as denial;
+ghost use Rattle.mpw_core.specs.declared.reply.Reply.TheVariants as Reply;
 ghost use Rattle.mpw_core.specs.declared.event.Call.{Call};
 
 /// In every state that calls lead to, each session is of a user who is authorized for each of its active roles.
 pub fn every_state_keeps_authorization()
     ensures { (officer digest : List ℕ) (calls : List Call) → active_authorized (state_after (new_state officer digest) calls).policy ≡ true }
+{}
+
+/// In every state that calls lead to the policy is sound: every active role is authorized, the static sets hold for
+/// every user, and the dynamic ones for every session.
+pub fn every_state_keeps_separation()
+    ensures { (officer digest : List ℕ) (calls : List Call) → Sound (state_after (new_state officer digest) calls).policy }
+{}
+
+/// A login is denied alike where the user is unknown and where the token is another.
+pub fn unknown_users_are_denied_like_wrong_tokens()
+    ensures unknown { (state : State) (conn : ℕ) (user digest : List ℕ) → session_of state.policy conn ≡ None → is_user state.policy user ≡ false → (outcome_of state conn (Request.Open user digest)).reply ≡ Reply.Denied denial.Login }
+    ensures wrong { (state : State) (conn : ℕ) (user digest : List ℕ) → session_of state.policy conn ≡ None → is_login state.policy user digest ≡ false → (outcome_of state conn (Request.Open user digest)).reply ≡ Reply.Denied denial.Login }
+{}
+
+/// A denial or a refusal leaves the state as it was.
+pub fn denials_and_refusals_change_nothing()
+    ensures denied { (state : State) (event : Event) (why : Denial) → reply_of state event ≡ Reply.Denied why → after state event ≡ state }
+    ensures refused { (state : State) (event : Event) (why : Code) → reply_of state event ≡ Reply.Refused why → after state event ≡ state }
 {}

@@ -14,5 +14,8 @@ mod reply;
 
 pub use desk::{Core, MAX_EVENTS, replay};
 pub use event::{Call, Event, Request};
-pub use laws::every_state_keeps_authorization;
+pub use laws::{
+    denials_and_refusals_change_nothing, every_state_keeps_authorization,
+    every_state_keeps_separation, unknown_users_are_denied_like_wrong_tokens,
+};
 pub use reply::{Code, Denial, Line, Lines, Reply};

@@ -1,0 +1,5 @@
+use Rattle.mpw_core.proofs.RefusalLemmas.{denied-leaves, refused-leaves}
+use Rattle.mpw_core.proofs.laws.denials_and_refusals_change_nothing.Goals as goal
+
+pub returns : goal.returns
+returns c = record { denied = denied-leaves; refused = refused-leaves }
