@@ -1,1 +1,4 @@
 pub mod WordLemmas
+pub mod WritingLemmas
+pub mod ReadingLemmas
+pub mod ServingLemmas

@@ -1,10 +1,10 @@
 -- The test of a word, and what a name or a token is.
-use Rattle.std.proofs.Common.{◌≡◌, ◌≤◌, ◌<◌, ◌+◌, ◌==◌, ℕ, Bool, true, false, ◌&&◌, leb, ltb, cond, Option, Some, None, List, [], ◌∷◌, length, take, drop, position, Decides, refl, sym, ap, subst, ◌∙◌, arith}
+use Rattle.std.proofs.Common.{◌≡◌, ◌≤◌, ◌<◌, ◌+◌, ◌==◌, ℕ, Bool, true, false, ◌&&◌, leb, ltb, cond, Some, None, List, [], ◌∷◌, length, take, drop, position, Decides, refl, ap, ◌∙◌, arith}
 use Rattle.std.specs.List.{list_all, slice_split, position_or_len}
 use Rattle.std.proofs.lemmas.List.Quantifiers.{position-Some}
 use Rattle.std.proofs.lemmas.List.Sums.{position_or_len_is, fails_before_first}
 use Rattle.std.proofs.lemmas.List.Splits.{slice_split_first, slice_split_none, length-slice_split}
-use Rattle.std.proofs.lemmas.Bool.Decides.{Decides-by_and, Decides-and, Decides-at, not_from_Decides, nat_tests}
+use Rattle.std.proofs.lemmas.Bool.Decides.{Decides-by_and, Decides-and, nat_tests}
 use Rattle.mpw_geom.specs.Name.{IsName, IsVisible}
 use Rattle.mpw_wire.specs.Words.{words, is_visible, is_visible_word}
 

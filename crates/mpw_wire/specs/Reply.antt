@@ -11,8 +11,10 @@ use Rattle.mpw_core.specs.declared.reply.Line.TheVariants.{User, Active, Authori
 use Rattle.mpw_core.specs.declared.reply.Denial.{Denial}
 use Rattle.mpw_core.specs.declared.reply.Denial.TheVariants.{Session, Login, Permission, Activation, Ssd, Dsd}
 use Rattle.mpw_core.specs.declared.reply.Code.{Code}
-use Rattle.mpw_core.specs.declared.reply.Code.TheVariants.{Full, Opened, Unknown, Known, Loop, Ended}
+use Rattle.mpw_core.specs.declared.reply.Code.TheVariants.{Full, Opened, Unknown, Known, Used, Loop, Ended}
 use Rattle.mpw_core.specs.declared.reply.Reply.{Reply}
+use Rattle.mpw_wire.specs.declared.reply.Refusal.{Refusal}
+use Rattle.mpw_wire.specs.declared.reply.Refusal.TheVariants as refusal
 use Rattle.mpw_core.specs.declared.reply.Reply.TheVariants as reply
 
 -- a line feed
@@ -77,12 +79,26 @@ code_text Full = codes "27 full"
 code_text Opened = codes "30 opened"
 code_text Unknown = codes "32 unknown"
 code_text Known = codes "33 known"
+code_text Used = codes "35 used"
 code_text Loop = codes "36 loop"
 code_text Ended = codes "46 ended"
 
+-- the number and the word of what is refused before the desk is asked
+unfoldable pub refusal_words : Refusal → List ℕ
+refusal_words refusal.Memory = codes "17 memory"
+refusal_words refusal.Form = codes "40 form"
+refusal_words refusal.Long = codes "41 long"
+
+unfoldable pub refusal_text : Refusal → List ℕ
+refusal_text refusal = concat (codes "REFUSED " ∷ refusal_words refusal ∷ line_feed ∷ [])
+
+-- the number of lines
+abbrev pub count_text : List Line → List ℕ
+count_text lines = concat (codes "OK " ∷ decimal (length lines) ∷ line_feed ∷ [])
+
 -- the number of lines, and the lines
 unfoldable pub accepted_text : List Line → List ℕ
-accepted_text lines = concat (codes "OK " ∷ decimal (length lines) ∷ line_feed ∷ []) ++ flat_map line_text lines
+accepted_text lines = count_text lines ++ flat_map line_text lines
 
 -- the end of a connection is told nobody, so it has no text
 unfoldable pub reply_text : Reply → List ℕ

@@ -1,14 +1,16 @@
 -- The text of a request line: its words, and the request that they ask.
-use Rattle.std.specs.Prelude.{ℕ, List, [], ◌∷◌, codes, Option, Some, None, option_map, option_and_then, if◌then◌else◌}
+use Rattle.std.specs.Prelude.{ℕ, Bool, ◌==◌, List, [], ◌∷◌, length, codes, Option, Some, None, option_map, option_and_then, if◌then◌else◌}
 use Rattle.sha2.specs.Sha256.{sha256}
-use Rattle.mpw_geom.specs.Names.{name_eq}
+use Rattle.mpw_text.specs.Text.{number_of}
+use Rattle.mpw_geom.specs.Names.{name_eq, by_name}
+use Rattle.mpw_separation.specs.declared.set.SeparationSet.{SeparationSet}
 use Rattle.mpw_rbac.specs.declared.permission.Grant as permission
 use Rattle.mpw_rbac.specs.declared.permission.Operation.{Operation}
 use Rattle.mpw_rbac.specs.declared.permission.Operation.TheVariants.{Submit, Use, Read, Place, Admin, Deck, Run, Waive, Sign, Verdict, Audit}
 use Rattle.mpw_rbac.specs.declared.permission.Object.{Object}
 use Rattle.mpw_rbac.specs.declared.permission.Object.TheVariants.{Cell, Desk}
 use Rattle.mpw_core.specs.declared.event.Request.{Request}
-use Rattle.mpw_core.specs.declared.event.Request.TheVariants.{Open, Close, Activate, Whoami, AddUser, AddRole, Assign, Grant, Revoke}
+use Rattle.mpw_core.specs.declared.event.Request.TheVariants.{Open, Close, Activate, DropRole, Whoami, AddUser, DelUser, AddRole, DelRole, Assign, Deassign, Grant, Revoke, Inherit, Uninherit, Ssd, Dsd, UnSsd, UnDsd}
 use Rattle.mpw_wire.specs.Words.{words, is_visible_word}
 
 infixl 10 ◌>>=◌
@@ -77,12 +79,29 @@ login_of user token = do
   digest ← token_of token
   Some (user, digest)
 
--- a user's name and a role's
-unfoldable pub assignment_of : List ℕ → List ℕ → Option Request
-assignment_of user role = do
-  user ← name_of user
-  role ← name_of role
-  Some (Assign user role)
+-- two names
+unfoldable pub pair_of : List ℕ → List ℕ → Option (List ℕ × List ℕ)
+pair_of first second = do
+  first ← name_of first
+  second ← name_of second
+  Some (first, second)
+
+-- names, one a word
+unfoldable pub names_of : List (List ℕ) → Option (List (List ℕ))
+names_of [] = Some []
+names_of (word ∷ words) = name_of word >>= λ name. option_map (λ names. name ∷ names) (names_of words)
+
+-- no name stands twice: by name, each once, they are as many
+abbrev pub are_distinct : List (List ℕ) → Bool
+are_distinct names = length (by_name names) == length names
+
+-- a set of roles of which nobody may have that many, 2 to all of them: its name, that number and the roles
+unfoldable pub set_of : List ℕ → List ℕ → List (List ℕ) → Option SeparationSet
+set_of name cardinality roles = do
+  name ← name_of name
+  roles ← names_of roles
+  cardinality ← number_of 2 (length roles) cardinality
+  if are_distinct roles then Some (record { name = name; cardinality = cardinality; roles = roles }) else None
 
 -- the requests of a verb alone
 unfoldable pub bare_request : List ℕ → Option Request
@@ -91,19 +110,27 @@ bare_request verb =
     else if name_eq verb (codes "whoami") then Some Whoami
     else None
 
--- the requests of a verb and one word
+-- the requests of a verb and one name
 unfoldable pub request_of_one : List ℕ → List ℕ → Option Request
-request_of_one verb role =
-    if name_eq verb (codes "activate") then option_map Activate (name_of role)
-    else if name_eq verb (codes "addrole") then option_map AddRole (name_of role)
+request_of_one verb word =
+    if name_eq verb (codes "activate") then option_map Activate (name_of word)
+    else if name_eq verb (codes "drop") then option_map DropRole (name_of word)
+    else if name_eq verb (codes "deluser") then option_map DelUser (name_of word)
+    else if name_eq verb (codes "addrole") then option_map AddRole (name_of word)
+    else if name_eq verb (codes "delrole") then option_map DelRole (name_of word)
+    else if name_eq verb (codes "unssd") then option_map UnSsd (name_of word)
+    else if name_eq verb (codes "undsd") then option_map UnDsd (name_of word)
     else None
 
 -- the requests of a verb and two words
 unfoldable pub request_of_two : List ℕ → List ℕ → List ℕ → Option Request
-request_of_two verb user other =
-    if name_eq verb (codes "open") then option_map (λ login. Open login.0 login.1) (login_of user other)
-    else if name_eq verb (codes "adduser") then option_map (λ login. AddUser login.0 login.1) (login_of user other)
-    else if name_eq verb (codes "assign") then assignment_of user other
+request_of_two verb first second =
+    if name_eq verb (codes "open") then option_map (λ login. Open login.0 login.1) (login_of first second)
+    else if name_eq verb (codes "adduser") then option_map (λ login. AddUser login.0 login.1) (login_of first second)
+    else if name_eq verb (codes "assign") then option_map (λ pair. Assign pair.0 pair.1) (pair_of first second)
+    else if name_eq verb (codes "deassign") then option_map (λ pair. Deassign pair.0 pair.1) (pair_of first second)
+    else if name_eq verb (codes "inherit") then option_map (λ pair. Inherit pair.0 pair.1) (pair_of first second)
+    else if name_eq verb (codes "uninherit") then option_map (λ pair. Uninherit pair.0 pair.1) (pair_of first second)
     else None
 
 -- the requests of a verb and three words
@@ -113,13 +140,20 @@ request_of_three verb operation object role =
     else if name_eq verb (codes "revoke") then option_map Revoke (grant_of operation object role)
     else None
 
+-- the requests of a verb, a set's name and cardinality, and two roles or more
+unfoldable pub request_of_more : List ℕ → List ℕ → List ℕ → List (List ℕ) → Option Request
+request_of_more verb name cardinality roles =
+    if name_eq verb (codes "ssd") then option_map Ssd (set_of name cardinality roles)
+    else if name_eq verb (codes "dsd") then option_map Dsd (set_of name cardinality roles)
+    else None
+
 abbrev pub request_of_words : List (List ℕ) → Option Request
 request_of_words [] = None
 request_of_words (verb ∷ []) = bare_request verb
 request_of_words (verb ∷ a ∷ []) = request_of_one verb a
 request_of_words (verb ∷ a ∷ b ∷ []) = request_of_two verb a b
 request_of_words (verb ∷ a ∷ b ∷ c ∷ []) = request_of_three verb a b c
-request_of_words (verb ∷ a ∷ b ∷ c ∷ d ∷ more) = None
+request_of_words (verb ∷ a ∷ b ∷ c ∷ d ∷ more) = request_of_more verb a b (c ∷ d ∷ more)
 
 -- the request whose text a line is
 abbrev pub request_of : List ℕ → Option Request

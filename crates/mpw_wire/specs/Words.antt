@@ -22,4 +22,4 @@ AreArguments Zero words = words ≡ []
 AreArguments (One first) words = words ≡ first.now ∷ []
 AreArguments (Two first second) words = words ≡ first.now ∷ second.now ∷ []
 AreArguments (Three first second third) words = words ≡ first.now ∷ second.now ∷ third.now ∷ []
-AreArguments More words = 4 ≤ length words
+AreArguments (More first second rest) line_words = (line_words ≡ first.now ∷ second.now ∷ words rest.now) × (2 ≤ length (words rest.now))

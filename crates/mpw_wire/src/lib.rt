@@ -1,14 +1,27 @@
 //! Lines of text to requests, and replies to lines of text.
 //!
-//! A request is one line of words parted by one space. [`parse_request`] reads such a line, and [`reply_text`] writes
+//! A request is one line of words parted by one space. [`parse_request`] reads such a line, and [`write_reply`] writes
 //! the text of a reply. A token is read into its SHA-256 digest at once and is kept nowhere.
 #![tactic(auto)]
 
+mod device;
 mod digest;
+mod fault;
+mod line;
+mod read;
 mod reply;
 mod request;
+mod serve;
+#[cfg(test)]
+mod tests;
 mod words;
+mod write;
 
+pub use device::{Counted, DeviceFault, Sink, Source};
 pub use digest::{digest_of, read_digest};
-pub use reply::reply_text;
+pub use fault::WireFault;
+pub use line::{MAX_LINE, MAX_LINES};
+pub use read::{Asked, read_request};
+pub use reply::write_reply;
 pub use request::parse_request;
+pub use serve::{End, serve_core};

@@ -1,21 +1,14 @@
 //! The text of replies.
-ghost use Rattle.std.specs.Prelude.{◌≡◌, ◌++◌, codes, IfOk, OnOk, string_bytes};
-ghost use Rattle.mpw_wire.specs.Reply.{line_word, line_name, line_text, denial_word, operation_text, object_text, denial_text, code_text, accepted_text, reply_text};
+ghost use Rattle.std.specs.Prelude.{◌≡◌};
+ghost use Rattle.mpw_wire.specs.Writing.{Writes};
+ghost use Rattle.mpw_wire.specs.Reply.{line_word, line_name, line_text, denial_word, operation_text, object_text, denial_text, code_text, count_text, accepted_text, refusal_words, refusal_text, reply_text};
 ghost use Rattle.std.specs.List.{flat_map};
 
+use crate::write::{flush, write_parts};
+use crate::{Sink, WireFault};
+use itoa::Buffer;
 use mpw_core::{Code, Denial, Line, Reply};
 use mpw_rbac::{Object, Operation};
-use std::alloc::{AllocError, Global};
-
-/// Adds the parts in their order.
-fn push_parts(text: &mut String, parts: &[&str]) -> Result<(), AllocError>
-    ensures { OnOk result (string_bytes text.new ≡ string_bytes text.old ++ flat_map (λ part. part.now) parts.now) }
-{
-    for part in parts {
-        text.push_str(part)?;
-    }
-    Ok(())
-}
 
 /// What a line says of its name.
 #[tactic(auto, unfolding(crate::specs::Reply::line_word))]
@@ -38,32 +31,39 @@ fn line_name(line: &Line) -> &str
     }
 }
 
-/// Adds a line of an accepted request's reply.
+/// Writes a line of an accepted request's reply.
 #[tactic(auto, unfolding(crate::specs::Reply::line_text))]
-fn push_line(text: &mut String, line: &Line) -> Result<(), AllocError>
-    ensures { OnOk result (string_bytes text.new ≡ string_bytes text.old ++ line_text line.now) }
+fn write_line<W: Sink>(writer: &mut W, line: &Line) -> Result<(), WireFault>
+    ensures { Writes W.contents W.failures writer.old writer.new result (line_text line.now) }
 {
-    push_parts(text, &[line_word(line), line_name(line), "\n"])
+    write_parts(writer, &[line_word(line), line_name(line), "\n"])
 }
 
-/// Adds the lines of an accepted request's reply.
-fn push_lines(text: &mut String, lines: &[Line]) -> Result<(), AllocError>
-    ensures { OnOk result (string_bytes text.new ≡ string_bytes text.old ++ flat_map line_text lines.now) }
+/// Writes the lines of an accepted request's reply.
+fn write_lines<W: Sink>(writer: &mut W, lines: &[Line]) -> Result<(), WireFault>
+    ensures { Writes W.contents W.failures writer.old writer.new result (flat_map line_text lines.now) }
 {
     for line in lines {
-        push_line(text, line)?;
+        write_line(writer, line)?;
     }
     Ok(())
 }
 
-/// Adds the reply of an accepted request.
-#[tactic(auto, unfolding(crate::specs::Reply::accepted_text))]
-fn push_accepted(alloc: Global, text: &mut String, lines: &[Line]) -> Result<(), AllocError>
-    ensures { OnOk result (string_bytes text.new ≡ string_bytes text.old ++ accepted_text lines.now) }
+/// Writes how many lines follow.
+fn write_count<W: Sink>(writer: &mut W, lines: &[Line]) -> Result<(), WireFault>
+    ensures { Writes W.contents W.failures writer.old writer.new result (count_text lines.now) }
 {
-    let count = lines.len().to_string(alloc)?;
-    push_parts(text, &["OK ", count.as_str(), "\n"])?;
-    push_lines(text, lines)
+    let mut digits = Buffer::new();
+    write_parts(writer, &["OK ", digits.format(lines.len()), "\n"])
+}
+
+/// Writes the reply of an accepted request.
+#[tactic(auto, unfolding(crate::specs::Reply::accepted_text))]
+fn write_accepted<W: Sink>(writer: &mut W, lines: &[Line]) -> Result<(), WireFault>
+    ensures { Writes W.contents W.failures writer.old writer.new result (accepted_text lines.now) }
+{
+    write_count(writer, lines)?;
+    write_lines(writer, lines)
 }
 
 /// The word of an operation.
@@ -112,15 +112,15 @@ fn denial_word(denial: &Denial) -> &str
     }
 }
 
-/// Adds the line that says what a session lacks.
+/// Writes the line that says what a session lacks.
 #[tactic(auto, unfolding(crate::specs::Reply::denial_text))]
-fn push_denial(text: &mut String, denial: &Denial) -> Result<(), AllocError>
-    ensures { OnOk result (string_bytes text.new ≡ string_bytes text.old ++ denial_text denial.now) }
+fn write_denial<W: Sink>(writer: &mut W, denial: &Denial) -> Result<(), WireFault>
+    ensures { Writes W.contents W.failures writer.old writer.new result (denial_text denial.now) }
 {
     match denial {
-        Denial::Session | Denial::Login => push_parts(text, &[denial_word(denial), "\n"]),
-        Denial::Permission(operation, object) => push_parts(
-            text,
+        Denial::Session | Denial::Login => write_parts(writer, &[denial_word(denial), "\n"]),
+        Denial::Permission(operation, object) => write_parts(
+            writer,
             &[
                 denial_word(denial),
                 operation_word(operation),
@@ -130,7 +130,7 @@ fn push_denial(text: &mut String, denial: &Denial) -> Result<(), AllocError>
             ],
         ),
         Denial::Activation(name) | Denial::Ssd(name) | Denial::Dsd(name) => {
-            push_parts(text, &[denial_word(denial), name.as_str(), "\n"])
+            write_parts(writer, &[denial_word(denial), name.as_str(), "\n"])
         }
     }
 }
@@ -145,33 +145,65 @@ fn code_words(code: Code) -> &'static str
         Code::Opened => "30 opened",
         Code::Unknown => "32 unknown",
         Code::Known => "33 known",
+        Code::Used => "35 used",
         Code::Loop => "36 loop",
         Code::Ended => "46 ended",
     }
 }
 
-/// Adds the text of a reply.
+/// What is refused before the desk is asked.
+#[derive(Clone, Copy)]
+pub(crate) enum Refusal {
+    /// There is no room.
+    Memory,
+    /// The line is no request's text.
+    Form,
+    /// The line is too long.
+    Long,
+}
+
+/// The number and the word of a refusal.
+#[tactic(auto, unfolding(crate::specs::Reply::refusal_words))]
+fn refusal_words(refusal: Refusal) -> &'static str
+    ensures { result.now ≡ refusal_words refusal }
+{
+    match refusal {
+        Refusal::Memory => "17 memory",
+        Refusal::Form => "40 form",
+        Refusal::Long => "41 long",
+    }
+}
+
+/// Writes a refusal, and has the sink hand it on.
+#[tactic(auto, unfolding(crate::specs::Reply::refusal_text))]
+pub(crate) fn write_refusal<W: Sink>(refusal: Refusal, writer: &mut W) -> Result<(), WireFault>
+    ensures { Writes W.contents W.failures writer.old writer.new result (refusal_text refusal) }
+{
+    write_parts(writer, &["REFUSED ", refusal_words(refusal), "\n"])?;
+    flush(writer)
+}
+
+/// Writes the text of a reply.
 #[tactic(auto, unfolding(crate::specs::Reply::reply_text))]
-fn push_reply(alloc: Global, text: &mut String, reply: &Reply) -> Result<(), AllocError>
-    ensures { OnOk result (string_bytes text.new ≡ string_bytes text.old ++ reply_text reply.now) }
+fn write_text<W: Sink>(reply: &Reply, writer: &mut W) -> Result<(), WireFault>
+    ensures { Writes W.contents W.failures writer.old writer.new result (reply_text reply.now) }
 {
     match reply {
-        Reply::Ok(lines) => push_accepted(alloc, text, lines.as_slice()),
-        Reply::Denied(denial) => push_denial(text, denial),
-        Reply::Refused(code) => push_parts(text, &["REFUSED ", code_words(*code), "\n"]),
+        Reply::Ok(lines) => write_accepted(writer, lines.as_slice()),
+        Reply::Denied(denial) => write_denial(writer, denial),
+        Reply::Refused(code) => write_parts(writer, &["REFUSED ", code_words(*code), "\n"]),
         Reply::Gone | Reply::Ended => Ok(()),
     }
 }
 
-/// The text of a reply, each line with its line feed. The end of a connection is told nobody, so its text is empty.
-/// It costs the text's own size.
+/// Writes the text of a reply, each line with its line feed, and has the sink hand it on. The end of a connection is
+/// told nobody, so its text is empty. It takes no memory and costs the text's size.
 ///
 /// # Errors
-/// Where there is no room for the text.
-pub fn reply_text(alloc: Global, reply: &Reply) -> Result<String, AllocError>
-    ensures { IfOk result (λ text. string_bytes text ≡ reply_text reply.now) }
+/// `Write` where the sink failed; it then holds a front of the text.
+pub fn write_reply<W: Sink>(reply: &Reply, writer: &mut W) -> Result<(), WireFault>
+    ensures { Writes W.contents W.failures writer.old writer.new result (reply_text reply.now) }
 {
-    let mut text = String::new(alloc);
-    push_reply(alloc, &mut text, reply)?;
-    Ok(text)
+    write_text(reply, writer)?;
+    flush(writer)
 }

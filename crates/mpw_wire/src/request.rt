@@ -2,13 +2,16 @@
 ghost use Rattle.std.specs.Prelude.{◌≡◌, IfOk};
 ghost use Rattle.mpw_core.specs.declared.event.Request.TheVariants as ask;
 ghost use Rattle.mpw_geom.specs.Names.{name_eq};
-ghost use Rattle.mpw_wire.specs.Request.{name_of, token_of, operation_of, object_of, grant_of, login_of, assignment_of, bare_request, request_of_one, request_of_two, request_of_three, request_of};
+ghost use Rattle.mpw_wire.specs.Request.{name_of, token_of, operation_of, object_of, grant_of, login_of, pair_of, names_of, are_distinct, set_of, bare_request, request_of_one, request_of_two, request_of_three, request_of_more, request_of};
+ghost use Rattle.mpw_wire.specs.Words.{words};
 
 use crate::digest::digest_of;
 use crate::words::{Arguments, cut, read_arguments};
 use mpw_core::Request;
-use mpw_geom::{Name, NameFault, is_name};
+use mpw_geom::{Name, NameFault, Names, is_name};
 use mpw_rbac::{Digest, Grant, Object, Operation};
+use mpw_separation::SeparationSet;
+use mpw_text::{parts, read_count};
 use std::alloc::{AllocError, Global};
 
 /// Whether a word is this text.
@@ -134,15 +137,25 @@ fn bare(verb: &[u8]) -> Option<Request>
     }
 }
 
-/// The requests of a verb and one word.
+/// The requests of a verb and one name.
 #[tactic(auto, unfolding(crate::specs::Request::request_of_one))]
 fn of_one(alloc: Global, verb: &[u8], word: &[u8]) -> Result<Option<Request>, AllocError>
     ensures { IfOk result (λ request. request ≡ request_of_one verb.now word.now) }
 {
     if is(verb, "activate") {
         Ok(name(alloc, word)?.map(|role| Request::Activate { role }))
+    } else if is(verb, "drop") {
+        Ok(name(alloc, word)?.map(|role| Request::DropRole { role }))
+    } else if is(verb, "deluser") {
+        Ok(name(alloc, word)?.map(|user| Request::DelUser { user }))
     } else if is(verb, "addrole") {
         Ok(name(alloc, word)?.map(|role| Request::AddRole { role }))
+    } else if is(verb, "delrole") {
+        Ok(name(alloc, word)?.map(|role| Request::DelRole { role }))
+    } else if is(verb, "unssd") {
+        Ok(name(alloc, word)?.map(|name| Request::UnSsd { name }))
+    } else if is(verb, "undsd") {
+        Ok(name(alloc, word)?.map(|name| Request::UnDsd { name }))
     } else {
         Ok(None)
     }
@@ -166,22 +179,18 @@ fn login(
     Ok(Some((user, digest)))
 }
 
-/// The user and the role that two words give.
-#[tactic(auto, unfolding(crate::specs::Request::assignment_of))]
-fn assignment(
-    alloc: Global,
-    user_word: &[u8],
-    role_word: &[u8],
-) -> Result<Option<Request>, AllocError>
-    ensures { IfOk result (λ request. request ≡ assignment_of user_word.now role_word.now) }
+/// The two names that two words are.
+#[tactic(auto, unfolding(crate::specs::Request::pair_of))]
+fn pair(alloc: Global, first: &[u8], second: &[u8]) -> Result<Option<(Name, Name)>, AllocError>
+    ensures { IfOk result (λ pair. pair ≡ pair_of first.now second.now) }
 {
-    let Some(user) = name(alloc, user_word)? else {
+    let Some(first) = name(alloc, first)? else {
         return Ok(None);
     };
-    let Some(role) = name(alloc, role_word)? else {
+    let Some(second) = name(alloc, second)? else {
         return Ok(None);
     };
-    Ok(Some(Request::Assign { user, role }))
+    Ok(Some((first, second)))
 }
 
 /// The requests of a verb and two words.
@@ -199,7 +208,16 @@ fn of_two(
     } else if is(verb, "adduser") {
         Ok(login(alloc, first, second)?.map(|(user, digest)| Request::AddUser { user, digest }))
     } else if is(verb, "assign") {
-        assignment(alloc, first, second)
+        Ok(pair(alloc, first, second)?.map(|(user, role)| Request::Assign { user, role }))
+    } else if is(verb, "deassign") {
+        Ok(pair(alloc, first, second)?.map(|(user, role)| Request::Deassign { user, role }))
+    } else if is(verb, "inherit") {
+        Ok(pair(alloc, first, second)?.map(|(senior, junior)| Request::Inherit { senior, junior }))
+    } else if is(verb, "uninherit") {
+        Ok(pair(alloc, first, second)?.map(|(senior, junior)| Request::Uninherit {
+            senior,
+            junior,
+        }))
     } else {
         Ok(None)
     }
@@ -225,7 +243,81 @@ fn of_three(
     }
 }
 
-/// The request whose text a line is, without its line feed, and `None` where it is none's. One pass, and two at a token.
+/// The names that the words of a text are.
+fn names(alloc: Global, text: &[u8]) -> Result<Option<Names>, AllocError>
+    ensures { IfOk result (λ names. names ≡ names_of (words text.now)) }
+{
+    let words = parts(alloc, text, b' ')?;
+    let mut names = Names::new(alloc);
+    for word in &words {
+        match name(alloc, word)? {
+            Some(name) => names.push(name)?,
+            None => return Ok(None),
+        }
+    }
+    Ok(Some(names))
+}
+
+/// Whether no name stands twice: n log n comparisons.
+fn are_distinct(names: &Names) -> Result<bool, AllocError>
+    ensures { IfOk result (λ distinct. distinct ≡ are_distinct names.now) }
+{
+    let mut sorted = names.copy()?;
+    sorted.sort()?;
+    Ok(sorted.as_slice().len() == names.as_slice().len())
+}
+
+/// The set of roles that a name, a cardinality and the words of a text give.
+#[tactic(auto, unfolding(crate::specs::Request::set_of))]
+fn set(
+    alloc: Global,
+    name_word: &[u8],
+    cardinality_word: &[u8],
+    roles_text: &[u8],
+) -> Result<Option<SeparationSet>, AllocError>
+    ensures { IfOk result (λ set. set ≡ set_of name_word.now cardinality_word.now (words roles_text.now)) }
+{
+    let Some(name) = name(alloc, name_word)? else {
+        return Ok(None);
+    };
+    let Some(roles) = names(alloc, roles_text)? else {
+        return Ok(None);
+    };
+    let Some(cardinality) = read_count(cardinality_word, 2, roles.as_slice().len()) else {
+        return Ok(None);
+    };
+    if !are_distinct(&roles)? {
+        return Ok(None);
+    }
+    Ok(Some(SeparationSet {
+        name,
+        cardinality,
+        roles,
+    }))
+}
+
+/// The requests of a verb, a set's name and cardinality, and two roles or more.
+#[tactic(auto, unfolding(crate::specs::Request::request_of_more))]
+fn of_more(
+    alloc: Global,
+    verb: &[u8],
+    name: &[u8],
+    cardinality: &[u8],
+    roles: &[u8],
+) -> Result<Option<Request>, AllocError>
+    ensures { IfOk result (λ request. request ≡ request_of_more verb.now name.now cardinality.now (words roles.now)) }
+{
+    if is(verb, "ssd") {
+        Ok(set(alloc, name, cardinality, roles)?.map(|set| Request::Ssd { set }))
+    } else if is(verb, "dsd") {
+        Ok(set(alloc, name, cardinality, roles)?.map(|set| Request::Dsd { set }))
+    } else {
+        Ok(None)
+    }
+}
+
+/// The request whose text a line is, without its line feed, and `None` where it is none's. Two passes at a token, and
+/// n log n comparisons at the roles of a set.
 ///
 /// # Errors
 /// Where there is no room for a name.
@@ -238,6 +330,6 @@ pub fn parse_request(alloc: Global, line: &[u8]) -> Result<Option<Request>, Allo
         Arguments::One(first) => of_one(alloc, verb, first),
         Arguments::Two(first, second) => of_two(alloc, verb, first, second),
         Arguments::Three(first, second, third) => of_three(alloc, verb, first, second, third),
-        Arguments::More => Ok(None),
+        Arguments::More(first, second, rest) => of_more(alloc, verb, first, second, rest),
     }
 }

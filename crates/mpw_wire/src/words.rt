@@ -9,8 +9,8 @@ pub(crate) enum Arguments<'a> {
     One(&'a [u8]),
     Two(&'a [u8], &'a [u8]),
     Three(&'a [u8], &'a [u8], &'a [u8]),
-    /// Four or more.
-    More,
+    /// Four or more: the first two, and what stands behind the space that ends them.
+    More(&'a [u8], &'a [u8], &'a [u8]),
 }
 
 /// The place of the first space.
@@ -49,6 +49,6 @@ pub(crate) fn read_arguments(rest: Option<&[u8]>) -> Arguments
     };
     match cut(rest) {
         (third, None) => Arguments::Three(first, second, third),
-        (_, Some(_)) => Arguments::More,
+        (_, Some(_)) => Arguments::More(first, second, rest),
     }
 }

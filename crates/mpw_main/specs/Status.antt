@@ -1,0 +1,13 @@
+-- The exit status of the program.
+use Rattle.std.specs.Prelude.{ℕ}
+use Rattle.mpw_wire.specs.declared.fault.WireFault.TheVariants as wire
+use Rattle.mpw_main.specs.declared.fault.ProgramFault.{ProgramFault}
+use Rattle.mpw_main.specs.declared.fault.ProgramFault.TheVariants.{Usage, Wire, Memory}
+
+-- 2 where the command line isn't one, 3 where a device failed, 5 where memory was wanting
+abbrev pub status_of : ProgramFault → ℕ
+status_of (Usage text) = 2
+status_of (Wire wire.Read) = 3
+status_of (Wire wire.Write) = 3
+status_of (Wire wire.Memory) = 5
+status_of Memory = 5

@@ -1,0 +1,51 @@
+//! Why the program ends early.
+ghost use Rattle.std.specs.Prelude.{◌≡◌};
+ghost use Rattle.mpw_main.specs.declared.fault.ProgramFault.TheVariants.{Usage, Wire, Memory};
+ghost use Rattle.mpw_main.specs.Status.{status_of};
+
+use mpw_wire::WireFault;
+use std::alloc::{AllocError, AllocFailed};
+use thiserror::Error;
+
+/// What ended the program before a connection's end.
+#[derive(Debug, Drop, Error)]
+pub enum ProgramFault {
+    /// The command line isn't one; the text says what is wrong and what is accepted.
+    #[error("{0}")]
+    Usage(String),
+    /// A device failed.
+    #[error("error: {0}")]
+    Wire(WireFault),
+    /// There is no room outside a request.
+    #[error("error: out of memory")]
+    Memory,
+}
+
+impl ProgramFault {
+    /// The exit status: 2 for usage, 3 for a device, 5 for memory.
+    pub fn status(&self) -> u8
+        ensures { result ≡ status_of self.now }
+    {
+        match self {
+            ProgramFault::Usage(_) => 2,
+            ProgramFault::Wire(WireFault::Memory) | ProgramFault::Memory => 5,
+            ProgramFault::Wire(WireFault::Read | WireFault::Write) => 3,
+        }
+    }
+}
+
+impl From<AllocError> for ProgramFault {
+    ghost from_gives = { λ _ fault. fault ≡ Memory };
+
+    fn from(_error: AllocError) -> ProgramFault {
+        ProgramFault::Memory
+    }
+}
+
+impl<T: Drop> From<AllocFailed<T>> for ProgramFault {
+    ghost from_gives = { λ _ fault. fault ≡ Memory };
+
+    fn from(_error: AllocFailed<T>) -> ProgramFault {
+        ProgramFault::Memory
+    }
+}

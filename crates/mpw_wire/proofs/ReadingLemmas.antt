@@ -1,0 +1,57 @@
+-- Reading to the end.
+use Rattle.std.proofs.Common.{◌≡◌, ◌≢◌, ◌∙◌, ◌<◌, ◌+◌, ℕ, List, [], ◌∷◌, ◌++◌, length, drop, get_or, Option, None, Some, option_map, Result, Ok, Err, refl, sym, ap, subst, append-nil, append_assoc}
+use Rattle.std.proofs.lemmas.List.{at_drop_more}
+use Rattle.std.proofs.lemmas.List.Elements.{All-push}
+use Rattle.std.specs.Prelude.{IfErr}
+use Rattle.std.specs.Result.{IsErrAnd}
+use Rattle.mpw_wire.specs.declared.fault.WireFault.{WireFault}
+use Rattle.mpw_wire.specs.declared.fault.WireFault.TheVariants.{Memory}
+use Rattle.mpw_wire.specs.Reading.{IsUnbroken, Breaks, TakesSome}
+use Rattle.mpw_wire.specs.Request.{name_of, names_of, ◌>>=◌}
+use Rattle.std.proofs.KnownBytes.{Consumes-trans}
+use Rattle.std.specs.Io.KnownBytes.{Consumes}
+
+pub Consumes-end : (old mid new : Option (List ℕ)) (bytes : List ℕ) → Consumes old mid bytes → Consumes mid new [] → Consumes old new bytes
+Consumes-end old mid new bytes p q = subst (Consumes old new) (append-nil bytes) (Consumes-trans old mid new bytes [] p q)
+
+-- the names so far, and those of the words that are left
+abbrev pub with_names : List (List ℕ) → Option (List (List ℕ)) → Option (List (List ℕ))
+with_names front rest = option_map (λ names. front ++ names) rest
+
+pub with_no_names : (rest : Option (List (List ℕ))) → with_names [] rest ≡ rest
+with_no_names None = refl
+with_no_names (Some names) = refl
+
+-- a word that is a name is the next of them
+pub names_next : (front : List (List ℕ)) (words : List (List ℕ)) (i : ℕ) (word name : List ℕ) → i < length words → get_or words i [] ≡ word → name_of word ≡ Some name
+    → with_names (front ++ name ∷ []) (names_of (drop (i + 1) words)) ≡ with_names front (names_of (drop i words))
+unfolding names_of
+names_next front words i word name lt at told =
+    let more = at_drop_more names_of words i [] lt in
+    let here : names_of (get_or words i [] ∷ drop (i + 1) words) ≡ option_map (λ names. name ∷ names) (names_of (drop (i + 1) words)) =
+    ap (λ w. name_of w >>= λ n. option_map (λ names. n ∷ names) (names_of (drop (i + 1) words))) at
+    ∙ ap (λ o. o >>= λ n. option_map (λ names. n ∷ names) (names_of (drop (i + 1) words))) told in
+    pushed front name (names_of (drop (i + 1) words)) ∙ sym (ap (with_names front) (more ∙ here))
+  where
+    pushed : (front : List (List ℕ)) (name : List ℕ) (rest : Option (List (List ℕ))) → with_names (front ++ name ∷ []) rest ≡ with_names front (option_map (λ names. name ∷ names) rest)
+    pushed front name None = refl
+    pushed front name (Some names) = ap (λ l. Some l) (append_assoc front (name ∷ []) names)
+
+-- a word that is no name leaves none
+pub names_none : (front : List (List ℕ)) (words : List (List ℕ)) (i : ℕ) (word : List ℕ) → i < length words → get_or words i [] ≡ word → name_of word ≡ None
+    → with_names front (names_of (drop i words)) ≡ None
+unfolding names_of
+names_none front words i word lt at told =
+    let more = at_drop_more names_of words i [] lt in
+    let here : names_of (get_or words i [] ∷ drop (i + 1) words) ≡ None =
+    ap (λ w. name_of w >>= λ n. option_map (λ names. n ∷ names) (names_of (drop (i + 1) words))) at
+    ∙ ap (λ o. o >>= λ n. option_map (λ names. n ∷ names) (names_of (drop (i + 1) words))) told in
+    ap (with_names front) (more ∙ here)
+
+pub unbroken_push : (line : List ℕ) (byte : ℕ) → IsUnbroken line → (byte ≡ 0x0A → ⊥) → IsUnbroken (line ++ byte ∷ [])
+unbroken_push line byte all other = All-push (λ b. b ≢ 0x0A) line byte all other
+
+-- want of memory, handed on
+pub memory_breaks : {A : Type 0} (result : Result A WireFault) (old new : Option (List ℕ)) → IsErrAnd result (λ e. e ≡ Memory) → TakesSome old new → IfErr result (Breaks old new)
+memory_breaks (Ok answer) old new h t = tt
+memory_breaks (Err e) old new h t = subst (Breaks old new) (sym h) t

@@ -1,0 +1,134 @@
+-- Serving line by line.
+use Rattle.std.proofs.Common.{◌≡◌, ◌∙◌, ◌<◌, ℕ, ◌+◌, List, [], ◌∷◌, ◌++◌, length, Option, Some, None, Result, Ok, Err, refl, sym, ap, subst, append_assoc, append-nil, length-append, arith}
+use Rattle.std.specs.Prelude.{⊤}
+use Rattle.std.specs.List.{flat_map}
+use Rattle.std.proofs.KnownBytes.{Appends-trans, Appends-nil}
+use Rattle.std.specs.Io.KnownBytes.{Appends}
+use Rattle.mpw_core.specs.History.{Desk}
+use Rattle.mpw_wire.specs.declared.fault.WireFault.{WireFault}
+use Rattle.mpw_wire.specs.declared.fault.WireFault.TheVariants.{Read, Write, Memory}
+use Rattle.mpw_wire.specs.declared.serve.End.{End}
+use Rattle.mpw_wire.specs.declared.serve.End.TheVariants as end
+use Rattle.mpw_wire.specs.Writing.{WritesKnown, fault_of}
+use Rattle.mpw_wire.specs.Serving.{Turn, Stop, IsTrace, IsTurn, IsStop, Written, HasText, ServesLine, ServesLines, max_lines, turn_text, stop_text, end_of, told}
+
+flat_map-push : (f : Turn → List ℕ) (turns : List Turn) (turn : Turn) → flat_map f (turns ++ turn ∷ []) ≡ flat_map f turns ++ f turn
+flat_map-push f [] turn = append-nil (f turn)
+flat_map-push f (t ∷ turns) turn = ap (λ l. f t ++ l) (flat_map-push f turns turn) ∙ sym (append_assoc (f t) (flat_map f turns) (f turn))
+
+-- a line whose text was written, or at which the sink failed
+pub serves_turn : (conn : ℕ) (input input' output output' : Option (List ℕ)) (desk desk' : Desk) (failed failed' : ℕ) (t : Turn) (written : Result ⊤ WireFault) (result : Result (Option End) WireFault)
+    → result ≡ told None written → IsTurn conn input desk t input' desk' → WritesKnown output output' failed failed' (fault_of written) (turn_text t)
+    → ServesLine conn input input' output output' desk desk' result
+serves_turn conn input input' output output' desk desk' failed failed' t (Ok u) result e h w =
+    subst (ServesLine conn input input' output output' desk desk') (sym e) (t, h, w.0)
+serves_turn conn input input' output output' desk desk' failed failed' t (Err Read) result e h w = absurd w
+serves_turn conn input input' output output' desk desk' failed failed' t (Err Write) result e h w =
+    subst (ServesLine conn input input' output output' desk desk') (sym e) (record { stop = Stop.unwritten t; stopped = (omega arith, h); told = tt; written = w.0 })
+serves_turn conn input input' output output' desk desk' failed failed' t (Err Memory) result e h w = absurd w
+
+-- the end of the connection whose text was written, or at which the sink failed
+pub serves_stop : (conn : ℕ) (input input' output output' : Option (List ℕ)) (desk : Desk) (failed failed' : ℕ) (s : Stop) (end : End) (written : Result ⊤ WireFault) (result : Result (Option End) WireFault)
+    → result ≡ told (Some end) written → IsStop conn 0 input desk s input' desk → end_of s ≡ Some end → HasText s → WritesKnown output output' failed failed' (fault_of written) (stop_text s)
+    → ServesLine conn input input' output output' desk desk result
+serves_stop conn input input' output output' desk failed failed' s end (Ok u) result e h is has w =
+    subst (ServesLine conn input input' output output' desk desk) (sym e) (record { stop = s; stopped = h; told = is; written = w.0 })
+serves_stop conn input input' output output' desk failed failed' s end (Err Read) result e h is has w = absurd w
+serves_stop conn input input' output output' desk failed failed' s end (Err Write) result e h is has w =
+    subst (ServesLine conn input input' output output' desk desk) (sym e) (record { stop = s; stopped = h; told = has; written = w.0 })
+serves_stop conn input input' output output' desk failed failed' s end (Err Memory) result e h is has w = absurd w
+
+-- what the last line's result is told as
+abbrev pub TellsLast : Result (Option End) WireFault → Result End WireFault → Type 0
+TellsLast (Ok None) told = ⊥
+TellsLast (Ok (Some e)) (Ok e') = e' ≡ e
+TellsLast (Ok (Some e)) (Err f) = ⊥
+TellsLast (Err f) (Ok e) = ⊥
+TellsLast (Err f) (Err f') = f' ≡ f
+
+-- the connection so far, after some lines that were answered
+pub record Progress (conn : ℕ) (input input' output output' : Option (List ℕ)) (desk desk' : Desk) (count : ℕ) : Type 0 where
+  pub turns : List Turn
+  pub answered : IsTrace conn input desk turns input' desk'
+  pub counted : length turns ≡ count
+  pub written : Appends output output' (flat_map turn_text turns)
+
+pub start : (conn : ℕ) (input output : Option (List ℕ)) (desk : Desk) → Progress conn input input output output desk desk 0
+start conn input output desk = record { turns = []; answered = IsTrace.none; counted = refl; written = Appends-nil output }
+
+-- a line was answered, and the connection goes on
+pub advance : (conn : ℕ) (input mid input' output between output' : Option (List ℕ)) (desk middle desk' : Desk) (count : ℕ)
+    → Progress conn input mid output between desk middle count → (result : Result (Option End) WireFault) → result ≡ Ok None
+    → ServesLine conn mid input' between output' middle desk' result
+    → Progress conn input input' output output' desk desk' (count + 1)
+advance conn input mid input' output between output' desk middle desk' count p result e s =
+    go (subst (ServesLine conn mid input' between output' middle desk') e s)
+  where
+    go : ServesLine conn mid input' between output' middle desk' (Ok None) → Progress conn input input' output output' desk desk' (count + 1)
+    go (t, h, w) = record {
+      turns = p.turns ++ t ∷ [];
+      answered = IsTrace.then p.turns t mid input' middle desk' p.answered h;
+      counted = length-append p.turns (t ∷ []) ∙ ap (λ n. n + 1) p.counted;
+      written = subst (Appends output output') (sym (flat_map-push turn_text p.turns t)) (Appends-trans output between output' (flat_map turn_text p.turns) (turn_text t) p.written w);
+    }
+
+-- what ended the connection on its first line ends it on a later one
+stop_at : (conn lines : ℕ) (input input' : Option (List ℕ)) (desk desk' : Desk) (s : Stop) → lines < max_lines → IsStop conn 0 input desk s input' desk' → IsStop conn lines input desk s input' desk'
+stop_at conn lines input input' desk desk' Stop.closed lt h = (lt, h.1, h.2)
+stop_at conn lines input input' desk desk' Stop.long lt h = (lt, h.1, h.2)
+stop_at conn lines input input' desk desk' Stop.starving lt h = (lt, h.1, h.2)
+stop_at conn lines input input' desk desk' Stop.unreadable lt h = (lt, h.1, h.2)
+stop_at conn lines input input' desk desk' Stop.spent lt h = let no : 0 ≡ 4096 = h.0 in absurd (omega (arith, no))
+stop_at conn lines input input' desk desk' (Stop.unwritten turn) lt h = (lt, h.1)
+
+-- what was written before a line, and then for it
+written_after : (output mid output' : Option (List ℕ)) (fault : Option WireFault) (before last : List ℕ) → Appends output mid before → Written mid output' fault [] last → Written output output' fault before last
+written_after output mid output' None before last p w = Appends-trans output mid output' before last p w
+written_after output mid output' (Some Read) before last p w = Appends-trans output mid output' before last p w
+written_after output mid output' (Some Write) before last p (front, rest, e, q) = (front, rest, e, Appends-trans output mid output' before front p q)
+written_after output mid output' (Some Memory) before last p w = absurd w
+
+-- the last line of the connection, or the one at which a device failed
+pub finish : (conn : ℕ) (input mid input' output between output' : Option (List ℕ)) (desk middle desk' : Desk) (count : ℕ)
+    → Progress conn input mid output between desk middle count → count < max_lines
+    → (result : Result (Option End) WireFault) (told : Result End WireFault) → TellsLast result told
+    → ServesLine conn mid input' between output' middle desk' result
+    → ServesLines conn input input' output output' desk desk' told
+finish conn input mid input' output between output' desk middle desk' count p lt (Ok None) told last s = absurd last
+finish conn input mid input' output between output' desk middle desk' count p lt (Ok (Some e)) (Ok e') last s = subst (λ x. ServesLines conn input input' output output' desk desk' (Ok x)) (sym last) (record {
+  turns = p.turns;
+  left = mid;
+  reached = middle;
+  stop = s.stop;
+  answered = p.answered;
+  stopped = stop_at conn (length p.turns) mid input' middle desk' s.stop (omega (arith, lt, p.counted)) s.stopped;
+  told = s.told;
+  written = written_after output between output' None (flat_map turn_text p.turns) (stop_text s.stop) p.written s.written;
+})
+finish conn input mid input' output between output' desk middle desk' count p lt (Ok (Some e)) (Err f) last s = absurd last
+finish conn input mid input' output between output' desk middle desk' count p lt (Err f) (Ok e) last s = absurd last
+finish conn input mid input' output between output' desk middle desk' count p lt (Err f) (Err f') last s = subst (λ x. ServesLines conn input input' output output' desk desk' (Err x)) (sym last) (record {
+  turns = p.turns;
+  left = mid;
+  reached = middle;
+  stop = s.stop;
+  answered = p.answered;
+  stopped = stop_at conn (length p.turns) mid input' middle desk' s.stop (omega (arith, lt, p.counted)) s.stopped;
+  told = s.told;
+  written = written_after output between output' (Some f) (flat_map turn_text p.turns) (stop_text s.stop) p.written s.written;
+})
+
+-- as many lines as one connection may have were answered
+pub spent : (conn : ℕ) (input input' output output' : Option (List ℕ)) (desk desk' : Desk) (count : ℕ)
+    → Progress conn input input' output output' desk desk' count → count ≡ max_lines
+    → ServesLines conn input input' output output' desk desk' (Ok end.Spent)
+spent conn input input' output output' desk desk' count p e = record {
+  turns = p.turns;
+  left = input';
+  reached = desk';
+  stop = Stop.spent;
+  answered = p.answered;
+  stopped = (p.counted ∙ e, refl, refl);
+  told = refl;
+  written = subst (Appends output output') (sym (append-nil (flat_map turn_text p.turns))) p.written;
+}

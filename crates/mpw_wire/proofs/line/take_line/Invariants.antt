@@ -1,0 +1,12 @@
+use Rattle.std.proofs.Common.{◌≡◌, length}
+use Rattle.std.specs.Io.KnownBytes.{Consumes}
+use Rattle.mpw_wire.specs.Reading.{IsUnbroken}
+use Rattle.mpw_wire.proofs.line.take_line.Given as goal
+
+-- the bytes so far, one a turn, are off the front, and none of them is a line feed
+abbrev pub invariant-loop : goal.invariant-loop
+invariant-loop g l =
+    Consumes (g.R.Source.remaining l.initial.reader) (g.R.Source.remaining l.reader) l.line.items
+    × IsUnbroken l.line.items
+    × (length l.line.items ≡ l.counter)
+    × (g.R.Source.failures l.reader ≡ g.R.Source.failures l.initial.reader)

@@ -1,0 +1,12 @@
+use Rattle.std.proofs.Common.{rules, ap, subst, append-nil, []}
+use Rattle.mpw_wire.specs.Reply.{refusal_text}
+use Rattle.mpw_wire.specs.Writing.{fault_of, WritesKnown}
+use Rattle.mpw_wire.proofs.WritingLemmas.{Writes_both}
+use Rattle.mpw_wire.proofs.reply.write_refusal.Goals as goal
+
+pub returns : goal.returns
+unfolding refusal_text
+returns g c =
+    let text = refusal_text c.args.refusal in
+    subst (WritesKnown _ _ _ _ _) (append-nil text)
+    (Writes_both _ _ _ _ _ _ _ _ text [] (ap fault_of c.in_ok-write_parts.was) (search rules) c.flush.ensures)

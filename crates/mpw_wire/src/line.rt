@@ -1,0 +1,46 @@
+//! Lines: bytes up to a line feed or up to the end of the input.
+ghost use Rattle.std.specs.Prelude.{◌≡◌, IfOk, IfErr};
+ghost use Rattle.mpw_wire.specs.Reading.{Takes, Breaks, read_failures};
+ghost use Rattle.mpw_wire.specs.Writing.{fault_of};
+
+use crate::{Source, WireFault};
+use std::alloc::Global;
+
+/// The greatest number of bytes before a line feed.
+pub const MAX_LINE: usize = 4096;
+
+/// The greatest number of answered lines of one connection.
+pub const MAX_LINES: usize = 4096;
+
+/// What is taken off the front of the input.
+#[derive(Drop)]
+pub(crate) enum Taken {
+    /// A line, without its line feed.
+    Line(Vec<u8>),
+    /// More bytes than a line may have.
+    Long,
+    /// Nothing is left.
+    End,
+}
+
+/// Takes a line off the front of the input: a byte each turn.
+///
+/// # Errors
+/// `Read` where the source failed, and `Memory` where there is no room for the line.
+pub(crate) fn take_line<R: Source>(alloc: Global, reader: &mut R) -> Result<Taken, WireFault>
+    ensures taken { IfOk result (Takes (R.remaining reader.old) (R.remaining reader.new)) }
+    ensures fault { IfErr result (Breaks (R.remaining reader.old) (R.remaining reader.new)) }
+    ensures failures { R.failures reader.new ≡ read_failures (fault_of result) (R.failures reader.old) }
+{
+    let mut line = Vec::new(alloc);
+    for _ in 0..=MAX_LINE {
+        match reader.next_byte() {
+            Ok(Some(b'\n')) => return Ok(Taken::Line(line)),
+            Ok(Some(byte)) => line.push(byte)?,
+            Ok(None) if line.is_empty() => return Ok(Taken::End),
+            Ok(None) => return Ok(Taken::Line(line)),
+            Err(_) => return Err(WireFault::Read),
+        }
+    }
+    Ok(Taken::Long)
+}

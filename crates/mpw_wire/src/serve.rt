@@ -1,0 +1,119 @@
+//! Serving a connection: each line gets its reply, in order, until the connection ends.
+ghost use Rattle.std.specs.Prelude.{◌≡◌};
+ghost use Rattle.mpw_wire.specs.Reading.{read_failures};
+ghost use Rattle.mpw_wire.specs.Writing.{Writes, fault_of};
+ghost use Rattle.mpw_wire.specs.Serving.{Answer, told, IsAnswer, answer_text, ServesLine, ServesLines, Serves, write_failures};
+
+use crate::line::MAX_LINES;
+use crate::read::{Asked, read_request};
+use crate::reply::{Refusal, write_refusal, write_reply};
+use crate::{Sink, Source, WireFault};
+use mpw_core::{Core, Event, Request};
+use std::alloc::Global;
+
+/// How a connection ended.
+#[derive(Clone, Copy, Debug, PartialEq, Eq)]
+pub enum End {
+    /// The input was read to its end.
+    Closed,
+    /// A line was longer than 4096 bytes.
+    Long,
+    /// There was no room to read a line.
+    Memory,
+    /// 4096 lines were answered.
+    Spent,
+}
+
+/// Answers a request.
+fn answer<W: Sink>(
+    core: &mut Core,
+    conn: u32,
+    request: Request,
+    writer: &mut W,
+) -> Result<(), WireFault>
+    ensures { (answer : Answer) × IsAnswer conn request core.old answer core.new × Writes W.contents W.failures writer.old writer.new result (answer_text answer) }
+{
+    match core.handle(Event::Ask { conn, request }) {
+        Ok(reply) => write_reply(&reply, writer),
+        Err(_) => write_refusal(Refusal::Memory, writer),
+    }
+}
+
+/// The end, where what is written for it was written.
+fn told(end: Option<End>, written: Result<(), WireFault>) -> Result<Option<End>, WireFault>
+    ensures { result ≡ told end written }
+{
+    match written {
+        Ok(()) => Ok(end),
+        Err(fault) => Err(fault),
+    }
+}
+
+/// Serves one line. It answers `None` where the connection goes on.
+fn serve_line<R: Source, W: Sink>(
+    alloc: Global,
+    core: &mut Core,
+    conn: u32,
+    reader: &mut R,
+    writer: &mut W,
+) -> Result<Option<End>, WireFault>
+    ensures line { ServesLine conn (R.remaining reader.old) (R.remaining reader.new) (W.contents writer.old) (W.contents writer.new) core.old core.new result }
+    ensures reader { R.failures reader.new ≡ read_failures (fault_of result) (R.failures reader.old) }
+    ensures writer { W.failures writer.new ≡ write_failures (fault_of result) (W.failures writer.old) }
+{
+    match read_request(alloc, reader) {
+        Ok(Asked::Request(request)) => told(None, answer(core, conn, request, writer)),
+        Ok(Asked::Form) => told(None, write_refusal(Refusal::Form, writer)),
+        Ok(Asked::Long) => told(Some(End::Long), write_refusal(Refusal::Long, writer)),
+        Ok(Asked::End) => Ok(Some(End::Closed)),
+        Err(WireFault::Memory) => {
+            told(Some(End::Memory), write_refusal(Refusal::Memory, writer))
+        }
+        Err(WireFault::Read) => Err(WireFault::Read),
+        Err(WireFault::Write) => Err(WireFault::Write),
+    }
+}
+
+/// Serves lines until the connection ends.
+fn serve_lines<R: Source, W: Sink>(
+    alloc: Global,
+    core: &mut Core,
+    conn: u32,
+    reader: &mut R,
+    writer: &mut W,
+) -> Result<End, WireFault>
+    ensures lines { ServesLines conn (R.remaining reader.old) (R.remaining reader.new) (W.contents writer.old) (W.contents writer.new) core.old core.new result }
+    ensures reader { R.failures reader.new ≡ read_failures (fault_of result) (R.failures reader.old) }
+    ensures writer { W.failures writer.new ≡ write_failures (fault_of result) (W.failures writer.old) }
+{
+    for _ in 0..MAX_LINES {
+        match serve_line(alloc, core, conn, reader, writer) {
+            Ok(None) => {}
+            Ok(Some(end)) => return Ok(end),
+            Err(fault) => return Err(fault),
+        }
+    }
+    Ok(End::Spent)
+}
+
+/// Serves a connection: the lines of the reader get their replies on the writer, in order, until the input ends, a
+/// line is too long, there is no room for a line, or 4096 lines were answered. Then the desk is handed the
+/// connection's end. It costs the lines, and for each request what the core's step costs.
+///
+/// # Errors
+/// `Read` where the source failed and `Write` where the sink failed; what was accepted before stays accepted.
+pub fn serve_core<R: Source, W: Sink>(
+    alloc: Global,
+    core: &mut Core,
+    conn: u32,
+    reader: &mut R,
+    writer: &mut W,
+) -> Result<End, WireFault>
+    ensures served { Serves conn (R.remaining reader.old) (R.remaining reader.new) (W.contents writer.old) (W.contents writer.new) core.old core.new result }
+    ensures reader { R.failures reader.new ≡ read_failures (fault_of result) (R.failures reader.old) }
+    ensures writer { W.failures writer.new ≡ write_failures (fault_of result) (W.failures writer.old) }
+{
+    let end = serve_lines(alloc, core, conn, reader, writer);
+    let _ = core.handle(Event::Gone { conn });
+    end
+}
