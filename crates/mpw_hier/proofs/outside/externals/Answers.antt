@@ -1,0 +1,56 @@
+use Rattle.std.proofs.Common.{ℕ, ◌<◌, length, Option, IfSome, IfNone, Vec, Global, All, sym, ap, subst, ◌∙◌, arith}
+use Rattle.mpw_geom.specs.Names.{contains_name, by_name}
+use Rattle.mpw_hier.specs.Graph.{IsGraph, HasCycle, IsFromBelow}
+use Rattle.mpw_hier.specs.Outside.{outside_from_all}
+use Rattle.mpw_hier.proofs.Leading.{leads_within}
+use Rattle.mpw_hier.proofs.Linking.{place_within, graph_length, graph_within, cycle_named, acyclic}
+use Rattle.mpw_hier.proofs.Shown.{shown, only_shown, in_by_name}
+use Rattle.mpw_hier.proofs.outside.externals.Goals as goal
+
+pub order_from_below-requires-clause-graph : goal.order_from_below-requires-clause-graph
+order_from_below-requires-clause-graph c = subst IsGraph (sym c.in_ok-graph.ensures) (graph_within c.args.library.now)
+
+pub order_from_below-requires-clause-top : goal.order_from_below-requires-clause-top
+order_from_below-requires-clause-top c =
+    let ss = c.args.library.now in
+    let e = sym c.position.ensures ∙ c.in-Some.is in
+    rw c.in_ok-graph.ensures (omega (arith, graph_length ss, place_within ss c.args.top.now c.in-Some.place e))
+
+pub returns-in_default-2-clause-cycle : goal.returns-in_default-2-clause-cycle
+returns-in_default-2-clause-cycle c =
+    λ _.
+    let ss = c.args.library.now in
+    let place = c.in-Some.place in
+    let e = sym c.position.ensures ∙ c.in-Some.is in
+    let h = subst (λ (found : Option (Vec ℕ Global)). IfNone found (HasCycle c.in_ok-graph.graph place)) c.in_default-2.is c.in_ok-order.ensures.cycle in
+    cycle_named ss c.args.top.now place e (subst (λ g. HasCycle g place) c.in_ok-graph.ensures h)
+
+pub outside_from-requires : goal.outside_from-requires
+outside_from-requires c =
+    let ss = c.args.library.now in
+    let place = c.in-Some.place in
+    let e = sym c.position.ensures ∙ c.in-Some.is in
+    let order = c.in-Some-2.order in
+    let o = subst (λ g. IsFromBelow g place order.items) c.in_ok-graph.ensures (subst (λ (found : Option (Vec ℕ Global)). IfSome found (λ items. IsFromBelow c.in_ok-graph.graph place items.items)) c.in-Some-2.is c.in_ok-order.ensures.order) in
+    subst (All (λ (k : ℕ). k < length ss)) (sym c.deref.ensures.value) (λ k d h. omega (arith, graph_length ss, leads_within (graph_within ss) (o.found k d h) (omega (arith, graph_length ss, place_within ss c.args.top.now place e))))
+
+pub returns-clause-outside : goal.returns-clause-outside
+returns-clause-outside c =
+    λ name.
+    let ss = c.args.library.now in
+    let place = c.in-Some.place in
+    let e = sym c.position.ensures ∙ c.in-Some.is in
+    let order = c.in-Some-2.order in
+    let o = subst (λ g. IsFromBelow g place order.items) c.in_ok-graph.ensures (subst (λ (found : Option (Vec ℕ Global)). IfSome found (λ items. IsFromBelow c.in_ok-graph.graph place items.items)) c.in-Some-2.is c.in_ok-order.ensures.order) in
+    let made = c.in_ok-sort.ensures.ok ∙ ap by_name (c.in_ok-names.ensures ∙ ap (outside_from_all ss) c.deref.ensures.value) in
+    let same = ap (λ names. contains_name names name) made ∙ in_by_name name (outside_from_all ss order.items) in
+    (λ h. only_shown ss c.args.top.now place e order.items o name (sym same ∙ h), λ h. same ∙ shown ss c.args.top.now place e order.items o name h)
+
+pub returns-clause-no_cycle : goal.returns-clause-no_cycle
+returns-clause-no_cycle c =
+    let ss = c.args.library.now in
+    let place = c.in-Some.place in
+    let e = sym c.position.ensures ∙ c.in-Some.is in
+    let order = c.in-Some-2.order in
+    let o = subst (λ g. IsFromBelow g place order.items) c.in_ok-graph.ensures (subst (λ (found : Option (Vec ℕ Global)). IfSome found (λ items. IsFromBelow c.in_ok-graph.graph place items.items)) c.in-Some-2.is c.in_ok-order.ensures.order) in
+    acyclic ss c.args.top.now place e order.items o

@@ -1,0 +1,11 @@
+pub mod Structures
+pub mod Outside
+pub mod Graph
+pub mod Descent
+pub mod Levels
+pub mod Items
+pub mod Boxes
+pub mod Shelf
+pub mod Indexed
+pub mod Values
+pub mod Limits

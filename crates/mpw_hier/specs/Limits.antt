@@ -1,0 +1,32 @@
+-- What a new submission has to keep to, in the order of the tests: extents, shapes, height, room.
+use Rattle.std.specs.Prelude.{◌≡◌, ℕ, ◌+◌, ◌^◌, ◌&&◌, ◌||◌, Bool, false, nat_lt, List, length, is_some, Some}
+use Rattle.mpw_geom.specs.declared.plane.Box2.{Box2}
+use Rattle.mpw_hier.specs.declared.submission.Submission.{Submission}
+use Rattle.mpw_hier.specs.Structures.{IsReachable}
+use Rattle.mpw_hier.specs.Boxes.{extent_of, is_box_near}
+use Rattle.mpw_hier.specs.Shelf.{present, versions, cells}
+use Rattle.mpw_hier.specs.Values.{structure_items, flat_of, flats, height_of, heights}
+
+-- A structure below the top reaches beyond 2^30 nm, in its own coordinates.
+pub record IsFar (ss : List Submission) (s : Submission) : Type 0 where
+  pub structure : List ℕ
+  pub below : IsReachable s.library s.top structure
+  pub box : Box2
+  pub extent : extent_of (structure_items (flats ss) s structure) ≡ Some box
+  pub far : is_box_near box ≡ false
+
+-- More than 2^20 shapes in the flat list.
+abbrev pub is_too_large : List Submission → Submission → Bool
+is_too_large ss s = nat_lt (2 ^ 20) (length (flat_of (flats ss) s))
+
+-- More than 64 levels.
+abbrev pub is_too_deep : List Submission → Submission → Bool
+is_too_deep ss s = nat_lt 64 (height_of (heights ss) s)
+
+-- Fewer than 4096 submissions, and fewer than 1024 cells where the cell has no submission yet.
+abbrev pub has_room : List Submission → Submission → Bool
+has_room ss s = nat_lt (length ss) 4096 && (is_some (present ss s.cell) || nat_lt (length (cells ss)) 1024)
+
+-- The submission with its version, counted from 1 for each cell.
+abbrev pub numbered : List Submission → Submission → Submission
+numbered ss s = record s { version = versions ss s.cell + 1 }

@@ -1,0 +1,44 @@
+-- What references name in a library, and what they name outside it.
+use Rattle.std.specs.Prelude.{◌≡◌, ℕ, List, [], ◌∷◌, map, slice_get, Option, Some, None}
+use Rattle.std.specs.List.{flat_map}
+use Rattle.mpw_geom.specs.Names.{by_name}
+use Rattle.mpw_library.specs.declared.structures.Structure.{Structure}
+use Rattle.mpw_library.specs.Places.{place_of}
+use Rattle.mpw_hier.specs.Structures.{names_of, target_names}
+
+abbrev pub known_before : Option ℕ → List ℕ → List ℕ
+known_before None places = places
+known_before (Some place) places = place ∷ places
+
+-- The places of the structures that names have in the library.
+unfoldable pub places_of : List Structure → List (List ℕ) → List ℕ
+places_of library [] = []
+places_of library (name ∷ names) = known_before (place_of library name) (places_of library names)
+
+abbrev pub unknown_before : Option ℕ → List ℕ → List (List ℕ) → List (List ℕ)
+unknown_before None name names = name ∷ names
+unknown_before (Some place) name names = names
+
+-- The names of which the library has no structure.
+unfoldable pub names_outside : List Structure → List (List ℕ) → List (List ℕ)
+names_outside library [] = []
+names_outside library (name ∷ names) = unknown_before (place_of library name) name (names_outside library names)
+
+-- For each structure, the places of the structures to which it refers.
+abbrev pub places_from : List Structure → Structure → List ℕ
+places_from library s = places_of library (names_of s.elements)
+
+unfoldable pub graph_of : List Structure → List (List ℕ)
+graph_of library = map (places_from library) library
+
+-- The names outside the library to which the structures at these places refer.
+abbrev pub outside_from : List Structure → ℕ → List (List ℕ)
+outside_from library place = names_outside library (target_names (slice_get library place))
+
+unfoldable pub outside_from_all : List Structure → List ℕ → List (List ℕ)
+outside_from_all library places = flat_map (outside_from library) places
+
+-- In the order of their bytes, each once.
+pub record IsByName (names : List (List ℕ)) : Type 0 where
+  pub given : List (List ℕ)
+  pub same : names ≡ by_name given

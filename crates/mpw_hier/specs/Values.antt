@@ -1,0 +1,73 @@
+-- What the submissions of a shelf show: flat lists, counts, heights and extents. A submission refers to earlier ones alone.
+use Rattle.std.specs.Prelude.{ℕ, suc, max, List, [], ◌∷◌, ◌++◌, length, map, fold, slice_index_or, Option, Some, None, if◌then◌else◌}
+use Rattle.mpw_geom.specs.declared.plane.Box2.{Box2}
+use Rattle.mpw_geom.specs.Names.{name_eq}
+use Rattle.mpw_library.specs.declared.structures.Structure.{Structure}
+use Rattle.mpw_hier.specs.declared.bindings.Binding.{Binding}
+use Rattle.mpw_hier.specs.declared.submission.Submission.{Submission}
+use Rattle.mpw_hier.specs.Structures.{names_of}
+use Rattle.mpw_hier.specs.Levels.{by_levels, levels_of}
+use Rattle.mpw_hier.specs.Items.{Item, items_of}
+use Rattle.mpw_hier.specs.Boxes.{extent_of}
+
+-- What each submission shows, from what those before it show.
+unfoldable pub from_first : {V : Type 0} → (List V → Submission → V) → List V → List Submission → List V
+from_first shown before [] = before
+from_first shown before (s ∷ ss) = from_first shown (before ++ shown before s ∷ []) ss
+
+-- The submission to which a name is bound.
+abbrev pub bound_number : List Binding → List ℕ → Option ℕ
+bound_number [] name = None
+bound_number (b ∷ bs) name = if name_eq b.name name then Some b.submission else bound_number bs name
+
+-- What that submission shows; a name that isn't bound shows nothing.
+abbrev pub at_number : {V : Type 0} → V → List V → Option ℕ → V
+at_number nothing before None = nothing
+at_number nothing before (Some n) = slice_index_or before n nothing
+
+-- ---- flat lists
+
+-- The flat list of a structure of a submission behind others with these flat lists.
+abbrev pub structure_items : List (List Item) → Submission → List ℕ → List Item
+structure_items before s name =
+    items_of (λ outside. at_number [] before (bound_number s.bound outside)) (length before) s.library name
+
+abbrev pub flat_of : List (List Item) → Submission → List Item
+flat_of before s = structure_items before s s.top
+
+unfoldable pub flats : List Submission → List (List Item)
+flats ss = from_first flat_of [] ss
+
+-- The flat list of the submission of a number.
+abbrev pub flat : List Submission → ℕ → List Item
+flat ss number = slice_index_or (flats ss) number []
+
+-- How many shapes it shows, and the least box that holds them.
+abbrev pub count : List Submission → ℕ → ℕ
+count ss number = length (flat ss number)
+
+abbrev pub extent : List Submission → ℕ → Option Box2
+extent ss number = extent_of (flat ss number)
+
+-- ---- heights
+
+abbrev pub greatest : List ℕ → ℕ
+greatest ns = fold max 0 ns
+
+-- A structure without references has the height 1, another one more than the highest of its targets.
+abbrev pub shown_height : Structure → (List ℕ → ℕ) → ℕ
+shown_height s below = suc (greatest (map below (names_of s.elements)))
+
+-- The height of the structure of a name. A name outside the library has the height that `outside` tells.
+abbrev pub structure_height : (List ℕ → ℕ) → List Structure → List ℕ → ℕ
+structure_height outside library name = by_levels shown_height 0 outside (levels_of library) library name
+
+abbrev pub height_of : List ℕ → Submission → ℕ
+height_of before s = structure_height (λ outside. at_number 0 before (bound_number s.bound outside)) s.library s.top
+
+unfoldable pub heights : List Submission → List ℕ
+heights ss = from_first height_of [] ss
+
+-- The height of the submission of a number.
+abbrev pub height : List Submission → ℕ → ℕ
+height ss number = slice_index_or (heights ss) number 0

@@ -1,0 +1,69 @@
+//! A graph of places by number, and the order in which each place comes behind its targets.
+//!
+//! The search goes down one way at a time and keeps it in a vector, so that no chain is too long for
+//! the stack. `left` tells for each place how many steps are left there: one for each target, one to
+//! end, and one more while it hasn't been entered.
+
+ghost use Rattle.std.specs.Prelude.{◌≡◌, ◌<◌, ◌^◌, ◌++◌, ◌∷◌, [], length, slice_index, OnOk};
+ghost use Rattle.mpw_hier.specs.Graph.{targets};
+
+use std::alloc::{AllocError, Global};
+use std::marker::Model;
+
+/// For each place, the places to which it leads.
+#[derive(Drop)]
+pub struct Graph {
+    targets: Vec<Vec<usize>>,
+}
+
+impl Model for Graph {
+    ghost use Rattle.std.specs.Prelude.{ℕ, List, map};
+
+    ghost Value = { List (List ℕ) };
+
+    ghost view = { λ g. map (λ places. places.items) g.targets.items };
+}
+
+impl Graph {
+    /// The graph without places. Takes no memory.
+    pub fn new(alloc: Global) -> Graph
+        ensures { result ≡ [] }
+    {
+        Graph {
+            targets: Vec::new(alloc),
+        }
+    }
+
+    /// The number of places.
+    pub fn len(&self) -> usize
+        ensures { result ≡ length self.now }
+    {
+        self.targets.len()
+    }
+
+    /// Adds a place that leads to these.
+    pub fn push(&mut self, places: Vec<usize>) -> Result<(), AllocError>
+        ensures { OnOk result (self.new ≡ self.old ++ places.items ∷ []) }
+    {
+        self.targets.push(places)?;
+        Ok(())
+    }
+
+    /// The number of a place's targets.
+    pub fn count(&self, place: usize) -> usize
+        requires { place < length self.now }
+        ensures count { result ≡ length (targets self.now place) }
+        ensures small { result < 2 ^ 63 }
+    {
+        self.targets[place].len()
+    }
+
+    /// One of a place's targets.
+    pub fn target(&self, place: usize, index: usize) -> usize
+        requires place { place < length self.now }
+        requires index { index < length (targets self.now place) }
+        ensures { result ≡ slice_index (targets self.now place) index }
+    {
+        self.targets[place][index]
+    }
+}

@@ -1,0 +1,27 @@
+//! The shelf of submissions. A submission's library may name cells that others submitted before, and
+//! shows their present submissions.
+//!
+//! [`externals`] tells the names outside a library that its top shows, and [`Shelf::bind`] the
+//! submissions to which they are bound.
+//!
+//! The structures of a library are places of a graph (`graph`), which are put in order from below
+//! (`order`) without recursion, since a chain may be as long as a text; names outside are gathered in
+//! that order (`outside`).
+#![tactic(auto)]
+
+mod bindings;
+mod fault;
+mod graph;
+mod order;
+mod outside;
+mod shelf;
+mod shelved;
+mod submission;
+#[cfg(test)]
+mod tests;
+
+pub use bindings::{Binding, Bindings};
+pub use fault::HierFault;
+pub use outside::externals;
+pub use shelf::Shelf;
+pub use submission::Submission;

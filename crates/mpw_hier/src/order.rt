@@ -1,0 +1,126 @@
+//! A search from a top down a graph.
+//!
+//! The search goes down one way and keeps it in a vector, so that no chain is too long for the stack.
+//! Each step falls in `left` or in the way down, so there are at most as many steps as places and
+//! targets together, and twice the places.
+
+ghost use Rattle.std.specs.Prelude.{◌≡◌, ◌<◌, ◌+◌, [], length, map, Ok, IfOk, IfSome, IfNone, OnOk};
+ghost use Rattle.mpw_hier.specs.Graph.{IsGraph, HasCycle, IsFromBelow};
+ghost use Rattle.mpw_hier.specs.declared.order.Step.TheVariants as kinds;
+
+use crate::graph::Graph;
+use std::alloc::{AllocError, Global};
+
+/// How far a search has come.
+#[derive(Drop)]
+pub struct Descent {
+    /// Where the search began.
+    pub top: usize,
+    /// The steps that are left at each place: one for each target, one to end, and one more before it
+    /// is entered.
+    pub left: Vec<usize>,
+    /// The way down to the place where the search is.
+    pub path: Vec<usize>,
+    /// The places that are done, in order.
+    pub order: Vec<usize>,
+}
+
+/// What a step found.
+#[derive(Clone, Copy, Debug, PartialEq, Eq)]
+pub enum Step {
+    On,
+    Done,
+    Cycle,
+}
+
+/// The steps of each place.
+fn all_steps(alloc: Global, graph: &Graph) -> Result<Vec<usize>, AllocError>
+    ensures { IfOk result (λ left. left.items ≡ map (λ places. length places + 2) graph.now) }
+{
+    let mut left = Vec::new(alloc);
+    for place in 0..graph.len() {
+        left.push(graph.count(place) + 2)?;
+    }
+    Ok(left)
+}
+
+impl Descent {
+    ghost use Rattle.mpw_hier.specs.Descent.{IsUnderWay, work};
+
+    /// The search at its beginning.
+    fn new(alloc: Global, graph: &Graph, top: usize) -> Result<Descent, AllocError>
+        requires { top < length graph.now }
+        ensures under_way { IfOk result (IsUnderWay graph.now) }
+        ensures top { IfOk result (λ descent. descent.top ≡ top) }
+    {
+        let mut left = all_steps(alloc, graph)?;
+        left[top] = graph.count(top) + 1;
+        let mut path = Vec::new(alloc);
+        path.push(top)?;
+        let order = Vec::new(alloc);
+        Ok(Descent {
+            top,
+            left,
+            path,
+            order,
+        })
+    }
+
+    /// One step: to the next target of the last place of the way, or back from it behind all of them.
+    fn step(&mut self, graph: &Graph) -> Result<Step, AllocError>
+        requires graph { IsGraph graph.now }
+        requires under_way { IsUnderWay graph.now self.old }
+        ensures under_way { OnOk result (IsUnderWay graph.now self.new) }
+        ensures top { self.new.top ≡ self.old.top }
+        ensures less { result ≡ Ok kinds.On → work self.new < work self.old }
+        ensures done { result ≡ Ok kinds.Done → self.new.path.items ≡ [] }
+        ensures cycle { result ≡ Ok kinds.Cycle → HasCycle graph.now self.old.top }
+    {
+        if self.path.is_empty() {
+            return Ok(Step::Done);
+        }
+        let place = self.path[self.path.len() - 1];
+        let steps = self.left[place];
+        if steps <= 1 {
+            self.order.push(place)?;
+            self.left[place] = 0;
+            self.path.truncate(self.path.len() - 1);
+            return Ok(Step::On);
+        }
+        let target = graph.target(place, steps - 2);
+        let entered = graph.count(target) + 1;
+        if self.left[target] == 0 {
+            self.left[place] = steps - 1;
+            return Ok(Step::On);
+        }
+        if self.left[target] <= entered {
+            return Ok(Step::Cycle);
+        }
+        self.path.push(target)?;
+        self.left[target] = entered;
+        Ok(Step::On)
+    }
+}
+
+/// The places to which the top leads, each behind all of its targets; none where there is a cycle.
+///
+/// Linear in the places and their targets.
+pub fn order_from_below(
+    alloc: Global,
+    graph: &Graph,
+    top: usize,
+) -> Result<Option<Vec<usize>>, AllocError>
+    requires graph { IsGraph graph.now }
+    requires top { top < length graph.now }
+    ensures order { IfOk result (λ found. IfSome found (λ order. IsFromBelow graph.now top order.items)) }
+    ensures cycle { IfOk result (λ found. IfNone found (HasCycle graph.now top)) }
+{
+    let mut descent = Descent::new(alloc, graph, top)?;
+    loop {
+        match descent.step(graph)? {
+            Step::On => {}
+            Step::Done => return Ok(Some(descent.order)),
+            Step::Cycle => return Ok(None),
+        }
+    }
+}

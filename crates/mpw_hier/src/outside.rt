@@ -1,0 +1,98 @@
+//! Names outside a library.
+
+ghost use Rattle.std.specs.Prelude.{◌≡◌, ◌<◌, ◌++◌, ◌↔◌, ℕ, List, None, length, true, Err, IfOk, OnOk, All};
+ghost use Rattle.mpw_geom.specs.Names.{contains_name};
+ghost use Rattle.mpw_library.specs.Places.{place_of};
+ghost use Rattle.mpw_hier.specs.Structures.{names_of, IsCyclic, IsOutside};
+ghost use Rattle.mpw_hier.specs.Outside.{places_of, names_outside, graph_of, outside_from_all, IsByName};
+
+use crate::fault::HierFault;
+use crate::graph::Graph;
+use crate::order::order_from_below;
+use mpw_elements::Element;
+use mpw_geom::{Name, Names};
+use mpw_library::Library;
+use std::alloc::{AllocError, Global};
+
+/// The places of the structures to which elements refer in their library.
+fn places_of(
+    alloc: Global,
+    library: &Library,
+    elements: &[Element],
+) -> Result<Vec<usize>, AllocError>
+    ensures { IfOk result (λ places. places.items ≡ places_of library.now (names_of elements.now)) }
+{
+    let mut places = Vec::new(alloc);
+    for element in elements {
+        if let Element::Reference(reference) = element {
+            if let Some(place) = library.position(&reference.name) {
+                places.push(place)?;
+            }
+        }
+    }
+    Ok(places)
+}
+
+/// The structures of a library as places, each with those to which it refers.
+fn graph_of(alloc: Global, library: &Library) -> Result<Graph, AllocError>
+    ensures { IfOk result (λ graph. graph ≡ graph_of library.now) }
+{
+    let mut graph = Graph::new(alloc);
+    for structure in library.structures() {
+        graph.push(places_of(alloc, library, structure.elements.as_slice())?)?;
+    }
+    Ok(graph)
+}
+
+/// Adds the names outside the library to which elements refer.
+fn add_outside(names: &mut Names, library: &Library, elements: &[Element]) -> Result<(), AllocError>
+    ensures { OnOk result (names.new ≡ names.old ++ names_outside library.now (names_of elements.now)) }
+{
+    for element in elements {
+        if let Element::Reference(reference) = element {
+            if library.position(&reference.name).is_none() {
+                names.push(reference.name.copy()?)?;
+            }
+        }
+    }
+    Ok(())
+}
+
+/// The names outside the library to which the structures at these places refer.
+fn outside_from(alloc: Global, library: &Library, places: &[usize]) -> Result<Names, AllocError>
+    requires { All (λ place. place < length library.now) places.now }
+    ensures { IfOk result (λ names. names ≡ outside_from_all library.now places.now) }
+{
+    let mut names = Names::new(alloc);
+    let structures = library.structures();
+    for place in places {
+        add_outside(&mut names, library, structures[*place].elements.as_slice())?;
+    }
+    Ok(names)
+}
+
+/// The names outside the library that the top shows, in order of name, each once.
+///
+/// Linear in the library's references, with a search for each of them, and a sort of the names.
+///
+/// # Errors
+/// `NoTop` where the library has no structure of that name; `Cycle` where a structure below the top
+/// leads back to itself; or want of memory.
+pub fn externals(alloc: Global, library: &Library, top: &Name) -> Result<Names, HierFault>
+    ensures by_name { IfOk result IsByName }
+    ensures outside { IfOk result (λ names. (name : List ℕ) → (contains_name names name ≡ true) ↔ IsOutside library.now top.now name) }
+    ensures no_cycle { OnOk result (IsCyclic library.now top.now → ⊥) }
+    ensures no_top { (result ≡ Err HierFault.NoTop) ↔ (place_of library.now top.now ≡ None) }
+    ensures cycle { result ≡ Err HierFault.Cycle → IsCyclic library.now top.now }
+{
+    let Some(place) = library.position(top) else {
+        return Err(HierFault::NoTop);
+    };
+    let graph = graph_of(alloc, library)?;
+    let Some(order) = order_from_below(alloc, &graph, place)? else {
+        return Err(HierFault::Cycle);
+    };
+    let mut names = outside_from(alloc, library, &order)?;
+    names.sort()?;
+    Ok(names)
+}

@@ -1,0 +1,42 @@
+//! A submission: a version of a cell.
+
+ghost use Rattle.std.specs.Prelude.{◌≡◌, IfOk};
+
+use crate::bindings::Bindings;
+use mpw_geom::Name;
+use mpw_library::Library;
+use std::alloc::AllocError;
+
+/// A version of a cell, with the library that shows it.
+#[derive(Drop)]
+pub struct Submission {
+    pub cell: Name,
+    /// Counted from 1 for each cell.
+    pub version: u32,
+    /// The user who submitted it.
+    pub submitter: Name,
+    pub library: Library,
+    /// The structure of the library that the cell shows.
+    pub top: Name,
+    /// Each name outside the library that the top shows, in order of name.
+    pub bound: Bindings,
+}
+
+impl Submission {
+    /// The same submission, in constant time and without further memory: its parts are shared.
+    ///
+    /// # Errors
+    /// Where no more copies can be counted.
+    pub fn copy(&self) -> Result<Submission, AllocError>
+        ensures { IfOk result (λ submission. submission ≡ self.now) }
+    {
+        Ok(Submission {
+            cell: self.cell.copy()?,
+            version: self.version,
+            submitter: self.submitter.copy()?,
+            library: self.library.copy()?,
+            top: self.top.copy()?,
+            bound: self.bound.copy()?,
+        })
+    }
+}
