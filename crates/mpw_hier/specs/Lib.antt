@@ -9,3 +9,5 @@ pub mod Shelf
 pub mod Indexed
 pub mod Values
 pub mod Limits
+pub mod Sizes
+pub mod Nodes

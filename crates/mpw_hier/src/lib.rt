@@ -12,16 +12,20 @@
 mod bindings;
 mod fault;
 mod graph;
+mod node;
 mod order;
 mod outside;
 mod shelf;
 mod shelved;
+mod size;
 mod submission;
 #[cfg(test)]
 mod tests;
 
 pub use bindings::{Binding, Bindings};
 pub use fault::HierFault;
+pub use node::{Child, Node, Nodes, Target};
 pub use outside::externals;
 pub use shelf::Shelf;
+pub use size::Size;
 pub use submission::Submission;

@@ -1,10 +1,12 @@
 //! The shelf, whose copies share what it holds.
 
-ghost use Rattle.std.specs.Prelude.{◌≡◌, [], Err, IfOk, Some, None, option_copied, slice_get};
+ghost use Rattle.std.specs.Prelude.{◌≡◌, [], Err, IfOk, IfSome, IfNone, Some, None, option_copied, slice_get};
 ghost use Rattle.mpw_hier.specs.Shelf.{present, bound_to};
+ghost use Rattle.mpw_hier.specs.Nodes.{AreNodes};
 
 use crate::bindings::{Binding, Bindings};
 use crate::fault::HierFault;
+use crate::node::Node;
 use crate::shelved::Shelved;
 use crate::submission::Submission;
 use mpw_geom::Name;
@@ -50,6 +52,15 @@ impl Shelf {
         ensures { option_copied result ≡ slice_get self.now number }
     {
         self.shelved.get(number)
+    }
+
+    /// The nodes of the submission of a number: the structures that it shows, each behind those that
+    /// it places, the top last. Takes no memory.
+    pub fn nodes(&self, number: u32) -> Option<&[Node]>
+        ensures some { IfSome result (λ nodes. AreNodes self.now number nodes.now) }
+        ensures none { IfNone result (slice_get self.now number ≡ None) }
+    {
+        self.shelved.nodes(number)
     }
 
     /// Binds each name to the present submission of the cell of that name.

@@ -1,8 +1,10 @@
 //! What a shelf holds: its submissions in the order in which they came.
 
-ghost use Rattle.std.specs.Prelude.{◌≡◌, [], option_copied, slice_get};
+ghost use Rattle.std.specs.Prelude.{◌≡◌, [], None, IfSome, IfNone, option_copied, slice_get};
 ghost use Rattle.mpw_hier.specs.Shelf.{present};
+ghost use Rattle.mpw_hier.specs.Nodes.{AreNodes};
 
+use crate::node::{Node, Nodes};
 use crate::submission::Submission;
 use mpw_geom::Name;
 use std::alloc::Global;
@@ -13,6 +15,7 @@ use std::marker::Model;
 #[derive(Drop)]
 pub struct Shelved {
     submissions: Vec<Submission>,
+    nodes: Vec<Nodes>,
     present: BTreeMap<Name, u32>,
 }
 
@@ -22,11 +25,11 @@ impl Model for Shelved {
 
     ghost Value = { List Submission };
 
-    ghost use Rattle.mpw_hier.specs.Indexed.{ShowsPresent};
+    ghost use Rattle.mpw_hier.specs.Indexed.{ShowsPresent, ShowsNodes};
 
     ghost view = { λ s. s.submissions.items };
 
-    ghost invariant = { λ s. ShowsPresent s.present s.submissions.items };
+    ghost invariant = { λ s. ShowsPresent s.present s.submissions.items × ShowsNodes s.nodes.items s.submissions.items };
 }
 
 impl Shelved {
@@ -37,6 +40,7 @@ impl Shelved {
     {
         Shelved {
             submissions: Vec::new(alloc),
+            nodes: Vec::new(alloc),
             present: BTreeMap::new(alloc),
         }
     }
@@ -53,5 +57,14 @@ impl Shelved {
         ensures { option_copied result ≡ slice_get self.now number }
     {
         self.submissions.get(number as usize)
+    }
+
+    /// The nodes of the submission of a number. Takes no memory.
+    pub fn nodes(&self, number: u32) -> Option<&[Node]>
+        ensures some { IfSome result (λ nodes. AreNodes self.now number nodes.now) }
+        ensures none { IfNone result (slice_get self.now number ≡ None) }
+    {
+        let nodes = self.nodes.get(number as usize)?;
+        Some(nodes.as_slice())
     }
 }
