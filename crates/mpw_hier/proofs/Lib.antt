@@ -5,3 +5,4 @@ pub mod Shown
 pub mod References
 pub mod Bound
 pub mod Examples
+pub mod Unfolding

@@ -5,6 +5,7 @@ use Rattle.mpw_elements.specs.declared.element.Element.{Element}
 use Rattle.mpw_elements.specs.declared.element.Element.TheVariants as elements
 use Rattle.mpw_elements.specs.declared.element.Reference.{Reference}
 use Rattle.mpw_library.specs.declared.structures.Structure.{Structure}
+use Rattle.mpw_library.specs.Library.{IsLibrary}
 use Rattle.mpw_library.specs.Places.{place_of}
 use Rattle.mpw_hier.specs.declared.node.Node.{Node}
 use Rattle.mpw_hier.specs.declared.node.Child.{Child}
@@ -61,6 +62,7 @@ pub record IsNode (before : List (List Item)) (levels : List ℕ) (s : Submissio
 
 -- The nodes of a submission behind others with these flat lists and heights: the top is the last, and keeps to the limits.
 pub record AreNodesOf (before : List (List Item)) (levels : List ℕ) (s : Submission) (nodes : List Node) : Type 0 where
+  pub library : IsLibrary s.library
   pub each : (k : ℕ) (node : Node) → slice_get nodes k ≡ Some node → IsNode before levels s (take k nodes) node
   pub few : length nodes ≤ length s.library
   pub top : Node
