@@ -6,3 +6,4 @@ pub mod References
 pub mod Bound
 pub mod Examples
 pub mod Unfolding
+pub mod Firsts
