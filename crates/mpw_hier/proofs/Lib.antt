@@ -7,3 +7,4 @@ pub mod Bound
 pub mod Examples
 pub mod Unfolding
 pub mod Firsts
+pub mod Tops
