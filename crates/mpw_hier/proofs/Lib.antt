@@ -8,3 +8,4 @@ pub mod Examples
 pub mod Unfolding
 pub mod Firsts
 pub mod Tops
+pub mod Shelving

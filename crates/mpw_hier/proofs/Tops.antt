@@ -1,8 +1,8 @@
 -- The nodes of a submission, and what its top shows.
-use Rattle.std.proofs.Common.{◌≡◌, ℕ, zero, suc, ◌+◌, ◌-◌, ◌<◌, ◌≤◌, ◌^◌, true, List, [], ◌∷◌, length, get_or, take, Option, Some, None, refl, sym, ap, subst, ◌∙◌, arith}
+use Rattle.std.proofs.Common.{◌≡◌, ℕ, zero, suc, ◌+◌, ◌-◌, ◌<◌, ◌≤◌, ◌^◌, inl, inr, true, List, [], ◌∷◌, length, get_or, take, Option, Some, None, refl, sym, ap, subst, ◌∙◌, arith}
 use Rattle.std.specs.Prelude.{slice_get}
-use Rattle.std.proofs.lemmas.Option.{slice_get_within, slice_get-get_or, get_or_from_slice_get}
-use Rattle.std.proofs.lemmas.List.{get_or-take, length-take}
+use Rattle.std.proofs.lemmas.Option.{slice_get_within, slice_get-get_or, get_or_from_slice_get, slice_get_cases}
+use Rattle.std.proofs.lemmas.List.{get_or-take, get_or_past, length-take}
 use Rattle.mpw_geom.specs.Names.{contains_name}
 use Rattle.mpw_library.specs.declared.structures.Structure.{Structure}
 use Rattle.mpw_library.specs.Places.{place_of}
@@ -12,12 +12,12 @@ use Rattle.mpw_hier.specs.declared.node.Target.TheVariants as targets
 use Rattle.mpw_hier.specs.declared.submission.Submission.{Submission}
 use Rattle.mpw_hier.specs.Structures.{structure_of, structure_at, names_of}
 use Rattle.mpw_hier.specs.Items.{Item, shown_items}
-use Rattle.mpw_hier.specs.Sizes.{IsSizeOf}
+use Rattle.mpw_hier.specs.Sizes.{IsSizeOf, shapes_told, levels_told}
 use Rattle.mpw_hier.specs.Nodes.{IsTarget, IsNode, AreNodesOf, AreNodes, structure_levels}
-use Rattle.mpw_hier.specs.Values.{structure_items, flat_of, flats, flat, height_of, heights, height, shown_height}
+use Rattle.mpw_hier.specs.Values.{from_first, structure_items, flat_of, flats, flat, height_of, heights, height, shown_height}
 use Rattle.mpw_hier.proofs.Linking.{found_at}
 use Rattle.mpw_hier.proofs.Unfolding.{IsLow, outside, own, low_upto, unfolds, items_by_targets, heights_by_targets}
-use Rattle.mpw_hier.proofs.Firsts.{firsts_at}
+use Rattle.mpw_hier.proofs.Firsts.{firsts_at, firsts_length}
 
 -- what a list has in front
 pub front_get : {X : Type 0} (n : ℕ) (xs : List X) (k : ℕ) (x : X) → slice_get (take n xs) k ≡ Some x → (k < n) × (slice_get xs k ≡ Some x)
@@ -85,3 +85,29 @@ shelf_size ss number nodes w top is =
     let levels : height ss number ≡ height_of (heights (take number ss)) s = firsts_at height_of ss number s 0 w.is in
     let t = top_size (flats (take number ss)) (heights (take number ss)) s nodes w.shown top is in
     rw (items, levels) (t, (w.shown.count, w.shown.height))
+
+-- ---- numbers that no submission has
+
+missing : {X : Type 0} (xs : List X) (i : ℕ) → slice_get xs i ≡ None → length xs ≤ i
+missing xs i none = elim (slice_get_cases xs i).1 [
+  | inl h ↦ absurd (let q = sym none ∙ h.2 in cc)
+  | inr h ↦ h.0
+]
+
+pub no_items : (ss : List Submission) (number : ℕ) → slice_get ss number ≡ None → flat ss number ≡ []
+unfolding flats
+no_items ss number none =
+    let past = missing ss number none in
+    get_or_past (from_first flat_of [] ss) number [] (omega (arith, firsts_length flat_of [] ss, past))
+
+pub no_levels : (ss : List Submission) (number : ℕ) → slice_get ss number ≡ None → height ss number ≡ 0
+unfolding heights
+no_levels ss number none =
+    let past = missing ss number none in
+    get_or_past (from_first height_of [] ss) number 0 (omega (arith, firsts_length height_of [] ss, past))
+
+pub told_shapes : (told n : ℕ) → told ≡ shapes_told n → n ≤ 2 ^ 20 → told ≡ n
+told_shapes told n e few = e ∙ omega (arith, few)
+
+pub told_levels : (told n : ℕ) → told ≡ levels_told n → n ≤ 64 → told ≡ n
+told_levels told n e few = e ∙ omega (arith, few)

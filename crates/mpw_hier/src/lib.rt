@@ -16,7 +16,6 @@ mod node;
 mod order;
 mod outside;
 mod shelf;
-mod shelved;
 mod size;
 mod submission;
 #[cfg(test)]

@@ -1,24 +1,29 @@
-//! The shelf, whose copies share what it holds.
+//! The shelf of submissions.
 
-ghost use Rattle.std.specs.Prelude.{◌≡◌, [], Err, IfOk, IfSome, IfNone, Some, None, option_copied, slice_get};
-ghost use Rattle.mpw_hier.specs.Shelf.{present, bound_to};
-ghost use Rattle.mpw_hier.specs.Nodes.{AreNodes};
+ghost use Rattle.std.specs.Prelude.{◌≡◌, ◌+◌, ◌<◌, ◌≤◌, ◌^◌, ◌++◌, true, ◌∷◌, ℕ, [], length, Err, OnOk, OnErr, IfOk, IfSome, IfNone, Some, None, option_copied, slice_get};
+ghost use Rattle.mpw_hier.specs.Shelf.{present, versions, bound_to};
+ghost use Rattle.mpw_hier.specs.Nodes.{AreNodes, AreNodesOf};
+ghost use Rattle.mpw_hier.specs.Sizes.{IsSizeOf};
+ghost use Rattle.mpw_hier.specs.Boxes.{is_box_near};
+ghost use Rattle.mpw_hier.specs.Values.{flat, flats, count, height, heights, extent};
 
 use crate::bindings::{Binding, Bindings};
 use crate::fault::HierFault;
-use crate::node::Node;
-use crate::shelved::Shelved;
+use crate::node::{Node, Nodes};
+use crate::size::Size;
 use crate::submission::Submission;
-use mpw_geom::Name;
+use mpw_geom::{Box2, Name};
 use std::alloc::{AllocError, Global};
+use std::collections::BTreeMap;
 use std::marker::Model;
-use std::sync::Arc;
 
 /// Submissions by number, counted from 0, which contracts see as their list. The present one of a
 /// cell is found in logarithmic time.
 #[derive(Drop)]
 pub struct Shelf {
-    shelved: Arc<Shelved>,
+    submissions: Vec<Submission>,
+    nodes: Vec<Nodes>,
+    present: BTreeMap<Name, u32>,
 }
 
 impl Model for Shelf {
@@ -27,31 +32,38 @@ impl Model for Shelf {
 
     ghost Value = { List Submission };
 
-    ghost view = { λ s. s.shelved.value };
+    ghost use Rattle.mpw_hier.specs.Indexed.{IsShelved};
+
+    ghost view = { λ s. s.submissions.items };
+
+    ghost invariant = { λ s. IsShelved s.present s.nodes.items s.submissions.items };
 }
 
 impl Shelf {
-    /// The shelf without submissions. An error is want of memory.
-    pub fn new(alloc: Global) -> Result<Shelf, AllocError>
-        ensures { IfOk result (λ shelf. shelf ≡ []) }
+    /// The shelf without submissions. Takes no memory.
+    #[tactic(auto, unfolding(crate::specs::Shelf::present))]
+    pub fn new(alloc: Global) -> Shelf
+        ensures { result ≡ [] }
     {
-        Ok(Shelf {
-            shelved: Arc::new(alloc, Shelved::new(alloc))?,
-        })
+        Shelf {
+            submissions: Vec::new(alloc),
+            nodes: Vec::new(alloc),
+            present: BTreeMap::new(alloc),
+        }
     }
 
     /// The number of the present submission of a cell, in logarithmic time. Takes no memory.
     pub fn present(&self, cell: &Name) -> Option<u32>
         ensures { result ≡ present self.now cell.now }
     {
-        self.shelved.present(cell)
+        self.present.get(cell).copied()
     }
 
     /// The submission of a number. Takes no memory.
     pub fn get(&self, number: u32) -> Option<&Submission>
         ensures { option_copied result ≡ slice_get self.now number }
     {
-        self.shelved.get(number)
+        self.submissions.get(number as usize)
     }
 
     /// The nodes of the submission of a number: the structures that it shows, each behind those that
@@ -60,7 +72,48 @@ impl Shelf {
         ensures some { IfSome result (λ nodes. AreNodes self.now number nodes.now) }
         ensures none { IfNone result (slice_get self.now number ≡ None) }
     {
-        self.shelved.nodes(number)
+        let nodes = self.nodes.get(number as usize)?;
+        Some(nodes.as_slice())
+    }
+
+    /// How much the submission of a number shows. Takes no memory.
+    fn size(&self, number: u32) -> Option<Size>
+        ensures some { IfSome result (IsSizeOf (flat self.now number) (height self.now number)) }
+        ensures few { IfSome result (λ size. count self.now number ≤ 2 ^ 20) }
+        ensures low { IfSome result (λ size. height self.now number ≤ 64) }
+        ensures none { IfNone result (slice_get self.now number ≡ None) }
+    {
+        let nodes = self.nodes(number)?;
+        Some(nodes[nodes.len() - 1].size)
+    }
+
+    /// The number of flat shapes of a submission, 0 to 2^20; 0 where there is none of that number.
+    pub fn count(&self, number: u32) -> u32
+        ensures { result ≡ count self.now number }
+    {
+        match self.size(number) {
+            Some(size) => size.count,
+            None => 0,
+        }
+    }
+
+    /// The levels of a submission, 1 to 64; 0 where there is none of that number.
+    pub fn height(&self, number: u32) -> u32
+        ensures { result ≡ height self.now number }
+    {
+        match self.size(number) {
+            Some(size) => size.height,
+            None => 0,
+        }
+    }
+
+    /// The least box that holds the boxes of all flat shapes of a submission, in nm, within -2^30 to
+    /// 2^30. None without shapes.
+    pub fn extent(&self, number: u32) -> Option<Box2>
+        ensures extent { result ≡ extent self.now number }
+        ensures near { IfSome result (λ box. is_box_near box ≡ true) }
+    {
+        self.size(number)?.extent
     }
 
     /// Binds each name to the present submission of the cell of that name.
@@ -84,15 +137,22 @@ impl Shelf {
         Ok(Bindings::from_vec(alloc, bindings)?)
     }
 
-    /// The same shelf, in constant time and without further memory.
-    ///
-    /// # Errors
-    /// Where no more copies can be counted.
-    pub fn copy(&self) -> Result<Shelf, AllocError>
-        ensures { IfOk result (λ shelf. shelf ≡ self.now) }
+    /// Adds a submission with its nodes and its version.
+    fn append(&mut self, submission: Submission, nodes: Nodes) -> Result<u32, AllocError>
+        requires nodes { AreNodesOf (flats self.old) (heights self.old) submission nodes }
+        requires version { submission.version ≡ versions self.old submission.cell + 1 }
+        requires room { length self.old < 4096 }
+        ensures ok { OnOk result (self.new ≡ self.old ++ submission ∷ []) }
+        ensures number { IfOk result (λ number. number ≡ length self.old) }
+        ensures err { OnErr result (self.new ≡ self.old) }
     {
-        Ok(Shelf {
-            shelved: self.shelved.clone()?,
-        })
+        self.submissions.reserve(1)?;
+        self.nodes.reserve(1)?;
+        let cell = submission.cell.copy()?;
+        let number = self.submissions.len() as u32;
+        self.present.insert(cell, number)?;
+        self.submissions.push(submission)?;
+        self.nodes.push(nodes)?;
+        Ok(number)
     }
 }
