@@ -9,3 +9,5 @@ pub mod Unfolding
 pub mod Firsts
 pub mod Tops
 pub mod Shelving
+pub mod Linked
+pub mod Parts

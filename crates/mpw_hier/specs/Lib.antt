@@ -11,3 +11,4 @@ pub mod Values
 pub mod Limits
 pub mod Sizes
 pub mod Nodes
+pub mod Building

@@ -1,15 +1,21 @@
 -- What a new submission has to keep to, in the order of the tests: extents, shapes, height, room.
-use Rattle.std.specs.Prelude.{◌≡◌, ℕ, ◌+◌, ◌^◌, ◌&&◌, ◌||◌, Bool, false, nat_lt, List, length, is_some, Some}
+use Rattle.std.specs.Prelude.{◌≡◌, ℕ, ◌+◌, ◌^◌, ◌&&◌, ◌||◌, Bool, false, nat_lt, List, length, map, is_some, Some, ◌↔◌, true}
+use Rattle.std.specs.Set.{distinct_count}
+use Rattle.mpw_geom.specs.Names.{name_eq, contains_name}
 use Rattle.mpw_geom.specs.declared.plane.Box2.{Box2}
+use Rattle.mpw_library.specs.Places.{place_of}
 use Rattle.mpw_hier.specs.declared.submission.Submission.{Submission}
-use Rattle.mpw_hier.specs.Structures.{IsReachable}
+use Rattle.mpw_hier.specs.Structures.{IsReachable, IsCyclic, IsOutside}
+use Rattle.mpw_hier.specs.Outside.{IsByName}
 use Rattle.mpw_hier.specs.Boxes.{extent_of, is_box_near}
-use Rattle.mpw_hier.specs.Shelf.{present, versions, cells}
+use Rattle.mpw_hier.specs.Shelf.{present, versions, bound_to}
 use Rattle.mpw_hier.specs.Values.{structure_items, flat_of, flats, height_of, heights}
 
--- A structure below the top reaches beyond 2^30 nm, in its own coordinates.
+-- A structure of the library below the top reaches beyond 2^30 nm, in its own coordinates.
 pub record IsFar (ss : List Submission) (s : Submission) : Type 0 where
   pub structure : List ℕ
+  pub place : ℕ
+  pub inside : place_of s.library structure ≡ Some place
   pub below : IsReachable s.library s.top structure
   pub box : Box2
   pub extent : extent_of (structure_items (flats ss) s structure) ≡ Some box
@@ -25,8 +31,18 @@ is_too_deep ss s = nat_lt 64 (height_of (heights ss) s)
 
 -- Fewer than 4096 submissions, and fewer than 1024 cells where the cell has no submission yet.
 abbrev pub has_room : List Submission → Submission → Bool
-has_room ss s = nat_lt (length ss) 4096 && (is_some (present ss s.cell) || nat_lt (length (cells ss)) 1024)
+has_room ss s = nat_lt (length ss) 4096 && (is_some (present ss s.cell) || nat_lt (distinct_count name_eq (map (λ t. t.cell) ss)) 1024)
 
 -- The submission with its version, counted from 1 for each cell.
 abbrev pub numbered : List Submission → Submission → Submission
 numbered ss s = record s { version = versions ss s.cell + 1 }
+
+-- The top is a structure without a cycle below it, and the bindings are those of the names outside the library that it shows.
+pub record IsBound (ss : List Submission) (s : Submission) : Type 0 where
+  pub place : ℕ
+  pub top : place_of s.library s.top ≡ Some place
+  pub acyclic : IsCyclic s.library s.top → ⊥
+  pub names : List (List ℕ)
+  pub by_name : IsByName names
+  pub outside : (name : List ℕ) → (contains_name names name ≡ true) ↔ IsOutside s.library s.top name
+  pub bound : bound_to ss names ≡ Some s.bound

@@ -1,6 +1,6 @@
 -- The shelf: submissions in the order in which they came. The number of a submission is its place, counted from 0.
-use Rattle.std.specs.Prelude.{ℕ, ◌+◌, List, [], ◌∷◌, ◌++◌, map, count_by, Option, Some, None, if◌then◌else◌}
-use Rattle.mpw_geom.specs.Names.{name_eq, by_name}
+use Rattle.std.specs.Prelude.{ℕ, ◌+◌, List, [], ◌∷◌, ◌++◌, count_by, Option, Some, None, if◌then◌else◌}
+use Rattle.mpw_geom.specs.Names.{name_eq}
 use Rattle.mpw_hier.specs.declared.bindings.Binding.{Binding}
 use Rattle.mpw_hier.specs.declared.submission.Submission.{Submission}
 
@@ -21,10 +21,6 @@ present ss cell = present_from 0 ss cell
 -- How many submissions of a cell there are.
 abbrev pub versions : List Submission → List ℕ → ℕ
 versions ss cell = count_by (λ s. name_eq s.cell cell) ss
-
--- The cells that have a submission, by name.
-abbrev pub cells : List Submission → List (List ℕ)
-cells ss = by_name (map (λ s. s.cell) ss)
 
 -- ---- names outside a library
 

@@ -20,6 +20,18 @@ pub enum HierFault {
     /// A name outside the library is no cell with a submission.
     #[error("nocell")]
     NoCell,
+    /// The extent of a structure below the top reaches beyond 2^30 nm.
+    #[error("extent")]
+    Extent,
+    /// More than 2^20 flat shapes.
+    #[error("shapes")]
+    Shapes,
+    /// More than 64 levels.
+    #[error("deep")]
+    Deep,
+    /// There are 4096 submissions, or 1024 cells and this is another.
+    #[error("full")]
+    Full,
 }
 
 impl From<AllocError> for HierFault {

@@ -12,6 +12,7 @@
 mod bindings;
 mod fault;
 mod graph;
+mod hierarchy;
 mod node;
 mod order;
 mod outside;

@@ -77,7 +77,7 @@ impl Shelf {
     }
 
     /// How much the submission of a number shows. Takes no memory.
-    fn size(&self, number: u32) -> Option<Size>
+    pub(crate) fn size(&self, number: u32) -> Option<Size>
         ensures some { IfSome result (IsSizeOf (flat self.now number) (height self.now number)) }
         ensures few { IfSome result (λ size. count self.now number ≤ 2 ^ 20) }
         ensures low { IfSome result (λ size. height self.now number ≤ 64) }

@@ -1,0 +1,7 @@
+use Rattle.std.proofs.Common.{◌≡◌, ℕ, List, take}
+use Rattle.mpw_hier.specs.Building.{ShowsBindings}
+use Rattle.mpw_hier.proofs.hierarchy.table_of.Given as goal
+
+-- the bindings so far
+abbrev pub invariant-loop-binding : goal.invariant-loop-binding
+invariant-loop-binding l = ShowsBindings l.table (take l.binding-index l.bindings)
