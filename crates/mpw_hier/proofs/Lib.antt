@@ -11,3 +11,4 @@ pub mod Tops
 pub mod Shelving
 pub mod Linked
 pub mod Parts
+pub mod Versions
