@@ -30,8 +30,8 @@ abbrev pub is_too_deep : List Submission → Submission → Bool
 is_too_deep ss s = nat_lt 64 (height_of (heights ss) s)
 
 -- Fewer than 4096 submissions, and fewer than 1024 cells where the cell has no submission yet.
-abbrev pub has_room : List Submission → Submission → Bool
-has_room ss s = nat_lt (length ss) 4096 && (is_some (present ss s.cell) || nat_lt (distinct_count name_eq (map (λ t. t.cell) ss)) 1024)
+abbrev pub has_room_for : List Submission → List ℕ → Bool
+has_room_for ss cell = nat_lt (length ss) 4096 && (is_some (present ss cell) || nat_lt (distinct_count name_eq (map (λ s. s.cell) ss)) 1024)
 
 -- The submission with its version, counted from 1 for each cell.
 abbrev pub numbered : List Submission → Submission → Submission

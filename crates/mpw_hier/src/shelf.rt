@@ -2,6 +2,7 @@
 
 ghost use Rattle.std.specs.Prelude.{◌≡◌, ◌+◌, ◌<◌, ◌≤◌, ◌^◌, ◌++◌, true, ◌∷◌, ℕ, [], length, Err, OnOk, OnErr, IfOk, IfSome, IfNone, Some, None, option_copied, slice_get};
 ghost use Rattle.mpw_hier.specs.Shelf.{present, versions, bound_to};
+ghost use Rattle.mpw_hier.specs.Limits.{has_room_for};
 ghost use Rattle.mpw_hier.specs.Nodes.{AreNodes, AreNodesOf};
 ghost use Rattle.mpw_hier.specs.Sizes.{IsSizeOf};
 ghost use Rattle.mpw_hier.specs.Boxes.{is_box_near};
@@ -16,6 +17,12 @@ use mpw_geom::{Box2, Name};
 use std::alloc::{AllocError, Global};
 use std::collections::BTreeMap;
 use std::marker::Model;
+
+/// The most submissions.
+const MOST_SUBMISSIONS: usize = 4096;
+
+/// The most cells that have a submission.
+const MOST_CELLS: usize = 1024;
 
 /// Submissions by number, counted from 0, which contracts see as their list. The present one of a
 /// cell is found in logarithmic time.
@@ -135,6 +142,24 @@ impl Shelf {
             bindings.push(Binding { name, submission })?;
         }
         Ok(Bindings::from_vec(alloc, bindings)?)
+    }
+
+    /// The version that the next submission of a cell gets, counted from 1.
+    fn next_version(&self, cell: &Name) -> u32
+        ensures { result ≡ versions self.now cell.now + 1 }
+    {
+        match self.present(cell) {
+            Some(number) => self.submissions[number as usize].version + 1,
+            None => 1,
+        }
+    }
+
+    /// Whether a submission of that cell may come: at most 4096 submissions and 1024 cells.
+    fn has_room(&self, cell: &Name) -> bool
+        ensures { result ≡ has_room_for self.now cell.now }
+    {
+        self.submissions.len() < MOST_SUBMISSIONS
+            && (self.present(cell).is_some() || self.present.len() < MOST_CELLS)
     }
 
     /// Adds a submission with its nodes and its version.
