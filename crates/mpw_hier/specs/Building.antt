@@ -1,17 +1,20 @@
 -- The nodes of a submission while they are built.
-use Rattle.std.specs.Prelude.{◌≡◌, ℕ, ◌<◌, ◌≤◌, true, List, length, take, slice_get, slice_index_or, Option, Some, None}
+use Rattle.std.specs.Prelude.{◌≡◌, ℕ, ◌<◌, ◌≤◌, ◌-◌, ◌++◌, true, false, List, [], ◌∷◌, length, take, slice_get, slice_index_or, Option, Some, None}
 use Rattle.std.specs.BTreeMap as tree
 use Rattle.std.specs.BTreeMap.{BTreeMap}
 use Rattle.std.specs.List.{AllZip}
 use Rattle.mpw_geom.specs.Names.{name_cmp, contains_name}
 use Rattle.mpw_elements.specs.declared.element.Element.{Element}
+use Rattle.mpw_geom.specs.declared.plane.Box2.{Box2}
+use Rattle.mpw_library.specs.declared.structures.Structure.{Structure}
 use Rattle.mpw_library.specs.Library.{IsLibrary}
 use Rattle.mpw_library.specs.Places.{place_of}
 use Rattle.mpw_hier.specs.declared.bindings.Binding.{Binding}
 use Rattle.mpw_hier.specs.declared.node.Node.{Node}
 use Rattle.mpw_hier.specs.declared.size.Size.{Size}
 use Rattle.mpw_hier.specs.declared.submission.Submission.{Submission}
-use Rattle.mpw_hier.specs.Structures.{names_of}
+use Rattle.mpw_hier.specs.Structures.{names_of, IsReachable}
+use Rattle.mpw_hier.specs.Boxes.{extent_of, is_box_near}
 use Rattle.mpw_hier.specs.Sizes.{IsSizeOf}
 use Rattle.mpw_hier.specs.Nodes.{IsNode, IsOuter, structure_levels}
 use Rattle.mpw_hier.specs.Values.{bound_number, structure_items, flats, heights}
@@ -56,3 +59,38 @@ AreKnown ss s numbers es = (name : List ℕ) → contains_name (names_of es) nam
 -- The sizes of what elements refer to, in file order.
 abbrev pub AreSizesHere : List Submission → Submission → List Element → List Size → Type 0
 AreSizesHere ss s es sizes = AllZip (IsSizeHere ss s) (names_of es) sizes
+
+-- A place of a library where a structure stands that is found by its name.
+pub record IsPlace (library : List Structure) (place : ℕ) : Type 0 where
+  pub structure : Structure
+  pub is : slice_get library place ≡ Some structure
+  pub named : place_of library structure.name ≡ Some place
+
+-- What the structure of a place refers to is known.
+abbrev pub IsReady : List Submission → Submission → List (Option ℕ) → ℕ → Type 0
+IsReady ss s numbers place = (structure : Structure) → slice_get s.library place ≡ Some structure → AreKnown ss s numbers structure.elements
+
+-- One node more, which is that of a place.
+pub record IsOneMore (place : ℕ) (before after : List Node) : Type 0 where
+  pub node : Node
+  pub added : after ≡ before ++ node ∷ []
+  pub at : node.structure ≡ place
+
+-- The structure of a place reaches beyond 2^30 nm, in its own coordinates.
+pub record IsFarHere (ss : List Submission) (s : Submission) (place : ℕ) : Type 0 where
+  pub structure : Structure
+  pub is : slice_get s.library place ≡ Some structure
+  pub box : Box2
+  pub extent : extent_of (structure_items (flats ss) s structure.name) ≡ Some box
+  pub far : is_box_near box ≡ false
+
+-- The nodes of the structures that the top of a submission reaches, the top last.
+pub record IsHierarchy (ss : List Submission) (s : Submission) (nodes : List Node) : Type 0 where
+  pub each : (k : ℕ) (node : Node) → slice_get nodes k ≡ Some node → IsNode (flats ss) (heights ss) s (take k nodes) node
+  pub few : length nodes ≤ length s.library
+  pub some : 0 < length nodes
+  pub top : Node
+  pub last : slice_get nodes (length nodes - 1) ≡ Some top
+  pub top_named : place_of s.library s.top ≡ Some top.structure
+  -- a structure of the library that the top reaches has a node
+  pub whole : (name : List ℕ) (place : ℕ) → IsReachable s.library s.top name → place_of s.library name ≡ Some place → (k : ℕ) × (node : Node) × (slice_get nodes k ≡ Some node) × (node.structure ≡ place)

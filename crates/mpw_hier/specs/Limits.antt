@@ -4,6 +4,8 @@ use Rattle.std.specs.Set.{distinct_count}
 use Rattle.mpw_geom.specs.Names.{name_eq, contains_name}
 use Rattle.mpw_geom.specs.declared.plane.Box2.{Box2}
 use Rattle.mpw_library.specs.Places.{place_of}
+use Rattle.mpw_hier.specs.declared.fault.HierFault.{HierFault}
+use Rattle.mpw_hier.specs.declared.fault.HierFault.TheVariants as faults
 use Rattle.mpw_hier.specs.declared.submission.Submission.{Submission}
 use Rattle.mpw_hier.specs.Structures.{IsReachable, IsCyclic, IsOutside}
 use Rattle.mpw_hier.specs.Outside.{IsByName}
@@ -46,3 +48,14 @@ pub record IsBound (ss : List Submission) (s : Submission) : Type 0 where
   pub by_name : IsByName names
   pub outside : (name : List ℕ) → (contains_name names name ≡ true) ↔ IsOutside s.library s.top name
   pub bound : bound_to ss names ≡ Some s.bound
+
+-- What can stand in the way of the nodes of a submission that is bound.
+abbrev pub IsOfNodes : HierFault → Type 0
+IsOfNodes faults.Memory = Unit {0}
+IsOfNodes faults.Extent = Unit {0}
+IsOfNodes faults.NoTop = ⊥
+IsOfNodes faults.Cycle = ⊥
+IsOfNodes faults.NoCell = ⊥
+IsOfNodes faults.Shapes = ⊥
+IsOfNodes faults.Deep = ⊥
+IsOfNodes faults.Full = ⊥

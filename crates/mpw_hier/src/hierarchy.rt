@@ -3,16 +3,20 @@
 //! Each structure is looked at once, behind all those that it places, so that its size is that of its
 //! own shapes and of the sizes that stand there already.
 
-ghost use Rattle.std.specs.Prelude.{◌≡◌, ◌<◌, ◌++◌, ◌∷◌, ℕ, length, take, IfOk, OnOk, Err, Some};
+ghost use Rattle.std.specs.Prelude.{◌≡◌, ◌<◌, [], length, replicate, slice_set, IfOk, IfErr, OnOk, Err, Some, None};
+ghost use Rattle.mpw_library.specs.Library.{IsLibrary};
+ghost use Rattle.mpw_hier.specs.Limits.{IsBound, IsFar, IsOfNodes};
 ghost use Rattle.mpw_hier.specs.Nodes.{IsTarget, AreChildren, shape_places};
-ghost use Rattle.mpw_hier.specs.Building.{ShowsBindings, AreLinked, IsKnown, AreKnown, IsSizeHere, AreSizesHere};
+ghost use Rattle.mpw_hier.specs.Building.{ShowsBindings, AreLinked, IsKnown, AreKnown, IsSizeHere, AreSizesHere, IsPlace, IsReady, IsOneMore, IsFarHere, IsHierarchy};
 ghost use Rattle.mpw_hier.specs.Values.{flats};
 
 use crate::bindings::Binding;
 use crate::fault::HierFault;
 use crate::node::{Child, Node, Target};
+use crate::order::order_from_below;
+use crate::outside::graph_of;
 use crate::shelf::Shelf;
-use crate::size::Size;
+use crate::size::{size_of, Size};
 use crate::submission::Submission;
 use mpw_elements::Element;
 use mpw_geom::Name;
@@ -31,6 +35,17 @@ fn table_of(alloc: Global, bindings: &[Binding]) -> Result<BTreeMap<Name, u32>, 
         }
     }
     Ok(table)
+}
+
+/// So many structures without a node.
+fn no_numbers(alloc: Global, count: usize) -> Result<Vec<Option<usize>>, AllocError>
+    ensures { IfOk result (λ numbers. numbers.items ≡ replicate count None) }
+{
+    let mut numbers = Vec::new(alloc);
+    for _ in 0..count {
+        numbers.push(None)?;
+    }
+    Ok(numbers)
 }
 
 /// What a name means, and how much that shows.
@@ -63,6 +78,29 @@ struct Hierarchy<'a> {
 }
 
 impl<'a> Hierarchy<'a> {
+    /// The submission without nodes.
+    fn new(
+        alloc: Global,
+        shelf: &'a Shelf,
+        submission: &'a Submission,
+    ) -> Result<Hierarchy<'a>, AllocError>
+        requires library { IsLibrary submission.now.library }
+        ensures linked { IfOk result (λ h. AreLinked shelf.now submission.now h.bound h.numbers.items h.nodes.items) }
+        ensures same { IfOk result (λ h. (h.shelf.now ≡ shelf.now) × (h.submission.now ≡ submission.now)) }
+        ensures none { IfOk result (λ h. h.nodes.items ≡ []) }
+    {
+        let bound = table_of(alloc, submission.bound.as_slice())?;
+        let numbers = no_numbers(alloc, submission.library.structures().len())?;
+        let nodes = Vec::new(alloc);
+        Ok(Hierarchy {
+            shelf,
+            submission,
+            bound,
+            numbers,
+            nodes,
+        })
+    }
+
     /// What a name means.
     fn link(&self, name: &Name) -> Link
         requires linked { AreLinked self.now.shelf.now self.now.submission.now self.now.bound self.now.numbers.items self.now.nodes.items }
@@ -119,4 +157,71 @@ impl<'a> Hierarchy<'a> {
             below,
         })
     }
+
+    /// Adds the node of a structure, behind those of all structures that it places.
+    fn add(&mut self, alloc: Global, place: usize) -> Result<(), HierFault>
+        requires linked { AreLinked self.old.shelf.now self.old.submission.now self.old.bound self.old.numbers.items self.old.nodes.items }
+        requires place { IsPlace self.old.submission.now.library place }
+        requires ready { IsReady self.old.shelf.now self.old.submission.now self.old.numbers.items place }
+        requires few { length self.old.nodes.items < length self.old.submission.now.library }
+        ensures linked { OnOk result (AreLinked self.old.shelf.now self.old.submission.now self.new.bound self.new.numbers.items self.new.nodes.items) }
+        ensures same { OnOk result ((self.new.shelf.now ≡ self.old.shelf.now) × (self.new.submission.now ≡ self.old.submission.now)) }
+        ensures one { OnOk result (IsOneMore place self.old.nodes.items self.new.nodes.items) }
+        ensures numbers { OnOk result (self.new.numbers.items ≡ slice_set self.old.numbers.items place (Some (length self.old.nodes.items))) }
+        ensures far { result ≡ Err HierFault.Extent → IsFarHere self.old.shelf.now self.old.submission.now place }
+        ensures faults { IfErr result IsOfNodes }
+    {
+        let submission = self.submission;
+        let structure = &submission.library.structures()[place];
+        let parts = self.parts(alloc, structure.elements.as_slice())?;
+        let Some(size) = size_of(structure, &parts.below) else {
+            return Err(HierFault::Extent);
+        };
+        let number = self.nodes.len();
+        let shapes = parts.shapes;
+        let children = parts.children;
+        self.nodes.push(Node {
+            structure: place,
+            shapes,
+            children,
+            size,
+        })?;
+        self.numbers[place] = Some(number);
+        Ok(())
+    }
+}
+
+/// The nodes of a submission's structures, from below.
+///
+/// Linear in the library, with a search for each name.
+///
+/// # Errors
+/// `Extent` where a structure reaches beyond 2^30 nm in its own coordinates, or want of memory.
+pub fn hierarchy(
+    alloc: Global,
+    shelf: &Shelf,
+    submission: &Submission,
+) -> Result<Vec<Node>, HierFault>
+    requires library { IsLibrary submission.now.library }
+    requires bound { IsBound shelf.now submission.now }
+    ensures ok { IfOk result (λ nodes. IsHierarchy shelf.now submission.now nodes.items) }
+    ensures far { result ≡ Err HierFault.Extent → IsFar shelf.now submission.now }
+    ensures faults { IfErr result IsOfNodes }
+{
+    let library = &submission.library;
+    let Some(top) = library.position(&submission.top) else {
+        return Err(HierFault::NoTop);
+    };
+    let graph = graph_of(alloc, library)?;
+    let Some(order) = order_from_below(alloc, &graph, top)? else {
+        return Err(HierFault::Cycle);
+    };
+    let mut hierarchy = Hierarchy::new(alloc, shelf, submission)?;
+    for place in &order {
+        hierarchy.add(alloc, *place)?;
+        if *place == top {
+            return Ok(hierarchy.nodes);
+        }
+    }
+    Err(HierFault::NoTop)
 }

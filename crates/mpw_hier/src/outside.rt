@@ -34,7 +34,7 @@ fn places_of(
 }
 
 /// The structures of a library as places, each with those to which it refers.
-fn graph_of(alloc: Global, library: &Library) -> Result<Graph, AllocError>
+pub fn graph_of(alloc: Global, library: &Library) -> Result<Graph, AllocError>
     ensures { IfOk result (λ graph. graph ≡ graph_of library.now) }
 {
     let mut graph = Graph::new(alloc);
