@@ -4,4 +4,6 @@ pub mod Linking
 pub mod Shown
 pub mod References
 pub mod Bound
+pub mod Hulls
+pub mod ElementBoxes
 pub mod Examples

@@ -9,3 +9,4 @@ pub mod Shelf
 pub mod Indexed
 pub mod Values
 pub mod Limits
+pub mod Sizes

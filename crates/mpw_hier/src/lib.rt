@@ -16,6 +16,9 @@ mod order;
 mod outside;
 mod shelf;
 mod shelved;
+mod size;
+mod size_box;
+mod size_shape;
 mod submission;
 #[cfg(test)]
 mod tests;
