@@ -4,6 +4,13 @@ pub mod Linking
 pub mod Shown
 pub mod References
 pub mod Bound
+pub mod Hulls
+pub mod Arrays
+pub mod Sizing
+pub mod Told
+pub mod Nearness
+pub mod Reaching
+pub mod ElementBoxes
 pub mod Examples
 pub mod Unfolding
 pub mod Firsts
@@ -12,3 +19,5 @@ pub mod Shelving
 pub mod Linked
 pub mod Parts
 pub mod Versions
+pub mod Adding
+pub mod Reached

@@ -1,5 +1,5 @@
 -- What stands in a structure, element by element; and bindings in a table, one by one.
-use Rattle.std.proofs.Common.{◌≡◌, ℕ, zero, suc, ◌+◌, ◌<◌, ◌≤◌, Bool, true, false, cond, List, [], ◌∷◌, ◌++◌, length, get_or, take, drop, Option, Some, None, refl, sym, ap, subst, ◌∙◌, arith, append_assoc, append-nil}
+use Rattle.std.proofs.Common.{◌≡◌, ℕ, zero, suc, ◌+◌, ◌^◌, min, ◌<◌, ◌≤◌, Bool, true, false, cond, List, [], ◌∷◌, ◌++◌, length, get_or, take, drop, Option, Some, None, refl, sym, ap, subst, ◌∙◌, arith, append_assoc, append-nil}
 use Rattle.std.specs.Option.{option_or, is_some}
 use Rattle.std.specs.BTreeMap as tree
 use Rattle.std.specs.BTreeMap.{BTreeMap}
@@ -20,7 +20,6 @@ use Rattle.mpw_hier.specs.declared.submission.Submission.{Submission}
 use Rattle.mpw_hier.specs.Structures.{is_shape, names_of}
 use Rattle.mpw_hier.specs.Items.{Item}
 use Rattle.mpw_hier.specs.Nodes.{IsTarget, AreChildren, none, shape, empty, child, shape_places}
-use Rattle.mpw_hier.specs.Sizes.{shapes_told}
 use Rattle.mpw_hier.specs.Building.{ShowsBindings}
 use Rattle.mpw_hier.specs.Values.{bound_number, structure_items, flats, flat_of}
 use Rattle.mpw_hier.proofs.Linking.{same_name, name_itself, or_left, or_right}
@@ -136,11 +135,11 @@ module _ (es : List Element) (i : ℕ) (e : Element) (h : i < length es) (is : e
         rw append_assoc (inv (record { element = i; target = target } ∷ rest) (rw here (child some means more)))
 
 -- a list of which no shape, or one at least, is told
-pub none_told : {X : Type 0} (xs : List X) (told : ℕ) → told ≡ shapes_told (length xs) → told ≤ 0 → xs ≡ []
+pub none_told : {X : Type 0} (xs : List X) (told : ℕ) → told ≡ min (2 ^ 20 + 1) (length xs) → told ≤ 0 → xs ≡ []
 none_told [] told e le = refl
 none_told (x ∷ xs) told e le = absurd (omega (arith, e, le))
 
-pub some_told : {X : Type 0} (xs : List X) (told : ℕ) → told ≡ shapes_told (length xs) → 0 < told → 0 < length xs
+pub some_told : {X : Type 0} (xs : List X) (told : ℕ) → told ≡ min (2 ^ 20 + 1) (length xs) → 0 < told → 0 < length xs
 some_told xs told e lt = omega (arith, e, lt)
 
 -- what an element refers to is among what all refer to

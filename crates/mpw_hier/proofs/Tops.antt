@@ -1,5 +1,5 @@
 -- The nodes of a submission, and what its top shows.
-use Rattle.std.proofs.Common.{◌≡◌, ℕ, zero, suc, ◌+◌, ◌-◌, ◌<◌, ◌≤◌, ◌^◌, inl, inr, true, List, [], ◌∷◌, length, get_or, take, Option, Some, None, refl, sym, ap, subst, ◌∙◌, arith}
+use Rattle.std.proofs.Common.{◌≡◌, ℕ, zero, suc, ◌+◌, ◌-◌, ◌<◌, ◌≤◌, ◌^◌, min, inl, inr, true, List, [], ◌∷◌, length, get_or, take, Option, Some, None, refl, sym, ap, subst, ◌∙◌, arith}
 use Rattle.std.specs.Prelude.{slice_get}
 use Rattle.std.proofs.lemmas.Option.{slice_get_within, slice_get-get_or, get_or_from_slice_get, slice_get_cases}
 use Rattle.std.proofs.lemmas.List.{get_or-take, get_or_past, length-take}
@@ -12,7 +12,7 @@ use Rattle.mpw_hier.specs.declared.node.Target.TheVariants as targets
 use Rattle.mpw_hier.specs.declared.submission.Submission.{Submission}
 use Rattle.mpw_hier.specs.Structures.{structure_of, structure_at, names_of}
 use Rattle.mpw_hier.specs.Items.{Item, shown_items}
-use Rattle.mpw_hier.specs.Sizes.{IsSizeOf, shapes_told, levels_told}
+use Rattle.mpw_hier.specs.Sizes.{IsSizeOf}
 use Rattle.mpw_hier.specs.Nodes.{IsTarget, IsNode, AreNodesOf, AreNodes, structure_levels}
 use Rattle.mpw_hier.specs.Values.{from_first, structure_items, flat_of, flats, flat, height_of, heights, height, shown_height}
 use Rattle.mpw_hier.proofs.Linking.{found_at}
@@ -106,8 +106,8 @@ no_levels ss number none =
     let past = missing ss number none in
     get_or_past (from_first height_of [] ss) number 0 (omega (arith, firsts_length height_of [] ss, past))
 
-pub told_shapes : (told n : ℕ) → told ≡ shapes_told n → n ≤ 2 ^ 20 → told ≡ n
+pub told_shapes : (told n : ℕ) → told ≡ min (2 ^ 20 + 1) n → n ≤ 2 ^ 20 → told ≡ n
 told_shapes told n e few = e ∙ omega (arith, few)
 
-pub told_levels : (told n : ℕ) → told ≡ levels_told n → n ≤ 64 → told ≡ n
+pub told_levels : (told n : ℕ) → told ≡ min 65 n → n ≤ 64 → told ≡ n
 told_levels told n e few = e ∙ omega (arith, few)

@@ -5,6 +5,9 @@
 
 ghost use Rattle.std.specs.Prelude.{◌≡◌, ◌<◌, [], length, replicate, slice_set, IfOk, IfErr, OnOk, Err, Some, None};
 ghost use Rattle.mpw_library.specs.Library.{IsLibrary};
+ghost use Rattle.mpw_library.specs.Places.{place_of};
+ghost use Rattle.mpw_hier.specs.Outside.{graph_of};
+ghost use Rattle.mpw_hier.specs.Graph.{IsFromBelow};
 ghost use Rattle.mpw_hier.specs.Limits.{IsBound, IsFar, IsOfNodes};
 ghost use Rattle.mpw_hier.specs.Nodes.{IsTarget, AreChildren, shape_places};
 ghost use Rattle.mpw_hier.specs.Building.{ShowsBindings, AreLinked, IsKnown, AreKnown, IsSizeHere, AreSizesHere, IsPlace, IsReady, IsOneMore, IsFarHere, IsHierarchy};
@@ -191,13 +194,39 @@ impl<'a> Hierarchy<'a> {
     }
 }
 
+/// Adds the nodes of these places in order, up to that of the top.
+fn nodes_upto(
+    alloc: Global,
+    hierarchy: Hierarchy,
+    order: &[usize],
+    top: usize,
+) -> Result<Vec<Node>, HierFault>
+    requires linked { AreLinked hierarchy.shelf.now hierarchy.submission.now hierarchy.bound hierarchy.numbers.items hierarchy.nodes.items }
+    requires none { hierarchy.nodes.items ≡ [] }
+    requires bound { IsBound hierarchy.shelf.now hierarchy.submission.now }
+    requires top { place_of hierarchy.submission.now.library hierarchy.submission.now.top ≡ Some top }
+    requires order { IsFromBelow (graph_of hierarchy.submission.now.library) top order.now }
+    ensures ok { IfOk result (λ nodes. IsHierarchy hierarchy.entry.shelf.now hierarchy.entry.submission.now nodes.items) }
+    ensures far { result ≡ Err HierFault.Extent → IsFar hierarchy.entry.shelf.now hierarchy.entry.submission.now }
+    ensures faults { IfErr result IsOfNodes }
+{
+    let mut made = hierarchy;
+    for place in order {
+        made.add(alloc, *place)?;
+        if *place == top {
+            return Ok(made.nodes);
+        }
+    }
+    Err(HierFault::NoTop)
+}
+
 /// The nodes of a submission's structures, from below.
 ///
 /// Linear in the library, with a search for each name.
 ///
 /// # Errors
 /// `Extent` where a structure reaches beyond 2^30 nm in its own coordinates, or want of memory.
-pub fn hierarchy(
+pub fn nodes_of(
     alloc: Global,
     shelf: &Shelf,
     submission: &Submission,
@@ -216,12 +245,6 @@ pub fn hierarchy(
     let Some(order) = order_from_below(alloc, &graph, top)? else {
         return Err(HierFault::Cycle);
     };
-    let mut hierarchy = Hierarchy::new(alloc, shelf, submission)?;
-    for place in &order {
-        hierarchy.add(alloc, *place)?;
-        if *place == top {
-            return Ok(hierarchy.nodes);
-        }
-    }
-    Err(HierFault::NoTop)
+    let hierarchy = Hierarchy::new(alloc, shelf, submission)?;
+    nodes_upto(alloc, hierarchy, &order, top)
 }

@@ -18,6 +18,9 @@ mod order;
 mod outside;
 mod shelf;
 mod size;
+mod size_array;
+mod size_box;
+mod size_shape;
 mod submission;
 #[cfg(test)]
 mod tests;

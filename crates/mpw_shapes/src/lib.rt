@@ -6,7 +6,7 @@
 //! halved until no edge begins or ends inside a band (`sweep`); one pass over the edges of a band
 //! gives the intervals between which the counts of edges up and down differ (`band`). Equal intervals
 //! of adjacent bands become one box (`stack`). A path gives one box for each segment of its centre
-//! line (`path`).
+//! line (`path`), which [`Wire`] makes one at a time.
 #![tactic(auto)]
 
 mod band;
@@ -20,4 +20,5 @@ mod sweep;
 #[cfg(test)]
 mod tests;
 
+pub use path::{Wire, first_wire};
 pub use shape::{rectangles, squares_are_placed};

@@ -12,15 +12,20 @@ use std::alloc::{AllocError, Global};
 
 /// How far a segment of a centre line reaches to its sides, before its first point and behind its
 /// second, in nm.
-#[derive(Clone, Copy)]
-struct Wire {
-    half: i64,
-    before: i64,
-    behind: i64,
+#[derive(Clone, Copy, Debug)]
+pub struct Wire {
+    /// Half the width of the path.
+    pub half: i64,
+    /// It may be negative at the first point of the path.
+    pub before: i64,
+    /// It may be negative at the last point of the path.
+    pub behind: i64,
 }
 
 impl Wire {
-    fn box_along(self, from: Point, to: Point) -> Box2
+    /// The box of the segment from one point to another. Where a lengthening is negative, it may have no
+    /// area. Takes no memory.
+    pub fn box_along(self, from: Point, to: Point) -> Box2
         requires half { IsWithinReach self.half }
         requires before { IsWithinReach self.before }
         requires behind { IsWithinReach self.behind }
@@ -56,7 +61,7 @@ impl Wire {
     }
 
     /// The same behind an inner point.
-    fn from_inner(self) -> Wire
+    pub fn from_inner(self) -> Wire
         ensures { result ≡ record { half = self.half; before = self.half; behind = self.behind } }
     {
         Wire {
@@ -66,7 +71,7 @@ impl Wire {
     }
 
     /// The same up to the end of the path.
-    fn to_end_of(self, path: &Path) -> Wire
+    pub fn to_end_of(self, path: &Path) -> Wire
         ensures { result ≡ record { half = self.half; before = self.before; behind = path.now.end } }
     {
         Wire {
@@ -77,7 +82,7 @@ impl Wire {
 }
 
 /// The first segment of a path, up to an inner point.
-fn first_wire(path: &Path) -> Wire
+pub fn first_wire(path: &Path) -> Wire
     ensures { result ≡ record { half = int_div path.now.width (pos 2); before = path.now.begin; behind = int_div path.now.width (pos 2) } }
 {
     let half = path.width / 2;

@@ -1,0 +1,87 @@
+-- The places that a submission's top reaches, from below, and the nodes that are made in that order.
+use Rattle.std.proofs.Common.{◌≡◌, ℕ, zero, suc, ◌+◌, ◌<◌, ◌≤◌, true, false, List, [], ◌∷◌, length, get_or, take, All, Contains, Option, Some, None, refl, sym, ap, subst, ◌∙◌, arith, length-take, get_or-take}
+use Rattle.std.specs.Prelude.{slice_get}
+use Rattle.std.proofs.lemmas.List.{length-append}
+use Rattle.mpw_geom.specs.Names.{contains_name}
+use Rattle.mpw_library.specs.declared.structures.Structure.{Structure}
+use Rattle.mpw_library.specs.Places.{place_of}
+use Rattle.mpw_hier.specs.declared.submission.Submission.{Submission}
+use Rattle.mpw_hier.specs.Structures.{names_of, structure_at, refers, IsReachable, itself, chain, IsOutside}
+use Rattle.mpw_hier.specs.Outside.{places_of, graph_of}
+use Rattle.mpw_hier.specs.Graph.{targets, Leads, IsFromBelow}
+use Rattle.mpw_hier.specs.Limits.{IsFar, IsBound}
+use Rattle.mpw_hier.specs.Building.{number_at, IsKnown, own, outer, IsPlace, IsReady, IsFarHere}
+use Rattle.mpw_hier.proofs.Leading.{among}
+use Rattle.mpw_hier.proofs.Linking.{found_at, among_places, targets_at, refers_to, named_way, kept_below, front_closed}
+use Rattle.mpw_hier.proofs.Bound.{bound_name}
+
+reach_more : {library : List Structure} {a b c : List ℕ} → IsReachable library a b → refers library b c ≡ true → IsReachable library a c
+reach_more itself r = chain r itself
+reach_more (chain s way) r = chain s (reach_more way r)
+
+-- the numbers of all these places are known
+abbrev pub AreNumbered : List (Option ℕ) → List ℕ → Type 0
+AreNumbered numbers places = (p : ℕ) → Contains places p → (k : ℕ) × (number_at numbers p ≡ Some k)
+
+module _ (ss : List Submission) (s : Submission) (b : IsBound ss s) (top : ℕ) (e : place_of s.library s.top ≡ Some top) (order : List ℕ) (o : IsFromBelow (graph_of s.library) top order) where
+  record Found (place : ℕ) : Type 0 where
+    structure : Structure
+    is : slice_get s.library place ≡ Some structure
+    named : place_of s.library structure.name ≡ Some place
+    below : IsReachable s.library s.top structure.name
+
+  found : (i : ℕ) → i < length order → Found (get_or order i 0)
+  found i h =
+      let way = named_way s.library (o.found i 0 h) s.top e in
+      let f = found_at s.library way.0 (get_or order i 0) way.1 in
+      record {
+        structure = f.0;
+        is = f.1;
+        named = subst (λ name. place_of s.library name ≡ Some (get_or order i 0)) (sym f.2) way.1;
+        below = subst (λ name. IsReachable s.library s.top name) (sym f.2) way.2;
+      }
+
+  pub order_place : (i : ℕ) → i < length order → IsPlace s.library (get_or order i 0)
+  order_place i h = let f = found i h in record { structure = f.structure; is = f.is; named = f.named }
+
+  pub order_far : (i : ℕ) → i < length order → IsFarHere ss s (get_or order i 0) → IsFar ss s
+  order_far i h far =
+      let f = found i h in
+      let both : Some f.structure ≡ Some far.structure = sym f.is ∙ far.is in
+      let same : f.structure ≡ far.structure = cc in
+      record {
+        structure = far.structure.name;
+        place = get_or order i 0;
+        inside = subst (λ (t : Structure). place_of s.library t.name ≡ Some (get_or order i 0)) same f.named;
+        below = subst (λ (t : Structure). IsReachable s.library s.top t.name) same f.below;
+        box = far.box;
+        extent = far.extent;
+        far = far.far;
+      }
+
+  pub order_ready : (i : ℕ) → i < length order → (numbers : List (Option ℕ)) → AreNumbered numbers (take i order) → IsReady ss s numbers (get_or order i 0)
+  order_ready i h numbers known structure is name c = go (place_of s.library name) refl
+    where
+      go : (a : Option ℕ) → place_of s.library name ≡ a → IsKnown ss s numbers name
+      go (Some q) named =
+          let edge : Contains (targets (graph_of s.library) (get_or order i 0)) q = subst (λ ps. Contains ps q) (sym (targets_at s.library (get_or order i 0) structure is)) (among_places s.library (names_of structure.elements) name q c named) in
+          let k = known q (o.below i q h edge) in
+          own (record { place = q; named = named; number = k.0; at = k.1 })
+      go None none =
+          let f = found i h in
+          let both : Some f.structure ≡ Some structure = sym f.is ∙ is in
+          let same : f.structure ≡ structure = cc in
+          let named : place_of s.library structure.name ≡ Some (get_or order i 0) = subst (λ (t : Structure). place_of s.library t.name ≡ Some (get_or order i 0)) same f.named in
+          let way : IsReachable s.library s.top structure.name = subst (λ (t : Structure). IsReachable s.library s.top t.name) same f.below in
+          let shown : IsOutside s.library s.top name = record { below = reach_more way (refers_to s.library structure.name name (get_or order i 0) structure named is ∙ c); missing = ap (structure_at s.library) none } in
+          let n = bound_name ss b.names s.bound name b.bound ((b.outside name).1 shown) in
+          outer n.0 (record { outside = none; bound = n.1; earlier = n.2 })
+
+  -- the places upto the top are all that it reaches
+  pub order_whole : (i : ℕ) → i < length order → get_or order i 0 ≡ top → (numbers : List (Option ℕ)) → AreNumbered numbers (take (i + 1) order) → (name : List ℕ) (place : ℕ) → IsReachable s.library s.top name → place_of s.library name ≡ Some place → (k : ℕ) × (number_at numbers place ≡ Some k)
+  order_whole i h is numbers known name place way named =
+      let le : i + 1 ≤ length order = omega (arith, h) in
+      let lt : i < i + 1 = omega arith in
+      let first : i < length (take (i + 1) order) = omega (arith, length-take (i + 1) order, h) in
+      let top_in : Contains (take (i + 1) order) top = among (take (i + 1) order) i top first (get_or-take (i + 1) order i 0 lt ∙ is) in
+      known place (kept_below s.library (λ p. Contains (take (i + 1) order) p) (front_closed (graph_of s.library) top order o (i + 1) le) way top place e named top_in)

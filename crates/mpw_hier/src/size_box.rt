@@ -1,0 +1,53 @@
+//! Least boxes that hold others. Nothing here takes memory.
+
+ghost use Rattle.std.specs.Prelude.{◌≡◌};
+ghost use Rattle.mpw_hier.specs.Boxes.{joined, hull, has_area, is_near, is_box_near};
+
+use mpw_geom::Box2;
+
+/// How far from 0 a coordinate of an extent may lie, in nm.
+const REACH: i64 = 1 << 30;
+
+/// The least box that holds two.
+pub fn joined(a: Box2, b: Box2) -> Box2
+    ensures { result ≡ joined a b }
+{
+    Box2 {
+        x0: a.x0.min(b.x0),
+        y0: a.y0.min(b.y0),
+        x1: a.x1.max(b.x1),
+        y1: a.y1.max(b.y1),
+    }
+}
+
+/// The least box that holds two, where there are such.
+pub fn hull(a: Option<Box2>, b: Option<Box2>) -> Option<Box2>
+    ensures { result ≡ hull a b }
+{
+    match (a, b) {
+        (None, b) => b,
+        (a, None) => a,
+        (Some(a), Some(b)) => Some(joined(a, b)),
+    }
+}
+
+/// Whether the box has a unit square.
+pub fn has_area(b: Box2) -> bool
+    ensures { result ≡ has_area b }
+{
+    b.x0 < b.x1 && b.y0 < b.y1
+}
+
+fn is_near(z: i64) -> bool
+    ensures { result ≡ is_near z }
+{
+    -REACH <= z && z <= REACH
+}
+
+/// Whether both corners lie from -2^30 to 2^30 nm.
+#[tactic(auto, unfolding(crate::specs::Boxes::is_box_near))]
+pub fn is_box_near(b: Box2) -> bool
+    ensures { result ≡ is_box_near b }
+{
+    is_near(b.x0) & is_near(b.y0) & is_near(b.x1) & is_near(b.y1)
+}
