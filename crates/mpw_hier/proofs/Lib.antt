@@ -5,5 +5,13 @@ pub mod Shown
 pub mod References
 pub mod Bound
 pub mod Hulls
+pub mod Arrays
+pub mod Extents
+pub mod ShownSizes
+pub mod Placings
+pub mod Sizing
+pub mod Told
+pub mod Nearness
+pub mod Reaching
 pub mod ElementBoxes
 pub mod Examples

@@ -17,6 +17,7 @@ mod outside;
 mod shelf;
 mod shelved;
 mod size;
+mod size_array;
 mod size_box;
 mod size_shape;
 mod submission;

@@ -1,6 +1,29 @@
 //! What a structure shows, from what the targets of its references show.
+//!
+//! Each element has a size, and sizes are added up. A count or a height beyond its limit stays the one
+//! behind the limit, whatever is added.
 
+ghost use Rattle.std.specs.Prelude.{◌≡◌, ◌+◌, ◌*◌, ◌^◌, ◌≤◌, ℕ, min, List, [], ◌∷◌, All, IfSome, IfNone, length};
+ghost use Rattle.std.specs.List.{AllZip};
+ghost use Rattle.mpw_elements.specs.Element.{IsElement, IsReference};
+ghost use Rattle.mpw_hier.specs.Structures.{references, names_of};
+ghost use Rattle.mpw_hier.specs.Items.{Item, shown_items};
+ghost use Rattle.mpw_hier.specs.Values.{shown_height};
+ghost use Rattle.mpw_hier.specs.Boxes.{element_box, extent_of};
+ghost use Rattle.mpw_hier.specs.Sizes.{Total, IsNear, IsFar, IsToldBy, AreToldBy, total_of, nothing, together, array_extent, shape_total, array_total, part_total, behind};
+
+use crate::size_array::array_box;
+use crate::size_box::{hull, is_box_near};
+use crate::size_shape::element_box;
+use mpw_elements::{Element, Reference};
 use mpw_geom::Box2;
+use mpw_library::Structure;
+
+/// The count that stands for all beyond the limit of 2^20.
+const MANY: u32 = (1 << 20) + 1;
+
+/// The height that stands for all beyond the limit of 64.
+const DEEP: u32 = 65;
 
 /// What a structure shows, up to the limits.
 #[derive(Clone, Copy, Debug)]
@@ -11,4 +34,120 @@ pub struct Size {
     pub height: u32,
     /// The least box of all shapes' boxes, in nm; none without any.
     pub extent: Option<Box2>,
+}
+
+impl Size {
+    /// The size of a structure without elements.
+    fn nothing() -> Size
+        ensures { IsToldBy nothing result }
+    {
+        Size {
+            count: 0,
+            height: 1,
+            extent: None,
+        }
+    }
+
+    /// The size of both together.
+    fn plus(self, other: Size) -> Size
+        ensures { (a b : Total) → IsToldBy a self → IsToldBy b other → IsToldBy (together a b) result }
+    {
+        Size {
+            count: self.count.saturating_add(other.count).min(MANY),
+            height: self.height.max(other.height),
+            extent: hull(self.extent, other.extent),
+        }
+    }
+}
+
+/// The size of a shape; none where it reaches beyond 2^30 nm.
+fn shape_size(element: &Element) -> Option<Size>
+    requires { IsElement element.now }
+    ensures size { IfSome result (IsToldBy (shape_total element.now)) }
+    ensures far { IfNone result (IsFar (element_box element.now)) }
+{
+    let extent = element_box(element);
+    if let Some(b) = extent {
+        if !is_box_near(b) {
+            return None;
+        }
+    }
+    Some(Size {
+        count: 1,
+        height: 1,
+        extent,
+    })
+}
+
+/// As many shapes for each instance, up to the limit.
+fn array_count(reference: &Reference, count: u32) -> u32
+    ensures { result ≡ min (2 ^ 20 + 1) (reference.now.columns * reference.now.rows * count) }
+{
+    let instances = u64::from(reference.columns) * u64::from(reference.rows);
+    let all = instances * u64::from(count);
+    all.min(u64::from(MANY)) as u32
+}
+
+/// The size of all instances of a target; none where they reach beyond 2^30 nm.
+fn array_size(reference: &Reference, target: Size) -> Option<Size>
+    requires reference { IsReference reference.now }
+    requires near { IsNear target.extent }
+    ensures size { (t : Total) → IsToldBy t target → IfSome result (IsToldBy (array_total reference.now t)) }
+    ensures far { IfNone result (IsFar (array_extent reference.now target.extent)) }
+{
+    let mut extent = None;
+    if let Some(b) = target.extent {
+        extent = Some(array_box(reference, b)?);
+    }
+    Some(Size {
+        count: array_count(reference, target.count),
+        height: target.height.min(DEEP - 1) + 1,
+        extent,
+    })
+}
+
+/// The size of an element, where the first of `left` is that of its target, if it is a reference; none
+/// where it reaches beyond 2^30 nm.
+fn part_size(element: &Element, left: &[Size]) -> Option<Size>
+    requires element { IsElement element.now }
+    requires targets { length (references (element.now ∷ [])) ≤ length left.now }
+    requires near { All (λ size. IsNear size.extent) left.now }
+    ensures size { (ts : List Total) → AllZip IsToldBy ts left.now → IfSome result (IsToldBy (part_total element.now ts)) }
+    ensures far { (ts : List Total) → AllZip IsToldBy ts left.now → IfNone result (IsFar (part_total element.now ts).extent) }
+{
+    match element {
+        Element::Reference(reference) => array_size(reference, left[0]),
+        _ => shape_size(element),
+    }
+}
+
+/// The sizes behind that of the element's target, if it is a reference.
+fn behind<'a>(element: &Element, left: &'a [Size]) -> &'a [Size]
+    requires { length (references (element.now ∷ [])) ≤ length left.now }
+    ensures { result.now ≡ behind element.now left.now }
+{
+    match element {
+        Element::Reference(_) => &left[1..],
+        _ => left,
+    }
+}
+
+/// What a structure shows, where `below` has the size of each reference's target, in file order; none
+/// where its extent reaches beyond 2^30 nm.
+///
+/// Takes time by the number of points and references, and no memory.
+pub fn size_of(structure: &Structure, below: &[Size]) -> Option<Size>
+    requires elements { All IsElement structure.now.elements }
+    requires targets { length below.now ≡ length (references structure.now.elements) }
+    requires near { All (λ size. IsNear size.extent) below.now }
+    ensures size { (number : ℕ) (items : List ℕ → List Item) (heights : List ℕ → ℕ) → AreToldBy items heights (names_of structure.now.elements) below.now → IfSome result (IsToldBy (total_of (shown_items number structure.now items) (shown_height structure.now heights))) }
+    ensures far { (number : ℕ) (items : List ℕ → List Item) (heights : List ℕ → ℕ) → AreToldBy items heights (names_of structure.now.elements) below.now → IfNone result (IsFar (extent_of (shown_items number structure.now items))) }
+{
+    let mut size = Size::nothing();
+    let mut left = below;
+    for element in structure.elements.as_slice() {
+        size = size.plus(part_size(element, left)?);
+        left = behind(element, left);
+    }
+    Some(size)
 }
