@@ -6,6 +6,9 @@ pub mod References
 pub mod Bound
 pub mod Hulls
 pub mod Arrays
+pub mod Extents
+pub mod ShownSizes
+pub mod Placings
 pub mod Sizing
 pub mod Told
 pub mod Nearness

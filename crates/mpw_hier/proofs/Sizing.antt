@@ -1,17 +1,14 @@
 -- The size of elements, one by one.
-use Rattle.std.proofs.Common.{◌≡◌, ℕ, zero, suc, ◌+◌, ◌*◌, ◌<◌, ◌≤◌, max, List, [], ◌∷◌, length, get_or, drop, Option, Some, None, All, refl, ap, sym, subst, ◌∙◌, arith}
+use Rattle.std.proofs.Common.{◌≡◌, ℕ, ◌+◌, ◌<◌, ◌≤◌, List, [], ◌∷◌, length, get_or, drop, None, All, refl, ap, sym, subst, ◌∙◌, arith}
 use Rattle.std.specs.List.{AllZip}
 use Rattle.std.proofs.lemmas.List.{at_drop_more, at_drop_all}
 use Rattle.std.proofs.lemmas.List.Elements.{All-drop}
-use Rattle.mpw_geom.specs.declared.plane.Box2.{Box2}
-use Rattle.mpw_geom.specs.Plane.{IsOrdered}
 use Rattle.mpw_elements.specs.declared.element.Element.{Element}
 use Rattle.mpw_elements.specs.declared.element.Element.TheVariants as elements
 use Rattle.mpw_hier.specs.declared.size.Size.{Size}
 use Rattle.mpw_hier.specs.Structures.{references}
-use Rattle.mpw_hier.specs.Boxes.{hull, is_box_near}
-use Rattle.mpw_hier.specs.Sizes.{Total, IsNear, IsFar, IsToldBy, nothing, together, part_total, behind}
-use Rattle.mpw_hier.proofs.Hulls.{hull_assoc, hull_swap, hull_none}
+use Rattle.mpw_hier.specs.Sizes.{Total, IsNear, IsToldBy, nothing, together, part_total, behind}
+use Rattle.mpw_hier.proofs.Hulls.{hull_assoc, hull_none}
 
 -- no shapes and no levels
 abbrev pub blank : Total
@@ -35,7 +32,7 @@ pub record IsSizedTo (es : List Element) (below : List Size) (i : ℕ) (left : L
   pub near : All (λ (s : Size). IsNear s.extent) left
   pub sum : (ts : List Total) → AllZip IsToldBy ts below → IsSumTo es ts i left size
 
-same_total : (a b : Total) → a.count ≡ b.count → a.levels ≡ b.levels → a.extent ≡ b.extent → a ≡ b
+pub same_total : (a b : Total) → a.count ≡ b.count → a.levels ≡ b.levels → a.extent ≡ b.extent → a ≡ b
 same_total a b p q r =
     let k : ◌≡◌ {A = Total} (record { count = a.count; levels = a.levels; extent = a.extent }) (record { count = b.count; levels = b.levels; extent = b.extent }) = cc in k
 
@@ -83,7 +80,7 @@ behind_zip (elements.Reference r) (t ∷ ts) [] h = absurd h
 behind_zip (elements.Reference r) (t ∷ ts) (x ∷ xs) h = h.1
 
 -- one element more
-total_on : (es : List Element) (i : ℕ) (e : Element) (ts : List Total) → i < length es → e ≡ get_or es i e → all_total (drop i es) ts ≡ together (part_total e ts) (all_total (drop (i + 1) es) (behind e ts))
+pub total_on : (es : List Element) (i : ℕ) (e : Element) (ts : List Total) → i < length es → e ≡ get_or es i e → all_total (drop i es) ts ≡ together (part_total e ts) (all_total (drop (i + 1) es) (behind e ts))
 unfolding all_total
 total_on es i e ts h is =
     at_drop_more (λ l. all_total l ts) es i e h ∙ ap (λ d. together (part_total d ts) (all_total (drop (i + 1) es) (behind d ts))) (sym is)

@@ -1,5 +1,5 @@
 -- The size of what a structure shows: how many shapes, how many levels, and the least box, up to the limits.
-use Rattle.std.specs.Prelude.{◌≡◌, ◌+◌, ◌*◌, ◌^◌, ℕ, suc, ℤ, pos, neg_ℤ, ◌≤ℤ◌, min, max, Bool, true, false, IsTrue, List, [], ◌∷◌, drop, length, map, filter, Option, Some, None, IfSome}
+use Rattle.std.specs.Prelude.{◌≡◌, ◌+◌, ◌*◌, ◌^◌, ℕ, suc, ℤ, pos, neg_ℤ, ◌≤ℤ◌, min, max, true, false, List, [], ◌∷◌, drop, length, map, filter, Option, Some, None, IfSome}
 use Rattle.std.specs.List.{AllZip}
 use Rattle.mpw_geom.specs.declared.plane.Box2.{Box2}
 use Rattle.mpw_geom.specs.declared.plane.Point.{Point}

@@ -1,7 +1,6 @@
-use Rattle.std.proofs.Common.{◌+ℤ◌, w64, SFits, rules, ap, sym, subst, arith}
-use Rattle.std.specs.Int.{w128}
+use Rattle.std.proofs.Common.{rules, arith}
 use Rattle.std.proofs.lemmas.Int.{ints}
-use Rattle.mpw_hier.proofs.Reaching.{sum_is, fits_sum}
+use Rattle.mpw_hier.proofs.Reaching.{sum_is}
 use Rattle.mpw_hier.proofs.size_array.corners.Goals as goal
 
 pub returns-clause-x0 : goal.returns-clause-x0
