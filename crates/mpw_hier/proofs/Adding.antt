@@ -58,7 +58,7 @@ sizes_each ss s es sizes h = zip_length (IsSizeHere ss s) (names_of es) sizes h 
 pub sizes_near : (ss : List Submission) (s : Submission) (es : List Element) (sizes : List Size) → AreSizesHere ss s es sizes → All (λ size. IsNear size.extent) sizes
 sizes_near ss s es sizes h = zip_right (IsSizeHere ss s) (λ size. IsNear size.extent) (λ name size w. w.near) (names_of es) sizes h
 
-last_get : {X : Type 0} (xs : List X) (x : X) → slice_get (xs ++ x ∷ []) (length xs) ≡ Some x
+pub last_get : {X : Type 0} (xs : List X) (x : X) → slice_get (xs ++ x ∷ []) (length xs) ≡ Some x
 last_get xs x =
     let here : length xs < length (xs ++ x ∷ []) = omega (arith, length-append xs (x ∷ [])) in
     slice_get-get_or (xs ++ x ∷ []) (length xs) x here ∙ ap (λ y. Some y) (get_or-append_seam xs x [] x)

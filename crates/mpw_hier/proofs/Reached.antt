@@ -1,19 +1,28 @@
 -- The places that a submission's top reaches, from below, and the nodes that are made in that order.
-use Rattle.std.proofs.Common.{◌≡◌, ℕ, zero, suc, ◌+◌, ◌<◌, ◌≤◌, true, false, List, [], ◌∷◌, length, get_or, take, All, Contains, Option, Some, None, refl, sym, ap, subst, ◌∙◌, arith, length-take, get_or-take}
+use Rattle.std.proofs.Common.{◌≡◌, ℕ, zero, suc, ◌+◌, ◌-◌, ◌<◌, ◌≤◌, inl, inr, true, false, List, [], ◌∷◌, length, get_or, set, take, All, Contains, Option, Some, None, Result, Ok, Err, Vec, Global, refl, sym, ap, subst, ◌∙◌, arith, length-take, get_or-take, get_or-set_other}
 use Rattle.std.specs.Prelude.{slice_get}
-use Rattle.std.proofs.lemmas.List.{length-append}
+use Rattle.std.specs.Result.{IsErrAnd}
+use Rattle.std.specs.BTreeMap.{BTreeMap}
+use Rattle.std.proofs.lemmas.Bool.Decides.{eqb_tells}
+use Rattle.std.proofs.lemmas.Grind.{get_or-set_at}
+use Rattle.std.proofs.lemmas.List.{length-append, take_more}
+use Rattle.std.proofs.lemmas.List.Elements.{Contains-append_cases}
 use Rattle.mpw_geom.specs.Names.{contains_name}
 use Rattle.mpw_library.specs.declared.structures.Structure.{Structure}
 use Rattle.mpw_library.specs.Places.{place_of}
+use Rattle.mpw_hier.specs.declared.fault.HierFault.{HierFault}
+use Rattle.mpw_hier.specs.declared.fault.HierFault.TheVariants as faults
+use Rattle.mpw_hier.specs.declared.node.Node.{Node}
 use Rattle.mpw_hier.specs.declared.submission.Submission.{Submission}
 use Rattle.mpw_hier.specs.Structures.{names_of, structure_at, refers, IsReachable, itself, chain, IsOutside}
 use Rattle.mpw_hier.specs.Outside.{places_of, graph_of}
 use Rattle.mpw_hier.specs.Graph.{targets, Leads, IsFromBelow}
 use Rattle.mpw_hier.specs.Limits.{IsFar, IsBound}
-use Rattle.mpw_hier.specs.Building.{number_at, IsKnown, own, outer, IsPlace, IsReady, IsFarHere}
-use Rattle.mpw_hier.proofs.Leading.{among}
-use Rattle.mpw_hier.proofs.Linking.{found_at, among_places, targets_at, refers_to, named_way, kept_below, front_closed}
+use Rattle.mpw_hier.specs.Building.{number_at, AreLinked, IsKnown, own, outer, IsPlace, IsReady, IsOneMore, IsFarHere, IsHierarchy}
+use Rattle.mpw_hier.proofs.Leading.{among, place_among}
+use Rattle.mpw_hier.proofs.Linking.{alone, found_at, graph_length, among_places, targets_at, refers_to, named_way, kept_below, front_closed}
 use Rattle.mpw_hier.proofs.Bound.{bound_name}
+use Rattle.mpw_hier.proofs.Adding.{last_get}
 
 reach_more : {library : List Structure} {a b c : List ℕ} → IsReachable library a b → refers library b c ≡ true → IsReachable library a c
 reach_more itself r = chain r itself
@@ -85,3 +94,55 @@ module _ (ss : List Submission) (s : Submission) (b : IsBound ss s) (top : ℕ) 
       let first : i < length (take (i + 1) order) = omega (arith, length-take (i + 1) order, h) in
       let top_in : Contains (take (i + 1) order) top = among (take (i + 1) order) i top first (get_or-take (i + 1) order i 0 lt ∙ is) in
       known place (kept_below s.library (λ p. Contains (take (i + 1) order) p) (front_closed (graph_of s.library) top order o (i + 1) le) way top place e named top_in)
+
+  pub order_few : (i n : ℕ) → n ≡ i → i < length order → n < length s.library
+  order_few i n same h = omega (arith, same, h, o.few, graph_length s.library)
+
+-- one place more is known
+pub numbered_one : (numbers : List (Option ℕ)) (order : List ℕ) (i n : ℕ) → i < length order → get_or order i 0 < length numbers → AreNumbered numbers (take i order) → AreNumbered (set numbers (get_or order i 0) (Some n)) (take (i + 1) order)
+numbered_one numbers order i n h within known p c = elim (eqb_tells p (get_or order i 0)) [
+  | inl q ↦ (n, get_or-set_at numbers (get_or order i 0) p (Some n) None q.1 within)
+  | inr q ↦
+      let old = known p (elim (Contains-append_cases (take i order) (get_or order i 0 ∷ []) p (subst (λ xs. Contains xs p) (take_more order i 0 h) c)) [
+        | inl d ↦ d
+        | inr d ↦ absurd (q.1 (sym (alone (get_or order i 0) p d)))
+      ]) in
+      (old.0, get_or-set_other numbers (get_or order i 0) p (Some n) None q.1 ∙ old.1)
+]
+
+pub none_numbered : (numbers : List (Option ℕ)) → AreNumbered numbers []
+none_numbered numbers p c = absurd (omega (arith, c.1))
+
+-- none of the places so far is the top
+pub not_yet : (order : List ℕ) (top i : ℕ) → ((k : ℕ) → k < i → get_or order k 0 ≡ top → ⊥) → (get_or order i 0 ≡ top → ⊥) → (k : ℕ) → k < i + 1 → get_or order k 0 ≡ top → ⊥
+not_yet order top i before here k lt is = elim (eqb_tells k i) [
+  | inl q ↦ here (ap (λ n. get_or order n 0) (sym q.1) ∙ is)
+  | inr q ↦ before k (omega (arith, lt, q.1)) is
+]
+
+-- the top is among them
+pub not_at_all : (order : List ℕ) (top i : ℕ) → Contains order top → length order ≤ i → ((k : ℕ) → k < i → get_or order k 0 ≡ top → ⊥) → ⊥
+not_at_all order top i c le before = let at = place_among order top c in before at.0 (omega (arith, at.1, le)) at.2
+
+module _ (ss : List Submission) (s : Submission) (b : IsBound ss s) (top : ℕ) (e : place_of s.library s.top ≡ Some top) (order : List ℕ) (o : IsFromBelow (graph_of s.library) top order) where
+  pub whole : (table : BTreeMap (List ℕ) ℕ) (numbers : List (Option ℕ)) (before after : List Node) (i : ℕ) → i < length order → get_or order i 0 ≡ top → AreLinked ss s table numbers after → IsOneMore (get_or order i 0) before after → AreNumbered numbers (take (i + 1) order) → IsHierarchy ss s after
+  whole table numbers before after i h is w one known =
+      let long : length after ≡ length before + 1 = ap length one.added ∙ length-append before (one.node ∷ []) in
+      let last : length after - 1 ≡ length before = omega (arith, long) in
+      let at : slice_get after (length before) ≡ Some one.node = ap (λ xs. slice_get xs (length before)) one.added ∙ last_get before one.node in
+      record {
+        each = w.each;
+        few = w.few;
+        some = omega (arith, long);
+        top = one.node;
+        last = subst (λ k. slice_get after k ≡ Some one.node) (sym last) at;
+        top_named = e ∙ ap (λ p. Some p) (sym (one.at ∙ is));
+        whole = λ name place way named.
+            let k = order_whole ss s b top e order o i h is numbers known name place way named in
+            let r = w.numbered place k.0 k.1 in
+            (k.0, r.0, r.1, r.2);
+      }
+
+-- the fault that is handed on
+pub extent_given : (result : Result (Vec Node Global) HierFault) (fault : HierFault) → result ≡ Err faults.Extent → IsErrAnd result (λ e. e ≡ fault) → fault ≡ faults.Extent
+extent_given result fault is given = sym (subst {A = Result (Vec Node Global) HierFault} (λ r. IsErrAnd r (λ e. e ≡ fault)) is given)

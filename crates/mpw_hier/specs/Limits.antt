@@ -59,3 +59,21 @@ IsOfNodes faults.NoCell = ⊥
 IsOfNodes faults.Shapes = ⊥
 IsOfNodes faults.Deep = ⊥
 IsOfNodes faults.Full = ⊥
+
+-- All limits are kept.
+pub record KeepsLimits (ss : List Submission) (s : Submission) : Type 0 where
+  pub near : IsFar ss s → ⊥
+  pub small : is_too_large ss s ≡ false
+  pub low : is_too_deep ss s ≡ false
+  pub room : has_room_for ss s.cell ≡ true
+
+-- Why a submission that is bound is refused: the first limit that it doesn't keep, or want of memory.
+abbrev pub IsRefused : List Submission → Submission → HierFault → Type 0
+IsRefused ss s faults.Memory = Unit {0}
+IsRefused ss s faults.Extent = IsFar ss s
+IsRefused ss s faults.Shapes = (IsFar ss s → ⊥) × (is_too_large ss s ≡ true)
+IsRefused ss s faults.Deep = (IsFar ss s → ⊥) × ((is_too_large ss s ≡ false) × (is_too_deep ss s ≡ true))
+IsRefused ss s faults.Full = (IsFar ss s → ⊥) × ((is_too_large ss s ≡ false) × ((is_too_deep ss s ≡ false) × (has_room_for ss s.cell ≡ false)))
+IsRefused ss s faults.NoTop = ⊥
+IsRefused ss s faults.Cycle = ⊥
+IsRefused ss s faults.NoCell = ⊥

@@ -19,7 +19,7 @@ use crate::node::{Child, Node, Target};
 use crate::order::order_from_below;
 use crate::outside::graph_of;
 use crate::shelf::Shelf;
-use crate::size::{size_of, Size};
+use crate::size::{Size, size_of};
 use crate::submission::Submission;
 use mpw_elements::Element;
 use mpw_geom::Name;

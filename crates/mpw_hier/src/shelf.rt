@@ -1,8 +1,9 @@
 //! The shelf of submissions.
 
-ghost use Rattle.std.specs.Prelude.{◌≡◌, ◌+◌, ◌<◌, ◌≤◌, ◌^◌, ◌++◌, true, ◌∷◌, ℕ, [], length, Err, OnOk, OnErr, IfOk, IfSome, IfNone, Some, None, option_copied, slice_get};
+ghost use Rattle.std.specs.Prelude.{◌≡◌, ◌+◌, ◌<◌, ◌≤◌, ◌^◌, ◌++◌, true, ◌∷◌, ℕ, [], length, Err, OnOk, OnErr, IfOk, IfErr, IfSome, IfNone, Some, None, option_copied, slice_get};
 ghost use Rattle.mpw_hier.specs.Shelf.{present, versions, bound_to};
-ghost use Rattle.mpw_hier.specs.Limits.{has_room_for};
+ghost use Rattle.mpw_hier.specs.Limits.{IsBound, KeepsLimits, IsRefused, numbered, has_room_for};
+ghost use Rattle.mpw_library.specs.Library.{IsLibrary};
 ghost use Rattle.mpw_hier.specs.Nodes.{AreNodes, AreNodesOf};
 ghost use Rattle.mpw_hier.specs.Sizes.{IsSizeOf};
 ghost use Rattle.mpw_hier.specs.Boxes.{is_box_near};
@@ -10,6 +11,7 @@ ghost use Rattle.mpw_hier.specs.Values.{flat, flats, count, height, heights, ext
 
 use crate::bindings::{Binding, Bindings};
 use crate::fault::HierFault;
+use crate::hierarchy::nodes_of;
 use crate::node::{Node, Nodes};
 use crate::size::Size;
 use crate::submission::Submission;
@@ -17,6 +19,12 @@ use mpw_geom::{Box2, Name};
 use std::alloc::{AllocError, Global};
 use std::collections::BTreeMap;
 use std::marker::Model;
+
+/// The most flat shapes of a submission.
+const MOST_SHAPES: u32 = 1 << 20;
+
+/// The most levels of a submission.
+const MOST_LEVELS: u32 = 64;
 
 /// The most submissions.
 const MOST_SUBMISSIONS: usize = 4096;
@@ -179,5 +187,40 @@ impl Shelf {
         self.submissions.push(submission)?;
         self.nodes.push(nodes)?;
         Ok(number)
+    }
+
+    /// Puts a submission on the shelf, with the next version of its cell. The result is its number.
+    ///
+    /// Linear in the library, with a search for each name, however deep its structures are.
+    ///
+    /// # Errors
+    /// In this order: `Extent` where a structure that the top reaches has an extent beyond -2^30 to
+    /// 2^30 nm in its own coordinates, `Shapes` above 2^20 flat shapes, `Deep` above 64 levels, `Full`
+    /// where there are 4096 submissions, or 1024 cells and this would be another; or want of memory.
+    /// The shelf is then as before.
+    pub fn push(&mut self, alloc: Global, submission: Submission) -> Result<u32, HierFault>
+        requires library { IsLibrary submission.library }
+        requires bound { IsBound self.old submission }
+        ensures ok { OnOk result (self.new ≡ self.old ++ numbered self.old submission ∷ []) }
+        ensures number { IfOk result (λ number. number ≡ length self.old) }
+        ensures kept { OnOk result (KeepsLimits self.old submission) }
+        ensures err { OnErr result (self.new ≡ self.old) }
+        ensures faults { IfErr result (IsRefused self.old submission) }
+    {
+        let mut submission = submission;
+        submission.version = self.next_version(&submission.cell);
+        let nodes = nodes_of(alloc, self, &submission)?;
+        let size = nodes[nodes.len() - 1].size;
+        if size.count > MOST_SHAPES {
+            return Err(HierFault::Shapes);
+        }
+        if size.height > MOST_LEVELS {
+            return Err(HierFault::Deep);
+        }
+        if !self.has_room(&submission.cell) {
+            return Err(HierFault::Full);
+        }
+        let nodes = Nodes::from_vec(alloc, nodes)?;
+        Ok(self.append(submission, nodes)?)
     }
 }

@@ -7,5 +7,5 @@ use Rattle.mpw_hier.proofs.hierarchy.nodes_upto.Given as goal
 abbrev pub invariant-loop-place : goal.invariant-loop-place
 invariant-loop-place l =
     AreLinked l.fn.hierarchy.shelf.now l.fn.hierarchy.submission.now l.made.bound l.made.numbers.items l.made.nodes.items
-        × (((l.made.shelf.now ≡ l.fn.hierarchy.shelf.now) × (l.made.submission.now ≡ l.fn.hierarchy.submission.now))
-        × ((length l.made.nodes.items ≡ l.place-index) × (AreNumbered l.made.numbers.items (take l.place-index l.order) × ((k : ℕ) → k < l.place-index → get_or l.order k 0 ≡ l.top → ⊥))))
+    × (((l.made.shelf.now ≡ l.fn.hierarchy.shelf.now) × (l.made.submission.now ≡ l.fn.hierarchy.submission.now))
+    × ((length l.made.nodes.items ≡ l.place-index) × (AreNumbered l.made.numbers.items (take l.place-index l.order) × ((k : ℕ) → k < l.place-index → get_or l.order k 0 ≡ l.top → ⊥))))
