@@ -24,3 +24,4 @@ pub mod Parts
 pub mod Versions
 pub mod Adding
 pub mod Reached
+pub mod Pushing

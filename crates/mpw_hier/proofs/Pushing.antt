@@ -1,0 +1,98 @@
+-- What the nodes of a submission tell of its limits.
+use Rattle.std.proofs.Common.{◌≡◌, ℕ, ◌+◌, ◌-◌, ◌<◌, ◌≤◌, ◌^◌, min, true, false, List, length, get_or, take, Option, Some, Result, Ok, Err, refl, sym, ap, subst, ◌∙◌, arith}
+use Rattle.std.specs.Prelude.{slice_get, nat_lt, IfSome}
+use Rattle.std.specs.Result.{IfErr, IsErrAnd}
+use Rattle.std.proofs.lemmas.Bool.{lt-ltb, le-ltb}
+use Rattle.std.proofs.lemmas.Option.{slice_get_read}
+use Rattle.mpw_geom.specs.declared.plane.Box2.{Box2}
+use Rattle.mpw_library.specs.Library.{IsLibrary}
+use Rattle.mpw_library.specs.Places.{place_of}
+use Rattle.mpw_hier.specs.declared.fault.HierFault.{HierFault}
+use Rattle.mpw_hier.specs.declared.fault.HierFault.TheVariants as faults
+use Rattle.mpw_hier.specs.declared.node.Node.{Node}
+use Rattle.mpw_hier.specs.declared.submission.Submission.{Submission}
+use Rattle.mpw_hier.specs.Boxes.{extent_of, is_box_near}
+use Rattle.mpw_hier.specs.Building.{IsHierarchy}
+use Rattle.mpw_hier.specs.Limits.{IsFar, IsOfNodes, IsRefused}
+use Rattle.mpw_hier.specs.Nodes.{AreNodesOf, structure_levels}
+use Rattle.mpw_hier.specs.Sizes.{IsSizeOf}
+use Rattle.mpw_hier.specs.Values.{structure_items, flat_of, flats, height_of, heights}
+use Rattle.mpw_hier.proofs.Tops.{same_place}
+
+-- the version says nothing of how far a submission reaches
+pub far_as : (ss : List Submission) (s : Submission) (version : ℕ) → IsFar ss (record s { version = version }) → IsFar ss s
+far_as ss s version h = record { structure = h.structure; place = h.place; inside = h.inside; below = h.below; box = h.box; extent = h.extent; far = h.far }
+
+pub far_of : (ss : List Submission) (s : Submission) (version : ℕ) → IsFar ss s → IsFar ss (record s { version = version })
+far_of ss s version h = record { structure = h.structure; place = h.place; inside = h.inside; below = h.below; box = h.box; extent = h.extent; far = h.far }
+
+module _ (ss : List Submission) (s : Submission) (nodes : List Node) (w : IsHierarchy ss s nodes) where
+  -- the size of the last node is that of the submission
+  pub last_size : (top : Node) → slice_get nodes (length nodes - 1) ≡ Some top → IsSizeOf (flat_of (flats ss) s) (height_of (heights ss) s) top.size
+  last_size top is =
+      let both : Some w.top ≡ Some top = sym w.last ∙ is in
+      let same : w.top ≡ top = cc in
+      let here = w.each (length nodes - 1) top is in
+      let named : place_of s.library s.top ≡ Some top.structure = w.top_named ∙ ap (λ (n : Node). Some n.structure) same in
+      subst (λ name. IsSizeOf (structure_items (flats ss) s name) (structure_levels (heights ss) s name) top.size) (same_place s.library here.structure.name s.top top.structure here.named named) here.size
+
+  pub read_size : (n : ℕ) (top : Node) → n ≡ length nodes → top ≡ get_or nodes (n - 1) top → IsSizeOf (flat_of (flats ss) s) (height_of (heights ss) s) top.size
+  read_size n top e at =
+      let last : n - 1 ≡ length nodes - 1 = omega (arith, e) in
+      let within : length nodes - 1 < length nodes = omega (arith, w.some) in
+      last_size top (slice_get_read nodes (length nodes) (length nodes - 1) top refl within (subst (λ k. top ≡ get_or nodes k top) last at))
+
+  pub not_far : IsFar ss s → ⊥
+  not_far h =
+      let r = w.whole h.structure h.place h.below h.inside in
+      let here = w.each r.0 r.1 r.2 in
+      let named : place_of s.library here.structure.name ≡ Some h.place = here.named ∙ ap (λ p. Some p) r.3 in
+      let same = same_place s.library here.structure.name h.structure h.place named h.inside in
+      let extent = here.size.extent ∙ ap (λ name. extent_of (structure_items (flats ss) s name)) same ∙ h.extent in
+      let near : is_box_near h.box ≡ true = subst (λ o. IfSome o (λ box. is_box_near box ≡ true)) extent here.size.near in
+      absurd (let q = sym near ∙ h.far in cc)
+
+  pub nodes_kept : IsLibrary s.library → length (flat_of (flats ss) s) ≤ 2 ^ 20 → height_of (heights ss) s ≤ 64 → AreNodesOf (flats ss) (heights ss) s nodes
+  nodes_kept library few low = record {
+    library = library;
+    each = w.each;
+    few = w.few;
+    top = w.top;
+    some = w.some;
+    last = w.last;
+    top_named = w.top_named;
+    count = few;
+    height = low;
+  }
+
+-- ---- limits by what is told
+
+pub too_many : (told n : ℕ) → told ≡ min (2 ^ 20 + 1) n → 2 ^ 20 < told → nat_lt (2 ^ 20) n ≡ true
+too_many told n e lt = lt-ltb (2 ^ 20) n (omega (arith, e, lt))
+
+pub few_told : (told n : ℕ) → told ≡ min (2 ^ 20 + 1) n → told ≤ 2 ^ 20 → n ≤ 2 ^ 20
+few_told told n e le = omega (arith, e, le)
+
+pub too_high : (told n : ℕ) → told ≡ min 65 n → 64 < told → nat_lt 64 n ≡ true
+too_high told n e lt = lt-ltb 64 n (omega (arith, e, lt))
+
+pub low_told : (told n : ℕ) → told ≡ min 65 n → told ≤ 64 → n ≤ 64
+low_told told n e le = omega (arith, e, le)
+
+pub not_above : (a n : ℕ) → n ≤ a → nat_lt a n ≡ false
+not_above a n le = le-ltb a n le
+
+-- what the making of nodes refuses
+pub refused_nodes : (ss : List Submission) (s : Submission) (result : Result ℕ HierFault) (fault : HierFault) → IsErrAnd result (λ e. e ≡ fault) → IsOfNodes fault → (fault ≡ faults.Extent → IsFar ss s) → IfErr result (IsRefused ss s)
+refused_nodes ss s (Ok n) fault h of far = absurd h
+refused_nodes ss s (Err e) fault h of far = subst (IsRefused ss s) (sym h) (go fault of far)
+  where
+    go : (f : HierFault) → IsOfNodes f → (f ≡ faults.Extent → IsFar ss s) → IsRefused ss s f
+    go faults.Memory of far = tt
+    go faults.Extent of far = far refl
+    go faults.NoTop of far = absurd of
+    go faults.Cycle of far = absurd of
+    go faults.NoCell of far = absurd of
+    go faults.Shapes of far = absurd of
+    go faults.Deep of far = absurd of
+    go faults.Full of far = absurd of
