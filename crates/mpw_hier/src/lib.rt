@@ -21,6 +21,8 @@ mod size;
 mod size_array;
 mod size_box;
 mod size_shape;
+#[cfg(test)]
+mod size_tests;
 mod submission;
 #[cfg(test)]
 mod tests;
