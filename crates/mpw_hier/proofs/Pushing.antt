@@ -13,7 +13,7 @@ use Rattle.mpw_hier.specs.declared.node.Node.{Node}
 use Rattle.mpw_hier.specs.declared.submission.Submission.{Submission}
 use Rattle.mpw_hier.specs.Boxes.{extent_of, is_box_near}
 use Rattle.mpw_hier.specs.Building.{IsHierarchy}
-use Rattle.mpw_hier.specs.Limits.{IsFar, IsOfNodes, IsRefused}
+use Rattle.mpw_hier.specs.Limits.{IsFar, IsBound, IsOfNodes, IsRefused}
 use Rattle.mpw_hier.specs.Nodes.{AreNodesOf, structure_levels}
 use Rattle.mpw_hier.specs.Sizes.{IsSizeOf}
 use Rattle.mpw_hier.specs.Values.{structure_items, flat_of, flats, height_of, heights}
@@ -25,6 +25,9 @@ far_as ss s version h = record { structure = h.structure; place = h.place; insid
 
 pub far_of : (ss : List Submission) (s : Submission) (version : ℕ) → IsFar ss s → IsFar ss (record s { version = version })
 far_of ss s version h = record { structure = h.structure; place = h.place; inside = h.inside; below = h.below; box = h.box; extent = h.extent; far = h.far }
+
+pub bound_as : (ss : List Submission) (s : Submission) (version : ℕ) → IsBound ss s → IsBound ss (record s { version = version })
+bound_as ss s version b = record { place = b.place; top = b.top; acyclic = b.acyclic; names = b.names; by_name = b.by_name; outside = b.outside; bound = b.bound }
 
 module _ (ss : List Submission) (s : Submission) (nodes : List Node) (w : IsHierarchy ss s nodes) where
   -- the size of the last node is that of the submission

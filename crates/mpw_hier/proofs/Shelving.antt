@@ -1,21 +1,23 @@
 -- One more submission on a shelf.
-use Rattle.std.proofs.Common.{◌≡◌, ℕ, zero, suc, ◌+◌, ◌<◌, ◌≤◌, Bool, true, false, cond, ◌⊎◌, inl, inr, List, [], ◌∷◌, ◌++◌, length, get_or, take, Option, Some, None, refl, sym, ap, subst, ◌∙◌, arith}
-use Rattle.std.specs.Prelude.{slice_get}
+use Rattle.std.proofs.Common.{◌≡◌, ℕ, zero, suc, ◌+◌, ◌<◌, ◌≤◌, Bool, true, false, cond, ◌&&◌, ◌⊎◌, inl, inr, List, [], ◌∷◌, ◌++◌, length, get_or, take, Option, Some, None, refl, sym, ap, subst, ◌∙◌, arith}
+use Rattle.std.specs.Prelude.{slice_get, nat_lt}
 use Rattle.std.specs.BTreeMap as tree
 use Rattle.std.specs.BTreeMap.{BTreeMap}
 use Rattle.std.specs.Cmp.Lexicographic.{texts_ties}
 use Rattle.std.specs.Ordering.{is_eq}
-use Rattle.std.proofs.lemmas.Option.{slice_get_within, slice_get-get_or, get_or_from_slice_get}
-use Rattle.std.proofs.lemmas.List.{length-append, get_or_append_left, take-append-le}
+use Rattle.std.proofs.lemmas.Option.{slice_get_within, slice_get-get_or, slice_get_read, slice_get_cases, get_or_from_slice_get}
+use Rattle.std.proofs.lemmas.List.{length-append, length-take, get_or_append_left, take-append-le}
+use Rattle.std.proofs.lemmas.Bool.{ltb-true}
 use Rattle.std.proofs.lemmas.Bool.Decides.{eqb_tells}
 use Rattle.std.proofs.Math.Seq.{take-append_seam, get_or-append_seam}
 use Rattle.mpw_geom.specs.Names.{name_eq, name_cmp}
 use Rattle.mpw_hier.specs.declared.node.Node.{Node}
 use Rattle.mpw_hier.specs.declared.submission.Submission.{Submission}
-use Rattle.mpw_hier.specs.Shelf.{later, present_from, present, versions}
+use Rattle.mpw_hier.specs.Shelf.{later, present_from, present}
 use Rattle.mpw_hier.specs.Nodes.{AreNodesOf, AreNodes}
 use Rattle.mpw_hier.specs.Values.{flats, heights}
-use Rattle.mpw_hier.specs.Indexed.{IsNumbered, IsShelved}
+use Rattle.mpw_hier.specs.Limits.{IsSubmitted, IsShelf}
+use Rattle.mpw_hier.specs.Indexed.{IsShelved}
 
 -- ---- the last of a list
 
@@ -87,22 +89,42 @@ nodes_last ss s of w =
 
 -- ---- the shelf
 
-pub numbered_more : (ss : List Submission) (s : Submission) → IsNumbered ss → s.version ≡ versions ss s.cell + 1 → IsNumbered (ss ++ s ∷ [])
-numbered_more ss s before version number t is = elim (more_get ss s number t is) [
+pub submitted_more : (ss : List Submission) (s : Submission) → IsShelf ss → IsSubmitted ss s → IsShelf (ss ++ s ∷ [])
+submitted_more ss s before last number t is = elim (more_get ss s number t is) [
   | inl h ↦
       let front : take number (ss ++ s ∷ []) ≡ take number ss = take-append-le number ss (s ∷ []) (omega (arith, h.0)) in
       rw front (before number t h.1)
   | inr h ↦
       let front : take number (ss ++ s ∷ []) ≡ ss = ap (λ k. take k (ss ++ s ∷ [])) h.0 ∙ take-append_seam ss (s ∷ []) in
-      rw (front, h.1) version
+      rw (front, h.1) last
 ]
 
+first_true : (a b : Bool) → (a && b) ≡ true → a ≡ true
+first_true true b e = refl
+first_true false b e = absurd cc
+
+-- a shelf has 4096 submissions at most
+pub shelf_few : (ss : List Submission) → IsShelf ss → length ss ≤ 4096
+shelf_few ss w = go (length ss) refl
+  where
+    go : (n : ℕ) → n ≡ length ss → n ≤ 4096
+    go zero e = omega arith
+    go (suc n) e =
+        let within : n < length ss = omega (arith, e) in
+        elim (slice_get_cases ss n).1 [
+          | inl h ↦
+              let room = (w n h.0 h.2).kept.room in
+              let few : nat_lt (length (take n ss)) 4096 ≡ true = first_true _ _ room in
+              omega (arith, ltb-true (length (take n ss)) 4096 few, length-take n ss, within)
+          | inr h ↦ absurd (omega (arith, within, h.0))
+        ]
+
 pub shelved_more : (m n : BTreeMap (List ℕ) ℕ) (nodes : List (List Node)) (ss : List Submission) (s : Submission) (of : List Node) (number : ℕ) → IsShelved m nodes ss
-    → AreNodesOf (flats ss) (heights ss) s of → s.version ≡ versions ss s.cell + 1 → length ss < 4096 → number ≡ length ss
+    → AreNodesOf (flats ss) (heights ss) s of → IsSubmitted ss s → number ≡ length ss
     → ((q : List ℕ) → tree.get name_cmp n q ≡ cond (is_eq (name_cmp s.cell q)) (Some number) (tree.get name_cmp m q))
     → IsShelved n (nodes ++ of ∷ []) (ss ++ s ∷ [])
 unfolding present
-shelved_more m n nodes ss s of number w shown version room last updates =
+shelved_more m n nodes ss s of number w shown submitted last updates =
     let long = length-append ss (s ∷ []) in
     let sum : 0 + length ss ≡ length ss = omega arith in
     let each : length (nodes ++ of ∷ []) ≡ length (ss ++ s ∷ []) = omega (arith, long, length-append nodes (of ∷ []), w.nodes_each) in
@@ -113,8 +135,7 @@ shelved_more m n nodes ss s of number w shown version room last updates =
         | inl h ↦ nodes_more ss s k ns (w.nodes_at k ns h.1)
         | inr h ↦ rw (h.0, h.1, w.nodes_each) (nodes_last ss s of shown)
       ];
-      numbered = numbered_more ss s w.numbered version;
-      few = omega (arith, long, room);
+      submitted = submitted_more ss s w.submitted submitted;
     }
 
 -- a table with the same entries
@@ -123,6 +144,15 @@ shelved_same m n nodes ss same w = record {
   present_at = λ q. rw same (w.present_at q);
   nodes_each = w.nodes_each;
   nodes_at = w.nodes_at;
-  numbered = w.numbered;
-  few = w.few;
+  submitted = w.submitted;
 }
+
+-- what stands at a number of a shelf
+pub shelved_at : (m : BTreeMap (List ℕ) ℕ) (nodes : List (List Node)) (ss : List Submission) → IsShelved m nodes ss → (i : ℕ) → i < length ss → (s : Submission) → s ≡ get_or ss i s → (of : List Node) → of ≡ get_or nodes i of → AreNodesOf (flats (take i ss)) (heights (take i ss)) s of × IsSubmitted (take i ss) s
+shelved_at m nodes ss w i h s is of at =
+    let here : slice_get ss i ≡ Some s = slice_get_read ss (length ss) i s refl h is in
+    let there : slice_get nodes i ≡ Some of = slice_get_read nodes (length nodes) i of refl (omega (arith, h, w.nodes_each)) at in
+    let shown = w.nodes_at i of there in
+    let both : Some shown.submission ≡ Some s = sym shown.is ∙ here in
+    let same : shown.submission ≡ s = cc in
+    (subst (λ (t : Submission). AreNodesOf (flats (take i ss)) (heights (take i ss)) t of) same shown.shown, w.submitted i s here)

@@ -15,7 +15,7 @@ use Rattle.std.proofs.lemmas.Map.Entries.{length-keys_of}
 use Rattle.mpw_geom.specs.Names.{name_eq, name_cmp}
 use Rattle.mpw_hier.specs.declared.submission.Submission.{Submission}
 use Rattle.mpw_hier.specs.Shelf.{later, present_from, present, versions}
-use Rattle.mpw_hier.specs.Indexed.{IsNumbered}
+use Rattle.mpw_hier.specs.Limits.{IsShelf}
 use Rattle.mpw_hier.proofs.Linking.{same_name, name_itself}
 
 -- ---- the version of the present submission
@@ -82,7 +82,7 @@ present_is ss cell n e =
     let at : h.index ≡ n = omega (arith, h.at) in
     (h.submission, subst (λ k. slice_get ss k ≡ Some h.submission) at h.is, same_name h.submission.cell cell h.same)
 
-pub next_version : (ss : List Submission) (cell : List ℕ) (n : ℕ) (s : Submission) → IsNumbered ss → present ss cell ≡ Some n → slice_get ss n ≡ Some s → s.version ≡ versions ss cell
+pub next_version : (ss : List Submission) (cell : List ℕ) (n : ℕ) (s : Submission) → IsShelf ss → present ss cell ≡ Some n → slice_get ss n ≡ Some s → s.version ≡ versions ss cell
 unfolding present
 next_version ss cell n s numbered e is =
     let h = last_of 0 ss cell n e in
@@ -91,7 +91,7 @@ next_version ss cell n s numbered e is =
     let both : Some h.submission ≡ Some s = sym there ∙ is in
     let one : h.submission ≡ s = cc in
     let cells : s.cell ≡ cell = ap (λ (t : Submission). t.cell) (sym one) ∙ same_name h.submission.cell cell h.same in
-    let own : s.version ≡ versions (take n ss) cell + 1 = subst (λ c. s.version ≡ versions (take n ss) c + 1) cells (numbered n s is) in
+    let own : s.version ≡ versions (take n ss) cell + 1 = subst (λ c. s.version ≡ versions (take n ss) c + 1) cells (numbered n s is).version in
     own ∙ sym (subst (λ k. versions ss cell ≡ versions (take k ss) cell + 1) at h.count)
 
 -- ---- cells

@@ -1,16 +1,13 @@
 -- What stands beside the submissions of a shelf: the table of the present ones, and the nodes of each.
-use Rattle.std.specs.Prelude.{◌≡◌, ◌+◌, ◌≤◌, ℕ, List, length, take, slice_get, Some}
+use Rattle.std.specs.Prelude.{◌≡◌, ℕ, List, length, slice_get, Some}
 use Rattle.std.specs.BTreeMap as tree
 use Rattle.std.specs.BTreeMap.{BTreeMap}
 use Rattle.mpw_geom.specs.Names.{name_cmp}
 use Rattle.mpw_hier.specs.declared.submission.Submission.{Submission}
 use Rattle.mpw_hier.specs.declared.node.Node.{Node}
-use Rattle.mpw_hier.specs.Shelf.{present, versions}
+use Rattle.mpw_hier.specs.Shelf.{present}
+use Rattle.mpw_hier.specs.Limits.{IsShelf}
 use Rattle.mpw_hier.specs.Nodes.{AreNodes}
-
--- Each submission has its version, counted from 1 for each cell.
-abbrev pub IsNumbered : List Submission → Type 0
-IsNumbered ss = (number : ℕ) (s : Submission) → slice_get ss number ≡ Some s → s.version ≡ versions (take number ss) s.cell + 1
 
 -- A shelf with a table and with nodes for each submission.
 pub record IsShelved (table : BTreeMap (List ℕ) ℕ) (nodes : List (List Node)) (ss : List Submission) : Type 0 where
@@ -18,5 +15,4 @@ pub record IsShelved (table : BTreeMap (List ℕ) ℕ) (nodes : List (List Node)
   pub present_at : (cell : List ℕ) → tree.get name_cmp table cell ≡ present ss cell
   pub nodes_each : length nodes ≡ length ss
   pub nodes_at : (number : ℕ) (of : List Node) → slice_get nodes number ≡ Some of → AreNodes ss number of
-  pub numbered : IsNumbered ss
-  pub few : length ss ≤ 4096
+  pub submitted : IsShelf ss

@@ -1,8 +1,9 @@
 -- What a new submission has to keep to, in the order of the tests: extents, shapes, height, room.
-use Rattle.std.specs.Prelude.{◌≡◌, ℕ, ◌+◌, ◌^◌, ◌&&◌, ◌||◌, Bool, false, nat_lt, List, length, map, is_some, Some, ◌↔◌, true}
+use Rattle.std.specs.Prelude.{◌≡◌, ℕ, ◌+◌, ◌^◌, ◌&&◌, ◌||◌, Bool, false, nat_lt, List, length, map, take, slice_get, is_some, Some, ◌↔◌, true}
 use Rattle.std.specs.Set.{distinct_count}
 use Rattle.mpw_geom.specs.Names.{name_eq, contains_name}
 use Rattle.mpw_geom.specs.declared.plane.Box2.{Box2}
+use Rattle.mpw_library.specs.Library.{IsLibrary}
 use Rattle.mpw_library.specs.Places.{place_of}
 use Rattle.mpw_hier.specs.declared.fault.HierFault.{HierFault}
 use Rattle.mpw_hier.specs.declared.fault.HierFault.TheVariants as faults
@@ -66,6 +67,17 @@ pub record KeepsLimits (ss : List Submission) (s : Submission) : Type 0 where
   pub small : is_too_large ss s ≡ false
   pub low : is_too_deep ss s ≡ false
   pub room : has_room_for ss s.cell ≡ true
+
+-- A submission behind others, as it was put on the shelf: read, bound to those before it, within the limits, and with its version.
+pub record IsSubmitted (ss : List Submission) (s : Submission) : Type 0 where
+  pub read : IsLibrary s.library
+  pub bound : IsBound ss s
+  pub kept : KeepsLimits ss s
+  pub version : s.version ≡ versions ss s.cell + 1
+
+-- Each submission of a shelf is so behind those before it.
+abbrev pub IsShelf : List Submission → Type 0
+IsShelf ss = (number : ℕ) (s : Submission) → slice_get ss number ≡ Some s → IsSubmitted (take number ss) s
 
 -- Why a submission that is bound is refused: the first limit that it doesn't keep, or want of memory.
 abbrev pub IsRefused : List Submission → Submission → HierFault → Type 0

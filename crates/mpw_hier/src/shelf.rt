@@ -2,7 +2,7 @@
 
 ghost use Rattle.std.specs.Prelude.{◌≡◌, ◌+◌, ◌<◌, ◌≤◌, ◌^◌, ◌++◌, true, ◌∷◌, ℕ, [], length, Err, OnOk, OnErr, IfOk, IfErr, IfSome, IfNone, Some, None, option_copied, slice_get};
 ghost use Rattle.mpw_hier.specs.Shelf.{present, versions, bound_to};
-ghost use Rattle.mpw_hier.specs.Limits.{IsBound, KeepsLimits, IsRefused, numbered, has_room_for};
+ghost use Rattle.mpw_hier.specs.Limits.{IsBound, KeepsLimits, IsRefused, IsSubmitted, IsShelf, numbered, has_room_for};
 ghost use Rattle.mpw_library.specs.Library.{IsLibrary};
 ghost use Rattle.mpw_hier.specs.Nodes.{AreNodes, AreNodesOf};
 ghost use Rattle.mpw_hier.specs.Sizes.{IsSizeOf};
@@ -65,6 +65,30 @@ impl Shelf {
             nodes: Vec::new(alloc),
             present: BTreeMap::new(alloc),
         }
+    }
+
+    /// Every submission was read, is bound to the present ones of its time, keeps the limits and has
+    /// its version. A law: the function does nothing.
+    pub fn is_shelf(&self)
+        ensures { IsShelf self.now }
+    {
+        let _submissions = &self.submissions;
+    }
+
+    /// The same shelf. Linear in the number of submissions, which share what they hold.
+    ///
+    /// # Errors
+    /// Want of memory.
+    pub fn copy(&self, alloc: Global) -> Result<Shelf, AllocError>
+        ensures { IfOk result (λ shelf. shelf ≡ self.now) }
+    {
+        let mut shelf = Shelf::new(alloc);
+        for number in 0..self.submissions.len() {
+            let submission = self.submissions[number].copy()?;
+            let nodes = self.nodes[number].copy()?;
+            shelf.append(submission, nodes)?;
+        }
+        Ok(shelf)
     }
 
     /// The number of the present submission of a cell, in logarithmic time. Takes no memory.
@@ -173,8 +197,7 @@ impl Shelf {
     /// Adds a submission with its nodes and its version.
     fn append(&mut self, submission: Submission, nodes: Nodes) -> Result<u32, AllocError>
         requires nodes { AreNodesOf (flats self.old) (heights self.old) submission nodes }
-        requires version { submission.version ≡ versions self.old submission.cell + 1 }
-        requires room { length self.old < 4096 }
+        requires submitted { IsSubmitted self.old submission }
         ensures ok { OnOk result (self.new ≡ self.old ++ submission ∷ []) }
         ensures number { IfOk result (λ number. number ≡ length self.old) }
         ensures err { OnErr result (self.new ≡ self.old) }

@@ -81,7 +81,7 @@ fn cycles_and_tops(rt: HostRuntime) -> Result<(), Fail> {
 #[test]
 fn binding_on_an_empty_shelf(rt: HostRuntime) -> Result<(), Fail> {
     let alloc = rt.alloc();
-    let shelf = Shelf::new(alloc)?.copy()?;
+    let shelf = Shelf::new(alloc).copy(alloc)?;
     assert_eq!(rt; shelf.bind(alloc, &[])?.as_slice().len(), 0);
     let names = shown(alloc, "ARM", "TOP")??;
     assert!(rt; matches!(shelf.bind(alloc, names.as_slice()), Err(HierFault::NoCell)));

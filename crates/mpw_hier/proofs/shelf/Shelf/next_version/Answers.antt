@@ -5,6 +5,7 @@ use Rattle.std.proofs.lemmas.List.Sums.{count_by-le-length}
 use Rattle.mpw_geom.specs.Names.{name_eq}
 use Rattle.mpw_hier.specs.declared.submission.Submission.{Submission}
 use Rattle.mpw_hier.specs.Shelf.{present, versions}
+use Rattle.mpw_hier.proofs.Shelving.{shelf_few}
 use Rattle.mpw_hier.proofs.Versions.{first_version, present_is, next_version}
 use Rattle.mpw_hier.proofs.shelf.Shelf.next_version.Goals as goal
 
@@ -23,9 +24,9 @@ overflow_add-result c =
     let at : present ss c.args.cell.now ≡ Some n = ap (λ xs. present xs c.args.cell.now) c.self.view_is ∙ sym c.in-Some.ensures in
     let h = present_is ss c.args.cell.now n at in
     let is = slice_get_read ss (length ss) n s refl (slice_get_within ss n h.0 h.1) c.index.ensures in
-    let version = next_version ss c.args.cell.now n s c.self.invariant.numbered at is in
+    let version = next_version ss c.args.cell.now n s c.self.invariant.submitted at is in
     let few = count_by-le-length (λ (t : Submission). name_eq t.cell c.args.cell.now) ss in
-    omega (arith, version, few, c.self.invariant.few)
+    omega (arith, version, few, shelf_few ss c.self.invariant.submitted)
 
 pub returns-in-Some : goal.returns-in-Some
 returns-in-Some c =
@@ -35,7 +36,7 @@ returns-in-Some c =
     let at : present ss c.args.cell.now ≡ Some n = ap (λ xs. present xs c.args.cell.now) c.self.view_is ∙ sym c.in-Some.ensures in
     let h = present_is ss c.args.cell.now n at in
     let is = slice_get_read ss (length ss) n s refl (slice_get_within ss n h.0 h.1) c.index.ensures in
-    ap (λ k. k + 1) (next_version ss c.args.cell.now n s c.self.invariant.numbered at is ∙ ap (λ xs. versions xs c.args.cell.now) c.self.view_is)
+    ap (λ k. k + 1) (next_version ss c.args.cell.now n s c.self.invariant.submitted at is ∙ ap (λ xs. versions xs c.args.cell.now) c.self.view_is)
 
 pub returns-in-None : goal.returns-in-None
 returns-in-None c = ap (λ k. k + 1) (sym (first_version c.args.self.now c.args.cell.now (sym c.in-None.ensures)))
