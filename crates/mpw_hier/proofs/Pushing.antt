@@ -27,7 +27,7 @@ pub far_of : (ss : List Submission) (s : Submission) (version : ℕ) → IsFar s
 far_of ss s version h = record { structure = h.structure; place = h.place; inside = h.inside; below = h.below; box = h.box; extent = h.extent; far = h.far }
 
 pub bound_as : (ss : List Submission) (s : Submission) (version : ℕ) → IsBound ss s → IsBound ss (record s { version = version })
-bound_as ss s version b = record { place = b.place; top = b.top; acyclic = b.acyclic; names = b.names; by_name = b.by_name; outside = b.outside; bound = b.bound }
+bound_as ss s version b = record { names = b.names; externals = b.externals; bound = b.bound }
 
 module _ (ss : List Submission) (s : Submission) (nodes : List Node) (w : IsHierarchy ss s nodes) where
   -- the size of the last node is that of the submission

@@ -83,7 +83,7 @@ module _ (ss : List Submission) (s : Submission) (b : IsBound ss s) (top : ℕ) 
           let named : place_of s.library structure.name ≡ Some (get_or order i 0) = subst (λ (t : Structure). place_of s.library t.name ≡ Some (get_or order i 0)) same f.named in
           let way : IsReachable s.library s.top structure.name = subst (λ (t : Structure). IsReachable s.library s.top t.name) same f.below in
           let shown : IsOutside s.library s.top name = record { below = reach_more way (refers_to s.library structure.name name (get_or order i 0) structure named is ∙ c); missing = ap (structure_at s.library) none } in
-          let n = bound_name ss b.names s.bound name b.bound ((b.outside name).1 shown) in
+          let n = bound_name ss b.names s.bound name b.bound ((b.externals.outside name).1 shown) in
           outer n.0 (record { outside = none; bound = n.1; earlier = n.2 })
 
   -- the places upto the top are all that it reaches

@@ -1,15 +1,15 @@
 -- What a new submission has to keep to, in the order of the tests: extents, shapes, height, room.
-use Rattle.std.specs.Prelude.{◌≡◌, ℕ, ◌+◌, ◌^◌, ◌&&◌, ◌||◌, Bool, false, nat_lt, List, length, map, take, slice_get, is_some, Some, ◌↔◌, true}
+use Rattle.std.specs.Prelude.{◌≡◌, ℕ, ◌+◌, ◌^◌, ◌&&◌, ◌||◌, Bool, false, nat_lt, List, length, map, take, slice_get, is_some, Some, true}
 use Rattle.std.specs.Set.{distinct_count}
-use Rattle.mpw_geom.specs.Names.{name_eq, contains_name}
+use Rattle.mpw_geom.specs.Names.{name_eq}
 use Rattle.mpw_geom.specs.declared.plane.Box2.{Box2}
 use Rattle.mpw_library.specs.Library.{IsLibrary}
 use Rattle.mpw_library.specs.Places.{place_of}
 use Rattle.mpw_hier.specs.declared.fault.HierFault.{HierFault}
 use Rattle.mpw_hier.specs.declared.fault.HierFault.TheVariants as faults
 use Rattle.mpw_hier.specs.declared.submission.Submission.{Submission}
-use Rattle.mpw_hier.specs.Structures.{IsReachable, IsCyclic, IsOutside}
-use Rattle.mpw_hier.specs.Outside.{IsByName}
+use Rattle.mpw_hier.specs.Structures.{IsReachable}
+use Rattle.mpw_hier.specs.Outside.{AreExternals}
 use Rattle.mpw_hier.specs.Boxes.{extent_of, is_box_near}
 use Rattle.mpw_hier.specs.Shelf.{present, versions, bound_to}
 use Rattle.mpw_hier.specs.Values.{structure_items, flat_of, flats, height_of, heights}
@@ -40,14 +40,10 @@ has_room_for ss cell = nat_lt (length ss) 4096 && (is_some (present ss cell) || 
 abbrev pub numbered : List Submission → Submission → Submission
 numbered ss s = record s { version = versions ss s.cell + 1 }
 
--- The top is a structure without a cycle below it, and the bindings are those of the names outside the library that it shows.
+-- The bindings are those of the names outside the library that the top shows.
 pub record IsBound (ss : List Submission) (s : Submission) : Type 0 where
-  pub place : ℕ
-  pub top : place_of s.library s.top ≡ Some place
-  pub acyclic : IsCyclic s.library s.top → ⊥
   pub names : List (List ℕ)
-  pub by_name : IsByName names
-  pub outside : (name : List ℕ) → (contains_name names name ≡ true) ↔ IsOutside s.library s.top name
+  pub externals : AreExternals s.library s.top names
   pub bound : bound_to ss names ≡ Some s.bound
 
 -- What can stand in the way of the nodes of a submission that is bound.

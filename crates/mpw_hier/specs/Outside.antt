@@ -1,10 +1,10 @@
 -- What references name in a library, and what they name outside it.
-use Rattle.std.specs.Prelude.{◌≡◌, ℕ, List, [], ◌∷◌, map, slice_get, Option, Some, None}
+use Rattle.std.specs.Prelude.{◌≡◌, ℕ, List, [], ◌∷◌, map, slice_get, Option, Some, None, true, ◌↔◌}
 use Rattle.std.specs.List.{flat_map}
-use Rattle.mpw_geom.specs.Names.{by_name}
+use Rattle.mpw_geom.specs.Names.{by_name, contains_name}
 use Rattle.mpw_library.specs.declared.structures.Structure.{Structure}
 use Rattle.mpw_library.specs.Places.{place_of}
-use Rattle.mpw_hier.specs.Structures.{names_of, target_names}
+use Rattle.mpw_hier.specs.Structures.{names_of, target_names, IsCyclic, IsOutside}
 
 abbrev pub known_before : Option ℕ → List ℕ → List ℕ
 known_before None places = places
@@ -42,3 +42,11 @@ outside_from_all library places = flat_map (outside_from library) places
 pub record IsByName (names : List (List ℕ)) : Type 0 where
   pub given : List (List ℕ)
   pub same : names ≡ by_name given
+
+-- The top is a structure of the library without a cycle below it, and these are the names outside the library that it shows.
+pub record AreExternals (library : List Structure) (top : List ℕ) (names : List (List ℕ)) : Type 0 where
+  pub place : ℕ
+  pub found : place_of library top ≡ Some place
+  pub acyclic : IsCyclic library top → ⊥
+  pub by_name : IsByName names
+  pub outside : (name : List ℕ) → (contains_name names name ≡ true) ↔ IsOutside library top name

@@ -17,6 +17,8 @@ mod node;
 mod order;
 mod outside;
 mod shelf;
+#[cfg(test)]
+mod shelf_tests;
 mod size;
 mod size_array;
 mod size_box;

@@ -1,10 +1,9 @@
 //! Names outside a library.
 
 ghost use Rattle.std.specs.Prelude.{◌≡◌, ◌<◌, ◌++◌, ◌↔◌, ℕ, List, None, length, true, Err, IfOk, OnOk, All};
-ghost use Rattle.mpw_geom.specs.Names.{contains_name};
 ghost use Rattle.mpw_library.specs.Places.{place_of};
-ghost use Rattle.mpw_hier.specs.Structures.{names_of, IsCyclic, IsOutside};
-ghost use Rattle.mpw_hier.specs.Outside.{places_of, names_outside, graph_of, outside_from_all, IsByName};
+ghost use Rattle.mpw_hier.specs.Structures.{names_of, IsCyclic};
+ghost use Rattle.mpw_hier.specs.Outside.{places_of, names_outside, graph_of, outside_from_all, AreExternals};
 
 use crate::fault::HierFault;
 use crate::graph::Graph;
@@ -79,9 +78,7 @@ fn outside_from(alloc: Global, library: &Library, places: &[usize]) -> Result<Na
 /// `NoTop` where the library has no structure of that name; `Cycle` where a structure below the top
 /// leads back to itself; or want of memory.
 pub fn externals(alloc: Global, library: &Library, top: &Name) -> Result<Names, HierFault>
-    ensures by_name { IfOk result IsByName }
-    ensures outside { IfOk result (λ names. (name : List ℕ) → (contains_name names name ≡ true) ↔ IsOutside library.now top.now name) }
-    ensures no_cycle { OnOk result (IsCyclic library.now top.now → ⊥) }
+    ensures ok { IfOk result (AreExternals library.now top.now) }
     ensures no_top { (result ≡ Err HierFault.NoTop) ↔ (place_of library.now top.now ≡ None) }
     ensures cycle { result ≡ Err HierFault.Cycle → IsCyclic library.now top.now }
 {

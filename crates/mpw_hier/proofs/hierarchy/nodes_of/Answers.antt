@@ -18,4 +18,4 @@ returns-in_default-2-clause-faults c =
     let place = c.in-Some.top in
     let e = sym c.position.ensures ∙ c.in-Some.is in
     let h = subst (λ (found : Option (Vec ℕ Global)). IfNone found (HasCycle c.in_ok-graph.graph place)) c.in_default-2.is c.in_ok-order.ensures.cycle in
-    c.requires.bound.acyclic (cycle_named ss c.args.submission.now.top place e (subst (λ g. HasCycle g place) c.in_ok-graph.ensures h))
+    c.requires.bound.externals.acyclic (cycle_named ss c.args.submission.now.top place e (subst (λ g. HasCycle g place) c.in_ok-graph.ensures h))

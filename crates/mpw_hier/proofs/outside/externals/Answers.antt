@@ -1,4 +1,4 @@
-use Rattle.std.proofs.Common.{ℕ, ◌<◌, length, Option, IfSome, IfNone, Vec, Global, All, sym, ap, subst, ◌∙◌, arith}
+use Rattle.std.proofs.Common.{ℕ, ◌<◌, List, length, Option, IfSome, IfNone, Vec, Global, All, sym, ap, subst, ◌∙◌, arith}
 use Rattle.mpw_geom.specs.Names.{contains_name, by_name}
 use Rattle.mpw_hier.specs.Graph.{IsGraph, HasCycle, IsFromBelow}
 use Rattle.mpw_hier.specs.Outside.{outside_from_all}
@@ -34,23 +34,19 @@ outside_from-requires c =
     let o = subst (λ g. IsFromBelow g place order.items) c.in_ok-graph.ensures (subst (λ (found : Option (Vec ℕ Global)). IfSome found (λ items. IsFromBelow c.in_ok-graph.graph place items.items)) c.in-Some-2.is c.in_ok-order.ensures.order) in
     subst (All (λ (k : ℕ). k < length ss)) (sym c.deref.ensures.value) (λ k d h. omega (arith, graph_length ss, leads_within (graph_within ss) (o.found k d h) (omega (arith, graph_length ss, place_within ss c.args.top.now place e))))
 
-pub returns-clause-outside : goal.returns-clause-outside
-returns-clause-outside c =
-    λ name.
+pub returns-clause-ok : goal.returns-clause-ok
+returns-clause-ok c =
     let ss = c.args.library.now in
     let place = c.in-Some.place in
     let e = sym c.position.ensures ∙ c.in-Some.is in
     let order = c.in-Some-2.order in
     let o = subst (λ g. IsFromBelow g place order.items) c.in_ok-graph.ensures (subst (λ (found : Option (Vec ℕ Global)). IfSome found (λ items. IsFromBelow c.in_ok-graph.graph place items.items)) c.in-Some-2.is c.in_ok-order.ensures.order) in
     let made = c.in_ok-sort.ensures.ok ∙ ap by_name (c.in_ok-names.ensures ∙ ap (outside_from_all ss) c.deref.ensures.value) in
-    let same = ap (λ names. contains_name names name) made ∙ in_by_name name (outside_from_all ss order.items) in
-    (λ h. only_shown ss c.args.top.now place e order.items o name (sym same ∙ h), λ h. same ∙ shown ss c.args.top.now place e order.items o name h)
-
-pub returns-clause-no_cycle : goal.returns-clause-no_cycle
-returns-clause-no_cycle c =
-    let ss = c.args.library.now in
-    let place = c.in-Some.place in
-    let e = sym c.position.ensures ∙ c.in-Some.is in
-    let order = c.in-Some-2.order in
-    let o = subst (λ g. IsFromBelow g place order.items) c.in_ok-graph.ensures (subst (λ (found : Option (Vec ℕ Global)). IfSome found (λ items. IsFromBelow c.in_ok-graph.graph place items.items)) c.in-Some-2.is c.in_ok-order.ensures.order) in
-    acyclic ss c.args.top.now place e order.items o
+    let same = λ (name : List ℕ). ap (λ names. contains_name names name) made ∙ in_by_name name (outside_from_all ss order.items) in
+    record {
+      place = place;
+      found = e;
+      acyclic = acyclic ss c.args.top.now place e order.items o;
+      by_name = record { given = outside_from_all ss order.items; same = made };
+      outside = λ name. (λ h. only_shown ss c.args.top.now place e order.items o name (sym (same name) ∙ h), λ h. same name ∙ shown ss c.args.top.now place e order.items o name h);
+    }
