@@ -10,3 +10,4 @@ pub mod Indexed
 pub mod Values
 pub mod Limits
 pub mod Sizes
+pub mod SizeParts
