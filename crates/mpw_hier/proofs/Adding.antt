@@ -23,7 +23,7 @@ use Rattle.mpw_hier.specs.Structures.{names_of, references, structure_at}
 use Rattle.mpw_hier.specs.Boxes.{extent_of}
 use Rattle.mpw_hier.specs.Items.{shown_items}
 use Rattle.mpw_hier.specs.Nodes.{IsTarget, IsNode, AreChildren, shape_places, structure_levels}
-use Rattle.mpw_hier.specs.Sizes.{IsNear, IsFar, IsSizeOf}
+use Rattle.mpw_hier.specs.Sizes.{IsExtentNear, IsExtentFar, IsSizeOf}
 use Rattle.mpw_hier.specs.Building.{number_at, IsSizeHere, AreLinked, IsKnown, own, outer, AreKnown, AreSizesHere, IsFarHere}
 use Rattle.mpw_hier.specs.Values.{structure_items, flats, heights, shown_height}
 use Rattle.mpw_hier.proofs.Unfolding.{IsLow, outside, low_upto, unfolds, items_by_targets, heights_by_targets}
@@ -55,8 +55,8 @@ zip_right R P f (x ∷ xs) (y ∷ ys) h (suc k) d lt = zip_right R P f xs ys h.1
 pub sizes_each : (ss : List Submission) (s : Submission) (es : List Element) (sizes : List Size) → AreSizesHere ss s es sizes → length sizes ≡ length (references es)
 sizes_each ss s es sizes h = zip_length (IsSizeHere ss s) (names_of es) sizes h ∙ length-map (references es) (λ r. r.name)
 
-pub sizes_near : (ss : List Submission) (s : Submission) (es : List Element) (sizes : List Size) → AreSizesHere ss s es sizes → All (λ size. IsNear size.extent) sizes
-sizes_near ss s es sizes h = zip_right (IsSizeHere ss s) (λ size. IsNear size.extent) (λ name size w. w.near) (names_of es) sizes h
+pub sizes_near : (ss : List Submission) (s : Submission) (es : List Element) (sizes : List Size) → AreSizesHere ss s es sizes → All (λ size. IsExtentNear size.extent) sizes
+sizes_near ss s es sizes h = zip_right (IsSizeHere ss s) (λ size. IsExtentNear size.extent) (λ name size w. w.near) (names_of es) sizes h
 
 pub last_get : {X : Type 0} (xs : List X) (x : X) → slice_get (xs ++ x ∷ []) (length xs) ≡ Some x
 last_get xs x =
@@ -106,7 +106,7 @@ module _ (ss : List Submission) (s : Submission) (table : BTreeMap (List ℕ) �
     pub added_size : (size : Size) → IsSizeOf (shown_items (length (flats ss)) structure (structure_items (flats ss) s)) (shown_height structure (structure_levels (heights ss) s)) size → IsSizeHere ss s structure.name size
     added_size size h = rw (added_items, added_levels) h
 
-    pub added_far : IsFar (extent_of (shown_items (length (flats ss)) structure (structure_items (flats ss) s))) → IsFarHere ss s place
+    pub added_far : IsExtentFar (extent_of (shown_items (length (flats ss)) structure (structure_items (flats ss) s))) → IsFarHere ss s place
     added_far h = record { structure = structure; is = is; box = h.box; extent = ap extent_of added_items ∙ h.is; far = h.far }
 
     module _ (node : Node) (at : node.structure ≡ place) (shapes : node.shapes.items ≡ shape_places 0 structure.elements) (children : AreChildren s (flats ss) nodes 0 structure.elements node.children.items) (size : IsSizeHere ss s structure.name node.size) where

@@ -15,7 +15,7 @@ use Rattle.mpw_hier.specs.declared.size_array.WideBox.{WideBox}
 use Rattle.mpw_hier.specs.declared.size_array.WidePoint.{WidePoint}
 use Rattle.mpw_hier.specs.Items.{instance, row_of, instances}
 use Rattle.mpw_hier.specs.Boxes.{joined, hull, hull_of, placed_box}
-use Rattle.mpw_hier.specs.Sizes.{array_extent}
+use Rattle.mpw_hier.specs.SizeParts.{array_extent}
 use Rattle.mpw_hier.proofs.Hulls.{hull_assoc}
 
 -- ---- steps

@@ -13,7 +13,7 @@ use Rattle.mpw_shapes.specs.declared.path.Wire.{Wire}
 use Rattle.mpw_shapes.specs.Path.{wire_box, wire_boxes}
 use Rattle.mpw_shapes.proofs.Laid.{half_of, half_reach}
 use Rattle.mpw_hier.specs.Boxes.{hull, hull_of, hull_of_points, has_area, element_box}
-use Rattle.mpw_hier.specs.Sizes.{wires_box}
+use Rattle.mpw_hier.specs.SizeParts.{wires_box}
 use Rattle.mpw_hier.proofs.Hulls.{hull_assoc, hull_none}
 
 abbrev pub dot : Point → Box2

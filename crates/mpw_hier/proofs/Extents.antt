@@ -13,7 +13,7 @@ use Rattle.mpw_elements.specs.declared.element.Reference.{Reference}
 use Rattle.mpw_shapes.specs.Path.{wire_boxes}
 use Rattle.mpw_hier.specs.Items.{Item, placed_again, placed_item, placed_items, instances}
 use Rattle.mpw_hier.specs.Boxes.{joined, hull, hull_of, hull_of_points, has_area, element_box, placed_box, item_box, extent_of}
-use Rattle.mpw_hier.specs.Sizes.{array_extent}
+use Rattle.mpw_hier.specs.SizeParts.{array_extent}
 use Rattle.mpw_hier.proofs.Hulls.{hull_assoc}
 use Rattle.mpw_hier.proofs.Placings.{again_box, placed_ordered, placed_joined, unmoved, unmoved_box}
 

@@ -6,7 +6,7 @@ use Rattle.std.proofs.lemmas.Int.{ints, clamps}
 use Rattle.mpw_geom.specs.declared.plane.Box2.{Box2}
 use Rattle.mpw_geom.specs.Plane.{IsOrdered}
 use Rattle.mpw_hier.specs.Boxes.{joined, hull, is_near, is_box_near}
-use Rattle.mpw_hier.specs.Sizes.{IsNear, IsFar}
+use Rattle.mpw_hier.specs.Sizes.{IsExtentNear, IsExtentFar}
 
 pub record Close (z : ℤ) : Type 0 where
   pub above : neg_ℤ (pos (2 ^ 30)) ≤ℤ z
@@ -71,11 +71,11 @@ pub far_joined : (a b : Box2) → IsOrdered a → is_box_near a ≡ false → is
 far_joined a b o e =
     false_from_ne_true (is_box_near (joined a b)) (λ t. false≢true (sym e ∙ near_box a (within_joined a b o (close_box (joined a b) t))))
 
-pub near_hull : (a b : Option Box2) → IsNear a → IsNear b → IsNear (hull a b)
+pub near_hull : (a b : Option Box2) → IsExtentNear a → IsExtentNear b → IsExtentNear (hull a b)
 near_hull None b h k = k
 near_hull (Some a) None h k = h
 near_hull (Some a) (Some b) h k = near_joined a b h k
 
-pub far_hull : (a : Box2) (b : Option Box2) → IsOrdered a → is_box_near a ≡ false → IsFar (hull (Some a) b)
+pub far_hull : (a : Box2) (b : Option Box2) → IsOrdered a → is_box_near a ≡ false → IsExtentFar (hull (Some a) b)
 far_hull a None o e = record { box = a; is = refl; far = e }
 far_hull a (Some b) o e = record { box = joined a b; is = refl; far = far_joined a b o e }

@@ -5,7 +5,7 @@ use Rattle.std.specs.Int.RustNames.{unsigned_abs}
 use Rattle.std.proofs.Math.Nat.{mul-le-mul}
 use Rattle.std.proofs.lemmas.Int.{ints, to_z-of_z, unsigned_abs-mul, fits_signed_from_abs}
 use Rattle.mpw_elements.specs.Element.{IsWithinReach}
-use Rattle.mpw_hier.specs.Sizes.{IsWide}
+use Rattle.mpw_hier.specs.SizeParts.{IsWide}
 
 abs_reach : (z : ℤ) → IsWithinReach z → unsigned_abs z ≤ 2 ^ 48
 abs_reach z h = omega (arith, ints)
@@ -40,6 +40,10 @@ narrow_as_wide z f = let g = f.sfits in fits_signed_from_abs w128 z (omega (arit
 
 wide_fits : (z : ℤ) → IsWide z → SFits w128 z
 wide_fits z h = fits_signed_from_abs w128 z (omega (arith, ints))
+
+-- a coordinate in 128 bits
+pub as_wide : (first wide : ℤ) → SFits w64 first → wide ≡ to_z w64 (of_z w64 first) → to_z w128 (of_z w128 wide) ≡ first
+as_wide first wide f e = rw (as_first first wide f e) (to_z-of_z w128 first (narrow_as_wide first f))
 
 first_sum : (first wide c : ℤ) → SFits w64 first → wide ≡ first → IsWide c → to_z w128 (of_z w128 (to_z w128 (of_z w128 wide) +ℤ to_z w128 (of_z w128 c))) ≡ first +ℤ c
 first_sum first wide c f e h =

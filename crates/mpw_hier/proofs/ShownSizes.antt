@@ -12,7 +12,8 @@ use Rattle.mpw_hier.specs.Structures.{references, names_of}
 use Rattle.mpw_hier.specs.Items.{Item, row_of, instances, own_items, placed_item, placed_items, shown_items}
 use Rattle.mpw_hier.specs.Values.{greatest, shown_height}
 use Rattle.mpw_hier.specs.Boxes.{hull, item_box, extent_of}
-use Rattle.mpw_hier.specs.Sizes.{Total, IsFar, IsToldBy, AreToldBy, total_of, nothing, together, part_total, behind}
+use Rattle.mpw_hier.specs.Sizes.{Total, IsExtentFar, IsToldBy, AreToldBy, total_of}
+use Rattle.mpw_hier.specs.SizeParts.{nothing, together, part_total, behind}
 use Rattle.mpw_hier.proofs.Hulls.{hull_swap}
 use Rattle.mpw_hier.proofs.Nearness.{far_hull}
 use Rattle.mpw_hier.proofs.Placings.{unmoved}
@@ -61,12 +62,12 @@ part_ordered (elements.Reference r) [] = tt
 part_ordered (elements.Reference r) (t ∷ ts) = array_ordered r t.extent
 
 -- what reaches too far still does with more
-pub far_total : (es : List Element) (ts : List Total) (i : ℕ) (left : List Size) (size : Size) (e : Element) → i < length es → e ≡ get_or es i e → (s : IsSumTo es ts i left size) → IsFar (part_total e s.rest).extent → IsFar (together nothing (all_total es ts)).extent
+pub far_total : (es : List Element) (ts : List Total) (i : ℕ) (left : List Size) (size : Size) (e : Element) → i < length es → e ≡ get_or es i e → (s : IsSumTo es ts i left size) → IsExtentFar (part_total e s.rest).extent → IsExtentFar (together nothing (all_total es ts)).extent
 far_total es ts i left size e h is s f =
     let part = part_total e s.rest in
     let more = all_total (drop (i + 1) es) (behind e s.rest) in
     let whole = sym (ap (λ (t : Total). t.extent) s.whole) ∙ ap (λ (t : Total). hull s.total.extent t.extent) (total_on es i e s.rest h is) ∙ hull_swap s.total.extent part.extent more.extent ∙ ap (λ o. hull o (hull s.total.extent more.extent)) f.is in
-    subst IsFar (sym whole) (far_hull f.box (hull s.total.extent more.extent) (subst AreOrdered f.is (part_ordered e s.rest)) f.far)
+    subst IsExtentFar (sym whole) (far_hull f.box (hull s.total.extent more.extent) (subst AreOrdered f.is (part_ordered e s.rest)) f.far)
 
 module _ (number : ℕ) (items : List ℕ → List Item) (heights : List ℕ → ℕ) where
   abbrev pub told : List ℕ → Total

@@ -7,7 +7,8 @@ use Rattle.mpw_elements.specs.declared.element.Element.{Element}
 use Rattle.mpw_elements.specs.declared.element.Element.TheVariants as elements
 use Rattle.mpw_hier.specs.declared.size.Size.{Size}
 use Rattle.mpw_hier.specs.Structures.{references}
-use Rattle.mpw_hier.specs.Sizes.{Total, IsNear, IsToldBy, nothing, together, part_total, behind}
+use Rattle.mpw_hier.specs.Sizes.{Total, IsExtentNear, IsToldBy}
+use Rattle.mpw_hier.specs.SizeParts.{nothing, together, part_total, behind}
 use Rattle.mpw_hier.proofs.Hulls.{hull_assoc, hull_none}
 
 -- no shapes and no levels
@@ -29,7 +30,7 @@ pub record IsSumTo (es : List Element) (ts : List Total) (i : ℕ) (left : List 
 
 pub record IsSizedTo (es : List Element) (below : List Size) (i : ℕ) (left : List Size) (size : Size) : Type 0 where
   pub targets : length left ≡ length (references (drop i es))
-  pub near : All (λ (s : Size). IsNear s.extent) left
+  pub near : All (λ (s : Size). IsExtentNear s.extent) left
   pub sum : (ts : List Total) → AllZip IsToldBy ts below → IsSumTo es ts i left size
 
 pub same_total : (a b : Total) → a.count ≡ b.count → a.levels ≡ b.levels → a.extent ≡ b.extent → a ≡ b
@@ -42,7 +43,7 @@ together_assoc a b c = same_total _ _ (omega arith) (omega arith) (hull_assoc a.
 together_blank : (a : Total) → together a blank ≡ a
 together_blank a = same_total _ _ (omega arith) (omega arith) (hull_none a.extent)
 
-pub sized_none : (es : List Element) (below : List Size) (size : Size) → length below ≡ length (references es) → All (λ (s : Size). IsNear s.extent) below → IsToldBy nothing size → IsSizedTo es below 0 below size
+pub sized_none : (es : List Element) (below : List Size) (size : Size) → length below ≡ length (references es) → All (λ (s : Size). IsExtentNear s.extent) below → IsToldBy nothing size → IsSizedTo es below 0 below size
 sized_none es below size n near told = record {
   targets = n;
   near = near;
@@ -92,7 +93,7 @@ sized_more es below i left more size part sum e h is s told plus behind_is =
     let k = behind_length e left one in
     record {
       targets = rw behind_is (omega (arith, n, k, s.targets));
-      near = rw behind_is (behind_all (λ (x : Size). IsNear x.extent) e left s.near);
+      near = rw behind_is (behind_all (λ (x : Size). IsExtentNear x.extent) e left s.near);
       sum = λ ts m.
           let so_far = s.sum ts m in
           record {

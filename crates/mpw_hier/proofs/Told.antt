@@ -1,11 +1,16 @@
 -- Sizes that tell totals.
-use Rattle.std.proofs.Common.{◌≡◌, ℕ, zero, suc, ◌+◌, ◌*◌, ◌^◌, ◌<◌, ◌≤◌, min, max, inl, inr, refl, ap, sym, subst, ◌∙◌, arith}
+use Rattle.std.proofs.Common.{◌≡◌, ℕ, zero, suc, ◌+◌, ◌*◌, ◌^◌, ◌<◌, ◌≤◌, min, max, List, [], ◌∷◌, length, All, inl, inr, refl, ap, sym, subst, ◌∙◌, arith}
 use Rattle.std.proofs.Math.Nat.{mul-le-mul_left}
+use Rattle.std.specs.Prelude.{nat_lt}
 use Rattle.std.proofs.lemmas.Bool.{cases_lt}
+use Rattle.std.proofs.lemmas.Bool.Decides.{nat_tests}
+use Rattle.std.proofs.lemmas.List.Elements.{All-nil, All-cons}
 use Rattle.mpw_elements.specs.declared.element.Reference.{Reference}
 use Rattle.mpw_hier.specs.declared.size.Size.{Size}
+use Rattle.mpw_hier.specs.Items.{Item}
 use Rattle.mpw_hier.specs.Boxes.{hull}
-use Rattle.mpw_hier.specs.Sizes.{Total, IsNear, IsToldBy, together, array_extent, array_total}
+use Rattle.mpw_hier.specs.Sizes.{Total, IsExtentNear, IsToldBy, AreToldBy}
+use Rattle.mpw_hier.specs.SizeParts.{together, array_extent, array_total}
 use Rattle.mpw_hier.proofs.Nearness.{near_hull}
 
 -- ---- counts up to a limit
@@ -33,13 +38,43 @@ told_together a b s o r p q count height extent = record {
   count = count ∙ rw (p.count, q.count) (least_sum (2 ^ 20 + 1) a.count b.count);
   height = height ∙ rw (p.height, q.height) (omega arith);
   extent = extent ∙ rw (p.extent, q.extent) refl;
-  near = subst IsNear (sym extent) (near_hull s.extent o.extent p.near q.near);
+  near = subst IsExtentNear (sym extent) (near_hull s.extent o.extent p.near q.near);
 }
 
-pub told_array : (r : Reference) (t : Total) (s o : Size) (h : ℕ) → IsToldBy t s → o.count ≡ min (2 ^ 20 + 1) (r.columns * r.rows * s.count) → h ≡ min s.height 64 → o.height ≡ h + 1 → o.extent ≡ array_extent r s.extent → IsNear o.extent → IsToldBy (array_total r t) o
+pub told_array : (r : Reference) (t : Total) (s o : Size) (h : ℕ) → IsToldBy t s → o.count ≡ min (2 ^ 20 + 1) (r.columns * r.rows * s.count) → h ≡ min s.height 64 → o.height ≡ h + 1 → o.extent ≡ array_extent r s.extent → IsExtentNear o.extent → IsToldBy (array_total r t) o
 told_array r t s o h p count least height extent near = record {
   count = count ∙ rw p.count (least_product (2 ^ 20 + 1) (r.columns * r.rows) t.count);
   height = height ∙ rw (least, p.height) (omega arith);
   extent = extent ∙ ap (array_extent r) p.extent;
   near = near;
 }
+
+-- ---- what a caller reads off
+
+-- one total, one size
+pub one_size : (t : Total) (a b : Size) → IsToldBy t a → IsToldBy t b → a ≡ b
+one_size t a b p q =
+    let count = p.count ∙ sym q.count in
+    let height = p.height ∙ sym q.height in
+    let extent = p.extent ∙ sym q.extent in
+    let k : ◌≡◌ {A = Size} (record { count = a.count; height = a.height; extent = a.extent }) (record { count = b.count; height = b.height; extent = b.extent }) = cc in k
+
+-- the limits of a total are those of its size
+pub told_count : (t : Total) (s : Size) → IsToldBy t s → nat_lt (2 ^ 20) s.count ≡ nat_lt (2 ^ 20) t.count
+told_count t s h = let e = h.count in grind (arith, nat_tests)
+
+pub told_height : (t : Total) (s : Size) → IsToldBy t s → nat_lt 64 s.height ≡ nat_lt 64 t.levels
+told_height t s h = let e = h.height in grind (arith, nat_tests)
+
+-- a size for each name, none of which reaches too far
+pub told_length : (items : List ℕ → List Item) (heights : List ℕ → ℕ) (names : List (List ℕ)) (sizes : List Size) → AreToldBy items heights names sizes → length sizes ≡ length names
+told_length items heights [] [] h = refl
+told_length items heights [] (s ∷ ss) h = absurd h
+told_length items heights (n ∷ ns) [] h = absurd h
+told_length items heights (n ∷ ns) (s ∷ ss) h = ap suc (told_length items heights ns ss h.1)
+
+pub told_near : (items : List ℕ → List Item) (heights : List ℕ → ℕ) (names : List (List ℕ)) (sizes : List Size) → AreToldBy items heights names sizes → All (λ (s : Size). IsExtentNear s.extent) sizes
+told_near items heights [] [] h = All-nil (λ (s : Size). IsExtentNear s.extent)
+told_near items heights [] (s ∷ ss) h = absurd h
+told_near items heights (n ∷ ns) [] h = absurd h
+told_near items heights (n ∷ ns) (s ∷ ss) h = All-cons (λ (z : Size). IsExtentNear z.extent) s ss h.0.near (told_near items heights ns ss h.1)

@@ -12,3 +12,4 @@ pub mod Limits
 pub mod Sizes
 pub mod Nodes
 pub mod Building
+pub mod SizeParts

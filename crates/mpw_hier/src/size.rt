@@ -10,7 +10,8 @@ ghost use Rattle.mpw_hier.specs.Structures.{references, names_of};
 ghost use Rattle.mpw_hier.specs.Items.{Item, shown_items};
 ghost use Rattle.mpw_hier.specs.Values.{shown_height};
 ghost use Rattle.mpw_hier.specs.Boxes.{element_box, extent_of};
-ghost use Rattle.mpw_hier.specs.Sizes.{Total, IsNear, IsFar, IsToldBy, AreToldBy, total_of, nothing, together, array_extent, shape_total, array_total, part_total, behind};
+ghost use Rattle.mpw_hier.specs.Sizes.{Total, IsExtentNear, IsExtentFar, IsToldBy, AreToldBy, total_of};
+ghost use Rattle.mpw_hier.specs.SizeParts.{nothing, together, array_extent, shape_total, array_total, part_total, behind};
 
 use crate::size_array::array_box;
 use crate::size_box::{hull, is_box_near};
@@ -64,7 +65,7 @@ impl Size {
 fn shape_size(element: &Element) -> Option<Size>
     requires { IsElement element.now }
     ensures size { IfSome result (IsToldBy (shape_total element.now)) }
-    ensures far { IfNone result (IsFar (element_box element.now)) }
+    ensures far { IfNone result (IsExtentFar (element_box element.now)) }
 {
     let extent = element_box(element);
     if let Some(b) = extent {
@@ -91,9 +92,9 @@ fn array_count(reference: &Reference, count: u32) -> u32
 /// The size of all instances of a target; none where they reach beyond 2^30 nm.
 fn array_size(reference: &Reference, target: Size) -> Option<Size>
     requires reference { IsReference reference.now }
-    requires near { IsNear target.extent }
+    requires near { IsExtentNear target.extent }
     ensures size { (t : Total) → IsToldBy t target → IfSome result (IsToldBy (array_total reference.now t)) }
-    ensures far { IfNone result (IsFar (array_extent reference.now target.extent)) }
+    ensures far { IfNone result (IsExtentFar (array_extent reference.now target.extent)) }
 {
     let mut extent = None;
     if let Some(b) = target.extent {
@@ -111,9 +112,9 @@ fn array_size(reference: &Reference, target: Size) -> Option<Size>
 fn part_size(element: &Element, left: &[Size]) -> Option<Size>
     requires element { IsElement element.now }
     requires targets { length (references (element.now ∷ [])) ≤ length left.now }
-    requires near { All (λ size. IsNear size.extent) left.now }
+    requires near { All (λ size. IsExtentNear size.extent) left.now }
     ensures size { (ts : List Total) → AllZip IsToldBy ts left.now → IfSome result (IsToldBy (part_total element.now ts)) }
-    ensures far { (ts : List Total) → AllZip IsToldBy ts left.now → IfNone result (IsFar (part_total element.now ts).extent) }
+    ensures far { (ts : List Total) → AllZip IsToldBy ts left.now → IfNone result (IsExtentFar (part_total element.now ts).extent) }
 {
     match element {
         Element::Reference(reference) => array_size(reference, left[0]),
@@ -139,9 +140,9 @@ fn behind<'a>(element: &Element, left: &'a [Size]) -> &'a [Size]
 pub fn size_of(structure: &Structure, below: &[Size]) -> Option<Size>
     requires elements { All IsElement structure.now.elements }
     requires targets { length below.now ≡ length (references structure.now.elements) }
-    requires near { All (λ size. IsNear size.extent) below.now }
+    requires near { All (λ size. IsExtentNear size.extent) below.now }
     ensures size { (number : ℕ) (items : List ℕ → List Item) (heights : List ℕ → ℕ) → AreToldBy items heights (names_of structure.now.elements) below.now → IfSome result (IsToldBy (total_of (shown_items number structure.now items) (shown_height structure.now heights))) }
-    ensures far { (number : ℕ) (items : List ℕ → List Item) (heights : List ℕ → ℕ) → AreToldBy items heights (names_of structure.now.elements) below.now → IfNone result (IsFar (extent_of (shown_items number structure.now items))) }
+    ensures far { (number : ℕ) (items : List ℕ → List Item) (heights : List ℕ → ℕ) → AreToldBy items heights (names_of structure.now.elements) below.now → IfNone result (IsExtentFar (extent_of (shown_items number structure.now items))) }
 {
     let mut size = Size::nothing();
     let mut left = below;

@@ -7,14 +7,13 @@ ghost use Rattle.std.specs.Prelude.{◌≡◌, ◌-◌, ◌+ℤ◌, ◌*ℤ◌, 
 ghost use Rattle.std.specs.Int.{int_min, int_max};
 ghost use Rattle.mpw_geom.specs.declared.plane.Box2.{Box2};
 ghost use Rattle.mpw_elements.specs.Element.{IsCount, IsPointWithinReach, IsReference};
-ghost use Rattle.mpw_hier.specs.Boxes.{is_near, is_box_near, placed_box};
-ghost use Rattle.mpw_hier.specs.Sizes.{IsWide, IsWideBox, IsFar, array_extent};
+ghost use Rattle.mpw_hier.specs.Boxes.{is_box_near, placed_box};
+ghost use Rattle.mpw_hier.specs.Sizes.{IsExtentFar};
+ghost use Rattle.mpw_hier.specs.SizeParts.{IsWide, IsWideBox, array_extent};
 
+use crate::size_box::is_near;
 use mpw_elements::Reference;
 use mpw_geom::{Box2, Placing, Point};
-
-/// How far from 0 a coordinate of an extent may lie, in nm.
-const REACH: i128 = 1 << 30;
 
 /// A box in nm whose corners may lie beyond 64 bits.
 #[derive(Clone, Copy)]
@@ -30,12 +29,6 @@ struct WideBox {
 struct WidePoint {
     x: i128,
     y: i128,
-}
-
-fn is_near(z: i128) -> bool
-    ensures { result ≡ is_near z }
-{
-    -REACH <= z && z <= REACH
 }
 
 impl WideBox {
@@ -141,7 +134,7 @@ pub fn array_box(reference: &Reference, b: Box2) -> Option<Box2>
     requires near { is_box_near b ≡ true }
     ensures near { IfSome result (λ box. is_box_near box ≡ true) }
     ensures whole { IfSome result (λ box. array_extent reference.now (Some b) ≡ Some box) }
-    ensures far { IfNone result (IsFar (array_extent reference.now (Some b))) }
+    ensures far { IfNone result (IsExtentFar (array_extent reference.now (Some b))) }
 {
     let first = first_box(reference, b);
     let columns = origins(last_origin(reference.columns, reference.column_step));

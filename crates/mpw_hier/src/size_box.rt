@@ -6,7 +6,7 @@ ghost use Rattle.mpw_hier.specs.Boxes.{joined, hull, has_area, is_near, is_box_n
 use mpw_geom::Box2;
 
 /// How far from 0 a coordinate of an extent may lie, in nm.
-const REACH: i64 = 1 << 30;
+const REACH: i128 = 1 << 30;
 
 /// The least box that holds two.
 pub fn joined(a: Box2, b: Box2) -> Box2
@@ -38,16 +38,19 @@ pub fn has_area(b: Box2) -> bool
     b.x0 < b.x1 && b.y0 < b.y1
 }
 
-fn is_near(z: i64) -> bool
+/// Whether a coordinate lies from -2^30 to 2^30 nm.
+pub fn is_near(z: i128) -> bool
     ensures { result ≡ is_near z }
 {
     -REACH <= z && z <= REACH
 }
 
 /// Whether both corners lie from -2^30 to 2^30 nm.
-#[tactic(auto, unfolding(crate::specs::Boxes::is_box_near))]
 pub fn is_box_near(b: Box2) -> bool
     ensures { result ≡ is_box_near b }
 {
-    is_near(b.x0) & is_near(b.y0) & is_near(b.x1) & is_near(b.y1)
+    is_near(i128::from(b.x0))
+        & is_near(i128::from(b.y0))
+        & is_near(i128::from(b.x1))
+        & is_near(i128::from(b.y1))
 }

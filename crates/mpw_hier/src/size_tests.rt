@@ -4,7 +4,7 @@ ghost use Rattle.std.specs.Prelude.{◌≤◌, IsTrue, length};
 ghost use Rattle.std.specs.List.{list_all};
 ghost use Rattle.mpw_elements.specs.Element.{IsCount, IsPointWithinReach, IsWithinReach, each_step, is_segment};
 ghost use Rattle.mpw_shapes.specs.Near.{is_near};
-ghost use Rattle.mpw_hier.specs.Sizes.{IsNear};
+ghost use Rattle.mpw_hier.specs.Sizes.{IsExtentNear};
 
 use crate::size::{Size, size_of};
 use crate::size_shape::element_box;
@@ -24,7 +24,7 @@ const METAL: Layer = Layer {
 /// The size of a square with sides of 4 nm.
 #[tactic(auto, unfolding(crate::specs::Boxes::is_box_near))]
 fn square() -> Size
-    ensures { IsNear result.extent }
+    ensures { IsExtentNear result.extent }
 {
     Size {
         count: 1,
@@ -55,7 +55,7 @@ fn arrayed(
     requires rows { IsCount rows }
     requires column_step { IsPointWithinReach column_step }
     requires row_step { IsPointWithinReach row_step }
-    requires near { IsNear target.extent }
+    requires near { IsExtentNear target.extent }
 {
     let array = Reference {
         name: Name::read(alloc, b"PAD")?,

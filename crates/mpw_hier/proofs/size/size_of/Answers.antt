@@ -1,6 +1,6 @@
 use Rattle.std.proofs.Common.{◌≡◌, ◌<◌, length, get_or, ap, subst, ◌∙◌, arith}
 use Rattle.mpw_hier.specs.Structures.{names_of}
-use Rattle.mpw_hier.specs.Sizes.{Total, IsFar, IsToldBy}
+use Rattle.mpw_hier.specs.Sizes.{Total, IsExtentFar, IsToldBy}
 use Rattle.mpw_hier.proofs.ShownSizes.{targets, total_shown, told_targets, far_total}
 use Rattle.mpw_hier.proofs.Sizing.{sized_none, sized_more, sized_all}
 use Rattle.mpw_hier.proofs.size.size_of.Goals as goal
@@ -37,4 +37,4 @@ returns-in_err-part_size-clause-far c =
     let ts = targets number items heights es in
     let sum = c.loop-element.invariant.sum ts (told_targets number items heights (names_of es) c.args.below.now told) in
     let far = far_total es ts i c.loop-element.left.now c.loop-element.size e within is sum (c.in_err-part_size.ensures.far sum.rest sum.matched) in
-    rw c.from_residual.ensures (subst IsFar (ap (λ (t : Total). t.extent) (total_shown number items heights s)) far)
+    rw c.from_residual.ensures (subst IsExtentFar (ap (λ (t : Total). t.extent) (total_shown number items heights s)) far)

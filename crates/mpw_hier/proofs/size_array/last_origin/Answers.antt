@@ -1,5 +1,5 @@
 use Rattle.std.proofs.Common.{◌≤◌, ◌-◌, sym, subst, arith}
-use Rattle.mpw_hier.specs.Sizes.{IsWide}
+use Rattle.mpw_hier.specs.SizeParts.{IsWide}
 use Rattle.mpw_hier.proofs.Reaching.{product_is, product_wide}
 use Rattle.mpw_hier.proofs.size_array.last_origin.Goals as goal
 

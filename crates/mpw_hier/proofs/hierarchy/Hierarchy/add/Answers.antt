@@ -6,7 +6,7 @@ use Rattle.mpw_hier.specs.declared.node.Node.{Node}
 use Rattle.mpw_hier.specs.declared.size.Size.{Size}
 use Rattle.mpw_hier.specs.Structures.{references, names_of}
 use Rattle.mpw_hier.specs.Nodes.{AreChildren, shape_places, structure_levels}
-use Rattle.mpw_hier.specs.Sizes.{IsNear}
+use Rattle.mpw_hier.specs.Sizes.{IsExtentNear}
 use Rattle.mpw_hier.specs.Building.{AreLinked, AreKnown, AreSizesHere}
 use Rattle.mpw_hier.specs.Values.{structure_items, flats, heights}
 use Rattle.mpw_hier.proofs.Adding.{place_read, place_named, elements_of, sizes_each, sizes_near, added_far, added_size, added_linked}
@@ -45,7 +45,7 @@ size_of-requires-clause-near c =
     let t = c.index-structures-place.result in
     let below = c.in_ok-parts.parts.below.items in
     let told = subst (λ (es : List Element). AreSizesHere ss s es below) c.as_slice.ensures c.in_ok-parts.ensures.below in
-    subst (λ (sizes : List Size). All (λ size. IsNear size.extent) sizes) (sym c.deref.ensures.value) (sizes_near ss s t.elements below told)
+    subst (λ (sizes : List Size). All (λ size. IsExtentNear size.extent) sizes) (sym c.deref.ensures.value) (sizes_near ss s t.elements below told)
 
 pub returns-in_default-clause-far : goal.returns-in_default-clause-far
 returns-in_default-clause-far c =
