@@ -4,9 +4,14 @@ use Rattle.std.proofs.lemmas.List.{at_drop_more}
 use Rattle.mpw_hier.specs.declared.bindings.Binding.{Binding}
 use Rattle.mpw_hier.specs.declared.submission.Submission.{Submission}
 use Rattle.mpw_geom.specs.Names.{name_eq, contains_name}
-use Rattle.mpw_hier.specs.Shelf.{later, present_from, present, bound_before, bound_to, bound_behind}
+use Rattle.mpw_hier.specs.Shelf.{later, present_from, present, bound_before, bound_to}
 use Rattle.mpw_hier.specs.Values.{bound_number}
 use Rattle.mpw_hier.proofs.Linking.{same_name, name_itself, or_cases}
+
+-- Bindings behind others.
+abbrev pub bound_behind : List Binding → Option (List Binding) → Option (List Binding)
+bound_behind front None = None
+bound_behind front (Some bindings) = Some (front ++ bindings)
 
 pub bound_more : (ss : List Submission) (names : List (List ℕ)) (i : ℕ) (name : List ℕ) → i < length names → name ≡ get_or names i name → bound_to ss (drop i names) ≡ bound_before name (present ss name) (bound_to ss (drop (i + 1) names))
 unfolding bound_to

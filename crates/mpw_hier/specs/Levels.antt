@@ -15,6 +15,7 @@ by_levels shown nothing outside zero library name = nothing
 by_levels shown nothing outside (suc levels) library name =
     at_structure (λ s. shown s (λ target. by_levels shown nothing outside levels library target)) (outside name) (structure_of library name)
 
--- Without a cycle there are at most as many levels as structures, and one for the names outside.
+-- Without a cycle there are at most as many levels as structures, and one for the names outside. With one, what is shown
+-- ends at the last level and means nothing.
 abbrev pub levels_of : List Structure → ℕ
 levels_of library = suc (length library)

@@ -14,7 +14,8 @@ use Rattle.mpw_hier.specs.Boxes.{extent_of, is_box_near}
 use Rattle.mpw_hier.specs.Shelf.{present, versions, bound_to}
 use Rattle.mpw_hier.specs.Values.{structure_items, flat_of, flats, height_of, heights}
 
--- A structure of the library below the top reaches beyond 2^30 nm, in its own coordinates.
+-- The extent of a structure of the library that the top reaches, the top itself among them, lies beyond 2^30 nm, in its own
+-- coordinates.
 pub record IsFar (ss : List Submission) (s : Submission) : Type 0 where
   pub structure : List ℕ
   pub place : ℕ
@@ -46,7 +47,7 @@ pub record IsBound (ss : List Submission) (s : Submission) : Type 0 where
   pub externals : AreExternals s.library s.top names
   pub bound : bound_to ss names ≡ Some s.bound
 
--- What can stand in the way of the nodes of a submission that is bound.
+-- Want of memory or an extent: no other fault comes of making the nodes of a submission that is bound.
 abbrev pub IsOfNodes : HierFault → Type 0
 IsOfNodes faults.Memory = Unit {0}
 IsOfNodes faults.Extent = Unit {0}

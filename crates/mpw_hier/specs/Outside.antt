@@ -4,6 +4,8 @@ use Rattle.std.specs.List.{flat_map}
 use Rattle.mpw_geom.specs.Names.{by_name, contains_name}
 use Rattle.mpw_library.specs.declared.structures.Structure.{Structure}
 use Rattle.mpw_library.specs.Places.{place_of}
+use Rattle.mpw_hier.specs.declared.fault.HierFault.{HierFault}
+use Rattle.mpw_hier.specs.declared.fault.HierFault.TheVariants as faults
 use Rattle.mpw_hier.specs.Structures.{names_of, target_names, IsCyclic, IsOutside}
 
 abbrev pub known_before : Option ℕ → List ℕ → List ℕ
@@ -50,3 +52,14 @@ pub record AreExternals (library : List Structure) (top : List ℕ) (names : Lis
   pub acyclic : IsCyclic library top → ⊥
   pub by_name : IsByName names
   pub outside : (name : List ℕ) → (contains_name names name ≡ true) ↔ IsOutside library top name
+
+-- What keeps from telling the names outside a library: want of memory, no top or a cycle.
+abbrev pub IsOfExternals : List Structure → List ℕ → HierFault → Type 0
+IsOfExternals library top faults.Memory = Unit {0}
+IsOfExternals library top faults.NoTop = place_of library top ≡ None
+IsOfExternals library top faults.Cycle = IsCyclic library top
+IsOfExternals library top faults.NoCell = ⊥
+IsOfExternals library top faults.Extent = ⊥
+IsOfExternals library top faults.Shapes = ⊥
+IsOfExternals library top faults.Deep = ⊥
+IsOfExternals library top faults.Full = ⊥

@@ -1,7 +1,9 @@
 -- The shelf: submissions in the order in which they came. The number of a submission is its place, counted from 0.
-use Rattle.std.specs.Prelude.{ℕ, ◌+◌, List, [], ◌∷◌, ◌++◌, count_by, Option, Some, None, if◌then◌else◌}
+use Rattle.std.specs.Prelude.{◌≡◌, ℕ, ◌+◌, List, [], ◌∷◌, count_by, Option, Some, None, if◌then◌else◌}
 use Rattle.mpw_geom.specs.Names.{name_eq}
 use Rattle.mpw_hier.specs.declared.bindings.Binding.{Binding}
+use Rattle.mpw_hier.specs.declared.fault.HierFault.{HierFault}
+use Rattle.mpw_hier.specs.declared.fault.HierFault.TheVariants as faults
 use Rattle.mpw_hier.specs.declared.submission.Submission.{Submission}
 
 -- The later of two numbers, where there is one.
@@ -34,7 +36,13 @@ unfoldable pub bound_to : List Submission → List (List ℕ) → Option (List B
 bound_to ss [] = Some []
 bound_to ss (name ∷ names) = bound_before name (present ss name) (bound_to ss names)
 
--- Bindings behind others.
-abbrev pub bound_behind : List Binding → Option (List Binding) → Option (List Binding)
-bound_behind front None = None
-bound_behind front (Some bindings) = Some (front ++ bindings)
+-- What keeps from binding names: want of memory, or a cell without a submission.
+abbrev pub IsOfBinding : List Submission → List (List ℕ) → HierFault → Type 0
+IsOfBinding ss names faults.Memory = Unit {0}
+IsOfBinding ss names faults.NoCell = bound_to ss names ≡ None
+IsOfBinding ss names faults.NoTop = ⊥
+IsOfBinding ss names faults.Cycle = ⊥
+IsOfBinding ss names faults.Extent = ⊥
+IsOfBinding ss names faults.Shapes = ⊥
+IsOfBinding ss names faults.Deep = ⊥
+IsOfBinding ss names faults.Full = ⊥

@@ -46,7 +46,7 @@ pub data IsReachable (library : List Structure) : List ℕ → List ℕ → Type
   itself : {name : List ℕ} → IsReachable library name name
   chain : {from middle to : List ℕ} → refers library from middle ≡ true → IsReachable library middle to → IsReachable library from to
 
--- A structure below the top refers to a name from which references lead back to it.
+-- A structure that the top reaches, the top itself among them, refers to a name from which references lead back to it.
 pub record IsCyclic (library : List Structure) (top : List ℕ) : Type 0 where
   pub structure : List ℕ
   pub next : List ℕ
@@ -54,7 +54,7 @@ pub record IsCyclic (library : List Structure) (top : List ℕ) : Type 0 where
   pub reference : refers library structure next ≡ true
   pub back : IsReachable library next structure
 
--- A name below the top that the library has no structure of.
+-- A name that the top reaches and that the library has no structure of.
 pub record IsOutside (library : List Structure) (top name : List ℕ) : Type 0 where
   pub below : IsReachable library top name
   pub missing : structure_of library name ≡ None

@@ -9,7 +9,7 @@ use thiserror::Error;
 /// Why a library can't be put on the shelf.
 #[derive(Debug, Drop, Error)]
 pub enum HierFault {
-    #[error("out of memory")]
+    #[error("memory")]
     Memory,
     /// The library has no structure of the top's name.
     #[error("notop")]

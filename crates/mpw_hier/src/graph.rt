@@ -1,8 +1,4 @@
-//! A graph of places by number, and the order in which each place comes behind its targets.
-//!
-//! The search goes down one way at a time and keeps it in a vector, so that no chain is too long for
-//! the stack. `left` tells for each place how many steps are left there: one for each target, one to
-//! end, and one more while it hasn't been entered.
+//! A graph of places by number.
 
 ghost use Rattle.std.specs.Prelude.{◌≡◌, ◌<◌, ◌^◌, ◌++◌, ◌∷◌, [], length, slice_index, OnOk};
 ghost use Rattle.mpw_hier.specs.Graph.{targets};

@@ -1,9 +1,9 @@
 //! Names outside a library.
 
-ghost use Rattle.std.specs.Prelude.{◌≡◌, ◌<◌, ◌++◌, ◌↔◌, ℕ, List, None, length, true, Err, IfOk, OnOk, All};
+ghost use Rattle.std.specs.Prelude.{◌≡◌, ◌<◌, ◌++◌, ◌↔◌, None, length, Err, IfOk, IfErr, OnOk, All};
 ghost use Rattle.mpw_library.specs.Places.{place_of};
-ghost use Rattle.mpw_hier.specs.Structures.{names_of, IsCyclic};
-ghost use Rattle.mpw_hier.specs.Outside.{places_of, names_outside, graph_of, outside_from_all, AreExternals};
+ghost use Rattle.mpw_hier.specs.Structures.{names_of};
+ghost use Rattle.mpw_hier.specs.Outside.{places_of, names_outside, graph_of, outside_from_all, AreExternals, IsOfExternals};
 
 use crate::fault::HierFault;
 use crate::graph::Graph;
@@ -80,7 +80,7 @@ fn outside_from(alloc: Global, library: &Library, places: &[usize]) -> Result<Na
 pub fn externals(alloc: Global, library: &Library, top: &Name) -> Result<Names, HierFault>
     ensures ok { IfOk result (AreExternals library.now top.now) }
     ensures no_top { (result ≡ Err HierFault.NoTop) ↔ (place_of library.now top.now ≡ None) }
-    ensures cycle { result ≡ Err HierFault.Cycle → IsCyclic library.now top.now }
+    ensures faults { IfErr result (IsOfExternals library.now top.now) }
 {
     let Some(place) = library.position(top) else {
         return Err(HierFault::NoTop);

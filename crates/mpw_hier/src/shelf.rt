@@ -1,7 +1,7 @@
 //! The shelf of submissions.
 
 ghost use Rattle.std.specs.Prelude.{◌≡◌, ◌+◌, ◌<◌, ◌≤◌, ◌^◌, ◌++◌, true, ◌∷◌, ℕ, [], length, Err, OnOk, OnErr, IfOk, IfErr, IfSome, IfNone, Some, None, option_copied, slice_get};
-ghost use Rattle.mpw_hier.specs.Shelf.{present, versions, bound_to};
+ghost use Rattle.mpw_hier.specs.Shelf.{present, versions, bound_to, IsOfBinding};
 ghost use Rattle.mpw_hier.specs.Limits.{IsBound, KeepsLimits, IsRefused, IsSubmitted, IsShelf, numbered, has_room_for};
 ghost use Rattle.mpw_library.specs.Library.{IsLibrary};
 ghost use Rattle.mpw_hier.specs.Nodes.{AreNodes, AreNodesOf};
@@ -105,8 +105,9 @@ impl Shelf {
         self.submissions.get(number as usize)
     }
 
-    /// The nodes of the submission of a number: the structures that it shows, each behind those that
-    /// it places, the top last. Takes no memory.
+    /// The nodes of the submission of a number, each behind those that it places, the top last. What
+    /// the top shows is found from there; that no other structure has a node isn't promised. Takes no
+    /// memory.
     pub fn nodes(&self, number: u32) -> Option<&[Node]>
         ensures some { IfSome result (λ nodes. AreNodes self.now number nodes.now) }
         ensures none { IfNone result (slice_get self.now number ≡ None) }
@@ -163,7 +164,7 @@ impl Shelf {
     /// `NoCell` where a cell has no submission, or want of memory.
     pub fn bind(&self, alloc: Global, names: &[Name]) -> Result<Bindings, HierFault>
         ensures ok { IfOk result (λ bindings. bound_to self.now names.now ≡ Some bindings) }
-        ensures no_cell { result ≡ Err HierFault.NoCell → bound_to self.now names.now ≡ None }
+        ensures faults { IfErr result (IsOfBinding self.now names.now) }
     {
         let mut bindings = Vec::new(alloc);
         for name in names {

@@ -16,9 +16,8 @@ order_from_below-requires-clause-top c =
     let e = sym c.position.ensures ∙ c.in-Some.is in
     rw c.in_ok-graph.ensures (omega (arith, graph_length ss, place_within ss c.args.top.now c.in-Some.place e))
 
-pub returns-in_default-2-clause-cycle : goal.returns-in_default-2-clause-cycle
-returns-in_default-2-clause-cycle c =
-    λ _.
+pub returns-in_default-2-clause-faults : goal.returns-in_default-2-clause-faults
+returns-in_default-2-clause-faults c =
     let ss = c.args.library.now in
     let place = c.in-Some.place in
     let e = sym c.position.ensures ∙ c.in-Some.is in

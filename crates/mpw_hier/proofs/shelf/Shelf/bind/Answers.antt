@@ -1,12 +1,11 @@
 use Rattle.std.proofs.Common.{◌+◌, drop, sym, ap, ◌∙◌, append-nil}
 use Rattle.std.proofs.lemmas.List.{at_drop_all}
-use Rattle.mpw_hier.specs.Shelf.{bound_before, bound_to, bound_behind}
-use Rattle.mpw_hier.proofs.Bound.{bound_more, bound_one}
+use Rattle.mpw_hier.specs.Shelf.{bound_before, bound_to}
+use Rattle.mpw_hier.proofs.Bound.{bound_behind, bound_more, bound_one}
 use Rattle.mpw_hier.proofs.shelf.Shelf.bind.Goals as goal
 
-pub returns-in_default-clause-no_cell : goal.returns-in_default-clause-no_cell
-returns-in_default-clause-no_cell c =
-    λ _.
+pub returns-in_default-clause-faults : goal.returns-in_default-clause-faults
+returns-in_default-clause-faults c =
     let ss = c.args.self.now in
     let names = c.args.names.now in
     let none = sym c.present.ensures ∙ c.in_default.is in

@@ -1,5 +1,6 @@
 use Rattle.std.proofs.Common.{◌≡◌, drop}
-use Rattle.mpw_hier.specs.Shelf.{bound_to, bound_behind}
+use Rattle.mpw_hier.specs.Shelf.{bound_to}
+use Rattle.mpw_hier.proofs.Bound.{bound_behind}
 use Rattle.mpw_hier.proofs.shelf.Shelf.bind.Given as goal
 
 -- the bindings so far, and those to come
