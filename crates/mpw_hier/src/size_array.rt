@@ -1,7 +1,8 @@
 //! The least boxes of all instances of an array. Nothing here takes memory.
 //!
-//! The instances at the four corners reach as far as all of them, and the first one as far back as the
-//! steps lead on. Sums are made in 128 bits, since the last instance of a wide array may lie beyond 64.
+//! The instances at the four corners of an array reach as far as all of them, so the first instance and
+//! the ways to the last column and the last row are enough. Sums are made in 128 bits, since the last
+//! instance of a wide array may lie beyond 64.
 
 ghost use Rattle.std.specs.Prelude.{◌≡◌, ◌-◌, ◌+ℤ◌, ◌*ℤ◌, pos, true, Some, IfSome, IfNone};
 ghost use Rattle.std.specs.Int.{int_min, int_max};

@@ -11,6 +11,7 @@ use mpw_elements::{Element, Path};
 use mpw_geom::{Box2, Point};
 use mpw_shapes::{Wire, first_wire};
 
+/// The box of a point.
 fn dot(p: Point) -> Box2
     ensures { result ≡ record { x0 = p.x; y0 = p.y; x1 = p.x; y1 = p.y } }
 {
@@ -22,6 +23,7 @@ fn dot(p: Point) -> Box2
     }
 }
 
+/// The least box that holds the points.
 fn points_box(points: &[Point]) -> Option<Box2>
     ensures { result ≡ hull_of_points points.now }
 {
@@ -32,6 +34,7 @@ fn points_box(points: &[Point]) -> Option<Box2>
     extent
 }
 
+/// The box, if it has area.
 fn if_area(b: Box2) -> Option<Box2>
     ensures { result ≡ (if has_area b then Some b else None) }
 {
