@@ -435,3 +435,20 @@ fn copies(rt: HostRuntime) -> Result<(), Fail> {
     assert_eq!(rt; copy.points.as_slice().len(), 4);
     Ok(())
 }
+
+#[test]
+fn a_payload_of_the_greatest_size(rt: HostRuntime) -> Result<(), Fail> {
+    let alloc = rt.alloc();
+    let mut text = Sample::new(alloc, NANOMETRE)?;
+    text.begin("TOP")?;
+    for x in 0..262141 {
+        text.boundary(1, 0, &[(x, 0), (x + 4, 0), (x + 4, 4), (x, 4), (x, 0)])?;
+    }
+    text.end()?;
+    let bytes = text.finish()?;
+    assert_eq!(rt; bytes.len(), 16777128);
+    let library = read_library(alloc, &bytes)?;
+    let structure = library.structures().first().ok_or("a structure")?;
+    assert_eq!(rt; structure.elements.as_slice().len(), 262141);
+    Ok(())
+}
