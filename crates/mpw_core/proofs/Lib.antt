@@ -2,3 +2,4 @@ pub mod AnswerLemmas
 pub mod AuthorizationLemmas
 pub mod HistoryLemmas
 pub mod RefusalLemmas
+pub mod DenialLemmas

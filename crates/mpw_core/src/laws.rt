@@ -1,17 +1,22 @@
 //! Laws of the definitions alone. Each function has an empty body: its contract is the law.
 ghost use Rattle.std.specs.Prelude.{◌≡◌, ℕ, List, true, false, None};
-ghost use Rattle.mpw_rbac.specs.Policy.{is_user, session_of};
-ghost use Rattle.mpw_rbac.specs.Rows.{is_login};
+ghost use Rattle.mpw_geom.specs.Names.{contains_name};
+ghost use Rattle.mpw_rbac.specs.Policy.{authorized, is_user, permits, session_of};
+ghost use Rattle.mpw_rbac.specs.Rows.{is_login, user_of};
 ghost use Rattle.mpw_rbac.specs.Sound.{active_authorized, Sound};
 ghost use Rattle.mpw_core.specs.History.{state_after};
 ghost use Rattle.mpw_core.specs.Step.{State, new_state, outcome_of, reply_of, after};
 ghost use Rattle.mpw_core.specs.declared.event.Event.{Event};
+ghost use Rattle.mpw_core.specs.declared.event.Event.TheVariants as event;
+ghost use Rattle.mpw_core.specs.declared.event.Request.{Request as AnyRequest};
 ghost use Rattle.mpw_core.specs.declared.event.Request.TheVariants as Request;
 ghost use Rattle.mpw_core.specs.declared.reply.Code.{Code};
 ghost use Rattle.mpw_core.specs.declared.reply.Denial.{Denial};
 ghost use Rattle.mpw_core.specs.declared.reply.Denial.TheVariants as denial;
 ghost use Rattle.mpw_core.specs.declared.reply.Reply.TheVariants as Reply;
 ghost use Rattle.mpw_core.specs.declared.event.Call.{Call};
+ghost use Rattle.mpw_rbac.specs.declared.permission.Object.{Object};
+ghost use Rattle.mpw_rbac.specs.declared.permission.Operation.{Operation};
 
 /// In every state that calls lead to, each session is of a user who is authorized for each of its active roles.
 pub fn every_state_keeps_authorization()
@@ -34,4 +39,11 @@ pub fn unknown_users_are_denied_like_wrong_tokens()
 pub fn denials_and_refusals_change_nothing()
     ensures denied { (state : State) (event : Event) (why : Denial) → reply_of state event ≡ Reply.Denied why → after state event ≡ state }
     ensures refused { (state : State) (event : Event) (why : Code) → reply_of state event ≡ Reply.Refused why → after state event ≡ state }
+{}
+
+/// A denial of a permission, whatever the request, names one that the connection's session lacks. A denial of an
+/// activation names the role that was asked for, and the session's user is not authorized for it.
+pub fn denials_name_what_the_session_lacks()
+    ensures permission { (state : State) (conn : ℕ) (request : AnyRequest) (operation : Operation) (object : Object) → reply_of state (event.Ask conn request) ≡ Reply.Denied (denial.Permission operation object) → permits state.policy conn operation object ≡ false }
+    ensures activation { (state : State) (conn : ℕ) (role other : List ℕ) → reply_of state (event.Ask conn (Request.Activate role)) ≡ Reply.Denied (denial.Activation other) → (other ≡ role) × (contains_name (authorized state.policy (user_of state.policy conn)) role ≡ false) }
 {}

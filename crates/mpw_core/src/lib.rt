@@ -15,7 +15,8 @@ mod reply;
 pub use desk::{Core, MAX_EVENTS, replay};
 pub use event::{Call, Event, Request};
 pub use laws::{
-    denials_and_refusals_change_nothing, every_state_keeps_authorization,
-    every_state_keeps_separation, unknown_users_are_denied_like_wrong_tokens,
+    denials_and_refusals_change_nothing, denials_name_what_the_session_lacks,
+    every_state_keeps_authorization, every_state_keeps_separation,
+    unknown_users_are_denied_like_wrong_tokens,
 };
 pub use reply::{Code, Denial, Line, Lines, Reply};

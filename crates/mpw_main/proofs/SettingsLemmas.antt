@@ -1,11 +1,20 @@
 -- What a parse found, by name.
-use Rattle.std.proofs.Common.{rules, ◌≡◌, ◌∙◌, Bool, true, false, List, [], ◌∷◌, Option, Some, None, refl, ap, map, find, option_map, option_and_then, slice_get, if◌then◌else◌}
+use Rattle.std.proofs.Common.{rules, ◌≡◌, ◌∙◌, inl, inr, sym, subst, ℕ, length, codes, Bool, true, false, List, [], ◌∷◌, Option, Some, None, refl, ap, map, find, option_map, option_and_then, Result, Ok, Err, slice_get, if◌then◌else◌}
+use Rattle.std.specs.Prelude.{IfErr}
 use Rattle.std.specs.Str.{bytes_eq}
 use Rattle.clap.specs.declared.parser.matches.Found.{Found}
 use Rattle.clap.specs.Words.{Text, first_of, first_value, rows_of}
 use Rattle.clap.specs.Walk.{row_of}
 use Rattle.clap.specs.Facts.{Entry}
 use Rattle.std.specs.Borrow.{Bor}
+use Rattle.clap.specs.Words.{HasKind, Row, kind_of}
+use Rattle.clap.specs.declared.error.Error.{Error}
+use Rattle.clap.specs.declared.error.kind.ErrorKind.TheVariants.{OutOfMemory}
+use Rattle.mpw_geom.specs.Name.{IsName}
+use Rattle.mpw_wire.specs.Digest.{Spells}
+use Rattle.mpw_main.specs.Settings.{GiveNoOptions, IsFaultOf}
+use Rattle.mpw_main.specs.declared.fault.ProgramFault.{ProgramFault}
+use Rattle.mpw_main.specs.declared.settings.Settings.TheVariants.{Script}
 
 find-map : {X Y : Type 0} (f : X → Y) (p : Y → Bool) (xs : List X) → find p (map f xs) ≡ option_map f (find (λ x. p (f x)) xs)
 find-map f p [] = refl
@@ -29,3 +38,33 @@ first_is_value f id = ap (option_and_then (λ r. slice_get r.values 0)) (find-ma
 pub both_parts : {X Y : Type 0} (o : Option (X × Y)) (x : X) (y : Y) → option_map (λ p. p.0) o ≡ Some x → option_map (λ p. p.1) o ≡ Some y → o ≡ Some (x, y)
 both_parts None x y e f = absurd (search (e, rules))
 both_parts (Some (a, b)) x y e f = search (e, f, rules)
+
+same-text : (a b : Text) → Some a ≡ Some b → a ≡ b
+same-text a b e = cc
+
+-- options that give no settings
+pub no-officer : (rows : List Row) → first_of (codes "officer") rows ≡ None → GiveNoOptions rows
+no-officer rows none (Script officer digest) given = let e : None ≡ Some officer = sym none ∙ given.0 in cc
+
+pub no-digits : (rows : List Row) → first_of (codes "digest") rows ≡ None → GiveNoOptions rows
+no-digits rows none (Script officer digest) given = let e : None ≡ Some given.2.0 = sym none ∙ given.2.1 in cc
+
+pub bad-officer : (rows : List Row) (text : Text) → first_of (codes "officer") rows ≡ Some text → (IsName text → ⊥) → GiveNoOptions rows
+bad-officer rows text found bad (Script officer digest) given = bad (subst IsName (same-text officer text (sym given.0 ∙ found)) given.1)
+
+pub bad-digits : (rows : List Row) (text : Text) → first_of (codes "digest") rows ≡ Some text → ((digest : List ℕ) → Spells text digest → length digest ≡ 32 → ⊥) → GiveNoOptions rows
+bad-digits rows text found bad (Script officer digest) given =
+    bad digest (subst (λ t. Spells t digest) (same-text given.2.0 text (sym given.2.1 ∙ found)) given.2.2) given.3
+
+pub told-more : (first second : Type 0) (fault : ProgramFault) → (first → second) → IsFaultOf first fault → IsFaultOf second fault
+told-more first second fault more (inl memory) = inl memory
+told-more first second fault more (inr told) = inr (more told)
+
+pub refused-more : {X : Type 0} (result : Result X ProgramFault) (first second : Type 0) → (first → second) → IfErr result (IsFaultOf first) → IfErr result (IsFaultOf second)
+refused-more (Ok x) first second more told = tt
+refused-more (Err fault) first second more told = told-more first second fault more told
+
+-- no kind of error is left but want of memory
+pub no-kind : (error : Error) → (kind_of error ≡ OutOfMemory → ⊥) → HasKind [] error → ⊥
+no-kind error other (inl memory) = other memory
+no-kind error other (inr never) = never

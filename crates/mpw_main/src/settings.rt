@@ -1,9 +1,9 @@
 //! The command line.
-ghost use Rattle.std.specs.Prelude.{◌≡◌, IfOk, map, codes, false, List, Some};
+ghost use Rattle.std.specs.Prelude.{◌≡◌, IfOk, IfErr, map, codes, false, List, Some};
 ghost use Rattle.mpw_geom.specs.Name.{IsName};
 ghost use Rattle.clap.specs.Words.{Row, app_of, found_of, rows_of, rule_of, subcommand_rows_of};
 ghost use Rattle.clap.specs.declared.builder.command.Command.TheViews.{out-Command as fields_of};
-ghost use Rattle.mpw_main.specs.Settings.{AreGiven, AreOptions, required_option, script_app, program_app};
+ghost use Rattle.mpw_main.specs.Settings.{AreGiven, AreOptions, GiveNone, GiveNoOptions, IsFaultOf, required_option, script_app, program_app};
 
 use crate::fault::ProgramFault;
 use clap::error::ErrorKind;
@@ -72,7 +72,8 @@ fn usage(alloc: Global, text: &str) -> ProgramFault {
 
 /// The officer's name that a text is.
 fn read_officer(alloc: Global, text: &str) -> Result<Name, ProgramFault>
-    ensures { IfOk result (λ name. (name ≡ text.now) × IsName name) }
+    ensures ok { IfOk result (λ name. (name ≡ text.now) × IsName name) }
+    ensures refused { IfErr result (IsFaultOf (IsName text.now → ⊥)) }
 {
     match Name::read(alloc, text.as_bytes()) {
         Ok(officer) => Ok(officer),
@@ -86,7 +87,8 @@ fn read_officer(alloc: Global, text: &str) -> Result<Name, ProgramFault>
 
 /// The settings that the options of `script` give.
 fn script_settings(alloc: Global, options: &ArgMatches<'_>) -> Result<Settings, ProgramFault>
-    ensures { IfOk result (λ settings. AreOptions settings (rows_of (found_of options.now))) }
+    ensures ok { IfOk result (λ settings. AreOptions settings (rows_of (found_of options.now))) }
+    ensures refused { IfErr result (IsFaultOf (GiveNoOptions (rows_of (found_of options.now)))) }
 {
     let Some(officer) = options.get_str("officer") else {
         return Err(usage(alloc, "error: --officer has to be given"));
@@ -103,7 +105,8 @@ fn script_settings(alloc: Global, options: &ArgMatches<'_>) -> Result<Settings, 
 
 /// The settings of the subcommand that the words name.
 fn chosen(alloc: Global, matches: &ArgMatches<'_>) -> Result<Settings, ProgramFault>
-    ensures { IfOk result (λ settings. (rows : List Row) × (subcommand_rows_of matches.now ≡ Some (codes "script", rows)) × AreOptions settings rows) }
+    ensures ok { IfOk result (λ settings. (rows : List Row) × (subcommand_rows_of matches.now ≡ Some (codes "script", rows)) × AreOptions settings rows) }
+    ensures refused { IfErr result (IsFaultOf ((rows : List Row) → subcommand_rows_of matches.now ≡ Some (codes "script", rows) → GiveNoOptions rows)) }
 {
     match matches.subcommand() {
         Some((name, options)) if name == "script" => script_settings(alloc, options),
@@ -114,9 +117,10 @@ fn chosen(alloc: Global, matches: &ArgMatches<'_>) -> Result<Settings, ProgramFa
 /// The settings that the words of a command line give, the program's name first. One pass over the words.
 ///
 /// # Errors
-/// `Usage` with a text that says what is wrong and what is accepted, and `Memory`.
+/// `Usage`, only where the words give no settings, with a text that says what is wrong and what is accepted; and `Memory`.
 pub fn read_settings<'a>(alloc: Global, words: &'a [&'a str]) -> Result<Settings, ProgramFault>
-    ensures { IfOk result (λ settings. AreGiven settings (map (λ word. word.now) words.entry.now)) }
+    ensures ok { IfOk result (λ settings. AreGiven settings (map (λ word. word.now) words.entry.now)) }
+    ensures refused { IfErr result (IsFaultOf (GiveNone (map (λ word. word.now) words.entry.now))) }
 {
     match program_command(alloc)?.try_get_matches_from(words) {
         Ok(matches) => chosen(alloc, &matches),

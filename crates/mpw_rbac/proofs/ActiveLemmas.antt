@@ -6,7 +6,7 @@ use Rattle.mpw_geom.specs.Names.{name_eq, contains_name}
 use Rattle.mpw_roles.specs.Decided.{decided}
 use Rattle.mpw_roles.specs.Hierarchy.{Name}
 use Rattle.mpw_roles.proofs.CallerLemmas.{name_eq-refl, or_right, contains-filter}
-use Rattle.mpw_separation.specs.declared.set.SeparationSet.{SeparationSet}
+use Rattle.mpw_separation.specs.Set.{SeparationSet}
 use Rattle.mpw_rbac.specs.Laws.{is_session_of, AddsNoActive}
 use Rattle.mpw_rbac.specs.Policy.{Policy, authorized, is_user, kept_roles, trim}
 use Rattle.mpw_rbac.specs.Rows as rows

@@ -9,7 +9,7 @@ use Rattle.mpw_geom.specs.Names.{name_eq, contains_name}
 use Rattle.mpw_roles.specs.Hierarchy.{Name, Hierarchy}
 use Rattle.mpw_roles.specs.Order.{roles_below}
 use Rattle.mpw_separation.specs.Separation.{breaks, is_broken}
-use Rattle.mpw_separation.specs.declared.set.SeparationSet.{SeparationSet}
+use Rattle.mpw_separation.specs.Set.{SeparationSet}
 use Rattle.mpw_rbac.specs.Policy.{Policy, is_user, authorized, acting, assigned_roles, session_of, assigned_lists, active_lists}
 use Rattle.mpw_rbac.specs.Sound.{Sound}
 use Rattle.mpw_rbac.specs.Table.{has_key, value_at}

@@ -1,5 +1,5 @@
 -- A denial names what the session lacks.
-use Rattle.std.proofs.Common.{◌≡◌, ℕ, Bool, true, false, cond, not, ◌||◌, ◌&&◌, inl, inr, List, [], ◌∷◌, ◌++◌, Option, None, Some, Result, Err, refl, ap, subst, true≢false}
+use Rattle.std.proofs.Common.{◌≡◌, ℕ, Bool, true, false, cond, not, ◌||◌, ◌&&◌, inl, inr, List, [], ◌∷◌, ◌++◌, Option, None, Some, Result, Ok, Err, refl, ap, subst, true≢false}
 use Rattle.std.specs.Prelude.{nat_lt, length}
 use Rattle.std.specs.List.{list_any, list_all}
 use Rattle.mpw_geom.specs.Names.{contains_name}
@@ -9,11 +9,12 @@ use Rattle.mpw_roles.specs.Order.{at_least, roles_below}
 use Rattle.mpw_roles.proofs.CallerLemmas.{or_cases, or_right, roles_below-grows}
 use Rattle.mpw_separation.specs.Least.{least_name, IsLeast}
 use Rattle.mpw_separation.specs.Separation.{broken_names, has_set}
-use Rattle.mpw_separation.specs.declared.set.SeparationSet.{SeparationSet}
+use Rattle.mpw_separation.specs.Set.{SeparationSet}
 use Rattle.mpw_separation.proofs.LeastLemmas.{least-is}
 use Rattle.mpw_rbac.specs.Grant.{operation_eq, object_eq}
 use Rattle.mpw_rbac.specs.Laws.{DeniesRightly, IsLeastStatic, IsLeastDynamic}
-use Rattle.mpw_rbac.specs.Policy.{Policy, authorized, assigned_roles, is_user, permits, is_granted_to, session_permits, trim, assigned_lists, active_lists}
+use Rattle.mpw_rbac.specs.declared.session.Identity.{Identity}
+use Rattle.mpw_rbac.specs.Policy.{Policy, identity_of, authorized, assigned_roles, is_user, permits, is_granted_to, session_permits, trim, assigned_lists, active_lists}
 use Rattle.mpw_rbac.specs.Rows as rows
 use Rattle.mpw_rbac.specs.declared.permission.Grant.{Grant}
 use Rattle.mpw_rbac.specs.declared.permission.Object.{Object}
@@ -21,7 +22,7 @@ use Rattle.mpw_rbac.specs.declared.permission.Object.TheVariants.{Desk}
 use Rattle.mpw_rbac.specs.declared.permission.Operation.{Operation}
 use Rattle.mpw_rbac.specs.declared.permission.Operation.TheVariants.{Admin}
 use Rattle.mpw_rbac.specs.declared.refusal.Refusal.{Refusal}
-use Rattle.mpw_rbac.specs.declared.refusal.Refusal.TheVariants.{NoSession, NotPermitted, NotAuthorized, Unknown, Known, Full, Used, Loop, Ssd, Dsd}
+use Rattle.mpw_rbac.specs.declared.refusal.Refusal.TheVariants.{Opened, Login, NoSession, NotPermitted, NotAuthorized, Unknown, Known, Full, Used, Loop, Ssd, Dsd}
 use Rattle.mpw_rbac.specs.Sound.{sets_hold}
 use Rattle.mpw_rbac.proofs.LawLemmas.{static-holds}
 use Rattle.mpw_rbac.proofs.RowLemmas.{AllPass}
@@ -284,7 +285,51 @@ least-dsd p conn set name is =
     let before : List rows.Test = rows.in_session p conn ∷ rows.administers p conn ∷ (not (has_set p.dsd set.name), Known) ∷ (list_all (is_role p.roles) set.roles, Unknown) ∷ [] in
     least-dynamic (row.dsd_made p set) name (told-by (Dsd name) before (rows.dsd_holds (row.dsd_made p set)) ((nat_lt (length p.dsd) 64, Full) ∷ []) (row.dsd_made p set) (f.5, (admin-dynamic name, (f.0, (f.1, tt)))) (f.2, tt) is)
 
-pub denies-activate : (p : Policy) (conn : ℕ) (role other : List ℕ) → rows.activate p conn role ≡ Err (NotAuthorized other) → contains_name (authorized p (rows.user_of p conn)) role ≡ false
+activation-same : (role other : Name) → NotAuthorized role ≡ NotAuthorized other → other ≡ role
+activation-same role other e = cc
+
+-- an activation is denied for the role that was asked for
+pub denies-activate : (p : Policy) (conn : ℕ) (role other : List ℕ) → rows.activate p conn role ≡ Err (NotAuthorized other) → (other ≡ role) × (contains_name (authorized p (rows.user_of p conn)) role ≡ false)
 denies-activate p conn role other is =
     let f = activation-plain other in
-    (told-by (NotAuthorized other) (rows.in_session p conn ∷ []) (contains_name (authorized p (rows.user_of p conn)) role, NotAuthorized role) ((not (contains_name (rows.active_roles p conn) role), Known) ∷ rows.dsd_holds (row.activated p conn role) ∷ []) (row.activated p conn role) (f.5, tt) (f.0, (dsd-activation other _, tt)) is).0
+    let told = told-by (NotAuthorized other) (rows.in_session p conn ∷ []) (contains_name (authorized p (rows.user_of p conn)) role, NotAuthorized role) ((not (contains_name (rows.active_roles p conn) role), Known) ∷ rows.dsd_holds (row.activated p conn role) ∷ []) (row.activated p conn role) (f.5, tt) (f.0, (dsd-activation other _, tt)) is in
+    (activation-same role other told.1, told.0)
+
+-- the requests of a session want no permission
+opened-permission : (operation : Operation) (object : Object) → Opened ≡ NotPermitted operation object → ⊥
+opened-permission operation object e = cc
+
+login-permission : (operation : Operation) (object : Object) → Login ≡ NotPermitted operation object → ⊥
+login-permission operation object e = cc
+
+activation-permission : (role : Name) (operation : Operation) (object : Object) → NotAuthorized role ≡ NotPermitted operation object → ⊥
+activation-permission role operation object e = cc
+
+pub denies-open_session : (conn : ℕ) (user digest : List ℕ) → DeniesRightly conn (λ p. rows.open_session p conn user digest)
+denies-open_session conn user digest p op obj is =
+    absurd (none-denied (NotPermitted op obj) (row.open-tests p conn user digest) (row.opened p conn user) (opened-permission op obj, (login-permission op obj, tt)) is)
+
+pub denies-close_session : (conn : ℕ) → DeniesRightly conn (λ p. rows.close_session p conn)
+denies-close_session conn p op obj is =
+    let f = permission-plain op obj in
+    absurd (none-denied (NotPermitted op obj) (rows.in_session p conn ∷ []) (rows.end_session p conn) (f.5, tt) is)
+
+pub denies-drop_role : (conn : ℕ) (role : List ℕ) → DeniesRightly conn (λ p. rows.drop_role p conn role)
+denies-drop_role conn role p op obj is =
+    let f = permission-plain op obj in
+    absurd (none-denied (NotPermitted op obj) (row.drop-tests p conn role) (row.dropped p conn role) (f.5, (f.1, tt)) is)
+
+pub denies-activation : (conn : ℕ) (role : List ℕ) → DeniesRightly conn (λ p. rows.activate p conn role)
+denies-activation conn role p op obj is =
+    let f = permission-plain op obj in
+    absurd (none-denied (NotPermitted op obj) (row.activate-tests p conn role) (row.activated p conn role) (f.5, (activation-permission role op obj, (f.0, (dsd-permission op obj _, tt)))) is)
+
+abbrev untold : Refusal → Result Identity Refusal
+untold r = Err r
+
+pub denies-whoami : (p : Policy) (conn : ℕ) (operation : Operation) (object : Object) → rows.whoami p conn ≡ Err (NotPermitted operation object) → ⊥
+denies-whoami p conn operation object is = by (rows.in_session p conn).0 is
+  where
+    by : (a : Bool) → cond a (Ok (identity_of p (record { user = rows.user_of p conn; active = rows.active_roles p conn }))) (untold NoSession) ≡ untold (NotPermitted operation object) → ⊥
+    by true e = cc
+    by false e = cc

@@ -7,7 +7,7 @@ use Rattle.mpw_roles.specs.Hierarchy.{Name, Hierarchy}
 use Rattle.mpw_roles.proofs.CallerLemmas.{or_right}
 use Rattle.mpw_separation.specs.Least.{least_name, lesser, IsLeast}
 use Rattle.mpw_separation.specs.Separation.{breaks, is_broken, names_of, broken_names, least_broken}
-use Rattle.mpw_separation.specs.declared.set.SeparationSet.{SeparationSet}
+use Rattle.mpw_separation.specs.Set.{SeparationSet}
 use Rattle.mpw_separation.proofs.BrokenLemmas.{least-holder, least-end}
 use Rattle.mpw_rbac.specs.Sound.{sets_hold}
 use Rattle.mpw_rbac.specs.Table.{has_key, with_value}

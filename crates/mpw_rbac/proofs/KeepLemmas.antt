@@ -7,7 +7,7 @@ use Rattle.mpw_geom.specs.Names.{name_eq, contains_name, without_name}
 use Rattle.mpw_roles.specs.Hierarchy.{Name, Hierarchy, is_role, is_immediate, immediate_juniors, with_role, without_role, with_pair, without_pair}
 use Rattle.mpw_roles.proofs.CallerLemmas.{or_cases, or_right, contains-filter, contains-without, roles_below-grows, roles-with_role, pairs-without_role, names-without_role, roles-left, pairs-without_pair, pairs-with_pair, names-with_juniors, first_role}
 use Rattle.mpw_separation.specs.Separation.{breaks, is_broken, without_set, has_role, uses_role}
-use Rattle.mpw_separation.specs.declared.set.SeparationSet.{SeparationSet}
+use Rattle.mpw_separation.specs.Set.{SeparationSet}
 use Rattle.mpw_rbac.specs.declared.permission.Grant.{Grant}
 use Rattle.mpw_rbac.specs.declared.session.User.{User}
 use Rattle.mpw_rbac.specs.declared.session.Session.{Session}

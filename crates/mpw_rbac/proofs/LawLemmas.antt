@@ -3,7 +3,7 @@ use Rattle.std.proofs.Common.{◌≡◌, ℕ, Ok, true, ◌||◌, refl, subst, L
 use Rattle.mpw_roles.specs.Decided.{decided}
 use Rattle.mpw_roles.specs.Hierarchy.{is_role}
 use Rattle.mpw_separation.specs.Separation.{least_broken, uses_role}
-use Rattle.mpw_separation.specs.declared.set.SeparationSet.{SeparationSet}
+use Rattle.mpw_separation.specs.Set.{SeparationSet}
 use Rattle.mpw_rbac.specs.Policy.{Policy, new_policy, trim, assigned_lists, active_lists}
 use Rattle.mpw_rbac.specs.Laws.{KeepsAuthorization, KeepsSound}
 use Rattle.mpw_rbac.specs.declared.permission.Grant.{Grant}

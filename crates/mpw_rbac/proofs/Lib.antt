@@ -9,3 +9,4 @@ pub mod RowTests
 pub mod SeparationLemmas
 pub mod SoundLemmas
 pub mod TableLemmas
+pub mod TrimLemmas

@@ -26,7 +26,7 @@ use Rattle.mpw_separation.specs.Separation.{least_broken, is_broken, has_set, wi
 use Rattle.mpw_separation.specs.Rows.{make, remove}
 use Rattle.mpw_separation.specs.declared.fault.SetsFault.{SetsFault}
 use Rattle.mpw_separation.specs.declared.fault.SetsFault.TheVariants as set_faults
-use Rattle.mpw_separation.specs.declared.set.SeparationSet.{SeparationSet}
+use Rattle.mpw_separation.specs.Set.{SeparationSet}
 use Rattle.mpw_rbac.specs.Fault.{fault_of_sets}
 use Rattle.mpw_rbac.specs.Sound.{Sound}
 use Rattle.mpw_rbac.specs.Table.{has_key, value_at, without_key}

@@ -6,7 +6,7 @@ use Rattle.mpw_geom.specs.Names.{name_eq, contains_name, without_name}
 use Rattle.mpw_roles.specs.Hierarchy.{Name, is_role, is_immediate, with_role, with_pair, without_pair}
 use Rattle.mpw_roles.specs.Order.{at_least}
 use Rattle.mpw_separation.specs.Separation.{has_set, without_set, uses_role}
-use Rattle.mpw_separation.specs.declared.set.SeparationSet.{SeparationSet}
+use Rattle.mpw_separation.specs.Set.{SeparationSet}
 use Rattle.mpw_rbac.specs.Grant.{grant_eq}
 use Rattle.mpw_rbac.specs.Policy.{Policy, authorized, assigned_roles, is_user, session_of}
 use Rattle.mpw_rbac.specs.Rows as rows

@@ -11,7 +11,7 @@ use Rattle.mpw_roles.specs.Order.{at_least, is_below, roles_below}
 use Rattle.mpw_roles.proofs.CallerLemmas.{or_cases, or_right, name_eq-refl, roles_below-grows, contains-roles_below, pairs-with_role, roles-with_role, juniors-with_role, at_least-fewer}
 use Rattle.mpw_separation.specs.Least.{IsLeast}
 use Rattle.mpw_separation.specs.Separation.{is_reached, breaks, is_broken, broken_names, least_broken}
-use Rattle.mpw_separation.specs.declared.set.SeparationSet.{SeparationSet}
+use Rattle.mpw_separation.specs.Set.{SeparationSet}
 use Rattle.mpw_separation.proofs.BrokenLemmas.{contains-names}
 use Rattle.mpw_separation.proofs.LeastLemmas.{least-is}
 use Rattle.mpw_rbac.specs.declared.refusal.Refusal.{Refusal}

@@ -15,7 +15,7 @@ use Rattle.mpw_rbac.specs.declared.session.Session.{Session}
 use Rattle.mpw_rbac.specs.declared.session.Identity.{Identity}
 use Rattle.mpw_rbac.specs.Grant.{operation_eq, object_eq}
 use Rattle.mpw_separation.specs.Separation.{Sets}
-use Rattle.mpw_separation.specs.declared.set.SeparationSet.{SeparationSet}
+use Rattle.mpw_separation.specs.Set.{SeparationSet}
 use Rattle.mpw_rbac.specs.Table.{value_at, has_key}
 
 -- Users with their digests and assigned roles (USERS, UA), roles with their immediate juniors (ROLES, RH), grants (PA),
@@ -27,6 +27,13 @@ pub record Policy : Type 0 where
   pub ssd : List SeparationSet
   pub dsd : List SeparationSet
   pub sessions : List (ℕ × Session)
+
+-- the greatest numbers of users and of grants
+abbrev pub max_users : ℕ
+max_users = 512
+
+abbrev pub max_grants : ℕ
+max_grants = 4096
 
 -- the policy of these tables
 abbrev pub policy_of : List (Name × User) → Hierarchy → List Grant → Sets → List (ℕ × Session) → Policy

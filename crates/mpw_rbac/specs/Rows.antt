@@ -6,7 +6,7 @@ use Rattle.std.specs.Cmp.Lexicographic.{pointwise}
 use Rattle.std.specs.Prelude.{nat_eq}
 use Rattle.mpw_geom.specs.Names.{name_eq, contains_name, without_name}
 use Rattle.mpw_roles.specs.Decided.{decided}
-use Rattle.mpw_roles.specs.Hierarchy.{Name, is_role, is_immediate, with_role, without_role, with_pair, without_pair}
+use Rattle.mpw_roles.specs.Hierarchy.{Name, max_roles, is_role, is_immediate, with_role, without_role, with_pair, without_pair}
 use Rattle.mpw_roles.specs.Order.{at_least}
 use Rattle.mpw_rbac.specs.declared.permission.Operation.{Operation}
 use Rattle.mpw_rbac.specs.declared.permission.Operation.TheVariants.{Admin}
@@ -21,9 +21,9 @@ use Rattle.mpw_rbac.specs.Grant.{grant_eq}
 use Rattle.mpw_rbac.specs.declared.session.Identity.{Identity}
 use Rattle.mpw_rbac.specs.declared.refusal.PolicyFault.{PolicyFault}
 use Rattle.mpw_rbac.specs.declared.refusal.PolicyFault.TheVariants.{Refused, Memory}
-use Rattle.mpw_rbac.specs.Policy.{Policy, identity_of, is_user, assigned_roles, authorized, session_of, permits, trim, assigned_lists, active_lists}
-use Rattle.mpw_separation.specs.declared.set.SeparationSet.{SeparationSet}
-use Rattle.mpw_separation.specs.Separation.{least_broken, has_set, without_set, uses_role}
+use Rattle.mpw_rbac.specs.Policy.{Policy, max_users, max_grants, identity_of, is_user, assigned_roles, authorized, session_of, permits, trim, assigned_lists, active_lists}
+use Rattle.mpw_separation.specs.Set.{SeparationSet}
+use Rattle.mpw_separation.specs.Separation.{max_sets, least_broken, has_set, without_set, uses_role}
 use Rattle.mpw_rbac.specs.Table.{value_at, with_value, without_key}
 
 abbrev pub Test : Type 0
@@ -124,7 +124,7 @@ adduser policy conn user digest =
     (in_session policy conn
     ∷ administers policy conn
     ∷ (not (is_user policy user), Known)
-    ∷ (nat_lt (length policy.users) 512, Full)
+    ∷ (nat_lt (length policy.users) max_users, Full)
     ∷ [])
     (record policy { users = policy.users ++ (user, record { digest = digest; roles = [] }) ∷ [] })
 
@@ -142,7 +142,7 @@ addrole policy conn role =
     (in_session policy conn
     ∷ administers policy conn
     ∷ (not (is_role policy.roles role), Known)
-    ∷ (nat_lt (length policy.roles) 512, Full)
+    ∷ (nat_lt (length policy.roles) max_roles, Full)
     ∷ [])
     (record policy { roles = with_role policy.roles role })
 
@@ -209,7 +209,7 @@ grant policy conn new =
     ∷ administers policy conn
     ∷ (is_role policy.roles new.role, Unknown)
     ∷ (not (list_any (grant_eq new) policy.granted), Known)
-    ∷ (nat_lt (length policy.granted) 4096, Full)
+    ∷ (nat_lt (length policy.granted) max_grants, Full)
     ∷ [])
     (record policy { granted = policy.granted ++ new ∷ [] })
 
@@ -252,7 +252,7 @@ ssd policy conn set =
     ∷ (not (has_set policy.ssd set.name), Known)
     ∷ (list_all (is_role policy.roles) set.roles, Unknown)
     ∷ ssd_holds next
-    ∷ (nat_lt (length policy.ssd) 64, Full)
+    ∷ (nat_lt (length policy.ssd) max_sets, Full)
     ∷ [])
     next
 
@@ -266,7 +266,7 @@ dsd policy conn set =
     ∷ (not (has_set policy.dsd set.name), Known)
     ∷ (list_all (is_role policy.roles) set.roles, Unknown)
     ∷ dsd_holds next
-    ∷ (nat_lt (length policy.dsd) 64, Full)
+    ∷ (nat_lt (length policy.dsd) max_sets, Full)
     ∷ [])
     next
 

@@ -3,7 +3,7 @@ use Rattle.std.specs.Prelude.{◌≡◌, ℕ, Bool, true, not, ◌&&◌, List, n
 use Rattle.std.specs.List.{list_all}
 use Rattle.mpw_geom.specs.Names.{contains_name}
 use Rattle.mpw_roles.specs.Hierarchy.{Name, Hierarchy, is_role}
-use Rattle.mpw_separation.specs.declared.set.SeparationSet.{SeparationSet}
+use Rattle.mpw_separation.specs.Set.{SeparationSet}
 use Rattle.mpw_separation.specs.Separation.{is_broken}
 use Rattle.mpw_rbac.specs.Policy.{Policy, is_user, authorized, assigned_lists, active_lists}
 use Rattle.mpw_rbac.specs.declared.session.Session.{Session}

@@ -3,9 +3,9 @@ ghost use Rattle.std.specs.Prelude.{◌≡◌, ℕ, List, [], ◌∷◌, ◌++�
 ghost use Rattle.std.specs.List.{list_all};
 ghost use Rattle.mpw_geom.specs.Names.{contains_name};
 ghost use Rattle.mpw_roles.specs.Hierarchy.{with_pair};
-ghost use Rattle.mpw_separation.specs.declared.set.SeparationSet.{SeparationSet};
+ghost use Rattle.mpw_separation.specs.Set.{SeparationSet};
 ghost use Rattle.mpw_rbac.specs.Laws.{KeepsAuthorization, KeepsSound, DeniesRightly, IsLeastStatic, IsLeastDynamic, AddsNoActive};
-ghost use Rattle.mpw_rbac.specs.Policy.{Policy as PolicyState, new_policy, is_user, authorized, acting, assigned_roles, assigned_lists, session_of, session_permits};
+ghost use Rattle.mpw_rbac.specs.Policy.{Policy as PolicyState, new_policy, is_user, authorized, acting, assigned_roles, assigned_lists, session_of, session_permits, trim};
 ghost use Rattle.mpw_rbac.specs.Rows as rows;
 ghost use Rattle.mpw_rbac.specs.Sound.{active_authorized, sets_hold, Sound};
 ghost use Rattle.mpw_rbac.specs.declared.permission.Grant.{Grant};
@@ -68,8 +68,8 @@ pub fn more_active_roles_never_permit_less()
     ensures { (policy : PolicyState) (user : List ℕ) (few many : List (List ℕ)) (operation : Operation) (object : Object) → ((role : List ℕ) → contains_name few role ≡ true → contains_name many role ≡ true) → session_permits policy (record { user = user; active = few }) operation object ≡ true → session_permits policy (record { user = user; active = many }) operation object ≡ true }
 {}
 
-/// A request is denied for want of a permission only where the session has no such permission, and a role's
-/// activation only where the session's user is not authorized for the role.
+/// A request is denied for want of a permission only where the session has no such permission: a request of a session never
+/// is. A role's activation is denied only where the session's user is not authorized for the role, which the denial names.
 pub fn denied_only_without_the_permission()
     ensures adduser { (conn : ℕ) (user digest : List ℕ) → DeniesRightly conn (λ p. rows.adduser p conn user digest) }
     ensures addrole { (conn : ℕ) (role : List ℕ) → DeniesRightly conn (λ p. rows.addrole p conn role) }
@@ -85,7 +85,12 @@ pub fn denied_only_without_the_permission()
     ensures dsd { (conn : ℕ) (set : SeparationSet) → DeniesRightly conn (λ p. rows.dsd p conn set) }
     ensures unssd { (conn : ℕ) (name : List ℕ) → DeniesRightly conn (λ p. rows.unssd p conn name) }
     ensures undsd { (conn : ℕ) (name : List ℕ) → DeniesRightly conn (λ p. rows.undsd p conn name) }
-    ensures activate { (p : PolicyState) (conn : ℕ) (role other : List ℕ) → rows.activate p conn role ≡ Err (Refusal.NotAuthorized other) → contains_name (authorized p (rows.user_of p conn)) role ≡ false }
+    ensures open_session { (conn : ℕ) (user digest : List ℕ) → DeniesRightly conn (λ p. rows.open_session p conn user digest) }
+    ensures close_session { (conn : ℕ) → DeniesRightly conn (λ p. rows.close_session p conn) }
+    ensures drop_role { (conn : ℕ) (role : List ℕ) → DeniesRightly conn (λ p. rows.drop_role p conn role) }
+    ensures activate { (conn : ℕ) (role : List ℕ) → DeniesRightly conn (λ p. rows.activate p conn role) }
+    ensures whoami { (p : PolicyState) (conn : ℕ) (operation : Operation) (object : Object) → rows.whoami p conn ≡ Err (Refusal.NotPermitted operation object) → ⊥ }
+    ensures activation { (p : PolicyState) (conn : ℕ) (role other : List ℕ) → rows.activate p conn role ≡ Err (Refusal.NotAuthorized other) → (other ≡ role) × (contains_name (authorized p (rows.user_of p conn)) role ≡ false) }
 {}
 
 /// A request is denied for a separation set only where the policy that it asks for would break the set, and the set is
@@ -130,4 +135,9 @@ pub fn sound_policies_keep_duties_apart()
 /// the pair breaks no static set.
 pub fn static_sets_are_tested_first()
     ensures { (p : PolicyState) (conn : ℕ) (senior junior name : List ℕ) → rows.inherit p conn senior junior ≡ Err (Refusal.Dsd name) → sets_hold (with_pair p.roles senior junior) p.ssd (assigned_lists p.users) ≡ true }
+{}
+
+/// In a sound policy there is nothing to trim, so a request that only adds leaves what a trim of it would.
+pub fn trim_leaves_sound_policies()
+    ensures { (p : PolicyState) → Sound p → trim p ≡ p }
 {}

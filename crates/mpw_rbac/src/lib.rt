@@ -20,7 +20,7 @@ pub use laws::{
     denied_only_for_the_least_broken_set, denied_only_without_the_permission,
     each_request_keeps_authorization, each_request_keeps_separation,
     more_active_roles_never_permit_less, only_activation_adds_active_roles,
-    sound_policies_keep_duties_apart, static_sets_are_tested_first,
+    sound_policies_keep_duties_apart, static_sets_are_tested_first, trim_leaves_sound_policies,
 };
 pub use permission::{Grant, Object, Operation};
 pub use policy::{MAX_GRANTS, MAX_USERS, Policy};

@@ -6,7 +6,7 @@ ghost use Rattle.std.specs.Option.{option_copied};
 ghost use Rattle.mpw_geom.specs.Names.{name_eq, contains_name, by_name};
 ghost use Rattle.mpw_roles.specs.Hierarchy.{is_role};
 ghost use Rattle.mpw_roles.specs.Order.{roles_below};
-ghost use Rattle.mpw_rbac.specs.Policy.{permits, is_user, is_granted_to, session_of, assigned_roles, authorized, new_policy};
+ghost use Rattle.mpw_rbac.specs.Policy.{max_users, max_grants, permits, is_user, is_granted_to, session_of, assigned_roles, authorized, new_policy};
 ghost use Rattle.mpw_rbac.specs.Rows.{IsFaultOf, administered};
 ghost use Rattle.mpw_rbac.specs.Rows as rows;
 ghost use Rattle.mpw_rbac.specs.Table.{value_at};
@@ -110,14 +110,14 @@ impl Policy {
 
     /// Whether one more user fits.
     pub(crate) fn has_room_for_user(&self) -> bool
-        ensures { result ≡ nat_lt (length self.now.users) 512 }
+        ensures { result ≡ nat_lt (length self.now.users) max_users }
     {
         self.users.len() < MAX_USERS
     }
 
     /// Whether one more grant fits.
     pub(crate) fn has_room_for_grant(&self) -> bool
-        ensures { result ≡ nat_lt (length self.now.granted) 4096 }
+        ensures { result ≡ nat_lt (length self.now.granted) max_grants }
     {
         self.granted.len() < MAX_GRANTS
     }

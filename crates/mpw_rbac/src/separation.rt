@@ -96,14 +96,14 @@ impl Policy {
         ensures err { OnErr result (self.new ≡ self.old) }
     {
         self.administers(conn)?;
-        if self.has_ssd(&set.name) {
+        if self.has_ssd(set.name()) {
             return Err(PolicyFault::Refused(Refusal::Known));
         }
-        if !self.are_roles(set.roles.as_slice()) {
+        if !self.are_roles(set.roles()) {
             return Err(PolicyFault::Refused(Refusal::Unknown));
         }
         if self.is_broken_by_users(&set) {
-            return Err(PolicyFault::Refused(Refusal::Ssd(set.name)));
+            return Err(PolicyFault::Refused(Refusal::Ssd(set.into_name())));
         }
         self.sets.make_ssd(set)?;
         Ok(())
@@ -120,14 +120,14 @@ impl Policy {
         ensures err { OnErr result (self.new ≡ self.old) }
     {
         self.administers(conn)?;
-        if self.has_dsd(&set.name) {
+        if self.has_dsd(set.name()) {
             return Err(PolicyFault::Refused(Refusal::Known));
         }
-        if !self.are_roles(set.roles.as_slice()) {
+        if !self.are_roles(set.roles()) {
             return Err(PolicyFault::Refused(Refusal::Unknown));
         }
         if self.is_broken_by_sessions(&set) {
-            return Err(PolicyFault::Refused(Refusal::Dsd(set.name)));
+            return Err(PolicyFault::Refused(Refusal::Dsd(set.into_name())));
         }
         self.sets.make_dsd(set)?;
         Ok(())

@@ -1,12 +1,11 @@
 -- Each change of a hierarchy leaves a hierarchy.
-use Rattle.std.proofs.Common.{◌≡◌, ℕ, suc, ◌+◌, ◌<◌, ◌≤◌, Bool, true, false, cond, not, ◌||◌, ◌&&◌, ◌⊎◌, inl, inr, List, [], ◌∷◌, ◌++◌, length, map, filter, refl, sym, ap, subst, ◌∙◌, true≢false, arith, length-append}
-use Rattle.std.specs.List.{list_any}
+use Rattle.std.proofs.Common.{◌≡◌, suc, ◌<◌, ◌≤◌, Bool, true, false, cond, not, ◌||◌, ◌&&◌, ◌⊎◌, inl, inr, List, [], ◌∷◌, ◌++◌, length, map, filter, refl, sym, ap, subst, ◌∙◌, true≢false, arith, length-append}
 use Rattle.std.proofs.lemmas.List.{length-map}
 use Rattle.std.specs.Cmp.Lexicographic.{bytes_decides}
 use Rattle.mpw_geom.specs.Names.{name_eq, contains_name, without_name}
 use Rattle.mpw_roles.specs.Hierarchy.{Name, Hierarchy, role_names, is_role, is_immediate, immediate_juniors, with_juniors, entries_without, with_role, without_role, with_pair, without_pair}
 use Rattle.mpw_roles.specs.Order.{at_least, is_below, roles_below, are_distinct, IsAtLeast, same, chain, IsHierarchy}
-use Rattle.mpw_roles.proofs.Chains.{same_name, name_eq-refl, or_right, or_cases, at_least-sound, at_least-complete, chain-trans, weaken_pair, juniors-without_same, juniors-without_other}
+use Rattle.mpw_roles.proofs.Chains.{same_name, or_right, or_cases, at_least-sound, at_least-complete, chain-trans, weaken_pair, juniors-without_same, juniors-without_other}
 
 -- fewer pairs, fewer chains
 pub chains-fewer : (h k : Hierarchy) → ((a b : Name) → is_immediate h a b ≡ true → is_immediate k a b ≡ true) → (a b : Name) → IsAtLeast h a b → IsAtLeast k a b

@@ -1,15 +1,14 @@
 -- What marks beside the roles say, by the roles' names.
-use Rattle.std.proofs.Common.{◌≡◌, ℕ, zero, suc, ◌+◌, ◌<◌, ◌≤◌, Bool, true, false, cond, not, ◌||◌, ◌&&◌, ◌⊎◌, inl, inr, List, [], ◌∷◌, length, map, filter, drop, add-one, get_or, set, Option, None, Some, refl, sym, ap, subst, ◌∙◌, true≢false, arith}
+use Rattle.std.proofs.Common.{◌≡◌, ℕ, zero, suc, ◌+◌, ◌<◌, ◌≤◌, Bool, true, false, cond, ◌||◌, ◌⊎◌, inl, inr, List, [], ◌∷◌, length, filter, drop, add-one, get_or, set, Some, refl, sym, ap, subst, ◌∙◌, true≢false, arith}
 use Rattle.std.specs.Prelude.{replicate, slice_get, unwrap_or}
 use Rattle.std.specs.Option.{option_map}
-use Rattle.std.specs.List.{list_any, IsDistinct, AllByRecursion}
+use Rattle.std.specs.List.{IsDistinct, AllByRecursion}
 use Rattle.std.specs.Cmp.Lexicographic.{bytes_decides}
 use Rattle.std.proofs.lemmas.Map.Keys.{IsDistinct-head, IsDistinct-tail}
 use Rattle.mpw_geom.specs.Names.{name_eq, contains_name}
-use Rattle.mpw_roles.specs.Hierarchy.{Name, Hierarchy, role_names, is_role, is_immediate, immediate_juniors}
-use Rattle.mpw_roles.specs.Marks.{Marks, is_marked, marked, marked_all, marked_names, IsReached, Keeps, IsExpanded}
-use Rattle.mpw_roles.specs.Order.{at_least, is_below, IsAtLeast, same, chain}
-use Rattle.mpw_roles.proofs.Chains.{same_name, name_eq-refl, or_right, or_cases, some_name, any_name}
+use Rattle.mpw_roles.specs.Hierarchy.{Name, Hierarchy, role_names, is_role}
+use Rattle.mpw_roles.specs.Marks.{Marks, is_marked, marked, marked_all, marked_names}
+use Rattle.mpw_roles.proofs.Chains.{same_name, name_eq-refl, or_right, or_cases}
 
 -- by the place of the first entry of a role
 pub set-first : (h : Hierarchy) (ms : Marks) (r : Name) (i : ℕ) → i < length (role_names h) → name_eq r (get_or (role_names h) i []) ≡ true

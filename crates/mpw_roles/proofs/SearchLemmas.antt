@@ -1,18 +1,18 @@
 -- A search by marks finds exactly the roles at or below those where it started.
-use Rattle.std.proofs.Common.{◌≡◌, ℕ, zero, suc, ◌<◌, ◌≤◌, get_or, set, Some, None, Bool, true, false, cond, ◌||◌, ◌⊎◌, inl, inr, List, [], ◌∷◌, length, refl, sym, ap, subst, ◌∙◌, true≢false, arith}
+use Rattle.std.proofs.Common.{◌≡◌, ℕ, zero, suc, ◌<◌, ◌≤◌, get_or, set, Some, true, false, cond, ◌||◌, inl, inr, List, [], ◌∷◌, length, refl, sym, ap, subst, ◌∙◌, true≢false, arith}
 use Rattle.std.specs.Prelude.{replicate, slice_get, unwrap_or}
 use Rattle.std.specs.Option.{option_map}
 use Rattle.std.specs.Cmp.Lexicographic.{bytes_decides}
 use Rattle.std.proofs.lemmas.Map.Keys.{IsDistinct-head, IsDistinct-tail}
 use Rattle.std.specs.Cmp.{both_ways}
 use Rattle.std.proofs.lemmas.List.{length-replicate}
-use Rattle.std.specs.List.{list_any, IsDistinct}
+use Rattle.std.specs.List.{IsDistinct}
 use Rattle.mpw_geom.specs.Names.{name_eq, contains_name}
 use Rattle.mpw_roles.specs.Hierarchy.{Name, Hierarchy, role_names, is_role, is_immediate, immediate_juniors}
-use Rattle.mpw_roles.specs.Marks.{Marks, is_marked, marked, marked_all, marked_names, IsReached, Keeps, IsExpanded, IsSearch}
-use Rattle.mpw_roles.specs.Order.{at_least, is_below, roles_below, IsAtLeast, same, chain}
-use Rattle.mpw_roles.proofs.Chains.{same_name, name_eq-refl, or_right, or_cases, some_name, any_name, at_least-sound, at_least-complete, at_least-trans}
-use Rattle.mpw_roles.proofs.MarksLemmas.{set-first, read-first, distinct-first, length-names, apart-later, marks-imply, marked-back, marked_all-back, marked_all-there, marked_all-keeps, role-from_marked, unmarked, marked_names-filter, length-marked_all}
+use Rattle.mpw_roles.specs.Marks.{Marks, is_marked, marked, marked_all, IsReached, Keeps, IsExpanded, IsSearch}
+use Rattle.mpw_roles.specs.Order.{is_below, IsAtLeast, same, chain}
+use Rattle.mpw_roles.proofs.Chains.{name_eq-refl, or_right, some_name, any_name, at_least-sound, at_least-complete, at_least-trans}
+use Rattle.mpw_roles.proofs.MarksLemmas.{set-first, read-first, distinct-first, length-names, apart-later, marks-imply, marked-back, marked_all-back, marked_all-there, marked_all-keeps, unmarked}
 
 pub search-start : (h : Hierarchy) (ms : Marks) (n : ℕ) → IsSearch h ms ms (replicate n false)
 search-start h ms n = record {

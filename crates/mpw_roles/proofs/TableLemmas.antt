@@ -1,5 +1,5 @@
 -- The table of roles, in the words of the hierarchy.
-use Rattle.std.proofs.Common.{◌≡◌, ℕ, ◌<◌, Bool, true, false, cond, not, ◌||◌, List, [], ◌∷◌, ◌++◌, length, map, Option, None, Some, Result, Ok, Err, is_some, refl, sym, ap, subst, ◌∙◌, true≢false, arith}
+use Rattle.std.proofs.Common.{◌≡◌, ◌<◌, Bool, true, false, cond, not, ◌||◌, List, [], ◌∷◌, ◌++◌, length, map, None, Some, Ok, is_some, refl, sym, ap, subst, ◌∙◌, true≢false}
 use Rattle.std.specs.Prelude.{nat_lt}
 use Rattle.std.specs.List.{AllZip}
 use Rattle.std.proofs.lemmas.List.Elements.{same_from_all_zip}
@@ -8,10 +8,9 @@ use Rattle.std.specs.Map.Calls.{RetainsPairs}
 use borrow.Author.Tests.{lt-ltb}
 use Rattle.mpw_geom.specs.Names.{name_eq, without_name}
 use Rattle.indexmap.specs.IndexMap.{insert_entry}
-use Rattle.mpw_roles.specs.Hierarchy.{Name, Hierarchy, is_role, with_juniors, entries_without, with_role, without_role, with_pair, without_pair, is_immediate, immediate_juniors}
+use Rattle.mpw_roles.specs.Hierarchy.{Name, Hierarchy, is_role, with_juniors, entries_without, with_role, without_role, is_immediate, immediate_juniors}
 use Rattle.mpw_roles.specs.Order.{at_least}
 use Rattle.mpw_roles.specs.Rows as rows
-use Rattle.mpw_roles.specs.declared.fault.RolesFault.{RolesFault}
 
 -- a look-up finds a key exactly where it is a role
 pub is_role-lookup : (h : Hierarchy) (role : Name) → is_some (lookup (name_eq role) h) ≡ is_role h role

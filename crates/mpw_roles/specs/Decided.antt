@@ -1,5 +1,5 @@
 -- A row of tests: a request is tested in the order of its row, and the first test that fails answers.
-use Rattle.std.specs.Prelude.{Bool, true, false, List, [], ◌∷◌, Result, Ok, Err, if◌then◌else◌}
+use Rattle.std.specs.Prelude.{Bool, List, [], ◌∷◌, Result, Ok, Err, if◌then◌else◌}
 
 abbrev pub decided : {A F : Type 0} → List (Bool × F) → A → Result A F
 decided [] value = Ok value

@@ -1,7 +1,6 @@
 -- The role hierarchy (ANSI INCITS 359-2004, 6.2.1): the roles in the order in which they were added, each with its
 -- immediate juniors in the order in which they were commanded.
-use Rattle.std.specs.Prelude.{ℕ, Bool, not, ◌==◌, List, [], ◌∷◌, ◌++◌, map, filter, if◌then◌else◌}
-use Rattle.std.specs.List.{list_any}
+use Rattle.std.specs.Prelude.{ℕ, Bool, not, List, [], ◌∷◌, ◌++◌, map, filter, if◌then◌else◌}
 use Rattle.mpw_geom.specs.Names.{name_eq, contains_name, without_name}
 
 abbrev pub Name : Type 0
@@ -9,6 +8,10 @@ Name = List ℕ
 
 abbrev pub Hierarchy : Type 0
 Hierarchy = List (Name × List Name)
+
+-- the greatest number of roles
+abbrev pub max_roles : ℕ
+max_roles = 512
 
 -- the roles
 abbrev pub role_names : Hierarchy → List Name

@@ -1,5 +1,5 @@
 -- Marks beside the roles: a list of tests, one for each role at its place.
-use Rattle.std.specs.Prelude.{◌≡◌, ℕ, Bool, true, false, List, [], ◌∷◌, if◌then◌else◌}
+use Rattle.std.specs.Prelude.{◌≡◌, Bool, true, false, List, [], ◌∷◌, if◌then◌else◌}
 use Rattle.mpw_geom.specs.Names.{name_eq}
 use Rattle.mpw_roles.specs.Hierarchy.{Name, Hierarchy, is_role, is_immediate}
 use Rattle.mpw_roles.specs.Order.{at_least}

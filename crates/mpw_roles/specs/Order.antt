@@ -2,7 +2,7 @@
 use Rattle.std.specs.Prelude.{◌≡◌, ℕ, ◌≤◌, zero, suc, Bool, true, false, not, ◌||◌, ◌&&◌, List, [], ◌∷◌, length, filter}
 use Rattle.std.specs.List.{list_any}
 use Rattle.mpw_geom.specs.Names.{name_eq, contains_name}
-use Rattle.mpw_roles.specs.Hierarchy.{Name, Hierarchy, role_names, is_role, immediate_juniors, is_immediate, entries_without}
+use Rattle.mpw_roles.specs.Hierarchy.{Name, Hierarchy, max_roles, role_names, is_role, immediate_juniors, is_immediate, entries_without}
 
 -- the senior is the junior, or a chain of immediate pairs leads from it down to the junior
 pub data IsAtLeast (hierarchy : Hierarchy) : Name → Name → Type 0 where
@@ -32,10 +32,10 @@ abbrev pub are_distinct : List Name → Bool
 are_distinct [] = true
 are_distinct (name ∷ names) = not (contains_name names name) && are_distinct names
 
--- what every hierarchy keeps: at most 512 roles, each once; pairs of roles, each once; and no chain from a junior of a
+-- what every hierarchy keeps: at most `max_roles` roles, each once; pairs of roles, each once; and no chain from a junior of a
 -- pair up to its senior, so that the order is a partial order
 pub record IsHierarchy (hierarchy : Hierarchy) : Type 0 where
-  pub small : length hierarchy ≤ 512
+  pub small : length hierarchy ≤ max_roles
   pub roles_once : are_distinct (role_names hierarchy) ≡ true
   pub pairs_once : (senior : Name) → are_distinct (immediate_juniors hierarchy senior) ≡ true
   pub pairs_of_roles : (senior junior : Name) → is_immediate hierarchy senior junior ≡ true → is_role hierarchy junior ≡ true

@@ -4,11 +4,11 @@ use Rattle.mpw_roles.specs.Decided.{decided}
 use Rattle.mpw_roles.specs.Hierarchy.{Name}
 use Rattle.mpw_separation.specs.declared.fault.SetsFault.{SetsFault}
 use Rattle.mpw_separation.specs.declared.fault.SetsFault.TheVariants.{Known, Unknown, Full}
-use Rattle.mpw_separation.specs.declared.set.SeparationSet.{SeparationSet}
-use Rattle.mpw_separation.specs.Separation.{has_set, without_set}
+use Rattle.mpw_separation.specs.Set.{SeparationSet}
+use Rattle.mpw_separation.specs.Separation.{max_sets, has_set, without_set}
 
 abbrev pub make : List SeparationSet → SeparationSet → Result (List SeparationSet) SetsFault
-make sets set = decided ((not (has_set sets set.name), Known) ∷ (nat_lt (length sets) 64, Full) ∷ []) (sets ++ set ∷ [])
+make sets set = decided ((not (has_set sets set.name), Known) ∷ (nat_lt (length sets) max_sets, Full) ∷ []) (sets ++ set ∷ [])
 
 abbrev pub remove : List SeparationSet → Name → Result (List SeparationSet) SetsFault
 remove sets name = decided ((has_set sets name, Unknown) ∷ []) (without_set sets name)

@@ -7,13 +7,17 @@ use Rattle.mpw_roles.specs.Hierarchy.{Name, Hierarchy}
 use Rattle.mpw_roles.specs.Order.{roles_below}
 use Rattle.mpw_separation.specs.declared.set.Kind.{Kind}
 use Rattle.mpw_separation.specs.declared.set.Kind.TheVariants.{Static, Dynamic}
-use Rattle.mpw_separation.specs.declared.set.SeparationSet.{SeparationSet}
+use Rattle.mpw_separation.specs.Set.{SeparationSet}
 use Rattle.mpw_separation.specs.Least.{least_name}
 
 -- the sets of both kinds, each in the order in which they were made
 pub record Sets : Type 0 where
   pub ssd : List SeparationSet
   pub dsd : List SeparationSet
+
+-- the greatest number of sets of a kind
+abbrev pub max_sets : ℕ
+max_sets = 64
 
 abbrev pub sets_of : Kind → Sets → List SeparationSet
 sets_of Static sets = sets.ssd

@@ -30,7 +30,7 @@ pub(crate) fn least_reached<'a>(sets: &'a [SeparationSet], below: &Below) -> Opt
     let mut least = None;
     for set in sets {
         if set.is_reached(below) {
-            least = lesser(least, Some(&set.name));
+            least = lesser(least, Some(set.name()));
         }
     }
     least

@@ -1,10 +1,13 @@
 //! One set of roles, and whether it is broken.
-ghost use Rattle.std.specs.Prelude.{◌≡◌, nat_le, count_by};
+ghost use Rattle.std.specs.Prelude.{◌≡◌, true, nat_le, count_by, IfOk};
 ghost use Rattle.mpw_geom.specs.Names.{contains_name};
 ghost use Rattle.mpw_separation.specs.Separation.{breaks, is_reached, has_role};
+ghost use Rattle.mpw_separation.specs.Set.{are_distinct, formed, has_form};
 
 use mpw_geom::{Name, Names};
 use mpw_roles::{Below, Roles};
+use std::alloc::AllocError;
+use std::marker::Model;
 
 /// What a set holds for.
 #[derive(Clone, Copy, Debug, PartialEq, Eq)]
@@ -15,15 +18,96 @@ pub enum Kind {
     Dynamic,
 }
 
-/// Roles of which nobody may have `cardinality` or more.
-#[derive(Clone, Drop)]
+/// Roles of which nobody may have `cardinality` or more. The cardinality is from 2 to the number of the roles, and no role
+/// stands twice.
+#[derive(Drop)]
 pub struct SeparationSet {
-    pub name: Name,
-    pub cardinality: usize,
-    pub roles: Names,
+    name: Name,
+    cardinality: usize,
+    roles: Names,
+}
+
+impl Model for SeparationSet {
+    ghost use Rattle.std.specs.Prelude.{◌≡◌, true};
+    ghost use Rattle.mpw_separation.specs.Set.{SeparationSet as SetState, has_form};
+
+    ghost Value = { SetState };
+
+    ghost view = { λ set. record { name = set.name; cardinality = set.cardinality; roles = set.roles } };
+
+    ghost invariant = { λ set. has_form (record { name = set.name; cardinality = set.cardinality; roles = set.roles }) ≡ true };
+}
+
+/// Whether no name stands twice: n log n comparisons.
+fn are_distinct(names: &Names) -> Result<bool, AllocError>
+    ensures { IfOk result (λ distinct. distinct ≡ are_distinct names.now) }
+{
+    let mut sorted = names.copy()?;
+    sorted.sort()?;
+    Ok(sorted.as_slice().len() == names.as_slice().len())
 }
 
 impl SeparationSet {
+    /// The set of that name, cardinality and roles, and `None` where the cardinality isn't from 2 to the number of the
+    /// roles, or a role stands twice. It costs n log n comparisons.
+    ///
+    /// # Errors
+    /// Where there is no room to sort the roles.
+    pub fn new(
+        name: Name,
+        cardinality: usize,
+        roles: Names,
+    ) -> Result<Option<SeparationSet>, AllocError>
+        ensures { IfOk result (λ set. set ≡ formed (record { name = name; cardinality = cardinality; roles = roles })) }
+    {
+        if cardinality < 2 || cardinality > roles.as_slice().len() || !are_distinct(&roles)? {
+            return Ok(None);
+        }
+        Ok(Some(SeparationSet {
+            name,
+            cardinality,
+            roles,
+        }))
+    }
+
+    /// The set's name.
+    pub fn name(&self) -> &Name
+        ensures { result.now ≡ self.now.name }
+    {
+        &self.name
+    }
+
+    /// The set's name, without the set.
+    pub fn into_name(self) -> Name
+        ensures { result ≡ self.name }
+    {
+        self.name
+    }
+
+    /// The set's roles.
+    pub fn roles(&self) -> &[Name]
+        ensures roles { result.now ≡ self.now.roles }
+        ensures form { has_form self.now ≡ true }
+    {
+        self.roles.as_slice()
+    }
+
+    /// The same set. The names share their text.
+    ///
+    /// # Errors
+    /// Where there is no room.
+    pub fn copy(&self) -> Result<SeparationSet, AllocError>
+        ensures { IfOk result (λ set. set ≡ self.now) }
+    {
+        let name = self.name.copy()?;
+        let roles = self.roles.copy()?;
+        Ok(SeparationSet {
+            name,
+            cardinality: self.cardinality,
+            roles,
+        })
+    }
+
     /// Whether as many of the set's roles as its cardinality are among these. One look-up for each role of the set.
     pub(crate) fn is_reached(&self, below: &Below) -> bool
         ensures { result ≡ is_reached below.now self.now }
@@ -54,5 +138,13 @@ impl SeparationSet {
         ensures { result ≡ has_role role.now self.now }
     {
         self.roles.contains(role)
+    }
+}
+
+impl Clone for SeparationSet {
+    ghost is_clone = { λ set copy. copy ≡ set };
+
+    fn clone(&self) -> Result<SeparationSet, AllocError> {
+        self.copy()
     }
 }

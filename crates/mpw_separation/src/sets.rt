@@ -4,7 +4,7 @@ ghost use Rattle.std.specs.List.{list_any};
 ghost use Rattle.std.specs.Option.{option_copied};
 ghost use Rattle.mpw_geom.specs.Names.{name_eq};
 ghost use Rattle.mpw_separation.specs.Rows as rows;
-ghost use Rattle.mpw_separation.specs.Separation.{sets_of, has_set, without_set, uses_role, least_broken};
+ghost use Rattle.mpw_separation.specs.Separation.{max_sets, sets_of, has_set, without_set, uses_role, least_broken};
 
 use crate::least::least_reached;
 use crate::{Kind, SeparationSet, SetsFault};
@@ -38,7 +38,7 @@ fn has_name(sets: &[SeparationSet], name: &Name) -> bool
     sets.iter().any(
         |set: &SeparationSet| -> bool
             ensures { result ≡ name_eq name.entry.now set.now.name }
-        { *name == set.name },
+        { *name == *set.name() },
     )
 }
 
@@ -55,7 +55,7 @@ fn make(sets: &mut Vec<SeparationSet>, set: SeparationSet) -> Result<(), SetsFau
     ensures refused { IfErr result (λ fault. (fault ≡ SetsFault.Memory) ⊎ (rows.make sets.old.items set ≡ Err fault)) }
     ensures err { OnErr result (sets.new.items ≡ sets.old.items) }
 {
-    if has_name(sets.as_slice(), &set.name) {
+    if has_name(sets.as_slice(), set.name()) {
         return Err(SetsFault::Known);
     }
     if sets.len() >= MAX_SETS {
@@ -77,7 +77,7 @@ fn remove(sets: &mut Vec<SeparationSet>, name: &Name) -> Result<(), SetsFault>
     sets.retain(
         |set: &SeparationSet| -> bool
             ensures { result ≡ not (name_eq name.entry.now set.now.name) }
-        { *name != set.name },
+        { *name != *set.name() },
     );
     Ok(())
 }
@@ -164,7 +164,7 @@ impl Sets {
 
     /// Whether one more set of the kind fits.
     pub fn has_room(&self, kind: Kind) -> bool
-        ensures { result ≡ nat_lt (length (sets_of kind self.now)) 64 }
+        ensures { result ≡ nat_lt (length (sets_of kind self.now)) max_sets }
     {
         self.of_kind(kind).len() < MAX_SETS
     }

@@ -11,12 +11,10 @@ fn pair(rt: &HostRuntime, text: &str, one: &str, other: &str) -> Result<Separati
     let mut roles = Names::new(rt.alloc());
     roles.push(name(rt, one)?)?;
     roles.push(name(rt, other)?)?;
-    let name = name(rt, text)?;
-    Ok(SeparationSet {
-        name,
-        cardinality: 2,
-        roles,
-    })
+    match SeparationSet::new(name(rt, text)?, 2, roles)? {
+        Some(set) => Ok(set),
+        None => Err(Fail::new("no set has that form")),
+    }
 }
 
 fn hierarchy(rt: &HostRuntime) -> Result<Roles, Fail> {
@@ -58,5 +56,17 @@ fn made_and_removed(rt: HostRuntime) -> Result<(), Fail> {
     assert!(rt; sets.remove_ssd(&s1).is_err());
     sets.remove_dsd(&s1)?;
     assert!(rt; !sets.contains(Kind::Dynamic, &s1) && copy.contains(Kind::Dynamic, &s1));
+    Ok(())
+}
+
+// A set has two roles at least, each once, and a cardinality up to their number.
+#[test]
+fn forms(rt: HostRuntime) -> Result<(), Fail> {
+    let mut twice = Names::new(rt.alloc());
+    twice.push(name(&rt, "pay")?)?;
+    twice.push(name(&rt, "pay")?)?;
+    assert!(rt; SeparationSet::new(name(&rt, "s1")?, 2, twice)?.is_none());
+    let set = pair(&rt, "s1", "pay", "chk")?;
+    assert!(rt; set.roles().len() == 2 && set.copy()?.name().as_str() == "s1");
     Ok(())
 }

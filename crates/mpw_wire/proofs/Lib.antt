@@ -1,3 +1,4 @@
+pub mod DigestLemmas
 pub mod WordLemmas
 pub mod WritingLemmas
 pub mod ReadingLemmas

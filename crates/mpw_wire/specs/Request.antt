@@ -1,9 +1,9 @@
 -- The text of a request line: its words, and the request that they ask.
-use Rattle.std.specs.Prelude.{ℕ, Bool, ◌==◌, List, [], ◌∷◌, length, codes, Option, Some, None, option_map, option_and_then, if◌then◌else◌}
+use Rattle.std.specs.Prelude.{ℕ, List, [], ◌∷◌, length, codes, Option, Some, None, option_map, option_and_then, if◌then◌else◌}
 use Rattle.sha2.specs.Sha256.{sha256}
 use Rattle.mpw_text.specs.Text.{number_of}
-use Rattle.mpw_geom.specs.Names.{name_eq, by_name}
-use Rattle.mpw_separation.specs.declared.set.SeparationSet.{SeparationSet}
+use Rattle.mpw_geom.specs.Names.{name_eq}
+use Rattle.mpw_separation.specs.Set.{SeparationSet, formed}
 use Rattle.mpw_rbac.specs.declared.permission.Grant as permission
 use Rattle.mpw_rbac.specs.declared.permission.Operation.{Operation}
 use Rattle.mpw_rbac.specs.declared.permission.Operation.TheVariants.{Submit, Use, Read, Place, Admin, Deck, Run, Waive, Sign, Verdict, Audit}
@@ -91,17 +91,13 @@ unfoldable pub names_of : List (List ℕ) → Option (List (List ℕ))
 names_of [] = Some []
 names_of (word ∷ words) = name_of word >>= λ name. option_map (λ names. name ∷ names) (names_of words)
 
--- no name stands twice: by name, each once, they are as many
-abbrev pub are_distinct : List (List ℕ) → Bool
-are_distinct names = length (by_name names) == length names
-
--- a set of roles of which nobody may have that many, 2 to all of them: its name, that number and the roles
+-- a set of roles of which nobody may have that many: its name, that number and the roles, where they have the form of one
 unfoldable pub set_of : List ℕ → List ℕ → List (List ℕ) → Option SeparationSet
 set_of name cardinality roles = do
   name ← name_of name
   roles ← names_of roles
-  cardinality ← number_of 2 (length roles) cardinality
-  if are_distinct roles then Some (record { name = name; cardinality = cardinality; roles = roles }) else None
+  cardinality ← number_of 0 (length roles) cardinality
+  formed (record { name = name; cardinality = cardinality; roles = roles })
 
 -- the requests of a verb alone
 unfoldable pub bare_request : List ℕ → Option Request

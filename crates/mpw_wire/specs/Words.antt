@@ -1,12 +1,13 @@
 -- The words of a line.
-use Rattle.std.specs.Prelude.{◌≡◌, ◌≤◌, ◌==◌, ◌&&◌, ℕ, Bool, nat_le, List, [], ◌∷◌, length}
-use Rattle.std.specs.List.{slice_split, list_all}
+use Rattle.std.specs.Prelude.{◌≡◌, ◌≤◌, ◌&&◌, ℕ, Bool, nat_le, List, [], ◌∷◌, length}
+use Rattle.std.specs.List.{list_all}
+use Rattle.mpw_text.specs.Text.{words_of}
 use Rattle.mpw_wire.specs.declared.words.Arguments.{Arguments}
 use Rattle.mpw_wire.specs.declared.words.Arguments.TheVariants.{Zero, One, Two, Three, More}
 
 -- the words of a line are what its spaces part: two spaces have an empty word between them
 unfoldable pub words : List ℕ → List (List ℕ)
-words line = slice_split (λ byte. byte == 0x20) line
+words line = words_of line
 
 -- visible ASCII without the space
 abbrev pub is_visible : ℕ → Bool

@@ -2,7 +2,7 @@
 ghost use Rattle.std.specs.Prelude.{◌≡◌, IfOk};
 ghost use Rattle.mpw_core.specs.declared.event.Request.TheVariants as ask;
 ghost use Rattle.mpw_geom.specs.Names.{name_eq};
-ghost use Rattle.mpw_wire.specs.Request.{name_of, token_of, operation_of, object_of, grant_of, login_of, pair_of, names_of, are_distinct, set_of, bare_request, request_of_one, request_of_two, request_of_three, request_of_more, request_of};
+ghost use Rattle.mpw_wire.specs.Request.{name_of, token_of, operation_of, object_of, grant_of, login_of, pair_of, names_of, set_of, bare_request, request_of_one, request_of_two, request_of_three, request_of_more, request_of};
 ghost use Rattle.mpw_wire.specs.Words.{words};
 
 use crate::digest::digest_of;
@@ -258,15 +258,6 @@ fn names(alloc: Global, text: &[u8]) -> Result<Option<Names>, AllocError>
     Ok(Some(names))
 }
 
-/// Whether no name stands twice: n log n comparisons.
-fn are_distinct(names: &Names) -> Result<bool, AllocError>
-    ensures { IfOk result (λ distinct. distinct ≡ are_distinct names.now) }
-{
-    let mut sorted = names.copy()?;
-    sorted.sort()?;
-    Ok(sorted.as_slice().len() == names.as_slice().len())
-}
-
 /// The set of roles that a name, a cardinality and the words of a text give.
 #[tactic(auto, unfolding(crate::specs::Request::set_of))]
 fn set(
@@ -283,17 +274,10 @@ fn set(
     let Some(roles) = names(alloc, roles_text)? else {
         return Ok(None);
     };
-    let Some(cardinality) = read_count(cardinality_word, 2, roles.as_slice().len()) else {
+    let Some(cardinality) = read_count(cardinality_word, 0, roles.as_slice().len()) else {
         return Ok(None);
     };
-    if !are_distinct(&roles)? {
-        return Ok(None);
-    }
-    Ok(Some(SeparationSet {
-        name,
-        cardinality,
-        roles,
-    }))
+    SeparationSet::new(name, cardinality, roles)
 }
 
 /// The requests of a verb, a set's name and cardinality, and two roles or more.

@@ -17,5 +17,10 @@ returns c = record {
   dsd = denial.denies-dsd;
   unssd = denial.denies-unssd;
   undsd = denial.denies-undsd;
-  activate = denial.denies-activate;
+  open_session = denial.denies-open_session;
+  close_session = denial.denies-close_session;
+  drop_role = denial.denies-drop_role;
+  activate = denial.denies-activation;
+  whoami = denial.denies-whoami;
+  activation = denial.denies-activate;
 }

@@ -1,4 +1,4 @@
-use Rattle.std.proofs.Common.{ℕ, ◌≤◌, not, count_by, length}
+use Rattle.std.proofs.Common.{◌≤◌, not, count_by, length}
 use Rattle.mpw_roles.specs.Marks.{IsSearch}
 use Rattle.mpw_roles.proofs.below.close.Given as goal
 

@@ -1,5 +1,5 @@
 -- The role at the index is marked, so its immediate juniors may be.
-use Rattle.std.proofs.Common.{sym, ◌∙◌, ap, ◌≡◌, arith}
+use Rattle.std.proofs.Common.{sym, ◌∙◌, ap, ◌≡◌}
 use Rattle.mpw_roles.specs.Marks.{marked_all}
 use Rattle.mpw_roles.proofs.SearchLemmas.{expand-at}
 use Rattle.mpw_roles.proofs.below.expand.Goals as goal

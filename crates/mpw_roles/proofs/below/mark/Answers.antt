@@ -1,5 +1,5 @@
 -- The index is that of the first entry of the role.
-use Rattle.std.proofs.Common.{◌≡◌, ◌∙◌, sym, refl, ap, arith, false, []}
+use Rattle.std.proofs.Common.{◌≡◌, ◌∙◌, sym, false, []}
 use Rattle.std.proofs.lemmas.List.Quantifiers.{position-Some}
 use Rattle.mpw_geom.specs.Names.{name_eq}
 use Rattle.mpw_roles.specs.Hierarchy.{role_names, is_role}

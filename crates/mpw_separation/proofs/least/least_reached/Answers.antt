@@ -17,7 +17,7 @@ loop-set-preserved c =
     let so_far = option_copied c.loop-set.least in
     let turn = least-turn p sets c.loop-set.set-index set so_far c.loop-set-test.true c.set-item.is c.loop-set.invariant in
     let next : option_copied c.if-is_reached.least ≡ cond (p set) (lesser so_far (Some set.name)) so_far = elim c.if-is_reached.branch [
-      | then-is_reached w ↦ ap option_copied w.least-is ∙ w.lesser-least.ensures ∙ ap (λ b. cond b (lesser so_far (Some set.name)) so_far) (sym (sym c.is_reached.ensures ∙ w.if-is_reached.true))
+      | then-is_reached w ↦ ap option_copied w.least-is ∙ w.lesser-least.ensures ∙ ap (λ n. lesser so_far (Some n)) w.name.ensures ∙ ap (λ b. cond b (lesser so_far (Some set.name)) so_far) (sym (sym c.is_reached.ensures ∙ w.if-is_reached.true))
       | else-is_reached w ↦ ap option_copied w.least-is ∙ ap (λ b. cond b (lesser so_far (Some set.name)) so_far) (sym (sym c.is_reached.ensures ∙ w.if-is_reached.false))
     ] in
     subst (IsLeast (names_of (filter p (take (c.loop-set.set-index + 1) sets)))) (sym next) turn

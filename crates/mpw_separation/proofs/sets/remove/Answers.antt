@@ -3,7 +3,7 @@ use Rattle.std.proofs.Common.{rules, ◌≡◌, ◌∙◌, sym, ap, true, Ok, no
 use Rattle.std.proofs.lemmas.Fn.{filter_same}
 use Rattle.mpw_geom.specs.Names.{name_eq}
 use Rattle.mpw_separation.specs.Separation.{has_set, without_set}
-use Rattle.mpw_separation.specs.declared.set.SeparationSet.{SeparationSet}
+use Rattle.mpw_separation.specs.Set.{SeparationSet}
 use Rattle.mpw_separation.proofs.sets.remove.Goals as goal
 
 pub returns-clause-ok : goal.returns-clause-ok

@@ -1,5 +1,5 @@
 -- A new set that nobody breaks.
-use Rattle.std.proofs.Common.{◌≡◌, ◌∙◌, sym, ap, subst, true, false, Ok, [], ◌∷◌, ◌++◌}
+use Rattle.std.proofs.Common.{◌≡◌, ◌∙◌, sym, ap, subst, true, false, Ok, Err, [], ◌∷◌, ◌++◌}
 use Rattle.std.specs.List.{list_all}
 use Rattle.std.proofs.lemmas.Result.{err_from_is_err_and}
 use Rattle.mpw_roles.specs.Hierarchy.{is_role}
@@ -7,6 +7,7 @@ use Rattle.mpw_separation.specs.Separation.{is_broken, has_set}
 use Rattle.mpw_rbac.specs.Policy.{Policy, policy_of, active_lists}
 use Rattle.mpw_rbac.specs.Rows as rows
 use Rattle.mpw_rbac.specs.Sound.{Sound}
+use Rattle.mpw_rbac.specs.declared.refusal.Refusal.TheVariants.{Dsd}
 use Rattle.mpw_rbac.proofs.LawLemmas.{sound-dsd}
 use Rattle.mpw_rbac.proofs.RowLemmas.{dsd-ok, dsd-broken, dsd-refused, made-set}
 use Rattle.mpw_rbac.proofs.policy.Policy.dsd.Goals as goal
@@ -17,10 +18,10 @@ returns-then-is_broken_by_sessions-clause-refused c =
     let p = policy_of in'.users.entries in'.roles in'.granted.keys in'.sets in'.sessions.entries in
     let ok : rows.administered p c.args.conn ≡ Ok p = subst (λ (q : Policy). rows.administered q c.args.conn ≡ Ok q) (sym c.self.view_is) c.in_ok-administers.ensures.ok in
     let set = c.args.set in
-    let new : has_set p.dsd set.name ≡ false = ap (λ (q : Policy). has_set q.dsd set.name) c.self.view_is ∙ sym c.has_dsd.ensures ∙ c.if-has_dsd.false in
-    let known : list_all (is_role p.roles) set.roles ≡ true = ap (λ (q : Policy). list_all (is_role q.roles) set.roles) c.self.view_is ∙ ap (list_all (is_role c.args.self.now.roles)) (sym c.as_slice.ensures) ∙ sym c.are_roles.ensures ∙ c.if-not-are_roles.false in
+    let new : has_set p.dsd set.name ≡ false = ap (λ (q : Policy). has_set q.dsd set.name) c.self.view_is ∙ ap (has_set c.args.self.now.dsd) (sym c.name.ensures) ∙ sym c.has_dsd.ensures ∙ c.if-has_dsd.false in
+    let known : list_all (is_role p.roles) set.roles ≡ true = ap (λ (q : Policy). list_all (is_role q.roles) set.roles) c.self.view_is ∙ ap (list_all (is_role c.args.self.now.roles)) (sym c.roles.ensures.roles) ∙ sym c.are_roles.ensures ∙ c.if-not-are_roles.false in
     let broken : is_broken p.roles (active_lists p.sessions) set ≡ true = ap (λ (q : Policy). is_broken q.roles (active_lists q.sessions) set) c.self.view_is ∙ sym c.is_broken_by_sessions.ensures ∙ c.if-is_broken_by_sessions.true in
-    rw (← c.self.view_is) (dsd-broken p c.args.conn ok c.self.invariant set known new broken)
+    rw (← c.self.view_is) (dsd-broken p c.args.conn ok c.self.invariant set known new broken ∙ ap (λ n. Err (Dsd n)) (sym c.into_name.ensures))
 
 pub returns-in_err-make_dsd-clause-refused : goal.returns-in_err-make_dsd-clause-refused
 returns-in_err-make_dsd-clause-refused c =
@@ -28,8 +29,8 @@ returns-in_err-make_dsd-clause-refused c =
     let p = policy_of in'.users.entries in'.roles in'.granted.keys in'.sets in'.sessions.entries in
     let ok : rows.administered p c.args.conn ≡ Ok p = subst (λ (q : Policy). rows.administered q c.args.conn ≡ Ok q) (sym c.self.view_is) c.in_ok-administers.ensures.ok in
     let set = c.args.set in
-    let new : has_set p.dsd set.name ≡ false = ap (λ (q : Policy). has_set q.dsd set.name) c.self.view_is ∙ sym c.has_dsd.ensures ∙ c.if-has_dsd.false in
-    let known : list_all (is_role p.roles) set.roles ≡ true = ap (λ (q : Policy). list_all (is_role q.roles) set.roles) c.self.view_is ∙ ap (list_all (is_role c.args.self.now.roles)) (sym c.as_slice.ensures) ∙ sym c.are_roles.ensures ∙ c.if-not-are_roles.false in
+    let new : has_set p.dsd set.name ≡ false = ap (λ (q : Policy). has_set q.dsd set.name) c.self.view_is ∙ ap (has_set c.args.self.now.dsd) (sym c.name.ensures) ∙ sym c.has_dsd.ensures ∙ c.if-has_dsd.false in
+    let known : list_all (is_role p.roles) set.roles ≡ true = ap (λ (q : Policy). list_all (is_role q.roles) set.roles) c.self.view_is ∙ ap (list_all (is_role c.args.self.now.roles)) (sym c.roles.ensures.roles) ∙ sym c.are_roles.ensures ∙ c.if-not-are_roles.false in
     let broken : is_broken p.roles (active_lists p.sessions) set ≡ false = ap (λ (q : Policy). is_broken q.roles (active_lists q.sessions) set) c.self.view_is ∙ sym c.is_broken_by_sessions.ensures ∙ c.if-is_broken_by_sessions.false in
     let refused = dsd-refused p c.args.conn ok c.self.invariant set known new broken c.in_err-make_dsd.field-0.0 c.in_err-make_dsd.ensures.refused in
     let told = err_from_is_err_and c.from_residual-in_err-make_dsd.result c.from_residual-in_err-make_dsd.ensures.1 in
@@ -41,8 +42,8 @@ invariant_of-self-2 c =
     let p = policy_of in'.users.entries in'.roles in'.granted.keys in'.sets in'.sessions.entries in
     let ok : rows.administered p c.args.conn ≡ Ok p = subst (λ (q : Policy). rows.administered q c.args.conn ≡ Ok q) (sym c.self.view_is) c.in_ok-administers.ensures.ok in
     let set = c.args.set in
-    let new : has_set p.dsd set.name ≡ false = ap (λ (q : Policy). has_set q.dsd set.name) c.self.view_is ∙ sym c.has_dsd.ensures ∙ c.if-has_dsd.false in
-    let known : list_all (is_role p.roles) set.roles ≡ true = ap (λ (q : Policy). list_all (is_role q.roles) set.roles) c.self.view_is ∙ ap (list_all (is_role c.args.self.now.roles)) (sym c.as_slice.ensures) ∙ sym c.are_roles.ensures ∙ c.if-not-are_roles.false in
+    let new : has_set p.dsd set.name ≡ false = ap (λ (q : Policy). has_set q.dsd set.name) c.self.view_is ∙ ap (has_set c.args.self.now.dsd) (sym c.name.ensures) ∙ sym c.has_dsd.ensures ∙ c.if-has_dsd.false in
+    let known : list_all (is_role p.roles) set.roles ≡ true = ap (λ (q : Policy). list_all (is_role q.roles) set.roles) c.self.view_is ∙ ap (list_all (is_role c.args.self.now.roles)) (sym c.roles.ensures.roles) ∙ sym c.are_roles.ensures ∙ c.if-not-are_roles.false in
     let broken : is_broken p.roles (active_lists p.sessions) set ≡ false = ap (λ (q : Policy). is_broken q.roles (active_lists q.sessions) set) c.self.view_is ∙ sym c.is_broken_by_sessions.ensures ∙ c.if-is_broken_by_sessions.false in
     let made = made-set p.dsd set c.make_dsd.new.self.dsd c.in_ok-make_dsd.ensures.ok in
     let is : policy_of in'.users.entries in'.roles in'.granted.keys c.make_dsd.new.self in'.sessions.entries ≡ record p { dsd = p.dsd ++ set ∷ [] } = λ i. record p { dsd = made.1 i; ssd = c.in_ok-make_dsd.ensures.others i } in
@@ -54,8 +55,8 @@ returns-clause-ok c =
     let p = policy_of in'.users.entries in'.roles in'.granted.keys in'.sets in'.sessions.entries in
     let ok : rows.administered p c.args.conn ≡ Ok p = subst (λ (q : Policy). rows.administered q c.args.conn ≡ Ok q) (sym c.self.view_is) c.in_ok-administers.ensures.ok in
     let set = c.args.set in
-    let new : has_set p.dsd set.name ≡ false = ap (λ (q : Policy). has_set q.dsd set.name) c.self.view_is ∙ sym c.has_dsd.ensures ∙ c.if-has_dsd.false in
-    let known : list_all (is_role p.roles) set.roles ≡ true = ap (λ (q : Policy). list_all (is_role q.roles) set.roles) c.self.view_is ∙ ap (list_all (is_role c.args.self.now.roles)) (sym c.as_slice.ensures) ∙ sym c.are_roles.ensures ∙ c.if-not-are_roles.false in
+    let new : has_set p.dsd set.name ≡ false = ap (λ (q : Policy). has_set q.dsd set.name) c.self.view_is ∙ ap (has_set c.args.self.now.dsd) (sym c.name.ensures) ∙ sym c.has_dsd.ensures ∙ c.if-has_dsd.false in
+    let known : list_all (is_role p.roles) set.roles ≡ true = ap (λ (q : Policy). list_all (is_role q.roles) set.roles) c.self.view_is ∙ ap (list_all (is_role c.args.self.now.roles)) (sym c.roles.ensures.roles) ∙ sym c.are_roles.ensures ∙ c.if-not-are_roles.false in
     let broken : is_broken p.roles (active_lists p.sessions) set ≡ false = ap (λ (q : Policy). is_broken q.roles (active_lists q.sessions) set) c.self.view_is ∙ sym c.is_broken_by_sessions.ensures ∙ c.if-is_broken_by_sessions.false in
     let made = made-set p.dsd set c.make_dsd.new.self.dsd c.in_ok-make_dsd.ensures.ok in
     let is : policy_of in'.users.entries in'.roles in'.granted.keys c.make_dsd.new.self in'.sessions.entries ≡ record p { dsd = p.dsd ++ set ∷ [] } = λ i. record p { dsd = made.1 i; ssd = c.in_ok-make_dsd.ensures.others i } in

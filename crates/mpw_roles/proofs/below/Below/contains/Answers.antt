@@ -1,7 +1,7 @@
 -- The mark at the index of the role says whether it is among the marked ones.
-use Rattle.std.proofs.Common.{◌≡◌, ◌∙◌, sym, ap, arith, false, []}
+use Rattle.std.proofs.Common.{◌≡◌, ◌∙◌, sym, arith, false, []}
 use Rattle.std.proofs.lemmas.List.Quantifiers.{position-Some}
-use Rattle.mpw_geom.specs.Names.{name_eq, contains_name}
+use Rattle.mpw_geom.specs.Names.{name_eq}
 use Rattle.mpw_roles.specs.Hierarchy.{role_names, is_role}
 use Rattle.mpw_roles.proofs.MarksLemmas.{read-first, is_marked-none, contains-marked_names, length-names}
 use Rattle.mpw_roles.proofs.TableLemmas.{is_role-lookup}

@@ -1,4 +1,4 @@
-use Rattle.std.proofs.Common.{◌≡◌, ◌++◌, ◌≤◌, drop, length}
+use Rattle.std.proofs.Common.{◌≡◌, ◌++◌, drop}
 use Rattle.mpw_roles.specs.Marks.{marked_names}
 use Rattle.mpw_roles.proofs.below.Below.names.Given as goal
 

@@ -1,7 +1,6 @@
 -- The marked names are the roles that are at or below a senior.
-use Rattle.std.proofs.Common.{◌≡◌, ◌∙◌, sym, ap, subst, arith, false}
-use Rattle.std.specs.Prelude.{replicate}
-use Rattle.mpw_roles.specs.Marks.{Marks, marked_all, IsReached, Keeps}
+use Rattle.std.proofs.Common.{subst, arith}
+use Rattle.mpw_roles.specs.Marks.{Marks, IsReached, Keeps}
 use Rattle.mpw_roles.specs.Order.{is_below}
 use Rattle.mpw_roles.proofs.MarksLemmas.{marked_names-filter}
 use Rattle.mpw_roles.proofs.SearchLemmas.{search-end}

@@ -1,8 +1,8 @@
 -- A new pair goes behind the others of its senior.
-use Rattle.std.proofs.Common.{◌≡◌, ◌∙◌, sym, ap, subst, true, false, [], ◌∷◌, ◌++◌}
+use Rattle.std.proofs.Common.{◌≡◌, ◌∙◌, sym, subst, true, false, [], ◌∷◌, ◌++◌}
 use Rattle.indexmap.specs.IndexMap.{insert_entry}
 use Rattle.mpw_geom.specs.Names.{name_eq}
-use Rattle.mpw_roles.specs.Hierarchy.{is_role, is_immediate, immediate_juniors, with_pair}
+use Rattle.mpw_roles.specs.Hierarchy.{is_role, is_immediate, immediate_juniors}
 use Rattle.mpw_roles.specs.Order.{at_least, IsHierarchy}
 use Rattle.mpw_roles.proofs.HierarchyLemmas.{IsHierarchy-with_pair}
 use Rattle.mpw_roles.proofs.TableLemmas.{inherit-ok, insert-present}

@@ -1,5 +1,5 @@
 -- What `retain` leaves is the hierarchy without the role.
-use Rattle.std.proofs.Common.{rules, ◌∙◌, ◌≡◌, sym, ap, subst, Ok, not, true}
+use Rattle.std.proofs.Common.{rules, ◌∙◌, ◌≡◌, sym, ap, subst, Ok, true}
 use Rattle.mpw_roles.specs.Hierarchy.{without_role, is_role}
 use Rattle.mpw_roles.specs.Order.{IsHierarchy}
 use Rattle.mpw_roles.proofs.HierarchyLemmas.{IsHierarchy-without_role}

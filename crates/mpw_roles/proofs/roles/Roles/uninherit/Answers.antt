@@ -1,5 +1,5 @@
 -- The pair goes, and the others of its senior stay.
-use Rattle.std.proofs.Common.{◌≡◌, ◌∙◌, sym, ap, subst, true}
+use Rattle.std.proofs.Common.{◌≡◌, ◌∙◌, sym, subst, true}
 use Rattle.indexmap.specs.IndexMap.{insert_entry}
 use Rattle.mpw_geom.specs.Names.{name_eq, without_name}
 use Rattle.mpw_roles.specs.Hierarchy.{is_role, is_immediate, immediate_juniors}

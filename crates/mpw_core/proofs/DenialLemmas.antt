@@ -1,0 +1,86 @@
+-- A denial names what the connection's session lacks.
+use Rattle.std.proofs.Common.{◌≡◌, ℕ, List, Result, Ok, Err, false, refl, ap}
+use Rattle.mpw_geom.specs.Names.{contains_name}
+use Rattle.mpw_rbac.specs.declared.permission.Object.{Object}
+use Rattle.mpw_rbac.specs.declared.permission.Operation.{Operation}
+use Rattle.mpw_rbac.specs.declared.refusal.Refusal.{Refusal}
+use Rattle.mpw_rbac.specs.declared.refusal.Refusal.TheVariants as refusal
+use Rattle.mpw_rbac.specs.declared.session.Identity.{Identity}
+use Rattle.mpw_rbac.specs.Policy.{Policy, authorized, permits}
+use Rattle.mpw_rbac.specs.Rows as rows
+use Rattle.mpw_rbac.proofs.DenialLemmas as law
+use Rattle.mpw_core.specs.declared.event.Event.TheVariants as event
+use Rattle.mpw_core.specs.declared.event.Request.{Request}
+use Rattle.mpw_core.specs.declared.event.Request.TheVariants.{Open, Close, Activate, DropRole, Whoami, AddUser, DelUser, AddRole, DelRole, Assign, Deassign, Grant, Revoke, Inherit, Uninherit, Ssd, Dsd, UnSsd, UnDsd}
+use Rattle.mpw_core.specs.declared.reply.Denial.TheVariants as denial
+use Rattle.mpw_core.specs.declared.reply.Reply.TheVariants as reply
+use Rattle.mpw_core.specs.Step.{State, told, changed, asked, identity_lines, outcome_of, step, reply_of}
+
+permission-told : (r : Refusal) (operation : Operation) (object : Object) → told r ≡ reply.Denied (denial.Permission operation object) → r ≡ refusal.NotPermitted operation object
+permission-told refusal.Opened operation object e = cc
+permission-told refusal.Login operation object e = cc
+permission-told refusal.NoSession operation object e = cc
+permission-told (refusal.NotPermitted o b) operation object e = cc
+permission-told (refusal.NotAuthorized role) operation object e = cc
+permission-told (refusal.Ssd name) operation object e = cc
+permission-told (refusal.Dsd name) operation object e = cc
+permission-told refusal.Unknown operation object e = cc
+permission-told refusal.Loop operation object e = cc
+permission-told refusal.Known operation object e = cc
+permission-told refusal.Used operation object e = cc
+permission-told refusal.Full operation object e = cc
+
+activation-told : (r : Refusal) (other : List ℕ) → told r ≡ reply.Denied (denial.Activation other) → r ≡ refusal.NotAuthorized other
+activation-told refusal.Opened other e = cc
+activation-told refusal.Login other e = cc
+activation-told refusal.NoSession other e = cc
+activation-told (refusal.NotPermitted o b) other e = cc
+activation-told (refusal.NotAuthorized role) other e = cc
+activation-told (refusal.Ssd name) other e = cc
+activation-told (refusal.Dsd name) other e = cc
+activation-told refusal.Unknown other e = cc
+activation-told refusal.Loop other e = cc
+activation-told refusal.Known other e = cc
+activation-told refusal.Used other e = cc
+activation-told refusal.Full other e = cc
+
+permission-changed : (s : State) (row : Result Policy Refusal) (operation : Operation) (object : Object) → (changed s row).reply ≡ reply.Denied (denial.Permission operation object) → row ≡ Err (refusal.NotPermitted operation object)
+permission-changed s (Ok q) operation object e = cc
+permission-changed s (Err r) operation object e = ap (λ x. Err x) (permission-told r operation object e)
+
+permission-asked : (s : State) (row : Result Identity Refusal) (operation : Operation) (object : Object) → (asked s identity_lines row).reply ≡ reply.Denied (denial.Permission operation object) → row ≡ Err (refusal.NotPermitted operation object)
+permission-asked s (Ok q) operation object e = cc
+permission-asked s (Err r) operation object e = ap (λ x. Err x) (permission-told r operation object e)
+
+activation-changed : (s : State) (row : Result Policy Refusal) (other : List ℕ) → (changed s row).reply ≡ reply.Denied (denial.Activation other) → row ≡ Err (refusal.NotAuthorized other)
+activation-changed s (Ok q) other e = cc
+activation-changed s (Err r) other e = ap (λ x. Err x) (activation-told r other e)
+
+lacks-request : (s : State) (conn : ℕ) (request : Request) (operation : Operation) (object : Object) → (outcome_of s conn request).reply ≡ reply.Denied (denial.Permission operation object) → permits s.policy conn operation object ≡ false
+lacks-request s conn (Open user digest) operation object e = law.denies-open_session conn user digest s.policy operation object (permission-changed s (rows.open_session s.policy conn user digest) operation object e)
+lacks-request s conn Close operation object e = law.denies-close_session conn s.policy operation object (permission-changed s (rows.close_session s.policy conn) operation object e)
+lacks-request s conn (Activate role) operation object e = law.denies-activation conn role s.policy operation object (permission-changed s (rows.activate s.policy conn role) operation object e)
+lacks-request s conn (DropRole role) operation object e = law.denies-drop_role conn role s.policy operation object (permission-changed s (rows.drop_role s.policy conn role) operation object e)
+lacks-request s conn (AddUser user digest) operation object e = law.denies-adduser conn user digest s.policy operation object (permission-changed s (rows.adduser s.policy conn user digest) operation object e)
+lacks-request s conn (AddRole role) operation object e = law.denies-addrole conn role s.policy operation object (permission-changed s (rows.addrole s.policy conn role) operation object e)
+lacks-request s conn (Assign user role) operation object e = law.denies-assign conn user role s.policy operation object (permission-changed s (rows.assign s.policy conn user role) operation object e)
+lacks-request s conn (Grant grant) operation object e = law.denies-grant conn grant s.policy operation object (permission-changed s (rows.grant s.policy conn grant) operation object e)
+lacks-request s conn (Revoke grant) operation object e = law.denies-revoke conn grant s.policy operation object (permission-changed s (rows.revoke s.policy conn grant) operation object e)
+lacks-request s conn (DelUser user) operation object e = law.denies-deluser conn user s.policy operation object (permission-changed s (rows.deluser s.policy conn user) operation object e)
+lacks-request s conn (DelRole role) operation object e = law.denies-delrole conn role s.policy operation object (permission-changed s (rows.delrole s.policy conn role) operation object e)
+lacks-request s conn (Deassign user role) operation object e = law.denies-deassign conn user role s.policy operation object (permission-changed s (rows.deassign s.policy conn user role) operation object e)
+lacks-request s conn (Inherit senior junior) operation object e = law.denies-inherit conn senior junior s.policy operation object (permission-changed s (rows.inherit s.policy conn senior junior) operation object e)
+lacks-request s conn (Uninherit senior junior) operation object e = law.denies-uninherit conn senior junior s.policy operation object (permission-changed s (rows.uninherit s.policy conn senior junior) operation object e)
+lacks-request s conn (Ssd set) operation object e = law.denies-ssd conn set s.policy operation object (permission-changed s (rows.ssd s.policy conn set) operation object e)
+lacks-request s conn (Dsd set) operation object e = law.denies-dsd conn set s.policy operation object (permission-changed s (rows.dsd s.policy conn set) operation object e)
+lacks-request s conn (UnSsd name) operation object e = law.denies-unssd conn name s.policy operation object (permission-changed s (rows.unssd s.policy conn name) operation object e)
+lacks-request s conn (UnDsd name) operation object e = law.denies-undsd conn name s.policy operation object (permission-changed s (rows.undsd s.policy conn name) operation object e)
+lacks-request s conn Whoami operation object e = absurd (law.denies-whoami s.policy conn operation object (permission-asked s (rows.whoami s.policy conn) operation object e))
+
+pub lacks-permission : (s : State) (conn : ℕ) (request : Request) (operation : Operation) (object : Object) → reply_of s (event.Ask conn request) ≡ reply.Denied (denial.Permission operation object) → permits s.policy conn operation object ≡ false
+unfolding step
+lacks-permission s conn request operation object e = lacks-request s conn request operation object e
+
+pub lacks-role : (s : State) (conn : ℕ) (role other : List ℕ) → reply_of s (event.Ask conn (Activate role)) ≡ reply.Denied (denial.Activation other) → (other ≡ role) × (contains_name (authorized s.policy (rows.user_of s.policy conn)) role ≡ false)
+unfolding step
+lacks-role s conn role other e = law.denies-activate s.policy conn role other (activation-changed s (rows.activate s.policy conn role) other e)
