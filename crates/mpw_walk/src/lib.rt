@@ -1,0 +1,10 @@
+//! The flat lists of submissions on a shelf, one shape at a time.
+//!
+//! [`Walk`] goes through placed submissions and gives each shape that they show with its origin and
+//! its placing. It goes down the hierarchy with a stack of its own, which is reserved once: one frame
+//! a level.
+#![tactic(auto)]
+
+mod root;
+
+pub use root::{Placed, Root};
