@@ -1,1 +1,4 @@
 pub mod Examples
+pub mod Placings
+pub mod Related
+pub mod Given

@@ -5,6 +5,8 @@
 //! a level.
 #![tactic(auto)]
 
+mod laws;
 mod root;
 
+pub use laws::{roots_are_placed_again, turns_give_flat_lists};
 pub use root::{Placed, Root};
