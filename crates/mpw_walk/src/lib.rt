@@ -5,6 +5,7 @@
 //! a level.
 #![tactic(auto)]
 
+mod frame;
 mod laws;
 mod root;
 
