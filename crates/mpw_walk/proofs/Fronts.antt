@@ -16,7 +16,7 @@ use Rattle.mpw_hier.specs.Values.{flats, heights}
 use Rattle.mpw_walk.specs.declared.frame.Frame.{Frame}
 use Rattle.mpw_walk.specs.Frames.{IsFront, IsWithin}
 
-at_all : {X : Type 0} (P : X → Type 0) (xs : List X) (k : ℕ) (x : X) → All P xs → slice_get xs k ≡ Some x → P x
+pub at_all : {X : Type 0} (P : X → Type 0) (xs : List X) (k : ℕ) (x : X) → All P xs → slice_get xs k ≡ Some x → P x
 at_all P xs k x all is =
     let within = slice_get_within xs k x is in
     subst P (get_or_from_slice_get xs k x x is) (all k x within)

@@ -4,3 +4,10 @@ pub mod Related
 pub mod Given
 pub mod Arrays
 pub mod Fronts
+pub mod Named
+pub mod Shapes
+pub mod Close
+pub mod Drawn
+pub mod Entered
+pub mod Shows
+pub mod Nexts
