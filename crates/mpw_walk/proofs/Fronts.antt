@@ -3,7 +3,6 @@ use Rattle.std.proofs.Common.{◌≡◌, ◌<◌, ℕ, List, length, get_or, tak
 use Rattle.std.specs.Prelude.{slice_get, All, IfSome}
 use Rattle.std.specs.Borrow.{Bor}
 use Rattle.std.proofs.lemmas.Option.{slice_get_within, get_or_from_slice_get, slice_get_read, slice_get-get_or}
-use Rattle.mpw_geom.specs.declared.placing.Placing.{Placing}
 use Rattle.mpw_elements.specs.declared.element.Element.{Element}
 use Rattle.mpw_elements.specs.declared.element.Element.TheVariants as elements
 use Rattle.mpw_elements.specs.Element.{IsElement, IsReference}
@@ -26,8 +25,8 @@ pub element_read : (library : List Structure) (k : ℕ) (s : Structure) (i : ℕ
 element_read library k s i e read is at =
     at_all IsElement s.elements i e (at_all IsStructure library k s read is).elements at
 
-pub front_is : (ss : List Submission) (number : ℕ) (nodes : List Node) (place : ℕ) (placing : Placing) (f : Frame) (w : AreNodes ss number nodes) (structure : Structure) → slice_get nodes place ≡ Some f.node.now → slice_get w.submission.library f.node.now.structure ≡ Some structure → IsWithin placing.by → f.submission ≡ number → f.nodes.now ≡ nodes → f.elements.now ≡ structure.elements → f.placing ≡ placing → f.shape ≡ 0 → f.child ≡ 0 → f.row ≡ 0 → f.column ≡ 0 → IsFront ss number nodes place placing f
-front_is ss number nodes place placing f w structure at named near number_is nodes_are elements_are placing_is shape child row column = record {
+pub front_is : (ss : List Submission) (number : ℕ) (nodes : List Node) (place : ℕ) (f : Frame) (w : AreNodes ss number nodes) (structure : Structure) → slice_get nodes place ≡ Some f.node.now → slice_get w.submission.library f.node.now.structure ≡ Some structure → IsWithin f.placing.by → f.submission ≡ number → f.nodes.now ≡ nodes → f.elements.now ≡ structure.elements → f.shape ≡ 0 → f.child ≡ 0 → f.row ≡ 0 → f.column ≡ 0 → IsFront ss number nodes place f
+front_is ss number nodes place f w structure at named near number_is nodes_are elements_are shape child row column = record {
   frame = record {
     submission = w.submission;
     is = subst (λ n. slice_get ss n ≡ Some w.submission) (sym number_is) w.is;
@@ -38,12 +37,11 @@ front_is ss number nodes place placing f w structure at named near number_is nod
     named = named;
     elements_are = elements_are;
     within = λ c r child_is reference_is. let q : IsReference r = element_read w.submission.library f.node.now.structure structure c.element (elements.Reference r) w.shown.library named (subst (λ es. slice_get es c.element ≡ Some (elements.Reference r)) elements_are reference_is) in (omega (arith, row, q.rows.least), omega (arith, column, q.columns.least));
-    near = subst (λ (p : Placing). IsWithin p.by) (sym placing_is) near;
+    near = near;
   };
   number_is = number_is;
   nodes_are = nodes_are;
   node_is = at;
-  placing_is = placing_is;
   shape = shape;
   child = child;
   row = row;

@@ -77,7 +77,7 @@ few_give k is = omega (arith, length-map is give, suc-mul k (length is))
 
 -- ---- the greatest
 
-grows : (ns : List ℕ) (n : ℕ) → n ≤ fold max n ns
+pub grows : (ns : List ℕ) (n : ℕ) → n ≤ fold max n ns
 grows [] n = omega arith
 grows (m ∷ ns) n = omega (arith, grows ns (max n m), le-max_left n m)
 

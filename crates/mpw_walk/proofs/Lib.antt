@@ -11,3 +11,6 @@ pub mod Drawn
 pub mod Entered
 pub mod Shows
 pub mod Nexts
+pub mod Depth
+pub mod Reach
+pub mod Targets

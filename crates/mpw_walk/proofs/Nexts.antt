@@ -22,7 +22,7 @@ use Rattle.mpw_hier.specs.Nodes.{shape_places, IsNode}
 use Rattle.mpw_hier.specs.Values.{structure_items, flats}
 use Rattle.mpw_walk.specs.declared.frame.Frame.{Frame}
 use Rattle.mpw_walk.specs.Turns.{Turn, enter, give, entered, placed_turn}
-use Rattle.mpw_walk.specs.Frames.{named_turns, shape_turns, turns_of_shapes, reference_turns, instance_turns, turns_of_children, instances_from, turns_to_come, IsFrame, IsNext, HasReference, behind_instance}
+use Rattle.mpw_walk.specs.Frames.{named_turns, shape_turns, turns_of_shapes, reference_turns, instance_turns, turns_of_children, instances_from, turns_within, turns_to_come, IsFrame, IsNext, HasReference, behind_instance}
 use Rattle.mpw_walk.proofs.Fronts.{one, element_read}
 use Rattle.mpw_walk.proofs.Entered.{children_front}
 use Rattle.mpw_walk.proofs.Placings.{placed_here, turns_again}
@@ -62,7 +62,7 @@ shape_within ss f q h =
     omega (arith, w, same_length, here)
 
 pub shape_next : (ss : List Submission) (f : Frame) (e : Element) → f.shape < length f.node.now.shapes.items → slice_get f.elements.now (slice_index f.node.now.shapes.items f.shape) ≡ Some e → turns_to_come ss f ≡ give (record { origin = f.submission; placing = f.placing; element = e }) ∷ turns_to_come ss (record f { shape = f.shape + 1 })
-unfolding turns_to_come
+unfolding turns_to_come turns_within
 shape_next ss f e h is =
     let places = f.node.now.shapes.items in
     let next = drop_more places f.shape 0 h in
@@ -84,7 +84,7 @@ rows_read : (ss : List Submission) (f : Frame) (q : IsFrame ss f) (i : ℕ) (r :
 rows_read ss f q i r e =
     element_read q.submission.library f.node.now.structure q.structure i (elements.Reference r) q.nodes.library q.named (subst (λ es. slice_get es i ≡ Some (elements.Reference r)) q.elements_are e)
 
-same_reference : {r t : Reference} → Some (elements.Reference r) ≡ Some (elements.Reference t) → r ≡ t
+pub same_reference : {r t : Reference} → Some (elements.Reference r) ≡ Some (elements.Reference t) → r ≡ t
 same_reference e = cc
 
 pub behind_frame : (ss : List Submission) (f : Frame) (q : IsFrame ss f) (target : Target) (r : Reference) → IsNext f target r → IsFrame ss (behind_instance f r)
@@ -167,7 +167,7 @@ child_next ss f q target r x =
     behind_cases f r (λ (g : Frame). children_of ss f ≡ entered ts (instance r f.row f.column) ++ children_of ss g) (λ more. go (instances_from r f.row (f.column + 1)) (next_column r f.row f.column there.1) ∙ ap (λ l. entered ts (instance r f.row f.column) ++ l) (sym (split f.row (f.column + 1)))) (λ last more. go (instances_from r (f.row + 1) 0) (next_row r f.row f.column there.1 last more) ∙ ap (λ l. entered ts (instance r f.row f.column) ++ l) (sym (split (f.row + 1) 0))) (λ last end. go [] (no_next r f.row f.column there.1 last end) ∙ ap (λ l. entered ts (instance r f.row f.column) ++ l) (sym (children_front ss f.submission q.submission q.is below es (λ i t e. let z = rows_read ss f q i t e in omega (arith, z.rows.least)) (drop (f.child + 1) cs))))
 
 pub shapes_over : (ss : List Submission) (f : Frame) → length f.node.now.shapes.items ≤ f.shape → turns_to_come ss f ≡ map (placed_turn f.placing) (children_of ss f)
-unfolding turns_to_come
+unfolding turns_to_come turns_within
 shapes_over ss f h = rw (drop_all f.shape f.node.now.shapes.items h) refl
 
 pub frame_over : (ss : List Submission) (f : Frame) → length f.node.now.shapes.items ≤ f.shape → slice_get f.node.now.children.items f.child ≡ None → turns_to_come ss f ≡ []

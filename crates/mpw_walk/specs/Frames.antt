@@ -13,8 +13,9 @@ use Rattle.mpw_hier.specs.declared.node.Child.{Child}
 use Rattle.mpw_hier.specs.declared.node.Target.{Target}
 use Rattle.mpw_hier.specs.declared.submission.Submission.{Submission}
 use Rattle.mpw_hier.specs.Items.{instance, row_of}
-use Rattle.mpw_hier.specs.Nodes.{AreNodesOf}
-use Rattle.mpw_hier.specs.Values.{flats, heights}
+use Rattle.mpw_hier.specs.Nodes.{AreNodesOf, structure_levels}
+use Rattle.mpw_hier.specs.Sizes.{IsSizeOf}
+use Rattle.mpw_hier.specs.Values.{structure_items, flats, heights}
 use Rattle.mpw_walk.specs.declared.frame.Frame.{Frame}
 use Rattle.mpw_walk.specs.declared.root.Placed.{Placed}
 use Rattle.mpw_walk.specs.Turns.{Turn, give, placed_turn, placed_turns, entered, structure_turns, all_turns}
@@ -62,9 +63,13 @@ turns_of_children below es row column [] = []
 turns_of_children below es row column (c ∷ cs) =
     instance_turns below row column (slice_get es c.element) ++ flat_map (λ (c : Child). reference_turns below (slice_get es c.element)) cs
 
+-- What is still to come of a frame's structure, in the structure's own coordinates, and as it is placed.
+unfoldable pub turns_within : List Submission → Frame → List Turn
+turns_within ss f =
+    turns_of_shapes f.submission f.elements.now (drop f.shape f.node.now.shapes.items) ++ turns_of_children (named_turns ss f.submission) f.elements.now f.row f.column (drop f.child f.node.now.children.items)
+
 unfoldable pub turns_to_come : List Submission → Frame → List Turn
-turns_to_come ss f =
-    map (placed_turn f.placing) (turns_of_shapes f.submission f.elements.now (drop f.shape f.node.now.shapes.items) ++ turns_of_children (named_turns ss f.submission) f.elements.now f.row f.column (drop f.child f.node.now.children.items))
+turns_to_come ss f = map (placed_turn f.placing) (turns_within ss f)
 
 -- ---- frames
 
@@ -91,16 +96,24 @@ pub record IsFrame (ss : List Submission) (f : Frame) : Type 0 where
   pub near : IsWithin f.placing.by
 
 -- The frame of a node before any of its turns.
-pub record IsFront (ss : List Submission) (number : ℕ) (nodes : List Node) (place : ℕ) (placing : Placing) (f : Frame) : Type 0 where
+pub record IsFront (ss : List Submission) (number : ℕ) (nodes : List Node) (place : ℕ) (f : Frame) : Type 0 where
   pub frame : IsFrame ss f
   pub number_is : f.submission ≡ number
   pub nodes_are : f.nodes.now ≡ nodes
   pub node_is : slice_get nodes place ≡ Some f.node.now
-  pub placing_is : f.placing ≡ placing
   pub shape : f.shape ≡ 0
   pub child : f.child ≡ 0
   pub row : f.row ≡ 0
   pub column : f.column ≡ 0
+
+-- A frame shows what a name means to a submission, and its node has the size of that.
+pub record Shows (ss : List Submission) (number : ℕ) (s : Submission) (name : List ℕ) (f : Frame) : Type 0 where
+  pub frame : IsFrame ss f
+  pub turns : turns_within ss f ≡ named_turns ss number name
+  pub size : IsSizeOf (structure_items (flats (take number ss)) s name) (structure_levels (heights (take number ss)) s name) f.node.now.size
+
+abbrev pub ShowsName : List Submission → ℕ → (Submission → List ℕ) → Frame → Type 0
+ShowsName ss number name f = (s : Submission) → slice_get ss number ≡ Some s → Shows ss number s (name s) f
 
 -- ---- steps
 

@@ -3,12 +3,17 @@
 ghost use Rattle.std.specs.Prelude.{◌≡◌, ◌<◌, ◌-◌, length, slice_get, slice_index, IfSome, IfNone, None};
 ghost use Rattle.mpw_hier.specs.Items.{instance, stepped};
 ghost use Rattle.mpw_hier.specs.Nodes.{AreNodes};
-ghost use Rattle.mpw_walk.specs.Frames.{IsFront, IsWithin, IsNext, IsShape, HasReference, IsNearArray, behind_instance};
+ghost use Rattle.mpw_walk.specs.Frames.{IsFront, IsFrame, IsWithin, ShowsName, IsNext, IsShape, HasReference, IsNearArray, behind_instance};
 
 use crate::root::Placed;
 use mpw_elements::{Element, Reference};
-use mpw_geom::{Placing, Point};
+use mpw_geom::{Orient, Placing, Point};
 use mpw_hier::{Node, Shelf, Target};
+
+const HERE: Placing = Placing {
+    orient: Orient::R0,
+    by: Point { x: 0, y: 0 },
+};
 
 /// A structure that a walk has entered, and how far it has come there.
 #[derive(Clone, Copy)]
@@ -57,18 +62,11 @@ pub fn instance(reference: &Reference, row: u16, column: u16) -> Placing
 }
 
 impl<'a> Frame<'a> {
-    /// The structure of a node before any of its turns.
-    pub fn front(
-        shelf: &'a Shelf,
-        submission: u32,
-        nodes: &'a [Node],
-        place: usize,
-        placing: Placing,
-    ) -> Frame<'a>
+    /// The structure of a node before any of its turns, in its own coordinates.
+    fn front(shelf: &'a Shelf, submission: u32, nodes: &'a [Node], place: usize) -> Frame<'a>
         requires nodes { AreNodes shelf.now submission nodes.now }
         requires place { place < length nodes.now }
-        requires near { IsWithin placing.by }
-        ensures { IsFront shelf.now submission nodes.now place placing result }
+        ensures { IsFront shelf.now submission nodes.now place result }
     {
         let from = shelf.get(submission).unwrap();
         let structures = from.library.structures();
@@ -79,7 +77,7 @@ impl<'a> Frame<'a> {
             nodes,
             node,
             elements: structure.elements.as_slice(),
-            placing,
+            placing: HERE,
             shape: 0,
             child: 0,
             row: 0,
@@ -87,14 +85,25 @@ impl<'a> Frame<'a> {
         }
     }
 
-    /// The top of a submission before any of its turns.
-    pub fn top(shelf: &'a Shelf, submission: u32, placing: Placing) -> Frame<'a>
-        requires number { submission < length shelf.now }
-        requires near { IsWithin placing.by }
-        ensures { IsFront shelf.now submission result.nodes.now (length result.nodes.now - 1) placing result }
+    /// The top of a submission before any of its turns, in its own coordinates.
+    pub fn top(shelf: &'a Shelf, submission: u32) -> Frame<'a>
+        requires { submission < length shelf.now }
+        ensures { ShowsName shelf.now submission (λ s. s.top) result }
     {
         let nodes = shelf.nodes(submission).unwrap();
-        Frame::front(shelf, submission, nodes, nodes.len() - 1, placing)
+        Frame::front(shelf, submission, nodes, nodes.len() - 1)
+    }
+
+    /// What the frame places next, before any of its turns, in its own coordinates.
+    pub fn target(&self, shelf: &'a Shelf, target: Target, reference: &Reference) -> Frame<'a>
+        requires frame { IsFrame shelf.now self.now }
+        requires next { IsNext self.now target reference.now }
+        ensures { ShowsName shelf.now self.now.submission (λ _. reference.now.name) result }
+    {
+        match target {
+            Target::Own(place) => Frame::front(shelf, self.submission, self.nodes, place),
+            Target::Outer(number) => Frame::top(shelf, number),
+        }
     }
 
     /// The next shape, placed.

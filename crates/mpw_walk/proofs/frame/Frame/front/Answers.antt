@@ -1,4 +1,5 @@
 use Rattle.std.proofs.Common.{◌≡◌, ◌<◌, length, Option, Some, refl, sym, ap, subst, ◌∙◌}
+use Rattle.std.proofs.Common.{rules}
 use Rattle.std.specs.Prelude.{slice_get, option_copied}
 use Rattle.std.specs.Borrow.{Bor}
 use Rattle.mpw_hier.specs.declared.submission.Submission.{Submission}
@@ -27,4 +28,4 @@ returns c =
     let library = ap (λ (s : Submission). s.library) same ∙ sym c.structures-structures.ensures in
     let here = subst (λ l. node.structure < length l) library within in
     let named = got c.structures-structures.result.now node.structure c.get-3.result c.unwrap-structure.result c.unwrap-structure.ensures c.get-3.ensures.lookup.1 here in
-    front_is c.args.shelf.now c.args.submission c.args.nodes.now c.args.place c.args.placing _ w c.unwrap-structure.result.now at (subst (λ l. slice_get l node.structure ≡ Some c.unwrap-structure.result.now) (sym library) named) c.requires.near refl refl c.as_slice.ensures refl refl refl refl refl
+    front_is c.args.shelf.now c.args.submission c.args.nodes.now c.args.place _ w c.unwrap-structure.result.now at (subst (λ l. slice_get l node.structure ≡ Some c.unwrap-structure.result.now) (sym library) named) (search rules) refl refl c.as_slice.ensures refl refl refl refl
