@@ -2,6 +2,7 @@
 use Rattle.std.proofs.Common.{◌≡◌, ◌<◌, ℕ, suc, ℤ, pos, negsuc, neg_ℤ, ◌*◌, ◌+ℤ◌, ◌*ℤ◌, refl, ap, subst, ◌∙◌, arith, w64, FitsSigned, to_z, of_z}
 use Rattle.std.proofs.lemmas.Int.{ints, to_z-of_z}
 use Rattle.mpw_geom.specs.declared.plane.Point.{Point}
+use Rattle.mpw_geom.specs.Plane.{IsInPlane}
 use Rattle.mpw_geom.proofs.Chains.{same_point}
 use Rattle.mpw_elements.specs.declared.element.Reference.{Reference}
 use Rattle.mpw_hier.specs.Items.{stepped}
@@ -36,3 +37,9 @@ pub computed : (p n step : ℤ) → FitsSigned w64 n → FitsSigned w64 step →
 computed p n step f g h l =
     let m : FitsSigned w64 (n *ℤ step) = added_fits p (n *ℤ step) h l in
     rw (to_z-of_z w64 n f, to_z-of_z w64 step g, to_z-of_z w64 (n *ℤ step) m, to_z-of_z w64 p (short_fits p h), to_z-of_z w64 (p +ℤ (n *ℤ step)) (short_fits _ l)) refl
+
+pub in_plane : (p : Point) → IsWithin p → IsInPlane p
+in_plane p h = record {
+  x = record { low = omega (arith, ints, h.x.low); high = omega (arith, ints, h.x.high) };
+  y = record { low = omega (arith, ints, h.y.low); high = omega (arith, ints, h.y.high) };
+}

@@ -1,8 +1,8 @@
 -- What a frame places has fewer levels than it has.
-use Rattle.std.proofs.Common.{◌≡◌, ℕ, zero, suc, ◌+◌, ◌-◌, ◌<◌, ◌≤◌, min, max, List, [], ◌∷◌, length, map, take, Option, Some, None, refl, sym, ap, subst, ◌∙◌, arith}
+use Rattle.std.proofs.Common.{◌≡◌, ℕ, zero, suc, ◌<◌, ◌≤◌, min, max, List, [], ◌∷◌, map, take, Some, ap, subst, ◌∙◌, arith}
 use Rattle.std.specs.Prelude.{slice_get}
 use Rattle.std.specs.List.{fold}
-use Rattle.std.proofs.Math.Nat.{le-max_left, le-max_right}
+use Rattle.std.proofs.Math.Nat.{le-max_right}
 use Rattle.mpw_elements.specs.declared.element.Element.{Element}
 use Rattle.mpw_elements.specs.declared.element.Element.TheVariants as elements
 use Rattle.mpw_elements.specs.declared.element.Reference.{Reference}
@@ -10,10 +10,9 @@ use Rattle.mpw_hier.specs.declared.node.Target.{Target}
 use Rattle.mpw_hier.specs.declared.submission.Submission.{Submission}
 use Rattle.mpw_hier.specs.Structures.{names_of}
 use Rattle.mpw_hier.specs.Nodes.{structure_levels}
-use Rattle.mpw_hier.specs.Values.{heights, greatest, shown_height}
+use Rattle.mpw_hier.specs.Values.{heights, greatest}
 use Rattle.mpw_walk.specs.declared.frame.Frame.{Frame}
 use Rattle.mpw_walk.specs.Frames.{IsFrame, IsNext, Shows}
-use Rattle.mpw_walk.proofs.Fronts.{one}
 use Rattle.mpw_walk.proofs.Given.{grows}
 use Rattle.mpw_walk.proofs.Entered.{own_levels}
 

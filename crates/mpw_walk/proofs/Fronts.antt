@@ -1,6 +1,7 @@
 -- The frame of a node before any of its turns.
-use Rattle.std.proofs.Common.{◌≡◌, ◌<◌, ℕ, List, length, get_or, take, Option, Some, refl, sym, subst, ◌∙◌, arith}
-use Rattle.std.specs.Prelude.{slice_get, All, IfSome}
+use Rattle.std.proofs.Common.{◌≡◌, ◌<◌, ℕ, List, length, get_or, take, Option, Some, None, refl, sym, ap, subst, ◌∙◌, arith}
+use Rattle.std.specs.Prelude.{slice_get, All, IfSome, is_some, nat_lt, true, false, ◌≤◌}
+use Rattle.std.proofs.lemmas.Bool.Decides.{nat_tests}
 use Rattle.std.specs.Borrow.{Bor}
 use Rattle.std.proofs.lemmas.Option.{slice_get_within, get_or_from_slice_get, slice_get_read, slice_get-get_or}
 use Rattle.mpw_elements.specs.declared.element.Element.{Element}
@@ -63,3 +64,9 @@ one o x y e f = let g : Some x ≡ Some y = sym e ∙ f in cc
 pub structure_within : (ss : List Submission) (number : ℕ) (nodes : List Node) (place : ℕ) (node : Node) (w : AreNodes ss number nodes) → slice_get nodes place ≡ Some node → node.structure < length w.submission.library
 structure_within ss number nodes place node w at =
     slice_get_within w.submission.library node.structure (w.shown.each place node at).structure (w.shown.each place node at).is
+
+pub some_within : {X : Type 0} (o : Option X) (x : X) (k n : ℕ) → o ≡ Some x → is_some o ≡ nat_lt k n → k < n
+some_within o x k n is told = let e : nat_lt k n ≡ true = sym told ∙ ap is_some is in grind (arith, nat_tests)
+
+pub none_within : {X : Type 0} (o : Option X) (k n : ℕ) → o ≡ None → is_some o ≡ nat_lt k n → n ≤ k
+none_within o k n is told = let e : nat_lt k n ≡ false = sym told ∙ ap is_some is in grind (arith, nat_tests)

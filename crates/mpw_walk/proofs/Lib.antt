@@ -14,3 +14,5 @@ pub mod Nexts
 pub mod Depth
 pub mod Reach
 pub mod Targets
+pub mod Ways
+pub mod Starts

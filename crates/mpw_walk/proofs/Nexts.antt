@@ -1,28 +1,26 @@
 -- The next turn of a frame, and the frame behind it.
-use Rattle.std.proofs.Common.{◌≡◌, ℕ, zero, suc, ◌+◌, ◌-◌, ◌<◌, ◌≤◌, Bool, true, false, List, [], ◌∷◌, ◌++◌, length, get_or, map, take, drop, Option, Some, None, refl, sym, ap, subst, ◌∙◌, arith, append_assoc, nat_lt, if◌then◌else◌}
+use Rattle.std.proofs.Common.{◌≡◌, ℕ, zero, suc, ◌+◌, ◌<◌, ◌≤◌, Bool, true, false, List, [], ◌∷◌, ◌++◌, length, get_or, map, take, drop, Some, None, refl, sym, ap, subst, ◌∙◌, arith, append_assoc, nat_lt, if◌then◌else◌}
 use Rattle.std.specs.Prelude.{slice_get, slice_index, All}
 use Rattle.std.specs.List.{flat_map}
 use Rattle.std.proofs.lemmas.Bool.Decides.{nat_tests}
-use Rattle.std.proofs.lemmas.Option.{slice_get_within, slice_get-get_or, get_or_from_slice_get}
+use Rattle.std.proofs.lemmas.Option.{slice_get_within, get_or_from_slice_get}
 use Rattle.std.proofs.lemmas.List.{drop_more, drop_all, map-append}
-use Rattle.std.proofs.lemmas.List.Concat.{flat_map-append}
 use Rattle.std.proofs.lemmas.List.Elements.{All-nil, All-cons, All-weaker}
 use Rattle.mpw_geom.specs.declared.placing.Placing.{Placing}
 use Rattle.mpw_elements.specs.declared.element.Element.{Element}
 use Rattle.mpw_elements.specs.declared.element.Element.TheVariants as elements
 use Rattle.mpw_elements.specs.declared.element.Reference.{Reference}
 use Rattle.mpw_elements.specs.Element.{IsReference}
-use Rattle.mpw_hier.specs.declared.node.Node.{Node}
 use Rattle.mpw_hier.specs.declared.node.Child.{Child}
 use Rattle.mpw_hier.specs.declared.node.Target.{Target}
 use Rattle.mpw_hier.specs.declared.submission.Submission.{Submission}
 use Rattle.mpw_hier.specs.Structures.{is_shape}
-use Rattle.mpw_hier.specs.Items.{Item, instance, placed_item, placed_again}
-use Rattle.mpw_hier.specs.Nodes.{shape_places, IsNode}
-use Rattle.mpw_hier.specs.Values.{structure_items, flats}
+use Rattle.mpw_hier.specs.Items.{instance, placed_again}
+use Rattle.mpw_hier.specs.Nodes.{shape_places}
+use Rattle.mpw_hier.specs.Values.{flats}
 use Rattle.mpw_walk.specs.declared.frame.Frame.{Frame}
 use Rattle.mpw_walk.specs.Turns.{Turn, enter, give, entered, placed_turn}
-use Rattle.mpw_walk.specs.Frames.{named_turns, shape_turns, turns_of_shapes, reference_turns, instance_turns, turns_of_children, instances_from, turns_within, turns_to_come, IsFrame, IsNext, HasReference, behind_instance}
+use Rattle.mpw_walk.specs.Frames.{named_turns, reference_turns, instance_turns, turns_of_children, instances_from, turns_within, turns_to_come, IsFrame, IsNext, HasReference, behind_instance}
 use Rattle.mpw_walk.proofs.Fronts.{one, element_read}
 use Rattle.mpw_walk.proofs.Entered.{children_front}
 use Rattle.mpw_walk.proofs.Placings.{placed_here, turns_again}
@@ -33,8 +31,8 @@ none_past [] k e = omega arith
 none_past (x ∷ xs) zero e = absurd cc
 none_past (x ∷ xs) (suc k) e = omega (arith, none_past xs k e)
 
-drop_at : {X : Type 0} (xs : List X) (k : ℕ) (x : X) → slice_get xs k ≡ Some x → drop k xs ≡ x ∷ drop (k + 1) xs
-drop_at xs k x is =
+pub drop_get : {X : Type 0} (xs : List X) (k : ℕ) (x : X) → slice_get xs k ≡ Some x → drop k xs ≡ x ∷ drop (k + 1) xs
+drop_get xs k x is =
     drop_more xs k x (slice_get_within xs k x is) ∙ ap (λ y. y ∷ drop (k + 1) xs) (get_or_from_slice_get xs k x x is)
 
 -- ---- shapes
@@ -162,7 +160,7 @@ child_next ss f q target r x =
     let there = q.within x.child r x.child_is x.reference_is in
     let ts = below r.name in
     let left = flat_map (λ (c : Child). reference_turns below (slice_get es c.element)) (drop (f.child + 1) cs) in
-    let split : (row column : ℕ) → turns_of_children below es row column (drop f.child cs) ≡ flat_map (entered ts) (instances_from r row column) ++ left = λ row column. ap (turns_of_children below es row column) (drop_at cs f.child x.child x.child_is) ∙ ap (λ o. instance_turns below row column o ++ left) x.reference_is in
+    let split : (row column : ℕ) → turns_of_children below es row column (drop f.child cs) ≡ flat_map (entered ts) (instances_from r row column) ++ left = λ row column. ap (turns_of_children below es row column) (drop_get cs f.child x.child x.child_is) ∙ ap (λ o. instance_turns below row column o ++ left) x.reference_is in
     let go : (rest : List Placing) → instances_from r f.row f.column ≡ instance r f.row f.column ∷ rest → children_of ss f ≡ entered ts (instance r f.row f.column) ++ (flat_map (entered ts) rest ++ left) = λ rest e. split f.row f.column ∙ ap (λ l. flat_map (entered ts) l ++ left) e ∙ append_assoc (entered ts (instance r f.row f.column)) (flat_map (entered ts) rest) left in
     behind_cases f r (λ (g : Frame). children_of ss f ≡ entered ts (instance r f.row f.column) ++ children_of ss g) (λ more. go (instances_from r f.row (f.column + 1)) (next_column r f.row f.column there.1) ∙ ap (λ l. entered ts (instance r f.row f.column) ++ l) (sym (split f.row (f.column + 1)))) (λ last more. go (instances_from r (f.row + 1) 0) (next_row r f.row f.column there.1 last more) ∙ ap (λ l. entered ts (instance r f.row f.column) ++ l) (sym (split (f.row + 1) 0))) (λ last end. go [] (no_next r f.row f.column there.1 last end) ∙ ap (λ l. entered ts (instance r f.row f.column) ++ l) (sym (children_front ss f.submission q.submission q.is below es (λ i t e. let z = rows_read ss f q i t e in omega (arith, z.rows.least)) (drop (f.child + 1) cs))))
 

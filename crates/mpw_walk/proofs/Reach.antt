@@ -1,5 +1,5 @@
 -- The arrays of a frame, and what it places, are near.
-use Rattle.std.proofs.Common.{◌≡◌, ℕ, zero, suc, ◌+◌, ◌-◌, ◌<◌, ◌≤◌, ◌⊎◌, inl, inr, List, [], ◌∷◌, ◌++◌, length, get_or, map, take, Option, Some, None, refl, sym, ap, subst, ◌∙◌, arith}
+use Rattle.std.proofs.Common.{◌≡◌, ℕ, zero, suc, ◌+◌, ◌<◌, ◌≤◌, inl, inr, List, [], ◌∷◌, ◌++◌, length, map, take, Some, sym, subst, arith}
 use Rattle.std.specs.Prelude.{slice_get, All, IfSome, true}
 use Rattle.std.specs.List.{flat_map, range_with_len}
 use Rattle.std.proofs.lemmas.Bool.Decides.{eqb_tells}
@@ -13,7 +13,7 @@ use Rattle.mpw_library.specs.Library.{IsLibrary}
 use Rattle.mpw_hier.specs.declared.node.Target.{Target}
 use Rattle.mpw_hier.specs.declared.submission.Submission.{Submission}
 use Rattle.mpw_hier.specs.Structures.{references}
-use Rattle.mpw_hier.specs.Boxes.{extent_of, is_box_near}
+use Rattle.mpw_hier.specs.Boxes.{is_box_near}
 use Rattle.mpw_hier.specs.Items.{Item, own_items, placed_item, placed_items, shown_items, instance, row_of, instances}
 use Rattle.mpw_hier.specs.declared.size.Size.{Size}
 use Rattle.mpw_hier.specs.Sizes.{IsSizeOf}
@@ -21,13 +21,11 @@ use Rattle.mpw_hier.specs.Values.{structure_items, flats}
 use Rattle.mpw_walk.specs.declared.frame.Frame.{Frame}
 use Rattle.mpw_walk.specs.Frames.{IsFrame, IsNext, IsWithin, IsNearArray, Shows}
 use Rattle.mpw_walk.specs.Near.{IsCloseItem}
+use Rattle.mpw_walk.specs.Way.{AreRead}
 use Rattle.mpw_walk.proofs.Fronts.{at_all}
 use Rattle.mpw_walk.proofs.Entered.{own_items_shown}
 use Rattle.mpw_walk.proofs.Close.{IsDrawn, items_close, short_placing}
 use Rattle.mpw_walk.proofs.Drawn.{all_drawn, names_drawn}
-
-abbrev pub AreRead : List Submission → Type 0
-AreRead ss = All (λ (s : Submission). IsLibrary s.library) ss
 
 -- ---- parts of lists
 

@@ -1,5 +1,5 @@
 -- What a frame at its front shows: the turns of a name and their size.
-use Rattle.std.proofs.Common.{◌≡◌, ℕ, ◌-◌, ◌<◌, List, [], ◌++◌, length, map, take, drop, Some, None, refl, sym, ap, subst, ◌∙◌, arith}
+use Rattle.std.proofs.Common.{◌≡◌, ℕ, ◌-◌, ◌<◌, List, [], ◌++◌, length, take, drop, Some, None, refl, sym, ap, subst, ◌∙◌, arith}
 use Rattle.std.specs.Prelude.{slice_get}
 use Rattle.std.proofs.lemmas.Option.{slice_get_within}
 use Rattle.std.proofs.lemmas.List.{length-take}
@@ -14,7 +14,7 @@ use Rattle.mpw_hier.specs.Values.{structure_items, flat_of, flats, flat, shown_h
 use Rattle.mpw_hier.proofs.Unfolding.{items_by_targets, heights_by_targets}
 use Rattle.mpw_hier.proofs.Firsts.{firsts_at, firsts_length}
 use Rattle.mpw_walk.specs.declared.frame.Frame.{Frame}
-use Rattle.mpw_walk.specs.Turns.{placed_turn, shown_turns, submission_turns, all_turns, turns_of}
+use Rattle.mpw_walk.specs.Turns.{shown_turns, submission_turns, all_turns, turns_of}
 use Rattle.mpw_walk.specs.Frames.{named_turns, turns_of_shapes, turns_of_children, turns_within, IsFrame, IsFront, IsWithin, Shows}
 use Rattle.mpw_walk.proofs.Fronts.{one}
 use Rattle.mpw_walk.proofs.Named.{turns_by_targets, outer_shown}

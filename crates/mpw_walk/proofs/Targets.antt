@@ -1,24 +1,22 @@
 -- What a frame places next: a node that stands before, or the top of an earlier submission.
-use Rattle.std.proofs.Common.{◌≡◌, ℕ, ◌+◌, ◌-◌, ◌<◌, ◌≤◌, List, [], length, take, Option, Some, None, refl, sym, ap, subst, ◌∙◌, arith}
-use Rattle.std.specs.Prelude.{slice_get, IfNone}
+use Rattle.std.proofs.Common.{◌≡◌, ℕ, ◌-◌, ◌<◌, ◌≤◌, List, [], length, take, Option, Some, sym, ap, subst, ◌∙◌, arith}
+use Rattle.std.specs.Prelude.{slice_get, IfSome}
 use Rattle.std.specs.Borrow.{Bor}
 use Rattle.std.proofs.lemmas.Option.{slice_get_within, slice_get-get_or}
 use Rattle.std.proofs.lemmas.List.{length-take}
-use Rattle.mpw_elements.specs.declared.element.Element.{Element}
 use Rattle.mpw_elements.specs.declared.element.Element.TheVariants as elements
 use Rattle.mpw_elements.specs.declared.element.Reference.{Reference}
 use Rattle.mpw_library.specs.Places.{place_of}
 use Rattle.mpw_hier.specs.declared.node.Node.{Node}
-use Rattle.mpw_hier.specs.declared.node.Child.{Child}
 use Rattle.mpw_hier.specs.declared.node.Target.{Target}
 use Rattle.mpw_hier.specs.declared.node.Target.TheVariants as targets
 use Rattle.mpw_hier.specs.declared.submission.Submission.{Submission}
-use Rattle.mpw_hier.specs.Nodes.{IsTarget, IsOwn, IsOuter}
+use Rattle.mpw_hier.specs.Nodes.{IsTarget, IsOwn, IsOuter, AreNodes}
 use Rattle.mpw_hier.specs.Values.{structure_items, flat_of, flats}
 use Rattle.mpw_hier.proofs.Firsts.{firsts_length}
-use Rattle.mpw_hier.proofs.Tops.{front_get}
+use Rattle.mpw_hier.proofs.Tops.{front_get, shelf_size}
 use Rattle.mpw_walk.specs.declared.frame.Frame.{Frame}
-use Rattle.mpw_walk.specs.Frames.{IsFrame, IsFront, IsNext, Shows, ShowsName}
+use Rattle.mpw_walk.specs.Frames.{IsFrame, IsFront, IsNext, ShowsName}
 use Rattle.mpw_walk.proofs.Fronts.{one}
 use Rattle.mpw_walk.proofs.Nexts.{frame_child, same_reference}
 use Rattle.mpw_walk.proofs.Shapes.{IsChild}
@@ -80,3 +78,9 @@ outer_target ss f q target r x number is g shown s at =
 -- the top of a submission
 pub top_target : (ss : List Submission) (n : ℕ) (nodes : List Node) (g : Frame) → IsFront ss n nodes (length nodes - 1) g → ShowsName ss n (λ s. s.top) g
 top_target ss n nodes g w s at = top_shows ss n nodes g w s at
+
+pub top_low : (ss : List Submission) (n : ℕ) (o : Option (Bor (List Node))) (nodes : Bor (List Node)) (g : Frame) → o ≡ Some nodes → IfSome o (λ (ns : Bor (List Node)). AreNodes ss n ns.now) → IsFront ss n nodes.now (length nodes.now - 1) g → g.node.now.size.height ≤ 64
+top_low ss n o nodes g is at w =
+    let here : AreNodes ss n nodes.now = subst (λ (p : Option (Bor (List Node))). IfSome p (λ (ns : Bor (List Node)). AreNodes ss n ns.now)) is at in
+    let size = shelf_size ss n nodes.now here g.node.now w.node_is in
+    omega (arith, size.0.height, size.1.1)

@@ -1,6 +1,6 @@
 //! A structure that a walk has entered.
 
-ghost use Rattle.std.specs.Prelude.{◌≡◌, ◌<◌, ◌-◌, length, slice_get, slice_index, IfSome, IfNone, None};
+ghost use Rattle.std.specs.Prelude.{◌≡◌, ◌<◌, ◌≤◌, ◌-◌, length, slice_get, slice_index, IfSome, IfNone, None};
 ghost use Rattle.mpw_hier.specs.Items.{instance, stepped};
 ghost use Rattle.mpw_hier.specs.Nodes.{AreNodes};
 ghost use Rattle.mpw_walk.specs.Frames.{IsFront, IsFrame, IsWithin, ShowsName, IsNext, IsShape, HasReference, IsNearArray, behind_instance};
@@ -88,7 +88,8 @@ impl<'a> Frame<'a> {
     /// The top of a submission before any of its turns, in its own coordinates.
     pub fn top(shelf: &'a Shelf, submission: u32) -> Frame<'a>
         requires { submission < length shelf.now }
-        ensures { ShowsName shelf.now submission (λ s. s.top) result }
+        ensures shows { ShowsName shelf.now submission (λ s. s.top) result }
+        ensures low { result.node.now.size.height ≤ 64 }
     {
         let nodes = shelf.nodes(submission).unwrap();
         Frame::front(shelf, submission, nodes, nodes.len() - 1)

@@ -8,6 +8,9 @@
 mod frame;
 mod laws;
 mod root;
+mod walk;
+mod way;
 
 pub use laws::{roots_are_placed_again, turns_give_flat_lists};
 pub use root::{Placed, Root};
+pub use walk::Walk;

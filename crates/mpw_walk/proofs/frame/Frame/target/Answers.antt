@@ -15,4 +15,4 @@ returns-in-Own c =
 
 pub returns-in-Outer : goal.returns-in-Outer
 returns-in-Outer c =
-    outer_target c.args.shelf.now c.args.self.now c.requires.frame c.args.target c.args.reference.now c.requires.next c.in-Outer.number c.in-Outer.is c.top.result c.top.ensures
+    outer_target c.args.shelf.now c.args.self.now c.requires.frame c.args.target c.args.reference.now c.requires.next c.in-Outer.number c.in-Outer.is c.top.result c.top.ensures.shows
