@@ -15,4 +15,5 @@ pub mod Depth
 pub mod Reach
 pub mod Targets
 pub mod Ways
+pub mod Kept
 pub mod Starts

@@ -13,9 +13,10 @@ use Rattle.mpw_walk.specs.declared.root.Placed.{Placed}
 use Rattle.mpw_walk.specs.Turns.{Turn, enter, give, given, flat_root, flat_roots, root_turns, roots_turns, Walked, first_given, behind_first}
 use Rattle.mpw_walk.specs.Near.{IsCloseItem}
 use Rattle.mpw_walk.specs.Way.{AreRead, left_of, IsOnWay, GoesOn, GivesFirst, IsOver, item_of}
-use Rattle.mpw_walk.specs.Walk.{IsKept, IsRoot}
+use Rattle.mpw_walk.specs.Walk.{IsRoot}
 use Rattle.mpw_walk.proofs.Close.{placed_close}
 use Rattle.mpw_walk.proofs.Drawn.{number_drawn}
+use Rattle.mpw_walk.proofs.Kept.{IsKept}
 use Rattle.mpw_walk.proofs.Given.{roots_given, root_few}
 
 pub start_left : (ss : List Submission) (roots : List Root) → left_of ss roots 0 [] ≡ roots_turns ss roots

@@ -5,7 +5,7 @@
 
 ghost use Rattle.std.specs.Prelude.{◌≡◌, ◌≤◌, ◌+◌, ◌^◌, [], ◌∷◌, length, IfOk, IfSome, IfNone, All};
 ghost use Rattle.mpw_walk.specs.Turns.{given, behind_first, flat_roots, roots_turns};
-ghost use Rattle.mpw_walk.specs.Walk.{IsKept, IsRoot};
+ghost use Rattle.mpw_walk.specs.Walk.{IsRoot};
 ghost use Rattle.mpw_walk.specs.Way.{item_of};
 
 use crate::root::{Placed, Root};
@@ -41,13 +41,13 @@ impl<'a> Walk<'a> {
     ///
     /// An error is want of memory, which is taken for one frame a level.
     pub fn new(alloc: Global, shelf: &'a Shelf, roots: &'a [Root]) -> Result<Walk<'a>, AllocError>
-        requires shelf { IsKept shelf.now }
         requires roots { All (IsRoot shelf.now) roots.now }
         requires few { length roots.now ≤ 2 ^ 32 }
         ensures turns { IfOk result (λ walk. walk.turns ≡ 0) }
         ensures left { IfOk result (λ walk. walk.left ≡ roots_turns shelf.now roots.now) }
         ensures given { IfOk result (λ walk. given walk.left ≡ flat_roots shelf.now roots.now) }
     {
+        shelf.is_shelf();
         let mut frames = Vec::new(alloc);
         frames.reserve(LEVELS)?;
         Ok(Walk {

@@ -3,6 +3,7 @@ use Rattle.mpw_walk.specs.Turns.{given}
 use Rattle.mpw_walk.specs.Way.{left_of, IsOnWay}
 use Rattle.mpw_walk.specs.declared.frame.Frame.{Frame}
 use Rattle.mpw_walk.proofs.Given.{roots_given}
+use Rattle.mpw_walk.proofs.Kept.{shelf_kept}
 use Rattle.mpw_walk.proofs.Starts.{start_left, start_way}
 use Rattle.mpw_walk.proofs.walk.Walk.new.Goals as goal
 
@@ -15,7 +16,7 @@ invariant_of-result c =
     let roots = c.args.roots.now in
     let none = empty_left c.reserve.new.self.items c.new-frames.result.items c.reserve.ensures.items c.new-frames.ensures.items in
     record {
-      on = subst (λ (fs : List Frame). IsOnWay ss roots 0 0 fs) (sym none) (start_way ss roots c.requires.shelf c.requires.roots c.requires.few);
+      on = subst (λ (fs : List Frame). IsOnWay ss roots 0 0 fs) (sym none) (start_way ss roots (shelf_kept ss c.is_shelf.ensures) c.requires.roots c.requires.few);
       room = omega (arith, c.in_ok-reserve.ensures.ok);
     }
 
