@@ -1,5 +1,5 @@
 -- Where the box of a flat list is near, each of its shapes is close; and a placing that takes a close shape to a close one is short.
-use Rattle.std.proofs.Common.{◌≡◌, true, ℤ, ◌+ℤ◌, List, [], ◌∷◌, map, Option, Some, None, refl, sym, ap, subst, ◌∙◌, arith}
+use Rattle.std.proofs.Common.{◌≡◌, Bool, true, false, ℤ, ◌+ℤ◌, List, [], ◌∷◌, map, Option, Some, None, refl, sym, ap, subst, ◌∙◌, arith}
 use Rattle.std.specs.Prelude.{option_map, All, IfSome}
 use Rattle.std.proofs.lemmas.Int.{ints, clamps}
 use Rattle.std.proofs.lemmas.List.Elements.{All-nil, All-cons, All-head, All-tail, All-map}
@@ -9,7 +9,7 @@ use Rattle.mpw_geom.specs.declared.plane.Orient.{Orient}
 use Rattle.mpw_geom.specs.declared.plane.Orient.TheVariants.{R0, R90, R180, R270, M0, M90, M180, M270}
 use Rattle.mpw_geom.specs.declared.plane.Point.{Point}
 use Rattle.mpw_geom.specs.declared.placing.Placing.{Placing}
-use Rattle.mpw_geom.specs.Plane.{box_between}
+use Rattle.mpw_geom.specs.Plane.{IsInPlane, box_between}
 use Rattle.mpw_geom.specs.Placing.{oriented_point, placed_point}
 use Rattle.mpw_geom.proofs.Tests.{le_from_test, test_from_PointIn, PointIn-from_test, PointIn}
 use Rattle.mpw_geom.proofs.Turns.{placed_points}
@@ -183,3 +183,33 @@ placed_close t items d near =
           is = h.is;
           close = subst IsClosePoint (sym (placed_point_again t _ h.corner)) (close_in (placed_box t box) _ near (placed_in t box _ h.covered));
         }
+
+-- ---- a near box that is near where it is placed
+
+pub near_corners : (b : Box2) → is_box_near b ≡ true → IsClosePoint (record { x = b.x0; y = b.y0 }) × IsClosePoint (record { x = b.x1; y = b.y1 })
+unfolding is_box_near
+near_corners b near =
+    let f = and_parts _ _ near in
+    let g = and_parts _ _ f.0 in
+    let k = and_parts _ _ g.0 in
+    (record { x = near_parts b.x0 k.0; y = near_parts b.y0 k.1 }, record { x = near_parts b.x1 g.1; y = near_parts b.y1 f.1 })
+
+pub near_both : (t : Placing) (b : Box2) → is_box_near b ≡ true → is_box_near (placed_box t b) ≡ true → IsWithin t.by
+unfolding placed_box
+near_both t b near there =
+    let c : Point = record { x = b.x0; y = b.y0 } in
+    let e : Point = record { x = b.x1; y = b.y1 } in
+    within_between t c (near_corners b near).0 (close_in (placed_box t b) (placed_point t c) there (covers_corner (placed_point t c) (placed_point t e)))
+
+pub far_placed : (t : Placing) (b : Box2) → is_box_near b ≡ true → (IsWithin t.by → ⊥) → is_box_near (placed_box t b) ≡ false
+far_placed t b near far = go (is_box_near (placed_box t b)) refl
+  where
+    go : (x : Bool) → is_box_near (placed_box t b) ≡ x → x ≡ false
+    go true e = absurd (far (near_both t b near e))
+    go false e = refl
+
+pub close_in_plane : (p : Point) → IsClosePoint p → IsInPlane p
+close_in_plane p h = record {
+  x = record { low = omega (arith, ints, h.x.low); high = omega (arith, ints, h.x.high) };
+  y = record { low = omega (arith, ints, h.y.low); high = omega (arith, ints, h.y.high) };
+}

@@ -5,12 +5,16 @@
 //! a level.
 #![tactic(auto)]
 
+mod fit;
 mod frame;
 mod laws;
 mod root;
+#[cfg(test)]
+mod tests;
 mod walk;
 mod way;
 
+pub use fit::all_fit;
 pub use laws::{roots_are_placed_again, turns_give_flat_lists};
 pub use root::{Placed, Root};
 pub use walk::Walk;
