@@ -62,7 +62,7 @@ impl<'a> Walk<'a> {
     }
 
     /// The next shape; none behind the last. It takes no memory. One turn enters each instance on the way
-    /// to it, and one gives it.
+    /// to it, and one gives it; a turn takes constant time, and so does leaving what has been shown.
     pub fn next(&mut self) -> Option<Placed<'a>>
         ensures some { IfSome result (λ placed. given self.old.left ≡ item_of placed ∷ given self.new.left) }
         ensures none { IfNone result (given self.old.left ≡ []) }
