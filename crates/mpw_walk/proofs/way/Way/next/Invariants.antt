@@ -1,0 +1,11 @@
+use Rattle.mpw_walk.specs.Way.{IsWay, GoesOn, walked, work}
+use Rattle.mpw_walk.proofs.way.Way.next.Given as goal
+
+abbrev pub invariant-loop-placed : goal.invariant-loop-placed
+invariant-loop-placed l = record {
+  way : IsWay l.self l.self.frames.items;
+  on : GoesOn (walked l.fn.self l.fn.self.frames.items) (walked l.self l.self.frames.items);
+}
+
+abbrev pub decreases-loop-placed : goal.decreases-loop-placed
+decreases-loop-placed l = work l.self l.self.frames.items

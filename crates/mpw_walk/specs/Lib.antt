@@ -1,0 +1,5 @@
+pub mod Turns
+pub mod Frames
+pub mod Near
+pub mod Way
+pub mod Walk

@@ -1,0 +1,81 @@
+//! Which roots a walk may have.
+
+ghost use Rattle.std.specs.Prelude.{◌≡◌, ◌↔◌, All, IsTrue, true};
+ghost use Rattle.mpw_hier.specs.Boxes.{is_box_near, is_near, placed_box};
+ghost use Rattle.mpw_walk.specs.Frames.{IsWithin};
+ghost use Rattle.mpw_walk.specs.Walk.{IsRoot};
+
+use crate::root::Root;
+use mpw_geom::{Box2, Placing, Point};
+use mpw_hier::Shelf;
+
+/// How far from 0 a coordinate of a placed extent may lie, in nm.
+const REACH: i64 = 1 << 30;
+
+fn is_near(z: i64) -> bool
+    ensures { result ≡ is_near z }
+{
+    -REACH <= z && z <= REACH
+}
+
+/// Whether both corners lie from -2^30 to 2^30 nm.
+#[tactic(auto, unfolding(mpw_hier::specs::Boxes::is_box_near))]
+fn is_box_near(b: Box2) -> bool
+    ensures { result ≡ is_box_near b }
+{
+    is_near(b.x0) & is_near(b.y0) & is_near(b.x1) & is_near(b.y1)
+}
+
+/// Whether a displacement is at most 2^31 nm along each axis.
+fn is_short(by: Point) -> bool
+    ensures { IsTrue result ↔ IsWithin by }
+{
+    -2 * REACH <= by.x && by.x <= 2 * REACH && -2 * REACH <= by.y && by.y <= 2 * REACH
+}
+
+/// Where the placing takes a near box.
+fn placed_box(placing: Placing, b: Box2) -> Box2
+    requires near { is_box_near b ≡ true }
+    requires short { IsWithin placing.by }
+    ensures { result ≡ placed_box placing b }
+{
+    let p = placing.apply(Point { x: b.x0, y: b.y0 });
+    let q = placing.apply(Point { x: b.x1, y: b.y1 });
+    Box2::between(p, q)
+}
+
+/// Whether a near box is near where it is placed.
+fn is_placed_near(placing: Placing, b: Box2) -> bool
+    requires { is_box_near b ≡ true }
+    ensures { result ≡ is_box_near (placed_box placing b) }
+{
+    is_short(placing.by) && is_box_near(placed_box(placing, b))
+}
+
+impl Root {
+    /// Whether the submission is on the shelf, and shows nothing beyond -2^30 to 2^30 nm where it is
+    /// placed. Takes no memory.
+    pub fn fits(&self, shelf: &Shelf) -> bool
+        ensures { IsTrue result ↔ IsRoot shelf.now self.now }
+    {
+        if shelf.get(self.submission).is_none() {
+            return false;
+        }
+        match shelf.extent(self.submission) {
+            Some(extent) => is_placed_near(self.placing, extent),
+            None => true,
+        }
+    }
+}
+
+/// Whether all of the roots fit.
+pub fn all_fit(shelf: &Shelf, roots: &[Root]) -> bool
+    ensures { IsTrue result ↔ All (IsRoot shelf.now) roots.now }
+{
+    for root in roots {
+        if !root.fits(shelf) {
+            return false;
+        }
+    }
+    true
+}

@@ -1,0 +1,20 @@
+//! The flat lists of submissions on a shelf, one shape at a time.
+//!
+//! [`Walk`] goes through placed submissions and gives each shape that they show with its origin and
+//! its placing. It goes down the hierarchy with a stack of its own, which is reserved once: one frame
+//! a level.
+#![tactic(auto)]
+
+mod fit;
+mod frame;
+mod laws;
+mod root;
+#[cfg(test)]
+mod tests;
+mod walk;
+mod way;
+
+pub use fit::all_fit;
+pub use laws::{roots_are_placed_again, turns_give_flat_lists};
+pub use root::{Placed, Root};
+pub use walk::Walk;

@@ -1,0 +1,81 @@
+//! A walk over placed submissions.
+//!
+//! To contracts it is the number of its turns so far and the turns to come, which give the flat lists of
+//! the roots.
+
+ghost use Rattle.std.specs.Prelude.{◌≡◌, ◌≤◌, ◌+◌, ◌^◌, [], ◌∷◌, length, IfOk, IfSome, IfNone, All};
+ghost use Rattle.mpw_walk.specs.Turns.{given, behind_first, flat_roots, roots_turns};
+ghost use Rattle.mpw_walk.specs.Walk.{IsRoot};
+ghost use Rattle.mpw_walk.specs.Way.{item_of};
+
+use crate::root::{Placed, Root};
+use crate::way::Way;
+use mpw_hier::Shelf;
+use std::alloc::{AllocError, Global};
+use std::marker::Model;
+
+/// The greatest number of levels.
+const LEVELS: usize = 64;
+
+/// The shapes of placed submissions that are still to come. Only [`Walk::new`] takes memory.
+#[derive(Drop)]
+pub struct Walk<'a> {
+    way: Way<'a>,
+}
+
+impl<'a> Model for Walk<'a> {
+    ghost use Rattle.mpw_walk.specs.Turns.{Walked};
+
+    ghost Value = { Walked };
+
+    ghost use Rattle.mpw_walk.specs.Way.{IsWay, walked};
+
+    ghost view = { λ w. walked w.way w.way.frames.items };
+
+    ghost invariant = { λ w. IsWay w.way w.way.frames.items };
+}
+
+impl<'a> Walk<'a> {
+    /// The walk over the roots in order: for each, its own shapes in file order, and then what it places,
+    /// an array row by row, the column running fastest. What shows nothing is passed over.
+    ///
+    /// An error is want of memory, which is taken for one frame a level.
+    pub fn new(alloc: Global, shelf: &'a Shelf, roots: &'a [Root]) -> Result<Walk<'a>, AllocError>
+        requires roots { All (IsRoot shelf.now) roots.now }
+        requires few { length roots.now ≤ 2 ^ 32 }
+        ensures turns { IfOk result (λ walk. walk.turns ≡ 0) }
+        ensures left { IfOk result (λ walk. walk.left ≡ roots_turns shelf.now roots.now) }
+        ensures given { IfOk result (λ walk. given walk.left ≡ flat_roots shelf.now roots.now) }
+    {
+        shelf.is_shelf();
+        let mut frames = Vec::new(alloc);
+        frames.reserve(LEVELS)?;
+        Ok(Walk {
+            way: Way {
+                shelf,
+                roots,
+                root: 0,
+                frames,
+                turns: 0,
+            },
+        })
+    }
+
+    /// The next shape; none behind the last. It takes no memory. One turn enters each instance on the way
+    /// to it, and one gives it; a turn takes constant time, and so does leaving what has been shown.
+    pub fn next(&mut self) -> Option<Placed<'a>>
+        ensures some { IfSome result (λ placed. given self.old.left ≡ item_of placed ∷ given self.new.left) }
+        ensures none { IfNone result (given self.old.left ≡ []) }
+        ensures left { self.new.left ≡ behind_first self.old.left }
+        ensures turns { self.new.turns + length self.new.left ≡ self.old.turns + length self.old.left }
+    {
+        self.way.next()
+    }
+
+    /// The turns so far: one for each instance that was entered, a root too, and one for each shape.
+    pub fn turns(&self) -> u64
+        ensures { result ≡ self.now.turns }
+    {
+        self.way.turns
+    }
+}

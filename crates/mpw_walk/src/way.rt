@@ -1,0 +1,126 @@
+//! The way of a walk: the structures that it has entered, from a root down.
+//!
+//! A turn gives the next shape of the last frame, or enters its next instance, which becomes the last
+//! frame. A frame behind its last turn is dropped, which is no turn. Each structure has fewer levels than
+//! the one that places it, so there are never more frames than levels.
+
+ghost use Rattle.std.specs.Prelude.{◌≡◌, ◌≤◌, ◌+◌, [], ◌∷◌, ◌++◌, length, IfSome, IfNone};
+ghost use Rattle.mpw_walk.specs.Frames.{IsNext};
+ghost use Rattle.mpw_walk.specs.Turns.{given, behind_first};
+ghost use Rattle.mpw_walk.specs.Way.{IsWay, Does, left, item_of};
+ghost use Rattle.mpw_walk.specs.declared.way.Step.TheVariants as steps;
+
+use crate::frame::{Frame, instance};
+use crate::root::{Placed, Root};
+use mpw_elements::Reference;
+use mpw_hier::{Shelf, Target};
+
+/// What a step found.
+#[derive(Clone, Copy)]
+pub enum Step<'a> {
+    On,
+    Given(Placed<'a>),
+    Ended,
+}
+
+/// The structures that a walk has entered.
+#[derive(Drop)]
+pub struct Way<'a> {
+    pub shelf: &'a Shelf,
+    pub roots: &'a [Root],
+    /// The next root.
+    pub root: usize,
+    /// Each structure is placed by the one before, the first by a root.
+    pub frames: Vec<Frame<'a>>,
+    /// The turns so far.
+    pub turns: u64,
+}
+
+impl<'a> Way<'a> {
+    /// Enters the next instance of a frame that was the last.
+    fn enter(&mut self, frame: &Frame<'a>, target: Target, reference: &Reference)
+        requires way { IsWay self.old (self.old.frames.items ++ frame.now ∷ []) }
+        requires next { IsNext frame.now target reference.now }
+        requires shapes { length frame.now.node.now.shapes.items ≤ frame.now.shape }
+        ensures way { IsWay self.new self.new.frames.items }
+        ensures does { Does steps.On self.old (self.old.frames.items ++ frame.now ∷ []) self.new }
+    {
+        let entered = frame.target(self.shelf, target, reference);
+        let placing = instance(reference, frame.row, frame.column).then(frame.placing);
+        self.frames.push(frame.behind_instance(reference)).unwrap();
+        self.frames.push(Frame { placing, ..entered }).unwrap();
+        self.turns += 1;
+    }
+
+    /// The next turn of a frame that was the last; none behind them.
+    fn go_on(&mut self, frame: &Frame<'a>) -> Step<'a>
+        requires { IsWay self.old (self.old.frames.items ++ frame.now ∷ []) }
+        ensures way { IsWay self.new self.new.frames.items }
+        ensures does { Does result self.old (self.old.frames.items ++ frame.now ∷ []) self.new }
+    {
+        if frame.shape < frame.node.shapes.len() {
+            let placed = frame.placed();
+            let next = Frame {
+                shape: frame.shape + 1,
+                ..*frame
+            };
+            self.frames.push(next).unwrap();
+            self.turns += 1;
+            return Step::Given(placed);
+        }
+        if let Some((target, reference)) = frame.reference() {
+            self.enter(frame, target, reference);
+        }
+        Step::On
+    }
+
+    /// Enters the next root, if it shows anything.
+    fn begin(&mut self) -> Step<'a>
+        requires way { IsWay self.old [] }
+        requires empty { self.old.frames.items ≡ [] }
+        ensures way { IsWay self.new self.new.frames.items }
+        ensures does { Does result self.old [] self.new }
+    {
+        let Some(root) = self.roots.get(self.root) else {
+            return Step::Ended;
+        };
+        self.root += 1;
+        let top = Frame::top(self.shelf, root.submission);
+        if top.node.size.count > 0 {
+            let placing = root.placing;
+            self.frames.push(Frame { placing, ..top }).unwrap();
+            self.turns += 1;
+        }
+        Step::On
+    }
+
+    /// One step.
+    fn step(&mut self) -> Step<'a>
+        requires { IsWay self.old self.old.frames.items }
+        ensures way { IsWay self.new self.new.frames.items }
+        ensures does { Does result self.old self.old.frames.items self.new }
+    {
+        match self.frames.pop() {
+            Some(frame) => self.go_on(&frame),
+            None => self.begin(),
+        }
+    }
+
+    /// Goes on to the next shape and gives it; none behind the last.
+    pub fn next(&mut self) -> Option<Placed<'a>>
+        requires { IsWay self.old self.old.frames.items }
+        ensures way { IsWay self.new self.new.frames.items }
+        ensures some { IfSome result (λ placed. given (left self.old) ≡ item_of placed ∷ given (left self.new)) }
+        ensures none { IfNone result (given (left self.old) ≡ []) }
+        ensures left { left self.new ≡ behind_first (left self.old) }
+        ensures turns { self.new.turns + length (left self.new) ≡ self.old.turns + length (left self.old) }
+    {
+        loop {
+            match self.step() {
+                Step::On => {}
+                Step::Given(placed) => return Some(placed),
+                Step::Ended => return None,
+            }
+        }
+    }
+}
