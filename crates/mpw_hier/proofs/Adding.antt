@@ -1,14 +1,13 @@
 -- One node more, behind those of all structures that it places.
-use Rattle.std.proofs.Common.{◌≡◌, ℕ, zero, suc, ◌+◌, ◌<◌, ◌≤◌, true, false, ◌⊎◌, inl, inr, List, [], ◌∷◌, ◌++◌, length, get_or, set, take, replicate, All, Option, Some, None, refl, sym, ap, subst, ◌∙◌, arith, length-set, get_or-set_other}
+use Rattle.std.proofs.Common.{◌≡◌, ℕ, zero, suc, ◌<◌, inl, inr, List, [], ◌∷◌, ◌++◌, length, get_or, set, take, replicate, All, Option, Some, None, refl, sym, ap, subst, ◌∙◌, arith, length-set, get_or-set_other}
 use Rattle.std.specs.Prelude.{slice_get}
 use Rattle.std.specs.List.{AllZip}
 use Rattle.std.specs.BTreeMap.{BTreeMap}
 use Rattle.std.proofs.lemmas.Option.{slice_get_within, slice_get-get_or, slice_get_read, get_or_from_slice_get}
-use Rattle.std.proofs.lemmas.List.{length-append, length-map, length-replicate, take-append-le}
+use Rattle.std.proofs.lemmas.List.{length-append, length-map, take-append-le}
 use Rattle.std.proofs.lemmas.Bool.Decides.{eqb_tells}
 use Rattle.std.proofs.lemmas.Grind.{get_or-set_at}
 use Rattle.std.proofs.Math.Seq.{take-append_seam, get_or-append_seam}
-use Rattle.mpw_geom.specs.Names.{contains_name}
 use Rattle.mpw_elements.specs.declared.element.Element.{Element}
 use Rattle.mpw_elements.specs.Element.{IsElement}
 use Rattle.mpw_library.specs.declared.structures.Structure.{Structure}
@@ -28,7 +27,7 @@ use Rattle.mpw_hier.specs.Building.{number_at, IsSizeHere, AreLinked, IsKnown, o
 use Rattle.mpw_hier.specs.Values.{structure_items, flats, heights, shown_height}
 use Rattle.mpw_hier.proofs.Unfolding.{IsLow, outside, low_upto, unfolds, items_by_targets, heights_by_targets}
 use Rattle.mpw_hier.proofs.Unfolding as low
-use Rattle.mpw_hier.proofs.Tops.{front_get, named_at, low_below}
+use Rattle.mpw_hier.proofs.Tops.{named_at, low_below}
 use Rattle.mpw_hier.proofs.Shelving.{more_get, get_more}
 use Rattle.mpw_hier.proofs.Linked.{own_node}
 use Rattle.mpw_hier.proofs.Parts.{flats_length}

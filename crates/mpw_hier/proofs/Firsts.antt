@@ -1,7 +1,7 @@
 -- What submissions show one after another: what comes later changes nothing.
-use Rattle.std.proofs.Common.{◌≡◌, ℕ, zero, suc, ◌+◌, ◌<◌, ◌≤◌, List, [], ◌∷◌, ◌++◌, length, get_or, take, drop, Option, Some, None, refl, sym, ap, subst, ◌∙◌, arith, append_assoc, append-nil}
+use Rattle.std.proofs.Common.{◌≡◌, ℕ, suc, ◌+◌, ◌<◌, ◌≤◌, List, [], ◌∷◌, ◌++◌, length, get_or, take, drop, Some, refl, sym, ap, subst, ◌∙◌, arith, append-nil}
 use Rattle.std.specs.Prelude.{slice_get}
-use Rattle.std.proofs.lemmas.List.{length-append, get_or_append_left, take-append-drop, take-append-le, get_or-take, length-take}
+use Rattle.std.proofs.lemmas.List.{length-append, take-append-drop, take-append-le, get_or-take, length-take}
 use Rattle.std.proofs.Math.Seq.{take-append_seam, get_or-append_seam, take-suc}
 use Rattle.std.proofs.lemmas.Option.{slice_get_within, get_or_from_slice_get}
 use Rattle.mpw_hier.specs.declared.submission.Submission.{Submission}

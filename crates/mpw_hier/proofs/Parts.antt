@@ -1,12 +1,12 @@
 -- What stands in a structure, element by element; and bindings in a table, one by one.
-use Rattle.std.proofs.Common.{◌≡◌, ℕ, zero, suc, ◌+◌, ◌^◌, min, ◌<◌, ◌≤◌, Bool, true, false, cond, List, [], ◌∷◌, ◌++◌, length, get_or, take, drop, Option, Some, None, refl, sym, ap, subst, ◌∙◌, arith, append_assoc, append-nil}
-use Rattle.std.specs.Option.{option_or, is_some}
+use Rattle.std.proofs.Common.{◌≡◌, ℕ, zero, suc, ◌+◌, ◌^◌, min, ◌<◌, ◌≤◌, Bool, true, false, cond, List, [], ◌∷◌, ◌++◌, length, get_or, take, drop, Option, Some, None, refl, sym, ap, ◌∙◌, arith, append_assoc, append-nil}
+use Rattle.std.specs.Option.{option_or}
 use Rattle.std.specs.BTreeMap as tree
 use Rattle.std.specs.BTreeMap.{BTreeMap}
 use Rattle.std.specs.Cmp.Lexicographic.{texts_ties}
 use Rattle.std.specs.Ordering.{is_eq}
 use Rattle.std.specs.List.{AllZip}
-use Rattle.std.proofs.lemmas.List.{at_drop_more, at_drop_all, take_more}
+use Rattle.std.proofs.lemmas.List.{at_drop_more, take_more}
 use Rattle.mpw_geom.specs.Names.{name_eq, name_cmp, contains_name}
 use Rattle.mpw_elements.specs.declared.element.Element.{Element}
 use Rattle.mpw_elements.specs.declared.element.Element.TheVariants as elements
@@ -19,7 +19,7 @@ use Rattle.mpw_hier.specs.declared.size.Size.{Size}
 use Rattle.mpw_hier.specs.declared.submission.Submission.{Submission}
 use Rattle.mpw_hier.specs.Structures.{is_shape, names_of}
 use Rattle.mpw_hier.specs.Items.{Item}
-use Rattle.mpw_hier.specs.Nodes.{IsTarget, AreChildren, none, shape, empty, child, shape_places}
+use Rattle.mpw_hier.specs.Nodes.{IsTarget, AreChildren, shape, empty, child, shape_places}
 use Rattle.mpw_hier.specs.Building.{ShowsBindings}
 use Rattle.mpw_hier.specs.Values.{bound_number, structure_items, flats, flat_of}
 use Rattle.mpw_hier.proofs.Linking.{same_name, name_itself, or_left, or_right}

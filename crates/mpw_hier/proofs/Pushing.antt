@@ -1,10 +1,9 @@
 -- What the nodes of a submission tell of its limits.
-use Rattle.std.proofs.Common.{◌≡◌, ℕ, ◌+◌, ◌-◌, ◌<◌, ◌≤◌, ◌^◌, min, true, false, List, length, get_or, take, Option, Some, Result, Ok, Err, refl, sym, ap, subst, ◌∙◌, arith}
+use Rattle.std.proofs.Common.{◌≡◌, ℕ, ◌+◌, ◌-◌, ◌<◌, ◌≤◌, ◌^◌, min, true, false, List, length, get_or, Some, Result, Ok, Err, refl, sym, ap, subst, ◌∙◌, arith}
 use Rattle.std.specs.Prelude.{slice_get, nat_lt, IfSome}
 use Rattle.std.specs.Result.{IfErr, IsErrAnd}
 use Rattle.std.proofs.lemmas.Bool.{lt-ltb, le-ltb}
 use Rattle.std.proofs.lemmas.Option.{slice_get_read}
-use Rattle.mpw_geom.specs.declared.plane.Box2.{Box2}
 use Rattle.mpw_library.specs.Library.{IsLibrary}
 use Rattle.mpw_library.specs.Places.{place_of}
 use Rattle.mpw_hier.specs.declared.fault.HierFault.{HierFault}

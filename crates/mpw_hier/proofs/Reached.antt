@@ -1,5 +1,5 @@
 -- The places that a submission's top reaches, from below, and the nodes that are made in that order.
-use Rattle.std.proofs.Common.{◌≡◌, ℕ, zero, suc, ◌+◌, ◌-◌, ◌<◌, ◌≤◌, inl, inr, true, false, List, [], ◌∷◌, length, get_or, set, take, All, Contains, Option, Some, None, Result, Ok, Err, Vec, Global, refl, sym, ap, subst, ◌∙◌, arith, length-take, get_or-take, get_or-set_other}
+use Rattle.std.proofs.Common.{◌≡◌, ℕ, ◌+◌, ◌-◌, ◌<◌, ◌≤◌, inl, inr, true, List, [], ◌∷◌, length, get_or, set, take, Contains, Option, Some, None, Result, Err, Vec, Global, refl, sym, ap, subst, ◌∙◌, arith, length-take, get_or-take, get_or-set_other}
 use Rattle.std.specs.Prelude.{slice_get}
 use Rattle.std.specs.Result.{IsErrAnd}
 use Rattle.std.specs.BTreeMap.{BTreeMap}
@@ -7,7 +7,6 @@ use Rattle.std.proofs.lemmas.Bool.Decides.{eqb_tells}
 use Rattle.std.proofs.lemmas.Grind.{get_or-set_at}
 use Rattle.std.proofs.lemmas.List.{length-append, take_more}
 use Rattle.std.proofs.lemmas.List.Elements.{Contains-append_cases}
-use Rattle.mpw_geom.specs.Names.{contains_name}
 use Rattle.mpw_library.specs.declared.structures.Structure.{Structure}
 use Rattle.mpw_library.specs.Places.{place_of}
 use Rattle.mpw_hier.specs.declared.fault.HierFault.{HierFault}
@@ -15,8 +14,8 @@ use Rattle.mpw_hier.specs.declared.fault.HierFault.TheVariants as faults
 use Rattle.mpw_hier.specs.declared.node.Node.{Node}
 use Rattle.mpw_hier.specs.declared.submission.Submission.{Submission}
 use Rattle.mpw_hier.specs.Structures.{names_of, structure_at, refers, IsReachable, itself, chain, IsOutside}
-use Rattle.mpw_hier.specs.Outside.{places_of, graph_of}
-use Rattle.mpw_hier.specs.Graph.{targets, Leads, IsFromBelow}
+use Rattle.mpw_hier.specs.Outside.{graph_of}
+use Rattle.mpw_hier.specs.Graph.{targets, IsFromBelow}
 use Rattle.mpw_hier.specs.Limits.{IsFar, IsBound}
 use Rattle.mpw_hier.specs.Building.{number_at, AreLinked, IsKnown, own, outer, IsPlace, IsReady, IsOneMore, IsFarHere, IsHierarchy}
 use Rattle.mpw_hier.proofs.Leading.{among, place_among}

@@ -1,15 +1,13 @@
 -- What the structures of a library show, level by level: a structure without a cycle below it shows what it does from its targets.
-use Rattle.std.proofs.Common.{◌≡◌, ℕ, zero, suc, ◌+◌, ◌<◌, ◌≤◌, true, List, [], ◌∷◌, ◌++◌, length, map, Option, Some, None, refl, sym, ap, subst, ◌∙◌, arith}
-use Rattle.std.specs.Prelude.{slice_get}
+use Rattle.std.proofs.Common.{◌≡◌, ℕ, zero, suc, ◌≤◌, true, List, [], ◌∷◌, ◌++◌, length, map, Some, None, refl, sym, ap, ◌∙◌, arith}
 use Rattle.std.specs.List.{flat_map}
 use Rattle.mpw_geom.specs.Names.{name_eq, contains_name}
 use Rattle.mpw_elements.specs.declared.element.Element.{Element}
 use Rattle.mpw_elements.specs.declared.element.Element.TheVariants as elements
 use Rattle.mpw_elements.specs.declared.element.Reference.{Reference}
 use Rattle.mpw_library.specs.declared.structures.Structure.{Structure}
-use Rattle.mpw_library.specs.Places.{place_of}
 use Rattle.mpw_hier.specs.Structures.{structure_of, references, names_of}
-use Rattle.mpw_hier.specs.Items.{Item, own_items, placed_items, shown_items}
+use Rattle.mpw_hier.specs.Items.{own_items, placed_items, shown_items}
 use Rattle.mpw_hier.specs.Levels.{at_structure, by_levels, levels_of}
 use Rattle.mpw_hier.specs.Values.{shown_height, greatest}
 use Rattle.mpw_hier.proofs.Linking.{or_left, or_right, name_itself}

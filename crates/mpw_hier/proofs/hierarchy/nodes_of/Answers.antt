@@ -1,5 +1,5 @@
-use Rattle.std.proofs.Common.{◌≡◌, ◌<◌, ℕ, Option, IfSome, IfNone, Vec, Global, Some, sym, ap, subst, ◌∙◌, arith}
-use Rattle.mpw_hier.specs.Graph.{IsGraph, HasCycle, IsFromBelow}
+use Rattle.std.proofs.Common.{ℕ, Option, IfNone, Vec, Global, sym, subst, ◌∙◌, arith}
+use Rattle.mpw_hier.specs.Graph.{IsGraph, HasCycle}
 use Rattle.mpw_hier.proofs.Linking.{place_within, graph_length, graph_within, cycle_named}
 use Rattle.mpw_hier.proofs.hierarchy.nodes_of.Goals as goal
 

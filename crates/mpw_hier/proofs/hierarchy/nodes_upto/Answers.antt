@@ -1,9 +1,9 @@
-use Rattle.std.proofs.Common.{◌≡◌, ◌+◌, ◌<◌, ◌≤◌, ℕ, List, [], ◌∷◌, length, get_or, take, Some, Err, Contains, refl, sym, ap, subst, ◌∙◌, arith}
+use Rattle.std.proofs.Common.{◌+◌, ◌<◌, ◌≤◌, [], ◌∷◌, length, get_or, take, Err, refl, sym, ap, subst, ◌∙◌, arith}
 use Rattle.mpw_hier.specs.declared.fault.HierFault.{HierFault}
 use Rattle.std.proofs.lemmas.Option.{slice_get_within}
 use Rattle.std.proofs.lemmas.List.{length-append}
 use Rattle.mpw_hier.specs.declared.submission.Submission.{Submission}
-use Rattle.mpw_hier.specs.Building.{IsPlace, IsReady, IsFarHere, AreLinked}
+use Rattle.mpw_hier.specs.Building.{IsPlace, AreLinked}
 use Rattle.mpw_hier.proofs.Reached.{AreNumbered, none_numbered, numbered_one, order_place, order_ready, order_few, order_far, not_yet, not_at_all, whole, extent_given}
 use Rattle.mpw_hier.proofs.hierarchy.nodes_upto.Goals as goal
 

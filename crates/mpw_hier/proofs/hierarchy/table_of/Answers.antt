@@ -1,9 +1,8 @@
-use Rattle.std.proofs.Common.{◌≡◌, ◌+◌, ◌++◌, ◌∷◌, [], ℕ, List, take, cond, Some, None, sym, ap, subst, ◌∙◌}
+use Rattle.std.proofs.Common.{◌≡◌, ◌+◌, ◌++◌, ◌∷◌, [], ℕ, List, take, cond, Some, sym, ap, subst, ◌∙◌}
 use Rattle.std.specs.BTreeMap as tree
 use Rattle.std.specs.Ordering.{is_eq}
 use Rattle.std.proofs.lemmas.List.{take_more}
 use Rattle.mpw_geom.specs.Names.{name_cmp}
-use Rattle.mpw_hier.specs.Building.{ShowsBindings}
 use Rattle.mpw_hier.proofs.Parts.{table_more, table_kept}
 use Rattle.mpw_hier.proofs.References.{none_if, some_if}
 use Rattle.mpw_hier.proofs.hierarchy.table_of.Goals as goal

@@ -1,4 +1,4 @@
-use Rattle.std.proofs.Common.{◌≡◌, ℕ, List, take}
+use Rattle.std.proofs.Common.{take}
 use Rattle.mpw_hier.specs.Building.{ShowsBindings}
 use Rattle.mpw_hier.proofs.hierarchy.table_of.Given as goal
 

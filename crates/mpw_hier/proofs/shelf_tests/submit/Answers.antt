@@ -1,4 +1,4 @@
-use Rattle.std.proofs.Common.{sym, ap, subst, ◌∙◌}
+use Rattle.std.proofs.Common.{sym, ap, ◌∙◌}
 use Rattle.mpw_hier.specs.Shelf.{bound_to}
 use Rattle.mpw_hier.proofs.shelf_tests.submit.Goals as goal
 

@@ -1,13 +1,11 @@
-use Rattle.std.proofs.Common.{◌≡◌, ◌<◌, ◌+◌, List, All, length, Some, refl, sym, ap, subst, ◌∙◌, arith}
-use Rattle.std.specs.Prelude.{slice_get, slice_set}
+use Rattle.std.proofs.Common.{◌≡◌, List, All, length, refl, sym, ap, subst, ◌∙◌, arith}
 use Rattle.std.proofs.lemmas.Option.{slice_get_within}
 use Rattle.mpw_elements.specs.declared.element.Element.{Element}
 use Rattle.mpw_hier.specs.declared.node.Node.{Node}
 use Rattle.mpw_hier.specs.declared.size.Size.{Size}
-use Rattle.mpw_hier.specs.Structures.{references, names_of}
 use Rattle.mpw_hier.specs.Nodes.{AreChildren, shape_places, structure_levels}
 use Rattle.mpw_hier.specs.Sizes.{IsExtentNear}
-use Rattle.mpw_hier.specs.Building.{AreLinked, AreKnown, AreSizesHere}
+use Rattle.mpw_hier.specs.Building.{AreKnown, AreSizesHere}
 use Rattle.mpw_hier.specs.Values.{structure_items, flats, heights}
 use Rattle.mpw_hier.proofs.Adding.{place_read, place_named, elements_of, sizes_each, sizes_near, added_far, added_size, added_linked}
 use Rattle.mpw_hier.proofs.hierarchy.Hierarchy.add.Goals as goal

@@ -1,6 +1,5 @@
-use Rattle.std.proofs.Common.{◌≡◌, ◌+◌, ◌<◌, ◌++◌, ◌∷◌, [], ℕ, List, length, take, drop, sym, ap, subst, ◌∙◌, append-nil}
+use Rattle.std.proofs.Common.{◌≡◌, ◌++◌, [], drop, sym, ap, subst, ◌∙◌, append-nil}
 use Rattle.std.proofs.lemmas.List.{at_drop_all}
-use Rattle.mpw_hier.specs.declared.node.Child.{Child}
 use Rattle.mpw_hier.specs.Nodes.{IsTarget, AreChildren, none, shape_places}
 use Rattle.mpw_hier.specs.Building.{IsSizeHere}
 use Rattle.mpw_hier.specs.Values.{structure_items, flats}

@@ -1,9 +1,4 @@
-use Rattle.std.proofs.Common.{◌≡◌, ◌<◌, List, length, get_or, take, sym, ap, subst, ◌∙◌, arith}
-use Rattle.mpw_hier.specs.declared.node.Node.{Node}
-use Rattle.mpw_hier.specs.declared.submission.Submission.{Submission}
-use Rattle.mpw_hier.specs.Nodes.{AreNodesOf}
-use Rattle.mpw_hier.specs.Limits.{IsSubmitted}
-use Rattle.mpw_hier.specs.Values.{flats, heights}
+use Rattle.std.proofs.Common.{◌<◌, length, take, sym, ap, ◌∙◌, arith}
 use Rattle.mpw_hier.proofs.Shelving.{shelved_at}
 use Rattle.mpw_hier.proofs.shelf.Shelf.copy.Goals as goal
 

@@ -1,4 +1,4 @@
-use Rattle.std.proofs.Common.{◌≡◌, ◌<◌, Bool, true, false, ◌&&◌, ◌||◌, nat_lt, is_some, length, refl, sym, ap, subst, ◌∙◌, arith, rules}
+use Rattle.std.proofs.Common.{◌≡◌, Bool, true, false, ◌&&◌, ◌||◌, nat_lt, is_some, length, refl, ap, subst, ◌∙◌, rules}
 use Rattle.mpw_hier.specs.Shelf.{present}
 use Rattle.mpw_hier.specs.Limits.{has_room_for}
 use Rattle.mpw_hier.proofs.Versions.{cells_of}
