@@ -1,3 +1,5 @@
+pub mod Derived
+pub mod DerivedElement
 pub mod Fields
 pub mod Numbers
 pub mod Shapes
