@@ -1,4 +1,4 @@
-use Rattle.mpw_elements.proofs.DerivedElement as derived
+use Rattle.mpw_elements.proofs.DerivedElements as derived
 use Rattle.mpw_elements.proofs.laws.elements_are_derived.Goals as goal
 
 pub returns : goal.returns

@@ -1,4 +1,4 @@
--- Reading gives what the records derive, step by step.
+-- Reading one record of an element: it is read exactly where it stands, behind records that say nothing.
 use Rattle.std.proofs.Common.{◌≡◌, ℕ, Bool, true, false, cond, eqb, ◌||◌, List, [], ◌∷◌, ◌++◌, Result, Ok, Err, refl, sym, ap, subst, ◌∙◌, inl, inr}
 use Rattle.std.specs.Prelude.{◌⊎◌}
 use Rattle.std.proofs.lemmas.Bool.{eqb-true}
@@ -40,6 +40,12 @@ equals a b e = elim (eqb_tells a b) [ inl p ↦ p.0 | inr p ↦ absurd (p.1 e) ]
 pub records_both : (xs ys : List RawRecord) (rest : List Outcome) → records_then (xs ++ ys) rest ≡ records_then xs (records_then ys rest)
 records_both [] ys rest = refl
 records_both (x ∷ xs) ys rest = ap (λ (os : List Outcome). Ok x ∷ os) (records_both xs ys rest)
+
+pub regroup3 : (a b c : List RawRecord) (rest : List Outcome) → records_then (a ++ b ++ c) rest ≡ records_then a (records_then b (records_then c rest))
+regroup3 a b c rest = simp records_both
+
+pub regroup4 : (a b c d : List RawRecord) (rest : List Outcome) → records_then (a ++ b ++ c ++ d) rest ≡ records_then a (records_then b (records_then c (records_then d rest)))
+regroup4 a b c d rest = simp records_both
 
 pub parts_both : (all mid rest : List Outcome) (xs ys : List RawRecord) → all ≡ records_then xs mid → mid ≡ records_then ys rest → all ≡ records_then (xs ++ ys) rest
 parts_both all mid rest xs ys p q = p ∙ ap (records_then xs) q ∙ sym (records_both xs ys rest)
