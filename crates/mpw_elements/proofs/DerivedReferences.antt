@@ -25,7 +25,7 @@ orientation_sound start all next read x e =
           let h = field_sound start all next read in
           let lg = optional_sound start MAG magnification_of tt next.1 n.0 n.1 g.0 g.1 in
           let la = optional_sound start ANGLE turns_of 0 lg.rest (g.0.0.1, g.0.1) lg.ahead a.0 a.1 in
-          subst (λ (y : (Orient × RawRecord) × List Outcome). BeginsAhead start all (y.0.1, y.1) (λ rs. DerivesOrient rs y.0.0)) (ok_is ((orient_of m.0 a.0.0.0, a.0.0.1), a.0.1) x a.2) (record {
+          subst (λ (y : (Orient × RawRecord) × List Outcome). BeginsAhead start all (y.0.1, y.1) (λ rs. DerivesOrient rs y.0.0)) {x = ((orient_of m.0 a.0.0.0, a.0.0.1), a.0.1)} (ok_is ((orient_of m.0 a.0.0.0, a.0.0.1), a.0.1) x a.2) (record {
             rest = la.rest;
             begins = record {
               records = h.records ++ lg.begins.records ++ la.begins.records;
@@ -86,7 +86,7 @@ single_end_sound start unit o1 o2 o3 sname name orient next rs x a is o n e =
     let lc = ahead_sound start XY o3 (next, rs) c.0 n c.1 in
     let ll = expected_sound start ENDEL rs l.0 l.1 in
     let made : Reference = record { name = name; orient = orient; origin = v.0; columns = 1; rows = 1; column_step = no_point; row_step = no_point } in
-    subst (λ (y : Reference × List Outcome). Begins o1 y.1 (λ rs. DerivesSingle unit rs y.0)) (ok_is (made, l.0.1) x l.2) (record {
+    subst (λ (y : Reference × List Outcome). Begins o1 y.1 (λ rs. DerivesSingle unit rs y.0)) {x = (made, l.0.1)} (ok_is (made, l.0.1) x l.2) (record {
       records = a.records ++ o.records ++ lc.records ++ ll.records;
       parts = parts_both o1 rs l.0.1 (a.records ++ o.records ++ lc.records) ll.records (parts_both o1 o3 rs (a.records ++ o.records) lc.records (parts_both o1 o2 o3 a.records o.records a.parts o.parts) lc.parts) ll.parts;
       told = DerivesSingle.single a.told is o.told lc.told v.1 ll.told;
@@ -140,7 +140,7 @@ array_end_sound start unit o1 o2 o3 sname name orient next rs x a is o n e =
     let p3 = parts_both o1 o2 o3 a.records o.records a.parts o.parts in
     let p4 = parts_both o1 o3 rs (a.records ++ o.records) lc.records p3 lc.parts in
     let p5 = parts_both o1 rs y.0.1 (a.records ++ o.records ++ lc.records) ly.records p4 ly.parts in
-    subst (λ (z : Reference × List Outcome). Begins o1 z.1 (λ rs. DerivesArray unit rs z.0)) (ok_is (made, l.0.1) x l.2) (record {
+    subst (λ (z : Reference × List Outcome). Begins o1 z.1 (λ rs. DerivesArray unit rs z.0)) {x = (made, l.0.1)} (ok_is (made, l.0.1) x l.2) (record {
       records = a.records ++ o.records ++ lc.records ++ ly.records ++ ll.records;
       parts = parts_both o1 y.0.1 l.0.1 (a.records ++ o.records ++ lc.records ++ ly.records) ll.records p5 ll.parts;
       told = DerivesArray.array a.told is o.told lc.told k.1 ly.told g.1 ll.told;

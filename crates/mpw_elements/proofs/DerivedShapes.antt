@@ -29,7 +29,7 @@ boundary_sound start unit kind all x e =
       parts = parts_both _ _ _ _ _ (parts_both _ _ _ _ _ (parts_both _ _ _ _ _ la.parts lb.parts) lc.parts) ll.parts;
       told = DerivesBoundary.boundary la.told lb.told lc.told v.1 ll.told;
     } in
-    subst (λ (y : Boundary × List Outcome). Begins all y.1 (λ rs. DerivesBoundary unit kind rs y.0)) (ok_is (record { layer = record { layer = short_of a.0.0; datatype = short_of b.0.0 }; points = v.0 }, l.0.1) x l.2) made
+    subst (λ (y : Boundary × List Outcome). Begins all y.1 (λ rs. DerivesBoundary unit kind rs y.0)) {x = (record { layer = record { layer = short_of a.0.0; datatype = short_of b.0.0 }; points = v.0 }, l.0.1)} (ok_is _ x l.2) made
 
 pub boundary_complete : {unit kind : ℕ} {rs : List RawRecord} {b : Boundary} → DerivesBoundary unit kind rs b → (start : ℕ) (rest : List Outcome) → is_skipped kind ≡ false → boundary start unit kind (records_then rs rest) ≡ Ok (b, rest)
 unfolding boundary
@@ -102,7 +102,7 @@ path_end_sound start unit o1 o2 o3 o4 o5 o6 o7 layer datatype path_type width be
       end = lengthening path_type width end;
       points = v.0;
     } in
-    subst (λ (y : Path × List Outcome). Begins o1 y.1 (λ rs. DerivesPath unit rs y.0)) (ok_is (made, l.0.1) x l.2) (
+    subst (λ (y : Path × List Outcome). Begins o1 y.1 (λ rs. DerivesPath unit rs y.0)) {x = (made, l.0.1)} (ok_is (made, l.0.1) x l.2) (
     path_parts unit o1 o2 o3 o4 o5 o6 o7 rs l.0.1 layer datatype c.0 l.0.0 path_type width begin end v.0 a b t w g h
     (ahead_sound start XY o7 (next, rs) c.0 n c.1)
     v.1

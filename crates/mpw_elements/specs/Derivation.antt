@@ -87,7 +87,7 @@ pub data DerivesArray (unit : ℕ) : List RawRecord → Reference → Type 0 whe
       → IsField ENDEL lasts last
       → DerivesArray unit (names ++ turns ++ colrows ++ xys ++ lasts) (record { name = name; orient = orient; origin = grid.origin; columns = counts.0; rows = counts.1; column_step = grid.column_step; row_step = grid.row_step })
 
--- What TEXT and NODE may have in them.
+-- What TEXT and NODE may have in them: any record but ENDEL and ENDLIB.
 abbrev pub is_inner : ℕ → Bool
 is_inner kind = not (kind == ENDEL) && not (kind == ENDLIB)
 
@@ -108,13 +108,13 @@ abbrev pub records_then : List RawRecord → List Outcome → List Outcome
 records_then [] rest = rest
 records_then (r ∷ rs) rest = Ok r ∷ records_then rs rest
 
--- Some records without fault, of which all is told, and the rest behind them.
+-- Records without fault, of which something is told, and the rest behind them.
 pub record Begins (all rest : List Outcome) (Told : List RawRecord → Type 0) : Type 0 where
   pub records : List RawRecord
   pub parts : all ≡ records_then records rest
   pub told : Told records
 
--- An element is read exactly where records without fault derive it.
+-- Reading gives an element exactly where the records that it takes are without fault and derive the element.
 abbrev pub ElementsAreDerived : Type 0
 ElementsAreDerived =
     (unit : ℕ) (first : RawRecord) (all rest : List Outcome) (found : Option Element)

@@ -2,8 +2,9 @@
 
 ghost use Rattle.mpw_elements.specs.Derivation.{ElementsAreDerived};
 
-/// Reading an element by its records gives the element that the Stream syntax derives from the records up to its ENDEL,
-/// and it gives one wherever the syntax derives one from records without fault.
+/// Reading the records of an element gives what the Stream syntax derives from them, up to their ENDEL, and it gives
+/// nothing where the syntax derives nothing. The reading that `read_element` does is the definition that computes, and
+/// the syntax is the relation by cases, a case for each production.
 pub fn elements_are_derived()
     ensures { ElementsAreDerived }
 {}

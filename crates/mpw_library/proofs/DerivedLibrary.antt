@@ -137,7 +137,7 @@ library_sound all ss e =
     let pa = next_is_sound HEADER all a.0 a.1 in
     let pb = next_is_sound BGNLIB a.0.1 b.0 b.1 in
     let h = head_sound b.0.1 u.0 u.1 in
-    subst (LibraryIn all) (ok_is s.0.0 ss s.2) (library_parts all a.0.1 b.0.1 u.0.1 a.0.0 b.0.0 u.0.0 s.0.0 pa.0 pa.1 pb.0 pb.1 h s.0.1 (structures_sound (length u.0.1) u.0.0 [] u.0.1 s.0 s.1))
+    subst (LibraryIn all) {x = s.0.0} (ok_is s.0.0 ss s.2) (library_parts all a.0.1 b.0.1 u.0.1 a.0.0 b.0.0 u.0.0 s.0.0 pa.0 pa.1 pb.0 pb.1 h s.0.1 (structures_sound (length u.0.1) u.0.0 [] u.0.1 s.0 s.1))
 
 library_complete : {rs : List RawRecord} {ss : List Structure} → DerivesLibrary rs ss → (rest : List Outcome) → library (records_then rs rest) ≡ Ok ss
 unfolding library

@@ -10,7 +10,7 @@ use Rattle.mpw_elements.specs.Derivation.{Behind, DerivesElement}
 use Rattle.mpw_library.specs.declared.structures.Structure.{Structure}
 use Rattle.mpw_library.specs.Grammar.{unit_of, ends_head, is_between, library_of}
 
--- {element}, with the records that may stand between them; TEXT and NODE are no elements here.
+-- {element}, with the records that may stand between them. TEXT and NODE give no element.
 pub data DerivesElements (unit : ℕ) : List RawRecord → List Element → Type 0 where
   none : DerivesElements unit [] []
   between : {r : RawRecord} {rs : List RawRecord} {es : List Element} → is_between r.kind ≡ true → DerivesElements unit rs es → DerivesElements unit (r ∷ rs) es
@@ -31,7 +31,7 @@ pub data DerivesStructures (unit : ℕ) : List RawRecord → List Structure → 
   none : DerivesStructures unit [] []
   more : {front rs : List RawRecord} {s : Structure} {ss : List Structure} → DerivesStructure unit front s → DerivesStructures unit rs ss → DerivesStructures unit (front ++ rs) (s ∷ ss)
 
--- What may stand in the head beside LIBNAME and UNITS.
+-- What may stand in the head beside LIBNAME and UNITS: any record but HEADER, BGNLIB, BGNSTR and ENDLIB.
 abbrev pub is_aside : ℕ → Bool
 is_aside kind = not (kind == LIBNAME) && not (kind == UNITS) && not (ends_head kind)
 
@@ -40,7 +40,7 @@ abbrev pub AreApart : List Structure → Type 0
 AreApart [] = Unit {0}
 AreApart (s ∷ ss) = AllByRecursion (λ t. name_eq s.name t.name ≡ false) ss × AreApart ss
 
--- HEADER BGNLIB LIBNAME UNITS {structure} ENDLIB.
+-- HEADER BGNLIB LIBNAME UNITS {structure} ENDLIB, with other records in the head, and no name twice.
 pub data DerivesLibrary : List RawRecord → List Structure → Type 0 where
   library : {header begin libname units : RawRecord} (end : RawRecord) {to_name to_units rs : List RawRecord} {unit : ℕ} {ss : List Structure}
       → header.kind ≡ HEADER
@@ -51,13 +51,13 @@ pub data DerivesLibrary : List RawRecord → List Structure → Type 0 where
       → end.kind ≡ ENDLIB
       → DerivesLibrary (header ∷ begin ∷ to_name ++ to_units ++ rs ++ end ∷ []) ss
 
--- The text has only records without fault, and the syntax derives the structures from them.
+-- The records of the text up to ENDLIB are all without fault, and they derive the structures.
 pub record IsTextOf (text : List ℕ) (ss : List Structure) : Type 0 where
   pub records : List RawRecord
   pub whole : outcomes_of text ≡ map (λ r. Ok r) records
   pub derived : DerivesLibrary records ss
 
--- A text is read exactly where its records up to ENDLIB are without fault and derive it.
+-- Reading a text gives structures exactly where it is a text of them.
 abbrev pub LibrariesAreDerived : Type 0
 LibrariesAreDerived = (text : List ℕ) (ss : List Structure) → library_of text ≡ Ok ss ↔ IsTextOf text ss
 
