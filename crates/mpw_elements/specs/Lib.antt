@@ -2,3 +2,4 @@ pub mod Element
 pub mod Reading
 pub mod Values
 pub mod Grammar
+pub mod Derivation

@@ -4,6 +4,7 @@
 mod boundary;
 mod element;
 mod fault;
+mod laws;
 mod path;
 mod points;
 mod read;
@@ -14,6 +15,7 @@ mod values;
 
 pub use element::{Boundary, Element, Path, Reference};
 pub use fault::ReadError;
+pub use laws::elements_are_derived;
 pub use points::Points;
 pub use read::read_element;
 pub use reading::{demand, fault_of};

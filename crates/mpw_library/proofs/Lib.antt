@@ -1,2 +1,5 @@
+pub mod Apart
+pub mod DerivedLibrary
+pub mod DerivedStructures
 pub mod Indexed
 pub mod Loops

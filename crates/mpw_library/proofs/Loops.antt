@@ -79,7 +79,7 @@ elements_fail unit (suc most) es rs le f e = rw e refl
 pub elements_err : (e : ReadError) (unit : ℕ) (es : List Element) (rs : List Outcome) (total : Reading (List Element)) → ElementsTo unit es rs total → Fails e (item unit rs) → Fails e total
 elements_err e unit es rs total t d = fails_from e (item unit rs) total (λ f h. sym t.same ∙ elements_fail unit t.most es rs t.enough f h) d
 
-elements_next : (unit : ℕ) (most : ℕ) (es : List Element) (rs rest : List Outcome) (i : Item) → item unit rs ≡ Ok (i, rest) → elements_behind (suc most) unit es rs ≡ cond (is_end i) (Ok (es, rest)) (elements_behind most unit (es ++ placed i) rest)
+pub elements_next : (unit : ℕ) (most : ℕ) (es : List Element) (rs rest : List Outcome) (i : Item) → item unit rs ≡ Ok (i, rest) → elements_behind (suc most) unit es rs ≡ cond (is_end i) (Ok (es, rest)) (elements_behind most unit (es ++ placed i) rest)
 unfolding elements_behind
 elements_next unit most es rs rest i e = rw e refl
 
@@ -122,7 +122,7 @@ structures_fail unit (suc most) ss rs le f e = rw e refl
 pub structures_err : (e : ReadError) (unit : ℕ) (ss : List Structure) (rs : List Outcome) (total : Reading (List Structure)) → StructuresTo unit ss rs total → Fails e (next_structure unit ss rs) → Fails e total
 structures_err e unit ss rs total t d = fails_from e (next_structure unit ss rs) total (λ f h. sym t.same ∙ structures_fail unit t.most ss rs t.enough f h) d
 
-structures_next : (unit : ℕ) (most : ℕ) (ss : List Structure) (rs rest : List Outcome) (s : Option Structure) → next_structure unit ss rs ≡ Ok (s, rest) → structures_behind (suc most) unit ss rs ≡ cond (is_some s) (structures_behind most unit (ss ++ added s) rest) (Ok (ss, rest))
+pub structures_next : (unit : ℕ) (most : ℕ) (ss : List Structure) (rs rest : List Outcome) (s : Option Structure) → next_structure unit ss rs ≡ Ok (s, rest) → structures_behind (suc most) unit ss rs ≡ cond (is_some s) (structures_behind most unit (ss ++ added s) rest) (Ok (ss, rest))
 unfolding structures_behind
 structures_next unit most ss rs rest s e = rw e refl
 

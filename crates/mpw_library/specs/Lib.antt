@@ -1,3 +1,4 @@
 pub mod Places
 pub mod Grammar
+pub mod Derivation
 pub mod Library

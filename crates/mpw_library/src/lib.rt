@@ -5,11 +5,13 @@
 #![tactic(auto)]
 
 mod elements;
+mod laws;
 mod library;
 mod read;
 mod structures;
 
 pub use elements::Elements;
+pub use laws::libraries_are_derived;
 pub use library::Library;
 pub use read::read_library;
 pub use structures::{Structure, Structures};

@@ -1,0 +1,5 @@
+use Rattle.mpw_elements.proofs.DerivedElements as derived
+use Rattle.mpw_elements.proofs.laws.elements_are_derived.Goals as goal
+
+pub returns : goal.returns
+returns c = derived.elements_are_derived
