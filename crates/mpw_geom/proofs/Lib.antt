@@ -1,4 +1,5 @@
 pub mod Chains
+pub mod Linked
 pub mod Meets
 pub mod NameLemmas
 pub mod NamesLemmas

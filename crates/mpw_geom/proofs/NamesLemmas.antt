@@ -10,7 +10,7 @@ use Rattle.std.specs.FinMap.{slice_cmp-IsAntisymmetric, nat_cmp-IsAntisymmetric}
 use Rattle.std.specs.FinMap.Entries.{is_sorted, below_all, is_sorted-put, find, find-put, same_entries}
 use Rattle.std.proofs.lemmas.List.Sorted.{list_any-IsPermutation}
 use Rattle.std.proofs.lemmas.List.Kept.{IsStrictlySortedBy-dedup}
-use Rattle.mpw_geom.specs.Names.{name_eq, name_cmp, placed_by_name, by_name}
+use Rattle.mpw_geom.specs.Names.{name_eq, name_cmp, contains_name, placed_by_name, by_name}
 
 abbrev Entry : Type 0
 Entry = List ℕ × Unit {0}
@@ -82,3 +82,23 @@ by_name-sorted xs ys moved sorted =
     let same = same_entries name_cmp nat_list_cmp_total (slice_cmp-IsAntisymmetric nat_cmp-IsAntisymmetric) (placed_by_name xs) (map entry zs) (placed_sorted xs) (strict_sorted zs (IsStrictlySortedBy-dedup nat_list_cmp_total texts_ties ys sorted))
     (λ q. find-placed q xs ∙ ap marked (list_any-IsPermutation (name_eq q) xs ys moved ∙ sym (any-dedup q ys)) ∙ sym (find-entries q zs)) in
     ap (map (λ (e : Entry). e.0)) same ∙ names-entries zs
+
+entries-names : (es : List Entry) → map entry (map (λ (e : Entry). e.0) es) ≡ es
+entries-names [] = refl
+entries-names (e ∷ es) = ap (λ l. e ∷ l) (entries-names es)
+
+unmarked : (a b : Bool) → marked a ≡ marked b → a ≡ b
+unmarked true true e = refl
+unmarked false false e = refl
+unmarked true false e = absurd cc
+unmarked false true e = absurd cc
+
+-- the names by their bytes are the same names
+pub in_by_name : (q : List ℕ) (xs : List (List ℕ)) → contains_name (by_name xs) q ≡ contains_name xs q
+in_by_name q xs =
+    unmarked _ _ (sym (find-entries q (by_name xs)) ∙ ap (find name_cmp q) (entries-names (placed_by_name xs)) ∙ find-placed q xs)
+
+-- lists with the same names are the same by the bytes of their names
+pub by_name-same : (xs ys : List (List ℕ)) → ((q : List ℕ) → contains_name xs q ≡ contains_name ys q) → by_name xs ≡ by_name ys
+by_name-same xs ys same =
+    ap (map (λ (e : Entry). e.0)) (same_entries name_cmp nat_list_cmp_total (slice_cmp-IsAntisymmetric nat_cmp-IsAntisymmetric) (placed_by_name xs) (placed_by_name ys) (placed_sorted xs) (placed_sorted ys) (λ q. find-placed q xs ∙ ap marked (same q) ∙ sym (find-placed q ys)))

@@ -1,3 +1,4 @@
+pub mod Links
 pub mod Name
 pub mod Names
 pub mod Placing

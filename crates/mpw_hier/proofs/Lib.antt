@@ -24,4 +24,5 @@ pub mod Parts
 pub mod Versions
 pub mod Adding
 pub mod Reached
+pub mod ReachTests
 pub mod Pushing

@@ -13,3 +13,4 @@ pub mod Sizes
 pub mod Nodes
 pub mod Building
 pub mod SizeParts
+pub mod Reach

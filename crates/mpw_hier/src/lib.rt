@@ -13,6 +13,7 @@ mod bindings;
 mod fault;
 mod graph;
 mod hierarchy;
+mod laws;
 mod node;
 mod order;
 mod outside;
@@ -31,6 +32,7 @@ mod tests;
 
 pub use bindings::{Binding, Bindings};
 pub use fault::HierFault;
+pub use laws::reaching_is_decided;
 pub use node::{Child, Node, Nodes, Target};
 pub use outside::externals;
 pub use shelf::Shelf;

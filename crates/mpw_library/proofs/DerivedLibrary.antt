@@ -3,11 +3,13 @@ use Rattle.std.proofs.Common.{◌≡◌, ℕ, zero, suc, ◌+◌, Bool, true, fa
 use Rattle.std.proofs.lemmas.Bool.{eqb-true}
 use Rattle.mpw_records.specs.declared.kind.TheConstants.{HEADER, BGNLIB, LIBNAME, UNITS, ENDLIB}
 use Rattle.mpw_records.specs.Records.{RawRecord, Outcome, told_length, front, is_last, outcomes, outcomes_of}
-use Rattle.mpw_elements.specs.Reading.{◌>>=◌}
+use Rattle.std.specs.Prelude.{Result, IfOk}
+use Rattle.mpw_elements.specs.Reading.{◌>>=◌, GivesValue}
+use Rattle.mpw_elements.specs.declared.fault.ReadError.{ReadError}
 use Rattle.mpw_elements.specs.Derivation.{Behind, records_then, Begins}
 use Rattle.mpw_elements.proofs.DerivedFields.{bind_ok, ok_is, chosen, equals, records_both, parts_both}
 use Rattle.mpw_library.specs.declared.structures.Structure.{Structure}
-use Rattle.mpw_library.specs.Grammar.{next_is, unit_of, ends_head, up_to, head, all_structures, library}
+use Rattle.mpw_library.specs.Grammar.{next_is, unit_of, ends_head, up_to, head, all_structures, library, library_of}
 use Rattle.mpw_library.specs.Derivation.{is_aside, AreApart, DerivesLibrary, IsTextOf, LibrariesAreDerived, OneDerivation}
 use Rattle.mpw_library.proofs.DerivedStructures.{next_is_sound, next_is_complete, StructuresIn, structures_sound, structures_complete, shorter}
 
@@ -191,3 +193,8 @@ libraries_are_derived text ss =
 
 pub derived_once : OneDerivation
 derived_once rs ss others d e = ok_is ss others (sym (library_complete d []) ∙ library_complete e [])
+
+-- what reading gives is what the syntax derives
+pub text_of_read : (text : List ℕ) (result : Result (List Structure) ReadError) → GivesValue (λ ss. ss) result (library_of text) → IfOk result (IsTextOf text)
+text_of_read text (Ok ss) e = (libraries_are_derived text ss).0 e
+text_of_read text (Err e) f = tt

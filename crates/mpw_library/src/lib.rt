@@ -9,9 +9,11 @@ mod laws;
 mod library;
 mod read;
 mod structures;
+mod text;
 
 pub use elements::Elements;
 pub use laws::libraries_are_derived;
 pub use library::Library;
 pub use read::read_library;
 pub use structures::{Structure, Structures};
+pub use text::LibraryText;

@@ -6,6 +6,7 @@ ghost use Rattle.mpw_records.specs.Records.{raw, IsSized};
 ghost use Rattle.mpw_elements.specs.Element.{IsElement};
 ghost use Rattle.mpw_elements.specs.Reading.{Gives, GivesValue, demanded};
 ghost use Rattle.mpw_library.specs.Grammar.{gone, next_record, next_is, unit_of, ends_head, up_to, head, is_between, item, all_elements, structure, next_structure, all_structures, library_of};
+ghost use Rattle.mpw_library.specs.Derivation.{IsTextOf};
 ghost use Rattle.mpw_library.specs.Library.{IsItem, IsStructure, IsLibrary};
 ghost use Rattle.mpw_library.specs.Places.{place_of};
 
@@ -220,16 +221,9 @@ fn read_structures(
     Ok(structures)
 }
 
-/// Reads a library from a text of GDSII Stream release 6, with coordinates in nm whatever the
-/// database unit is. What stands behind ENDLIB is no part of it.
-///
-/// One pass over the text; it takes memory for the structures, their elements and the index of their
-/// names.
-///
-/// # Errors
-/// The first fault by offset, with the first code in the order of the tests; or want of memory.
+/// The structures from HEADER to ENDLIB.
 #[tactic(auto, unfolding(crate::specs::Grammar::library))]
-pub fn read_library(alloc: Global, bytes: &[u8]) -> Result<Library, ReadError>
+fn read_whole(alloc: Global, bytes: &[u8]) -> Result<Library, ReadError>
     ensures library { GivesValue (λ library. library) result (library_of bytes.now) }
     ensures shape { IfOk result IsLibrary }
 {
@@ -239,4 +233,20 @@ pub fn read_library(alloc: Global, bytes: &[u8]) -> Result<Library, ReadError>
     let unit = read_head(&mut records)?;
     let structures = read_structures(alloc, &mut records, unit)?;
     Ok(Library::new(alloc, structures)?)
+}
+
+/// Reads a library from a text of GDSII Stream release 6, with coordinates in nm whatever the
+/// database unit is. What stands behind ENDLIB is no part of it.
+///
+/// One pass over the text; it takes memory for the structures, their elements and the index of their
+/// names.
+///
+/// # Errors
+/// The first fault by offset, with the first code in the order of the tests; or want of memory.
+pub fn read_library(alloc: Global, bytes: &[u8]) -> Result<Library, ReadError>
+    ensures library { GivesValue (λ library. library) result (library_of bytes.now) }
+    ensures derived { IfOk result (IsTextOf bytes.now) }
+    ensures shape { IfOk result IsLibrary }
+{
+    read_whole(alloc, bytes)
 }

@@ -4,8 +4,9 @@ use Rattle.std.proofs.lemmas.List.{length-map}
 use Rattle.std.specs.Cmp.Lexicographic.{bytes_decides}
 use Rattle.mpw_geom.specs.Names.{name_eq, contains_name, without_name}
 use Rattle.mpw_roles.specs.Hierarchy.{Name, Hierarchy, role_names, is_role, is_immediate, immediate_juniors, with_juniors, entries_without, with_role, without_role, with_pair, without_pair}
-use Rattle.mpw_roles.specs.Order.{at_least, is_below, roles_below, are_distinct, IsAtLeast, same, chain, IsHierarchy}
-use Rattle.mpw_roles.proofs.Chains.{same_name, or_right, or_cases, at_least-sound, at_least-complete, chain-trans, weaken_pair, juniors-without_same, juniors-without_other}
+use Rattle.mpw_roles.specs.Order.{at_least, is_below, roles_below, are_distinct, IsAtLeast, IsHierarchy}
+use Rattle.mpw_geom.specs.Links.{same, chain}
+use Rattle.mpw_geom.proofs.Linked.{same_name, or_right, or_cases, leads-sound, leads-complete, chain-trans, weaken_link, linked-without_same, linked-without_other}
 
 -- fewer pairs, fewer chains
 pub chains-fewer : (h k : Hierarchy) → ((a b : Name) → is_immediate h a b ≡ true → is_immediate k a b ≡ true) → (a b : Name) → IsAtLeast h a b → IsAtLeast k a b
@@ -13,7 +14,7 @@ chains-fewer h k fewer a b same = same
 chains-fewer h k fewer a b (chain {middle = m} pair rest) = chain (fewer a m pair) (chains-fewer h k fewer m b rest)
 
 pub at_least-fewer : (h k : Hierarchy) → ((a b : Name) → is_immediate h a b ≡ true → is_immediate k a b ≡ true) → (a b : Name) → at_least h a b ≡ true → at_least k a b ≡ true
-at_least-fewer h k fewer a b is = at_least-complete k a b (chains-fewer h k fewer a b (at_least-sound h a b is))
+at_least-fewer h k fewer a b is = leads-complete k a b (chains-fewer h k fewer a b (leads-sound h a b is))
 
 -- no pair's junior is at least its senior
 abbrev IsAcyclic : Hierarchy → Type 0
@@ -28,11 +29,11 @@ acyclic-fewer h k fewer acyclic a b pair = refuted (at_least h b a) (λ up. true
 
 chains-antisymmetric : (h : Hierarchy) → IsAcyclic h → (a b : Name) → IsAtLeast h a b → IsAtLeast h b a → a ≡ b
 chains-antisymmetric h acyclic a b same up = refl
-chains-antisymmetric h acyclic a b (chain {middle = m} pair rest) up = absurd (true≢false (sym (at_least-complete h m a (chain-trans h m b a rest up)) ∙ acyclic a m pair))
+chains-antisymmetric h acyclic a b (chain {middle = m} pair rest) up = absurd (true≢false (sym (leads-complete h m a (chain-trans h m b a rest up)) ∙ acyclic a m pair))
 
 -- no two roles are at least each other
 pub antisymmetric : (h : Hierarchy) → IsHierarchy h → (a b : Name) → at_least h a b ≡ true → at_least h b a ≡ true → a ≡ b
-antisymmetric h is a b down up = chains-antisymmetric h is.acyclic a b (at_least-sound h a b down) (at_least-sound h b a up)
+antisymmetric h is a b down up = chains-antisymmetric h is.acyclic a b (leads-sound h a b down) (leads-sound h b a up)
 
 pub contains-append : (xs ys : List Name) (n : Name) → contains_name (xs ++ ys) n ≡ (contains_name xs n || contains_name ys n)
 contains-append [] ys n = refl
@@ -187,14 +188,14 @@ IsHierarchy-with_pair h s j senior junior new apart is = record {
     | true ↦ distinct-append (immediate_juniors h s) j (is.pairs_once s) new
     | false ↦ is.pairs_once a
   ];
-  acyclic = λ a b pair. refuted (at_least (with_pair h s j) b a) (λ up. turns a b (with_pair-back h s j senior a b pair) (with_pair-chains h s j senior b a (at_least-sound _ b a up)));
+  acyclic = λ a b pair. refuted (at_least (with_pair h s j) b a) (λ up. turns a b (with_pair-back h s j senior a b pair) (with_pair-chains h s j senior b a (leads-sound _ b a up)));
 }
   where
     closed : IsAtLeast h j s → ⊥
-    closed down = true≢false (sym (at_least-complete h j s down) ∙ apart)
+    closed down = true≢false (sym (leads-complete h j s down) ∙ apart)
 
     turns : (a b : Name) → (is_immediate h a b ≡ true) ⊎ ((a ≡ s) × (b ≡ j)) → IsAtLeast h b a ⊎ (IsAtLeast h b s × IsAtLeast h j a) → ⊥
-    turns a b (inl old) (inl up) = true≢false (sym (at_least-complete h b a up) ∙ is.acyclic a b old)
+    turns a b (inl old) (inl up) = true≢false (sym (leads-complete h b a up) ∙ is.acyclic a b old)
     turns a b (inl old) (inr through) = closed (chain-trans h j a s through.1 (chain old through.0))
     turns a b (inr new_pair) (inl up) = closed (subst (λ k. IsAtLeast h j k) new_pair.0 (subst (λ k. IsAtLeast h k a) new_pair.1 up))
     turns a b (inr new_pair) (inr through) = closed (subst (λ k. IsAtLeast h k s) new_pair.1 through.0)
@@ -288,7 +289,7 @@ juniors-left : (h : Hierarchy) (r a b : Name) → is_immediate (without_role h r
 juniors-left h r a b pair = ap (λ l. contains_name l b) (sym (juniors-without (entries_without h r) r a)) ∙ pair
 
 pub pairs-without_role : (h : Hierarchy) (r a b : Name) → is_immediate (without_role h r) a b ≡ true → is_immediate h a b ≡ true
-pairs-without_role h r a b pair = weaken_pair h r a b (contains-without _ r b (juniors-left h r a b pair)).0
+pairs-without_role h r a b pair = weaken_link h r a b (contains-without _ r b (juniors-left h r a b pair)).0
 
 pub names-without_role : (h : Hierarchy) (r : Name) → role_names (without_role h r) ≡ without_name (role_names h) r
 names-without_role h r = names-map (entries_without h r) r ∙ names-entries_without h r
@@ -308,8 +309,8 @@ IsHierarchy-without_role h r is = record {
   where
     left_once : (a : Name) → are_distinct (immediate_juniors (entries_without h r) a) ≡ true
     left_once a = elim (name_eq r a) as (λ t. name_eq r a ≡ t → are_distinct (immediate_juniors (entries_without h r) a) ≡ true) [
-      | true ↦ λ at. ap (λ k. are_distinct (immediate_juniors (entries_without h r) k)) (sym (same_name r a at)) ∙ ap are_distinct (juniors-without_same h r)
-      | false ↦ λ apart. ap are_distinct (juniors-without_other h r a apart) ∙ is.pairs_once a
+      | true ↦ λ at. ap (λ k. are_distinct (immediate_juniors (entries_without h r) k)) (sym (same_name r a at)) ∙ ap are_distinct (linked-without_same h r)
+      | false ↦ λ apart. ap are_distinct (linked-without_other h r a apart) ∙ is.pairs_once a
     ] refl
 
     fewer : (a b : Name) → is_immediate (without_role h r) a b ≡ true → is_immediate h a b ≡ true
@@ -348,7 +349,7 @@ pub below-one : (h : Hierarchy) → IsHierarchy h → (a b : Name) → name_eq a
 below-one h is a b apart =
     contains-filter (is_below h (a ∷ [])) (role_names h) b
     ∙ elim (at_least h a b) as (λ t. at_least h a b ≡ t → (is_role h b && (t || false)) ≡ t) [
-      | true ↦ λ down. elim (junior_role h is a b (at_least-sound h a b down)) [
+      | true ↦ λ down. elim (junior_role h is a b (leads-sound h a b down)) [
         | inl equal ↦ absurd (true≢false (sym ((bytes_decides a b).1 equal) ∙ apart))
         | inr role ↦ ap (λ t. t && true) role
       ]
@@ -360,4 +361,4 @@ below-one h is a b apart =
     and_false false = refl
 
 pub at_least-refl : (h : Hierarchy) (a b : Name) → name_eq a b ≡ true → true ≡ at_least h a b
-at_least-refl h a b equal = sym (at_least-complete h a b (subst (IsAtLeast h a) (same_name a b equal) same))
+at_least-refl h a b equal = sym (leads-complete h a b (subst (IsAtLeast h a) (same_name a b equal) same))

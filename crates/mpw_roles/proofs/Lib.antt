@@ -1,5 +1,4 @@
 pub mod CallerLemmas
-pub mod Chains
 pub mod HierarchyLemmas
 pub mod MarksLemmas
 pub mod SearchLemmas

@@ -8,7 +8,7 @@ use Rattle.std.proofs.lemmas.Map.Keys.{IsDistinct-head, IsDistinct-tail}
 use Rattle.mpw_geom.specs.Names.{name_eq, contains_name}
 use Rattle.mpw_roles.specs.Hierarchy.{Name, Hierarchy, role_names, is_role}
 use Rattle.mpw_roles.specs.Marks.{Marks, is_marked, marked, marked_all, marked_names}
-use Rattle.mpw_roles.proofs.Chains.{same_name, name_eq-refl, or_right, or_cases}
+use Rattle.mpw_geom.proofs.Linked.{same_name, name_eq-refl, or_right, or_cases}
 
 -- by the place of the first entry of a role
 pub set-first : (h : Hierarchy) (ms : Marks) (r : Name) (i : ℕ) → i < length (role_names h) → name_eq r (get_or (role_names h) i []) ≡ true

@@ -10,13 +10,14 @@ use Rattle.std.specs.List.{IsDistinct}
 use Rattle.mpw_geom.specs.Names.{name_eq, contains_name}
 use Rattle.mpw_roles.specs.Hierarchy.{Name, Hierarchy, role_names, is_role, is_immediate, immediate_juniors}
 use Rattle.mpw_roles.specs.Marks.{Marks, is_marked, marked, marked_all, IsReached, Keeps, IsExpanded, IsSearch}
-use Rattle.mpw_roles.specs.Order.{is_below, IsAtLeast, same, chain}
-use Rattle.mpw_roles.proofs.Chains.{name_eq-refl, or_right, some_name, any_name, at_least-sound, at_least-complete, at_least-trans}
+use Rattle.mpw_roles.specs.Order.{is_below, IsAtLeast}
+use Rattle.mpw_geom.specs.Links.{same, chain}
+use Rattle.mpw_geom.proofs.Linked.{name_eq-refl, or_right, some_name, any_name, leads-sound, leads-complete, leads-trans}
 use Rattle.mpw_roles.proofs.MarksLemmas.{set-first, read-first, distinct-first, length-names, apart-later, marks-imply, marked-back, marked_all-back, marked_all-there, marked_all-keeps, unmarked}
 
 pub search-start : (h : Hierarchy) (ms : Marks) (n : ℕ) → IsSearch h ms ms (replicate n false)
 search-start h ms n = record {
-  reached = λ r is. (r, is, at_least-complete h r r same);
+  reached = λ r is. (r, is, leads-complete h r r same);
   keeps = λ r is. is;
   done = λ r j is. absurd (true≢false (sym is ∙ unmarked h n r));
 }
@@ -29,7 +30,7 @@ search-step h start ms xs r js long is has search = record {
     | inl among ↦
         let from = search.reached r is in
         let pair : is_immediate h r q ≡ true = ap (λ l. contains_name l q) has ∙ among in
-        (from.0, from.1, at_least-trans h from.0 r q from.2 (at_least-complete h r q (chain pair same)))
+        (from.0, from.1, leads-trans h from.0 r q from.2 (leads-complete h r q (chain pair same)))
     | inr before ↦ search.reached q before
   ];
   keeps = λ q now. marked_all-keeps h ms js q long (search.keeps q now);
@@ -103,6 +104,6 @@ search-end h ms seniors n long reached keeps closed r there = both_ways _ _
     ])
     (λ below.
     let from = some_name _ seniors below in
-    let down = at_least-sound h from.0 r from.2 in
+    let down = leads-sound h from.0 r from.2 in
     let room : length h ≤ length (replicate n false) = omega (arith, length-replicate n false) in
     chain-marked h ms closed from.0 r down there (keeps from.0 (marked_all-there h (replicate n false) seniors from.0 room from.1 (senior_role h from.0 r down there))))

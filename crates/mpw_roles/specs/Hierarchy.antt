@@ -2,12 +2,13 @@
 -- immediate juniors in the order in which they were commanded.
 use Rattle.std.specs.Prelude.{ℕ, Bool, not, List, [], ◌∷◌, ◌++◌, map, filter, if◌then◌else◌}
 use Rattle.mpw_geom.specs.Names.{name_eq, contains_name, without_name}
+use Rattle.mpw_geom.specs.Links.{Links, linked, is_linked, links_without}
 
 abbrev pub Name : Type 0
 Name = List ℕ
 
 abbrev pub Hierarchy : Type 0
-Hierarchy = List (Name × List Name)
+Hierarchy = Links
 
 -- the greatest number of roles
 abbrev pub max_roles : ℕ
@@ -22,12 +23,11 @@ is_role hierarchy role = contains_name (role_names hierarchy) role
 
 -- the immediate juniors of a role; what is no role has none
 abbrev pub immediate_juniors : Hierarchy → Name → List Name
-immediate_juniors [] role = []
-immediate_juniors (entry ∷ entries) role = if name_eq role entry.0 then entry.1 else immediate_juniors entries role
+immediate_juniors = linked
 
 -- whether the pair was commanded
 abbrev pub is_immediate : Hierarchy → Name → Name → Bool
-is_immediate hierarchy senior junior = contains_name (immediate_juniors hierarchy senior) junior
+is_immediate = is_linked
 
 -- the hierarchy in which that role has these immediate juniors
 abbrev pub with_juniors : Hierarchy → Name → List Name → Hierarchy
@@ -37,7 +37,7 @@ with_juniors (entry ∷ entries) role juniors =
 
 -- the roles but one, with the pairs that start at them
 abbrev pub entries_without : Hierarchy → Name → Hierarchy
-entries_without hierarchy role = filter (λ entry. not (name_eq role entry.0)) hierarchy
+entries_without = links_without
 
 -- a new role goes last, without pairs
 abbrev pub with_role : Hierarchy → Name → Hierarchy

@@ -2,22 +2,16 @@
 use Rattle.std.specs.Prelude.{◌≡◌, ℕ, ◌≤◌, zero, suc, Bool, true, false, not, ◌||◌, ◌&&◌, List, [], ◌∷◌, length, filter}
 use Rattle.std.specs.List.{list_any}
 use Rattle.mpw_geom.specs.Names.{name_eq, contains_name}
+use Rattle.mpw_geom.specs.Links.{Leads, leads}
 use Rattle.mpw_roles.specs.Hierarchy.{Name, Hierarchy, max_roles, role_names, is_role, immediate_juniors, is_immediate, entries_without}
 
 -- the senior is the junior, or a chain of immediate pairs leads from it down to the junior
-pub data IsAtLeast (hierarchy : Hierarchy) : Name → Name → Type 0 where
-  same : {role : Name} → IsAtLeast hierarchy role role
-  chain : {senior middle junior : Name} → is_immediate hierarchy senior middle ≡ true → IsAtLeast hierarchy middle junior → IsAtLeast hierarchy senior junior
+abbrev pub IsAtLeast : Hierarchy → Name → Name → Type 0
+IsAtLeast hierarchy senior junior = Leads hierarchy senior junior
 
--- the same as a test: a chain needs each role once, so it may go on without the pairs of the roles that it has left
-abbrev pub reaches : ℕ → Hierarchy → Name → Name → Bool
-reaches zero hierarchy senior junior = name_eq senior junior
-reaches (suc n) hierarchy senior junior =
-    name_eq senior junior
-    || list_any (λ middle. reaches n (entries_without hierarchy senior) middle junior) (immediate_juniors hierarchy senior)
-
-unfoldable pub at_least : Hierarchy → Name → Name → Bool
-at_least hierarchy senior junior = reaches (length hierarchy) hierarchy senior junior
+-- the same as a test
+abbrev pub at_least : Hierarchy → Name → Name → Bool
+at_least = leads
 
 -- whether the role is at or below one of the seniors
 abbrev pub is_below : Hierarchy → List Name → Name → Bool

@@ -309,6 +309,44 @@ fn the_513th_user_and_role(rt: HostRuntime) -> Result<(), Fail> {
     Ok(())
 }
 
+/// Serves the officer's lines as a connection of a desk, which lasts.
+fn officer_asks_on(
+    alloc: Global,
+    core: &mut Core,
+    conn: u32,
+    count: usize,
+    before: &str,
+) -> Result<Vec<u8>, AllocError> {
+    let mut text = String::from_str(alloc, "open root abc\nactivate officer\n")?;
+    numbered(alloc, &mut text, count, before, " officer\n")?;
+    let mut reader = Text {
+        bytes: text.as_bytes(),
+        at: 0,
+        fails_at: usize::MAX,
+        failures: 0,
+    };
+    let mut writer = Paper {
+        bytes: Vec::new(alloc),
+        room: usize::MAX,
+        failures: 0,
+    };
+    let end = serve_core(alloc, core, conn, &mut reader, &mut writer);
+    if end != Ok(End::Closed) {
+        return Err(AllocError);
+    }
+    Ok(writer.bytes)
+}
+
+#[test]
+fn the_4097th_grant(rt: HostRuntime) -> Result<(), Fail> {
+    let mut core = new_desk(rt.alloc())?;
+    let first = officer_asks_on(rt.alloc(), &mut core, 1, 4000, "grant read c")?;
+    assert!(rt; first.len() == 5 * 4002);
+    let second = officer_asks_on(rt.alloc(), &mut core, 2, 96, "grant read d")?;
+    assert!(rt; is_full_at_the_last(second.as_slice(), 98));
+    Ok(())
+}
+
 #[test]
 fn the_65th_set_of_a_kind(rt: HostRuntime) -> Result<(), Fail> {
     let roles = "addrole a\naddrole b\n";

@@ -1,10 +1,10 @@
-use Rattle.mpw_roles.specs.Order.{same}
-use Rattle.mpw_roles.proofs.Chains.{at_least-sound, at_least-complete, at_least-trans}
+use Rattle.mpw_geom.specs.Links.{same}
+use Rattle.mpw_geom.proofs.Linked.{leads-sound, leads-complete, leads-trans}
 use Rattle.mpw_roles.proofs.laws.order_is_chains.Goals as goal
 
 pub returns : goal.returns
 returns c = record {
-  chains = λ h a b. (at_least-sound h a b, at_least-complete h a b);
-  reflexive = λ h a. at_least-complete h a a same;
-  transitive = at_least-trans;
+  chains = λ h a b. (leads-sound h a b, leads-complete h a b);
+  reflexive = λ h a. leads-complete h a a same;
+  transitive = leads-trans;
 }
