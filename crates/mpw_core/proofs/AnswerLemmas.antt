@@ -1,5 +1,5 @@
 -- Prepared answers give the outcome of their row.
-use Rattle.std.proofs.Common.{◌≡◌, ℕ, Result, Ok, Err, IfOk, None, refl, ap, ◌∙◌}
+use Rattle.std.proofs.Common.{◌≡◌, ℕ, List, Result, Ok, Err, IfOk, refl, sym, ap, subst, ◌∙◌}
 use Rattle.std.specs.declared.alloc.AllocError.{AllocError}
 use Rattle.mpw_rbac.specs.declared.refusal.Refusal.{Refusal}
 use Rattle.mpw_rbac.specs.declared.refusal.PolicyFault.{PolicyFault}
@@ -7,38 +7,51 @@ use Rattle.mpw_rbac.specs.declared.refusal.PolicyFault.TheVariants.{Refused, Mem
 use Rattle.mpw_rbac.specs.Policy.{Policy}
 use Rattle.mpw_rbac.specs.Rows.{IsFaultOf}
 use Rattle.mpw_core.specs.declared.answer.Answer.{Answer}
-use Rattle.mpw_core.specs.Answer.{IsRefusal, Gives, policy_after, row_of}
-use Rattle.mpw_core.specs.Step.{Outcome, changed, outcome_of}
+use Rattle.mpw_core.specs.Answer.{IsRefusal, Gives, Told, state_with, row_of}
+use Rattle.mpw_core.specs.Step.{State, Outcome, changed, outcome_of}
+use Rattle.mpw_core.specs.declared.answer.Change.TheVariants.{Nothing}
+use Rattle.mpw_core.specs.declared.answer.Fault.{Fault}
+use Rattle.mpw_core.specs.declared.answer.Fault.TheVariants as fault
+use Rattle.mpw_core.specs.declared.reply.Reply.{Reply}
 use Rattle.mpw_core.specs.declared.event.Request.{Request}
-use Rattle.mpw_core.specs.declared.event.Request.TheVariants.{Open, Close, Activate, DropRole, Whoami, AddUser, DelUser, AddRole, DelRole, Assign, Deassign, Grant, Revoke, Inherit, Uninherit, Ssd, Dsd, UnSsd, UnDsd}
+use Rattle.mpw_core.specs.declared.event.Request.TheVariants.{Open, Close, Activate, DropRole, Whoami, AddUser, DelUser, AddRole, DelRole, Assign, Deassign, Grant, Revoke, Inherit, Uninherit, Ssd, Dsd, UnSsd, UnDsd, Submit, Cells}
 
-pub refused-gives : (policy : Policy) (row : Result Policy Refusal) (fault : PolicyFault) (result : Result Answer AllocError) → IsFaultOf row fault → IfOk result (λ a. IsRefusal fault a.reply a.next)
-    → IfOk result (λ a. Gives policy (changed (record { policy = policy }) row) a.reply a.next)
-refused-gives policy row fault (Err e) is answer = tt
-refused-gives policy row Memory (Ok a) is answer = absurd answer
-refused-gives policy row (Refused refusal) (Ok a) is answer = rw is (record {
-  told = answer.0;
-  left = ap (λ next. record { policy = policy_after policy next }) answer.1;
-})
+pub refused-gives : (state : State) (row : Result Policy Refusal) (fault : PolicyFault) (result : Result Answer AllocError) → IsFaultOf row fault → IfOk result (λ a. IsRefusal fault a.reply a.change)
+    → IfOk result (λ a. Gives state (changed state row) a.reply a.change)
+refused-gives state row fault (Err e) is answer = tt
+refused-gives state row Memory (Ok a) is answer = absurd answer
+refused-gives state row (Refused refusal) (Ok a) is answer = rw is (record { told = answer.0; left = ap (state_with state) answer.1 })
 
--- a request that isn't `whoami` is answered by its row
-pub row-outcome : (policy : Policy) (conn : ℕ) (request : Request) → (request ≡ Whoami → ⊥) → changed (record { policy = policy }) (row_of policy conn request) ≡ outcome_of (record { policy = policy }) conn request
-row-outcome policy conn Whoami other = absurd (other refl)
-row-outcome policy conn (Open user digest) other = refl
-row-outcome policy conn Close other = refl
-row-outcome policy conn (Activate role) other = refl
-row-outcome policy conn (AddUser user digest) other = refl
-row-outcome policy conn (AddRole role) other = refl
-row-outcome policy conn (Assign user role) other = refl
-row-outcome policy conn (Grant grant) other = refl
-row-outcome policy conn (Revoke grant) other = refl
-row-outcome policy conn (DropRole role) other = refl
-row-outcome policy conn (DelUser user) other = refl
-row-outcome policy conn (DelRole role) other = refl
-row-outcome policy conn (Deassign user role) other = refl
-row-outcome policy conn (Inherit senior junior) other = refl
-row-outcome policy conn (Uninherit senior junior) other = refl
-row-outcome policy conn (Ssd set) other = refl
-row-outcome policy conn (Dsd set) other = refl
-row-outcome policy conn (UnSsd name) other = refl
-row-outcome policy conn (UnDsd name) other = refl
+-- a reply that ends a row is told, and leaves the state
+pub told-gives : {B : Type 0} (state : State) (outcome : Result B Reply → Outcome) → ((told : Reply) → outcome (Err told) ≡ record { reply = told; state = state })
+    → (row : Result B Reply) (why : Fault) (result : Result Answer AllocError) → Told why row → IfOk result (λ a. (why ≡ fault.Told a.reply) × (a.change ≡ Nothing))
+    → IfOk result (λ a. Gives state (outcome row) a.reply a.change)
+told-gives state outcome ends row why (Err e) is answer = tt
+told-gives state outcome ends row why (Ok a) is answer =
+    let row_is : row ≡ Err a.reply = subst (λ f. Told f row) answer.0 is in
+    let left : outcome row ≡ record { reply = a.reply; state = state } = ap outcome row_is ∙ ends a.reply in
+    record { told = ap (λ (o : Outcome). o.reply) (sym left); left = ap (state_with state) answer.1 ∙ ap (λ (o : Outcome). o.state) (sym left) }
+
+-- a request of the policy is answered by its row
+pub row-outcome : (state : State) (conn : ℕ) (request : Request) → (request ≡ Whoami → ⊥) → ((cell top text : List ℕ) → request ≡ Submit cell top text → ⊥) → (request ≡ Cells → ⊥) → changed state (row_of state.policy conn request) ≡ outcome_of state conn request
+row-outcome state conn Whoami a b c = absurd (a refl)
+row-outcome state conn (Submit cell top text) a b c = absurd (b cell top text refl)
+row-outcome state conn Cells a b c = absurd (c refl)
+row-outcome state conn (Open user digest) a b c = refl
+row-outcome state conn Close a b c = refl
+row-outcome state conn (Activate role) a b c = refl
+row-outcome state conn (AddUser user digest) a b c = refl
+row-outcome state conn (AddRole role) a b c = refl
+row-outcome state conn (Assign user role) a b c = refl
+row-outcome state conn (Grant grant) a b c = refl
+row-outcome state conn (Revoke grant) a b c = refl
+row-outcome state conn (DropRole role) a b c = refl
+row-outcome state conn (DelUser user) a b c = refl
+row-outcome state conn (DelRole role) a b c = refl
+row-outcome state conn (Deassign user role) a b c = refl
+row-outcome state conn (Inherit senior junior) a b c = refl
+row-outcome state conn (Uninherit senior junior) a b c = refl
+row-outcome state conn (Ssd set) a b c = refl
+row-outcome state conn (Dsd set) a b c = refl
+row-outcome state conn (UnSsd name) a b c = refl
+row-outcome state conn (UnDsd name) a b c = refl

@@ -9,10 +9,23 @@ use Rattle.mpw_rbac.proofs.LawLemmas as law
 use Rattle.mpw_core.specs.declared.event.Event.{Event}
 use Rattle.mpw_core.specs.declared.event.Event.TheVariants as event
 use Rattle.mpw_core.specs.declared.event.Request.{Request}
-use Rattle.mpw_core.specs.declared.event.Request.TheVariants.{Open, Close, Activate, DropRole, Whoami, AddUser, DelUser, AddRole, DelRole, Assign, Deassign, Grant, Revoke, Inherit, Uninherit, Ssd, Dsd, UnSsd, UnDsd}
+use Rattle.mpw_core.specs.declared.event.Request.TheVariants.{Open, Close, Activate, DropRole, Whoami, AddUser, DelUser, AddRole, DelRole, Assign, Deassign, Grant, Revoke, Inherit, Uninherit, Ssd, Dsd, UnSsd, UnDsd, Submit, Cells}
 use Rattle.mpw_core.specs.declared.event.Call.{Call}
 use Rattle.mpw_core.specs.History.{state_after}
-use Rattle.mpw_core.specs.Step.{State, new_state, changed, asked, identity_lines, outcome_of, step, after}
+use Rattle.mpw_hier.specs.declared.submission.Submission.{Submission}
+use Rattle.mpw_core.specs.declared.reply.Line.{Line}
+use Rattle.mpw_core.specs.declared.reply.Reply.{Reply}
+use Rattle.mpw_core.specs.Layouts as layouts
+use Rattle.mpw_core.specs.Step.{State, new_state, changed, asked, shelved, listed, identity_lines, outcome_of, step, after}
+
+-- the requests over the shelf leave the policy
+policy-shelved : (s : State) (row : Result Submission Reply) → (shelved s row).state.policy ≡ s.policy
+policy-shelved s (Ok q) = refl
+policy-shelved s (Err r) = refl
+
+policy-listed : (s : State) (row : Result (List Line) Reply) → (listed s row).state.policy ≡ s.policy
+policy-listed s (Ok q) = refl
+policy-listed s (Err r) = refl
 
 -- every active role is authorized
 keeps-changed : (s : State) (row : Result Policy Refusal) → ((q : Policy) → row ≡ Ok q → active_authorized q ≡ true) → active_authorized s.policy ≡ true → active_authorized (changed s row).state.policy ≡ true
@@ -43,6 +56,8 @@ keeps-request s conn (Ssd set) sound = keeps-changed s (rows.ssd s.policy conn s
 keeps-request s conn (Dsd set) sound = keeps-changed s (rows.dsd s.policy conn set) (λ q is. law.keeps-dsd conn set s.policy q is sound) sound
 keeps-request s conn (UnSsd name) sound = keeps-changed s (rows.unssd s.policy conn name) (λ q is. law.keeps-unssd conn name s.policy q is sound) sound
 keeps-request s conn (UnDsd name) sound = keeps-changed s (rows.undsd s.policy conn name) (λ q is. law.keeps-undsd conn name s.policy q is sound) sound
+keeps-request s conn (Submit cell top text) sound = rw (policy-shelved s (layouts.submitted s.policy s.shelf conn cell top text)) sound
+keeps-request s conn Cells sound = rw (policy-listed s (layouts.cells s.policy s.shelf conn)) sound
 
 keeps-step : (s : State) (event : Event) → active_authorized s.policy ≡ true → active_authorized (after s event).policy ≡ true
 unfolding step
@@ -86,6 +101,8 @@ sound-request s conn (Ssd set) sound = sound-changed s (rows.ssd s.policy conn s
 sound-request s conn (Dsd set) sound = sound-changed s (rows.dsd s.policy conn set) (λ q is. law.sound-dsd conn set s.policy q is sound) sound
 sound-request s conn (UnSsd name) sound = sound-changed s (rows.unssd s.policy conn name) (λ q is. law.sound-unssd conn name s.policy q is sound) sound
 sound-request s conn (UnDsd name) sound = sound-changed s (rows.undsd s.policy conn name) (λ q is. law.sound-undsd conn name s.policy q is sound) sound
+sound-request s conn (Submit cell top text) sound = rw (policy-shelved s (layouts.submitted s.policy s.shelf conn cell top text)) sound
+sound-request s conn Cells sound = rw (policy-listed s (layouts.cells s.policy s.shelf conn)) sound
 
 sound-step : (s : State) (event : Event) → Sound s.policy → Sound (after s event).policy
 unfolding step

@@ -11,10 +11,15 @@ use Rattle.mpw_rbac.specs.Rows as rows
 use Rattle.mpw_rbac.proofs.DenialLemmas as law
 use Rattle.mpw_core.specs.declared.event.Event.TheVariants as event
 use Rattle.mpw_core.specs.declared.event.Request.{Request}
-use Rattle.mpw_core.specs.declared.event.Request.TheVariants.{Open, Close, Activate, DropRole, Whoami, AddUser, DelUser, AddRole, DelRole, Assign, Deassign, Grant, Revoke, Inherit, Uninherit, Ssd, Dsd, UnSsd, UnDsd}
+use Rattle.mpw_core.specs.declared.event.Request.TheVariants.{Open, Close, Activate, DropRole, Whoami, AddUser, DelUser, AddRole, DelRole, Assign, Deassign, Grant, Revoke, Inherit, Uninherit, Ssd, Dsd, UnSsd, UnDsd, Submit, Cells}
 use Rattle.mpw_core.specs.declared.reply.Denial.TheVariants as denial
 use Rattle.mpw_core.specs.declared.reply.Reply.TheVariants as reply
-use Rattle.mpw_core.specs.Step.{State, told, changed, asked, identity_lines, outcome_of, step, reply_of}
+use Rattle.mpw_hier.specs.declared.submission.Submission.{Submission}
+use Rattle.mpw_core.specs.declared.reply.Line.{Line}
+use Rattle.mpw_core.specs.declared.reply.Reply.{Reply}
+use Rattle.mpw_core.specs.Layouts as layouts
+use Rattle.mpw_core.specs.Step.{State, told, changed, asked, shelved, listed, identity_lines, outcome_of, step, reply_of}
+use Rattle.mpw_core.proofs.LayoutDenials.{denies-submitted, denies-cells}
 
 permission-told : (r : Refusal) (operation : Operation) (object : Object) → told r ≡ reply.Denied (denial.Permission operation object) → r ≡ refusal.NotPermitted operation object
 permission-told refusal.Opened operation object e = cc
@@ -52,6 +57,14 @@ permission-asked : (s : State) (row : Result Identity Refusal) (operation : Oper
 permission-asked s (Ok q) operation object e = cc
 permission-asked s (Err r) operation object e = ap (λ x. Err x) (permission-told r operation object e)
 
+permission-shelved : (s : State) (row : Result Submission Reply) (operation : Operation) (object : Object) → (shelved s row).reply ≡ reply.Denied (denial.Permission operation object) → row ≡ Err (reply.Denied (denial.Permission operation object))
+permission-shelved s (Ok q) operation object e = cc
+permission-shelved s (Err r) operation object e = ap (λ x. Err x) e
+
+permission-listed : (s : State) (row : Result (List Line) Reply) (operation : Operation) (object : Object) → (listed s row).reply ≡ reply.Denied (denial.Permission operation object) → row ≡ Err (reply.Denied (denial.Permission operation object))
+permission-listed s (Ok q) operation object e = cc
+permission-listed s (Err r) operation object e = ap (λ x. Err x) e
+
 activation-changed : (s : State) (row : Result Policy Refusal) (other : List ℕ) → (changed s row).reply ≡ reply.Denied (denial.Activation other) → row ≡ Err (refusal.NotAuthorized other)
 activation-changed s (Ok q) other e = cc
 activation-changed s (Err r) other e = ap (λ x. Err x) (activation-told r other e)
@@ -75,6 +88,8 @@ lacks-request s conn (Ssd set) operation object e = law.denies-ssd conn set s.po
 lacks-request s conn (Dsd set) operation object e = law.denies-dsd conn set s.policy operation object (permission-changed s (rows.dsd s.policy conn set) operation object e)
 lacks-request s conn (UnSsd name) operation object e = law.denies-unssd conn name s.policy operation object (permission-changed s (rows.unssd s.policy conn name) operation object e)
 lacks-request s conn (UnDsd name) operation object e = law.denies-undsd conn name s.policy operation object (permission-changed s (rows.undsd s.policy conn name) operation object e)
+lacks-request s conn (Submit cell top text) operation object e = denies-submitted s.policy s.shelf conn cell top text operation object (permission-shelved s (layouts.submitted s.policy s.shelf conn cell top text) operation object e)
+lacks-request s conn Cells operation object e = absurd (denies-cells s.policy s.shelf conn operation object (permission-listed s (layouts.cells s.policy s.shelf conn) operation object e))
 lacks-request s conn Whoami operation object e = absurd (law.denies-whoami s.policy conn operation object (permission-asked s (rows.whoami s.policy conn) operation object e))
 
 pub lacks-permission : (s : State) (conn : ℕ) (request : Request) (operation : Operation) (object : Object) → reply_of s (event.Ask conn request) ≡ reply.Denied (denial.Permission operation object) → permits s.policy conn operation object ≡ false

@@ -3,3 +3,5 @@ pub mod AuthorizationLemmas
 pub mod HistoryLemmas
 pub mod RefusalLemmas
 pub mod DenialLemmas
+mod LayoutDenials
+mod LayoutLemmas

@@ -1,36 +1,75 @@
 -- What a prepared answer has to be.
-use Rattle.std.specs.Prelude.{◌≡◌, ℕ, Bool, true, false, Option, None, Some, Result, Ok}
+use Rattle.std.specs.Prelude.{◌≡◌, ℕ, Bool, true, false, List, [], ◌∷◌, ◌++◌, Result, Ok, Err}
 use Rattle.mpw_rbac.specs.declared.refusal.Refusal.{Refusal}
 use Rattle.mpw_rbac.specs.Rows as rows
 use Rattle.mpw_core.specs.declared.event.Request.{Request}
-use Rattle.mpw_core.specs.declared.event.Request.TheVariants.{Open, Close, Activate, DropRole, Whoami, AddUser, DelUser, AddRole, DelRole, Assign, Deassign, Grant, Revoke, Inherit, Uninherit, Ssd, Dsd, UnSsd, UnDsd}
+use Rattle.mpw_core.specs.declared.event.Request.TheVariants.{Open, Close, Activate, DropRole, Whoami, AddUser, DelUser, AddRole, DelRole, Assign, Deassign, Grant, Revoke, Inherit, Uninherit, Ssd, Dsd, UnSsd, UnDsd, Submit, Cells}
 use Rattle.mpw_rbac.specs.declared.refusal.PolicyFault.{PolicyFault}
 use Rattle.mpw_rbac.specs.declared.refusal.PolicyFault.TheVariants.{Refused, Memory}
 use Rattle.mpw_rbac.specs.Policy.{Policy}
+use Rattle.mpw_hier.specs.declared.fault.HierFault.{HierFault}
+use Rattle.mpw_hier.specs.declared.fault.HierFault.TheVariants as hier
+use Rattle.mpw_hier.specs.declared.submission.Submission.{Submission}
+use Rattle.mpw_core.specs.declared.answer.Change.{Change}
+use Rattle.mpw_core.specs.declared.answer.Change.TheVariants.{Nothing, NextPolicy, NextShelf}
+use Rattle.mpw_core.specs.declared.answer.Fault.{Fault}
+use Rattle.mpw_core.specs.declared.answer.Fault.TheVariants as fault
+use Rattle.mpw_core.specs.declared.reply.Code.TheVariants as code
 use Rattle.mpw_core.specs.declared.reply.Reply.{Reply}
+use Rattle.mpw_core.specs.declared.reply.Reply.TheVariants as reply
 use Rattle.mpw_core.specs.Step.{State, Outcome, told}
 
 -- the refusal is told, and nothing changes; want of memory gives no answer
-abbrev pub IsRefusal : PolicyFault → Reply → Option Policy → Type 0
-IsRefusal (Refused refusal) reply next = (reply ≡ told refusal) × (next ≡ None)
-IsRefusal Memory reply next = ⊥
+abbrev pub IsRefusal : PolicyFault → Reply → Change → Type 0
+IsRefusal (Refused refusal) reply change = (reply ≡ told refusal) × (change ≡ Nothing)
+IsRefusal Memory reply change = ⊥
 
--- the policy after an answer
-abbrev pub policy_after : Policy → Option Policy → Policy
-policy_after policy None = policy
-policy_after policy (Some next) = next
+-- the state after an answer
+abbrev pub state_with : State → Change → State
+state_with state Nothing = state
+state_with state (NextPolicy policy) = record state { policy = policy }
+state_with state (NextShelf shelf) = record state { shelf = shelf }
 
--- the answer gives the outcome: its reply, and its policy
-pub record Gives (policy : Policy) (outcome : Outcome) (reply : Reply) (next : Option Policy) : Type 0 where
+-- the answer gives the outcome: its reply, and its state
+pub record Gives (state : State) (outcome : Outcome) (reply : Reply) (change : Change) : Type 0 where
   pub told : reply ≡ outcome.reply
-  pub left : record { policy = policy_after policy next } ≡ outcome.state
+  pub left : state_with state change ≡ outcome.state
 
--- the row of a request that changes the policy; one that only asks leaves it
+-- what a function of a row answers: its value, seen by view, or the reply that ends the row, or want of memory
+abbrev pub Told : {B : Type 0} → Fault → Result B Reply → Type 0
+Told fault.Memory row = Unit {0}
+Told (fault.Told reply) row = row ≡ Err reply
+
+abbrev pub Answers : {A B : Type 0} → (A → B) → Result A Fault → Result B Reply → Type 0
+Answers view (Ok x) row = row ≡ Ok (view x)
+Answers view (Err e) row = Told e row
+
+-- a fault of the shelf as the reply that tells it
+abbrev pub fault_of : HierFault → Fault
+fault_of hier.Memory = fault.Memory
+fault_of hier.NoTop = fault.Told (reply.Refused code.NoTop)
+fault_of hier.Cycle = fault.Told (reply.Refused code.Cycle)
+fault_of hier.NoCell = fault.Told (reply.Refused code.NoCell)
+fault_of hier.Extent = fault.Told (reply.Refused code.Extent)
+fault_of hier.Shapes = fault.Told (reply.Refused code.Shapes)
+fault_of hier.Deep = fault.Told (reply.Refused code.Deep)
+fault_of hier.Full = fault.Told (reply.Refused code.Full)
+
+-- a shelf with one more submission, which is that of the row, and its version
+pub record IsShelved (shelf : List Submission) (row : Result Submission Reply) (next : List Submission) (version : ℕ) : Type 0 where
+  pub submission : Submission
+  pub is : row ≡ Ok submission
+  pub grown : next ≡ shelf ++ submission ∷ []
+  pub version_is : version ≡ submission.version
+
+-- the row of a request of the policy; any other leaves the policy
 abbrev pub row_of : Policy → ℕ → Request → Result Policy Refusal
 row_of policy conn (Open user digest) = rows.open_session policy conn user digest
 row_of policy conn Close = rows.close_session policy conn
 row_of policy conn (Activate role) = rows.activate policy conn role
 row_of policy conn Whoami = Ok policy
+row_of policy conn (Submit cell top text) = Ok policy
+row_of policy conn Cells = Ok policy
 row_of policy conn (AddUser user digest) = rows.adduser policy conn user digest
 row_of policy conn (AddRole role) = rows.addrole policy conn role
 row_of policy conn (Assign user role) = rows.assign policy conn user role
@@ -46,25 +85,3 @@ row_of policy conn (Ssd set) = rows.ssd policy conn set
 row_of policy conn (Dsd set) = rows.dsd policy conn set
 row_of policy conn (UnSsd name) = rows.unssd policy conn name
 row_of policy conn (UnDsd name) = rows.undsd policy conn name
-
--- whether a request only asks
-abbrev pub is_question : Request → Bool
-is_question Whoami = true
-is_question (Open user digest) = false
-is_question Close = false
-is_question (Activate role) = false
-is_question (AddUser user digest) = false
-is_question (AddRole role) = false
-is_question (Assign user role) = false
-is_question (Grant grant) = false
-is_question (Revoke grant) = false
-is_question (DropRole role) = false
-is_question (DelUser user) = false
-is_question (DelRole role) = false
-is_question (Deassign user role) = false
-is_question (Inherit senior junior) = false
-is_question (Uninherit senior junior) = false
-is_question (Ssd set) = false
-is_question (Dsd set) = false
-is_question (UnSsd name) = false
-is_question (UnDsd name) = false

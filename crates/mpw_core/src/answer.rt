@@ -1,23 +1,53 @@
-//! *Prepare*: the reply to an event and the policy that it leaves, made aside from the desk's own.
+//! *Prepare*: the reply to an event and what it changes, made aside from the desk's own.
 ghost use Rattle.std.specs.Prelude.{◌≡◌, IfOk, IfErr, OnOk, Ok, [], ◌∷◌, ◌++◌, map};
 ghost use Rattle.std.specs.Option.{unwrap_or};
-ghost use Rattle.std.specs.Prelude.{Result, length};
+ghost use Rattle.std.specs.Prelude.{List, Result, length};
 ghost use Rattle.mpw_rbac.specs.Policy.{Policy as PolicyState};
 ghost use Rattle.mpw_rbac.specs.Rows.{IsFaultOf, end_session};
 ghost use Rattle.mpw_rbac.specs.declared.refusal.Refusal.{Refusal as PolicyRefusal};
-ghost use Rattle.mpw_core.specs.Answer.{IsRefusal, Gives, policy_after, row_of};
-ghost use Rattle.mpw_core.specs.Step.{told, changed, step, outcome_of, identity_lines};
+ghost use Rattle.mpw_hier.specs.declared.submission.Submission.{Submission};
+ghost use Rattle.mpw_core.specs.Answer.{IsRefusal, Gives, Told, Answers, IsShelved, row_of};
+ghost use Rattle.mpw_core.specs.Step.{State, told, changed, shelved, listed, step, outcome_of, identity_lines};
+ghost use Rattle.mpw_core.specs.declared.answer.Fault.TheVariants.{Memory};
+ghost use Rattle.mpw_core.specs.declared.reply.Reply.{Reply as ReplyTold};
+ghost use Rattle.mpw_core.specs.declared.reply.Line.{Line as LineTold};
 
+use crate::layouts::{Shelved, cells, submit};
 use crate::{Code, Denial, Event, Line, Lines, Reply, Request};
 use mpw_geom::Names;
+use mpw_hier::Shelf;
 use mpw_rbac::{Identity, Policy, PolicyFault, Refusal};
 use std::alloc::{AllocError, Global};
 
-/// A reply, and the policy that it leaves where that is another.
+/// What an event changes.
+#[derive(Drop)]
+pub(crate) enum Change {
+    Nothing,
+    NextPolicy(Policy),
+    NextShelf(Shelf),
+}
+
+/// A reply, and what changes with it.
 #[derive(Drop)]
 pub(crate) struct Answer {
     pub(crate) reply: Reply,
-    pub(crate) next: Option<Policy>,
+    pub(crate) change: Change,
+}
+
+/// Why a row gives no value.
+#[derive(Drop)]
+pub(crate) enum Fault {
+    /// The reply that says so.
+    Told(Reply),
+    Memory,
+}
+
+impl From<AllocError> for Fault {
+    ghost from_gives = { λ _ fault. fault ≡ Memory };
+
+    fn from(_error: AllocError) -> Fault {
+        Fault::Memory
+    }
 }
 
 /// What a refusal is told as.
@@ -44,12 +74,12 @@ fn told(refusal: Refusal) -> Reply
 
 /// A fault of the policy as an answer that changes nothing, or as want of memory.
 fn refused(fault: PolicyFault) -> Result<Answer, AllocError>
-    ensures { IfOk result (λ answer. IsRefusal fault answer.reply answer.next) }
+    ensures { IfOk result (λ answer. IsRefusal fault answer.reply answer.change) }
 {
     match fault {
         PolicyFault::Refused(refusal) => Ok(Answer {
             reply: told(refusal),
-            next: None,
+            change: Change::Nothing,
         }),
         PolicyFault::Memory => Err(AllocError),
     }
@@ -57,12 +87,12 @@ fn refused(fault: PolicyFault) -> Result<Answer, AllocError>
 
 /// The answer of a changed copy of the policy.
 fn changed(alloc: Global, next: Policy, made: Result<(), PolicyFault>) -> Result<Answer, AllocError>
-    ensures { (policy : PolicyState) (row : Result PolicyState PolicyRefusal) → OnOk made (row ≡ Ok next) → IfErr made (IsFaultOf row) → IfOk result (λ answer. Gives policy (changed (record { policy = policy }) row) answer.reply answer.next) }
+    ensures { (state : State) (row : Result PolicyState PolicyRefusal) → OnOk made (row ≡ Ok next) → IfErr made (IsFaultOf row) → IfOk result (λ answer. Gives state (changed state row) answer.reply answer.change) }
 {
     match made {
         Ok(()) => Ok(Answer {
             reply: Reply::Ok(Lines::new(alloc)),
-            next: Some(next),
+            change: Change::NextPolicy(next),
         }),
         Err(fault) => refused(fault),
     }
@@ -78,7 +108,7 @@ fn make(policy: &mut Policy, conn: u32, request: &Request) -> Result<(), PolicyF
         Request::Close => policy.close(conn),
         Request::Activate { role } => policy.activate(conn, role),
         Request::DropRole { role } => policy.drop_role(conn, role),
-        Request::Whoami => Ok(()),
+        Request::Whoami | Request::Submit { .. } | Request::Cells => Ok(()),
         Request::AddUser { user, digest } => policy.adduser(conn, user.copy()?, *digest),
         Request::DelUser { user } => policy.deluser(conn, user),
         Request::AddRole { role } => policy.addrole(conn, role.copy()?),
@@ -113,57 +143,128 @@ fn identity_lines(alloc: Global, identity: Identity) -> Result<Lines, AllocError
 
 /// Answers `whoami`.
 fn whoami(alloc: Global, policy: &Policy, conn: u32) -> Result<Answer, AllocError>
-    ensures { IfOk result (λ answer. Gives policy.now (outcome_of (record { policy = policy.now }) conn Request.Whoami) answer.reply answer.next) }
+    ensures { (state : State) → state.policy ≡ policy.now → IfOk result (λ answer. Gives state (outcome_of state conn Request.Whoami) answer.reply answer.change) }
 {
     match policy.whoami(conn) {
         Ok(identity) => Ok(Answer {
             reply: Reply::Ok(identity_lines(alloc, identity)?),
-            next: None,
+            change: Change::Nothing,
         }),
         Err(fault) => refused(fault),
     }
 }
 
-/// Answers a request.
-fn ask(alloc: Global, policy: &Policy, conn: u32, request: &Request) -> Result<Answer, AllocError>
-    ensures { IfOk result (λ answer. Gives policy.now (outcome_of (record { policy = policy.now }) conn request.now) answer.reply answer.next) }
+/// Answers a request of the policy on a copy of it.
+fn revised(
+    alloc: Global,
+    policy: &Policy,
+    conn: u32,
+    request: &Request,
+) -> Result<Answer, AllocError>
+    ensures { (state : State) → state.policy ≡ policy.now → IfOk result (λ answer. Gives state (changed state (row_of policy.now conn request.now)) answer.reply answer.change) }
 {
-    if let Request::Whoami = request {
-        return whoami(alloc, policy, conn);
-    }
     let mut next = policy.copy()?;
     let made = make(&mut next, conn, request);
     changed(alloc, next, made)
 }
 
+/// Answers a request.
+fn ask(
+    alloc: Global,
+    policy: &Policy,
+    shelf: &Shelf,
+    conn: u32,
+    request: &Request,
+) -> Result<Answer, AllocError>
+    ensures { IfOk result (λ answer. Gives (record { policy = policy.now; shelf = shelf.now }) (outcome_of (record { policy = policy.now; shelf = shelf.now }) conn request.now) answer.reply answer.change) }
+{
+    match request {
+        Request::Whoami => whoami(alloc, policy, conn),
+        Request::Submit { cell, top, text } => {
+            submission(alloc, submit(alloc, policy, shelf, conn, cell, top, text))
+        }
+        Request::Cells => listing(cells(alloc, policy, shelf, conn)),
+        _ => revised(alloc, policy, conn, request),
+    }
+}
+
+/// The answer to what submits.
+fn submission(alloc: Global, made: Result<Shelved, Fault>) -> Result<Answer, AllocError>
+    ensures { (state : State) (row : Result Submission ReplyTold) → IfOk made (λ next. IsShelved state.shelf row next.shelf next.version) → IfErr made (λ fault. Told fault row) → IfOk result (λ answer. Gives state (shelved state row) answer.reply answer.change) }
+{
+    match made {
+        Ok(next) => {
+            let mut lines = Lines::new(alloc);
+            lines.push(Line::Version(next.version))?;
+            Ok(Answer {
+                reply: Reply::Ok(lines),
+                change: Change::NextShelf(next.shelf),
+            })
+        }
+        Err(fault) => told_fault(fault),
+    }
+}
+
+/// The answer to what lists.
+fn listing(made: Result<Lines, Fault>) -> Result<Answer, AllocError>
+    ensures { (state : State) (row : Result (List LineTold) ReplyTold) → Answers (λ lines. lines) made row → IfOk result (λ answer. Gives state (listed state row) answer.reply answer.change) }
+{
+    match made {
+        Ok(lines) => Ok(Answer {
+            reply: Reply::Ok(lines),
+            change: Change::Nothing,
+        }),
+        Err(fault) => told_fault(fault),
+    }
+}
+
+/// A reply that ends a row changes nothing; want of memory gives no answer.
+fn told_fault(fault: Fault) -> Result<Answer, AllocError>
+    ensures { IfOk result (λ answer. (fault ≡ Fault.Told answer.reply) × (answer.change ≡ Change.Nothing)) }
+{
+    match fault {
+        Fault::Told(reply) => Ok(Answer {
+            reply,
+            change: Change::Nothing,
+        }),
+        Fault::Memory => Err(AllocError),
+    }
+}
+
 /// Answers a connection's end. Where the connection has no session there is nothing to change, and nothing is copied.
 fn gone(policy: &Policy, conn: u32) -> Result<Answer, AllocError>
-    ensures { IfOk result (λ answer. Gives policy.now (record { reply = Reply.Gone; state = record { policy = end_session policy.now conn } }) answer.reply answer.next) }
+    ensures { (state : State) → state.policy ≡ policy.now → IfOk result (λ answer. Gives state (record { reply = Reply.Gone; state = record state { policy = end_session policy.now conn } }) answer.reply answer.change) }
 {
     if !policy.has_session(conn) {
         return Ok(Answer {
             reply: Reply::Gone,
-            next: None,
+            change: Change::Nothing,
         });
     }
     let mut next = policy.copy()?;
     next.end(conn);
     Ok(Answer {
         reply: Reply::Gone,
-        next: Some(next),
+        change: Change::NextPolicy(next),
     })
 }
 
-/// The answer to an event. It takes the policy's size at most, and its own.
+/// The answer to an event. It takes the policy's size at most, and its own; a submission takes its library's size, and
+/// the number of submissions on the shelf.
 ///
 /// # Errors
 /// Where there is no room for it.
 #[tactic(auto, unfolding(crate::specs::Step::step))]
-pub(crate) fn prepare(alloc: Global, policy: &Policy, event: &Event) -> Result<Answer, AllocError>
-    ensures { IfOk result (λ answer. Gives policy.now (step (record { policy = policy.now }) event.now) answer.reply answer.next) }
+pub(crate) fn prepare(
+    alloc: Global,
+    policy: &Policy,
+    shelf: &Shelf,
+    event: &Event,
+) -> Result<Answer, AllocError>
+    ensures { IfOk result (λ answer. Gives (record { policy = policy.now; shelf = shelf.now }) (step (record { policy = policy.now; shelf = shelf.now }) event.now) answer.reply answer.change) }
 {
     match event {
-        Event::Ask { conn, request } => ask(alloc, policy, *conn, request),
+        Event::Ask { conn, request } => ask(alloc, policy, shelf, *conn, request),
         Event::Gone { conn } => gone(policy, *conn),
     }
 }

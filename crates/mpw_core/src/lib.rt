@@ -10,6 +10,7 @@ mod answer;
 mod desk;
 mod event;
 mod laws;
+mod layouts;
 mod reply;
 
 pub use desk::{Core, MAX_EVENTS, replay};

@@ -1,6 +1,7 @@
 //! The shelf of submissions.
 
-ghost use Rattle.std.specs.Prelude.{◌≡◌, ◌+◌, ◌<◌, ◌≤◌, ◌^◌, ◌++◌, true, ◌∷◌, ℕ, [], length, Err, OnOk, OnErr, IfOk, IfErr, IfSome, IfNone, Some, None, option_copied, slice_get};
+ghost use Rattle.mpw_geom.specs.Names.{by_name};
+ghost use Rattle.std.specs.Prelude.{◌≡◌, ◌+◌, ◌<◌, ◌≤◌, ◌^◌, ◌++◌, true, ◌∷◌, ℕ, [], length, map, Err, OnOk, OnErr, IfOk, IfErr, IfSome, IfNone, Some, None, option_copied, slice_get};
 ghost use Rattle.mpw_hier.specs.Shelf.{present, versions, bound_to, IsOfBinding};
 ghost use Rattle.mpw_hier.specs.Limits.{IsBound, KeepsLimits, IsRefused, IsSubmitted, IsShelf, numbered, has_room_for};
 ghost use Rattle.mpw_library.specs.Library.{IsLibrary};
@@ -15,7 +16,7 @@ use crate::hierarchy::nodes_of;
 use crate::node::{Node, Nodes};
 use crate::size::Size;
 use crate::submission::Submission;
-use mpw_geom::{Box2, Name};
+use mpw_geom::{Box2, Name, Names};
 use std::alloc::{AllocError, Global};
 use std::collections::BTreeMap;
 use std::marker::Model;
@@ -103,6 +104,19 @@ impl Shelf {
         ensures { option_copied result ≡ slice_get self.now number }
     {
         self.submissions.get(number as usize)
+    }
+
+    /// The cells that have a submission, in the order of the bytes of their names. A sort of the
+    /// submissions' cells.
+    ///
+    /// # Errors
+    /// Want of memory.
+    pub fn cells(&self, alloc: Global) -> Result<Names, AllocError>
+        ensures { IfOk result (λ cells. cells ≡ by_name (map (λ s. s.cell) self.now)) }
+    {
+        let mut cells = cells_of(alloc, &self.submissions)?;
+        cells.sort()?;
+        Ok(cells)
     }
 
     /// The nodes of the submission of a number, each behind those that it places, the top last. What
@@ -247,4 +261,15 @@ impl Shelf {
         let nodes = Nodes::from_vec(alloc, nodes)?;
         Ok(self.append(submission, nodes)?)
     }
+}
+
+/// The cell of each submission.
+fn cells_of(alloc: Global, submissions: &[Submission]) -> Result<Names, AllocError>
+    ensures { IfOk result (λ cells. cells ≡ map (λ s. s.cell) submissions.now) }
+{
+    let mut cells = Names::new(alloc);
+    for submission in submissions {
+        cells.push(submission.cell.copy()?)?;
+    }
+    Ok(cells)
 }

@@ -1,5 +1,5 @@
 //! The policy's tables, the questions that they answer, and sessions.
-ghost use Rattle.std.specs.Prelude.{◌≡◌, ℕ, [], ◌∷◌, ◌++◌, true, IfOk, IfErr, OnOk, OnErr, Ok, Err, Some, codes, nat_lt, length};
+ghost use Rattle.std.specs.Prelude.{◌≡◌, ℕ, [], ◌∷◌, ◌++◌, true, IfOk, IfErr, IfSome, OnOk, OnErr, Ok, Err, Some, codes, is_some, nat_lt, length};
 ghost use Rattle.mpw_rbac.specs.Grant.{grant_eq};
 ghost use Rattle.std.specs.List.{list_any};
 ghost use Rattle.std.specs.Option.{option_copied};
@@ -7,7 +7,7 @@ ghost use Rattle.mpw_geom.specs.Names.{name_eq, contains_name, by_name};
 ghost use Rattle.mpw_roles.specs.Hierarchy.{is_role};
 ghost use Rattle.mpw_roles.specs.Order.{roles_below};
 ghost use Rattle.mpw_rbac.specs.Policy.{max_users, max_grants, permits, is_user, is_granted_to, session_of, assigned_roles, authorized, new_policy};
-ghost use Rattle.mpw_rbac.specs.Rows.{IsFaultOf, administered};
+ghost use Rattle.mpw_rbac.specs.Rows.{IsFaultOf, administered, user_of};
 ghost use Rattle.mpw_rbac.specs.Rows as rows;
 ghost use Rattle.mpw_rbac.specs.Table.{value_at};
 
@@ -148,6 +148,17 @@ impl Policy {
             return Err(PolicyFault::Refused(Refusal::NotPermitted(Operation::Admin, Object::Desk)));
         }
         Ok(())
+    }
+
+    /// The user of the connection's session, if it has one.
+    pub fn user_of(&self, conn: u32) -> Option<&Name>
+        ensures some { IfSome result (λ user. user.now ≡ user_of self.now conn) }
+        ensures session { is_some result ≡ is_some (session_of self.now conn) }
+    {
+        match self.session(conn) {
+            Some(session) => Some(&session.user),
+            None => None,
+        }
     }
 
     /// The new desk's policy: one user, the officer, with the role `officer`, which may administer the desk.

@@ -1,17 +1,16 @@
--- The row of the request is made on a copy.
-use Rattle.std.proofs.Common.{◌≡◌, sym, subst, IfOk, IfErr, OnOk, Ok}
-use Rattle.mpw_rbac.specs.Policy.{Policy}
-use Rattle.mpw_rbac.specs.Rows.{IsFaultOf}
-use Rattle.mpw_core.specs.Answer.{Gives, row_of}
-use Rattle.mpw_core.specs.Step.{Outcome}
+-- Each request is answered by the function of its row.
+use Rattle.std.proofs.Common.{refl, subst, IfOk}
+use Rattle.mpw_core.specs.Answer.{Gives}
+use Rattle.mpw_core.specs.Step.{State, Outcome}
 use Rattle.mpw_core.proofs.AnswerLemmas.{row-outcome}
 use Rattle.mpw_core.proofs.answer.ask.Goals as goal
 
-pub returns : goal.returns
-returns c =
-    let p = c.args.policy.now in
-    let r = c.args.request.now in
-    let conn = c.args.conn in
-    let ok : OnOk c.make-made.result (row_of p conn r ≡ Ok c.make-made.new.policy) = subst (λ (q : Policy). OnOk c.make-made.result (row_of q conn r ≡ Ok c.make-made.new.policy)) c.in_ok-next.ensures c.make-made.ensures.ok in
-    let err : IfErr c.make-made.result (IsFaultOf (row_of p conn r)) = subst (λ (q : Policy). IfErr c.make-made.result (IsFaultOf (row_of q conn r))) c.in_ok-next.ensures c.make-made.ensures.refused in
-    subst (λ (o : Outcome). IfOk c.changed.result (λ answer. Gives p o answer.reply answer.next)) (row-outcome p conn r c.in_default.not-Whoami) (c.changed.ensures p (row_of p conn r) ok err)
+pub returns-in-Whoami : goal.returns-in-Whoami
+returns-in-Whoami c =
+    let state : State = record { policy = c.args.policy.now; shelf = c.args.shelf.now } in
+    rw c.in-Whoami.is (c.whoami.ensures state refl)
+
+pub returns-in_default : goal.returns-in_default
+returns-in_default c =
+    let state : State = record { policy = c.args.policy.now; shelf = c.args.shelf.now } in
+    subst (λ (o : Outcome). IfOk c.revised.result (λ answer. Gives state o answer.reply answer.change)) (row-outcome state c.args.conn c.args.request.now c.in_default.not-Whoami c.in_default.not-Submit c.in_default.not-Cells) (c.revised.ensures state refl)

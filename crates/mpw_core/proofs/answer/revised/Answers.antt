@@ -1,0 +1,15 @@
+-- The row of the request is made on a copy.
+use Rattle.std.proofs.Common.{◌≡◌, sym, subst, IfOk, IfErr, OnOk, Ok}
+use Rattle.mpw_rbac.specs.Policy.{Policy}
+use Rattle.mpw_rbac.specs.Rows.{IsFaultOf}
+use Rattle.mpw_core.specs.Answer.{row_of}
+use Rattle.mpw_core.proofs.answer.revised.Goals as goal
+
+pub returns : goal.returns
+returns c = λ state same.
+    let p = c.args.policy.now in
+    let r = c.args.request.now in
+    let conn = c.args.conn in
+    let ok : OnOk c.make-made.result (row_of p conn r ≡ Ok c.make-made.new.policy) = subst (λ (q : Policy). OnOk c.make-made.result (row_of q conn r ≡ Ok c.make-made.new.policy)) c.in_ok-next.ensures c.make-made.ensures.ok in
+    let err : IfErr c.make-made.result (IsFaultOf (row_of p conn r)) = subst (λ (q : Policy). IfErr c.make-made.result (IsFaultOf (row_of q conn r))) c.in_ok-next.ensures c.make-made.ensures.refused in
+    c.changed.ensures state (row_of p conn r) ok err

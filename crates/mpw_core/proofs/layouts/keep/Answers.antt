@@ -1,0 +1,25 @@
+use Rattle.std.proofs.Common.{◌≡◌, ◌++◌, ◌∷◌, [], length, Some, sym, ap, subst, ◌∙◌}
+use Rattle.std.specs.Prelude.{slice_get}
+use Rattle.mpw_hier.specs.Limits.{numbered}
+use Rattle.mpw_core.specs.Answer.{Told, IsShelved}
+use Rattle.mpw_core.specs.Layouts.{kept}
+use Rattle.mpw_core.proofs.LayoutLemmas.{kept-ok, kept-err, last_get}
+use Rattle.mpw_core.proofs.layouts.keep.Goals as goal
+
+pub returns-in-Ok-clause-ok : goal.returns-in-Ok-clause-ok
+returns-in-Ok-clause-ok c =
+    let ss = c.in_ok-shelf.shelf in
+    let s = numbered ss c.args.submission in
+    let grown = c.in-Ok.ensures.ok in
+    let at : slice_get c.push.new.self c.in-Ok.number ≡ Some s = rw (grown, c.in-Ok.ensures.number) (last_get ss s) in
+    rw (← c.in_ok-shelf.ensures) (record {
+      submission = s;
+      is = kept-ok ss c.args.submission c.in-Ok.ensures.kept;
+      grown = grown;
+      version_is = c.version_of-version.ensures s at;
+    })
+
+pub returns-in-Err-clause-err : goal.returns-in-Err-clause-err
+returns-in-Err-clause-err c =
+    let told = kept-err c.in_ok-shelf.shelf c.args.submission c.in-Err.fault c.in-Err.ensures.faults in
+    rw (c.fault_of.ensures, ← c.in_ok-shelf.ensures) told

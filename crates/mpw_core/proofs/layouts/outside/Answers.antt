@@ -1,0 +1,12 @@
+use Rattle.std.proofs.Common.{sym, ap, subst}
+use Rattle.mpw_core.specs.Answer.{Told}
+use Rattle.mpw_core.specs.Layouts.{outside}
+use Rattle.mpw_core.proofs.LayoutLemmas.{outside-ok, outside-err}
+use Rattle.mpw_core.proofs.layouts.outside.Goals as goal
+
+pub returns-in-Ok-clause-outside : goal.returns-in-Ok-clause-outside
+returns-in-Ok-clause-outside c = outside-ok c.args.library.now c.args.top.now c.in-Ok.names c.in-Ok.ensures.ok
+
+pub returns-in-Err-clause-outside : goal.returns-in-Err-clause-outside
+returns-in-Err-clause-outside c =
+    subst (λ f. Told f (outside c.args.library.now c.args.top.now)) (sym c.fault_of.ensures) (outside-err c.args.library.now c.args.top.now c.externals.result c.in-Err.fault c.in-Err.is c.externals.ensures.no_top c.in-Err.ensures.faults)

@@ -1,0 +1,129 @@
+-- The requests over the shelf: each with its tests in order, and what it gives where all pass.
+use Rattle.std.specs.Prelude.{◌≡◌, ℕ, Bool, true, false, not, List, [], ◌∷◌, ◌++◌, map, is_some, slice_get, Option, None, Some, Result, Ok, Err, if◌then◌else◌}
+use Rattle.std.specs.List.{flat_map}
+use Rattle.mpw_geom.specs.Names.{by_name}
+use Rattle.mpw_records.specs.declared.fault.ReadFault.{ReadFault}
+use Rattle.mpw_roles.specs.Decided.{decided}
+use Rattle.mpw_roles.specs.Hierarchy.{Name}
+use Rattle.mpw_rbac.specs.declared.permission.Operation.{Operation}
+use Rattle.mpw_rbac.specs.declared.permission.Operation.TheVariants.{Submit, Use, Read}
+use Rattle.mpw_rbac.specs.declared.permission.Object.TheVariants as object
+use Rattle.mpw_rbac.specs.Policy.{Policy, session_of, permits}
+use Rattle.mpw_rbac.specs.Rows.{user_of}
+use Rattle.mpw_library.specs.declared.structures.Structure.{Structure}
+use Rattle.mpw_library.specs.Grammar.{library_of}
+use Rattle.mpw_library.specs.Places.{place_of}
+use Rattle.mpw_hier.specs.declared.bindings.Binding.{Binding}
+use Rattle.mpw_hier.specs.declared.submission.Submission.{Submission}
+use Rattle.mpw_hier.specs.Shelf.{present, bound_to}
+use Rattle.mpw_hier.specs.Limits.{is_too_large, is_too_deep, has_room_for, numbered}
+use Rattle.mpw_hier.specs.Reach.{is_cyclic, external_names, is_far}
+use Rattle.mpw_core.specs.declared.reply.Line.{Line}
+use Rattle.mpw_core.specs.declared.reply.Line.TheVariants as line
+use Rattle.mpw_core.specs.declared.reply.Denial.TheVariants as denial
+use Rattle.mpw_core.specs.declared.reply.Code.{Code}
+use Rattle.mpw_core.specs.declared.reply.Code.TheVariants as code
+use Rattle.mpw_core.specs.declared.reply.Reply.{Reply}
+use Rattle.mpw_core.specs.declared.reply.Reply.TheVariants as reply
+
+-- One part of a row behind another: a reply in place of a value ends the row.
+infixl 10 ◌>>=◌
+abbrev pub ◌>>=◌ : {A B : Type 0} → Result A Reply → (A → Result B Reply) → Result B Reply
+(Ok x) >>= f = f x
+(Err told) >>= f = Err told
+
+-- ---- tests
+
+abbrev pub denied : Operation → Name → Reply
+denied operation cell = reply.Denied (denial.Permission operation (object.Cell cell))
+
+-- the session of the connection
+abbrev pub in_session : Policy → ℕ → Bool × Reply
+in_session policy conn = (is_some (session_of policy conn), reply.Denied denial.Session)
+
+-- the connection's session may do the operation on the cell
+abbrev pub permitted : Policy → ℕ → Operation → Name → Result (Unit {0}) Reply
+permitted policy conn operation cell =
+    decided (in_session policy conn ∷ (permits policy conn operation (object.Cell cell), denied operation cell) ∷ []) tt
+
+-- the library that a text is of
+abbrev pub read : Result (List Structure) ReadFault → Result (List Structure) Reply
+read (Ok library) = Ok library
+read (Err fault) = Err (reply.Refused (code.Read fault))
+
+-- the names outside the library that the top shows
+abbrev pub outside : List Structure → Name → Result (List Name) Reply
+outside library top =
+    decided
+    ((is_some (place_of library top), reply.Refused code.NoTop) ∷ (not (is_cyclic library top), reply.Refused code.Cycle) ∷ [])
+    (external_names library top)
+
+-- each cell may be used
+abbrev pub usable : Policy → ℕ → List Name → Result (Unit {0}) Reply
+usable policy conn [] = Ok tt
+usable policy conn (cell ∷ cells) =
+    if permits policy conn Use (object.Cell cell) then usable policy conn cells else Err (denied Use cell)
+
+-- each name has a present submission
+abbrev pub bound : Option (List Binding) → Result (List Binding) Reply
+bound None = Err (reply.Refused code.NoCell)
+bound (Some bindings) = Ok bindings
+
+-- the limits, and then the submission with its version
+unfoldable pub kept : List Submission → Submission → Result Submission Reply
+kept shelf s =
+    decided
+    ((not (is_far shelf s), reply.Refused code.Extent)
+    ∷ (not (is_too_large shelf s), reply.Refused code.Shapes)
+    ∷ (not (is_too_deep shelf s), reply.Refused code.Deep)
+    ∷ (has_room_for shelf s.cell, reply.Refused code.Full)
+    ∷ [])
+    (numbered shelf s)
+
+-- ---- submit
+
+-- a submission that has no version yet
+abbrev pub unnumbered : Name → Name → List Structure → Name → List Binding → Submission
+unnumbered cell submitter library top bindings =
+    record { cell = cell; version = 0; submitter = submitter; library = library; top = top; bound = bindings }
+
+-- the submission of a library that was read
+unfoldable pub submitted_library : Policy → List Submission → ℕ → Name → Name → List Structure → Result Submission Reply
+submitted_library policy shelf conn cell top library = do
+  names ← outside library top
+  used ← usable policy conn names
+  bindings ← bound (bound_to shelf names)
+  kept shelf (unnumbered cell (user_of policy conn) library top bindings)
+
+-- the submission that a text makes
+unfoldable pub submitted : Policy → List Submission → ℕ → Name → Name → List ℕ → Result Submission Reply
+submitted policy shelf conn cell top text = do
+  entered ← permitted policy conn Submit cell
+  library ← read (library_of text)
+  submitted_library policy shelf conn cell top library
+
+-- ---- cells
+
+-- the cells that have a submission, by name
+abbrev pub cells_of : List Submission → List Name
+cells_of shelf = by_name (map (λ s. s.cell) shelf)
+
+abbrev pub numbered_at : List Submission → Option ℕ → Option Submission
+numbered_at shelf None = None
+numbered_at shelf (Some number) = slice_get shelf number
+
+abbrev pub cell_line : Option Submission → List Line
+cell_line None = []
+cell_line (Some s) = line.Cell s.cell s.version s.submitter ∷ []
+
+-- the present submission of a cell
+abbrev pub present_submission : List Submission → Name → Option Submission
+present_submission shelf cell = numbered_at shelf (present shelf cell)
+
+-- the line of a cell that the session may read
+abbrev pub readable_line : Policy → List Submission → ℕ → Name → List Line
+readable_line policy shelf conn cell =
+    if permits policy conn Read (object.Cell cell) then cell_line (present_submission shelf cell) else []
+
+abbrev pub cells : Policy → List Submission → ℕ → Result (List Line) Reply
+cells policy shelf conn = decided (in_session policy conn ∷ []) (flat_map (readable_line policy shelf conn) (cells_of shelf))

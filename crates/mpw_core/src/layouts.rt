@@ -1,0 +1,270 @@
+//! The requests over the shelf: `submit` and `cells`.
+//!
+//! Each part of a row is a function that gives its value, or the reply that ends the row, or tells want of memory.
+ghost use Rattle.std.specs.Prelude.{◌≡◌, ◌++◌, slice_get, IfOk, IfErr, OnOk, Some};
+ghost use Rattle.std.specs.List.{flat_map};
+ghost use Rattle.mpw_library.specs.Grammar.{library_of};
+ghost use Rattle.mpw_library.specs.Library.{IsLibrary};
+ghost use Rattle.mpw_hier.specs.Outside.{AreExternals};
+ghost use Rattle.mpw_hier.specs.Shelf.{bound_to};
+ghost use Rattle.mpw_hier.specs.declared.submission.Submission.{Submission as SubmissionTold};
+ghost use Rattle.mpw_hier.specs.Limits.{IsBound};
+ghost use Rattle.mpw_core.specs.Answer.{Answers, Told, IsShelved, fault_of};
+ghost use Rattle.mpw_core.specs.Layouts as row;
+ghost use Rattle.mpw_rbac.specs.Rows.{user_of};
+
+use crate::answer::Fault;
+use crate::{Code, Denial, Line, Lines, Reply};
+use mpw_geom::{Name, Names};
+use mpw_hier::{Bindings, HierFault, Shelf, Submission, externals};
+use mpw_library::{Library, LibraryText};
+use mpw_rbac::{Object, Operation, Policy};
+use std::alloc::{AllocError, Global};
+
+/// A fault of the shelf as the reply that tells it.
+fn fault_of(fault: HierFault) -> Fault
+    ensures { result ≡ fault_of fault }
+{
+    match fault {
+        HierFault::Memory => Fault::Memory,
+        HierFault::NoTop => Fault::Told(Reply::Refused(Code::NoTop)),
+        HierFault::Cycle => Fault::Told(Reply::Refused(Code::Cycle)),
+        HierFault::NoCell => Fault::Told(Reply::Refused(Code::NoCell)),
+        HierFault::Extent => Fault::Told(Reply::Refused(Code::Extent)),
+        HierFault::Shapes => Fault::Told(Reply::Refused(Code::Shapes)),
+        HierFault::Deep => Fault::Told(Reply::Refused(Code::Deep)),
+        HierFault::Full => Fault::Told(Reply::Refused(Code::Full)),
+    }
+}
+
+/// The user of the connection's session, which may do the operation on the cell.
+fn enter(policy: &Policy, conn: u32, operation: Operation, cell: &Name) -> Result<Name, Fault>
+    ensures permitted { Answers (λ user. tt) result (row.permitted policy.now conn operation cell.now) }
+    ensures user { IfOk result (λ user. user ≡ user_of policy.now conn) }
+{
+    let Some(user) = policy.user_of(conn) else {
+        return Err(Fault::Told(Reply::Denied(Denial::Session)));
+    };
+    let object = Object::Cell(cell.copy()?);
+    if !policy.permits(conn, operation, &object) {
+        return Err(Fault::Told(Reply::Denied(Denial::Permission(operation, object))));
+    }
+    Ok(user.copy()?)
+}
+
+/// The library that a text is of.
+fn read(text: &LibraryText) -> Result<Library, Fault>
+    ensures read { Answers (λ library. library) result (row.read (library_of text.now)) }
+    ensures shape { IfOk result IsLibrary }
+{
+    match text.library() {
+        Ok(library) => Ok(library.copy()?),
+        Err(fault) => Err(Fault::Told(Reply::Refused(Code::Read(fault)))),
+    }
+}
+
+/// The names outside the library that the top shows.
+fn outside(alloc: Global, library: &Library, top: &Name) -> Result<Names, Fault>
+    ensures outside { Answers (λ names. names) result (row.outside library.now top.now) }
+    ensures externals { IfOk result (AreExternals library.now top.now) }
+{
+    match externals(alloc, library, top) {
+        Ok(names) => Ok(names),
+        Err(fault) => Err(fault_of(fault)),
+    }
+}
+
+/// Whether each cell may be used, the first that may not told.
+fn usable(policy: &Policy, conn: u32, cells: &[Name]) -> Result<(), Fault>
+    ensures { Answers (λ x. x) result (row.usable policy.now conn cells.now) }
+{
+    for cell in cells {
+        let object = Object::Cell(cell.copy()?);
+        if !policy.permits(conn, Operation::Use, &object) {
+            return Err(Fault::Told(Reply::Denied(Denial::Permission(Operation::Use, object))));
+        }
+    }
+    Ok(())
+}
+
+/// The present submission of each name.
+fn bind(alloc: Global, shelf: &Shelf, names: &[Name]) -> Result<Bindings, Fault>
+    ensures bound { Answers (λ bindings. bindings) result (row.bound (bound_to shelf.now names.now)) }
+    ensures is { IfOk result (λ bindings. bound_to shelf.now names.now ≡ Some bindings) }
+{
+    match shelf.bind(alloc, names) {
+        Ok(bindings) => Ok(bindings),
+        Err(fault) => Err(fault_of(fault)),
+    }
+}
+
+/// A shelf with the version of the submission that came last.
+#[derive(Drop)]
+pub(crate) struct Shelved {
+    pub(crate) shelf: Shelf,
+    pub(crate) version: u32,
+}
+
+/// The shelf with one more submission, if that keeps the limits.
+#[tactic(auto, unfolding(crate::specs::Layouts::kept))]
+fn keep(alloc: Global, shelf: &Shelf, submission: Submission) -> Result<Shelved, Fault>
+    requires library { IsLibrary submission.library }
+    requires bound { IsBound shelf.now submission }
+    ensures ok { IfOk result (λ next. IsShelved shelf.now (row.kept shelf.now submission) next.shelf next.version) }
+    ensures err { IfErr result (λ fault. Told fault (row.kept shelf.now submission)) }
+{
+    let mut shelf = shelf.copy(alloc)?;
+    match shelf.push(alloc, submission) {
+        Ok(number) => {
+            let version = version_of(&shelf, number);
+            Ok(Shelved { shelf, version })
+        }
+        Err(fault) => Err(fault_of(fault)),
+    }
+}
+
+/// The version of a submission; 0 where there is none of that number.
+fn version_of(shelf: &Shelf, number: u32) -> u32
+    ensures { (s : SubmissionTold) → slice_get shelf.now number ≡ Some s → result ≡ s.version }
+{
+    match shelf.get(number) {
+        Some(submission) => submission.version,
+        None => 0,
+    }
+}
+
+/// What a submitter offers: a library, with the structure of it that the cell shows.
+#[derive(Drop)]
+struct Offer {
+    cell: Name,
+    submitter: Name,
+    library: Library,
+    top: Name,
+}
+
+/// The shelf with what is offered, bound to the present submissions of the cells that it uses.
+#[tactic(auto, unfolding(crate::specs::Layouts::submitted_library))]
+fn submit_library(
+    alloc: Global,
+    policy: &Policy,
+    shelf: &Shelf,
+    conn: u32,
+    offer: Offer,
+) -> Result<Shelved, Fault>
+    requires library { IsLibrary offer.library }
+    requires submitter { offer.submitter ≡ user_of policy.now conn }
+    ensures ok { IfOk result (λ next. IsShelved shelf.now (row.submitted_library policy.now shelf.now conn offer.cell offer.top offer.library) next.shelf next.version) }
+    ensures err { IfErr result (λ fault. Told fault (row.submitted_library policy.now shelf.now conn offer.cell offer.top offer.library)) }
+{
+    let names = outside(alloc, &offer.library, &offer.top)?;
+    usable(policy, conn, names.as_slice())?;
+    let bound = bind(alloc, shelf, names.as_slice())?;
+    let Offer {
+        cell,
+        submitter,
+        library,
+        top,
+    } = offer;
+    let submission = Submission {
+        cell,
+        version: 0,
+        submitter,
+        library,
+        top,
+        bound,
+    };
+    keep(alloc, shelf, submission)
+}
+
+/// The shelf with the submission that a text makes. It takes the library's size, with a search for each name, and
+/// the number of submissions, which are shared.
+#[tactic(auto, unfolding(crate::specs::Layouts::submitted))]
+pub(crate) fn submit(
+    alloc: Global,
+    policy: &Policy,
+    shelf: &Shelf,
+    conn: u32,
+    cell: &Name,
+    top: &Name,
+    text: &LibraryText,
+) -> Result<Shelved, Fault>
+    ensures ok { IfOk result (λ next. IsShelved shelf.now (row.submitted policy.now shelf.now conn cell.now top.now text.now) next.shelf next.version) }
+    ensures err { IfErr result (λ fault. Told fault (row.submitted policy.now shelf.now conn cell.now top.now text.now)) }
+{
+    let submitter = enter(policy, conn, Operation::Submit, cell)?;
+    let library = read(text)?;
+    let cell = cell.copy()?;
+    let top = top.copy()?;
+    submit_library(
+        alloc,
+        policy,
+        shelf,
+        conn,
+        Offer {
+            cell,
+            submitter,
+            library,
+            top,
+        },
+    )
+}
+
+/// Adds the line of a cell, if the session may read it and it has a submission.
+fn push_cell(
+    lines: &mut Lines,
+    policy: &Policy,
+    shelf: &Shelf,
+    conn: u32,
+    cell: &Name,
+) -> Result<(), AllocError>
+    ensures { OnOk result (lines.new ≡ lines.old ++ row.readable_line policy.now shelf.now conn cell.now) }
+{
+    let object = Object::Cell(cell.copy()?);
+    if !policy.permits(conn, Operation::Read, &object) {
+        return Ok(());
+    }
+    let Some(number) = shelf.present(cell) else {
+        return Ok(());
+    };
+    if let Some(submission) = shelf.get(number) {
+        lines.push(Line::Cell {
+            cell: submission.cell.copy()?,
+            version: submission.version,
+            submitter: submission.submitter.copy()?,
+        })?;
+    }
+    Ok(())
+}
+
+/// The lines of the cells that the session may read.
+fn cell_lines(
+    alloc: Global,
+    policy: &Policy,
+    shelf: &Shelf,
+    conn: u32,
+    cells: &[Name],
+) -> Result<Lines, AllocError>
+    ensures { IfOk result (λ lines. lines ≡ flat_map (row.readable_line policy.now shelf.now conn) cells.now) }
+{
+    let mut lines = Lines::new(alloc);
+    for cell in cells {
+        push_cell(&mut lines, policy, shelf, conn, cell)?;
+    }
+    Ok(lines)
+}
+
+/// The lines of `cells`. For each cell it takes a search of the hierarchy and a pass over the grants.
+pub(crate) fn cells(
+    alloc: Global,
+    policy: &Policy,
+    shelf: &Shelf,
+    conn: u32,
+) -> Result<Lines, Fault>
+    ensures { Answers (λ lines. lines) result (row.cells policy.now shelf.now conn) }
+{
+    if !policy.has_session(conn) {
+        return Err(Fault::Told(Reply::Denied(Denial::Session)));
+    }
+    let cells = shelf.cells(alloc)?;
+    Ok(cell_lines(alloc, policy, shelf, conn, cells.as_slice())?)
+}

@@ -1,0 +1,5 @@
+use Rattle.std.proofs.Common.{◌≡◌, map, take}
+use Rattle.mpw_hier.proofs.shelf.cells_of.Given as goal
+
+abbrev pub invariant-loop-submission : goal.invariant-loop-submission
+invariant-loop-submission l = l.cells ≡ map (λ s. s.cell) (take l.submission-index l.fn.submissions)
