@@ -3,3 +3,4 @@ pub mod WordLemmas
 pub mod WritingLemmas
 pub mod ReadingLemmas
 pub mod ServingLemmas
+mod ReplyLemmas

@@ -3,15 +3,20 @@ use Rattle.std.specs.Prelude.{ℕ, List, [], ◌∷◌, ◌++◌, length, codes}
 use Rattle.std.specs.List.{concat, flat_map}
 use Rattle.std.specs.Fmt.{decimal}
 use Rattle.mpw_rbac.specs.declared.permission.Operation.{Operation}
-use Rattle.mpw_rbac.specs.declared.permission.Operation.TheVariants.{Submit, Use, Read, Place, Admin, Deck, Run, Waive, Sign, Verdict, Audit}
+use Rattle.mpw_rbac.specs.declared.permission.Operation.TheVariants.{Submit, Use, Place, Admin, Deck, Run, Waive, Sign, Verdict, Audit}
 use Rattle.mpw_rbac.specs.declared.permission.Object.{Object}
 use Rattle.mpw_rbac.specs.declared.permission.Object.TheVariants.{Cell, Desk}
 use Rattle.mpw_core.specs.declared.reply.Line.{Line}
-use Rattle.mpw_core.specs.declared.reply.Line.TheVariants.{User, Active, Authorized}
+use Rattle.mpw_core.specs.declared.reply.Line.TheVariants.{User, Active, Authorized, Version}
+use Rattle.mpw_core.specs.declared.reply.Line.TheVariants as line
+use Rattle.mpw_rbac.specs.declared.permission.Operation.TheVariants as operation
+use Rattle.mpw_records.specs.declared.fault.ReadFault.{ReadFault}
+use Rattle.mpw_records.specs.declared.fault.Code.{Code as TextFault}
+use Rattle.mpw_records.specs.declared.fault.Code.TheVariants as fault
 use Rattle.mpw_core.specs.declared.reply.Denial.{Denial}
 use Rattle.mpw_core.specs.declared.reply.Denial.TheVariants.{Session, Login, Permission, Activation, Ssd, Dsd}
 use Rattle.mpw_core.specs.declared.reply.Code.{Code}
-use Rattle.mpw_core.specs.declared.reply.Code.TheVariants.{Full, Opened, Unknown, Known, Used, Loop, Ended}
+use Rattle.mpw_core.specs.declared.reply.Code.TheVariants.{Read, NoTop, Cycle, NoCell, Extent, Shapes, Deep, Full, Opened, Unknown, Known, Used, Loop, Ended}
 use Rattle.mpw_core.specs.declared.reply.Reply.{Reply}
 use Rattle.mpw_wire.specs.declared.reply.Refusal.{Refusal}
 use Rattle.mpw_wire.specs.declared.reply.Refusal.TheVariants as refusal
@@ -21,26 +26,31 @@ use Rattle.mpw_core.specs.declared.reply.Reply.TheVariants as reply
 abbrev pub line_feed : List ℕ
 line_feed = 0x0A ∷ []
 
--- what a line says of its name
-unfoldable pub line_word : Line → List ℕ
-line_word (User name) = codes "user "
-line_word (Active name) = codes "active "
-line_word (Authorized name) = codes "authorized "
+-- a line of a word and a name
+abbrev pub named_text : List ℕ → List ℕ → List ℕ
+named_text word name = concat (word ∷ name ∷ line_feed ∷ [])
 
-abbrev pub line_name : Line → List ℕ
-line_name (User name) = name
-line_name (Active name) = name
-line_name (Authorized name) = name
+-- the line of a version
+abbrev pub version_text : ℕ → List ℕ
+version_text version = concat (codes "version " ∷ decimal version ∷ line_feed ∷ [])
+
+-- the line of a cell: its name, the version of its present submission, and who submitted it
+abbrev pub cell_text : List ℕ → ℕ → List ℕ → List ℕ
+cell_text cell version submitter = concat (cell ∷ codes " " ∷ decimal version ∷ codes " " ∷ submitter ∷ line_feed ∷ [])
 
 -- a line of an accepted request's reply, with its line feed
 unfoldable pub line_text : Line → List ℕ
-line_text line = concat (line_word line ∷ line_name line ∷ line_feed ∷ [])
+line_text (User name) = named_text (codes "user ") name
+line_text (Active name) = named_text (codes "active ") name
+line_text (Authorized name) = named_text (codes "authorized ") name
+line_text (Version version) = version_text version
+line_text (line.Cell cell version submitter) = cell_text cell version submitter
 
 -- the word of an operation
 unfoldable pub operation_text : Operation → List ℕ
 operation_text Submit = codes "submit"
 operation_text Use = codes "use"
-operation_text Read = codes "read"
+operation_text operation.Read = codes "read"
 operation_text Place = codes "place"
 operation_text Admin = codes "admin"
 operation_text Deck = codes "deck"
@@ -73,8 +83,35 @@ denial_text (Activation role) = concat (denial_word (Activation role) ∷ role �
 denial_text (Ssd set) = concat (denial_word (Ssd set) ∷ set ∷ line_feed ∷ [])
 denial_text (Dsd set) = concat (denial_word (Dsd set) ∷ set ∷ line_feed ∷ [])
 
+-- the number and the word of a text's fault
+unfoldable pub fault_text : TextFault → List ℕ
+fault_text fault.Short = codes "1 short"
+fault_text fault.BadLength = codes "2 badlength"
+fault_text fault.BadType = codes "3 badtype"
+fault_text fault.Unexpected = codes "4 unexpected"
+fault_text fault.BadSize = codes "5 badsize"
+fault_text fault.BadName = codes "6 badname"
+fault_text fault.Unit = codes "7 unit"
+fault_text fault.Magnification = codes "8 mag"
+fault_text fault.Angle = codes "9 angle"
+fault_text fault.NotManhattan = codes "10 notmanhattan"
+fault_text fault.RoundPath = codes "11 roundpath"
+fault_text fault.OddWidth = codes "12 oddwidth"
+fault_text fault.PointPath = codes "13 pointpath"
+fault_text fault.Columns = codes "14 columns"
+fault_text fault.Pitch = codes "15 pitch"
+fault_text fault.DoubleName = codes "16 doublename"
+fault_text fault.Absolute = codes "18 absolute"
+
 -- the number and the word of a refusal
 unfoldable pub code_text : Code → List ℕ
+code_text (Read f) = fault_text f.code
+code_text NoTop = codes "20 notop"
+code_text Cycle = codes "21 cycle"
+code_text NoCell = codes "23 nocell"
+code_text Extent = codes "24 extent"
+code_text Shapes = codes "25 shapes"
+code_text Deep = codes "26 deep"
 code_text Full = codes "27 full"
 code_text Opened = codes "30 opened"
 code_text Unknown = codes "32 unknown"
@@ -83,14 +120,39 @@ code_text Used = codes "35 used"
 code_text Loop = codes "36 loop"
 code_text Ended = codes "46 ended"
 
+-- the line of a text's fault, with the offset of its record
+abbrev pub fault_line : ReadFault → List ℕ
+fault_line f = concat (codes "REFUSED " ∷ fault_text f.code ∷ codes " " ∷ decimal f.offset ∷ line_feed ∷ [])
+
+abbrev pub refusal_line : List ℕ → List ℕ
+refusal_line words = concat (codes "REFUSED " ∷ words ∷ line_feed ∷ [])
+
+-- the line of a refusal
+abbrev pub refused_text : Code → List ℕ
+refused_text (Read f) = fault_line f
+refused_text NoTop = refusal_line (code_text NoTop)
+refused_text Cycle = refusal_line (code_text Cycle)
+refused_text NoCell = refusal_line (code_text NoCell)
+refused_text Extent = refusal_line (code_text Extent)
+refused_text Shapes = refusal_line (code_text Shapes)
+refused_text Deep = refusal_line (code_text Deep)
+refused_text Full = refusal_line (code_text Full)
+refused_text Opened = refusal_line (code_text Opened)
+refused_text Unknown = refusal_line (code_text Unknown)
+refused_text Known = refusal_line (code_text Known)
+refused_text Used = refusal_line (code_text Used)
+refused_text Loop = refusal_line (code_text Loop)
+refused_text Ended = refusal_line (code_text Ended)
+
 -- the number and the word of what is refused before the desk is asked
 unfoldable pub refusal_words : Refusal → List ℕ
 refusal_words refusal.Memory = codes "17 memory"
 refusal_words refusal.Form = codes "40 form"
 refusal_words refusal.Long = codes "41 long"
+refusal_words refusal.Cut = codes "42 cut"
 
 unfoldable pub refusal_text : Refusal → List ℕ
-refusal_text refusal = concat (codes "REFUSED " ∷ refusal_words refusal ∷ line_feed ∷ [])
+refusal_text refusal = refusal_line (refusal_words refusal)
 
 -- the number of lines
 abbrev pub count_text : List Line → List ℕ
@@ -104,6 +166,6 @@ accepted_text lines = count_text lines ++ flat_map line_text lines
 unfoldable pub reply_text : Reply → List ℕ
 reply_text (reply.Ok lines) = accepted_text lines
 reply_text (reply.Denied denial) = denial_text denial
-reply_text (reply.Refused code) = concat (codes "REFUSED " ∷ code_text code ∷ line_feed ∷ [])
+reply_text (reply.Refused code) = refused_text code
 reply_text reply.Gone = []
 reply_text reply.Ended = []

@@ -1,34 +1,53 @@
 //! The text of replies.
 ghost use Rattle.std.specs.Prelude.{◌≡◌};
 ghost use Rattle.mpw_wire.specs.Writing.{Writes};
-ghost use Rattle.mpw_wire.specs.Reply.{line_word, line_name, line_text, denial_word, operation_text, object_text, denial_text, code_text, count_text, accepted_text, refusal_words, refusal_text, reply_text};
+ghost use Rattle.mpw_wire.specs.Reply.{named_text, version_text, cell_text, line_text, denial_word, operation_text, object_text, denial_text, fault_text, fault_line, code_text, refused_text, count_text, accepted_text, refusal_words, refusal_text, reply_text};
 ghost use Rattle.std.specs.List.{flat_map};
 
 use crate::write::{flush, write_parts};
 use crate::{Sink, WireFault};
 use itoa::Buffer;
 use mpw_core::{Code, Denial, Line, Reply};
+use mpw_geom::Name;
 use mpw_rbac::{Object, Operation};
+use mpw_records::{Code as TextFault, ReadFault};
 
-/// What a line says of its name.
-#[tactic(auto, unfolding(crate::specs::Reply::line_word))]
-fn line_word(line: &Line) -> &str
-    ensures { result.now ≡ line_word line.now }
+/// Writes a line of a version.
+fn write_version<W: Sink>(writer: &mut W, version: u32) -> Result<(), WireFault>
+    ensures { Writes W.contents W.failures writer.old writer.new result (version_text version) }
 {
-    match line {
-        Line::User(_) => "user ",
-        Line::Active(_) => "active ",
-        Line::Authorized(_) => "authorized ",
-    }
+    let mut digits = Buffer::new();
+    write_parts(writer, &["version ", digits.format(version), "\n"])
 }
 
-/// The name of a line.
-fn line_name(line: &Line) -> &str
-    ensures { result.now ≡ line_name line.now }
+/// Writes a line of a cell.
+fn write_cell<W: Sink>(
+    writer: &mut W,
+    cell: &Name,
+    version: u32,
+    submitter: &Name,
+) -> Result<(), WireFault>
+    ensures { Writes W.contents W.failures writer.old writer.new result (cell_text cell.now version submitter.now) }
 {
-    match line {
-        Line::User(name) | Line::Active(name) | Line::Authorized(name) => name.as_str(),
-    }
+    let mut digits = Buffer::new();
+    write_parts(
+        writer,
+        &[
+            cell.as_str(),
+            " ",
+            digits.format(version),
+            " ",
+            submitter.as_str(),
+            "\n",
+        ],
+    )
+}
+
+/// Writes a line of a word and a name.
+fn write_named<W: Sink>(writer: &mut W, word: &str, name: &Name) -> Result<(), WireFault>
+    ensures { Writes W.contents W.failures writer.old writer.new result (named_text word.now name.now) }
+{
+    write_parts(writer, &[word, name.as_str(), "\n"])
 }
 
 /// Writes a line of an accepted request's reply.
@@ -36,7 +55,17 @@ fn line_name(line: &Line) -> &str
 fn write_line<W: Sink>(writer: &mut W, line: &Line) -> Result<(), WireFault>
     ensures { Writes W.contents W.failures writer.old writer.new result (line_text line.now) }
 {
-    write_parts(writer, &[line_word(line), line_name(line), "\n"])
+    match line {
+        Line::User(name) => write_named(writer, "user ", name),
+        Line::Active(name) => write_named(writer, "active ", name),
+        Line::Authorized(name) => write_named(writer, "authorized ", name),
+        Line::Version(version) => write_version(writer, *version),
+        Line::Cell {
+            cell,
+            version,
+            submitter,
+        } => write_cell(writer, cell, *version, submitter),
+    }
 }
 
 /// Writes the lines of an accepted request's reply.
@@ -135,12 +164,45 @@ fn write_denial<W: Sink>(writer: &mut W, denial: &Denial) -> Result<(), WireFaul
     }
 }
 
+/// The number and the word of a text's fault.
+#[tactic(auto, unfolding(crate::specs::Reply::fault_text))]
+fn fault_words(code: TextFault) -> &'static str
+    ensures { result.now ≡ fault_text code }
+{
+    match code {
+        TextFault::Short => "1 short",
+        TextFault::BadLength => "2 badlength",
+        TextFault::BadType => "3 badtype",
+        TextFault::Unexpected => "4 unexpected",
+        TextFault::BadSize => "5 badsize",
+        TextFault::BadName => "6 badname",
+        TextFault::Unit => "7 unit",
+        TextFault::Magnification => "8 mag",
+        TextFault::Angle => "9 angle",
+        TextFault::NotManhattan => "10 notmanhattan",
+        TextFault::RoundPath => "11 roundpath",
+        TextFault::OddWidth => "12 oddwidth",
+        TextFault::PointPath => "13 pointpath",
+        TextFault::Columns => "14 columns",
+        TextFault::Pitch => "15 pitch",
+        TextFault::DoubleName => "16 doublename",
+        TextFault::Absolute => "18 absolute",
+    }
+}
+
 /// The number and the word of a refusal.
 #[tactic(auto, unfolding(crate::specs::Reply::code_text))]
 fn code_words(code: Code) -> &'static str
     ensures { result.now ≡ code_text code }
 {
     match code {
+        Code::Read(fault) => fault_words(fault.code),
+        Code::NoTop => "20 notop",
+        Code::Cycle => "21 cycle",
+        Code::NoCell => "23 nocell",
+        Code::Extent => "24 extent",
+        Code::Shapes => "25 shapes",
+        Code::Deep => "26 deep",
         Code::Full => "27 full",
         Code::Opened => "30 opened",
         Code::Unknown => "32 unknown",
@@ -151,6 +213,33 @@ fn code_words(code: Code) -> &'static str
     }
 }
 
+/// Writes the line of a text's fault, with the offset of its record.
+fn write_fault<W: Sink>(writer: &mut W, fault: ReadFault) -> Result<(), WireFault>
+    ensures { Writes W.contents W.failures writer.old writer.new result (fault_line fault) }
+{
+    let mut digits = Buffer::new();
+    write_parts(
+        writer,
+        &[
+            "REFUSED ",
+            fault_words(fault.code),
+            " ",
+            digits.format(fault.offset),
+            "\n",
+        ],
+    )
+}
+
+/// Writes the line of a refusal.
+fn write_code<W: Sink>(writer: &mut W, code: Code) -> Result<(), WireFault>
+    ensures { Writes W.contents W.failures writer.old writer.new result (refused_text code) }
+{
+    match code {
+        Code::Read(fault) => write_fault(writer, fault),
+        _ => write_parts(writer, &["REFUSED ", code_words(code), "\n"]),
+    }
+}
+
 /// What is refused before the desk is asked.
 #[derive(Clone, Copy)]
 pub(crate) enum Refusal {
@@ -158,8 +247,10 @@ pub(crate) enum Refusal {
     Memory,
     /// The line is no request's text.
     Form,
-    /// The line is too long.
+    /// The line is too long, or what is to follow it.
     Long,
+    /// The input ends before what is to follow the line.
+    Cut,
 }
 
 /// The number and the word of a refusal.
@@ -171,6 +262,7 @@ fn refusal_words(refusal: Refusal) -> &'static str
         Refusal::Memory => "17 memory",
         Refusal::Form => "40 form",
         Refusal::Long => "41 long",
+        Refusal::Cut => "42 cut",
     }
 }
 
@@ -191,7 +283,7 @@ fn write_text<W: Sink>(reply: &Reply, writer: &mut W) -> Result<(), WireFault>
     match reply {
         Reply::Ok(lines) => write_accepted(writer, lines.as_slice()),
         Reply::Denied(denial) => write_denial(writer, denial),
-        Reply::Refused(code) => write_parts(writer, &["REFUSED ", code_words(*code), "\n"]),
+        Reply::Refused(code) => write_code(writer, *code),
         Reply::Gone | Reply::Ended => Ok(()),
     }
 }

@@ -1,0 +1,11 @@
+use Rattle.std.proofs.Common.{rules, sym, subst}
+use Rattle.mpw_wire.specs.Reply.{refused_text}
+use Rattle.mpw_wire.specs.Writing.{fault_of, WritesKnown}
+use Rattle.mpw_wire.proofs.ReplyLemmas.{refused_alone}
+use Rattle.mpw_wire.proofs.reply.write_code.Goals as goal
+
+pub returns-in-Read : goal.returns-in-Read
+returns-in-Read g c = rw c.in-Read.is c.write_fault.ensures
+
+pub returns-in_default : goal.returns-in_default
+returns-in_default g c = subst (WritesKnown _ _ _ _ _) (sym (refused_alone c.args.code c.in_default.not-Read)) (search rules)
