@@ -2,5 +2,6 @@ pub mod Chains
 pub mod Meets
 pub mod NameLemmas
 pub mod NamesLemmas
+pub mod Squares
 pub mod Tests
 pub mod Turns
