@@ -1,4 +1,4 @@
-use Rattle.std.proofs.Common.{◌≡◌, ℕ, ℤ, pos, ◌-ℤ◌, ◌≤ℤ◌, ◌<ℤ◌, true, false, List, [], map, ◌⊎◌, inl, inr, subst, sym, ap, ◌∙◌, arith}
+use Rattle.std.proofs.Common.{◌≡◌, ℕ, ℤ, pos, ◌-ℤ◌, ◌≤ℤ◌, ◌<ℤ◌, true, false, List, [], map, ◌⊎◌, inl, inr, subst, sym, ap, arith}
 use Rattle.std.proofs.lemmas.Int.{ints}
 use Rattle.mpw_geom.specs.declared.plane.Box2.{Box2}
 use Rattle.mpw_region.specs.declared.runs.Line.{Line}
@@ -6,6 +6,7 @@ use Rattle.mpw_region.specs.declared.runs.Run.{Run}
 use Rattle.mpw_region.specs.Runs.{HoldsPlace, CoversPlace, IsFilled}
 use Rattle.mpw_region.specs.Squares.{covers}
 use Rattle.mpw_region.specs.Banded.{AreBands}
+use Rattle.mpw_region.proofs.Order.{same_line}
 use Rattle.mpw_region.proofs.Held.{Held-nil}
 use Rattle.std.proofs.lemmas.List.Elements.{All-nil}
 use Rattle.mpw_edges.specs.declared.pair.Edge.{Edge}
@@ -42,12 +43,6 @@ found_pair side limits froms tos E F h g line j s =
       (omega (arith, ints, first, s.2.2.2), omega (arith, ints, first, s.2.2.3), s.2.2.4.2, s.2.2.4.3),
     )
 
-same_line : (line : Line) (side : ℕ) (first second : ℤ) → line.side ≡ side → first ≡ line.first → second ≡ line.second → line ≡ record { side = side; first = first; second = second }
-same_line line side first second e f g =
-    ap (λ (n : ℕ). let l : Line = record { side = n; first = line.first; second = line.second } in l) e
-    ∙ ap (λ (x : ℤ). let l : Line = record { side = side; first = x; second = line.second } in l) (sym f)
-    ∙ ap (λ (x : ℤ). let l : Line = record { side = side; first = first; second = x } in l) (sym g)
-
 pub pair_found : (side : ℕ) (limits : Limits) (froms tos : List Edge) (E F : ℤ → ℤ → Type 0) → EdgesAre froms E → EdgesAre tos F → (line : Line) (j : ℤ) → IsFoundPair side limits E F line j → IsPairOf side limits froms tos line j
 pair_found side limits froms tos E F h g line j s =
     let from = h.back line.first j s.1 in
@@ -58,7 +53,7 @@ pair_found side limits froms tos E F h g line j s =
       (
         to.0,
         to.1,
-        (same_line line side from.0.x to.0.x s.0 from.2.0 to.2.0, near, omega (arith, ints, from.2.0, s.4.0), omega (arith, ints, from.2.0, s.4.1), (from.2.1, to.2.1, s.4.2, s.4.3)),
+        (same_line line (record { side = side; first = from.0.x; second = to.0.x }) s.0 (sym from.2.0) (sym to.2.0), near, omega (arith, ints, from.2.0, s.4.0), omega (arith, ints, from.2.0, s.4.1), (from.2.1, to.2.1, s.4.2, s.4.3)),
       ),
     )
 
@@ -85,7 +80,7 @@ finds_widths runs boxes distance core h added =
               subst (λ (x : ℤ). IsRise (covers boxes) x j) (sym first) (rise_of_box boxes s.0 j h s.1 s.2.4.0),
               subst (λ (x : ℤ). IsFall (covers boxes) x j) (sym second) (fall_of_box boxes s.0 j h s.1 s.2.4.0),
               omega (arith, ints, first, second, s.2.1.0),
-              λ i l r. covered boxes i j (s.0, s.1, ((omega (arith, ints, first, l), omega (arith, ints, second, r)), s.2.4.0)),
+              λ i l r. covered boxes s.0 i j s.1 (omega (arith, ints, first, l)) (omega (arith, ints, second, r)) s.2.4.0,
             ),
             omega (arith, ints, first, second, s.2.1.1),
           ),
@@ -98,7 +93,7 @@ finds_widths runs boxes distance core h added =
           b.0,
           b.1,
           (
-            same_line line 0 b.0.x0 b.0.x1 w.0.0.0 b.2 b.3,
+            same_line line (record { side = 0; first = b.0.x0; second = b.0.x1 }) w.0.0.0 (sym b.2) (sym b.3),
             (omega (arith, ints, b.2, b.3, w.0.0.3), omega (arith, ints, b.2, b.3, w.0.1)),
             omega (arith, ints, b.2, w.1.0),
             omega (arith, ints, b.2, w.1.1),

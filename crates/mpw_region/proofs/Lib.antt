@@ -2,5 +2,4 @@ pub mod Order
 pub mod Held
 pub mod Joins
 pub mod Strips
-pub mod Squares
 pub mod Banded

@@ -4,7 +4,8 @@ use Rattle.std.specs.Cmp.{IsTotalOrder}
 use Rattle.std.specs.Ordering.{nat_cmp, int_cmp, ordering_then, is_lt, ordering_reverse, MatchOrdering}
 use Rattle.std.specs.declared.cmp.Ordering.{Ordering}
 use Rattle.std.specs.declared.cmp.Ordering.TheVariants.{Less, Equal, Greater}
-use Rattle.std.proofs.lemmas.Cmp.{then_total, on_total, nat_cmp_total, int_cmp_total, int_ranked, ranked}
+use Rattle.std.proofs.lemmas.Cmp.{then_total, on_total, nat_cmp_total, int_cmp_total, int_ranked, ranked, tied_itself}
+use Rattle.std.proofs.lemmas.Map.Lookups.{exact_unsigned, exact_signed}
 use Rattle.mpw_region.specs.declared.runs.Line.{Line}
 use Rattle.mpw_region.specs.declared.runs.Run.{Run}
 use Rattle.mpw_region.specs.Runs.{line_cmp}
@@ -12,12 +13,6 @@ use Rattle.mpw_region.specs.Order.{BeginsFirst, AreInOrder}
 
 pub line_total : IsTotalOrder line_cmp
 line_total = then_total (on_total (λ l. l.side) nat_cmp_total) (then_total (on_total (λ l. l.first) int_cmp_total) (on_total (λ l. l.second) int_cmp_total))
-
-nat_tied : (x y : ℕ) → nat_cmp x y ≡ Equal → x ≡ y
-nat_tied x y e = let h : MatchOrdering Equal (x < y) (x ≡ y) (y < x) = ranked x y Equal (sym e) in h
-
-int_tied : (x y : ℤ) → int_cmp x y ≡ Equal → x ≡ y
-int_tied x y e = let h : MatchOrdering Equal (x <ℤ y) (x ≡ y) (y <ℤ x) = int_ranked x y Equal (sym e) in h
 
 then_first : (o p : Ordering) → ordering_then o p ≡ Equal → o ≡ Equal
 then_first Less p e = cc
@@ -29,7 +24,7 @@ then_second Less p e = cc
 then_second Equal p e = e
 then_second Greater p e = cc
 
-same_line : (a b : Line) → a.side ≡ b.side → a.first ≡ b.first → a.second ≡ b.second → a ≡ b
+pub same_line : (a b : Line) → a.side ≡ b.side → a.first ≡ b.first → a.second ≡ b.second → a ≡ b
 same_line a b e f g = ap (λ (p : ℕ × ℤ × ℤ). let l : Line = record { side = p.0; first = p.1; second = p.2 } in l) (let h : (let q : ℕ × ℤ × ℤ = (a.side, a.first, a.second) in q) ≡ (b.side, b.first, b.second) = cc in h)
 
 -- lines that compare alike are one line
@@ -37,9 +32,17 @@ pub line_tied : (a b : Line) → line_cmp a b ≡ Equal → a ≡ b
 line_tied a b e =
     let rest = then_second (nat_cmp a.side b.side) _ e in
     same_line a b
-    (nat_tied _ _ (then_first (nat_cmp a.side b.side) _ e))
-    (int_tied _ _ (then_first (int_cmp a.first b.first) _ rest))
-    (int_tied _ _ (then_second (int_cmp a.first b.first) _ rest))
+    (exact_unsigned _ _ (then_first (nat_cmp a.side b.side) _ e))
+    (exact_signed _ _ (then_first (int_cmp a.first b.first) _ rest))
+    (exact_signed _ _ (then_second (int_cmp a.first b.first) _ rest))
+
+-- no line comes before itself
+pub line_before : (a b : Line) → line_cmp a b ≡ Less → a ≡ b → ⊥
+line_before a b less e =
+    let tied : line_cmp a a ≡ Equal = tied_itself line_total a in
+    let also : line_cmp a a ≡ Less = ap (line_cmp a) e ∙ less in
+    let clash : Less ≡ Equal = sym also ∙ tied in
+    cc
 
 reversed : (o : Ordering) → ordering_reverse o ≡ Greater → o ≡ Less
 reversed Less e = refl

@@ -171,7 +171,3 @@ some_strip_more old new done b rows h same line at = (λ c. to ((h.places line a
     from : HasSomeStrip done rows line at ⊎ HasStrip b rows line at → CoversPlace old line at ⊎ HasStrip b rows line at
     from (inl c) = inl ((same line at).1 c)
     from (inr s) = inr s
-
--- what the code's index gives past the end
-abbrev pub no_box : Box2
-no_box = record { x0 = pos 0; y0 = pos 0; x1 = pos 0; y1 = pos 0 }

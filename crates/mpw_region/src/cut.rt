@@ -1,8 +1,20 @@
 //! Bands of rows: the unit squares of a list of boxes, without overlaps.
 //!
 //! The rows are cut at every border of a box. Each box gives one run of columns in each band that
-//! it crosses, and the runs of a band are joined. So the cost is the number of boxes times the
-//! number of borders that each crosses, with the sort of that many runs: quadratic at worst.
+//! it crosses, and the runs of a band are joined.
+//!
+//! The body is plain, and its cost grows with the square of the boxes. Of the `n` boxes of one
+//! window, whose borders cut it into `b < 2n` bands, let box after box cross `r` bands in all: a box
+//! crosses at most `b`, and all together at most `n * n`.
+//! - Time: each box is tried at each two neighbours of the `2n` borders, whether it crosses there or
+//!   not, so `n * (2n - 1)` tests; then a sort of `2n` borders and one of `r` runs, with `r log r`
+//!   comparisons.
+//! - Memory: 16 bytes a box for the borders, 40 bytes a run, and 32 bytes a box of the result, which
+//!   has at most `r`. Two lists of runs are held at a time; a sort takes one more as its buffer, and
+//!   a list that grows has room for up to twice its length.
+//!
+//! So 1,000 boxes that share no rows take two million tests and 1,000 runs, but 1,000 boxes that all
+//! share rows up to a million runs, of 40 MB a list: let a window have few boxes.
 
 ghost use Rattle.std.specs.Prelude.{
   ◌≡◌,
@@ -21,9 +33,9 @@ ghost use Rattle.std.specs.Prelude.{
   map,
   length,
 };
+ghost use Rattle.mpw_geom.specs.Plane.{Square, any_has_square};
 ghost use Rattle.mpw_region.specs.declared.runs.Line.{Line as LineValue};
 ghost use Rattle.mpw_region.specs.Runs.{CoversPlace, IsFilled};
-ghost use Rattle.mpw_region.specs.Squares.{covers};
 ghost use Rattle.mpw_region.specs.Banded.{AreBands};
 ghost use Rattle.mpw_region.specs.Strips.{AddsStrips, HasSomeStrip, strip_of, box_of};
 
@@ -34,8 +46,13 @@ use std::alloc::{AllocError, Global};
 
 /// The unit squares of the boxes, as bands of rows. A box has the squares from `(x0, y0)` to before
 /// `(x1, y1)`; one without area has none. Boxes may overlap, touch and come in any order.
+///
+/// Of `n` boxes that cross `r` bands in all, at most `n * n`, the cost is `n * (2n - 1)` tests and a
+/// sort of `r` runs, in memory for `r` runs of 40 bytes a few times over. The only error is that
+/// memory ran out.
 pub fn bands(alloc: Global, boxes: &[Box2]) -> Result<Bands, AllocError>
-    ensures squares { IfOk result (λ b. (i j : ℤ) → covers b i j ≡ covers boxes.now i j) }
+    ensures squares { IfOk result (λ b. (s : Square) →
+        any_has_square b s ≡ any_has_square boxes.now s) }
     ensures banded { IfOk result AreBands }
 {
     let rows = borders(alloc, boxes)?;

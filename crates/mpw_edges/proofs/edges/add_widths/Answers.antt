@@ -1,5 +1,5 @@
 use Rattle.std.proofs.Common.{get_or, subst}
-use Rattle.mpw_region.proofs.Strips.{no_box}
+use Rattle.mpw_geom.proofs.Squares.{no_box}
 use Rattle.mpw_edges.specs.declared.pair.Edge.{Edge}
 use Rattle.mpw_edges.specs.Pairs.{Adds, IsPairPlace, rise_of, fall_of}
 use Rattle.mpw_edges.proofs.Adding.{Adds-start, Adds-more, Adds-all}

@@ -5,7 +5,8 @@ use Rattle.std.proofs.lemmas.List.{take_all, take_more}
 use Rattle.std.proofs.lemmas.List.Elements.{All-nil}
 use Rattle.mpw_region.specs.Runs.{IsFilled, CoversPlace}
 use Rattle.mpw_region.specs.Strips.{HasSomeStrip}
-use Rattle.mpw_region.proofs.Strips.{no_box, some_strip_none, some_strip_more}
+use Rattle.mpw_geom.proofs.Squares.{no_box}
+use Rattle.mpw_region.proofs.Strips.{some_strip_none, some_strip_more}
 use Rattle.mpw_region.proofs.cut.strips.Goals as goal
 
 pub loop-b-init : goal.loop-b-init
