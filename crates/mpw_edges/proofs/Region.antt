@@ -115,6 +115,10 @@ box_of_width boxes x1 x2 j h r f l between =
 
 -- ---- lists of edges
 
+-- the edge that an index past the end is taken to give
+abbrev pub no_edge : Edge
+no_edge = record { x = pos 0; y0 = pos 0; y1 = pos 0 }
+
 -- the list has just the edges of E
 pub record EdgesAre (edges : List Edge) (E : ℤ → ℤ → Type 0) : Type 0 where
   pub there : (e : Edge) (j : ℤ) → Contains edges e → IsInRow e j → E e.x j

@@ -106,7 +106,8 @@ fn horizontal(
 /// A pair step of axis `V` in row `j` belongs to the core with the point `(x1, j)`; on axis `H` the
 /// coordinates are exchanged. So what is found depends on the squares of the core alone, widened on
 /// each side by the distance plus 1. The cost is the product of the numbers of boxes of the two
-/// regions, and a sort of what is found.
+/// regions, a sort of what is found, and for axis `H` that of [`bands`] on the boxes of each region.
+/// The only error is that memory ran out.
 pub fn pieces(
     alloc: Global,
     rule: &Rule,

@@ -8,9 +8,9 @@ use Rattle.std.proofs.lemmas.List.Sorted.{IsPermutation-sym}
 use Rattle.std.specs.List.Sorted.{IsPermutation}
 use Rattle.mpw_region.specs.declared.runs.Line.{Line}
 use Rattle.mpw_region.specs.declared.runs.Run.{Run}
-use Rattle.mpw_region.specs.Runs.{line_cmp, HoldsPlace, CoversPlace, IsFilled, StandsBefore, AreApart}
+use Rattle.mpw_region.specs.Runs.{HoldsPlace, CoversPlace, IsFilled, StandsBefore, AreApart}
 use Rattle.mpw_region.specs.Order.{BeginsFirst, AreInOrder, merged}
-use Rattle.mpw_region.proofs.Order.{line_total, line_before}
+use Rattle.mpw_region.proofs.Order.{line_before, line_chain}
 use Rattle.mpw_region.proofs.Held.{Held-nil, Held-push_left, Held-push_new, Held-push_cases, Held-permutation}
 
 -- how far runs are joined: the joined ones and the last one hold the places of those done
@@ -35,10 +35,7 @@ from_begins r s (inl p) e = absurd (line_before r.line s.line p e)
 from_begins r s (inr p) e = p.1
 
 StandsBefore-chain : (r s t : Run) → IsFilled s → StandsBefore r s → StandsBefore s t → StandsBefore r t
-StandsBefore-chain r s t f (inl p) (inl q) = inl (line_total.trans r.line s.line t.line p q)
-StandsBefore-chain r s t f (inl p) (inr q) = inl (ap (line_cmp r.line) (sym q.0) ∙ p)
-StandsBefore-chain r s t f (inr p) (inl q) = inl (ap (λ l. line_cmp l t.line) p.0 ∙ q)
-StandsBefore-chain r s t f (inr p) (inr q) = inr (p.0 ∙ q.0, omega (arith, ints, p.1, q.1, f))
+StandsBefore-chain r s t f p q = line_chain r.line s.line t.line (λ e g. omega (arith, ints, e, g, f)) p q
 
 holds_merged : (last run : Run) (line : Line) (at : ℤ) → last.line ≡ run.line → run.from ≤ℤ last.to → HoldsPlace (merged last run) line at → HoldsPlace last line at ⊎ HoldsPlace run line at
 holds_merged last run line at e g h =

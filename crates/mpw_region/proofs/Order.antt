@@ -1,10 +1,10 @@
-use Rattle.std.proofs.Common.{◌≡◌, ℕ, ℤ, ◌≤ℤ◌, ◌<ℤ◌, ◌+◌, ◌-◌, zero, suc, ◌<◌, false, List, length, get_or, sym, refl, ap, ◌∙◌, subst, inl, inr, ◌⊎◌, arith}
+use Rattle.std.proofs.Common.{◌≡◌, ℕ, ℤ, ◌≤ℤ◌, ◌+◌, ◌-◌, zero, suc, ◌<◌, false, List, length, get_or, sym, refl, ap, ◌∙◌, subst, inl, inr, ◌⊎◌, arith}
 use Rattle.std.proofs.lemmas.Int.{ints}
 use Rattle.std.specs.Cmp.{IsTotalOrder}
-use Rattle.std.specs.Ordering.{nat_cmp, int_cmp, ordering_then, is_lt, ordering_reverse, MatchOrdering}
+use Rattle.std.specs.Ordering.{nat_cmp, int_cmp, ordering_then, is_lt, ordering_reverse}
 use Rattle.std.specs.declared.cmp.Ordering.{Ordering}
 use Rattle.std.specs.declared.cmp.Ordering.TheVariants.{Less, Equal, Greater}
-use Rattle.std.proofs.lemmas.Cmp.{then_total, on_total, nat_cmp_total, int_cmp_total, int_ranked, ranked, tied_itself}
+use Rattle.std.proofs.lemmas.Cmp.{then_total, on_total, nat_cmp_total, int_cmp_total, tied_itself}
 use Rattle.std.proofs.lemmas.Map.Lookups.{exact_unsigned, exact_signed}
 use Rattle.mpw_region.specs.declared.runs.Line.{Line}
 use Rattle.mpw_region.specs.declared.runs.Run.{Run}
@@ -70,11 +70,15 @@ BeginsFirst-from_sort r s e =
     first_not_less Equal p f = refl
     first_not_less Greater p f = refl
 
+-- along lines in order, and on one line along P and Q
+pub line_chain : {P Q S : Type 0} (a b c : Line) → (P → Q → S) → (line_cmp a b ≡ Less) ⊎ ((a ≡ b) × P) → (line_cmp b c ≡ Less) ⊎ ((b ≡ c) × Q) → (line_cmp a c ≡ Less) ⊎ ((a ≡ c) × S)
+line_chain a b c on (inl p) (inl q) = inl (line_total.trans a b c p q)
+line_chain a b c on (inl p) (inr q) = inl (ap (line_cmp a) (sym q.0) ∙ p)
+line_chain a b c on (inr p) (inl q) = inl (ap (λ l. line_cmp l c) p.0 ∙ q)
+line_chain a b c on (inr p) (inr q) = inr (p.0 ∙ q.0, on p.1 q.1)
+
 pub BeginsFirst-chain : (r s t : Run) → BeginsFirst r s → BeginsFirst s t → BeginsFirst r t
-BeginsFirst-chain r s t (inl p) (inl q) = inl (line_total.trans r.line s.line t.line p q)
-BeginsFirst-chain r s t (inl p) (inr q) = inl (ap (line_cmp r.line) (sym q.0) ∙ p)
-BeginsFirst-chain r s t (inr p) (inl q) = inl (ap (λ l. line_cmp l t.line) p.0 ∙ q)
-BeginsFirst-chain r s t (inr p) (inr q) = inr (p.0 ∙ q.0, omega (arith, ints, p.1, q.1))
+BeginsFirst-chain r s t p q = line_chain r.line s.line t.line (λ e f. omega (arith, ints, e, f)) p q
 
 -- what follows of pairs at a distance, from neighbours
 far : (xs : List Run) (d : Run) → ((k : ℕ) → k + 1 < length xs → BeginsFirst (get_or xs k d) (get_or xs (k + 1) d)) → (n i j : ℕ) → j ≡ i + 1 + n → j < length xs → BeginsFirst (get_or xs i d) (get_or xs j d)

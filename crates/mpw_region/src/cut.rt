@@ -21,7 +21,6 @@ ghost use Rattle.std.specs.Prelude.{
   ◌≤ℤ◌,
   ◌<ℤ◌,
   ◌⊎◌,
-  ◌↔◌,
   pos,
   ℤ,
   IfOk,
@@ -31,13 +30,11 @@ ghost use Rattle.std.specs.Prelude.{
   AllPairs,
   Contains,
   map,
-  length,
 };
 ghost use Rattle.mpw_geom.specs.Plane.{Square, any_has_square};
-ghost use Rattle.mpw_region.specs.declared.runs.Line.{Line as LineValue};
-ghost use Rattle.mpw_region.specs.Runs.{CoversPlace, IsFilled};
+ghost use Rattle.mpw_region.specs.Runs.{IsFilled, Adds, Finds};
 ghost use Rattle.mpw_region.specs.Banded.{AreBands};
-ghost use Rattle.mpw_region.specs.Strips.{AddsStrips, HasSomeStrip, strip_of, box_of};
+ghost use Rattle.mpw_region.specs.Strips.{HasStrip, HasSomeStrip, strip_of, box_of};
 
 use crate::region::Bands;
 use crate::runs::{Line, Run, joined};
@@ -102,7 +99,7 @@ fn strip(b: &Box2, y0: i64, y1: i64) -> Option<Run>
 /// Adds the columns of the box in each band between two neighbours of the rows.
 fn add_strips(runs: &mut Vec<Run>, b: &Box2, rows: &[i64]) -> Result<(), AllocError>
     ensures { OnOk result
-        (AddsStrips runs.old.items runs.new.items b.now rows.now (length rows.now)) }
+        (Adds runs.old.items runs.new.items (HasStrip b.now rows.now)) }
 {
     for k in 1..rows.len() {
         if let Some(run) = strip(b, rows[k - 1], rows[k]) {
@@ -114,9 +111,7 @@ fn add_strips(runs: &mut Vec<Run>, b: &Box2, rows: &[i64]) -> Result<(), AllocEr
 
 /// The columns of each box in each band that it crosses.
 fn strips(alloc: Global, boxes: &[Box2], rows: &[i64]) -> Result<Vec<Run>, AllocError>
-    ensures places { IfOk result (λ v. (line : LineValue) (at : ℤ) →
-        CoversPlace v.items line at ↔ HasSomeStrip boxes.now rows.now line at) }
-    ensures filled { IfOk result (λ v. All IsFilled v.items) }
+    ensures { IfOk result (λ v. Finds v.items (HasSomeStrip boxes.now rows.now)) }
 {
     let mut runs = Vec::new(alloc);
     for b in boxes {
