@@ -3,9 +3,9 @@
 //! The rows are cut at every border of a box. Each box gives one run of columns in each band that
 //! it crosses, and the runs of a band are joined.
 //!
-//! The body is plain, and its cost grows with the square of the boxes. Of the `n` boxes of one
-//! window, whose borders cut it into `b < 2n` bands, let box after box cross `r` bands in all: a box
-//! crosses at most `b`, and all together at most `n * n`.
+//! The body is plain, and its cost grows with the square of the boxes. The borders of the `n` boxes
+//! of one window cut it into `b` bands, fewer than `2n`. Each box gives a run in each band that it
+//! crosses, which makes `r` runs: at most `b` of one box, and at most `n * n` of all.
 //! - Time: each box is tried at each two neighbours of the `2n` borders, whether it crosses there or
 //!   not, so `n * (2n - 1)` tests; then a sort of `2n` borders and one of `r` runs, with `r log r`
 //!   comparisons.
@@ -44,9 +44,9 @@ use std::alloc::{AllocError, Global};
 /// The unit squares of the boxes, as bands of rows. A box has the squares from `(x0, y0)` to before
 /// `(x1, y1)`; one without area has none. Boxes may overlap, touch and come in any order.
 ///
-/// Of `n` boxes that cross `r` bands in all, at most `n * n`, the cost is `n * (2n - 1)` tests and a
-/// sort of `r` runs, in memory for `r` runs of 40 bytes a few times over. The only error is that
-/// memory ran out.
+/// The cost of `n` boxes is `n * (2n - 1)` tests and a sort of `r` runs, in memory for `r` runs of 40
+/// bytes a few times over, where `r` is one for each band that each box crosses, at most `n * n`. The
+/// only error is that memory ran out.
 pub fn bands(alloc: Global, boxes: &[Box2]) -> Result<Bands, AllocError>
     ensures squares { IfOk result (λ b. (s : Square) →
         any_has_square b s ≡ any_has_square boxes.now s) }
