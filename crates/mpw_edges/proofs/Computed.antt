@@ -1,18 +1,19 @@
-use Rattle.std.proofs.Common.{◌≡◌, ℕ, zero, suc, ℤ, pos, negsuc, ◌+ℤ◌, ◌-ℤ◌, ◌≤ℤ◌, ◌<ℤ◌, Bool, true, false, ◌&&◌, ◌||◌, not, ◌==◌, ◌⊎◌, inl, inr, refl, sym, subst, arith, Decides}
+use Rattle.std.proofs.Common.{◌≡◌, ℕ, zero, suc, ℤ, pos, negsuc, ◌+ℤ◌, ◌-ℤ◌, ◌≤ℤ◌, ◌<ℤ◌, Bool, true, false, ◌&&◌, not, ◌==◌, refl, sym, subst, arith, Decides}
 use Rattle.std.specs.Prelude.{◌↔◌, int_le, int_lt}
 use Rattle.std.proofs.lemmas.Int.{ints, by_lt_z}
 use Rattle.std.proofs.lemmas.Bool.Decides.{Decides-and, Decides-or, Decides-like, Decides-eqb}
+use Rattle.mpw_geom.proofs.Tests.{le_from_test, test_from_le, lt_from_test, test_from_lt}
 use Rattle.mpw_deck.specs.declared.rule.Check.{Check}
 use Rattle.mpw_deck.specs.declared.rule.Check.TheVariants.{Width, Space, Separation, Enclosing}
 use Rattle.mpw_edges.specs.Edges.{Squares, IsRise, IsFall}
-use Rattle.mpw_edges.specs.Steps.{IsPair, IsPairStep, IsWidth, IsSpace, IsSeparation, IsEnclosing}
+use Rattle.mpw_edges.specs.Steps.{IsPair, IsPairStep}
 use Rattle.mpw_edges.specs.Computed.{has_rise, has_fall, all_covered, count_of, has_pair, has_pair_step}
 
 int_le_decides : (a b : ℤ) → Decides (int_le a b) (a ≤ℤ b)
-int_le_decides a b = (λ e. grind (arith, ints), λ h. grind (arith, ints))
+int_le_decides a b = (le_from_test a b, test_from_le a b)
 
 int_lt_decides : (a b : ℤ) → Decides (int_lt a b) (a <ℤ b)
-int_lt_decides a b = (λ e. grind (arith, ints), λ h. grind (arith, ints))
+int_lt_decides a b = (lt_from_test a b, test_from_lt a b)
 
 itself : (r : Bool) → Decides r (r ≡ true)
 itself r = (λ e. e, λ e. e)
@@ -47,6 +48,9 @@ count_is (negsuc n) h = absurd (omega (arith, ints, h))
 end_is : (x1 x2 : ℤ) → x1 <ℤ x2 → (x1 +ℤ pos (count_of (x2 -ℤ x1))) ≡ x2
 end_is x1 x2 l = let e = count_is (x2 -ℤ x1) (omega (arith, ints, l)) in omega (arith, ints, e)
 
+three : {P Q R : Type 0} (p q r : Bool) → Decides p P → Decides q Q → Decides r R → Decides (p && (q && r)) (P × Q × R)
+three p q r f g h = Decides-like (p && (q && r)) (λ t. (t.0, t.1.0, t.1.1)) (λ t. (t.0, (t.1, t.2))) (Decides-and p (q && r) f (Decides-and q r g h))
+
 pair_decides : (check : Check) (a b : Squares) (side : ℕ) (x1 x2 j : ℤ) → Decides (has_pair check a b side x1 x2 j) (IsPair check a b side x1 x2 j)
 pair_decides (Width k) a b side x1 x2 j =
     Decides-like (has_pair (Width k) a b side x1 x2 j)
@@ -67,16 +71,10 @@ pair_decides (Separation k l) a b side x1 x2 j =
     Decides-and (int_le x1 x2) _ (int_le_decides x1 x2)
     (Decides-or _ _ (three (side == 0) (has_fall a x1 j) (has_rise b x2 j) (Decides-eqb side 0) (fall_decides a x1 j) (rise_decides b x2 j))
     (three (side == 1) (has_fall b x1 j) (has_rise a x2 j) (Decides-eqb side 1) (fall_decides b x1 j) (rise_decides a x2 j)))
-  where
-    three : {P Q R : Type 0} (p q r : Bool) → Decides p P → Decides q Q → Decides r R → Decides (p && (q && r)) (P × Q × R)
-    three p q r f g h = Decides-like (p && (q && r)) (λ t. (t.0, t.1.0, t.1.1)) (λ t. (t.0, (t.1, t.2))) (Decides-and p (q && r) f (Decides-and q r g h))
 pair_decides (Enclosing k l) a b side x1 x2 j =
     Decides-and (int_le x1 x2) _ (int_le_decides x1 x2)
     (Decides-or _ _ (three (side == 0) (has_rise a x1 j) (has_rise b x2 j) (Decides-eqb side 0) (rise_decides a x1 j) (rise_decides b x2 j))
     (three (side == 1) (has_fall b x1 j) (has_fall a x2 j) (Decides-eqb side 1) (fall_decides b x1 j) (fall_decides a x2 j)))
-  where
-    three : {P Q R : Type 0} (p q r : Bool) → Decides p P → Decides q Q → Decides r R → Decides (p && (q && r)) (P × Q × R)
-    three p q r f g h = Decides-like (p && (q && r)) (λ t. (t.0, t.1.0, t.1.1)) (λ t. (t.0, (t.1, t.2))) (Decides-and p (q && r) f (Decides-and q r g h))
 
 pub step_decides : (check : Check) (distance : ℕ) (a b : Squares) (side : ℕ) (x1 x2 j : ℤ) → (has_pair_step check distance a b side x1 x2 j ≡ true) ↔ IsPairStep check distance a b side x1 x2 j
 step_decides check distance a b side x1 x2 j =

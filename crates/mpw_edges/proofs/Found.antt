@@ -1,30 +1,24 @@
-use Rattle.std.proofs.Common.{◌≡◌, ℕ, ℤ, pos, ◌-ℤ◌, ◌≤ℤ◌, ◌<ℤ◌, true, false, List, [], map, ◌⊎◌, inl, inr, subst, sym, ap, ◌∙◌, arith}
+use Rattle.std.proofs.Common.{◌≡◌, ℕ, ℤ, pos, ◌-ℤ◌, ◌≤ℤ◌, ◌<ℤ◌, true, false, List, [], map, ◌⊎◌, inl, inr, subst, sym, ap, arith}
 use Rattle.std.proofs.lemmas.Int.{ints}
 use Rattle.mpw_geom.specs.declared.plane.Box2.{Box2}
 use Rattle.mpw_region.specs.declared.runs.Line.{Line}
 use Rattle.mpw_region.specs.declared.runs.Run.{Run}
-use Rattle.mpw_region.specs.Runs.{HoldsPlace, CoversPlace, IsFilled}
+use Rattle.mpw_region.specs.Runs.{Adds, Finds}
 use Rattle.mpw_region.specs.Squares.{covers}
 use Rattle.mpw_region.specs.Banded.{AreBands}
-use Rattle.mpw_region.proofs.Held.{Held-nil}
-use Rattle.std.proofs.lemmas.List.Elements.{All-nil}
+use Rattle.mpw_region.proofs.Order.{same_line}
+use Rattle.mpw_region.proofs.Adding.{Adds-both, Adds-same, Finds-from_adds}
 use Rattle.mpw_edges.specs.declared.pair.Edge.{Edge}
 use Rattle.mpw_edges.specs.declared.pair.Limits.{Limits}
 use Rattle.mpw_edges.specs.Edges.{IsRise, IsFall}
 use Rattle.mpw_edges.specs.Steps.{IsWidth, IsSpace}
 use Rattle.mpw_edges.specs.Pieces.{IsInCore}
-use Rattle.mpw_edges.specs.Pairs.{Adds, Finds, IsNear, IsPairOf, IsWidthOf, rise_of, fall_of}
+use Rattle.mpw_edges.specs.Pairs.{IsNear, IsPairOf, IsWidthOf, rise_of, fall_of}
 use Rattle.mpw_edges.proofs.Region.{EdgesAre, rises_are, falls_are, box_of_width, rise_of_box, fall_of_box, covered}
 
-pub Finds-from_adds : (runs : List Run) (P Q : Line → ℤ → Type 0) → Adds [] runs P → ((line : Line) (j : ℤ) → P line j → Q line j) → ((line : Line) (j : ℤ) → Q line j → P line j) → Finds runs Q
-Finds-from_adds runs P Q h f g = record {
-  places = λ line j. (λ c. f line j (to line j ((h.places line j).0 c)), λ q. (h.places line j).1 (inr (g line j q)));
-  filled = h.filled (All-nil IsFilled);
-}
-  where
-    to : (line : Line) (j : ℤ) → CoversPlace [] line j ⊎ P line j → P line j
-    to line j (inl c) = absurd (Held-nil (λ q. HoldsPlace q line j) c)
-    to line j (inr p) = p
+-- the runs that were added find the places, told in other words
+found : (runs : List Run) (P Q : Line → ℤ → Type 0) → Adds [] runs P → ((line : Line) (j : ℤ) → P line j → Q line j) → ((line : Line) (j : ℤ) → Q line j → P line j) → Finds runs Q
+found runs P Q h f g = Finds-from_adds runs Q (Adds-same [] runs P Q h f g)
 
 -- the two edges of a line, near each other, in a row, where the first lies in the core
 abbrev pub IsFoundPair : ℕ → Limits → (ℤ → ℤ → Type 0) → (ℤ → ℤ → Type 0) → Line → ℤ → Type 0
@@ -42,12 +36,6 @@ found_pair side limits froms tos E F h g line j s =
       (omega (arith, ints, first, s.2.2.2), omega (arith, ints, first, s.2.2.3), s.2.2.4.2, s.2.2.4.3),
     )
 
-same_line : (line : Line) (side : ℕ) (first second : ℤ) → line.side ≡ side → first ≡ line.first → second ≡ line.second → line ≡ record { side = side; first = first; second = second }
-same_line line side first second e f g =
-    ap (λ (n : ℕ). let l : Line = record { side = n; first = line.first; second = line.second } in l) e
-    ∙ ap (λ (x : ℤ). let l : Line = record { side = side; first = x; second = line.second } in l) (sym f)
-    ∙ ap (λ (x : ℤ). let l : Line = record { side = side; first = first; second = x } in l) (sym g)
-
 pub pair_found : (side : ℕ) (limits : Limits) (froms tos : List Edge) (E F : ℤ → ℤ → Type 0) → EdgesAre froms E → EdgesAre tos F → (line : Line) (j : ℤ) → IsFoundPair side limits E F line j → IsPairOf side limits froms tos line j
 pair_found side limits froms tos E F h g line j s =
     let from = h.back line.first j s.1 in
@@ -58,7 +46,7 @@ pair_found side limits froms tos E F h g line j s =
       (
         to.0,
         to.1,
-        (same_line line side from.0.x to.0.x s.0 from.2.0 to.2.0, near, omega (arith, ints, from.2.0, s.4.0), omega (arith, ints, from.2.0, s.4.1), (from.2.1, to.2.1, s.4.2, s.4.3)),
+        (same_line line (record { side = side; first = from.0.x; second = to.0.x }) s.0 (sym from.2.0) (sym to.2.0), near, omega (arith, ints, from.2.0, s.4.0), omega (arith, ints, from.2.0, s.4.1), (from.2.1, to.2.1, s.4.2, s.4.3)),
       ),
     )
 
@@ -73,7 +61,7 @@ pair_limits distance core = record { touching = true; distance = distance; core 
 pub finds_widths : (runs : List Run) (boxes : List Box2) (distance : ℕ) (core : Box2) → AreBands boxes → Adds [] runs (IsWidthOf (width_limits distance core) boxes)
     → Finds runs (λ line j. (IsWidth (covers boxes) line.side line.first line.second j × ((line.second -ℤ line.first) <ℤ pos distance)) × IsInCore core line.first j)
 finds_widths runs boxes distance core h added =
-    Finds-from_adds runs (IsWidthOf (width_limits distance core) boxes) (λ line j. (IsWidth (covers boxes) line.side line.first line.second j × ((line.second -ℤ line.first) <ℤ pos distance)) × IsInCore core line.first j) added to from
+    found runs (IsWidthOf (width_limits distance core) boxes) (λ line j. (IsWidth (covers boxes) line.side line.first line.second j × ((line.second -ℤ line.first) <ℤ pos distance)) × IsInCore core line.first j) added to from
   where
     to : (line : Line) (j : ℤ) → IsWidthOf (width_limits distance core) boxes line j → (IsWidth (covers boxes) line.side line.first line.second j × ((line.second -ℤ line.first) <ℤ pos distance)) × IsInCore core line.first j
     to line j s =
@@ -85,7 +73,7 @@ finds_widths runs boxes distance core h added =
               subst (λ (x : ℤ). IsRise (covers boxes) x j) (sym first) (rise_of_box boxes s.0 j h s.1 s.2.4.0),
               subst (λ (x : ℤ). IsFall (covers boxes) x j) (sym second) (fall_of_box boxes s.0 j h s.1 s.2.4.0),
               omega (arith, ints, first, second, s.2.1.0),
-              λ i l r. covered boxes i j (s.0, s.1, ((omega (arith, ints, first, l), omega (arith, ints, second, r)), s.2.4.0)),
+              λ i l r. covered boxes s.0 i j s.1 (omega (arith, ints, first, l)) (omega (arith, ints, second, r)) s.2.4.0,
             ),
             omega (arith, ints, first, second, s.2.1.1),
           ),
@@ -98,7 +86,7 @@ finds_widths runs boxes distance core h added =
           b.0,
           b.1,
           (
-            same_line line 0 b.0.x0 b.0.x1 w.0.0.0 b.2 b.3,
+            same_line line (record { side = 0; first = b.0.x0; second = b.0.x1 }) w.0.0.0 (sym b.2) (sym b.3),
             (omega (arith, ints, b.2, b.3, w.0.0.3), omega (arith, ints, b.2, b.3, w.0.1)),
             omega (arith, ints, b.2, w.1.0),
             omega (arith, ints, b.2, w.1.1),
@@ -111,7 +99,7 @@ finds_widths runs boxes distance core h added =
 pub finds_spaces : (runs : List Run) (boxes : List Box2) (distance : ℕ) (core : Box2) → AreBands boxes → Adds [] runs (IsPairOf 0 (width_limits distance core) (map fall_of boxes) (map rise_of boxes))
     → Finds runs (λ line j. (IsSpace (covers boxes) line.side line.first line.second j × ((line.second -ℤ line.first) <ℤ pos distance)) × IsInCore core line.first j)
 finds_spaces runs boxes distance core h added =
-    Finds-from_adds runs (IsPairOf 0 (width_limits distance core) (map fall_of boxes) (map rise_of boxes)) (λ line j. (IsSpace (covers boxes) line.side line.first line.second j × ((line.second -ℤ line.first) <ℤ pos distance)) × IsInCore core line.first j) added
+    found runs (IsPairOf 0 (width_limits distance core) (map fall_of boxes) (map rise_of boxes)) (λ line j. (IsSpace (covers boxes) line.side line.first line.second j × ((line.second -ℤ line.first) <ℤ pos distance)) × IsInCore core line.first j) added
     (λ line j s. let p = found_pair 0 (width_limits distance core) (map fall_of boxes) (map rise_of boxes) (IsFall (covers boxes)) (IsRise (covers boxes)) (falls_are boxes h) (rises_are boxes h) line j s in
     (((p.0, p.1, p.2, p.3.0), p.3.1), p.4))
     (λ line j w. pair_found 0 (width_limits distance core) (map fall_of boxes) (map rise_of boxes) (IsFall (covers boxes)) (IsRise (covers boxes)) (falls_are boxes h) (rises_are boxes h) line j
@@ -122,11 +110,12 @@ finds_spaces runs boxes distance core h added =
 abbrev pub IsEither : ℕ → Box2 → (ℤ → ℤ → Type 0) → (ℤ → ℤ → Type 0) → (ℤ → ℤ → Type 0) → (ℤ → ℤ → Type 0) → Line → ℤ → Type 0
 IsEither distance core E F G K line j = (((line.first ≤ℤ line.second) × (((line.side ≡ 0) × E line.first j × F line.second j) ⊎ ((line.side ≡ 1) × G line.first j × K line.second j))) × ((line.second -ℤ line.first) <ℤ pos distance)) × IsInCore core line.first j
 
-pub finds_either : (runs : List Run) (distance : ℕ) (core : Box2) (a b c d : List Edge) (E F G K : ℤ → ℤ → Type 0) → EdgesAre a E → EdgesAre b F → EdgesAre c G → EdgesAre d K
-    → Adds [] runs (λ line j. IsPairOf 0 (pair_limits distance core) a b line j ⊎ IsPairOf 1 (pair_limits distance core) c d line j)
+pub finds_either : (mid runs : List Run) (distance : ℕ) (core : Box2) (a b c d : List Edge) (E F G K : ℤ → ℤ → Type 0) → EdgesAre a E → EdgesAre b F → EdgesAre c G → EdgesAre d K
+    → Adds [] mid (IsPairOf 0 (pair_limits distance core) a b) → Adds mid runs (IsPairOf 1 (pair_limits distance core) c d)
     → Finds runs (IsEither distance core E F G K)
-finds_either runs distance core a b c d E F G K ea eb ec ed added =
-    Finds-from_adds runs (λ line j. IsPairOf 0 (pair_limits distance core) a b line j ⊎ IsPairOf 1 (pair_limits distance core) c d line j) (IsEither distance core E F G K) added to from
+finds_either mid runs distance core a b c d E F G K ea eb ec ed one two =
+    found runs (λ line j. IsPairOf 0 (pair_limits distance core) a b line j ⊎ IsPairOf 1 (pair_limits distance core) c d line j) (IsEither distance core E F G K)
+    (Adds-both [] mid runs (IsPairOf 0 (pair_limits distance core) a b) (IsPairOf 1 (pair_limits distance core) c d) one two) to from
   where
     to : (line : Line) (j : ℤ) → IsPairOf 0 (pair_limits distance core) a b line j ⊎ IsPairOf 1 (pair_limits distance core) c d line j → IsEither distance core E F G K line j
     to line j (inl s) = let p = found_pair 0 (pair_limits distance core) a b E F ea eb line j s in (((p.3.0, inl (p.0, p.1, p.2)), p.3.1), p.4)

@@ -1,4 +1,3 @@
-pub mod Adding
 pub mod Tests
 pub mod Region
 pub mod Found

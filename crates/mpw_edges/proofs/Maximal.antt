@@ -6,45 +6,35 @@ use Rattle.std.specs.declared.cmp.Ordering.TheVariants.{Less, Equal, Greater}
 use Rattle.std.proofs.lemmas.Int.{ints, by_lt_z}
 use Rattle.std.proofs.lemmas.Cmp.{tied_itself}
 use Rattle.std.proofs.lemmas.Bool.{cases_lt}
-use Rattle.std.proofs.lemmas.List.{get_or_default, get_or-map, length-map, length-append, get_or_append_left, get_or-append_right}
+use Rattle.std.proofs.lemmas.List.{get_or-map, length-map, length-append, get_or_append_left, get_or-append_right}
 use Rattle.std.proofs.lemmas.List.Elements.{All-contains, Contains-append_left, Contains-append_right, Contains-append_cases}
 use Rattle.mpw_geom.specs.declared.plane.Box2.{Box2}
 use Rattle.mpw_deck.specs.declared.rule.Rule.{Rule}
 use Rattle.mpw_region.specs.declared.runs.Line.{Line}
 use Rattle.mpw_region.specs.declared.runs.Run.{Run}
 use Rattle.mpw_region.specs.Runs.{line_cmp, CoversPlace, IsFilled, StandsBefore, AreApart}
-use Rattle.mpw_region.proofs.Order.{line_total}
+use Rattle.mpw_region.proofs.Order.{line_total, line_before}
+use Rattle.mpw_region.proofs.Held.{held_map, map_held, one_or_before}
 use Rattle.mpw_region.proofs.Joins.{no_run}
 use Rattle.mpw_edges.specs.declared.run.Axis.{Axis}
 use Rattle.mpw_edges.specs.declared.run.Axis.TheVariants.{V, H}
 use Rattle.mpw_edges.specs.declared.run.Piece.{Piece}
 use Rattle.mpw_edges.specs.Edges.{Squares}
 use Rattle.mpw_edges.specs.Pieces.{HasStep, IsPiece, ComesBefore, piece_of}
-use Rattle.mpw_edges.proofs.Region.{held_map, map_held}
 
 -- ---- runs that stand apart
 
 -- two runs of one line are one, or apart
 alike : (runs : List Run) (r s : Run) → AreApart runs → Contains runs r → Contains runs s → r.line ≡ s.line → (r ≡ s) ⊎ ((r.to <ℤ s.from) ⊎ (s.to <ℤ r.from))
 alike runs r s h p q e =
-    let r_is : get_or runs p.0 no_run ≡ r = get_or_default runs p.0 no_run r p.1 ∙ p.2 in
-    let s_is : get_or runs q.0 no_run ≡ s = get_or_default runs q.0 no_run s q.1 ∙ q.2 in
-    elim (cases_lt p.0 q.0) [
-      | inl less ↦
-          let stands = subst (λ x. StandsBefore x s) r_is (subst (λ x. StandsBefore (get_or runs p.0 no_run) x) s_is (h.ordered p.0 q.0 no_run less q.1)) in
-          inr (inl (apart r s stands e))
-      | inr more ↦ elim (cases_lt q.0 p.0) [
-        | inl less ↦
-            let stands = subst (λ x. StandsBefore x r) s_is (subst (λ x. StandsBefore (get_or runs q.0 no_run) x) r_is (h.ordered q.0 p.0 no_run less p.1)) in
-            inr (inr (apart s r stands (sym e)))
-        | inr same ↦
-            let k : p.0 ≡ q.0 = omega arith in
-            inl (sym r_is ∙ ap (λ (n : ℕ). get_or runs n no_run) k ∙ s_is)
-      ]
+    elim (one_or_before StandsBefore runs no_run r s h.ordered p q) [
+      | inl same ↦ inl same
+      | inr (inl before) ↦ inr (inl (apart r s before e))
+      | inr (inr behind) ↦ inr (inr (apart s r behind (sym e)))
     ]
   where
     apart : (x y : Run) → StandsBefore x y → x.line ≡ y.line → x.to <ℤ y.from
-    apart x y (inl less) f = let tied : line_cmp x.line x.line ≡ Equal = tied_itself line_total x.line in let also : line_cmp x.line x.line ≡ Less = ap (line_cmp x.line) f ∙ less in let clash : Less ≡ Equal = sym also ∙ tied in absurd (cc)
+    apart x y (inl less) f = absurd (line_before x.line y.line less f)
     apart x y (inr stands) f = stands.1
 
 -- a maximal run of the places of P

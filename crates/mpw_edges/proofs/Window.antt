@@ -1,4 +1,4 @@
-use Rattle.std.proofs.Common.{◌≡◌, ℕ, ◌+◌, ◌≤◌, ℤ, pos, ◌+ℤ◌, ◌-ℤ◌, ◌≤ℤ◌, ◌<ℤ◌, true, inl, inr, refl, sym, ap, ◌∙◌, arith}
+use Rattle.std.proofs.Common.{◌≡◌, ℕ, ◌+◌, ◌≤◌, ℤ, pos, ◌-ℤ◌, ◌≤ℤ◌, ◌<ℤ◌, inl, inr, refl, sym, ap, ◌∙◌, arith}
 use Rattle.std.specs.Prelude.{◌↔◌}
 use Rattle.std.proofs.lemmas.Int.{ints}
 use Rattle.mpw_geom.specs.declared.plane.Box2.{Box2}
@@ -9,10 +9,10 @@ use Rattle.mpw_edges.specs.declared.run.Axis.{Axis}
 use Rattle.mpw_edges.specs.declared.run.Axis.TheVariants.{V, H}
 use Rattle.mpw_edges.specs.declared.run.Piece.{Piece}
 use Rattle.mpw_edges.specs.Edges.{Squares, exchanged, IsRise, IsFall}
-use Rattle.mpw_edges.specs.Steps.{IsPair, IsWidth, IsSpace, IsSeparation, IsEnclosing}
+use Rattle.mpw_edges.specs.Steps.{IsPair}
 use Rattle.mpw_edges.specs.Pieces.{HasVerticalStep, HasStep, IsPiece, exchanged_box}
 use Rattle.mpw_edges.specs.Laws.{widened, AreSameIn, other_axis, exchanged_piece}
-use Rattle.mpw_edges.proofs.Maximal.{run_of_piece, piece_of_run, StepsOf}
+use Rattle.mpw_edges.proofs.Maximal.{run_of_piece, piece_of_run}
 
 -- ---- exchange
 

@@ -1,22 +1,10 @@
--- What the search adds to a list of runs.
-use Rattle.std.specs.Prelude.{◌≡◌, ℕ, ℤ, pos, ◌-ℤ◌, ◌≤ℤ◌, ◌<ℤ◌, ◌⊎◌, ◌↔◌, List, All, Contains}
+-- Which pairs of edges the search finds, and on which line and row.
+use Rattle.std.specs.Prelude.{◌≡◌, ℕ, ℤ, pos, ◌-ℤ◌, ◌≤ℤ◌, ◌<ℤ◌, List, Contains}
 use Rattle.std.specs.Bool.{MatchBool}
 use Rattle.mpw_geom.specs.declared.plane.Box2.{Box2}
 use Rattle.mpw_region.specs.declared.runs.Line.{Line}
-use Rattle.mpw_region.specs.declared.runs.Run.{Run}
-use Rattle.mpw_region.specs.Runs.{CoversPlace, IsFilled}
 use Rattle.mpw_edges.specs.declared.pair.Edge.{Edge}
 use Rattle.mpw_edges.specs.declared.pair.Limits.{Limits}
-
--- to the runs were added ones that hold just the places of P
-pub record Adds (old new : List Run) (P : Line → ℤ → Type 0) : Type 0 where
-  pub places : (line : Line) (j : ℤ) → CoversPlace new line j ↔ (CoversPlace old line j ⊎ P line j)
-  pub filled : All IsFilled old → All IsFilled new
-
--- the runs are filled, and hold just the places of P
-pub record Finds (runs : List Run) (P : Line → ℤ → Type 0) : Type 0 where
-  pub places : (line : Line) (j : ℤ) → CoversPlace runs line j ↔ P line j
-  pub filled : All IsFilled runs
 
 -- the edge runs through the row
 abbrev pub IsInRow : Edge → ℤ → Type 0

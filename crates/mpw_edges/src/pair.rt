@@ -14,8 +14,8 @@ ghost use Rattle.std.specs.Prelude.{
   MatchOption,
 };
 ghost use Rattle.mpw_region.specs.declared.runs.Line.{Line as LineValue};
-ghost use Rattle.mpw_region.specs.Runs.{HoldsPlace, IsFilled};
-ghost use Rattle.mpw_edges.specs.Pairs.{Adds, IsInRows, IsPairPlace, IsPairFrom, IsPairOf};
+ghost use Rattle.mpw_region.specs.Runs.{HoldsPlace, IsFilled, Adds};
+ghost use Rattle.mpw_edges.specs.Pairs.{IsInRows, IsPairPlace, IsPairFrom, IsPairOf};
 
 use mpw_geom::Box2;
 use mpw_region::{Line, Run};

@@ -105,8 +105,12 @@ fn horizontal(
 ///
 /// A pair step of axis `V` in row `j` belongs to the core with the point `(x1, j)`; on axis `H` the
 /// coordinates are exchanged. So what is found depends on the squares of the core alone, widened on
-/// each side by the distance plus 1. The cost is the product of the numbers of boxes of the two
-/// regions, and a sort of what is found.
+/// each side by the distance plus 1.
+///
+/// The cost on axis `V` is a test a box for a width, the square of the boxes for a space, and twice
+/// the product of the two regions' boxes for a check of two layers, with a sort of what is found. On
+/// axis `H` it is the same of the boxes that [`bands`] makes of the exchanged ones, and its own cost
+/// before. The only error is that memory ran out.
 pub fn pieces(
     alloc: Global,
     rule: &Rule,

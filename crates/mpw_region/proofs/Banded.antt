@@ -3,23 +3,24 @@ use Rattle.std.specs.Prelude.{◌↔◌, All, AllPairs, Contains}
 use Rattle.std.specs.Ordering.{int_cmp, ordering_then, MatchOrdering}
 use Rattle.std.specs.declared.cmp.Ordering.TheVariants.{Less, Equal, Greater}
 use Rattle.std.proofs.lemmas.Int.{ints, by_lt_z}
-use Rattle.std.proofs.lemmas.Cmp.{tied_itself, int_ranked}
+use Rattle.std.proofs.lemmas.Cmp.{int_ranked}
 use Rattle.std.specs.declared.cmp.Ordering.{Ordering}
 use Rattle.std.proofs.lemmas.Bool.{cases_lt}
-use Rattle.std.proofs.lemmas.List.{get_or-map, length-map, get_or_default}
+use Rattle.std.proofs.lemmas.List.{get_or-map, length-map}
 use Rattle.std.proofs.lemmas.List.Elements.{All-map, All-contains, Contains-get_or}
 use Rattle.mpw_geom.specs.declared.plane.Box2.{Box2}
+use Rattle.mpw_geom.specs.Plane.{Square, HasArea, any_has_square}
+use Rattle.mpw_geom.proofs.Tests.{SquareIn}
+use Rattle.mpw_geom.proofs.Squares.{SquareInSome, any_has_square-same}
 use Rattle.mpw_region.specs.declared.runs.Line.{Line}
 use Rattle.mpw_region.specs.declared.runs.Run.{Run}
 use Rattle.mpw_region.specs.Runs.{line_cmp, CoversPlace, IsFilled, StandsBefore, AreApart}
-use Rattle.mpw_region.specs.Squares.{covers}
 use Rattle.mpw_region.specs.Strips.{band_of, box_of, IsBandBelow, HasStrip, HasSomeStrip}
-use Rattle.mpw_region.specs.Banded.{HasArea, StandsInBands, AreBands}
-use Rattle.mpw_region.proofs.Order.{line_total}
-use Rattle.mpw_region.proofs.Held.{Held}
+use Rattle.mpw_region.specs.Banded.{StandsInBands, AreBands}
+use Rattle.mpw_region.proofs.Order.{line_before}
+use Rattle.mpw_region.proofs.Held.{held_map, map_held, place_of}
 use Rattle.mpw_region.proofs.Joins.{no_run}
 use Rattle.mpw_region.proofs.Strips.{HasBorders}
-use Rattle.mpw_region.proofs.Squares.{HasSquare, HaveSquare, same_squares}
 
 abbrev pub Rises : List ℤ → Type 0
 Rises rows = AllPairs (λ a b. a ≤ℤ b) rows
@@ -38,35 +39,31 @@ rises_far rows h i j l b = elim (cases_lt i j) [
   | inr more ↦ subst (λ m. get_or rows i (pos 0) ≤ℤ get_or rows m (pos 0)) (let e : i ≡ j = omega arith in e) (omega (arith, ints))
 ]
 
--- a place of a contained number, at the default 0
-place_of : (rows : List ℤ) (y : ℤ) → Contains rows y → (k : ℕ) × (k < length rows) × (get_or rows k (pos 0) ≡ y)
-place_of rows y c = (c.0, c.1, get_or_default rows c.0 (pos 0) y c.1 ∙ c.2)
+abbrev CrossesBandOf : List ℤ → Box2 → Square → Type 0
+CrossesBandOf rows b s = (line : Line) × HasStrip b rows line s.column × (line.first ≤ℤ s.row) × (s.row <ℤ line.second)
 
-abbrev CrossesBandOf : List ℤ → Box2 → ℤ → ℤ → Type 0
-CrossesBandOf rows b i j = (line : Line) × HasStrip b rows line i × (line.first ≤ℤ j) × (j <ℤ line.second)
-
-strip_in_band : (rows : List ℤ) (b : Box2) (i j : ℤ) (k : ℕ) → k + 1 < length rows → get_or rows k (pos 0) ≤ℤ j → j <ℤ get_or rows (k + 1) (pos 0) → b.y0 ≤ℤ get_or rows k (pos 0) → get_or rows (k + 1) (pos 0) ≤ℤ b.y1 → HasSquare b i j → CrossesBandOf rows b i j
-strip_in_band rows b i j k inside below above low high s =
-    (band_of (get_or rows k (pos 0)) (get_or rows (k + 1) (pos 0)), ((k, inside, refl, omega (arith, ints, below, above)), low, high, s.0.0, s.0.1), below, above)
+strip_in_band : (rows : List ℤ) (b : Box2) (s : Square) (k : ℕ) → k + 1 < length rows → get_or rows k (pos 0) ≤ℤ s.row → s.row <ℤ get_or rows (k + 1) (pos 0) → b.y0 ≤ℤ get_or rows k (pos 0) → get_or rows (k + 1) (pos 0) ≤ℤ b.y1 → SquareIn b s → CrossesBandOf rows b s
+strip_in_band rows b s k inside below above low high h =
+    (band_of (get_or rows k (pos 0)) (get_or rows (k + 1) (pos 0)), ((k, inside, refl, omega (arith, ints, below, above)), low, high, h.left, h.right), below, above)
 
 -- a box that has the square crosses the band of its row
-pub strip_of_square : (rows : List ℤ) (b : Box2) (i j : ℤ) → Rises rows → HasBorders rows b → HasSquare b i j → (line : Line) × HasStrip b rows line i × (line.first ≤ℤ j) × (j <ℤ line.second)
-strip_of_square rows b i j rises borders s = go (place_of rows b.y0 borders.0) (place_of rows b.y1 borders.1)
+strip_of_square : (rows : List ℤ) (b : Box2) (s : Square) → Rises rows → HasBorders rows b → SquareIn b s → CrossesBandOf rows b s
+strip_of_square rows b s rises borders h = go (place_of rows (pos 0) b.y0 borders.0) (place_of rows (pos 0) b.y1 borders.1)
   where
-    between : (m n : ℕ) → m < n → n < length rows → get_or rows m (pos 0) ≡ b.y0 → get_or rows n (pos 0) ≡ b.y1 → (k : ℕ) × (m ≤ k) × (k + 1 ≤ m + (n - m)) × (get_or rows k (pos 0) ≤ℤ j) × (j <ℤ get_or rows (k + 1) (pos 0)) → CrossesBandOf rows b i j
+    between : (m n : ℕ) → m < n → n < length rows → get_or rows m (pos 0) ≡ b.y0 → get_or rows n (pos 0) ≡ b.y1 → (k : ℕ) × (m ≤ k) × (k + 1 ≤ m + (n - m)) × (get_or rows k (pos 0) ≤ℤ s.row) × (s.row <ℤ get_or rows (k + 1) (pos 0)) → CrossesBandOf rows b s
     between m n less inside e f r =
-        strip_in_band rows b i j r.0 (omega (arith, r.2)) r.3 r.4
+        strip_in_band rows b s r.0 (omega (arith, r.2)) r.3 r.4
         (omega (arith, ints, e, rises_far rows rises m r.0 r.1 (omega (arith, r.2))))
         (omega (arith, ints, f, rises_far rows rises (r.0 + 1) n (omega (arith, r.2)) inside))
-        s
+        h
 
-    go : (k : ℕ) × (k < length rows) × (get_or rows k (pos 0) ≡ b.y0) → (k : ℕ) × (k < length rows) × (get_or rows k (pos 0) ≡ b.y1) → CrossesBandOf rows b i j
+    go : (k : ℕ) × (k < length rows) × (get_or rows k (pos 0) ≡ b.y0) → (k : ℕ) × (k < length rows) × (get_or rows k (pos 0) ≡ b.y1) → CrossesBandOf rows b s
     go p q = elim (cases_lt p.0 q.0) [
       | inl less ↦
           between p.0 q.0 less q.1 p.2 q.2
-          (band_at rows j (q.0 - p.0) p.0 (omega (arith, q.1)) (omega (arith, ints, p.2, s.1.0))
-          (subst (λ m. j <ℤ get_or rows m (pos 0)) (let e : q.0 ≡ p.0 + (q.0 - p.0) = omega arith in e) (omega (arith, ints, q.2, s.1.1))))
-      | inr more ↦ absurd (omega (arith, ints, rises_far rows rises q.0 p.0 more p.1, p.2, q.2, s.1.0, s.1.1))
+          (band_at rows s.row (q.0 - p.0) p.0 (omega (arith, q.1)) (omega (arith, ints, p.2, h.bottom))
+          (subst (λ m. s.row <ℤ get_or rows m (pos 0)) (let e : q.0 ≡ p.0 + (q.0 - p.0) = omega arith in e) (omega (arith, ints, q.2, h.top))))
+      | inr more ↦ absurd (omega (arith, ints, rises_far rows rises q.0 p.0 more p.1, p.2, q.2, h.bottom, h.top))
     ]
 
 -- what the joined runs are to the boxes
@@ -76,29 +73,20 @@ pub record AreColumns (runs : List Run) (boxes : List Box2) (rows : List ℤ) : 
   pub rises : Rises rows
   pub borders : All (HasBorders rows) boxes
 
-held_map : (runs : List Run) (P : Box2 → Type 0) → Held P (map box_of runs) → (r : Run) × Contains runs r × P (box_of r)
-held_map runs P h =
-    let k = h.1.0 in
-    let inside : h.1.0 < length runs = omega (arith, h.1.1, length-map runs box_of) in
-    (get_or runs h.1.0 no_run, Contains-get_or runs h.1.0 no_run inside, subst P (sym h.1.2 ∙ get_or-map box_of runs h.1.0 no_run h.0 inside) h.2)
+squares_from_columns : (runs : List Run) (boxes : List Box2) (rows : List ℤ) (s : Square) → AreColumns runs boxes rows → SquareInSome (map box_of runs) s → SquareInSome boxes s
+squares_from_columns runs boxes rows s h found =
+    let m = held_map box_of runs no_run (λ b. SquareIn b s) found in
+    let strip = (h.places m.0.line s.column).0 (m.0, m.1, (refl, m.2.left, m.2.right)) in
+    (strip.0, strip.1, record { left = strip.2.3; right = strip.2.4; bottom = omega (arith, ints, strip.2.1, m.2.bottom); top = omega (arith, ints, strip.2.2, m.2.top) })
 
-map_held : (runs : List Run) (P : Box2 → Type 0) (r : Run) → Contains runs r → P (box_of r) → Held P (map box_of runs)
-map_held runs P r c p = (box_of r, (c.0, omega (arith, c.1, length-map runs box_of), get_or-map box_of runs c.0 r (box_of r) c.1 ∙ ap box_of c.2), p)
-
-squares_from_columns : (runs : List Run) (boxes : List Box2) (rows : List ℤ) (i j : ℤ) → AreColumns runs boxes rows → HaveSquare (map box_of runs) i j → HaveSquare boxes i j
-squares_from_columns runs boxes rows i j h s =
-    let m = held_map runs (λ b. HasSquare b i j) s in
-    let strip = (h.places m.0.line i).0 (m.0, m.1, (refl, m.2.0.0, m.2.0.1)) in
-    (strip.0, strip.1, ((strip.2.3, strip.2.4), (omega (arith, ints, strip.2.1, m.2.1.0), omega (arith, ints, strip.2.2, m.2.1.1))))
-
-columns_from_squares : (runs : List Run) (boxes : List Box2) (rows : List ℤ) (i j : ℤ) → AreColumns runs boxes rows → HaveSquare boxes i j → HaveSquare (map box_of runs) i j
-columns_from_squares runs boxes rows i j h s =
-    let borders = All-contains (HasBorders rows) boxes s.0 h.borders s.1 in
-    let found = strip_of_square rows s.0 i j h.rises borders s.2 in
-    let run = (h.places found.0 i).1 (s.0, s.1, found.1) in
+columns_from_squares : (runs : List Run) (boxes : List Box2) (rows : List ℤ) (s : Square) → AreColumns runs boxes rows → SquareInSome boxes s → SquareInSome (map box_of runs) s
+columns_from_squares runs boxes rows s h found =
+    let borders = All-contains (HasBorders rows) boxes found.0 h.borders found.1 in
+    let strip = strip_of_square rows found.0 s h.rises borders found.2 in
+    let run = (h.places strip.0 s.column).1 (found.0, found.1, strip.1) in
     let first = ap (λ (l : Line). l.first) run.2.0 in
     let second = ap (λ (l : Line). l.second) run.2.0 in
-    map_held runs (λ b. HasSquare b i j) run.0 run.1 ((run.2.1, run.2.2), (omega (arith, ints, first, found.2), omega (arith, ints, second, found.3)))
+    map_held box_of runs (λ b. SquareIn b s) run.0 run.1 (record { left = run.2.1; right = run.2.2; bottom = omega (arith, ints, first, strip.2); top = omega (arith, ints, second, strip.3) })
 
 -- each run lies in a band between neighbours
 band_of_run : (runs : List Run) (boxes : List Box2) (rows : List ℤ) (r : Run) → AreColumns runs boxes rows → Contains runs r → IsBandBelow rows (length rows) r.line
@@ -131,11 +119,7 @@ bands_apart rows a b rises p q less =
             absurd (omega (arith, ints, far, b_first, b_second, q.3, le))
         | inr same ↦
             let e : p.0 ≡ q.0 = omega arith in
-            let one : a ≡ b = p.2 ∙ ap (λ (m : ℕ). band_of (get_or rows m (pos 0)) (get_or rows (m + 1) (pos 0))) e ∙ sym q.2 in
-            let tied : line_cmp a a ≡ Equal = tied_itself line_total a in
-            let less_itself : line_cmp a a ≡ Less = ap (line_cmp a) one ∙ less in
-            let clash : Less ≡ Equal = sym less_itself ∙ tied in
-            absurd (cc)
+            absurd (line_before a b less (p.2 ∙ ap (λ (m : ℕ). band_of (get_or rows m (pos 0)) (get_or rows (m + 1) (pos 0))) e ∙ sym q.2))
       ]
     ]
 
@@ -143,7 +127,7 @@ area_of_run : (runs : List Run) (boxes : List Box2) (rows : List ℤ) → AreCol
 area_of_run runs boxes rows h r c =
     let band = band_of_run runs boxes rows r h c in
     let filled : IsFilled r = All-contains IsFilled runs r h.apart.filled c in
-    (filled, band.3)
+    record { width = filled; height = band.3 }
 
 stand_in_bands : (runs : List Run) (boxes : List Box2) (rows : List ℤ) → AreColumns runs boxes rows → (r s : Run) → Contains runs r → Contains runs s → StandsBefore r s → StandsInBands (box_of r) (box_of s)
 stand_in_bands runs boxes rows h r s c d (inl less) = inl (bands_apart rows r.line s.line h.rises (band_of_run runs boxes rows r h c) (band_of_run runs boxes rows s h d) less)
@@ -174,5 +158,5 @@ AreColumns-from_steps runs columns boxes rows seen e told joined apart rises bor
   borders = borders;
 }
 
-pub squares_of_columns : (runs : List Run) (boxes : List Box2) (rows : List ℤ) → AreColumns runs boxes rows → (i j : ℤ) → covers (map box_of runs) i j ≡ covers boxes i j
-squares_of_columns runs boxes rows h i j = same_squares (map box_of runs) boxes i j (squares_from_columns runs boxes rows i j h) (columns_from_squares runs boxes rows i j h)
+pub squares_of_columns : (runs : List Run) (boxes : List Box2) (rows : List ℤ) → AreColumns runs boxes rows → (s : Square) → any_has_square (map box_of runs) s ≡ any_has_square boxes s
+squares_of_columns runs boxes rows h s = any_has_square-same (map box_of runs) boxes s s (squares_from_columns runs boxes rows s h) (columns_from_squares runs boxes rows s h)

@@ -1,18 +1,16 @@
 use Rattle.std.proofs.Common.{◌≡◌, ℕ, ◌+◌, ◌<◌, ◌≤◌, ℤ, pos, ◌≤ℤ◌, ◌<ℤ◌, suc, List, [], ◌∷◌, ◌++◌, length, get_or, take, drop, ◌-◌, ◌⊎◌, inl, inr, subst, sym, ap, ◌∙◌, arith}
 use Rattle.std.specs.Prelude.{◌↔◌, All, AllPairs}
-use Rattle.std.specs.declared.cmp.Ordering.TheVariants.{Less, Equal}
 use Rattle.std.proofs.lemmas.Int.{ints, clamps, by_lt_z}
 use Rattle.std.proofs.lemmas.List.{take_more, take_all, get_or_default}
 use Rattle.std.proofs.lemmas.List.Elements.{All-push, All-nil, All-weaker}
 use Rattle.std.proofs.lemmas.List.Quantifiers.{all_pairs_push}
 use Rattle.std.proofs.lemmas.List.Sorted.{IsPermutation-sym}
 use Rattle.std.specs.List.Sorted.{IsPermutation}
-use Rattle.std.proofs.lemmas.Cmp.{tied_itself}
 use Rattle.mpw_region.specs.declared.runs.Line.{Line}
 use Rattle.mpw_region.specs.declared.runs.Run.{Run}
-use Rattle.mpw_region.specs.Runs.{line_cmp, HoldsPlace, CoversPlace, IsFilled, StandsBefore, AreApart}
+use Rattle.mpw_region.specs.Runs.{HoldsPlace, CoversPlace, IsFilled, StandsBefore, AreApart}
 use Rattle.mpw_region.specs.Order.{BeginsFirst, AreInOrder, merged}
-use Rattle.mpw_region.proofs.Order.{line_total}
+use Rattle.mpw_region.proofs.Order.{line_before, line_chain}
 use Rattle.mpw_region.proofs.Held.{Held-nil, Held-push_left, Held-push_new, Held-push_cases, Held-permutation}
 
 -- how far runs are joined: the joined ones and the last one hold the places of those done
@@ -33,14 +31,11 @@ no_run = record { line = record { side = 0; first = pos 0; second = pos 0 }; fro
 
 -- on one line, what begins first begins no later
 pub from_begins : (r s : Run) → BeginsFirst r s → r.line ≡ s.line → r.from ≤ℤ s.from
-from_begins r s (inl p) e = let tied : line_cmp r.line r.line ≡ Equal = tied_itself line_total r.line in let less : line_cmp r.line r.line ≡ Less = ap (line_cmp r.line) e ∙ p in let no : Less ≡ Equal = sym less ∙ tied in absurd (cc)
+from_begins r s (inl p) e = absurd (line_before r.line s.line p e)
 from_begins r s (inr p) e = p.1
 
 StandsBefore-chain : (r s t : Run) → IsFilled s → StandsBefore r s → StandsBefore s t → StandsBefore r t
-StandsBefore-chain r s t f (inl p) (inl q) = inl (line_total.trans r.line s.line t.line p q)
-StandsBefore-chain r s t f (inl p) (inr q) = inl (ap (line_cmp r.line) (sym q.0) ∙ p)
-StandsBefore-chain r s t f (inr p) (inl q) = inl (ap (λ l. line_cmp l t.line) p.0 ∙ q)
-StandsBefore-chain r s t f (inr p) (inr q) = inr (p.0 ∙ q.0, omega (arith, ints, p.1, q.1, f))
+StandsBefore-chain r s t f p q = line_chain r.line s.line t.line (λ e g. omega (arith, ints, e, g, f)) p q
 
 holds_merged : (last run : Run) (line : Line) (at : ℤ) → last.line ≡ run.line → run.from ≤ℤ last.to → HoldsPlace (merged last run) line at → HoldsPlace last line at ⊎ HoldsPlace run line at
 holds_merged last run line at e g h =

@@ -1,6 +1,6 @@
 pub mod Order
 pub mod Held
+pub mod Adding
 pub mod Joins
 pub mod Strips
-pub mod Squares
 pub mod Banded

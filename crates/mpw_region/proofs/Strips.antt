@@ -1,5 +1,5 @@
 use Rattle.std.proofs.Common.{◌≡◌, ℕ, ◌+◌, ◌-◌, ◌<◌, ◌≤◌, ℤ, pos, ◌≤ℤ◌, ◌<ℤ◌, List, [], ◌∷◌, ◌++◌, length, get_or, take, max, ◌⊎◌, inl, inr, subst, sym, ap, ◌∙◌, arith}
-use Rattle.std.specs.Prelude.{◌↔◌, All, AllPairs, Contains}
+use Rattle.std.specs.Prelude.{All, AllPairs, Contains}
 use Rattle.std.specs.Ordering.{int_cmp, is_lt}
 use Rattle.std.specs.List.Sorted.{IsPermutation, IsSorted}
 use Rattle.std.proofs.lemmas.Int.{ints}
@@ -11,10 +11,10 @@ use Rattle.std.proofs.lemmas.List.Sorted.{sorted_far, ranks_by, Contains-permuta
 use Rattle.mpw_geom.specs.declared.plane.Box2.{Box2}
 use Rattle.mpw_region.specs.declared.runs.Line.{Line}
 use Rattle.mpw_region.specs.declared.runs.Run.{Run}
-use Rattle.mpw_region.specs.Runs.{HoldsPlace, CoversPlace, IsFilled}
-use Rattle.mpw_region.specs.Strips.{band_of, strip_of, HasStripBelow, HasStrip, HasSomeStrip, AddsStrips}
+use Rattle.mpw_region.specs.Runs.{HoldsPlace, IsFilled, Adds}
+use Rattle.mpw_region.specs.Strips.{band_of, strip_of, HasStripBelow}
 use Rattle.mpw_region.proofs.Order.{not_after}
-use Rattle.mpw_region.proofs.Held.{Held-nil, Held-push_left, Held-push_new, Held-push_cases}
+use Rattle.mpw_region.proofs.Adding.{Adds-none, Adds-push, Adds-both, Adds-same}
 
 -- ---- borders
 
@@ -40,15 +40,8 @@ ordered_from_sort rows h i j d l b = not_after (get_or rows i d) (get_or rows j 
 
 -- ---- the columns of one box
 
-pub strips_none : (runs : List Run) (b : Box2) (rows : List ℤ) → AddsStrips runs runs b rows 1
-strips_none runs b rows = record {
-  places = λ line at. (λ c. inl c, λ s. none line at s);
-  filled = λ h. h;
-}
-  where
-    none : (line : Line) (at : ℤ) → CoversPlace runs line at ⊎ HasStripBelow b rows 1 line at → CoversPlace runs line at
-    none line at (inl c) = c
-    none line at (inr s) = absurd (omega (arith, s.0.1))
+pub strips_none : (runs : List Run) (b : Box2) (rows : List ℤ) → Adds runs runs (HasStripBelow b rows 1)
+strips_none runs b rows = Adds-none runs (HasStripBelow b rows 1) (λ line at s. omega (arith, s.0.1))
 
 -- what one more row adds
 HasStripBelow-more : (b : Box2) (rows : List ℤ) (k : ℕ) (line : Line) (at : ℤ) → 1 ≤ k → HasStripBelow b rows (k + 1) line at → HasStripBelow b rows k line at ⊎ (line ≡ band_of (get_or rows (k - 1) (pos 0)) (get_or rows k (pos 0)))
@@ -68,44 +61,29 @@ HasStripBelow-wider : (b : Box2) (rows : List ℤ) (k : ℕ) (line : Line) (at :
 HasStripBelow-wider b rows k line at s = ((s.0.0, omega (arith, s.0.1), s.0.2, s.0.3), s.1, s.2, s.3, s.4)
 
 -- a band that the box doesn't cross
-pub strips_skip : (old new : List Run) (b : Box2) (rows : List ℤ) (k : ℕ) → 1 ≤ k → AddsStrips old new b rows k
+pub strips_skip : (old new : List Run) (b : Box2) (rows : List ℤ) (k : ℕ) → 1 ≤ k → Adds old new (HasStripBelow b rows k)
     → ((at : ℤ) → get_or rows (k - 1) (pos 0) <ℤ get_or rows k (pos 0) → b.y0 ≤ℤ get_or rows (k - 1) (pos 0) → get_or rows k (pos 0) ≤ℤ b.y1 → b.x0 ≤ℤ at → at <ℤ b.x1 → ⊥)
-    → AddsStrips old new b rows (k + 1)
-strips_skip old new b rows k l h never = record {
-  places = λ line at. (λ c. to line at ((h.places line at).0 c), λ s. (h.places line at).1 (from line at s));
-  filled = h.filled;
-}
+    → Adds old new (HasStripBelow b rows (k + 1))
+strips_skip old new b rows k l h never =
+    Adds-same old new (HasStripBelow b rows k) (HasStripBelow b rows (k + 1)) h (HasStripBelow-wider b rows k)
+    (λ line at s. elim (HasStripBelow-more b rows k line at l s) [ inl t ↦ t | inr e ↦ absurd (here line at s e) ])
   where
-    to : (line : Line) (at : ℤ) → CoversPlace old line at ⊎ HasStripBelow b rows k line at → CoversPlace old line at ⊎ HasStripBelow b rows (k + 1) line at
-    to line at (inl c) = inl c
-    to line at (inr s) = inr (HasStripBelow-wider b rows k line at s)
-
     here : (line : Line) (at : ℤ) → HasStripBelow b rows (k + 1) line at → line ≡ band_of (get_or rows (k - 1) (pos 0)) (get_or rows k (pos 0)) → ⊥
     here line at s e =
         let f : line.first ≡ get_or rows (k - 1) (pos 0) = ap (λ (n : Line). n.first) e in
         let g : line.second ≡ get_or rows k (pos 0) = ap (λ (n : Line). n.second) e in
         never at (omega (arith, ints, f, g, s.0.3)) (omega (arith, ints, f, s.1)) (omega (arith, ints, g, s.2)) s.3 s.4
 
-    from : (line : Line) (at : ℤ) → CoversPlace old line at ⊎ HasStripBelow b rows (k + 1) line at → CoversPlace old line at ⊎ HasStripBelow b rows k line at
-    from line at (inl c) = inl c
-    from line at (inr s) = elim (HasStripBelow-more b rows k line at l s) [ inl t ↦ inr t | inr e ↦ absurd (here line at s e) ]
-
 -- a band that it crosses
-pub strips_add : (old new : List Run) (b : Box2) (rows : List ℤ) (k : ℕ) (r : Run) → 1 ≤ k → AddsStrips old new b rows k
+pub strips_add : (old new : List Run) (b : Box2) (rows : List ℤ) (k : ℕ) (r : Run) → 1 ≤ k → Adds old new (HasStripBelow b rows k)
     → r ≡ strip_of b (get_or rows (k - 1) (pos 0)) (get_or rows k (pos 0)) → IsFilled r
     → get_or rows (k - 1) (pos 0) <ℤ get_or rows k (pos 0) → b.y0 ≤ℤ get_or rows (k - 1) (pos 0) → get_or rows k (pos 0) ≤ℤ b.y1
-    → AddsStrips old (new ++ r ∷ []) b rows (k + 1)
-strips_add old new b rows k r l h e filled up low high = record {
-  places = λ line at. (λ c. to line at (Held-push_cases (λ q. HoldsPlace q line at) new r c), from line at);
-  filled = λ f. All-push IsFilled new r (h.filled f) filled;
-}
+    → Adds old (new ++ r ∷ []) (HasStripBelow b rows (k + 1))
+strips_add old new b rows k r l h e filled up low high =
+    Adds-same old (new ++ r ∷ []) (λ line at. HasStripBelow b rows k line at ⊎ HoldsPlace r line at) (HasStripBelow b rows (k + 1))
+    (Adds-both old new (new ++ r ∷ []) (HasStripBelow b rows k) (HoldsPlace r) h (Adds-push new r (HoldsPlace r) filled (λ _ _. (λ p. p, λ p. p))))
+    to from
   where
-    y0 : ℤ
-    y0 = get_or rows (k - 1) (pos 0)
-
-    y1 : ℤ
-    y1 = get_or rows k (pos 0)
-
     on_band : r.line ≡ band_of (get_or rows (k - 1) (pos 0)) (get_or rows k (pos 0))
     on_band = ap (λ (q : Run). q.line) e
 
@@ -128,50 +106,19 @@ strips_add old new b rows k r l h e filled up low high = record {
           omega (arith, ints, ends, p.2),
         )
 
-    to : (line : Line) (at : ℤ) → CoversPlace new line at ⊎ HoldsPlace r line at → CoversPlace old line at ⊎ HasStripBelow b rows (k + 1) line at
-    to line at (inl c) = elim ((h.places line at).0 c) [ inl o ↦ inl o | inr s ↦ inr (HasStripBelow-wider b rows k line at s) ]
-    to line at (inr p) = inr (new_strip line at p)
+    to : (line : Line) (at : ℤ) → HasStripBelow b rows k line at ⊎ HoldsPlace r line at → HasStripBelow b rows (k + 1) line at
+    to line at (inl s) = HasStripBelow-wider b rows k line at s
+    to line at (inr p) = new_strip line at p
 
-    from : (line : Line) (at : ℤ) → CoversPlace old line at ⊎ HasStripBelow b rows (k + 1) line at → CoversPlace (new ++ r ∷ []) line at
-    from line at (inl c) = Held-push_left (λ q. HoldsPlace q line at) new r ((h.places line at).1 (inl c))
-    from line at (inr s) = elim (HasStripBelow-more b rows k line at l s) [
-      | inl t ↦ Held-push_left (λ q. HoldsPlace q line at) new r ((h.places line at).1 (inr t))
-      | inr same ↦ Held-push_new (λ q. HoldsPlace q line at) new r (on_band ∙ sym same, omega (arith, ints, starts, s.3), omega (arith, ints, ends, s.4))
+    from : (line : Line) (at : ℤ) → HasStripBelow b rows (k + 1) line at → HasStripBelow b rows k line at ⊎ HoldsPlace r line at
+    from line at s = elim (HasStripBelow-more b rows k line at l s) [
+      | inl t ↦ inl t
+      | inr same ↦ inr (on_band ∙ sym same, omega (arith, ints, starts, s.3), omega (arith, ints, ends, s.4))
     ]
 
 -- at the end of the loop
-pub strips_end : (old new : List Run) (b : Box2) (rows : List ℤ) (n m : ℕ) → AddsStrips old new b rows n → n ≤ max 1 m → m ≤ n → AddsStrips old new b rows m
-strips_end old new b rows n m h u l = record {
-  places = λ line at. (λ c. to line at ((h.places line at).0 c), λ s. (h.places line at).1 (from line at s));
-  filled = h.filled;
-}
-  where
-    to : (line : Line) (at : ℤ) → CoversPlace old line at ⊎ HasStripBelow b rows n line at → CoversPlace old line at ⊎ HasStripBelow b rows m line at
-    to line at (inl c) = inl c
-    to line at (inr s) = inr ((s.0.0, omega (arith, s.0.1), s.0.2, s.0.3), s.1, s.2, s.3, s.4)
-
-    from : (line : Line) (at : ℤ) → CoversPlace old line at ⊎ HasStripBelow b rows m line at → CoversPlace old line at ⊎ HasStripBelow b rows n line at
-    from line at (inl c) = inl c
-    from line at (inr s) = inr ((s.0.0, omega (arith, s.0.1), s.0.2, s.0.3), s.1, s.2, s.3, s.4)
-
--- ---- the columns of several boxes
-
-pub some_strip_none : (rows : List ℤ) (line : Line) (at : ℤ) → CoversPlace [] line at ↔ HasSomeStrip [] rows line at
-some_strip_none rows line at = (λ c. absurd (Held-nil (λ q. HoldsPlace q line at) c), λ s. absurd (Held-nil (λ b. HasStrip b rows line at) s))
-
-pub some_strip_more : (old new : List Run) (done : List Box2) (b : Box2) (rows : List ℤ) → AddsStrips old new b rows (length rows)
-    → ((line : Line) (at : ℤ) → CoversPlace old line at ↔ HasSomeStrip done rows line at)
-    → (line : Line) (at : ℤ) → CoversPlace new line at ↔ HasSomeStrip (done ++ b ∷ []) rows line at
-some_strip_more old new done b rows h same line at = (λ c. to ((h.places line at).0 c), λ s. (h.places line at).1 (from (Held-push_cases (λ x. HasStrip x rows line at) done b s)))
-  where
-    to : CoversPlace old line at ⊎ HasStrip b rows line at → HasSomeStrip (done ++ b ∷ []) rows line at
-    to (inl c) = Held-push_left (λ x. HasStrip x rows line at) done b ((same line at).0 c)
-    to (inr s) = Held-push_new (λ x. HasStrip x rows line at) done b s
-
-    from : HasSomeStrip done rows line at ⊎ HasStrip b rows line at → CoversPlace old line at ⊎ HasStrip b rows line at
-    from (inl c) = inl ((same line at).1 c)
-    from (inr s) = inr s
-
--- what the code's index gives past the end
-abbrev pub no_box : Box2
-no_box = record { x0 = pos 0; y0 = pos 0; x1 = pos 0; y1 = pos 0 }
+pub strips_end : (old new : List Run) (b : Box2) (rows : List ℤ) (n m : ℕ) → Adds old new (HasStripBelow b rows n) → n ≤ max 1 m → m ≤ n → Adds old new (HasStripBelow b rows m)
+strips_end old new b rows n m h u l =
+    Adds-same old new (HasStripBelow b rows n) (HasStripBelow b rows m) h
+    (λ line at s. ((s.0.0, omega (arith, s.0.1), s.0.2, s.0.3), s.1, s.2, s.3, s.4))
+    (λ line at s. ((s.0.0, omega (arith, s.0.1), s.0.2, s.0.3), s.1, s.2, s.3, s.4))

@@ -1,9 +1,6 @@
 use Rattle.std.specs.Prelude.{◌≡◌, ◌≤ℤ◌, ◌<ℤ◌, List, All, AllPairs, ◌⊎◌}
 use Rattle.mpw_geom.specs.declared.plane.Box2.{Box2}
-
--- the box has a unit square at all
-abbrev pub HasArea : Box2 → Type 0
-HasArea b = (b.x0 <ℤ b.x1) × (b.y0 <ℤ b.y1)
+use Rattle.mpw_geom.specs.Plane.{HasArea}
 
 -- the first box's rows are below the second's, or they have the same rows and the first is left of the second, with a gap
 abbrev pub StandsInBands : Box2 → Box2 → Type 0

@@ -1,11 +1,8 @@
-use Rattle.std.specs.Prelude.{ℤ, int_le, int_lt, Bool, ◌&&◌, List}
-use Rattle.std.specs.List.{list_any}
+-- The squares of a list of boxes, as a test of a column and a row.
+use Rattle.std.specs.Prelude.{ℤ, Bool, List}
 use Rattle.mpw_geom.specs.declared.plane.Box2.{Box2}
+use Rattle.mpw_geom.specs.Plane.{any_has_square}
 
--- the box has the unit square from (i, j) to (i + 1, j + 1)
-abbrev pub has_square : Box2 → ℤ → ℤ → Bool
-has_square b i j = (int_le b.x0 i && int_lt i b.x1) && (int_le b.y0 j && int_lt j b.y1)
-
--- some box of the list has the unit square
+-- some box of the list has the unit square in column i and row j
 abbrev pub covers : List Box2 → ℤ → ℤ → Bool
-covers boxes i j = list_any (λ b. has_square b i j) boxes
+covers boxes i j = any_has_square boxes (record { column = i; row = j })

@@ -1,8 +1,7 @@
-use Rattle.std.specs.Prelude.{◌≡◌, ℕ, ◌+◌, ◌<◌, ℤ, pos, ◌≤ℤ◌, ◌<ℤ◌, List, length, slice_index_or, Contains, All, ◌↔◌, ◌⊎◌}
+use Rattle.std.specs.Prelude.{◌≡◌, ℕ, ◌+◌, ◌<◌, ℤ, pos, ◌≤ℤ◌, ◌<ℤ◌, List, length, slice_index_or, Contains}
 use Rattle.mpw_geom.specs.declared.plane.Box2.{Box2}
 use Rattle.mpw_region.specs.declared.runs.Line.{Line}
 use Rattle.mpw_region.specs.declared.runs.Run.{Run}
-use Rattle.mpw_region.specs.Runs.{CoversPlace, IsFilled}
 
 -- the band of the rows from y0 to before y1, as a line
 abbrev pub band_of : ℤ → ℤ → Line
@@ -31,8 +30,3 @@ HasSomeStrip boxes rows line at = (b : Box2) × Contains boxes b × HasStrip b r
 -- the box of a run of columns in a band
 abbrev pub box_of : Run → Box2
 box_of r = record { x0 = r.from; y0 = r.line.first; x1 = r.to; y1 = r.line.second }
-
--- to the runs were added those of the box in the bands of the first n rows
-pub record AddsStrips (old new : List Run) (b : Box2) (rows : List ℤ) (n : ℕ) : Type 0 where
-  pub places : (line : Line) (at : ℤ) → CoversPlace new line at ↔ (CoversPlace old line at ⊎ HasStripBelow b rows n line at)
-  pub filled : All IsFilled old → All IsFilled new

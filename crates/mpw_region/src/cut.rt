@@ -1,15 +1,26 @@
 //! Bands of rows: the unit squares of a list of boxes, without overlaps.
 //!
 //! The rows are cut at every border of a box. Each box gives one run of columns in each band that
-//! it crosses, and the runs of a band are joined. So the cost is the number of boxes times the
-//! number of borders that each crosses, with the sort of that many runs: quadratic at worst.
+//! it crosses, and the runs of a band are joined.
+//!
+//! The body is plain, and its cost grows with the square of the boxes. The borders of the `n` boxes
+//! of one window cut it into `b` bands, fewer than `2n`. Each box gives a run in each band that it
+//! crosses, which makes `r` runs: at most `b` of one box, and at most `n * n` of all.
+//! - Time: each box is tried at each two neighbours of the `2n` borders, whether it crosses there or
+//!   not, so `n * (2n - 1)` tests; then a sort of `2n` borders and one of `r` runs, with `r log r`
+//!   comparisons.
+//! - Memory: 16 bytes a box for the borders, 40 bytes a run, and 32 bytes a box of the result, which
+//!   has at most `r`. Two lists of runs are held at a time; a sort takes one more as its buffer, and
+//!   a list that grows has room for up to twice its length.
+//!
+//! So 1,000 boxes that share no rows take two million tests and 1,000 runs, but 1,000 boxes that all
+//! share rows up to a million runs, of 40 MB a list: let a window have few boxes.
 
 ghost use Rattle.std.specs.Prelude.{
   ◌≡◌,
   ◌≤ℤ◌,
   ◌<ℤ◌,
   ◌⊎◌,
-  ◌↔◌,
   pos,
   ℤ,
   IfOk,
@@ -19,13 +30,11 @@ ghost use Rattle.std.specs.Prelude.{
   AllPairs,
   Contains,
   map,
-  length,
 };
-ghost use Rattle.mpw_region.specs.declared.runs.Line.{Line as LineValue};
-ghost use Rattle.mpw_region.specs.Runs.{CoversPlace, IsFilled};
-ghost use Rattle.mpw_region.specs.Squares.{covers};
+ghost use Rattle.mpw_geom.specs.Plane.{Square, any_has_square};
+ghost use Rattle.mpw_region.specs.Runs.{IsFilled, Adds, Finds};
 ghost use Rattle.mpw_region.specs.Banded.{AreBands};
-ghost use Rattle.mpw_region.specs.Strips.{AddsStrips, HasSomeStrip, strip_of, box_of};
+ghost use Rattle.mpw_region.specs.Strips.{HasStrip, HasSomeStrip, strip_of, box_of};
 
 use crate::region::Bands;
 use crate::runs::{Line, Run, joined};
@@ -34,8 +43,13 @@ use std::alloc::{AllocError, Global};
 
 /// The unit squares of the boxes, as bands of rows. A box has the squares from `(x0, y0)` to before
 /// `(x1, y1)`; one without area has none. Boxes may overlap, touch and come in any order.
+///
+/// The cost of `n` boxes is `n * (2n - 1)` tests and a sort of `r` runs, in memory for `r` runs of 40
+/// bytes a few times over, where `r` is one for each band that each box crosses, at most `n * n`. The
+/// only error is that memory ran out.
 pub fn bands(alloc: Global, boxes: &[Box2]) -> Result<Bands, AllocError>
-    ensures squares { IfOk result (λ b. (i j : ℤ) → covers b i j ≡ covers boxes.now i j) }
+    ensures squares { IfOk result (λ b. (s : Square) →
+        any_has_square b s ≡ any_has_square boxes.now s) }
     ensures banded { IfOk result AreBands }
 {
     let rows = borders(alloc, boxes)?;
@@ -85,7 +99,7 @@ fn strip(b: &Box2, y0: i64, y1: i64) -> Option<Run>
 /// Adds the columns of the box in each band between two neighbours of the rows.
 fn add_strips(runs: &mut Vec<Run>, b: &Box2, rows: &[i64]) -> Result<(), AllocError>
     ensures { OnOk result
-        (AddsStrips runs.old.items runs.new.items b.now rows.now (length rows.now)) }
+        (Adds runs.old.items runs.new.items (HasStrip b.now rows.now)) }
 {
     for k in 1..rows.len() {
         if let Some(run) = strip(b, rows[k - 1], rows[k]) {
@@ -97,9 +111,7 @@ fn add_strips(runs: &mut Vec<Run>, b: &Box2, rows: &[i64]) -> Result<(), AllocEr
 
 /// The columns of each box in each band that it crosses.
 fn strips(alloc: Global, boxes: &[Box2], rows: &[i64]) -> Result<Vec<Run>, AllocError>
-    ensures places { IfOk result (λ v. (line : LineValue) (at : ℤ) →
-        CoversPlace v.items line at ↔ HasSomeStrip boxes.now rows.now line at) }
-    ensures filled { IfOk result (λ v. All IsFilled v.items) }
+    ensures { IfOk result (λ v. Finds v.items (HasSomeStrip boxes.now rows.now)) }
 {
     let mut runs = Vec::new(alloc);
     for b in boxes {

@@ -1,8 +1,9 @@
 use Rattle.std.proofs.Common.{get_or, subst}
-use Rattle.mpw_region.proofs.Strips.{no_box}
+use Rattle.mpw_geom.proofs.Squares.{no_box}
 use Rattle.mpw_edges.specs.declared.pair.Edge.{Edge}
-use Rattle.mpw_edges.specs.Pairs.{Adds, IsPairPlace, rise_of, fall_of}
-use Rattle.mpw_edges.proofs.Adding.{Adds-start, Adds-more, Adds-all}
+use Rattle.mpw_region.specs.Runs.{Adds}
+use Rattle.mpw_edges.specs.Pairs.{IsPairPlace, rise_of, fall_of}
+use Rattle.mpw_region.proofs.Adding.{Adds-start, Adds-more, Adds-all}
 use Rattle.mpw_edges.proofs.edges.add_widths.Goals as goal
 
 pub loop-b-init : goal.loop-b-init

@@ -1,5 +1,6 @@
 use Rattle.std.proofs.Common.{take}
-use Rattle.mpw_edges.specs.Pairs.{Adds, IsWidthOf}
+use Rattle.mpw_region.specs.Runs.{Adds}
+use Rattle.mpw_edges.specs.Pairs.{IsWidthOf}
 use Rattle.mpw_edges.proofs.edges.add_widths.Given as goal
 
 abbrev pub invariant-loop-b : goal.invariant-loop-b

@@ -1,4 +1,4 @@
-use Rattle.mpw_edges.proofs.Adding.{Adds-none, Adds-push}
+use Rattle.mpw_region.proofs.Adding.{Adds-none, Adds-push}
 use Rattle.mpw_edges.specs.Pairs.{IsPairPlace}
 use Rattle.mpw_edges.proofs.pair.add_pair.Goals as goal
 

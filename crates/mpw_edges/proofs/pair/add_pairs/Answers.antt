@@ -1,5 +1,6 @@
 use Rattle.mpw_edges.specs.Pairs.{IsPairFrom}
-use Rattle.mpw_edges.proofs.Adding.{Adds-start, Adds-more, Adds-all, no_edge}
+use Rattle.mpw_region.proofs.Adding.{Adds-start, Adds-more, Adds-all}
+use Rattle.mpw_edges.proofs.Region.{no_edge}
 use Rattle.mpw_edges.proofs.pair.add_pairs.Goals as goal
 
 pub loop-from-init : goal.loop-from-init

@@ -1,5 +1,6 @@
 use Rattle.std.proofs.Common.{take}
-use Rattle.mpw_edges.specs.Pairs.{Adds, IsPairOf}
+use Rattle.mpw_region.specs.Runs.{Adds}
+use Rattle.mpw_edges.specs.Pairs.{IsPairOf}
 use Rattle.mpw_edges.proofs.pair.add_pairs.Given as goal
 
 abbrev pub invariant-loop-from : goal.invariant-loop-from

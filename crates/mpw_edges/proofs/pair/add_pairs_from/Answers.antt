@@ -1,5 +1,6 @@
 use Rattle.mpw_edges.specs.Pairs.{IsPairPlace}
-use Rattle.mpw_edges.proofs.Adding.{Adds-start, Adds-more, Adds-all, no_edge}
+use Rattle.mpw_region.proofs.Adding.{Adds-start, Adds-more, Adds-all}
+use Rattle.mpw_edges.proofs.Region.{no_edge}
 use Rattle.mpw_edges.proofs.pair.add_pairs_from.Goals as goal
 
 pub loop-to-init : goal.loop-to-init

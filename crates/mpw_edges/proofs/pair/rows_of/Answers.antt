@@ -1,7 +1,8 @@
 use Rattle.std.proofs.Common.{arith, rules, w64}
 use mir.Val.{SFits}
 use Rattle.std.proofs.lemmas.Int.{ints, to_z-of_z}
-use Rattle.mpw_edges.proofs.Tests.{le_from_test, gt_from_test}
+use Rattle.mpw_geom.proofs.Tests.{le_from_test}
+use Rattle.mpw_edges.proofs.Tests.{gt_from_test}
 use Rattle.mpw_edges.proofs.pair.rows_of.Goals as goal
 
 pub returns-then-y1-y0 : goal.returns-then-y1-y0

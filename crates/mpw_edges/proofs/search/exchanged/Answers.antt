@@ -9,4 +9,4 @@ use Rattle.mpw_edges.proofs.search.exchanged.Goals as goal
 pub returns : goal.returns
 returns c =
     let is = c.as_slice-2.ensures.value ∙ c.in_ok-boxes.ensures ∙ ap (λ (bs : List Box2). map exchanged_box bs) c.as_slice.ensures.boxes in
-    IfOk-weaker c.bands.result _ _ (λ r h i j. h i j ∙ ap (λ (bs : List Box2). covers bs i j) is ∙ covers-exchanged c.args.region.now i j) c.bands.ensures.squares
+    IfOk-weaker c.bands.result _ _ (λ r h i j. h (record { column = i; row = j }) ∙ ap (λ (bs : List Box2). covers bs i j) is ∙ covers-exchanged c.args.region.now i j) c.bands.ensures.squares

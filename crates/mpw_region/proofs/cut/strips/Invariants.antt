@@ -1,12 +1,7 @@
-use Rattle.std.proofs.Common.{ℤ, take}
-use Rattle.std.specs.Prelude.{All, ◌↔◌}
-use Rattle.mpw_region.specs.declared.runs.Line.{Line}
-use Rattle.mpw_region.specs.Runs.{CoversPlace, IsFilled}
+use Rattle.std.proofs.Common.{take, []}
+use Rattle.mpw_region.specs.Runs.{Adds}
 use Rattle.mpw_region.specs.Strips.{HasSomeStrip}
 use Rattle.mpw_region.proofs.cut.strips.Given as goal
 
 abbrev pub invariant-loop-b : goal.invariant-loop-b
-invariant-loop-b l = record {
-  places : (line : Line) (at : ℤ) → CoversPlace l.runs.items line at ↔ HasSomeStrip (take l.b-index l.boxes) l.rows line at;
-  filled : All IsFilled l.runs.items;
-}
+invariant-loop-b l = Adds [] l.runs.items (HasSomeStrip (take l.b-index l.boxes) l.rows)
