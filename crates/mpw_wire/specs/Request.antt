@@ -1,7 +1,7 @@
 -- The text of a request line: its words, and the request that they ask.
-use Rattle.std.specs.Prelude.{ℕ, Bool, true, false, List, [], ◌∷◌, length, codes, Option, Some, None, option_map, option_and_then, if◌then◌else◌}
+use Rattle.std.specs.Prelude.{ℕ, List, [], ◌∷◌, length, codes, Option, Some, None, option_map, option_and_then, if◌then◌else◌}
 use Rattle.sha2.specs.Sha256.{sha256}
-use Rattle.mpw_text.specs.Text.{number_of, is_decimal}
+use Rattle.mpw_text.specs.Text.{number_of}
 use Rattle.mpw_geom.specs.Names.{name_eq}
 use Rattle.mpw_separation.specs.Set.{SeparationSet, formed}
 use Rattle.mpw_rbac.specs.declared.permission.Grant as permission
@@ -10,9 +10,7 @@ use Rattle.mpw_rbac.specs.declared.permission.Operation.TheVariants.{Submit, Use
 use Rattle.mpw_rbac.specs.declared.permission.Object.{Object}
 use Rattle.mpw_rbac.specs.declared.permission.Object.TheVariants.{Cell, Desk}
 use Rattle.mpw_core.specs.declared.event.Request.{Request}
-use Rattle.mpw_core.specs.declared.event.Request.TheVariants.{Open, Close, Activate, DropRole, Whoami, AddUser, DelUser, AddRole, DelRole, Assign, Deassign, Grant, Revoke, Inherit, Uninherit, Ssd, Dsd, UnSsd, UnDsd, Cells}
-use Rattle.mpw_wire.specs.declared.request.LineAsk.{LineAsk}
-use Rattle.mpw_wire.specs.declared.request.LineAsk.TheVariants as ask
+use Rattle.mpw_core.specs.declared.event.Request.TheVariants.{Open, Close, Activate, DropRole, Whoami, AddUser, DelUser, AddRole, DelRole, Assign, Deassign, Grant, Revoke, Inherit, Uninherit, Ssd, Dsd, UnSsd, UnDsd}
 use Rattle.mpw_wire.specs.Words.{words, is_visible_word}
 
 infixl 10 ◌>>=◌
@@ -106,7 +104,6 @@ unfoldable pub bare_request : List ℕ → Option Request
 bare_request verb =
     if name_eq verb (codes "close") then Some Close
     else if name_eq verb (codes "whoami") then Some Whoami
-    else if name_eq verb (codes "cells") then Some Cells
     else None
 
 -- the requests of a verb and one name
@@ -146,43 +143,14 @@ request_of_more verb name cardinality roles =
     else if name_eq verb (codes "dsd") then option_map Dsd (set_of name cardinality roles)
     else None
 
--- what a request's line asks, and no form where it is none's
-abbrev pub asked : Option Request → LineAsk
-asked (Some request) = ask.Request request
-asked None = ask.Form
+abbrev pub request_of_words : List (List ℕ) → Option Request
+request_of_words [] = None
+request_of_words (verb ∷ []) = bare_request verb
+request_of_words (verb ∷ a ∷ []) = request_of_one verb a
+request_of_words (verb ∷ a ∷ b ∷ []) = request_of_two verb a b
+request_of_words (verb ∷ a ∷ b ∷ c ∷ []) = request_of_three verb a b c
+request_of_words (verb ∷ a ∷ b ∷ c ∷ d ∷ more) = request_of_more verb a b (c ∷ d ∷ more)
 
--- the greatest number of bytes that follow a line
-unfoldable pub max_payload : ℕ
-max_payload = 16777216
-
--- a number of bytes that is too great is so whatever its digits are
-abbrev pub length_of : List ℕ → List ℕ → Bool → Option ℕ → LineAsk
-length_of cell top false length = ask.Form
-length_of cell top true (Some length) = ask.Submission cell top length
-length_of cell top true None = ask.Long
-
-abbrev pub submission_to : Option (List ℕ) → Option (List ℕ) → List ℕ → LineAsk
-submission_to None top length = ask.Form
-submission_to (Some cell) None length = ask.Form
-submission_to (Some cell) (Some top) length = length_of cell top (is_decimal length) (number_of 0 max_payload length)
-
--- to submit a cell with a structure, and how many bytes follow
-unfoldable pub submission_of : List ℕ → List ℕ → List ℕ → LineAsk
-submission_of cell top length = submission_to (name_of cell) (name_of top) length
-
--- what a verb and three words ask
-unfoldable pub ask_of_three : List ℕ → List ℕ → List ℕ → List ℕ → LineAsk
-ask_of_three verb first second third =
-    if name_eq verb (codes "submit") then submission_of first second third else asked (request_of_three verb first second third)
-
-abbrev pub ask_of_words : List (List ℕ) → LineAsk
-ask_of_words [] = ask.Form
-ask_of_words (verb ∷ []) = asked (bare_request verb)
-ask_of_words (verb ∷ a ∷ []) = asked (request_of_one verb a)
-ask_of_words (verb ∷ a ∷ b ∷ []) = asked (request_of_two verb a b)
-ask_of_words (verb ∷ a ∷ b ∷ c ∷ []) = ask_of_three verb a b c
-ask_of_words (verb ∷ a ∷ b ∷ c ∷ d ∷ more) = asked (request_of_more verb a b (c ∷ d ∷ more))
-
--- what a line asks
-abbrev pub ask_of : List ℕ → LineAsk
-ask_of line = ask_of_words (words line)
+-- the request whose text a line is
+abbrev pub request_of : List ℕ → Option Request
+request_of line = request_of_words (words line)

@@ -2,8 +2,7 @@
 ghost use Rattle.std.specs.Prelude.{◌≡◌, IfOk};
 ghost use Rattle.mpw_core.specs.declared.event.Request.TheVariants as ask;
 ghost use Rattle.mpw_geom.specs.Names.{name_eq};
-ghost use Rattle.mpw_wire.specs.Request.{name_of, token_of, operation_of, object_of, grant_of, login_of, pair_of, names_of, set_of, bare_request, request_of_one, request_of_two, request_of_three, request_of_more, asked, max_payload, submission_of, ask_of_three, ask_of};
-ghost use Rattle.mpw_text.specs.Text.{number_of};
+ghost use Rattle.mpw_wire.specs.Request.{name_of, token_of, operation_of, object_of, grant_of, login_of, pair_of, names_of, set_of, bare_request, request_of_one, request_of_two, request_of_three, request_of_more, request_of};
 ghost use Rattle.mpw_wire.specs.Words.{words};
 
 use crate::digest::digest_of;
@@ -12,11 +11,8 @@ use mpw_core::Request;
 use mpw_geom::{Name, NameFault, Names, is_name};
 use mpw_rbac::{Digest, Grant, Object, Operation};
 use mpw_separation::SeparationSet;
-use mpw_text::{is_decimal, parts, read_count};
+use mpw_text::{parts, read_count};
 use std::alloc::{AllocError, Global};
-
-/// The greatest number of bytes that follow a line.
-pub const MAX_PAYLOAD: usize = 1 << 24;
 
 /// Whether a word is this text.
 fn is(word: &[u8], text: &str) -> bool
@@ -136,8 +132,6 @@ fn bare(verb: &[u8]) -> Option<Request>
         Some(Request::Close)
     } else if is(verb, "whoami") {
         Some(Request::Whoami)
-    } else if is(verb, "cells") {
-        Some(Request::Cells)
     } else {
         None
     }
@@ -306,98 +300,20 @@ fn of_more(
     }
 }
 
-/// What a line asks.
-#[derive(Drop)]
-pub enum LineAsk {
-    /// The request whose text the line is.
-    Request(Request),
-    /// To submit the bytes that follow the line, so many.
-    Submission {
-        cell: Name,
-        top: Name,
-        length: usize,
-    },
-    /// To submit more than 2^24 bytes.
-    Long,
-    /// The line is no request's text.
-    Form,
-}
-
-/// What a request's line asks, and no form where it is none's.
-fn ask(request: Option<Request>) -> LineAsk
-    ensures { result ≡ asked request }
-{
-    match request {
-        Some(request) => LineAsk::Request(request),
-        None => LineAsk::Form,
-    }
-}
-
-/// The number of bytes that a word counts, up to 2^24.
-#[tactic(auto, unfolding(crate::specs::Request::max_payload))]
-fn payload_length(word: &[u8]) -> Option<usize>
-    ensures { result ≡ number_of 0 max_payload word.now }
-{
-    read_count(word, 0, MAX_PAYLOAD)
-}
-
-/// What the words of a submission ask: a cell, a structure, and how many bytes follow.
-#[tactic(auto, unfolding(crate::specs::Request::submission_of))]
-fn submission(
-    alloc: Global,
-    cell_word: &[u8],
-    top_word: &[u8],
-    length_word: &[u8],
-) -> Result<LineAsk, AllocError>
-    ensures { IfOk result (λ ask. ask ≡ submission_of cell_word.now top_word.now length_word.now) }
-{
-    let Some(cell) = name(alloc, cell_word)? else {
-        return Ok(LineAsk::Form);
-    };
-    let Some(top) = name(alloc, top_word)? else {
-        return Ok(LineAsk::Form);
-    };
-    if !is_decimal(length_word) {
-        return Ok(LineAsk::Form);
-    }
-    match payload_length(length_word) {
-        Some(length) => Ok(LineAsk::Submission { cell, top, length }),
-        None => Ok(LineAsk::Long),
-    }
-}
-
-/// What a verb and three words ask.
-#[tactic(auto, unfolding(crate::specs::Request::ask_of_three))]
-fn ask_three(
-    alloc: Global,
-    verb: &[u8],
-    first: &[u8],
-    second: &[u8],
-    third: &[u8],
-) -> Result<LineAsk, AllocError>
-    ensures { IfOk result (λ ask. ask ≡ ask_of_three verb.now first.now second.now third.now) }
-{
-    if is(verb, "submit") {
-        return submission(alloc, first, second, third);
-    }
-    Ok(ask(of_three(alloc, verb, first, second, third)?))
-}
-
-/// What a line asks, without its line feed. Two passes at a token, and n log n comparisons at the roles of a set.
+/// The request whose text a line is, without its line feed, and `None` where it is none's. Two passes at a token, and
+/// n log n comparisons at the roles of a set.
 ///
 /// # Errors
 /// Where there is no room for a name.
-pub fn parse_line(alloc: Global, line: &[u8]) -> Result<LineAsk, AllocError>
-    ensures { IfOk result (λ ask. ask ≡ ask_of line.now) }
+pub fn parse_request(alloc: Global, line: &[u8]) -> Result<Option<Request>, AllocError>
+    ensures { IfOk result (λ request. request ≡ request_of line.now) }
 {
     let (verb, rest) = cut(line);
     match read_arguments(rest) {
-        Arguments::Zero => Ok(ask(bare(verb))),
-        Arguments::One(first) => Ok(ask(of_one(alloc, verb, first)?)),
-        Arguments::Two(first, second) => Ok(ask(of_two(alloc, verb, first, second)?)),
-        Arguments::Three(first, second, third) => ask_three(alloc, verb, first, second, third),
-        Arguments::More(first, second, rest) => {
-            Ok(ask(of_more(alloc, verb, first, second, rest)?))
-        }
+        Arguments::Zero => Ok(bare(verb)),
+        Arguments::One(first) => of_one(alloc, verb, first),
+        Arguments::Two(first, second) => of_two(alloc, verb, first, second),
+        Arguments::Three(first, second, third) => of_three(alloc, verb, first, second, third),
+        Arguments::More(first, second, rest) => of_more(alloc, verb, first, second, rest),
     }
 }
