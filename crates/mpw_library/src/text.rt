@@ -65,7 +65,7 @@ impl LibraryText {
         ensures fault { IfErr result (λ fault. library_of self.now ≡ Err fault) }
     {
         match &self.outcome {
-            Ok(library) => Ok(library),
+            Ok(found) => Ok(found),
             Err(fault) => Err(*fault),
         }
     }
