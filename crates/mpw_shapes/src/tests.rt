@@ -199,6 +199,93 @@ fn a_staircase_gives_a_box_a_step(rt: HostRuntime) -> Result<(), Fail> {
     Ok(())
 }
 
+/// The sum of the boxes' areas: the area of their union, if no two overlap.
+fn area(boxes: &[Box2]) -> i64 {
+    let mut sum = 0i64;
+    for b in boxes {
+        let width = b.x1.wrapping_sub(b.x0);
+        let height = b.y1.wrapping_sub(b.y0);
+        sum = sum.wrapping_add(width.wrapping_mul(height));
+    }
+    sum
+}
+
+/// A corridor of width 1 that winds inward 250 times between walls of width 1.
+fn spiral(alloc: Global) -> Result<Vec<Point>, Fail> {
+    let mut points = corners(alloc, [(-1, 0)])?;
+    for turn in 0..250u16 {
+        let low = 2 * i64::from(turn);
+        let high = 1000 - low;
+        points.push(Point { x: high, y: low })?;
+        points.push(Point { x: high, y: high })?;
+        points.push(Point { x: low, y: high })?;
+        points.push(Point { x: low, y: low + 2 })?;
+    }
+    points.push(Point { x: 499, y: 500 })?;
+    for back in 0..250u16 {
+        let low = 499 - 2 * i64::from(back);
+        let high = 1000 - low;
+        points.push(Point { x: low, y: high })?;
+        points.push(Point { x: high, y: high })?;
+        points.push(Point { x: high, y: low })?;
+        points.push(Point { x: low - 2, y: low })?;
+    }
+    Ok(points)
+}
+
+#[test]
+fn a_spiral_gives_four_boxes_a_turn(rt: HostRuntime) -> Result<(), Fail> {
+    let points = spiral(rt.alloc())?;
+    assert_eq!(rt; points.len(), 2002);
+    let boxes = boundary_rectangles(rt.alloc(), &points)?;
+    assert_eq!(rt; boxes.len(), 1000);
+    // The corridor's outer side is 501,999 long, and the squares at its 999 corners count twice.
+    assert_eq!(rt; area(&boxes), 501_000);
+    Ok(())
+}
+
+/// 500 squares one in another, drawn by one line that comes back on its own steps.
+fn nested(alloc: Global) -> Result<Vec<Point>, Fail> {
+    let mut points = Vec::new(alloc);
+    for step in 0..500u16 {
+        let low = i64::from(step);
+        let high = 1000 - low;
+        points.push(Point { x: low, y: low })?;
+        points.push(Point { x: high, y: low })?;
+        points.push(Point { x: high, y: high })?;
+        points.push(Point { x: low, y: high })?;
+        points.push(Point { x: low, y: low })?;
+        points.push(Point { x: low + 1, y: low })?;
+    }
+    for back in 0..500u16 {
+        let low = 500 - i64::from(back);
+        points.push(Point { x: low, y: low })?;
+        points.push(Point { x: low, y: low - 1 })?;
+    }
+    Ok(points)
+}
+
+#[test]
+fn nested_squares_are_the_outer_one(rt: HostRuntime) -> Result<(), Fail> {
+    let points = nested(rt.alloc())?;
+    let boxes = boundary_rectangles(rt.alloc(), &points)?;
+    assert_eq!(rt; area(&boxes), 1_000_000);
+    // The line's way from the outer square inward may cut off the first square of its lowest row.
+    assert!(rt; boxes.len() <= 3);
+    Ok(())
+}
+
+#[test]
+fn a_wall_in_two_pieces_ends_one_box(rt: HostRuntime) -> Result<(), Fail> {
+    let points = corners(
+        rt.alloc(),
+        [(0, 0), (10, 0), (10, 4), (10, 4), (10, 10), (0, 10), (0, 7)],
+    )?;
+    let boxes = boundary_rectangles(rt.alloc(), &points)?;
+    assert_eq!(rt; boxes.as_slice(), [span(0, 0, 10, 10)].as_slice());
+    Ok(())
+}
+
 const METAL: Layer = Layer {
     layer: 1,
     datatype: 0,
