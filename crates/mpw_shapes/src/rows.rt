@@ -5,10 +5,8 @@
 //! looked at (`halves_of`). Each node knows a gap round 0 in which no winding number of its rows lies:
 //! while 0 stays in the gap, no row begins or ends.
 
-ghost use Rattle.std.specs.Prelude.{◌≡◌, ◌≢◌, ◌<◌, ◌+◌, ◌^◌, ◌↔◌, ◌&&◌, ◌||◌, ℕ, ℤ, pos, neg_ℤ, ◌+ℤ◌, ◌≤ℤ◌, ◌<ℤ◌, int_lt, if◌then◌else◌, IsTrue, List, IfOk, OnOk, All, slice_index_or, length, FitsSigned};
-ghost use Rattle.std.specs.Int.{w64};
-ghost use Rattle.std.specs.Ordering.{int_eq};
-ghost use Rattle.std.specs.Int.{int_max};
+ghost use Rattle.std.specs.Prelude.{◌≡◌, ◌≢◌, ◌<◌, ◌+◌, ◌^◌, ◌↔◌, ℕ, ℤ, pos, ◌+ℤ◌, ◌≤ℤ◌, ◌<ℤ◌, IsTrue, List, IfOk, FitsSigned};
+ghost use Rattle.std.specs.Int.{int_max, w64};
 ghost use Rattle.mpw_shapes.specs.Rows.{IsBuilt, IsOutside, half_at, middle, past, raised, reach, size_of, state_at, turn_of};
 
 use crate::edge::Edge;
@@ -148,12 +146,13 @@ impl Gap {
 #[cycle(rows)]
 #[derive(Drop)]
 pub(crate) enum Rows {
-    /// All the rows are alike.
+    /// All of them are in one state.
     Alike(State),
+    /// They are in several.
     Parted(Box<Halves>),
 }
 
-/// The two halves of a node that are not alike, or have halves that are not.
+/// The halves of a node whose rows are in several states.
 #[cycle(rows)]
 #[derive(Drop)]
 pub(crate) struct Halves {
