@@ -83,7 +83,8 @@ impl Added {
     }
 }
 
-/// No row's winding number lies strictly between the two.
+/// No row's winding number lies strictly between the two. A narrower gap is right too: it costs time
+/// alone, so that no contract says how wide it is.
 #[derive(Clone, Copy)]
 pub(crate) struct Gap {
     pub down: i64,
