@@ -1,4 +1,4 @@
--- One column of a band, as an edge at x is passed: U and D of the edges left of the column go up and down, of `ups`
+-- One column of a row, as an edge at x is passed: U and D of the edges left of the column go up and down, of `ups`
 -- and `downs` edges so far. A prime marks what is so after the edge.
 use Rattle.std.proofs.Common.{◌≡◌, ◌≢◌, inl, inr, refl, ℕ, ◌≤ℤ◌, ◌<ℤ◌, ℤ, Bool, true, false, not, ◌&&◌, ◌||◌, arith}
 use Rattle.std.specs.Prelude.{int_lt, int_le, ◌==◌}
@@ -42,8 +42,8 @@ filled_staying U D U' D' ups downs ups' downs' x c start p m n h =
           rw (p.up le, p.down le, p.up' le, p.down' le, ne_eqb ups' downs' n, ne_eqb ups downs m, not_lt_test c start out)
     ]
 
-pub filled_closing : (U D U' D' ups downs ups' downs' : ℕ) (x c start : ℤ) → Passes U D U' D' ups downs ups' downs' x c → ups ≢ downs → ups' ≡ downs' → start ≤ℤ x → (start ≤ℤ c → not (U == D) ≡ true) → filled U' D' ups' downs' c start ≡ (filled U D ups downs c start || (int_le start c && int_lt c x))
-filled_closing U D U' D' ups downs ups' downs' x c start p m e h inside =
+pub filled_closing : (U D U' D' ups downs ups' downs' : ℕ) (x c start start' : ℤ) → Passes U D U' D' ups downs ups' downs' x c → ups ≢ downs → ups' ≡ downs' → start ≤ℤ x → (start ≤ℤ c → not (U == D) ≡ true) → filled U' D' ups' downs' c start' ≡ (filled U D ups downs c start || (int_le start c && int_lt c x))
+filled_closing U D U' D' ups downs ups' downs' x c start start' p m e h inside =
     elim (cases_lt_z c x) [
       | inl lt ↦
           elim (cases_lt_z c start) [

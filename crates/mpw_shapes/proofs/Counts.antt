@@ -1,13 +1,10 @@
 -- Counts of edges that cross a row.
-use Rattle.std.proofs.Common.{◌≡◌, ◌⊎◌, inl, inr, refl, sym, ◌∙◌, ℕ, ◌+◌, ◌<◌, ◌≤ℤ◌, ◌<ℤ◌, ℤ, Bool, true, false, ◌&&◌, cond, arith, List, [], ◌∷◌, length, get_or, take, All, count_by}
-use Rattle.std.specs.Prelude.{int_lt, int_le}
+use Rattle.std.proofs.Common.{◌≡◌, ◌⊎◌, inl, inr, refl, sym, ◌∙◌, ℕ, ◌+◌, ◌<◌, ◌≤ℤ◌, ◌<ℤ◌, ℤ, Bool, true, false, cond, arith, List, [], ◌∷◌, length, get_or, take, All, count_by}
+use Rattle.std.specs.Prelude.{int_lt}
 use Rattle.std.proofs.lemmas.Int.{ints}
-use Rattle.std.proofs.lemmas.Bool.{and_parts, and_from}
 use Rattle.std.proofs.lemmas.List.Sums.{sum_by-cons, sum_by_more}
 use Rattle.std.proofs.lemmas.List.Elements.{All-head, All-tail}
-use Rattle.mpw_geom.proofs.Tests.{le_from_test, test_from_le, lt_from_test, test_from_lt, same_tests}
-use Rattle.mpw_shapes.specs.declared.edge.Edge.{Edge}
-use Rattle.mpw_shapes.specs.Edges.{IsClear}
+use Rattle.mpw_geom.proofs.Tests.{lt_from_test}
 
 -- two tests that agree on each element of a list count alike
 pub count_by_agree : {X : Type 0} (p q : X → Bool) (xs : List X) → All (λ x. p x ≡ q x) xs → count_by p xs ≡ count_by q xs
@@ -31,22 +28,3 @@ cases_lt_z a b =
   where
     le_from_false : (a b : ℤ) → int_lt a b ≡ false → b ≤ℤ a
     le_from_false a b h = grind (arith, ints)
-
--- an edge with no end inside the band crosses all of its rows or none
-pub crosses_alike : (y0 y1 row : ℤ) (e : Edge) → IsClear y0 y1 e → y0 ≤ℤ row → row <ℤ y1 → (int_le e.low row && int_lt row e.high) ≡ (int_le e.low y0 && int_le y1 e.high)
-crosses_alike y0 y1 row e clear u v =
-    same_tests (int_le e.low row && int_lt row e.high) (int_le e.low y0 && int_le y1 e.high)
-    (λ h.
-    let p = and_parts (int_le e.low row) (int_lt row e.high) h in
-    let a = le_from_test e.low row p.0 in
-    let b = lt_from_test row e.high p.1 in
-    and_from (int_le e.low y0) (int_le y1 e.high)
-    (test_from_le e.low y0 (elim clear.low [ inl x ↦ x | inr x ↦ absurd (omega (arith, ints)) ]))
-    (test_from_le y1 e.high (elim clear.high [ inl x ↦ absurd (omega (arith, ints)) | inr x ↦ x ])))
-    (λ h.
-    let p = and_parts (int_le e.low y0) (int_le y1 e.high) h in
-    let a = le_from_test e.low y0 p.0 in
-    let b = le_from_test y1 e.high p.1 in
-    and_from (int_le e.low row) (int_lt row e.high)
-    (test_from_le e.low row (omega (arith, ints)))
-    (test_from_lt row e.high (omega (arith, ints))))

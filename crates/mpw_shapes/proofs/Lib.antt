@@ -1,14 +1,15 @@
-pub mod Carried
 pub mod Chains
 pub mod Columns
 pub mod Counts
-pub mod Halves
 pub mod Laid
 pub mod Lists
 pub mod NearLemmas
 pub mod Order
 pub mod PlacedBoundary
 pub mod PlacedPath
+pub mod RowStates
+pub mod RowSwept
 pub mod Swept
+pub mod TurnedRows
 pub mod Whole
 pub mod Wires

@@ -33,25 +33,25 @@ pub any_push_empty : (boxes : List Box2) (b : Box2) (s : Square) → ((b.x1 ≤�
 any_push_empty boxes b s e = or_false (any_has_square boxes s) ∙ rw (empty_box b s e)
 
 -- a box with the rows of the box below it has the squares of both
-pub joined_boxes : (lower upper both : Box2) (s : Square) → HasArea lower → HasArea upper → lower.x0 ≡ upper.x0 → lower.x1 ≡ upper.x1 → lower.y1 ≡ upper.y0 → both ≡ record { x0 = upper.x0; y0 = lower.y0; x1 = upper.x1; y1 = upper.y1 } → has_square both s ≡ (has_square upper s || has_square lower s)
+pub joined_boxes : (lower upper both : Box2) (s : Square) → HasArea lower → HasArea upper → lower.x0 ≡ upper.x0 → lower.x1 ≡ upper.x1 → lower.y1 ≡ upper.y0 → both ≡ record { x0 = upper.x0; y0 = lower.y0; x1 = upper.x1; y1 = upper.y1 } → has_square both s ≡ (has_square lower s || has_square upper s)
 joined_boxes lower upper both s a b e f g is =
     let whole : Box2 = record { x0 = upper.x0; y0 = lower.y0; x1 = upper.x1; y1 = upper.y1 } in
     ap (λ (x : Box2). has_square x s) is
-    ∙ same_tests (has_square whole s) (has_square upper s || has_square lower s)
+    ∙ same_tests (has_square whole s) (has_square lower s || has_square upper s)
     (λ h.
     let i = SquareIn-from_test whole s h in
     elim (cases_lt_z s.row lower.y1) [
-      | inl below ↦ or_right (has_square upper s) (has_square lower s) (test_from_SquareIn lower s (record { left = omega (arith, ints, i.left); right = omega (arith, ints, i.right); bottom = i.bottom; top = below }))
-      | inr above ↦ or_left (has_square upper s) (has_square lower s) (test_from_SquareIn upper s (record { left = i.left; right = i.right; bottom = omega (arith, ints, g); top = i.top }))
+      | inl below ↦ or_left (has_square lower s) (has_square upper s) (test_from_SquareIn lower s (record { left = omega (arith, ints, i.left); right = omega (arith, ints, i.right); bottom = i.bottom; top = below }))
+      | inr above ↦ or_right (has_square lower s) (has_square upper s) (test_from_SquareIn upper s (record { left = i.left; right = i.right; bottom = omega (arith, ints, g); top = i.top }))
     ])
     (λ h.
-    elim (or_cases (has_square upper s) (has_square lower s) h) [
-      | inl u ↦
-          let i = SquareIn-from_test upper s u in
-          test_from_SquareIn whole s (record { left = i.left; right = i.right; bottom = omega (arith, ints, i.bottom, a.height, g); top = i.top })
-      | inr l ↦
+    elim (or_cases (has_square lower s) (has_square upper s) h) [
+      | inl l ↦
           let i = SquareIn-from_test lower s l in
           test_from_SquareIn whole s (record { left = omega (arith, ints, i.left); right = omega (arith, ints, i.right); bottom = i.bottom; top = omega (arith, ints, i.top, b.height, g) })
+      | inr u ↦
+          let i = SquareIn-from_test upper s u in
+          test_from_SquareIn whole s (record { left = i.left; right = i.right; bottom = omega (arith, ints, i.bottom, a.height, g); top = i.top })
     ])
 
 pub joined_area : (lower upper both : Box2) → HasArea lower → HasArea upper → lower.y1 ≡ upper.y0 → both ≡ record { x0 = upper.x0; y0 = lower.y0; x1 = upper.x1; y1 = upper.y1 } → HasArea both

@@ -3,14 +3,12 @@ use Rattle.std.proofs.Common.{◌≡◌, ◌⊎◌, inl, inr, refl, sym, ◌∙�
 use Rattle.std.specs.Prelude.{int_lt, int_le, ◌==◌}
 use Rattle.std.specs.Int.{int_max}
 use Rattle.std.specs.Ordering.{int_eq}
-use Rattle.std.specs.List.Sorted.{IsPermutation}
 use Rattle.std.proofs.lemmas.Int.{ints, clamps}
 use Rattle.std.proofs.lemmas.Bool.{cases_lt, eqb-true, eq-eqb, false_from_ne_true, and_parts}
 use Rattle.std.proofs.lemmas.Bool.Decides.{Decides-int_eq}
 use Rattle.std.proofs.lemmas.List.{get_or_default}
 use Rattle.std.proofs.lemmas.List.Sums.{sum_by-cons}
 use Rattle.std.proofs.lemmas.List.Elements.{All-nil, All-cons, All-head, All-tail, All-append, All-weaker}
-use Rattle.std.proofs.lemmas.List.Sorted.{Contains-permutation}
 use Rattle.mpw_geom.specs.declared.plane.Point.{Point}
 use Rattle.mpw_geom.specs.Plane.{Square}
 use Rattle.mpw_geom.proofs.Tests.{le_from_test, test_from_le, lt_from_test, test_from_lt, same_tests}
@@ -101,9 +99,9 @@ below_last rows z sorted has =
     let h = has.1 in
     rw (row_read rows z has) at (sorted has.0 (length rows - 1) (pos 0) (omega arith) (omega arith))
 
-pub ends_among_rows : (heights rows : List ℤ) (edges : List Edge) → IsPermutation heights rows → All (HasEndsAmong heights) edges → All (HasEndsAmong rows) edges
-ends_among_rows heights rows edges h ends =
-    All-weaker (HasEndsAmong heights) (HasEndsAmong rows) (λ e t. (Contains-permutation heights rows e.low h t.0, Contains-permutation heights rows e.high h t.1)) edges ends
+pub ends_among_rows : (heights rows : List ℤ) (edges : List Edge) → ((y : ℤ) → Contains heights y → Contains rows y) → All (HasEndsAmong heights) edges → All (HasEndsAmong rows) edges
+ends_among_rows heights rows edges kept ends =
+    All-weaker (HasEndsAmong heights) (HasEndsAmong rows) (λ e t. (kept e.low t.0, kept e.high t.1)) edges ends
 
 pub clear_gaps : (rows : List ℤ) (edges : List Edge) → AreFromBelow rows → All (HasEndsAmong rows) edges → AreClear rows edges
 clear_gaps rows edges sorted ends k h i d l =

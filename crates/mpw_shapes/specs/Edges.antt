@@ -34,6 +34,10 @@ AreFromLeft edges = (i j : ℕ) (d : Edge) → i ≤ j → j < length edges → 
 abbrev pub AreFromBelow : List ℤ → Type 0
 AreFromBelow rows = (i j : ℕ) (d : ℤ) → i ≤ j → j < length rows → slice_index_or rows i d ≤ℤ slice_index_or rows j d
 
+-- from below, no two the same
+abbrev pub AreApart : List ℤ → Type 0
+AreApart rows = (i j : ℕ) (d : ℤ) → i < j → j < length rows → slice_index_or rows i d <ℤ slice_index_or rows j d
+
 -- the edge has no end strictly between the two rows
 pub record IsClear (y0 y1 : ℤ) (e : Edge) : Type 0 where
   pub low : (e.low ≤ℤ y0) ⊎ (y1 ≤ℤ e.low)
@@ -50,7 +54,3 @@ is_between y0 y1 row = int_le y0 row && int_lt row y1
 -- no edge has an end strictly between two neighbouring rows
 abbrev pub AreClear : List ℤ → List Edge → Type 0
 AreClear rows edges = (k : ℕ) → k + 1 < length rows → All (IsClear (slice_index_or rows k (pos 0)) (slice_index_or rows (k + 1) (pos 0))) edges
-
--- as many edges go up across each row from y0 to before y1 as go down
-abbrev pub AreBalanced : List Edge → ℤ → ℤ → Type 0
-AreBalanced edges y0 y1 = (row : ℤ) → y0 ≤ℤ row → row <ℤ y1 → IsBalanced edges row

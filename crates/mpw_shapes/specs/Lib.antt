@@ -4,4 +4,5 @@ pub mod Element
 pub mod Near
 pub mod Path
 pub mod Placed
-pub mod Stacks
+pub mod Rows
+pub mod Turned

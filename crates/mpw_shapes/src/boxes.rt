@@ -1,6 +1,6 @@
 //! Lists of boxes by the unit squares that they have.
 
-ghost use Rattle.std.specs.Prelude.{◌≡◌, ◌||◌, All, OnOk};
+ghost use Rattle.std.specs.Prelude.{◌≡◌, ◌↔◌, ◌||◌, All, IsTrue, OnOk};
 ghost use Rattle.mpw_geom.specs.Plane.{Square, HasArea, any_has_square, has_square};
 
 use mpw_geom::Box2;
@@ -15,4 +15,37 @@ pub(crate) fn push_box(boxes: &mut Vec<Box2>, b: Box2) -> Result<(), AllocError>
         boxes.push(b)?;
     }
     Ok(())
+}
+
+/// The same. Where the box lies on the last of the list and is as wide, the two become one.
+pub(crate) fn stack_box(boxes: &mut Vec<Box2>, b: Box2) -> Result<(), AllocError>
+    requires area { All HasArea boxes.old.items }
+    ensures squares { OnOk result ((s : Square) → any_has_square boxes.new.items s ≡ (any_has_square boxes.old.items s || has_square b s)) }
+    ensures area { All HasArea boxes.new.items }
+{
+    let count = boxes.len();
+    if count == 0 {
+        return push_box(boxes, b);
+    }
+    let lower = boxes[count - 1];
+    if b.y0 < b.y1 && is_continued_by(lower, b) {
+        boxes[count - 1] = joined(lower, b);
+        return Ok(());
+    }
+    push_box(boxes, b)
+}
+
+fn is_continued_by(lower: Box2, upper: Box2) -> bool
+    ensures { IsTrue result ↔ ((lower.x0 ≡ upper.x0) × (lower.x1 ≡ upper.x1) × (lower.y1 ≡ upper.y0)) }
+{
+    lower.x0 == upper.x0 && lower.x1 == upper.x1 && lower.y1 == upper.y0
+}
+
+fn joined(lower: Box2, upper: Box2) -> Box2
+    ensures { result ≡ record { x0 = upper.x0; y0 = lower.y0; x1 = upper.x1; y1 = upper.y1 } }
+{
+    Box2 {
+        y0: lower.y0,
+        ..upper
+    }
 }

@@ -4,7 +4,9 @@ ghost use Rattle.std.specs.Prelude.{◌≡◌, ◌+◌, ℤ, List, All, Contains
 ghost use Rattle.mpw_geom.specs.Plane.{Square};
 ghost use Rattle.mpw_shapes.specs.Boundary.{upward, downward, rises_across};
 ghost use Rattle.mpw_shapes.specs.Edges.{AreFromLeft, HasEndsAmong, rises_left, falls_left};
+ghost use Rattle.mpw_shapes.specs.Rows.{turn_of};
 
+use crate::rows::Added;
 use mpw_geom::Point;
 use std::alloc::{AllocError, Global};
 
@@ -19,6 +21,15 @@ pub(crate) struct Edge {
 }
 
 impl Edge {
+    /// What the edge adds to the winding number of the rows that it crosses.
+    pub fn turn(self) -> Added
+        ensures { result ≡ turn_of self }
+    {
+        Added {
+            winding: if self.is_up { 1 } else { -1 },
+        }
+    }
+
     fn between(low: Point, high: Point, is_up: bool) -> Edge
         ensures { result ≡ record { x = low.x; low = low.y; high = high.y; is_up = is_up } }
     {
@@ -45,7 +56,8 @@ fn push_edge(edges: &mut Vec<Edge>, from: Point, to: Point) -> Result<(), AllocE
     Ok(())
 }
 
-/// The vertical edges of the closed boundary, from left to right. Takes O(n log n) for n corners.
+/// The vertical edges of the closed boundary, from left to right, and at the same place from below.
+/// Takes O(n log n) for n corners.
 pub(crate) fn edges_of(alloc: Global, corners: &[Point]) -> Result<Vec<Edge>, AllocError>
     ensures up { IfOk result (λ edges. (s : Square) → count_by (rises_left s) edges.items ≡ upward corners.now s) }
     ensures down { IfOk result (λ edges. (s : Square) → count_by (falls_left s) edges.items ≡ downward corners.now s) }
@@ -53,7 +65,7 @@ pub(crate) fn edges_of(alloc: Global, corners: &[Point]) -> Result<Vec<Edge>, Al
     ensures from_left { IfOk result (λ edges. AreFromLeft edges.items) }
 {
     let mut edges = edges_in_turn(alloc, corners)?;
-    edges.sort_unstable_by_key(|edge| edge.x);
+    edges.sort_unstable_by_key(|edge| (edge.x, edge.low));
     Ok(edges)
 }
 

@@ -15,8 +15,8 @@ use std::alloc::{AllocError, Global};
 /// Rectangles whose union is the element's set of unit squares, in nm. They may overlap, and each
 /// has area. An error is want of memory.
 ///
-/// A reference has none. A path of n points gives at most n - 1 rectangles and takes O(n). For a boundary see the module
-/// documentation: O(n log n) and, for each band, the edges that cross it.
+/// A reference has none. A path of n points gives at most n - 1 rectangles and takes O(n). A boundary
+/// of n corners that gives m rectangles takes O((n + m) log n); a simple polygon gives O(n).
 #[tactic(auto, unfolding(mpw_geom::specs::Plane::any_has_square))]
 pub fn rectangles(alloc: Global, element: &Element) -> Result<Vec<Box2>, AllocError>
     requires { IsElement element.now }

@@ -131,12 +131,12 @@ fn a_loop_run_twice_is_no_hole(rt: HostRuntime) -> Result<(), Fail> {
 }
 
 /// A closed chain of steps between the lines 0 to 7, from a seed.
-fn scribble(alloc: Global, seed: u64) -> Result<Vec<Point>, Fail> {
+fn scribble(alloc: Global, seed: u64, steps: u8) -> Result<Vec<Point>, Fail> {
     let mut state = seed;
     let mut points = Vec::new(alloc);
     let mut y = 0i64;
     points.push(Point { x: 0, y: 0 })?;
-    for _ in 0..6u8 {
+    for _ in 0..steps {
         state = state
             .wrapping_mul(6364136223846793005)
             .wrapping_add(1442695040888963407);
@@ -152,7 +152,7 @@ fn scribble(alloc: Global, seed: u64) -> Result<Vec<Point>, Fail> {
 #[test]
 fn random_boundaries_agree_with_a_grid(rt: HostRuntime) -> Result<(), Fail> {
     for seed in 0..100u64 {
-        let points = scribble(rt.alloc(), seed)?;
+        let points = scribble(rt.alloc(), seed, if seed % 2 == 0 { 6 } else { 60 })?;
         let boxes = boundary_rectangles(rt.alloc(), &points)?;
         for x in 0..8i64 {
             for y in 0..8i64 {
@@ -196,6 +196,127 @@ fn a_staircase_gives_a_box_a_step(rt: HostRuntime) -> Result<(), Fail> {
     points.push(Point { x: 0, y: 4000 })?;
     let boxes = boundary_rectangles(rt.alloc(), &points)?;
     assert_eq!(rt; boxes.len(), 4000);
+    Ok(())
+}
+
+/// The sum of the boxes' areas: the area of their union, if no two overlap.
+fn area(boxes: &[Box2]) -> i64 {
+    let mut sum = 0i64;
+    for b in boxes {
+        let width = b.x1.wrapping_sub(b.x0);
+        let height = b.y1.wrapping_sub(b.y0);
+        sum = sum.wrapping_add(width.wrapping_mul(height));
+    }
+    sum
+}
+
+/// A corridor of width 1 that winds inward 250 times between walls of width 1.
+fn spiral(alloc: Global) -> Result<Vec<Point>, Fail> {
+    let mut points = corners(alloc, [(-1, 0)])?;
+    for turn in 0..250u16 {
+        let low = 2 * i64::from(turn);
+        let high = 1000 - low;
+        points.push(Point { x: high, y: low })?;
+        points.push(Point { x: high, y: high })?;
+        points.push(Point { x: low, y: high })?;
+        points.push(Point { x: low, y: low + 2 })?;
+    }
+    points.push(Point { x: 499, y: 500 })?;
+    for back in 0..250u16 {
+        let low = 499 - 2 * i64::from(back);
+        let high = 1000 - low;
+        points.push(Point { x: low, y: high })?;
+        points.push(Point { x: high, y: high })?;
+        points.push(Point { x: high, y: low })?;
+        points.push(Point { x: low - 2, y: low })?;
+    }
+    Ok(points)
+}
+
+#[test]
+fn a_spiral_gives_four_boxes_a_turn(rt: HostRuntime) -> Result<(), Fail> {
+    let points = spiral(rt.alloc())?;
+    assert_eq!(rt; points.len(), 2002);
+    let boxes = boundary_rectangles(rt.alloc(), &points)?;
+    assert_eq!(rt; boxes.len(), 1000);
+    // The corridor's outer side is 501,999 long, and the squares at its 999 corners count twice.
+    assert_eq!(rt; area(&boxes), 501_000);
+    Ok(())
+}
+
+/// 500 squares one in another, drawn by one line that comes back on its own steps.
+fn nested(alloc: Global) -> Result<Vec<Point>, Fail> {
+    let mut points = Vec::new(alloc);
+    for step in 0..500u16 {
+        let low = i64::from(step);
+        let high = 1000 - low;
+        points.push(Point { x: low, y: low })?;
+        points.push(Point { x: high, y: low })?;
+        points.push(Point { x: high, y: high })?;
+        points.push(Point { x: low, y: high })?;
+        points.push(Point { x: low, y: low })?;
+        points.push(Point { x: low + 1, y: low })?;
+    }
+    for back in 0..500u16 {
+        let low = 500 - i64::from(back);
+        points.push(Point { x: low, y: low })?;
+        points.push(Point { x: low, y: low - 1 })?;
+    }
+    Ok(points)
+}
+
+#[test]
+fn nested_squares_are_the_outer_one(rt: HostRuntime) -> Result<(), Fail> {
+    let points = nested(rt.alloc())?;
+    let boxes = boundary_rectangles(rt.alloc(), &points)?;
+    assert_eq!(rt; area(&boxes), 1_000_000);
+    // The line's way from the outer square inward may cut off the first square of its lowest row.
+    assert!(rt; boxes.len() <= 3);
+    Ok(())
+}
+
+/// 1,000 teeth of different lengths, and 1,000 rectangles round them all, drawn by one line.
+fn teeth_in_rectangles(alloc: Global) -> Result<Vec<Point>, Fail> {
+    let mut points = Vec::new(alloc);
+    for tooth in 0..1000u16 {
+        let y = 2 * i64::from(tooth);
+        let x = 10 + i64::from(tooth);
+        points.push(Point { x: 0, y })?;
+        points.push(Point { x, y })?;
+        points.push(Point { x, y: y + 1 })?;
+        points.push(Point { x: 0, y: y + 1 })?;
+    }
+    points.push(Point { x: 0, y: 2000 })?;
+    points.push(Point { x: -10, y: 2000 })?;
+    points.push(Point { x: -10, y: 0 })?;
+    for wide in 0..1000u16 {
+        let right = 2000 + i64::from(wide);
+        let left = -10 - i64::from(wide);
+        points.push(Point { x: right, y: 0 })?;
+        points.push(Point { x: right, y: 2000 })?;
+        points.push(Point { x: left, y: 2000 })?;
+        points.push(Point { x: left, y: 0 })?;
+    }
+    Ok(points)
+}
+
+#[test]
+fn what_winds_often_is_one_box(rt: HostRuntime) -> Result<(), Fail> {
+    let points = teeth_in_rectangles(rt.alloc())?;
+    assert_eq!(rt; points.len(), 8003);
+    let boxes = boundary_rectangles(rt.alloc(), &points)?;
+    assert_eq!(rt; boxes.as_slice(), [span(-1009, 0, 2999, 2000)].as_slice());
+    Ok(())
+}
+
+#[test]
+fn a_wall_in_two_pieces_ends_one_box(rt: HostRuntime) -> Result<(), Fail> {
+    let points = corners(
+        rt.alloc(),
+        [(0, 0), (10, 0), (10, 4), (10, 4), (10, 10), (0, 10), (0, 7)],
+    )?;
+    let boxes = boundary_rectangles(rt.alloc(), &points)?;
+    assert_eq!(rt; boxes.as_slice(), [span(0, 0, 10, 10)].as_slice());
     Ok(())
 }
 

@@ -1,5 +1,9 @@
-use Rattle.mpw_shapes.proofs.Order.{from_below_from_sorted}
+use Rattle.mpw_shapes.proofs.Order.{apart_from_sorted, kept_heights}
 use Rattle.mpw_shapes.proofs.boundary.rows_of.Goals as goal
 
-pub returns-clause-from_below : goal.returns-clause-from_below
-returns-clause-from_below c = from_below_from_sorted _ c.sort_unstable.ensures.sorted
+pub returns-clause-heights : goal.returns-clause-heights
+returns-clause-heights c = λ y has.
+    kept_heights c.in_ok-rows.rows.items c.sort_unstable.new.self.items _ y c.sort_unstable.ensures.permutation c.dedup.ensures.filtered (rw c.in_ok-rows.ensures has)
+
+pub returns-clause-apart : goal.returns-clause-apart
+returns-clause-apart c = apart_from_sorted c.sort_unstable.new.self.items _ c.sort_unstable.ensures.sorted c.dedup.ensures.filtered
