@@ -55,19 +55,6 @@ module _ (before : List (List Item)) (levels : List ℕ) (s : Submission) (nodes
           let enough : suc j ≤ k = omega (arith, at.0) in
           low_upto (own below.structure (named_at s.library target h.node.structure below.structure h.named below.is) (λ next d. more j h.node at.1 less next d)) k enough
 
-  -- what a node's structure shows from what its targets show
-  pub node_items : length nodes ≤ length s.library → (k : ℕ) (node : Node) (is : slice_get nodes k ≡ Some node) → structure_items before s (each k node is).structure.name ≡ shown_items (length before) (each k node is).structure (structure_items before s)
-  node_items few k node is =
-      let here = each k node is in
-      let within = slice_get_within nodes k node is in
-      unfolds (shown_items (length before)) [] _ s.library (items_by_targets (length before)) k here.structure.name here.structure (named_at s.library here.structure.name node.structure here.structure here.named here.is) (low_below (suc k) k (omega arith) node is) (omega (arith, within, few))
-
-  pub node_height : length nodes ≤ length s.library → (k : ℕ) (node : Node) (is : slice_get nodes k ≡ Some node) → structure_levels levels s (each k node is).structure.name ≡ shown_height (each k node is).structure (structure_levels levels s)
-  node_height few k node is =
-      let here = each k node is in
-      let within = slice_get_within nodes k node is in
-      unfolds shown_height 0 _ s.library heights_by_targets k here.structure.name here.structure (named_at s.library here.structure.name node.structure here.structure here.named here.is) (low_below (suc k) k (omega arith) node is) (omega (arith, within, few))
-
 -- the size of the last node is that of the submission
 pub top_size : (before : List (List Item)) (levels : List ℕ) (s : Submission) (nodes : List Node) → AreNodesOf before levels s nodes → (top : Node) → slice_get nodes (length nodes - 1) ≡ Some top → IsSizeOf (flat_of before s) (height_of levels s) top.size
 top_size before levels s nodes w top is =
@@ -105,9 +92,3 @@ unfolding heights
 no_levels ss number none =
     let past = missing ss number none in
     get_or_past (from_first height_of [] ss) number 0 (omega (arith, firsts_length height_of [] ss, past))
-
-pub told_shapes : (told n : ℕ) → told ≡ min (2 ^ 20 + 1) n → n ≤ 2 ^ 20 → told ≡ n
-told_shapes told n e few = e ∙ omega (arith, few)
-
-pub told_levels : (told n : ℕ) → told ≡ min 65 n → n ≤ 64 → told ≡ n
-told_levels told n e few = e ∙ omega (arith, few)

@@ -55,9 +55,6 @@ got {X = X} xs k o x is at within =
     let h = subst (λ (p : Option (Bor X)). IfSome p (λ (y : Bor X). y.now ≡ get_or xs k y.now)) is at in
     slice_get_read xs (length xs) k x.now refl within h
 
-pub some_at : {X : Type 0} (xs : List X) (k : ℕ) → k < length xs → (d : X) → slice_get xs k ≡ Some (get_or xs k d)
-some_at xs k within d = slice_get-get_or xs k d within
-
 pub one : {X : Type 0} (o : Option X) (x y : X) → o ≡ Some x → o ≡ Some y → x ≡ y
 one o x y e f = let g : Some x ≡ Some y = sym e ∙ f in cc
 

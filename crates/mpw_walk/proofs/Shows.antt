@@ -71,14 +71,10 @@ outer_shows ss n s is name m t w at g shown =
       size = subst (λ is. IsSizeOf is (structure_levels (from_first height_of [] (take n ss)) s name) g.node.now.size) (sym items) (subst (λ l. IsSizeOf (structure_items (from_first flat_of [] (take m ss)) t t.top) l g.node.now.size) (sym levels) shown.size);
     }
 
--- the turns, the flat list and the height of a submission are those of its top
+-- the turns of a submission are those of its top
 pub top_turns : (ss : List Submission) (n : ℕ) (s : Submission) → slice_get ss n ≡ Some s → turns_of ss n ≡ named_turns ss n s.top
 unfolding all_turns
 top_turns ss n s is = firsts_at submission_turns ss n s [] is ∙ sym (named_is ss n s is s.top)
-
-pub top_items : (ss : List Submission) (n : ℕ) (s : Submission) → slice_get ss n ≡ Some s → flat ss n ≡ structure_items (flats (take n ss)) s s.top
-unfolding flats
-top_items ss n s is = firsts_at flat_of ss n s [] is
 
 -- the same, placed elsewhere
 pub placed_shows : (ss : List Submission) (n : ℕ) (s : Submission) (name : List ℕ) (g : Frame) (p : Placing) → Shows ss n s name g → IsWithin p.by → Shows ss n s name (record g { placing = p })
