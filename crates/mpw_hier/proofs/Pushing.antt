@@ -60,6 +60,8 @@ module _ (ss : List Submission) (s : Submission) (nodes : List Node) (w : IsHier
   nodes_kept library small low = record {
     library = library;
     each = w.each;
+    reached = w.reached;
+    whole = w.whole;
     few = w.few;
     top = w.top;
     some = w.some;
