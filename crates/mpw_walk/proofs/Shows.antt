@@ -16,7 +16,7 @@ use Rattle.mpw_hier.proofs.Firsts.{firsts_at, firsts_length}
 use Rattle.mpw_walk.specs.declared.frame.Frame.{Frame}
 use Rattle.mpw_walk.specs.Turns.{shown_turns, submission_turns, all_turns, turns_of}
 use Rattle.mpw_walk.specs.Frames.{named_turns, turns_of_shapes, turns_of_children, turns_within, IsFrame, IsFront, IsWithin, Shows}
-use Rattle.mpw_walk.proofs.Fronts.{one}
+use Rattle.mpw_walk.proofs.Fronts.{one, frame_at}
 use Rattle.mpw_walk.proofs.Named.{turns_by_targets, outer_shown}
 use Rattle.mpw_walk.proofs.Entered.{named_is, own_turns, own_size, node_turns}
 
@@ -81,18 +81,7 @@ pub placed_shows : (ss : List Submission) (n : ℕ) (s : Submission) (name : Lis
 unfolding turns_within
 placed_shows ss n s name g p w near =
     let q = w.frame in record {
-      frame = record {
-        submission = q.submission;
-        is = q.is;
-        nodes = q.nodes;
-        place = q.place;
-        at = q.at;
-        structure = q.structure;
-        named = q.named;
-        elements_are = q.elements_are;
-        within = q.within;
-        near = near;
-      };
+      frame = frame_at ss g q g.shape g.child g.row g.column p q.within near;
       turns = w.turns;
       size = w.size;
     }
