@@ -5,7 +5,7 @@ use Rattle.std.proofs.lemmas.Bool.Decides.{eqb_tells}
 use Rattle.std.proofs.lemmas.List.{get_or_append_left, get_or-append-add, get_or-map, get_or_default, take-append-le, length-map}
 use Rattle.std.proofs.lemmas.List.Sums.{sum_by-set, sum_by-cons}
 use Rattle.std.proofs.lemmas.List.Elements.{All-push, Contains-push, Contains-append_left}
-use Rattle.mpw_hier.specs.Graph.{targets, IsGraph, Leads, here, HasCycle, IsFromBelow}
+use Rattle.mpw_hier.specs.Graph.{targets, IsGraph, Leads, here, HasCycle}
 use Rattle.mpw_hier.specs.Descent.{is_left, undone, IsDescent}
 use Rattle.mpw_hier.proofs.Leading.{written, among, place_among, before_last, leads_more, along}
 

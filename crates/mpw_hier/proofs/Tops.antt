@@ -1,5 +1,5 @@
 -- The nodes of a submission, and what its top shows.
-use Rattle.std.proofs.Common.{◌≡◌, ℕ, zero, suc, ◌+◌, ◌-◌, ◌<◌, ◌≤◌, ◌^◌, min, inl, inr, true, List, [], length, take, Some, None, sym, ap, subst, ◌∙◌, arith}
+use Rattle.std.proofs.Common.{◌≡◌, ℕ, zero, suc, ◌-◌, ◌<◌, ◌≤◌, ◌^◌, inl, inr, true, List, [], length, take, Some, None, sym, ap, subst, ◌∙◌, arith}
 use Rattle.std.specs.Prelude.{slice_get}
 use Rattle.std.proofs.lemmas.Option.{slice_get_within, slice_get-get_or, get_or_from_slice_get, slice_get_cases}
 use Rattle.std.proofs.lemmas.List.{get_or-take, get_or_past, length-take}
@@ -11,12 +11,12 @@ use Rattle.mpw_hier.specs.declared.node.Target.{Target}
 use Rattle.mpw_hier.specs.declared.node.Target.TheVariants as targets
 use Rattle.mpw_hier.specs.declared.submission.Submission.{Submission}
 use Rattle.mpw_hier.specs.Structures.{structure_of, structure_at, names_of}
-use Rattle.mpw_hier.specs.Items.{Item, shown_items}
+use Rattle.mpw_hier.specs.Items.{Item}
 use Rattle.mpw_hier.specs.Sizes.{IsSizeOf}
 use Rattle.mpw_hier.specs.Nodes.{IsTarget, IsNode, AreNodesOf, AreNodes, structure_levels}
-use Rattle.mpw_hier.specs.Values.{from_first, structure_items, flat_of, flats, flat, height_of, heights, height, shown_height}
+use Rattle.mpw_hier.specs.Values.{from_first, structure_items, flat_of, flats, flat, height_of, heights, height}
 use Rattle.mpw_hier.proofs.Linking.{found_at}
-use Rattle.mpw_hier.proofs.Unfolding.{IsLow, outside, own, low_upto, unfolds, items_by_targets, heights_by_targets}
+use Rattle.mpw_hier.proofs.Unfolding.{IsLow, outside, own, low_upto}
 use Rattle.mpw_hier.proofs.Firsts.{firsts_at, firsts_length}
 
 -- what a list has in front

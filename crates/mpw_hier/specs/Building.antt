@@ -13,7 +13,7 @@ use Rattle.mpw_hier.specs.declared.bindings.Binding.{Binding}
 use Rattle.mpw_hier.specs.declared.node.Node.{Node}
 use Rattle.mpw_hier.specs.declared.size.Size.{Size}
 use Rattle.mpw_hier.specs.declared.submission.Submission.{Submission}
-use Rattle.mpw_hier.specs.Structures.{names_of, IsReachable}
+use Rattle.mpw_hier.specs.Structures.{names_of}
 use Rattle.mpw_hier.specs.Boxes.{extent_of, is_box_near}
 use Rattle.mpw_hier.specs.Sizes.{IsSizeOf}
 use Rattle.mpw_hier.specs.Nodes.{IsNode, IsOuter, AreReached, AreWhole, structure_levels}

@@ -1,4 +1,4 @@
-use Rattle.std.proofs.Common.{◌≡◌, length, Err, sym, ap, ◌∙◌, arith}
+use Rattle.std.proofs.Common.{Err, sym, ap, ◌∙◌, arith}
 use Rattle.mpw_hier.specs.declared.fault.HierFault.{HierFault}
 use Rattle.mpw_hier.specs.declared.submission.Submission.{Submission}
 use Rattle.mpw_hier.proofs.Pushing.{far_as, bound_as, measured, large, small, deep, low, nodes_kept, refused_nodes}
