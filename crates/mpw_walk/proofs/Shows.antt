@@ -10,7 +10,7 @@ use Rattle.mpw_hier.specs.declared.submission.Submission.{Submission}
 use Rattle.mpw_hier.specs.Items.{shown_items}
 use Rattle.mpw_hier.specs.Nodes.{IsOuter, structure_levels}
 use Rattle.mpw_hier.specs.Sizes.{IsSizeOf}
-use Rattle.mpw_hier.specs.Values.{structure_items, flat_of, flats, flat, shown_height, height_of, heights, from_first, bound_number}
+use Rattle.mpw_hier.specs.Values.{structure_items, flat_of, flats, shown_height, height_of, heights, from_first, bound_number}
 use Rattle.mpw_hier.proofs.Unfolding.{items_by_targets, heights_by_targets}
 use Rattle.mpw_hier.proofs.Firsts.{firsts_at, firsts_length}
 use Rattle.mpw_walk.specs.declared.frame.Frame.{Frame}
