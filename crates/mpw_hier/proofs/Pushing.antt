@@ -1,21 +1,23 @@
 -- What the nodes of a submission tell of its limits.
-use Rattle.std.proofs.Common.{◌≡◌, ℕ, ◌+◌, ◌-◌, ◌<◌, ◌≤◌, ◌^◌, min, true, false, List, length, get_or, Some, Result, Ok, Err, refl, sym, ap, subst, ◌∙◌, arith}
+use Rattle.std.proofs.Common.{◌≡◌, ℕ, ◌-◌, ◌<◌, ◌≤◌, ◌^◌, true, false, List, length, get_or, Some, Result, Ok, Err, refl, sym, ap, subst, ◌∙◌, arith}
 use Rattle.std.specs.Prelude.{slice_get, nat_lt, IfSome}
 use Rattle.std.specs.Result.{IfErr, IsErrAnd}
-use Rattle.std.proofs.lemmas.Bool.{lt-ltb, le-ltb}
+use Rattle.std.proofs.lemmas.Bool.{lt-ltb, le-ltb, ltb-false}
 use Rattle.std.proofs.lemmas.Option.{slice_get_read}
 use Rattle.mpw_library.specs.Library.{IsLibrary}
 use Rattle.mpw_library.specs.Places.{place_of}
 use Rattle.mpw_hier.specs.declared.fault.HierFault.{HierFault}
 use Rattle.mpw_hier.specs.declared.fault.HierFault.TheVariants as faults
 use Rattle.mpw_hier.specs.declared.node.Node.{Node}
+use Rattle.mpw_hier.specs.declared.size.Size.{Size}
 use Rattle.mpw_hier.specs.declared.submission.Submission.{Submission}
 use Rattle.mpw_hier.specs.Boxes.{extent_of, is_box_near}
 use Rattle.mpw_hier.specs.Building.{IsHierarchy}
-use Rattle.mpw_hier.specs.Limits.{IsFar, IsBound, IsOfNodes, IsRefused}
+use Rattle.mpw_hier.specs.Limits.{IsFar, IsBound, IsOfNodes, IsRefused, is_too_large, is_too_deep}
 use Rattle.mpw_hier.specs.Nodes.{AreNodesOf, structure_levels}
 use Rattle.mpw_hier.specs.Sizes.{IsSizeOf}
 use Rattle.mpw_hier.specs.Values.{structure_items, flat_of, flats, height_of, heights}
+use Rattle.mpw_hier.proofs.Told.{told_limit}
 use Rattle.mpw_hier.proofs.Tops.{same_place}
 
 -- the version says nothing of how far a submission reaches
@@ -54,35 +56,50 @@ module _ (ss : List Submission) (s : Submission) (nodes : List Node) (w : IsHier
       let near : is_box_near h.box ≡ true = subst (λ o. IfSome o (λ box. is_box_near box ≡ true)) extent here.size.near in
       absurd (let q = sym near ∙ h.far in cc)
 
-  pub nodes_kept : IsLibrary s.library → length (flat_of (flats ss) s) ≤ 2 ^ 20 → height_of (heights ss) s ≤ 64 → AreNodesOf (flats ss) (heights ss) s nodes
-  nodes_kept library few low = record {
+  pub nodes_kept : IsLibrary s.library → is_too_large ss s ≡ false → is_too_deep ss s ≡ false → AreNodesOf (flats ss) (heights ss) s nodes
+  nodes_kept library small low = record {
     library = library;
     each = w.each;
+    reached = w.reached;
+    whole = w.whole;
     few = w.few;
     top = w.top;
     some = w.some;
     last = w.last;
     top_named = w.top_named;
-    count = few;
-    height = low;
+    count = ltb-false (2 ^ 20) (length (flat_of (flats ss) s)) small;
+    height = ltb-false 64 (height_of (heights ss) s) low;
   }
 
 -- ---- limits by what is told
 
-pub too_many : (told n : ℕ) → told ≡ min (2 ^ 20 + 1) n → 2 ^ 20 < told → nat_lt (2 ^ 20) n ≡ true
-too_many told n e lt = lt-ltb (2 ^ 20) n (omega (arith, e, lt))
+-- What the size of the last node tells of the limits.
+pub record IsMeasured (ss : List Submission) (s : Submission) (size : Size) : Type 0 where
+  pub near : IsFar ss s → ⊥
+  pub shapes : is_too_large ss s ≡ nat_lt (2 ^ 20) size.count
+  pub levels : is_too_deep ss s ≡ nat_lt 64 size.height
 
-pub few_told : (told n : ℕ) → told ≡ min (2 ^ 20 + 1) n → told ≤ 2 ^ 20 → n ≤ 2 ^ 20
-few_told told n e le = omega (arith, e, le)
+pub measured : (ss : List Submission) (s : Submission) (version : ℕ) (nodes : List Node) → IsHierarchy ss (record s { version = version }) nodes → (n : ℕ) (top : Node) → n ≡ length nodes → top ≡ get_or nodes (n - 1) top → IsMeasured ss s top.size
+measured ss s version nodes w n top e at =
+    let t : Submission = record s { version = version } in
+    let told = read_size ss t nodes w n top e at in record {
+      near = λ far. not_far ss t nodes w (far_of ss s version far);
+      shapes = told_limit (2 ^ 20) top.size.count (length (flat_of (flats ss) t)) told.count;
+      levels = told_limit 64 top.size.height (height_of (heights ss) t) told.height;
+    }
 
-pub too_high : (told n : ℕ) → told ≡ min 65 n → 64 < told → nat_lt 64 n ≡ true
-too_high told n e lt = lt-ltb 64 n (omega (arith, e, lt))
+module _ (ss : List Submission) (s : Submission) (size : Size) (m : IsMeasured ss s size) where
+  pub large : 2 ^ 20 < size.count → is_too_large ss s ≡ true
+  large lt = m.shapes ∙ lt-ltb (2 ^ 20) size.count lt
 
-pub low_told : (told n : ℕ) → told ≡ min 65 n → told ≤ 64 → n ≤ 64
-low_told told n e le = omega (arith, e, le)
+  pub small : size.count ≤ 2 ^ 20 → is_too_large ss s ≡ false
+  small le = m.shapes ∙ le-ltb (2 ^ 20) size.count le
 
-pub not_above : (a n : ℕ) → n ≤ a → nat_lt a n ≡ false
-not_above a n le = le-ltb a n le
+  pub deep : 64 < size.height → is_too_deep ss s ≡ true
+  deep lt = m.levels ∙ lt-ltb 64 size.height lt
+
+  pub low : size.height ≤ 64 → is_too_deep ss s ≡ false
+  low le = m.levels ∙ le-ltb 64 size.height le
 
 -- what the making of nodes refuses
 pub refused_nodes : (ss : List Submission) (s : Submission) (result : Result ℕ HierFault) (fault : HierFault) → IsErrAnd result (λ e. e ≡ fault) → IsOfNodes fault → (fault ≡ faults.Extent → IsFar ss s) → IfErr result (IsRefused ss s)

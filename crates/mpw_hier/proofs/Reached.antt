@@ -5,6 +5,7 @@ use Rattle.std.specs.Result.{IsErrAnd}
 use Rattle.std.specs.BTreeMap.{BTreeMap}
 use Rattle.std.proofs.lemmas.Bool.Decides.{eqb_tells}
 use Rattle.std.proofs.lemmas.Grind.{get_or-set_at}
+use Rattle.std.proofs.lemmas.Option.{slice_get_within}
 use Rattle.std.proofs.lemmas.List.{length-append, take_more}
 use Rattle.std.proofs.lemmas.List.Elements.{Contains-append_cases}
 use Rattle.mpw_library.specs.declared.structures.Structure.{Structure}
@@ -17,10 +18,12 @@ use Rattle.mpw_hier.specs.Structures.{names_of, structure_at, refers, IsReachabl
 use Rattle.mpw_hier.specs.Outside.{graph_of}
 use Rattle.mpw_hier.specs.Graph.{targets, IsFromBelow}
 use Rattle.mpw_hier.specs.Limits.{IsFar, IsBound}
+use Rattle.mpw_hier.specs.Nodes.{IsReached, AreReached}
 use Rattle.mpw_hier.specs.Building.{number_at, AreLinked, IsKnown, own, outer, IsPlace, IsReady, IsOneMore, IsFarHere, IsHierarchy}
 use Rattle.mpw_hier.proofs.Leading.{among, place_among}
 use Rattle.mpw_hier.proofs.Linking.{alone, found_at, graph_length, among_places, targets_at, refers_to, named_way, kept_below, front_closed}
 use Rattle.mpw_hier.proofs.Bound.{bound_name}
+use Rattle.mpw_hier.proofs.Shelving.{more_get}
 use Rattle.mpw_hier.proofs.Adding.{last_get}
 
 reach_more : {library : List Structure} {a b c : List ℕ} → IsReachable library a b → refers library b c ≡ true → IsReachable library a c
@@ -51,6 +54,9 @@ module _ (ss : List Submission) (s : Submission) (b : IsBound ss s) (top : ℕ) 
 
   pub order_place : (i : ℕ) → i < length order → IsPlace s.library (get_or order i 0)
   order_place i h = let f = found i h in record { structure = f.structure; is = f.is; named = f.named }
+
+  pub order_reached : (i : ℕ) → i < length order → IsReached s (get_or order i 0)
+  order_reached i h = let f = found i h in record { name = f.structure.name; named = f.named; below = f.below }
 
   pub order_far : (i : ℕ) → i < length order → IsFarHere ss s (get_or order i 0) → IsFar ss s
   order_far i h far =
@@ -112,6 +118,18 @@ numbered_one numbers order i n h within known p c = elim (eqb_tells p (get_or or
 pub none_numbered : (numbers : List (Option ℕ)) → AreNumbered numbers []
 none_numbered numbers p c = absurd (omega (arith, c.1))
 
+-- each node is that of a structure that the top reaches
+pub none_reached : (s : Submission) (nodes : List Node) → nodes ≡ [] → AreReached s nodes
+none_reached s nodes none k node is =
+    let within = slice_get_within nodes k node is in
+    absurd (omega (arith, within, ap length none))
+
+pub reached_one : (s : Submission) (place : ℕ) (before after : List Node) → AreReached s before → IsOneMore place before after → IsReached s place → AreReached s after
+reached_one s place before after each one here k node is = elim (more_get before one.node k node (subst (λ (ns : List Node). slice_get ns k ≡ Some node) one.added is)) [
+  | inl h ↦ each k node h.1
+  | inr h ↦ subst (λ (n : Node). IsReached s n.structure) (sym h.1) (subst (λ p. IsReached s p) (sym one.at) here)
+]
+
 -- none of the places so far is the top
 pub not_yet : (order : List ℕ) (top i : ℕ) → ((k : ℕ) → k < i → get_or order k 0 ≡ top → ⊥) → (get_or order i 0 ≡ top → ⊥) → (k : ℕ) → k < i + 1 → get_or order k 0 ≡ top → ⊥
 not_yet order top i before here k lt is = elim (eqb_tells k i) [
@@ -124,13 +142,14 @@ pub not_at_all : (order : List ℕ) (top i : ℕ) → Contains order top → len
 not_at_all order top i c le before = let at = place_among order top c in before at.0 (omega (arith, at.1, le)) at.2
 
 module _ (ss : List Submission) (s : Submission) (b : IsBound ss s) (top : ℕ) (e : place_of s.library s.top ≡ Some top) (order : List ℕ) (o : IsFromBelow (graph_of s.library) top order) where
-  pub whole : (table : BTreeMap (List ℕ) ℕ) (numbers : List (Option ℕ)) (before after : List Node) (i : ℕ) → i < length order → get_or order i 0 ≡ top → AreLinked ss s table numbers after → IsOneMore (get_or order i 0) before after → AreNumbered numbers (take (i + 1) order) → IsHierarchy ss s after
-  whole table numbers before after i h is w one known =
+  pub whole : (table : BTreeMap (List ℕ) ℕ) (numbers : List (Option ℕ)) (before after : List Node) (i : ℕ) → i < length order → get_or order i 0 ≡ top → AreLinked ss s table numbers after → IsOneMore (get_or order i 0) before after → AreNumbered numbers (take (i + 1) order) → AreReached s after → IsHierarchy ss s after
+  whole table numbers before after i h is w one known reached =
       let long : length after ≡ length before + 1 = ap length one.added ∙ length-append before (one.node ∷ []) in
       let last : length after - 1 ≡ length before = omega (arith, long) in
       let at : slice_get after (length before) ≡ Some one.node = ap (λ xs. slice_get xs (length before)) one.added ∙ last_get before one.node in
       record {
         each = w.each;
+        reached = reached;
         few = w.few;
         some = omega (arith, long);
         top = one.node;

@@ -5,7 +5,7 @@ use Rattle.std.proofs.lemmas.Bool.Decides.{eqb_tells}
 use Rattle.std.proofs.lemmas.List.{get_or_append_left, get_or-append-add, get_or-map, get_or_default, take-append-le, length-map}
 use Rattle.std.proofs.lemmas.List.Sums.{sum_by-set, sum_by-cons}
 use Rattle.std.proofs.lemmas.List.Elements.{All-push, Contains-push, Contains-append_left}
-use Rattle.mpw_hier.specs.Graph.{targets, IsGraph, Leads, here, HasCycle, IsFromBelow}
+use Rattle.mpw_hier.specs.Graph.{targets, IsGraph, Leads, here, HasCycle}
 use Rattle.mpw_hier.specs.Descent.{is_left, undone, IsDescent}
 use Rattle.mpw_hier.proofs.Leading.{written, among, place_among, before_last, leads_more, along}
 
@@ -229,20 +229,6 @@ cycle_found g top left path order p m t graph w some last within is least most =
       edge = among (targets g p) m t within is;
       back = subst (λ i. Leads g i p) at.2 (subst (Leads g (get_or path at.0 0)) (ap (λ i. get_or path i 0) up ∙ last) way);
     }
-
--- with no way left, all is found
-pub all_found : (g : List (List ℕ)) (top : ℕ) (left path order : List ℕ) → top < length g → IsDescent g top left path order → path ≡ [] → IsFromBelow g top order
-all_found g top left path order within w empty = record {
-  whole = elim (eqb_tells (get_or left top 0) 0) [
-    | inl q ↦ w.done top within q.1
-    | inr q ↦
-        let c = subst (λ ps. Contains ps top) empty (w.pathed top within (omega (arith, q.1)) w.begun) in
-        absurd (omega (arith, c.1))
-  ];
-  found = w.found;
-  few = omega (arith, w.counted);
-  below = w.below;
-}
 
 -- at the beginning only the top is entered
 pub begun_at : (g : List (List ℕ)) (top : ℕ) → top < length g → IsDescent g top (set (map (λ ts. length ts + 2) g) top (length (targets g top) + 1)) (top ∷ []) []

@@ -51,20 +51,9 @@ told_array r t s o h p count least height extent near = record {
 
 -- ---- what a caller reads off
 
--- one total, one size
-pub one_size : (t : Total) (a b : Size) → IsToldBy t a → IsToldBy t b → a ≡ b
-one_size t a b p q =
-    let count = p.count ∙ sym q.count in
-    let height = p.height ∙ sym q.height in
-    let extent = p.extent ∙ sym q.extent in
-    let k : ◌≡◌ {A = Size} (record { count = a.count; height = a.height; extent = a.extent }) (record { count = b.count; height = b.height; extent = b.extent }) = cc in k
-
--- the limits of a total are those of its size
-pub told_count : (t : Total) (s : Size) → IsToldBy t s → nat_lt (2 ^ 20) s.count ≡ nat_lt (2 ^ 20) t.count
-told_count t s h = let e = h.count in grind (arith, nat_tests)
-
-pub told_height : (t : Total) (s : Size) → IsToldBy t s → nat_lt 64 s.height ≡ nat_lt 64 t.levels
-told_height t s h = let e = h.height in grind (arith, nat_tests)
+-- what is told up to one more than a limit is beyond it where the number is
+pub told_limit : (limit told n : ℕ) → told ≡ min (limit + 1) n → nat_lt limit n ≡ nat_lt limit told
+told_limit limit told n e = grind (arith, nat_tests)
 
 -- a size for each name, none of which reaches too far
 pub told_length : (items : List ℕ → List Item) (heights : List ℕ → ℕ) (names : List (List ℕ)) (sizes : List Size) → AreToldBy items heights names sizes → length sizes ≡ length names

@@ -1,5 +1,5 @@
 -- The nodes of a submission, and what its top shows.
-use Rattle.std.proofs.Common.{◌≡◌, ℕ, zero, suc, ◌+◌, ◌-◌, ◌<◌, ◌≤◌, ◌^◌, min, inl, inr, true, List, [], length, take, Some, None, sym, ap, subst, ◌∙◌, arith}
+use Rattle.std.proofs.Common.{◌≡◌, ℕ, zero, suc, ◌-◌, ◌<◌, ◌≤◌, ◌^◌, inl, inr, true, List, [], length, take, Some, None, sym, ap, subst, ◌∙◌, arith}
 use Rattle.std.specs.Prelude.{slice_get}
 use Rattle.std.proofs.lemmas.Option.{slice_get_within, slice_get-get_or, get_or_from_slice_get, slice_get_cases}
 use Rattle.std.proofs.lemmas.List.{get_or-take, get_or_past, length-take}
@@ -11,12 +11,12 @@ use Rattle.mpw_hier.specs.declared.node.Target.{Target}
 use Rattle.mpw_hier.specs.declared.node.Target.TheVariants as targets
 use Rattle.mpw_hier.specs.declared.submission.Submission.{Submission}
 use Rattle.mpw_hier.specs.Structures.{structure_of, structure_at, names_of}
-use Rattle.mpw_hier.specs.Items.{Item, shown_items}
+use Rattle.mpw_hier.specs.Items.{Item}
 use Rattle.mpw_hier.specs.Sizes.{IsSizeOf}
 use Rattle.mpw_hier.specs.Nodes.{IsTarget, IsNode, AreNodesOf, AreNodes, structure_levels}
-use Rattle.mpw_hier.specs.Values.{from_first, structure_items, flat_of, flats, flat, height_of, heights, height, shown_height}
+use Rattle.mpw_hier.specs.Values.{from_first, structure_items, flat_of, flats, flat, height_of, heights, height}
 use Rattle.mpw_hier.proofs.Linking.{found_at}
-use Rattle.mpw_hier.proofs.Unfolding.{IsLow, outside, own, low_upto, unfolds, items_by_targets, heights_by_targets}
+use Rattle.mpw_hier.proofs.Unfolding.{IsLow, outside, own, low_upto}
 use Rattle.mpw_hier.proofs.Firsts.{firsts_at, firsts_length}
 
 -- what a list has in front
@@ -55,19 +55,6 @@ module _ (before : List (List Item)) (levels : List ℕ) (s : Submission) (nodes
           let enough : suc j ≤ k = omega (arith, at.0) in
           low_upto (own below.structure (named_at s.library target h.node.structure below.structure h.named below.is) (λ next d. more j h.node at.1 less next d)) k enough
 
-  -- what a node's structure shows from what its targets show
-  pub node_items : length nodes ≤ length s.library → (k : ℕ) (node : Node) (is : slice_get nodes k ≡ Some node) → structure_items before s (each k node is).structure.name ≡ shown_items (length before) (each k node is).structure (structure_items before s)
-  node_items few k node is =
-      let here = each k node is in
-      let within = slice_get_within nodes k node is in
-      unfolds (shown_items (length before)) [] _ s.library (items_by_targets (length before)) k here.structure.name here.structure (named_at s.library here.structure.name node.structure here.structure here.named here.is) (low_below (suc k) k (omega arith) node is) (omega (arith, within, few))
-
-  pub node_height : length nodes ≤ length s.library → (k : ℕ) (node : Node) (is : slice_get nodes k ≡ Some node) → structure_levels levels s (each k node is).structure.name ≡ shown_height (each k node is).structure (structure_levels levels s)
-  node_height few k node is =
-      let here = each k node is in
-      let within = slice_get_within nodes k node is in
-      unfolds shown_height 0 _ s.library heights_by_targets k here.structure.name here.structure (named_at s.library here.structure.name node.structure here.structure here.named here.is) (low_below (suc k) k (omega arith) node is) (omega (arith, within, few))
-
 -- the size of the last node is that of the submission
 pub top_size : (before : List (List Item)) (levels : List ℕ) (s : Submission) (nodes : List Node) → AreNodesOf before levels s nodes → (top : Node) → slice_get nodes (length nodes - 1) ≡ Some top → IsSizeOf (flat_of before s) (height_of levels s) top.size
 top_size before levels s nodes w top is =
@@ -105,9 +92,3 @@ unfolding heights
 no_levels ss number none =
     let past = missing ss number none in
     get_or_past (from_first height_of [] ss) number 0 (omega (arith, firsts_length height_of [] ss, past))
-
-pub told_shapes : (told n : ℕ) → told ≡ min (2 ^ 20 + 1) n → n ≤ 2 ^ 20 → told ≡ n
-told_shapes told n e few = e ∙ omega (arith, few)
-
-pub told_levels : (told n : ℕ) → told ≡ min 65 n → n ≤ 64 → told ≡ n
-told_levels told n e few = e ∙ omega (arith, few)

@@ -13,10 +13,10 @@ use Rattle.mpw_hier.specs.declared.bindings.Binding.{Binding}
 use Rattle.mpw_hier.specs.declared.node.Node.{Node}
 use Rattle.mpw_hier.specs.declared.size.Size.{Size}
 use Rattle.mpw_hier.specs.declared.submission.Submission.{Submission}
-use Rattle.mpw_hier.specs.Structures.{names_of, IsReachable}
+use Rattle.mpw_hier.specs.Structures.{names_of}
 use Rattle.mpw_hier.specs.Boxes.{extent_of, is_box_near}
 use Rattle.mpw_hier.specs.Sizes.{IsSizeOf}
-use Rattle.mpw_hier.specs.Nodes.{IsNode, IsOuter, structure_levels}
+use Rattle.mpw_hier.specs.Nodes.{IsNode, IsOuter, AreReached, AreWhole, structure_levels}
 use Rattle.mpw_hier.specs.Values.{bound_number, structure_items, flats, heights}
 
 -- A table of bindings.
@@ -92,5 +92,5 @@ pub record IsHierarchy (ss : List Submission) (s : Submission) (nodes : List Nod
   pub top : Node
   pub last : slice_get nodes (length nodes - 1) ≡ Some top
   pub top_named : place_of s.library s.top ≡ Some top.structure
-  -- a structure of the library that the top reaches has a node
-  pub whole : (name : List ℕ) (place : ℕ) → IsReachable s.library s.top name → place_of s.library name ≡ Some place → (k : ℕ) × (node : Node) × (slice_get nodes k ≡ Some node) × (node.structure ≡ place)
+  pub reached : AreReached s nodes
+  pub whole : AreWhole s nodes

@@ -12,7 +12,7 @@ use Rattle.mpw_hier.specs.declared.node.Child.{Child}
 use Rattle.mpw_hier.specs.declared.node.Target.{Target}
 use Rattle.mpw_hier.specs.declared.node.Target.TheVariants as targets
 use Rattle.mpw_hier.specs.declared.submission.Submission.{Submission}
-use Rattle.mpw_hier.specs.Structures.{names_of, is_shape}
+use Rattle.mpw_hier.specs.Structures.{names_of, is_shape, IsReachable}
 use Rattle.mpw_hier.specs.Items.{Item}
 use Rattle.mpw_hier.specs.Sizes.{IsSizeOf}
 use Rattle.mpw_hier.specs.Values.{bound_number, at_number, structure_items, flat_of, flats, structure_height, height_of, heights}
@@ -60,10 +60,27 @@ pub record IsNode (before : List (List Item)) (levels : List ℕ) (s : Submissio
   pub children : AreChildren s before earlier 0 structure.elements node.children.items
   pub size : IsSizeOf (structure_items before s structure.name) (structure_levels levels s structure.name) node.size
 
--- The nodes of a submission behind others with these flat lists and heights: the top is the last, and keeps to the limits.
+-- A place of the library whose structure the top reaches.
+pub record IsReached (s : Submission) (place : ℕ) : Type 0 where
+  pub name : List ℕ
+  pub named : place_of s.library name ≡ Some place
+  pub below : IsReachable s.library s.top name
+
+-- Each node is that of a structure that the top reaches, and each structure of the library that the top reaches has a node.
+abbrev pub AreReached : Submission → List Node → Type 0
+AreReached s nodes = (k : ℕ) (node : Node) → slice_get nodes k ≡ Some node → IsReached s node.structure
+
+abbrev pub AreWhole : Submission → List Node → Type 0
+AreWhole s nodes =
+    (name : List ℕ) (place : ℕ) → IsReachable s.library s.top name → place_of s.library name ≡ Some place → (k : ℕ) × (node : Node) × (slice_get nodes k ≡ Some node) × (node.structure ≡ place)
+
+-- The nodes of a submission behind others with these flat lists and heights: those of the structures that its top reaches. The
+-- top is the last, and keeps to the limits.
 pub record AreNodesOf (before : List (List Item)) (levels : List ℕ) (s : Submission) (nodes : List Node) : Type 0 where
   pub library : IsLibrary s.library
   pub each : (k : ℕ) (node : Node) → slice_get nodes k ≡ Some node → IsNode before levels s (take k nodes) node
+  pub reached : AreReached s nodes
+  pub whole : AreWhole s nodes
   pub few : length nodes ≤ length s.library
   pub top : Node
   pub some : 0 < length nodes

@@ -37,4 +37,5 @@ pub use node::{Child, Node, Nodes, Target};
 pub use outside::externals;
 pub use shelf::Shelf;
 pub use size::Size;
+pub use size_box::is_box_near;
 pub use submission::Submission;

@@ -119,9 +119,8 @@ impl Shelf {
         Ok(cells)
     }
 
-    /// The nodes of the submission of a number, each behind those that it places, the top last. What
-    /// the top shows is found from there; that no other structure has a node isn't promised. Takes no
-    /// memory.
+    /// The nodes of the submission of a number: those of the structures that its top reaches, each behind
+    /// those that it places, the top last. Takes no memory.
     pub fn nodes(&self, number: u32) -> Option<&[Node]>
         ensures some { IfSome result (λ nodes. AreNodes self.now number nodes.now) }
         ensures none { IfNone result (slice_get self.now number ≡ None) }

@@ -45,7 +45,7 @@ pub fn is_near(z: i128) -> bool
     -REACH <= z && z <= REACH
 }
 
-/// Whether both corners lie from -2^30 to 2^30 nm.
+/// Whether both corners lie from -2^30 to 2^30 nm, as those of each extent on a shelf do.
 pub fn is_box_near(b: Box2) -> bool
     ensures { result ≡ is_box_near b }
 {

@@ -3,18 +3,21 @@ use Rattle.std.proofs.Common.{◌≡◌, ◌<◌, ℕ, List, length, get_or, tak
 use Rattle.std.specs.Prelude.{slice_get, All, IfSome, is_some, nat_lt, true, false, ◌≤◌}
 use Rattle.std.proofs.lemmas.Bool.Decides.{nat_tests}
 use Rattle.std.specs.Borrow.{Bor}
-use Rattle.std.proofs.lemmas.Option.{slice_get_within, get_or_from_slice_get, slice_get_read, slice_get-get_or}
+use Rattle.std.proofs.lemmas.Option.{slice_get_within, get_or_from_slice_get, slice_get_read}
+use Rattle.mpw_geom.specs.declared.placing.Placing.{Placing}
 use Rattle.mpw_elements.specs.declared.element.Element.{Element}
 use Rattle.mpw_elements.specs.declared.element.Element.TheVariants as elements
+use Rattle.mpw_elements.specs.declared.element.Reference.{Reference}
 use Rattle.mpw_elements.specs.Element.{IsElement, IsReference}
 use Rattle.mpw_library.specs.declared.structures.Structure.{Structure}
 use Rattle.mpw_library.specs.Library.{IsLibrary, IsStructure}
+use Rattle.mpw_hier.specs.declared.node.Child.{Child}
 use Rattle.mpw_hier.specs.declared.node.Node.{Node}
 use Rattle.mpw_hier.specs.declared.submission.Submission.{Submission}
 use Rattle.mpw_hier.specs.Nodes.{AreNodes, AreNodesOf}
 use Rattle.mpw_hier.specs.Values.{flats, heights}
 use Rattle.mpw_walk.specs.declared.frame.Frame.{Frame}
-use Rattle.mpw_walk.specs.Frames.{IsFront, IsWithin}
+use Rattle.mpw_walk.specs.Frames.{IsFront, IsFrame, IsWithin}
 
 pub at_all : {X : Type 0} (P : X → Type 0) (xs : List X) (k : ℕ) (x : X) → All P xs → slice_get xs k ≡ Some x → P x
 at_all P xs k x all is =
@@ -49,14 +52,26 @@ front_is ss number nodes place f w structure at named near number_is nodes_are e
   column = column;
 }
 
+-- the same structure, at other places within its elements and arrays, or placed elsewhere
+pub frame_at : (ss : List Submission) (f : Frame) → IsFrame ss f → (shape child row column : ℕ) (placing : Placing) → ((c : Child) (r : Reference) → slice_get f.node.now.children.items child ≡ Some c → slice_get f.elements.now c.element ≡ Some (elements.Reference r) → (row < r.rows) × (column < r.columns)) → IsWithin placing.by → IsFrame ss (record f { shape = shape; child = child; row = row; column = column; placing = placing })
+frame_at ss f q shape child row column placing within near = record {
+  submission = q.submission;
+  is = q.is;
+  nodes = q.nodes;
+  place = q.place;
+  at = q.at;
+  structure = q.structure;
+  named = q.named;
+  elements_are = q.elements_are;
+  within = within;
+  near = near;
+}
+
 -- what `get` gives
 pub got : {X : Type 0} (xs : List X) (k : ℕ) (o : Option (Bor X)) (x : Bor X) → o ≡ Some x → IfSome o (λ (y : Bor X). y.now ≡ get_or xs k y.now) → k < length xs → slice_get xs k ≡ Some x.now
 got {X = X} xs k o x is at within =
     let h = subst (λ (p : Option (Bor X)). IfSome p (λ (y : Bor X). y.now ≡ get_or xs k y.now)) is at in
     slice_get_read xs (length xs) k x.now refl within h
-
-pub some_at : {X : Type 0} (xs : List X) (k : ℕ) → k < length xs → (d : X) → slice_get xs k ≡ Some (get_or xs k d)
-some_at xs k within d = slice_get-get_or xs k d within
 
 pub one : {X : Type 0} (o : Option X) (x y : X) → o ≡ Some x → o ≡ Some y → x ≡ y
 one o x y e f = let g : Some x ≡ Some y = sym e ∙ f in cc

@@ -21,7 +21,7 @@ use Rattle.mpw_hier.specs.Values.{flats}
 use Rattle.mpw_walk.specs.declared.frame.Frame.{Frame}
 use Rattle.mpw_walk.specs.Turns.{Turn, enter, give, entered, placed_turn}
 use Rattle.mpw_walk.specs.Frames.{named_turns, reference_turns, instance_turns, turns_of_children, instances_from, turns_within, turns_to_come, IsFrame, IsNext, HasReference, behind_instance}
-use Rattle.mpw_walk.proofs.Fronts.{one, element_read}
+use Rattle.mpw_walk.proofs.Fronts.{one, element_read, frame_at}
 use Rattle.mpw_walk.proofs.Entered.{children_front}
 use Rattle.mpw_walk.proofs.Placings.{placed_here, turns_again}
 use Rattle.mpw_walk.proofs.Shapes.{IsChild, child_at, next_column, next_row, no_next}
@@ -89,54 +89,13 @@ pub behind_frame : (ss : List Submission) (f : Frame) (q : IsFrame ss f) (target
 behind_frame ss f q target r x =
     let there = q.within x.child r x.child_is x.reference_is in
     let grid : (row column : ℕ) → row < r.rows → column < r.columns → (c : Child) (t : Reference) → slice_get f.node.now.children.items f.child ≡ Some c → slice_get f.elements.now c.element ≡ Some (elements.Reference t) → (row < t.rows) × (column < t.columns) = λ row column a b c t at ref. let child = one (slice_get f.node.now.children.items f.child) x.child c x.child_is at in let both : Some (elements.Reference r) ≡ Some (elements.Reference t) = sym x.reference_is ∙ ap (λ (c : Child). slice_get f.elements.now c.element) child ∙ ref in let same = same_reference both in (subst (λ (t : Reference). row < t.rows) same a, subst (λ (t : Reference). column < t.columns) same b) in
-    behind_cases f r (IsFrame ss) (λ more. record {
-      submission = q.submission;
-      is = q.is;
-      nodes = q.nodes;
-      place = q.place;
-      at = q.at;
-      structure = q.structure;
-      named = q.named;
-      elements_are = q.elements_are;
-      within = grid f.row (f.column + 1) there.0 more;
-      near = q.near;
-    }) (λ last more. record {
-      submission = q.submission;
-      is = q.is;
-      nodes = q.nodes;
-      place = q.place;
-      at = q.at;
-      structure = q.structure;
-      named = q.named;
-      elements_are = q.elements_are;
-      within = grid (f.row + 1) 0 more (omega (arith, there.1));
-      near = q.near;
-    }) (λ last end. record {
-      submission = q.submission;
-      is = q.is;
-      nodes = q.nodes;
-      place = q.place;
-      at = q.at;
-      structure = q.structure;
-      named = q.named;
-      elements_are = q.elements_are;
-      within = λ c t at ref. let z = rows_read ss f q c.element t ref in (omega (arith, z.rows.least), omega (arith, z.columns.least));
-      near = q.near;
-    })
+    behind_cases f r (IsFrame ss)
+    (λ more. frame_at ss f q f.shape f.child f.row (f.column + 1) f.placing (grid f.row (f.column + 1) there.0 more) q.near)
+    (λ last more. frame_at ss f q f.shape f.child (f.row + 1) 0 f.placing (grid (f.row + 1) 0 more (omega (arith, there.1))) q.near)
+    (λ last end. frame_at ss f q f.shape (f.child + 1) 0 0 f.placing (λ c t at ref. let z = rows_read ss f q c.element t ref in (omega (arith, z.rows.least), omega (arith, z.columns.least))) q.near)
 
 pub shape_frame : (ss : List Submission) (f : Frame) (q : IsFrame ss f) → IsFrame ss (record f { shape = f.shape + 1 })
-shape_frame ss f q = record {
-  submission = q.submission;
-  is = q.is;
-  nodes = q.nodes;
-  place = q.place;
-  at = q.at;
-  structure = q.structure;
-  named = q.named;
-  elements_are = q.elements_are;
-  within = q.within;
-  near = q.near;
-}
+shape_frame ss f q = frame_at ss f q (f.shape + 1) f.child f.row f.column f.placing q.within q.near
 
 -- the child of a frame, as its node has it
 pub frame_child : (ss : List Submission) (f : Frame) (q : IsFrame ss f) (c : Child) → slice_get f.node.now.children.items f.child ≡ Some c → IsChild q.submission (flats (take f.submission ss)) (take q.place f.nodes.now) f.elements.now c

@@ -10,13 +10,13 @@ use Rattle.mpw_hier.specs.declared.submission.Submission.{Submission}
 use Rattle.mpw_hier.specs.Items.{shown_items}
 use Rattle.mpw_hier.specs.Nodes.{IsOuter, structure_levels}
 use Rattle.mpw_hier.specs.Sizes.{IsSizeOf}
-use Rattle.mpw_hier.specs.Values.{structure_items, flat_of, flats, flat, shown_height, height_of, heights, from_first, bound_number}
+use Rattle.mpw_hier.specs.Values.{structure_items, flat_of, flats, shown_height, height_of, heights, from_first, bound_number}
 use Rattle.mpw_hier.proofs.Unfolding.{items_by_targets, heights_by_targets}
 use Rattle.mpw_hier.proofs.Firsts.{firsts_at, firsts_length}
 use Rattle.mpw_walk.specs.declared.frame.Frame.{Frame}
 use Rattle.mpw_walk.specs.Turns.{shown_turns, submission_turns, all_turns, turns_of}
 use Rattle.mpw_walk.specs.Frames.{named_turns, turns_of_shapes, turns_of_children, turns_within, IsFrame, IsFront, IsWithin, Shows}
-use Rattle.mpw_walk.proofs.Fronts.{one}
+use Rattle.mpw_walk.proofs.Fronts.{one, frame_at}
 use Rattle.mpw_walk.proofs.Named.{turns_by_targets, outer_shown}
 use Rattle.mpw_walk.proofs.Entered.{named_is, own_turns, own_size, node_turns}
 
@@ -71,32 +71,17 @@ outer_shows ss n s is name m t w at g shown =
       size = subst (λ is. IsSizeOf is (structure_levels (from_first height_of [] (take n ss)) s name) g.node.now.size) (sym items) (subst (λ l. IsSizeOf (structure_items (from_first flat_of [] (take m ss)) t t.top) l g.node.now.size) (sym levels) shown.size);
     }
 
--- the turns, the flat list and the height of a submission are those of its top
+-- the turns of a submission are those of its top
 pub top_turns : (ss : List Submission) (n : ℕ) (s : Submission) → slice_get ss n ≡ Some s → turns_of ss n ≡ named_turns ss n s.top
 unfolding all_turns
 top_turns ss n s is = firsts_at submission_turns ss n s [] is ∙ sym (named_is ss n s is s.top)
-
-pub top_items : (ss : List Submission) (n : ℕ) (s : Submission) → slice_get ss n ≡ Some s → flat ss n ≡ structure_items (flats (take n ss)) s s.top
-unfolding flats
-top_items ss n s is = firsts_at flat_of ss n s [] is
 
 -- the same, placed elsewhere
 pub placed_shows : (ss : List Submission) (n : ℕ) (s : Submission) (name : List ℕ) (g : Frame) (p : Placing) → Shows ss n s name g → IsWithin p.by → Shows ss n s name (record g { placing = p })
 unfolding turns_within
 placed_shows ss n s name g p w near =
     let q = w.frame in record {
-      frame = record {
-        submission = q.submission;
-        is = q.is;
-        nodes = q.nodes;
-        place = q.place;
-        at = q.at;
-        structure = q.structure;
-        named = q.named;
-        elements_are = q.elements_are;
-        within = q.within;
-        near = near;
-      };
+      frame = frame_at ss g q g.shape g.child g.row g.column p q.within near;
       turns = w.turns;
       size = w.size;
     }

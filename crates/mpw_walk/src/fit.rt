@@ -1,36 +1,22 @@
 //! Which roots a walk may have.
 
 ghost use Rattle.std.specs.Prelude.{◌≡◌, ◌↔◌, All, IsTrue, true};
-ghost use Rattle.mpw_hier.specs.Boxes.{is_box_near, is_near, placed_box};
+ghost use Rattle.mpw_hier.specs.Boxes.{is_box_near, placed_box};
 ghost use Rattle.mpw_walk.specs.Frames.{IsWithin};
 ghost use Rattle.mpw_walk.specs.Walk.{IsRoot};
 
 use crate::root::Root;
 use mpw_geom::{Box2, Placing, Point};
-use mpw_hier::Shelf;
+use mpw_hier::{Shelf, is_box_near};
 
-/// How far from 0 a coordinate of a placed extent may lie, in nm.
-const REACH: i64 = 1 << 30;
-
-fn is_near(z: i64) -> bool
-    ensures { result ≡ is_near z }
-{
-    -REACH <= z && z <= REACH
-}
-
-/// Whether both corners lie from -2^30 to 2^30 nm.
-#[tactic(auto, unfolding(mpw_hier::specs::Boxes::is_box_near))]
-fn is_box_near(b: Box2) -> bool
-    ensures { result ≡ is_box_near b }
-{
-    is_near(b.x0) & is_near(b.y0) & is_near(b.x1) & is_near(b.y1)
-}
+/// The longest displacement along an axis, in nm.
+const LONGEST: i64 = 1 << 31;
 
 /// Whether a displacement is at most 2^31 nm along each axis.
 fn is_short(by: Point) -> bool
     ensures { IsTrue result ↔ IsWithin by }
 {
-    -2 * REACH <= by.x && by.x <= 2 * REACH && -2 * REACH <= by.y && by.y <= 2 * REACH
+    -LONGEST <= by.x && by.x <= LONGEST && -LONGEST <= by.y && by.y <= LONGEST
 }
 
 /// Where the placing takes a near box.

@@ -6,8 +6,12 @@
 #![tactic(auto)]
 
 mod fit;
+#[cfg(test)]
+mod flat_tests;
 mod frame;
 mod laws;
+#[cfg(test)]
+mod random;
 mod root;
 #[cfg(test)]
 mod tests;
