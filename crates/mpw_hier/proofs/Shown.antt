@@ -80,38 +80,3 @@ module _ (ss : List Structure) (top : List ℕ) (place : ℕ) (e : place_of ss t
       reach_more : {a b c : List ℕ} → IsReachable ss a b → refers ss b c ≡ true → IsReachable ss a c
       reach_more itself r = chain r itself
       reach_more (chain s way) r = chain s (reach_more way r)
-
--- ---- in order of name
-
-abbrev Entry : Type 0
-Entry = List ℕ × Unit {0}
-
-abbrev marked : Bool → Option (Unit {0})
-marked b = cond b (Some tt) None
-
-marked-or : (a b : Bool) → cond a (Some tt) (marked b) ≡ marked (a || b)
-marked-or true b = refl
-marked-or false b = refl
-
-ties : (q k : List ℕ) → eq_by_cmp name_cmp q k ≡ name_eq q k
-ties q k = sym (texts_ties q k)
-
-find-entries : (q : List ℕ) (es : List Entry) → find name_cmp q es ≡ marked (list_any (name_eq q) (map (λ (e : Entry). e.0) es))
-find-entries q [] = refl
-find-entries q (e ∷ es) =
-    ap (λ b. cond b (Some tt) (find name_cmp q es)) (ties q e.0) ∙ ap (cond (name_eq q e.0) (Some tt)) (find-entries q es) ∙ marked-or (name_eq q e.0) _
-
-find-placed : (q : List ℕ) (xs : List (List ℕ)) → find name_cmp q (placed_by_name xs) ≡ marked (list_any (name_eq q) xs)
-find-placed q [] = refl
-find-placed q (x ∷ xs) =
-    find-put name_cmp nat_list_cmp_total q x tt (placed_by_name xs) ∙ ap (λ b. cond b (Some tt) (find name_cmp q (placed_by_name xs))) (ties q x) ∙ ap (cond (name_eq q x) (Some tt)) (find-placed q xs) ∙ marked-or (name_eq q x) _
-
-unmarked : (a b : Bool) → marked a ≡ marked b → a ≡ b
-unmarked true true e = refl
-unmarked false false e = refl
-unmarked true false e = absurd cc
-unmarked false true e = absurd cc
-
--- the names in order are the same names
-pub in_by_name : (q : List ℕ) (xs : List (List ℕ)) → contains_name (by_name xs) q ≡ contains_name xs q
-in_by_name q xs = unmarked _ _ (sym (find-entries q (placed_by_name xs)) ∙ find-placed q xs)

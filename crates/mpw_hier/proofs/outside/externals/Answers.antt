@@ -4,7 +4,8 @@ use Rattle.mpw_hier.specs.Graph.{IsGraph, HasCycle, IsFromBelow}
 use Rattle.mpw_hier.specs.Outside.{outside_from_all}
 use Rattle.mpw_hier.proofs.Leading.{leads_within}
 use Rattle.mpw_hier.proofs.Linking.{place_within, graph_length, graph_within, cycle_named, acyclic}
-use Rattle.mpw_hier.proofs.Shown.{shown, only_shown, in_by_name}
+use Rattle.mpw_geom.proofs.NamesLemmas.{in_by_name}
+use Rattle.mpw_hier.proofs.Shown.{shown, only_shown}
 use Rattle.mpw_hier.proofs.outside.externals.Goals as goal
 
 pub order_from_below-requires-clause-graph : goal.order_from_below-requires-clause-graph
