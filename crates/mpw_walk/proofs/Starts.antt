@@ -65,7 +65,7 @@ pub further : (a b c : Walked) → GoesOn a b → GoesOn b c → GoesOn a c
 further a b c h l = record { first = h.first ∙ l.first; behind = h.behind ∙ l.behind; count = h.count ∙ l.count }
 
 pub last_gives : (a b c : Walked) (placed : Placed) → GoesOn a b → GivesFirst b c placed → GivesFirst a c placed
-last_gives a b c placed h l = record { first = h.first ∙ l.first; behind = h.behind ∙ l.behind; count = h.count ∙ l.count }
+last_gives a b c placed h l = record { placeable = l.placeable; first = h.first ∙ l.first; behind = h.behind ∙ l.behind; count = h.count ∙ l.count }
 
 first_is : (turns : List Turn) (item : Item) → first_given turns ≡ Some item → given turns ≡ item ∷ given (behind_first turns)
 first_is [] item e = absurd cc

@@ -6,7 +6,12 @@ use Rattle.std.proofs.lemmas.Option.{slice_get_within}
 use Rattle.std.proofs.lemmas.List.{length-append, drop_all, nil_from_length}
 use Rattle.std.proofs.lemmas.List.Sums.{fold-append}
 use Rattle.std.proofs.lemmas.List.Elements.{All-tail}
+use Rattle.std.proofs.lemmas.Int.{ints}
+use Rattle.mpw_geom.specs.Plane.{IsInPlane}
+use Rattle.mpw_geom.specs.declared.plane.Point.{Point}
 use Rattle.mpw_geom.specs.declared.placing.Placing.{Placing}
+use Rattle.mpw_elements.specs.Element.{IsElement}
+use Rattle.mpw_library.specs.Library.{IsStructure, IsLibrary}
 use Rattle.mpw_elements.specs.declared.element.Reference.{Reference}
 use Rattle.mpw_hier.specs.declared.node.Target.{Target}
 use Rattle.mpw_hier.specs.declared.submission.Submission.{Submission}
@@ -18,7 +23,7 @@ use Rattle.mpw_walk.specs.declared.root.Placed.{Placed}
 use Rattle.mpw_walk.specs.Turns.{Turn, enter, give, given, entered, placed_turn, turns_of, root_turns, roots_turns, first_given, behind_first}
 use Rattle.mpw_walk.specs.Frames.{named_turns, turns_to_come, turns_within, IsFrame, IsNext, IsShape, IsWithin, IsNearArray, Shows, ShowsName, behind_instance}
 use Rattle.mpw_walk.specs.Near.{IsCloseItem}
-use Rattle.mpw_walk.specs.Way.{left_of, work_left, IsOnWay, GoesOn, GivesFirst, item_of}
+use Rattle.mpw_walk.specs.Way.{left_of, work_left, IsOnWay, GoesOn, GivesFirst, IsPlaceable, item_of}
 use Rattle.mpw_walk.proofs.Fronts.{at_all}
 use Rattle.mpw_walk.proofs.Given.{given_append, given_placed}
 use Rattle.mpw_walk.proofs.Entered.{named_give, nothing_named}
@@ -63,6 +68,12 @@ each_push ss frames f each frame low k g is =
       | inr h ↦ subst (λ (x : Frame). IsFrame ss x × (k + x.node.now.size.height ≤ 64)) h.1 (frame, omega (arith, low, h.0))
     ]
 
+in_plane : (p : Point) → IsWithin p → IsInPlane p
+in_plane p h = record {
+  x = record { low = omega (arith, ints, h.x.low); high = omega (arith, ints, h.x.high) };
+  y = record { low = omega (arith, ints, h.y.low); high = omega (arith, ints, h.y.high) };
+}
+
 -- ---- a shape is given
 
 module _ (ss : List Submission) (roots : List Root) (root turns : ℕ) (frames : List Frame) (f : Frame) (w : IsOnWay ss roots root turns (frames ++ f ∷ [])) where
@@ -94,11 +105,23 @@ module _ (ss : List Submission) (roots : List Root) (root turns : ℕ) (frames :
         few = omega (arith, w.few, long);
       }
 
+  given_placeable : (placed : Placed) → IsShape f placed → IsPlaceable placed
+  given_placeable placed shape =
+      let frame = last.0 in
+      let read : IsLibrary frame.submission.library = at_all (λ (s : Submission). IsLibrary s.library) ss f.submission frame.submission w.read frame.is in
+      let structure : IsStructure frame.structure = at_all IsStructure frame.submission.library f.node.now.structure frame.structure read frame.named in
+      let at : slice_get frame.structure.elements (slice_index f.node.now.shapes.items f.shape) ≡ Some placed.element.now = rw (← frame.elements_are) shape.element in
+      record {
+        element = at_all IsElement frame.structure.elements (slice_index f.node.now.shapes.items f.shape) placed.element.now structure.elements at;
+        displacement = in_plane placed.placing.by (rw shape.placing frame.near);
+      }
+
   pub given_first : (placed : Placed) → f.shape < length f.node.now.shapes.items → IsShape f placed → GivesFirst (record { turns = turns; left = left_of ss roots root (frames ++ f ∷ []) }) (record { turns = turns + 1; left = left_of ss roots root (frames ++ (record f { shape = f.shape + 1 }) ∷ []) }) placed
   given_first placed h shape =
       let left = given_left placed h shape in
       let rest = left_of ss roots root (frames ++ (record f { shape = f.shape + 1 }) ∷ []) in
       let long : length (left_of ss roots root (frames ++ f ∷ [])) ≡ suc (length rest) = ap length left in record {
+        placeable = given_placeable placed shape;
         first = ap first_given left;
         behind = ap behind_first left;
         count = omega (arith, long);

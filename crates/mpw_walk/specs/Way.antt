@@ -1,5 +1,7 @@
 -- The way of a walk: the structures that it has entered, the turns to come of them, and what is true on the way.
 use Rattle.std.specs.Prelude.{◌≡◌, ◌≤◌, ◌<◌, ◌+◌, ◌-◌, ◌*◌, ◌^◌, ℕ, List, [], ◌++◌, length, drop, slice_get, fold, All, Some, vec_capacity}
+use Rattle.mpw_geom.specs.Plane.{IsInPlane}
+use Rattle.mpw_elements.specs.Element.{IsElement}
 use Rattle.mpw_library.specs.Library.{IsLibrary}
 use Rattle.mpw_hier.specs.declared.submission.Submission.{Submission}
 use Rattle.mpw_hier.specs.Items.{Item}
@@ -60,8 +62,14 @@ pub record GoesOn (old new : Walked) : Type 0 where
   pub behind : behind_first old.left ≡ behind_first new.left
   pub count : old.turns + length old.left ≡ new.turns + length new.left
 
+-- A shape that can be placed: an element as reading gives it, and a displacement that a caller may hand in.
+pub record IsPlaceable (placed : Placed) : Type 0 where
+  pub element : IsElement placed.element.now
+  pub displacement : IsInPlane placed.placing.by
+
 -- A walk has given its first shape.
 pub record GivesFirst (old new : Walked) (placed : Placed) : Type 0 where
+  pub placeable : IsPlaceable placed
   pub first : first_given old.left ≡ Some (item_of placed)
   pub behind : behind_first old.left ≡ new.left
   pub count : old.turns + length old.left ≡ new.turns + length new.left

@@ -6,7 +6,7 @@
 ghost use Rattle.std.specs.Prelude.{◌≡◌, ◌≤◌, ◌+◌, ◌^◌, [], ◌∷◌, length, IfOk, IfSome, IfNone, All};
 ghost use Rattle.mpw_walk.specs.Turns.{given, behind_first, flat_roots, roots_turns};
 ghost use Rattle.mpw_walk.specs.Walk.{IsRoot};
-ghost use Rattle.mpw_walk.specs.Way.{item_of};
+ghost use Rattle.mpw_walk.specs.Way.{IsPlaceable, item_of};
 
 use crate::root::{Placed, Root};
 use crate::way::Way;
@@ -65,6 +65,7 @@ impl<'a> Walk<'a> {
     /// to it, and one gives it; a turn takes constant time, and so does leaving what has been shown.
     pub fn next(&mut self) -> Option<Placed<'a>>
         ensures some { IfSome result (λ placed. given self.old.left ≡ item_of placed ∷ given self.new.left) }
+        ensures placeable { IfSome result IsPlaceable }
         ensures none { IfNone result (given self.old.left ≡ []) }
         ensures left { self.new.left ≡ behind_first self.old.left }
         ensures turns { self.new.turns + length self.new.left ≡ self.old.turns + length self.old.left }

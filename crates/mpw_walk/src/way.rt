@@ -7,7 +7,7 @@
 ghost use Rattle.std.specs.Prelude.{◌≡◌, ◌≤◌, ◌+◌, [], ◌∷◌, ◌++◌, length, IfSome, IfNone};
 ghost use Rattle.mpw_walk.specs.Frames.{IsNext};
 ghost use Rattle.mpw_walk.specs.Turns.{given, behind_first};
-ghost use Rattle.mpw_walk.specs.Way.{IsWay, Does, left, item_of};
+ghost use Rattle.mpw_walk.specs.Way.{IsWay, IsPlaceable, Does, left, item_of};
 ghost use Rattle.mpw_walk.specs.declared.way.Step.TheVariants as steps;
 
 use crate::frame::{Frame, instance};
@@ -111,6 +111,7 @@ impl<'a> Way<'a> {
         requires { IsWay self.old self.old.frames.items }
         ensures way { IsWay self.new self.new.frames.items }
         ensures some { IfSome result (λ placed. given (left self.old) ≡ item_of placed ∷ given (left self.new)) }
+        ensures placeable { IfSome result IsPlaceable }
         ensures none { IfNone result (given (left self.old) ≡ []) }
         ensures left { left self.new ≡ behind_first (left self.old) }
         ensures turns { self.new.turns + length (left self.new) ≡ self.old.turns + length (left self.old) }

@@ -15,3 +15,6 @@ returns-in-Ended-clause-none c =
     let now = walked c.loop-placed.self c.loop-placed.self.frames.items in
     let new = walked c.step.new.self c.step.new.self.frames.items in
     (last_ends old now new c.loop-placed.invariant.on c.in-Ended.ensures.does).none
+
+pub returns-in-Given-clause-placeable : goal.returns-in-Given-clause-placeable
+returns-in-Given-clause-placeable c = c.in-Given.ensures.does.placeable
