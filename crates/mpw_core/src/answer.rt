@@ -250,7 +250,7 @@ fn gone(policy: &Policy, conn: u32) -> Result<Answer, AllocError>
 }
 
 /// The answer to an event. It takes the policy's size at most, and its own; a submission takes its library's size, and
-/// the number of submissions on the shelf.
+/// the number of submissions on the shelf, and `cells` the policy's size for each cell.
 ///
 /// # Errors
 /// Where there is no room for it.

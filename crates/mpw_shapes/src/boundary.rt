@@ -30,8 +30,9 @@ fn heights_of(alloc: Global, corners: &[Point]) -> Result<Vec<i64>, AllocError>
 /// Rectangles whose union is the set of unit squares round which the closed boundary winds (GDSII
 /// Stream release 6, BOUNDARY and BOX). The edge from the last corner to the first is implied.
 ///
-/// An error is want of memory. For n corners and m rectangles it takes O((n + m) log n). Rectangles
-/// that lie on one another and are as wide are one, so that a simple polygon gives O(n).
+/// An error is want of memory. For n corners and m rectangles it takes O((n + m) log n). A rectangle
+/// that lies on the one before it and is as wide is joined with that, so that a simple polygon gives
+/// O(n).
 pub(crate) fn boundary_rectangles(alloc: Global, corners: &[Point]) -> Result<Vec<Box2>, AllocError>
     ensures squares { IfOk result (λ boxes. (s : Square) → any_has_square boxes.items s ≡ boundary_has corners.now s) }
     ensures area { IfOk result (λ boxes. All HasArea boxes.items) }
