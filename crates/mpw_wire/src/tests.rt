@@ -3,9 +3,6 @@ ghost use Rattle.std.specs.Prelude.{None};
 use super::*;
 use mpw_core::{Code, Core, Denial, Event, MAX_EVENTS, Reply, Request};
 use mpw_geom::Name;
-use mpw_library::LibraryText;
-use mpw_rbac::{Grant, Object, Operation, Policy, PolicyFault, Refusal};
-use mpw_samples::{NANOMETRE, Sample};
 use std::alloc::{AllocError, Global};
 use std::test::Fail;
 
@@ -312,48 +309,6 @@ fn the_513th_user_and_role(rt: HostRuntime) -> Result<(), Fail> {
     Ok(())
 }
 
-/// A policy in which the officer has a session on connection 1, with its role active.
-fn officers_policy(alloc: Global) -> Result<Policy, PolicyFault> {
-    let user = named(alloc, "root")?;
-    let digest = digest_of(b"abc");
-    let mut policy = Policy::new(alloc, user.copy()?, digest)?;
-    policy.open(1, &user, &digest)?;
-    policy.activate(1, &named(alloc, "officer")?)?;
-    Ok(policy)
-}
-
-/// Grants the officer to read a numbered cell.
-fn grant_cell(alloc: Global, policy: &mut Policy, number: usize) -> Result<(), PolicyFault> {
-    let digits = number.to_string(alloc)?;
-    let object = Object::Cell(named(alloc, digits.as_str())?);
-    let role = named(alloc, "officer")?;
-    policy.grant(
-        1,
-        Grant {
-            operation: Operation::Read,
-            object,
-            role,
-        },
-    )
-}
-
-/// Grants so many numbered cells.
-fn grant_cells(alloc: Global, policy: &mut Policy, count: usize) -> Result<(), PolicyFault> {
-    for number in 0..count {
-        grant_cell(alloc, policy, number)?;
-    }
-    Ok(())
-}
-
-#[test]
-fn the_4097th_grant(rt: HostRuntime) -> Result<(), Fail> {
-    let mut policy = officers_policy(rt.alloc())?;
-    grant_cells(rt.alloc(), &mut policy, 4095)?;
-    let further = grant_cell(rt.alloc(), &mut policy, 4095);
-    assert!(rt; matches!(further, Err(PolicyFault::Refused(Refusal::Full))));
-    Ok(())
-}
-
 #[test]
 fn the_65th_set_of_a_kind(rt: HostRuntime) -> Result<(), Fail> {
     let roles = "addrole a\naddrole b\n";
@@ -433,118 +388,5 @@ fn the_history_ends_at_2_to_the_20th(rt: HostRuntime) -> Result<(), Fail> {
     let past = whoami(&mut core)?;
     assert!(rt; matches!(past, Reply::Refused(Code::Ended)));
     assert!(rt; core.history().len() == MAX_EVENTS);
-    Ok(())
-}
-
-/// The officer's lines that let `ann` submit and read `pad`.
-const GRANTS: &[u8] =
-    b"open root abc\nactivate officer\nadduser ann abc\naddrole alpha\nassign ann alpha\ngrant submit pad alpha\ngrant read pad alpha\n";
-
-/// What the core tells a request of connection 2, as the text of its reply.
-fn told(alloc: Global, core: &mut Core, request: Request) -> Result<Vec<u8>, AllocError> {
-    let reply = core.handle(Event::Ask { conn: 2, request })?;
-    let mut paper = Paper {
-        bytes: Vec::new(alloc),
-        room: usize::MAX,
-        failures: 0,
-    };
-    match write_reply(&reply, &mut paper) {
-        Ok(()) => Ok(paper.bytes),
-        Err(_) => Err(AllocError),
-    }
-}
-
-fn named(alloc: Global, text: &str) -> Result<Name, AllocError> {
-    Name::read(alloc, text.as_bytes()).map_err(|_| AllocError)
-}
-
-/// A desk at which `ann` has a session on connection 2.
-fn desk_of_ann(alloc: Global) -> Result<Core, AllocError> {
-    let mut core = new_desk(alloc)?;
-    let mut reader = Text {
-        bytes: GRANTS,
-        at: 0,
-        fails_at: usize::MAX,
-        failures: 0,
-    };
-    let mut writer = Paper {
-        bytes: Vec::new(alloc),
-        room: usize::MAX,
-        failures: 0,
-    };
-    let _ = serve_core(alloc, &mut core, 1, &mut reader, &mut writer);
-    let user = named(alloc, "ann")?;
-    let digest = digest_of(b"abc");
-    told(alloc, &mut core, Request::Open { user, digest })?;
-    let role = named(alloc, "alpha")?;
-    told(alloc, &mut core, Request::Activate { role })?;
-    Ok(core)
-}
-
-/// What a submission is told.
-fn submit(
-    alloc: Global,
-    core: &mut Core,
-    cell: &str,
-    top: &str,
-    bytes: Vec<u8>,
-) -> Result<Vec<u8>, AllocError> {
-    let cell = named(alloc, cell)?;
-    let top = named(alloc, top)?;
-    let text = LibraryText::read(alloc, bytes)?;
-    told(alloc, core, Request::Submit { cell, top, text })
-}
-
-/// PAD with a rectangle up to (x, 100).
-fn pad(alloc: Global, x: i32) -> Result<Vec<u8>, Fail> {
-    let mut text = Sample::new(alloc, NANOMETRE)?;
-    text.begin("PAD")?;
-    text.boundary(1, 0, &[(0, 0), (x, 0), (x, 100), (0, 100), (0, 0)])?;
-    text.end()?;
-    Ok(text.finish()?)
-}
-
-/// PAD, which places a name once.
-fn pad_over(alloc: Global, name: &str) -> Result<Vec<u8>, Fail> {
-    let mut text = Sample::new(alloc, NANOMETRE)?;
-    text.begin("PAD")?;
-    text.place(name, 0, 0)?;
-    text.end()?;
-    Ok(text.finish()?)
-}
-
-#[test]
-fn versions_and_cells(rt: HostRuntime) -> Result<(), Fail> {
-    let alloc = rt.alloc();
-    let mut core = desk_of_ann(alloc)?;
-    let none = told(alloc, &mut core, Request::Cells)?;
-    assert!(rt; none.as_slice() == "OK 0\n".as_bytes());
-    let first = submit(alloc, &mut core, "pad", "PAD", pad(alloc, 10)?)?;
-    assert!(rt; first.as_slice() == "OK 1\nversion 1\n".as_bytes());
-    let second = submit(alloc, &mut core, "pad", "PAD", pad(alloc, 1 << 30)?)?;
-    assert!(rt; second.as_slice() == "OK 1\nversion 2\n".as_bytes());
-    let cells = told(alloc, &mut core, Request::Cells)?;
-    assert!(rt; cells.as_slice() == "OK 1\npad 2 ann\n".as_bytes());
-    Ok(())
-}
-
-#[test]
-fn submissions_refused(rt: HostRuntime) -> Result<(), Fail> {
-    let alloc = rt.alloc();
-    let mut core = desk_of_ann(alloc)?;
-    let other = submit(alloc, &mut core, "chip", "PAD", Vec::new(alloc))?;
-    assert!(rt; other.as_slice() == "DENIED permission submit chip\n".as_bytes());
-    let empty = submit(alloc, &mut core, "pad", "PAD", Vec::new(alloc))?;
-    assert!(rt; empty.as_slice() == "REFUSED 1 short 0\n".as_bytes());
-    let no_top = submit(alloc, &mut core, "pad", "NOPE", pad(alloc, 10)?)?;
-    assert!(rt; no_top.as_slice() == "REFUSED 20 notop\n".as_bytes());
-    let cycle = submit(alloc, &mut core, "pad", "PAD", pad_over(alloc, "PAD")?)?;
-    assert!(rt; cycle.as_slice() == "REFUSED 21 cycle\n".as_bytes());
-    let unused = submit(alloc, &mut core, "pad", "PAD", pad_over(alloc, "foo")?)?;
-    assert!(rt; unused.as_slice() == "DENIED permission use foo\n".as_bytes());
-    let far = submit(alloc, &mut core, "pad", "PAD", pad(alloc, (1 << 30) + 1)?)?;
-    assert!(rt; far.as_slice() == "REFUSED 24 extent\n".as_bytes());
-    let cells = told(alloc, &mut core, Request::Cells)?;
-    assert!(rt; cells.as_slice() == "OK 0\n".as_bytes());
     Ok(())
 }
