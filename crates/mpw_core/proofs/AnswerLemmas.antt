@@ -7,14 +7,12 @@ use Rattle.mpw_rbac.specs.declared.refusal.PolicyFault.TheVariants.{Refused, Mem
 use Rattle.mpw_rbac.specs.Policy.{Policy}
 use Rattle.mpw_rbac.specs.Rows.{IsFaultOf}
 use Rattle.mpw_core.specs.declared.answer.Answer.{Answer}
-use Rattle.mpw_core.specs.Answer.{IsRefusal, Gives, Told, state_with, row_of}
-use Rattle.mpw_core.specs.Step.{State, Outcome, changed, outcome_of}
+use Rattle.mpw_core.specs.Answer.{IsRefusal, Gives, Told, state_with}
+use Rattle.mpw_core.specs.Step.{State, Outcome, changed}
 use Rattle.mpw_core.specs.declared.answer.Change.TheVariants.{Nothing}
 use Rattle.mpw_core.specs.declared.answer.Fault.{Fault}
 use Rattle.mpw_core.specs.declared.answer.Fault.TheVariants as fault
 use Rattle.mpw_core.specs.declared.reply.Reply.{Reply}
-use Rattle.mpw_core.specs.declared.event.Request.{Request}
-use Rattle.mpw_core.specs.declared.event.Request.TheVariants.{Open, Close, Activate, DropRole, Whoami, AddUser, DelUser, AddRole, DelRole, Assign, Deassign, Grant, Revoke, Inherit, Uninherit, Ssd, Dsd, UnSsd, UnDsd, Submit, Cells}
 
 pub refused-gives : (state : State) (row : Result Policy Refusal) (fault : PolicyFault) (result : Result Answer AllocError) → IsFaultOf row fault → IfOk result (λ a. IsRefusal fault a.reply a.change)
     → IfOk result (λ a. Gives state (changed state row) a.reply a.change)
@@ -31,27 +29,3 @@ told-gives state outcome ends row why (Ok a) is answer =
     let row_is : row ≡ Err a.reply = subst (λ f. Told f row) answer.0 is in
     let left : outcome row ≡ record { reply = a.reply; state = state } = ap outcome row_is ∙ ends a.reply in
     record { told = ap (λ (o : Outcome). o.reply) (sym left); left = ap (state_with state) answer.1 ∙ ap (λ (o : Outcome). o.state) (sym left) }
-
--- a request of the policy is answered by its row
-pub row-outcome : (state : State) (conn : ℕ) (request : Request) → (request ≡ Whoami → ⊥) → ((cell top text : List ℕ) → request ≡ Submit cell top text → ⊥) → (request ≡ Cells → ⊥) → changed state (row_of state.policy conn request) ≡ outcome_of state conn request
-row-outcome state conn Whoami a b c = absurd (a refl)
-row-outcome state conn (Submit cell top text) a b c = absurd (b cell top text refl)
-row-outcome state conn Cells a b c = absurd (c refl)
-row-outcome state conn (Open user digest) a b c = refl
-row-outcome state conn Close a b c = refl
-row-outcome state conn (Activate role) a b c = refl
-row-outcome state conn (AddUser user digest) a b c = refl
-row-outcome state conn (AddRole role) a b c = refl
-row-outcome state conn (Assign user role) a b c = refl
-row-outcome state conn (Grant grant) a b c = refl
-row-outcome state conn (Revoke grant) a b c = refl
-row-outcome state conn (DropRole role) a b c = refl
-row-outcome state conn (DelUser user) a b c = refl
-row-outcome state conn (DelRole role) a b c = refl
-row-outcome state conn (Deassign user role) a b c = refl
-row-outcome state conn (Inherit senior junior) a b c = refl
-row-outcome state conn (Uninherit senior junior) a b c = refl
-row-outcome state conn (Ssd set) a b c = refl
-row-outcome state conn (Dsd set) a b c = refl
-row-outcome state conn (UnSsd name) a b c = refl
-row-outcome state conn (UnDsd name) a b c = refl

@@ -9,14 +9,19 @@ use Rattle.mpw_rbac.proofs.LawLemmas as law
 use Rattle.mpw_core.specs.declared.event.Event.{Event}
 use Rattle.mpw_core.specs.declared.event.Event.TheVariants as event
 use Rattle.mpw_core.specs.declared.event.Request.{Request}
-use Rattle.mpw_core.specs.declared.event.Request.TheVariants.{Open, Close, Activate, DropRole, Whoami, AddUser, DelUser, AddRole, DelRole, Assign, Deassign, Grant, Revoke, Inherit, Uninherit, Ssd, Dsd, UnSsd, UnDsd, Submit, Cells}
+use Rattle.mpw_core.specs.declared.event.Request.TheVariants as ask
+use Rattle.mpw_core.specs.declared.policy.PolicyRequest.{PolicyRequest}
+use Rattle.mpw_core.specs.declared.policy.PolicyRequest.TheVariants.{Open, Close, Activate, DropRole, AddUser, DelUser, AddRole, DelRole, Assign, Deassign, Grant, Revoke, Inherit, Uninherit, Ssd, Dsd, UnSsd, UnDsd}
+use Rattle.mpw_core.specs.declared.layouts.LayoutRequest.{LayoutRequest}
+use Rattle.mpw_core.specs.declared.layouts.LayoutRequest.TheVariants.{Submit, Cells}
+use Rattle.mpw_core.specs.PolicyRows.{row_of}
 use Rattle.mpw_core.specs.declared.event.Call.{Call}
 use Rattle.mpw_core.specs.History.{state_after}
 use Rattle.mpw_hier.specs.declared.submission.Submission.{Submission}
 use Rattle.mpw_core.specs.declared.reply.Line.{Line}
 use Rattle.mpw_core.specs.declared.reply.Reply.{Reply}
 use Rattle.mpw_core.specs.Layouts as layouts
-use Rattle.mpw_core.specs.Step.{State, new_state, changed, asked, shelved, listed, identity_lines, outcome_of, step, after}
+use Rattle.mpw_core.specs.Step.{State, new_state, changed, asked, shelved, listed, identity_lines, layout_outcome, outcome_of, step, after}
 
 -- the requests over the shelf leave the policy
 policy-shelved : (s : State) (row : Result Submission Reply) → (shelved s row).state.policy ≡ s.policy
@@ -36,28 +41,34 @@ keeps-asked : (s : State) (row : Result Identity Refusal) → active_authorized 
 keeps-asked s (Ok q) sound = sound
 keeps-asked s (Err r) sound = sound
 
+keeps-row : (p : Policy) (conn : ℕ) (request : PolicyRequest) (q : Policy) → row_of p conn request ≡ Ok q → active_authorized p ≡ true → active_authorized q ≡ true
+keeps-row p conn (Open user digest) q is sound = law.keeps-open_session conn user digest p q is sound
+keeps-row p conn Close q is sound = law.keeps-close_session conn p q is sound
+keeps-row p conn (Activate role) q is sound = law.keeps-activate conn role p q is sound
+keeps-row p conn (AddUser user digest) q is sound = law.keeps-adduser conn user digest p q is sound
+keeps-row p conn (AddRole role) q is sound = law.keeps-addrole conn role p q is sound
+keeps-row p conn (Assign user role) q is sound = law.keeps-assign conn user role p q is sound
+keeps-row p conn (Grant grant) q is sound = law.keeps-grant conn grant p q is sound
+keeps-row p conn (Revoke grant) q is sound = law.keeps-revoke conn grant p q is sound
+keeps-row p conn (DropRole role) q is sound = law.keeps-drop_role conn role p q is sound
+keeps-row p conn (DelUser user) q is sound = law.keeps-deluser conn user p q is sound
+keeps-row p conn (DelRole role) q is sound = law.keeps-delrole conn role p q is sound
+keeps-row p conn (Deassign user role) q is sound = law.keeps-deassign conn user role p q is sound
+keeps-row p conn (Inherit senior junior) q is sound = law.keeps-inherit conn senior junior p q is sound
+keeps-row p conn (Uninherit senior junior) q is sound = law.keeps-uninherit conn senior junior p q is sound
+keeps-row p conn (Ssd set) q is sound = law.keeps-ssd conn set p q is sound
+keeps-row p conn (Dsd set) q is sound = law.keeps-dsd conn set p q is sound
+keeps-row p conn (UnSsd name) q is sound = law.keeps-unssd conn name p q is sound
+keeps-row p conn (UnDsd name) q is sound = law.keeps-undsd conn name p q is sound
+
+keeps-layout : (s : State) (conn : ℕ) (request : LayoutRequest) → active_authorized s.policy ≡ true → active_authorized (layout_outcome s conn request).state.policy ≡ true
+keeps-layout s conn (Submit cell top text) sound = rw (policy-shelved s (layouts.submitted s.policy s.shelf conn cell top text)) sound
+keeps-layout s conn Cells sound = rw (policy-listed s (layouts.cells s.policy s.shelf conn)) sound
+
 keeps-request : (s : State) (conn : ℕ) (request : Request) → active_authorized s.policy ≡ true → active_authorized (outcome_of s conn request).state.policy ≡ true
-keeps-request s conn (Open user digest) sound = keeps-changed s (rows.open_session s.policy conn user digest) (λ q is. law.keeps-open_session conn user digest s.policy q is sound) sound
-keeps-request s conn Close sound = keeps-changed s (rows.close_session s.policy conn) (λ q is. law.keeps-close_session conn s.policy q is sound) sound
-keeps-request s conn (Activate role) sound = keeps-changed s (rows.activate s.policy conn role) (λ q is. law.keeps-activate conn role s.policy q is sound) sound
-keeps-request s conn Whoami sound = keeps-asked s (rows.whoami s.policy conn) sound
-keeps-request s conn (AddUser user digest) sound = keeps-changed s (rows.adduser s.policy conn user digest) (λ q is. law.keeps-adduser conn user digest s.policy q is sound) sound
-keeps-request s conn (AddRole role) sound = keeps-changed s (rows.addrole s.policy conn role) (λ q is. law.keeps-addrole conn role s.policy q is sound) sound
-keeps-request s conn (Assign user role) sound = keeps-changed s (rows.assign s.policy conn user role) (λ q is. law.keeps-assign conn user role s.policy q is sound) sound
-keeps-request s conn (Grant grant) sound = keeps-changed s (rows.grant s.policy conn grant) (λ q is. law.keeps-grant conn grant s.policy q is sound) sound
-keeps-request s conn (Revoke grant) sound = keeps-changed s (rows.revoke s.policy conn grant) (λ q is. law.keeps-revoke conn grant s.policy q is sound) sound
-keeps-request s conn (DropRole role) sound = keeps-changed s (rows.drop_role s.policy conn role) (λ q is. law.keeps-drop_role conn role s.policy q is sound) sound
-keeps-request s conn (DelUser user) sound = keeps-changed s (rows.deluser s.policy conn user) (λ q is. law.keeps-deluser conn user s.policy q is sound) sound
-keeps-request s conn (DelRole role) sound = keeps-changed s (rows.delrole s.policy conn role) (λ q is. law.keeps-delrole conn role s.policy q is sound) sound
-keeps-request s conn (Deassign user role) sound = keeps-changed s (rows.deassign s.policy conn user role) (λ q is. law.keeps-deassign conn user role s.policy q is sound) sound
-keeps-request s conn (Inherit senior junior) sound = keeps-changed s (rows.inherit s.policy conn senior junior) (λ q is. law.keeps-inherit conn senior junior s.policy q is sound) sound
-keeps-request s conn (Uninherit senior junior) sound = keeps-changed s (rows.uninherit s.policy conn senior junior) (λ q is. law.keeps-uninherit conn senior junior s.policy q is sound) sound
-keeps-request s conn (Ssd set) sound = keeps-changed s (rows.ssd s.policy conn set) (λ q is. law.keeps-ssd conn set s.policy q is sound) sound
-keeps-request s conn (Dsd set) sound = keeps-changed s (rows.dsd s.policy conn set) (λ q is. law.keeps-dsd conn set s.policy q is sound) sound
-keeps-request s conn (UnSsd name) sound = keeps-changed s (rows.unssd s.policy conn name) (λ q is. law.keeps-unssd conn name s.policy q is sound) sound
-keeps-request s conn (UnDsd name) sound = keeps-changed s (rows.undsd s.policy conn name) (λ q is. law.keeps-undsd conn name s.policy q is sound) sound
-keeps-request s conn (Submit cell top text) sound = rw (policy-shelved s (layouts.submitted s.policy s.shelf conn cell top text)) sound
-keeps-request s conn Cells sound = rw (policy-listed s (layouts.cells s.policy s.shelf conn)) sound
+keeps-request s conn (ask.Policy request) sound = keeps-changed s (row_of s.policy conn request) (λ q is. keeps-row s.policy conn request q is sound) sound
+keeps-request s conn ask.Whoami sound = keeps-asked s (rows.whoami s.policy conn) sound
+keeps-request s conn (ask.Layout request) sound = keeps-layout s conn request sound
 
 keeps-step : (s : State) (event : Event) → active_authorized s.policy ≡ true → active_authorized (after s event).policy ≡ true
 unfolding step
@@ -81,28 +92,34 @@ sound-asked : (s : State) (row : Result Identity Refusal) → Sound s.policy →
 sound-asked s (Ok q) sound = sound
 sound-asked s (Err r) sound = sound
 
+sound-row : (p : Policy) (conn : ℕ) (request : PolicyRequest) (q : Policy) → row_of p conn request ≡ Ok q → Sound p → Sound q
+sound-row p conn (Open user digest) q is sound = law.sound-open_session conn user digest p q is sound
+sound-row p conn Close q is sound = law.sound-close_session conn p q is sound
+sound-row p conn (Activate role) q is sound = law.sound-activate_row conn role p q is sound
+sound-row p conn (AddUser user digest) q is sound = law.sound-adduser_row conn user digest p q is sound
+sound-row p conn (AddRole role) q is sound = law.sound-addrole_row conn role p q is sound
+sound-row p conn (Assign user role) q is sound = law.sound-assign_row conn user role p q is sound
+sound-row p conn (Grant grant) q is sound = law.sound-grant conn grant p q is sound
+sound-row p conn (Revoke grant) q is sound = law.sound-revoke conn grant p q is sound
+sound-row p conn (DropRole role) q is sound = law.sound-drop_role conn role p q is sound
+sound-row p conn (DelUser user) q is sound = law.sound-deluser conn user p q is sound
+sound-row p conn (DelRole role) q is sound = law.sound-delrole conn role p q is sound
+sound-row p conn (Deassign user role) q is sound = law.sound-deassign conn user role p q is sound
+sound-row p conn (Inherit senior junior) q is sound = law.sound-inherit conn senior junior p q is sound
+sound-row p conn (Uninherit senior junior) q is sound = law.sound-uninherit conn senior junior p q is sound
+sound-row p conn (Ssd set) q is sound = law.sound-ssd conn set p q is sound
+sound-row p conn (Dsd set) q is sound = law.sound-dsd conn set p q is sound
+sound-row p conn (UnSsd name) q is sound = law.sound-unssd conn name p q is sound
+sound-row p conn (UnDsd name) q is sound = law.sound-undsd conn name p q is sound
+
+sound-layout : (s : State) (conn : ℕ) (request : LayoutRequest) → Sound s.policy → Sound (layout_outcome s conn request).state.policy
+sound-layout s conn (Submit cell top text) sound = rw (policy-shelved s (layouts.submitted s.policy s.shelf conn cell top text)) sound
+sound-layout s conn Cells sound = rw (policy-listed s (layouts.cells s.policy s.shelf conn)) sound
+
 sound-request : (s : State) (conn : ℕ) (request : Request) → Sound s.policy → Sound (outcome_of s conn request).state.policy
-sound-request s conn (Open user digest) sound = sound-changed s (rows.open_session s.policy conn user digest) (λ q is. law.sound-open_session conn user digest s.policy q is sound) sound
-sound-request s conn Close sound = sound-changed s (rows.close_session s.policy conn) (λ q is. law.sound-close_session conn s.policy q is sound) sound
-sound-request s conn (Activate role) sound = sound-changed s (rows.activate s.policy conn role) (λ q is. law.sound-activate_row conn role s.policy q is sound) sound
-sound-request s conn Whoami sound = sound-asked s (rows.whoami s.policy conn) sound
-sound-request s conn (AddUser user digest) sound = sound-changed s (rows.adduser s.policy conn user digest) (λ q is. law.sound-adduser_row conn user digest s.policy q is sound) sound
-sound-request s conn (AddRole role) sound = sound-changed s (rows.addrole s.policy conn role) (λ q is. law.sound-addrole_row conn role s.policy q is sound) sound
-sound-request s conn (Assign user role) sound = sound-changed s (rows.assign s.policy conn user role) (λ q is. law.sound-assign_row conn user role s.policy q is sound) sound
-sound-request s conn (Grant grant) sound = sound-changed s (rows.grant s.policy conn grant) (λ q is. law.sound-grant conn grant s.policy q is sound) sound
-sound-request s conn (Revoke grant) sound = sound-changed s (rows.revoke s.policy conn grant) (λ q is. law.sound-revoke conn grant s.policy q is sound) sound
-sound-request s conn (DropRole role) sound = sound-changed s (rows.drop_role s.policy conn role) (λ q is. law.sound-drop_role conn role s.policy q is sound) sound
-sound-request s conn (DelUser user) sound = sound-changed s (rows.deluser s.policy conn user) (λ q is. law.sound-deluser conn user s.policy q is sound) sound
-sound-request s conn (DelRole role) sound = sound-changed s (rows.delrole s.policy conn role) (λ q is. law.sound-delrole conn role s.policy q is sound) sound
-sound-request s conn (Deassign user role) sound = sound-changed s (rows.deassign s.policy conn user role) (λ q is. law.sound-deassign conn user role s.policy q is sound) sound
-sound-request s conn (Inherit senior junior) sound = sound-changed s (rows.inherit s.policy conn senior junior) (λ q is. law.sound-inherit conn senior junior s.policy q is sound) sound
-sound-request s conn (Uninherit senior junior) sound = sound-changed s (rows.uninherit s.policy conn senior junior) (λ q is. law.sound-uninherit conn senior junior s.policy q is sound) sound
-sound-request s conn (Ssd set) sound = sound-changed s (rows.ssd s.policy conn set) (λ q is. law.sound-ssd conn set s.policy q is sound) sound
-sound-request s conn (Dsd set) sound = sound-changed s (rows.dsd s.policy conn set) (λ q is. law.sound-dsd conn set s.policy q is sound) sound
-sound-request s conn (UnSsd name) sound = sound-changed s (rows.unssd s.policy conn name) (λ q is. law.sound-unssd conn name s.policy q is sound) sound
-sound-request s conn (UnDsd name) sound = sound-changed s (rows.undsd s.policy conn name) (λ q is. law.sound-undsd conn name s.policy q is sound) sound
-sound-request s conn (Submit cell top text) sound = rw (policy-shelved s (layouts.submitted s.policy s.shelf conn cell top text)) sound
-sound-request s conn Cells sound = rw (policy-listed s (layouts.cells s.policy s.shelf conn)) sound
+sound-request s conn (ask.Policy request) sound = sound-changed s (row_of s.policy conn request) (λ q is. sound-row s.policy conn request q is sound) sound
+sound-request s conn ask.Whoami sound = sound-asked s (rows.whoami s.policy conn) sound
+sound-request s conn (ask.Layout request) sound = sound-layout s conn request sound
 
 sound-step : (s : State) (event : Event) → Sound s.policy → Sound (after s event).policy
 unfolding step

@@ -11,14 +11,19 @@ use Rattle.mpw_rbac.specs.Rows as rows
 use Rattle.mpw_rbac.proofs.DenialLemmas as law
 use Rattle.mpw_core.specs.declared.event.Event.TheVariants as event
 use Rattle.mpw_core.specs.declared.event.Request.{Request}
-use Rattle.mpw_core.specs.declared.event.Request.TheVariants.{Open, Close, Activate, DropRole, Whoami, AddUser, DelUser, AddRole, DelRole, Assign, Deassign, Grant, Revoke, Inherit, Uninherit, Ssd, Dsd, UnSsd, UnDsd, Submit, Cells}
+use Rattle.mpw_core.specs.declared.event.Request.TheVariants as ask
+use Rattle.mpw_core.specs.declared.policy.PolicyRequest.{PolicyRequest}
+use Rattle.mpw_core.specs.declared.policy.PolicyRequest.TheVariants.{Open, Close, Activate, DropRole, AddUser, DelUser, AddRole, DelRole, Assign, Deassign, Grant, Revoke, Inherit, Uninherit, Ssd, Dsd, UnSsd, UnDsd}
+use Rattle.mpw_core.specs.declared.layouts.LayoutRequest.{LayoutRequest}
+use Rattle.mpw_core.specs.declared.layouts.LayoutRequest.TheVariants.{Submit, Cells}
+use Rattle.mpw_core.specs.PolicyRows.{row_of}
 use Rattle.mpw_core.specs.declared.reply.Denial.TheVariants as denial
 use Rattle.mpw_core.specs.declared.reply.Reply.TheVariants as reply
 use Rattle.mpw_hier.specs.declared.submission.Submission.{Submission}
 use Rattle.mpw_core.specs.declared.reply.Line.{Line}
 use Rattle.mpw_core.specs.declared.reply.Reply.{Reply}
 use Rattle.mpw_core.specs.Layouts as layouts
-use Rattle.mpw_core.specs.Step.{State, told, changed, asked, shelved, listed, identity_lines, outcome_of, step, reply_of}
+use Rattle.mpw_core.specs.Step.{State, told, changed, asked, shelved, listed, identity_lines, layout_outcome, outcome_of, step, reply_of}
 use Rattle.mpw_core.proofs.LayoutDenials.{denies-submitted, denies-cells}
 
 permission-told : (r : Refusal) (operation : Operation) (object : Object) → told r ≡ reply.Denied (denial.Permission operation object) → r ≡ refusal.NotPermitted operation object
@@ -69,33 +74,39 @@ activation-changed : (s : State) (row : Result Policy Refusal) (other : List ℕ
 activation-changed s (Ok q) other e = cc
 activation-changed s (Err r) other e = ap (λ x. Err x) (activation-told r other e)
 
+lacks-row : (p : Policy) (conn : ℕ) (request : PolicyRequest) (operation : Operation) (object : Object) → row_of p conn request ≡ Err (refusal.NotPermitted operation object) → permits p conn operation object ≡ false
+lacks-row p conn (Open user digest) operation object e = law.denies-open_session conn user digest p operation object e
+lacks-row p conn Close operation object e = law.denies-close_session conn p operation object e
+lacks-row p conn (Activate role) operation object e = law.denies-activation conn role p operation object e
+lacks-row p conn (DropRole role) operation object e = law.denies-drop_role conn role p operation object e
+lacks-row p conn (AddUser user digest) operation object e = law.denies-adduser conn user digest p operation object e
+lacks-row p conn (AddRole role) operation object e = law.denies-addrole conn role p operation object e
+lacks-row p conn (Assign user role) operation object e = law.denies-assign conn user role p operation object e
+lacks-row p conn (Grant grant) operation object e = law.denies-grant conn grant p operation object e
+lacks-row p conn (Revoke grant) operation object e = law.denies-revoke conn grant p operation object e
+lacks-row p conn (DelUser user) operation object e = law.denies-deluser conn user p operation object e
+lacks-row p conn (DelRole role) operation object e = law.denies-delrole conn role p operation object e
+lacks-row p conn (Deassign user role) operation object e = law.denies-deassign conn user role p operation object e
+lacks-row p conn (Inherit senior junior) operation object e = law.denies-inherit conn senior junior p operation object e
+lacks-row p conn (Uninherit senior junior) operation object e = law.denies-uninherit conn senior junior p operation object e
+lacks-row p conn (Ssd set) operation object e = law.denies-ssd conn set p operation object e
+lacks-row p conn (Dsd set) operation object e = law.denies-dsd conn set p operation object e
+lacks-row p conn (UnSsd name) operation object e = law.denies-unssd conn name p operation object e
+lacks-row p conn (UnDsd name) operation object e = law.denies-undsd conn name p operation object e
+
+lacks-layout : (s : State) (conn : ℕ) (request : LayoutRequest) (operation : Operation) (object : Object) → (layout_outcome s conn request).reply ≡ reply.Denied (denial.Permission operation object) → permits s.policy conn operation object ≡ false
+lacks-layout s conn (Submit cell top text) operation object e = denies-submitted s.policy s.shelf conn cell top text operation object (permission-shelved s (layouts.submitted s.policy s.shelf conn cell top text) operation object e)
+lacks-layout s conn Cells operation object e = absurd (denies-cells s.policy s.shelf conn operation object (permission-listed s (layouts.cells s.policy s.shelf conn) operation object e))
+
 lacks-request : (s : State) (conn : ℕ) (request : Request) (operation : Operation) (object : Object) → (outcome_of s conn request).reply ≡ reply.Denied (denial.Permission operation object) → permits s.policy conn operation object ≡ false
-lacks-request s conn (Open user digest) operation object e = law.denies-open_session conn user digest s.policy operation object (permission-changed s (rows.open_session s.policy conn user digest) operation object e)
-lacks-request s conn Close operation object e = law.denies-close_session conn s.policy operation object (permission-changed s (rows.close_session s.policy conn) operation object e)
-lacks-request s conn (Activate role) operation object e = law.denies-activation conn role s.policy operation object (permission-changed s (rows.activate s.policy conn role) operation object e)
-lacks-request s conn (DropRole role) operation object e = law.denies-drop_role conn role s.policy operation object (permission-changed s (rows.drop_role s.policy conn role) operation object e)
-lacks-request s conn (AddUser user digest) operation object e = law.denies-adduser conn user digest s.policy operation object (permission-changed s (rows.adduser s.policy conn user digest) operation object e)
-lacks-request s conn (AddRole role) operation object e = law.denies-addrole conn role s.policy operation object (permission-changed s (rows.addrole s.policy conn role) operation object e)
-lacks-request s conn (Assign user role) operation object e = law.denies-assign conn user role s.policy operation object (permission-changed s (rows.assign s.policy conn user role) operation object e)
-lacks-request s conn (Grant grant) operation object e = law.denies-grant conn grant s.policy operation object (permission-changed s (rows.grant s.policy conn grant) operation object e)
-lacks-request s conn (Revoke grant) operation object e = law.denies-revoke conn grant s.policy operation object (permission-changed s (rows.revoke s.policy conn grant) operation object e)
-lacks-request s conn (DelUser user) operation object e = law.denies-deluser conn user s.policy operation object (permission-changed s (rows.deluser s.policy conn user) operation object e)
-lacks-request s conn (DelRole role) operation object e = law.denies-delrole conn role s.policy operation object (permission-changed s (rows.delrole s.policy conn role) operation object e)
-lacks-request s conn (Deassign user role) operation object e = law.denies-deassign conn user role s.policy operation object (permission-changed s (rows.deassign s.policy conn user role) operation object e)
-lacks-request s conn (Inherit senior junior) operation object e = law.denies-inherit conn senior junior s.policy operation object (permission-changed s (rows.inherit s.policy conn senior junior) operation object e)
-lacks-request s conn (Uninherit senior junior) operation object e = law.denies-uninherit conn senior junior s.policy operation object (permission-changed s (rows.uninherit s.policy conn senior junior) operation object e)
-lacks-request s conn (Ssd set) operation object e = law.denies-ssd conn set s.policy operation object (permission-changed s (rows.ssd s.policy conn set) operation object e)
-lacks-request s conn (Dsd set) operation object e = law.denies-dsd conn set s.policy operation object (permission-changed s (rows.dsd s.policy conn set) operation object e)
-lacks-request s conn (UnSsd name) operation object e = law.denies-unssd conn name s.policy operation object (permission-changed s (rows.unssd s.policy conn name) operation object e)
-lacks-request s conn (UnDsd name) operation object e = law.denies-undsd conn name s.policy operation object (permission-changed s (rows.undsd s.policy conn name) operation object e)
-lacks-request s conn (Submit cell top text) operation object e = denies-submitted s.policy s.shelf conn cell top text operation object (permission-shelved s (layouts.submitted s.policy s.shelf conn cell top text) operation object e)
-lacks-request s conn Cells operation object e = absurd (denies-cells s.policy s.shelf conn operation object (permission-listed s (layouts.cells s.policy s.shelf conn) operation object e))
-lacks-request s conn Whoami operation object e = absurd (law.denies-whoami s.policy conn operation object (permission-asked s (rows.whoami s.policy conn) operation object e))
+lacks-request s conn (ask.Policy request) operation object e = lacks-row s.policy conn request operation object (permission-changed s (row_of s.policy conn request) operation object e)
+lacks-request s conn ask.Whoami operation object e = absurd (law.denies-whoami s.policy conn operation object (permission-asked s (rows.whoami s.policy conn) operation object e))
+lacks-request s conn (ask.Layout request) operation object e = lacks-layout s conn request operation object e
 
 pub lacks-permission : (s : State) (conn : ℕ) (request : Request) (operation : Operation) (object : Object) → reply_of s (event.Ask conn request) ≡ reply.Denied (denial.Permission operation object) → permits s.policy conn operation object ≡ false
 unfolding step
 lacks-permission s conn request operation object e = lacks-request s conn request operation object e
 
-pub lacks-role : (s : State) (conn : ℕ) (role other : List ℕ) → reply_of s (event.Ask conn (Activate role)) ≡ reply.Denied (denial.Activation other) → (other ≡ role) × (contains_name (authorized s.policy (rows.user_of s.policy conn)) role ≡ false)
+pub lacks-role : (s : State) (conn : ℕ) (role other : List ℕ) → reply_of s (event.Ask conn (ask.Policy (Activate role))) ≡ reply.Denied (denial.Activation other) → (other ≡ role) × (contains_name (authorized s.policy (rows.user_of s.policy conn)) role ≡ false)
 unfolding step
 lacks-role s conn role other e = law.denies-activate s.policy conn role other (activation-changed s (rows.activate s.policy conn role) other e)

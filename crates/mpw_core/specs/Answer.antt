@@ -1,12 +1,7 @@
 -- What a prepared answer has to be.
 use Rattle.std.specs.Prelude.{◌≡◌, ℕ, Bool, true, false, List, [], ◌∷◌, ◌++◌, Result, Ok, Err}
-use Rattle.mpw_rbac.specs.declared.refusal.Refusal.{Refusal}
-use Rattle.mpw_rbac.specs.Rows as rows
-use Rattle.mpw_core.specs.declared.event.Request.{Request}
-use Rattle.mpw_core.specs.declared.event.Request.TheVariants.{Open, Close, Activate, DropRole, Whoami, AddUser, DelUser, AddRole, DelRole, Assign, Deassign, Grant, Revoke, Inherit, Uninherit, Ssd, Dsd, UnSsd, UnDsd, Submit, Cells}
 use Rattle.mpw_rbac.specs.declared.refusal.PolicyFault.{PolicyFault}
 use Rattle.mpw_rbac.specs.declared.refusal.PolicyFault.TheVariants.{Refused, Memory}
-use Rattle.mpw_rbac.specs.Policy.{Policy}
 use Rattle.mpw_hier.specs.declared.fault.HierFault.{HierFault}
 use Rattle.mpw_hier.specs.declared.fault.HierFault.TheVariants as hier
 use Rattle.mpw_hier.specs.declared.submission.Submission.{Submission}
@@ -61,27 +56,3 @@ pub record IsShelved (shelf : List Submission) (row : Result Submission Reply) (
   pub is : row ≡ Ok submission
   pub grown : next ≡ shelf ++ submission ∷ []
   pub version_is : version ≡ submission.version
-
--- the row of a request of the policy; any other leaves the policy
-abbrev pub row_of : Policy → ℕ → Request → Result Policy Refusal
-row_of policy conn (Open user digest) = rows.open_session policy conn user digest
-row_of policy conn Close = rows.close_session policy conn
-row_of policy conn (Activate role) = rows.activate policy conn role
-row_of policy conn Whoami = Ok policy
-row_of policy conn (Submit cell top text) = Ok policy
-row_of policy conn Cells = Ok policy
-row_of policy conn (AddUser user digest) = rows.adduser policy conn user digest
-row_of policy conn (AddRole role) = rows.addrole policy conn role
-row_of policy conn (Assign user role) = rows.assign policy conn user role
-row_of policy conn (Grant grant) = rows.grant policy conn grant
-row_of policy conn (Revoke grant) = rows.revoke policy conn grant
-row_of policy conn (DropRole role) = rows.drop_role policy conn role
-row_of policy conn (DelUser user) = rows.deluser policy conn user
-row_of policy conn (DelRole role) = rows.delrole policy conn role
-row_of policy conn (Deassign user role) = rows.deassign policy conn user role
-row_of policy conn (Inherit senior junior) = rows.inherit policy conn senior junior
-row_of policy conn (Uninherit senior junior) = rows.uninherit policy conn senior junior
-row_of policy conn (Ssd set) = rows.ssd policy conn set
-row_of policy conn (Dsd set) = rows.dsd policy conn set
-row_of policy conn (UnSsd name) = rows.unssd policy conn name
-row_of policy conn (UnDsd name) = rows.undsd policy conn name

@@ -1,4 +1,5 @@
 pub mod Answer
 pub mod History
-pub mod Step
 pub mod Layouts
+pub mod PolicyRows
+pub mod Step

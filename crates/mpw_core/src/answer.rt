@@ -6,13 +6,16 @@ ghost use Rattle.mpw_rbac.specs.Policy.{Policy as PolicyState};
 ghost use Rattle.mpw_rbac.specs.Rows.{IsFaultOf, end_session};
 ghost use Rattle.mpw_rbac.specs.declared.refusal.Refusal.{Refusal as PolicyRefusal};
 ghost use Rattle.mpw_hier.specs.declared.submission.Submission.{Submission};
-ghost use Rattle.mpw_core.specs.Answer.{IsRefusal, Gives, Told, Answers, IsShelved, row_of};
-ghost use Rattle.mpw_core.specs.Step.{State, told, changed, shelved, listed, step, outcome_of, identity_lines};
+ghost use Rattle.mpw_core.specs.Answer.{IsRefusal, Gives, Told, Answers, IsShelved};
+ghost use Rattle.mpw_core.specs.PolicyRows.{row_of};
+ghost use Rattle.mpw_core.specs.Step.{State, told, changed, asked, shelved, listed, layout_outcome, step, outcome_of, identity_lines};
+ghost use Rattle.mpw_rbac.specs.Rows as rows;
 ghost use Rattle.mpw_core.specs.declared.answer.Fault.TheVariants.{Memory};
 ghost use Rattle.mpw_core.specs.declared.reply.Reply.{Reply as ReplyTold};
 ghost use Rattle.mpw_core.specs.declared.reply.Line.{Line as LineTold};
 
-use crate::layouts::{Shelved, cells, submit};
+use crate::layouts::{LayoutRequest, Shelved, cells, submit};
+use crate::policy::{PolicyRequest, make};
 use crate::{Code, Denial, Event, Line, Lines, Reply, Request};
 use mpw_geom::Names;
 use mpw_hier::Shelf;
@@ -86,43 +89,15 @@ fn refused(fault: PolicyFault) -> Result<Answer, AllocError>
 }
 
 /// The answer of a changed copy of the policy.
-fn changed(alloc: Global, next: Policy, made: Result<(), PolicyFault>) -> Result<Answer, AllocError>
+fn changed(next: Policy, made: Result<(), PolicyFault>) -> Result<Answer, AllocError>
     ensures { (state : State) (row : Result PolicyState PolicyRefusal) → OnOk made (row ≡ Ok next) → IfErr made (IsFaultOf row) → IfOk result (λ answer. Gives state (changed state row) answer.reply answer.change) }
 {
     match made {
         Ok(()) => Ok(Answer {
-            reply: Reply::Ok(Lines::new(alloc)),
+            reply: Reply::Ok(Lines::none()),
             change: Change::NextPolicy(next),
         }),
         Err(fault) => refused(fault),
-    }
-}
-
-/// Makes a request of the policy, which changes only where the request is accepted.
-fn make(policy: &mut Policy, conn: u32, request: &Request) -> Result<(), PolicyFault>
-    ensures ok { OnOk result (row_of policy.old conn request.now ≡ Ok policy.new) }
-    ensures refused { IfErr result (IsFaultOf (row_of policy.old conn request.now)) }
-{
-    match request {
-        Request::Open { user, digest } => policy.open(conn, user, digest),
-        Request::Close => policy.close(conn),
-        Request::Activate { role } => policy.activate(conn, role),
-        Request::DropRole { role } => policy.drop_role(conn, role),
-        Request::Whoami | Request::Submit { .. } | Request::Cells => Ok(()),
-        Request::AddUser { user, digest } => policy.adduser(conn, user.copy()?, *digest),
-        Request::DelUser { user } => policy.deluser(conn, user),
-        Request::AddRole { role } => policy.addrole(conn, role.copy()?),
-        Request::DelRole { role } => policy.delrole(conn, role),
-        Request::Assign { user, role } => policy.assign(conn, user, role),
-        Request::Deassign { user, role } => policy.deassign(conn, user, role),
-        Request::Grant { grant } => policy.grant(conn, grant.clone()?),
-        Request::Revoke { grant } => policy.revoke(conn, grant),
-        Request::Inherit { senior, junior } => policy.inherit(conn, senior, junior),
-        Request::Uninherit { senior, junior } => policy.uninherit(conn, senior, junior),
-        Request::Ssd { set } => policy.ssd(conn, set.clone()?),
-        Request::Dsd { set } => policy.dsd(conn, set.clone()?),
-        Request::UnSsd { name } => policy.unssd(conn, name),
-        Request::UnDsd { name } => policy.undsd(conn, name),
     }
 }
 
@@ -130,7 +105,7 @@ fn make(policy: &mut Policy, conn: u32, request: &Request) -> Result<(), PolicyF
 fn identity_lines(alloc: Global, identity: Identity) -> Result<Lines, AllocError>
     ensures { IfOk result (λ lines. lines ≡ identity_lines identity) }
 {
-    let mut lines = Lines::new(alloc);
+    let mut lines = Vec::new(alloc);
     lines.push(Line::User(identity.user))?;
     for role in identity.active.as_slice() {
         lines.push(Line::Active(role.copy()?))?;
@@ -138,12 +113,12 @@ fn identity_lines(alloc: Global, identity: Identity) -> Result<Lines, AllocError
     for role in identity.authorized.as_slice() {
         lines.push(Line::Authorized(role.copy()?))?;
     }
-    Ok(lines)
+    Lines::from_vec(alloc, lines)
 }
 
 /// Answers `whoami`.
 fn whoami(alloc: Global, policy: &Policy, conn: u32) -> Result<Answer, AllocError>
-    ensures { (state : State) → state.policy ≡ policy.now → IfOk result (λ answer. Gives state (outcome_of state conn Request.Whoami) answer.reply answer.change) }
+    ensures { (state : State) → state.policy ≡ policy.now → IfOk result (λ answer. Gives state (asked state identity_lines (rows.whoami policy.now conn)) answer.reply answer.change) }
 {
     match policy.whoami(conn) {
         Ok(identity) => Ok(Answer {
@@ -156,16 +131,33 @@ fn whoami(alloc: Global, policy: &Policy, conn: u32) -> Result<Answer, AllocErro
 
 /// Answers a request of the policy on a copy of it.
 fn revised(
-    alloc: Global,
     policy: &Policy,
     conn: u32,
-    request: &Request,
+    request: &PolicyRequest,
 ) -> Result<Answer, AllocError>
     ensures { (state : State) → state.policy ≡ policy.now → IfOk result (λ answer. Gives state (changed state (row_of policy.now conn request.now)) answer.reply answer.change) }
 {
     let mut next = policy.copy()?;
     let made = make(&mut next, conn, request);
-    changed(alloc, next, made)
+    changed(next, made)
+}
+
+/// Answers a request over the shelf.
+fn layout(
+    alloc: Global,
+    policy: &Policy,
+    shelf: &Shelf,
+    conn: u32,
+    request: &LayoutRequest,
+) -> Result<Answer, AllocError>
+    ensures { IfOk result (λ answer. Gives (record { policy = policy.now; shelf = shelf.now }) (layout_outcome (record { policy = policy.now; shelf = shelf.now }) conn request.now) answer.reply answer.change) }
+{
+    match request {
+        LayoutRequest::Submit { cell, top, text } => {
+            submission(alloc, submit(alloc, policy, shelf, conn, cell, top, text))
+        }
+        LayoutRequest::Cells => listing(cells(alloc, policy, shelf, conn)),
+    }
 }
 
 /// Answers a request.
@@ -179,13 +171,19 @@ fn ask(
     ensures { IfOk result (λ answer. Gives (record { policy = policy.now; shelf = shelf.now }) (outcome_of (record { policy = policy.now; shelf = shelf.now }) conn request.now) answer.reply answer.change) }
 {
     match request {
+        Request::Policy(request) => revised(policy, conn, request),
         Request::Whoami => whoami(alloc, policy, conn),
-        Request::Submit { cell, top, text } => {
-            submission(alloc, submit(alloc, policy, shelf, conn, cell, top, text))
-        }
-        Request::Cells => listing(cells(alloc, policy, shelf, conn)),
-        _ => revised(alloc, policy, conn, request),
+        Request::Layout(request) => layout(alloc, policy, shelf, conn, request),
     }
+}
+
+/// The line of a version.
+fn version_line(alloc: Global, version: u32) -> Result<Lines, AllocError>
+    ensures { IfOk result (λ lines. lines ≡ Line.Version version ∷ []) }
+{
+    let mut lines = Vec::new(alloc);
+    lines.push(Line::Version(version))?;
+    Lines::from_vec(alloc, lines)
 }
 
 /// The answer to what submits.
@@ -194,10 +192,8 @@ fn submission(alloc: Global, made: Result<Shelved, Fault>) -> Result<Answer, All
 {
     match made {
         Ok(next) => {
-            let mut lines = Lines::new(alloc);
-            lines.push(Line::Version(next.version))?;
             Ok(Answer {
-                reply: Reply::Ok(lines),
+                reply: Reply::Ok(version_line(alloc, next.version)?),
                 change: Change::NextShelf(next.shelf),
             })
         }
@@ -264,7 +260,7 @@ pub(crate) fn prepare(
     ensures { IfOk result (λ answer. Gives (record { policy = policy.now; shelf = shelf.now }) (step (record { policy = policy.now; shelf = shelf.now }) event.now) answer.reply answer.change) }
 {
     match event {
-        Event::Ask { conn, request } => ask(alloc, policy, shelf, *conn, request),
+        Event::Ask { conn, request } => ask(alloc, policy, shelf, *conn, request.get()),
         Event::Gone { conn } => gone(policy, *conn),
     }
 }

@@ -9,7 +9,8 @@ ghost use Rattle.mpw_core.specs.Step.{State, new_state, outcome_of, reply_of, af
 ghost use Rattle.mpw_core.specs.declared.event.Event.{Event};
 ghost use Rattle.mpw_core.specs.declared.event.Event.TheVariants as event;
 ghost use Rattle.mpw_core.specs.declared.event.Request.{Request as AnyRequest};
-ghost use Rattle.mpw_core.specs.declared.event.Request.TheVariants as Request;
+ghost use Rattle.mpw_core.specs.declared.event.Request.TheVariants as ask;
+ghost use Rattle.mpw_core.specs.declared.policy.PolicyRequest.TheVariants as Request;
 ghost use Rattle.mpw_core.specs.declared.reply.Code.{Code};
 ghost use Rattle.mpw_core.specs.declared.reply.Denial.{Denial};
 ghost use Rattle.mpw_core.specs.declared.reply.Denial.TheVariants as denial;
@@ -31,8 +32,8 @@ pub fn every_state_keeps_separation()
 
 /// A login is denied alike where the user is unknown and where the token is another.
 pub fn unknown_users_are_denied_like_wrong_tokens()
-    ensures unknown { (state : State) (conn : ℕ) (user digest : List ℕ) → session_of state.policy conn ≡ None → is_user state.policy user ≡ false → (outcome_of state conn (Request.Open user digest)).reply ≡ Reply.Denied denial.Login }
-    ensures wrong { (state : State) (conn : ℕ) (user digest : List ℕ) → session_of state.policy conn ≡ None → is_login state.policy user digest ≡ false → (outcome_of state conn (Request.Open user digest)).reply ≡ Reply.Denied denial.Login }
+    ensures unknown { (state : State) (conn : ℕ) (user digest : List ℕ) → session_of state.policy conn ≡ None → is_user state.policy user ≡ false → (outcome_of state conn (ask.Policy (Request.Open user digest))).reply ≡ Reply.Denied denial.Login }
+    ensures wrong { (state : State) (conn : ℕ) (user digest : List ℕ) → session_of state.policy conn ≡ None → is_login state.policy user digest ≡ false → (outcome_of state conn (ask.Policy (Request.Open user digest))).reply ≡ Reply.Denied denial.Login }
 {}
 
 /// A denial or a refusal leaves the state as it was.
@@ -45,5 +46,5 @@ pub fn denials_and_refusals_change_nothing()
 /// activation names the role that was asked for, and the session's user is not authorized for it.
 pub fn denials_name_what_the_session_lacks()
     ensures permission { (state : State) (conn : ℕ) (request : AnyRequest) (operation : Operation) (object : Object) → reply_of state (event.Ask conn request) ≡ Reply.Denied (denial.Permission operation object) → permits state.policy conn operation object ≡ false }
-    ensures activation { (state : State) (conn : ℕ) (role other : List ℕ) → reply_of state (event.Ask conn (Request.Activate role)) ≡ Reply.Denied (denial.Activation other) → (other ≡ role) × (contains_name (authorized state.policy (user_of state.policy conn)) role ≡ false) }
+    ensures activation { (state : State) (conn : ℕ) (role other : List ℕ) → reply_of state (event.Ask conn (ask.Policy (Request.Activate role))) ≡ Reply.Denied (denial.Activation other) → (other ≡ role) × (contains_name (authorized state.policy (user_of state.policy conn)) role ≡ false) }
 {}

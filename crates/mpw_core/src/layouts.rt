@@ -21,6 +21,19 @@ use mpw_library::{Library, LibraryText};
 use mpw_rbac::{Object, Operation, Policy};
 use std::alloc::{AllocError, Global};
 
+/// A request over the shelf of submissions.
+#[derive(Drop)]
+pub enum LayoutRequest {
+    /// A cell's library, with the structure of it that the cell shows.
+    Submit {
+        cell: Name,
+        top: Name,
+        text: LibraryText,
+    },
+    /// Which cells may be read.
+    Cells,
+}
+
 /// A fault of the shelf as the reply that tells it.
 fn fault_of(fault: HierFault) -> Fault
     ensures { result ≡ fault_of fault }
@@ -211,13 +224,13 @@ pub(crate) fn submit(
 
 /// Adds the line of a cell, if the session may read it and it has a submission.
 fn push_cell(
-    lines: &mut Lines,
+    lines: &mut Vec<Line>,
     policy: &Policy,
     shelf: &Shelf,
     conn: u32,
     cell: &Name,
 ) -> Result<(), AllocError>
-    ensures { OnOk result (lines.new ≡ lines.old ++ row.readable_line policy.now shelf.now conn cell.now) }
+    ensures { OnOk result (lines.new.items ≡ lines.old.items ++ row.readable_line policy.now shelf.now conn cell.now) }
 {
     let object = Object::Cell(cell.copy()?);
     if !policy.permits(conn, Operation::Read, &object) {
@@ -246,11 +259,11 @@ fn cell_lines(
 ) -> Result<Lines, AllocError>
     ensures { IfOk result (λ lines. lines ≡ flat_map (row.readable_line policy.now shelf.now conn) cells.now) }
 {
-    let mut lines = Lines::new(alloc);
+    let mut lines = Vec::new(alloc);
     for cell in cells {
         push_cell(&mut lines, policy, shelf, conn, cell)?;
     }
-    Ok(lines)
+    Lines::from_vec(alloc, lines)
 }
 
 /// The lines of `cells`. For each cell it takes a search of the hierarchy and a pass over the grants.

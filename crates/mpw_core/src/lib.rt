@@ -11,13 +11,16 @@ mod desk;
 mod event;
 mod laws;
 mod layouts;
+mod policy;
 mod reply;
 
 pub use desk::{Core, MAX_EVENTS, replay};
-pub use event::{Call, Event, Request};
+pub use event::{Call, Event, Request, SharedRequest};
 pub use laws::{
     denials_and_refusals_change_nothing, denials_name_what_the_session_lacks,
     every_state_keeps_authorization, every_state_keeps_separation,
     unknown_users_are_denied_like_wrong_tokens,
 };
+pub use layouts::LayoutRequest;
+pub use policy::PolicyRequest;
 pub use reply::{Code, Denial, Line, Lines, Reply};

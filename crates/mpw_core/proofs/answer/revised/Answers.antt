@@ -2,7 +2,7 @@
 use Rattle.std.proofs.Common.{◌≡◌, sym, subst, IfOk, IfErr, OnOk, Ok}
 use Rattle.mpw_rbac.specs.Policy.{Policy}
 use Rattle.mpw_rbac.specs.Rows.{IsFaultOf}
-use Rattle.mpw_core.specs.Answer.{row_of}
+use Rattle.mpw_core.specs.PolicyRows.{row_of}
 use Rattle.mpw_core.proofs.answer.revised.Goals as goal
 
 pub returns : goal.returns
