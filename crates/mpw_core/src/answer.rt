@@ -130,11 +130,7 @@ fn whoami(alloc: Global, policy: &Policy, conn: u32) -> Result<Answer, AllocErro
 }
 
 /// Answers a request of the policy on a copy of it.
-fn revised(
-    policy: &Policy,
-    conn: u32,
-    request: &PolicyRequest,
-) -> Result<Answer, AllocError>
+fn revised(policy: &Policy, conn: u32, request: &PolicyRequest) -> Result<Answer, AllocError>
     ensures { (state : State) → state.policy ≡ policy.now → IfOk result (λ answer. Gives state (changed state (row_of policy.now conn request.now)) answer.reply answer.change) }
 {
     let mut next = policy.copy()?;

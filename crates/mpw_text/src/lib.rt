@@ -6,5 +6,5 @@
 mod number;
 mod words;
 
-pub use number::{read_count, read_number};
+pub use number::{is_decimal, read_count, read_number};
 pub use words::{lines, parts};

@@ -6,7 +6,7 @@ use Rattle.std.specs.Prelude.{IfErr}
 use Rattle.std.specs.Result.{IsErrAnd}
 use Rattle.mpw_wire.specs.declared.fault.WireFault.{WireFault}
 use Rattle.mpw_wire.specs.declared.fault.WireFault.TheVariants.{Memory}
-use Rattle.mpw_wire.specs.Reading.{IsUnbroken, Breaks, TakesSome}
+use Rattle.mpw_wire.specs.Reading.{IsUnbroken, BreaksLine, BreaksBytes, TakesSome, TakesUpTo}
 use Rattle.mpw_wire.specs.Request.{name_of, names_of, ◌>>=◌}
 use Rattle.std.proofs.KnownBytes.{Consumes-trans}
 use Rattle.std.specs.Io.KnownBytes.{Consumes}
@@ -52,6 +52,11 @@ pub unbroken_push : (line : List ℕ) (byte : ℕ) → IsUnbroken line → (byte
 unbroken_push line byte all other = All-push (λ b. b ≢ 0x0A) line byte all other
 
 -- want of memory, handed on
-pub memory_breaks : {A : Type 0} (result : Result A WireFault) (old new : Option (List ℕ)) → IsErrAnd result (λ e. e ≡ Memory) → TakesSome old new → IfErr result (Breaks old new)
+pub memory_breaks : {A : Type 0} (result : Result A WireFault) (old new : Option (List ℕ)) → IsErrAnd result (λ e. e ≡ Memory) → TakesSome old new → IfErr result (BreaksLine old new)
 memory_breaks (Ok answer) old new h t = tt
-memory_breaks (Err e) old new h t = subst (Breaks old new) (sym h) t
+memory_breaks (Err e) old new h t = subst (BreaksLine old new) (sym h) t
+
+-- the same while bytes are taken
+pub memory_breaks_bytes : {A : Type 0} (result : Result A WireFault) (old new : Option (List ℕ)) (most : ℕ) → IsErrAnd result (λ e. e ≡ Memory) → TakesUpTo old new most → IfErr result (BreaksBytes old new most)
+memory_breaks_bytes (Ok answer) old new most h t = tt
+memory_breaks_bytes (Err e) old new most h t = subst (BreaksBytes old new most) (sym h) t

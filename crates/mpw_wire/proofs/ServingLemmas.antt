@@ -76,6 +76,7 @@ advance conn input mid input' output between output' desk middle desk' count p r
 stop_at : (conn lines : ℕ) (input input' : Option (List ℕ)) (desk desk' : Desk) (s : Stop) → lines < max_lines → IsStop conn 0 input desk s input' desk' → IsStop conn lines input desk s input' desk'
 stop_at conn lines input input' desk desk' Stop.closed lt h = (lt, h.1, h.2)
 stop_at conn lines input input' desk desk' Stop.long lt h = (lt, h.1, h.2)
+stop_at conn lines input input' desk desk' Stop.cut lt h = (lt, h.1, h.2)
 stop_at conn lines input input' desk desk' Stop.starving lt h = (lt, h.1, h.2)
 stop_at conn lines input input' desk desk' Stop.unreadable lt h = (lt, h.1, h.2)
 stop_at conn lines input input' desk desk' Stop.spent lt h = let no : 0 ≡ 4096 = h.0 in absurd (omega (arith, no))

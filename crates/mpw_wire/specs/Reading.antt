@@ -1,5 +1,5 @@
 -- What reading a request does to a source: a line is at most 4096 bytes, and its line feed or the end of the input.
-use Rattle.std.specs.Prelude.{◌≡◌, ◌≢◌, ◌≤◌, ◌+◌, ◌⊎◌, ℕ, List, [], ◌∷◌, ◌++◌, length, All, Option, None, Some}
+use Rattle.std.specs.Prelude.{◌≡◌, ◌≢◌, ◌<◌, ◌≤◌, ◌+◌, ◌⊎◌, ℕ, List, [], ◌∷◌, ◌++◌, length, All, Option, None, Some}
 use Rattle.std.specs.Io.KnownBytes.{Consumes, IsAtEnd}
 use Rattle.std.specs.Io.Iter.{u64_saturate}
 use Rattle.mpw_wire.specs.declared.fault.WireFault.{WireFault}
@@ -8,7 +8,11 @@ use Rattle.mpw_wire.specs.declared.read.Asked.{Asked}
 use Rattle.mpw_wire.specs.declared.read.Asked.TheVariants as asked
 use Rattle.mpw_wire.specs.declared.line.Taken.{Taken}
 use Rattle.mpw_wire.specs.declared.line.Taken.TheVariants as taken
-use Rattle.mpw_wire.specs.Request.{request_of}
+use Rattle.mpw_core.specs.declared.event.Request.{Request}
+use Rattle.mpw_core.specs.declared.event.Request.TheVariants.{Layout}
+use Rattle.mpw_core.specs.declared.layouts.LayoutRequest.TheVariants.{Submit}
+use Rattle.mpw_wire.specs.declared.request.LineAsk.TheVariants as ask
+use Rattle.mpw_wire.specs.Request.{ask_of}
 
 -- the greatest number of bytes before a line feed
 abbrev pub max_line : ℕ
@@ -45,18 +49,90 @@ Takes old new (taken.Line line) = TakesLine old new line.items
 Takes old new taken.Long = TakesLong old new
 Takes old new taken.End = TakesNothing old new
 
--- a request is what the line's text asks, and a line that is no request's text is of no form
+-- ---- what follows a line
+
+-- so many bytes are taken off the front
+abbrev pub TakesPayload : Option (List ℕ) → Option (List ℕ) → ℕ → List ℕ → Type 0
+TakesPayload old new length_asked payload = (length payload ≡ length_asked) × Consumes old new payload
+
+-- the input ends before so many bytes
+abbrev pub TakesTooFew : Option (List ℕ) → Option (List ℕ) → ℕ → Type 0
+TakesTooFew old new length_asked = (front : List ℕ) × (length front < length_asked) × Consumes old new front × IsAtEnd new
+
+-- at most so many bytes are taken off the front
+abbrev pub TakesUpTo : Option (List ℕ) → Option (List ℕ) → ℕ → Type 0
+TakesUpTo old new length_asked = (front : List ℕ) × (length front ≤ length_asked) × Consumes old new front
+
+abbrev pub TakesBytes : Option (List ℕ) → Option (List ℕ) → ℕ → Option (List ℕ) → Type 0
+TakesBytes old new length_asked (Some payload) = TakesPayload old new length_asked payload
+TakesBytes old new length_asked None = TakesTooFew old new length_asked
+
+abbrev pub BreaksBytes : Option (List ℕ) → Option (List ℕ) → ℕ → WireFault → Type 0
+BreaksBytes old new length_asked Read = TakesUpTo old new length_asked
+BreaksBytes old new length_asked Write = ⊥
+BreaksBytes old new length_asked Memory = TakesUpTo old new length_asked
+
+-- a line that asks to submit so many bytes is taken off the front
+pub record TakesOffer (old new : Option (List ℕ)) (line cell top : List ℕ) (length_asked : ℕ) : Type 0 where
+  pub taken : TakesLine old new line
+  pub asks : ask_of line ≡ ask.Submission cell top length_asked
+
+-- ---- requests
+
+-- the text of a request: its line, or the line that asks to submit with the bytes behind it
+pub data IsText (old new : Option (List ℕ)) (line : List ℕ) : Request → Type 0 where
+  alone : {request : Request} → TakesLine old new line → ask_of line ≡ ask.Request request → IsText old new line request
+  followed : {cell top payload : List ℕ} (mid : Option (List ℕ)) → TakesOffer old mid line cell top (length payload) → Consumes mid new payload → IsText old new line (Layout (Submit cell top payload))
+
+-- a line that is too long, or one that asks to submit too much
+abbrev pub TakesTooLong : Option (List ℕ) → Option (List ℕ) → Type 0
+TakesTooLong old new = TakesLong old new ⊎ ((line : List ℕ) × TakesLine old new line × (ask_of line ≡ ask.Long))
+
+-- a line that asks to submit, and fewer bytes than it says
+pub record TakesCut (old new : Option (List ℕ)) : Type 0 where
+  pub line : List ℕ
+  pub cell : List ℕ
+  pub top : List ℕ
+  pub length_asked : ℕ
+  pub mid : Option (List ℕ)
+  pub offer : TakesOffer old mid line cell top length_asked
+  pub few : TakesTooFew mid new length_asked
+
+-- a line that asks to submit, and at most as many bytes as it says
+pub record TakesOfferFront (old new : Option (List ℕ)) : Type 0 where
+  pub line : List ℕ
+  pub cell : List ℕ
+  pub top : List ℕ
+  pub length_asked : ℕ
+  pub mid : Option (List ℕ)
+  pub offer : TakesOffer old mid line cell top length_asked
+  pub front : TakesUpTo mid new length_asked
+
 abbrev pub Reads : Option (List ℕ) → Option (List ℕ) → Asked → Type 0
-Reads old new (asked.Request request) = (line : List ℕ) × TakesLine old new line × (request_of line ≡ Some request)
-Reads old new asked.Form = (line : List ℕ) × TakesLine old new line × (request_of line ≡ None)
-Reads old new asked.Long = TakesLong old new
+Reads old new (asked.Request request) = (line : List ℕ) × IsText old new line request
+Reads old new asked.Form = (line : List ℕ) × TakesLine old new line × (ask_of line ≡ ask.Form)
+Reads old new asked.Long = TakesTooLong old new
+Reads old new asked.Cut = TakesCut old new
 Reads old new asked.End = TakesNothing old new
 
--- a source that fails has given bytes of a line, and where there is no room for a request its line may be taken whole
+-- a source that fails has given bytes of a request's text, and where there is no room for a request its text may be
+-- taken whole
+abbrev pub BreaksRead : Option (List ℕ) → Option (List ℕ) → Type 0
+BreaksRead old new = TakesFront old new ⊎ TakesOfferFront old new
+
+abbrev pub BreaksMemory : Option (List ℕ) → Option (List ℕ) → Type 0
+BreaksMemory old new = TakesSome old new ⊎ TakesOfferFront old new
+
 abbrev pub Breaks : Option (List ℕ) → Option (List ℕ) → WireFault → Type 0
-Breaks old new Read = TakesFront old new
+Breaks old new Read = BreaksRead old new
 Breaks old new Write = ⊥
-Breaks old new Memory = TakesSome old new
+Breaks old new Memory = BreaksMemory old new
+
+-- the same of a line
+abbrev pub BreaksLine : Option (List ℕ) → Option (List ℕ) → WireFault → Type 0
+BreaksLine old new Read = TakesFront old new
+BreaksLine old new Write = ⊥
+BreaksLine old new Memory = TakesSome old new
 
 -- how often the source has failed after a call with this fault: a fault of reading is a failure
 abbrev pub read_failures : Option WireFault → ℕ → ℕ

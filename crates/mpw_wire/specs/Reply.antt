@@ -149,6 +149,7 @@ unfoldable pub refusal_words : Refusal → List ℕ
 refusal_words refusal.Memory = codes "17 memory"
 refusal_words refusal.Form = codes "40 form"
 refusal_words refusal.Long = codes "41 long"
+refusal_words refusal.Cut = codes "42 cut"
 
 unfoldable pub refusal_text : Refusal → List ℕ
 refusal_text refusal = refusal_line (refusal_words refusal)

@@ -1,7 +1,7 @@
 -- The text of a request line: its words, and the request that they ask.
-use Rattle.std.specs.Prelude.{ℕ, List, [], ◌∷◌, length, codes, Option, Some, None, option_map, option_and_then, if◌then◌else◌}
+use Rattle.std.specs.Prelude.{ℕ, Bool, true, false, List, [], ◌∷◌, length, codes, Option, Some, None, option_map, option_and_then, if◌then◌else◌}
 use Rattle.sha2.specs.Sha256.{sha256}
-use Rattle.mpw_text.specs.Text.{number_of}
+use Rattle.mpw_text.specs.Text.{number_of, is_decimal}
 use Rattle.mpw_geom.specs.Names.{name_eq}
 use Rattle.mpw_separation.specs.Set.{SeparationSet, formed}
 use Rattle.mpw_rbac.specs.declared.permission.Grant as permission
@@ -10,7 +10,12 @@ use Rattle.mpw_rbac.specs.declared.permission.Operation.TheVariants.{Submit, Use
 use Rattle.mpw_rbac.specs.declared.permission.Object.{Object}
 use Rattle.mpw_rbac.specs.declared.permission.Object.TheVariants.{Cell, Desk}
 use Rattle.mpw_core.specs.declared.event.Request.{Request}
-use Rattle.mpw_core.specs.declared.event.Request.TheVariants.{Open, Close, Activate, DropRole, Whoami, AddUser, DelUser, AddRole, DelRole, Assign, Deassign, Grant, Revoke, Inherit, Uninherit, Ssd, Dsd, UnSsd, UnDsd}
+use Rattle.mpw_core.specs.declared.event.Request.TheVariants.{Policy, Whoami, Layout}
+use Rattle.mpw_core.specs.declared.policy.PolicyRequest.{PolicyRequest}
+use Rattle.mpw_core.specs.declared.policy.PolicyRequest.TheVariants.{Open, Close, Activate, DropRole, AddUser, DelUser, AddRole, DelRole, Assign, Deassign, Grant, Revoke, Inherit, Uninherit, Ssd, Dsd, UnSsd, UnDsd}
+use Rattle.mpw_core.specs.declared.layouts.LayoutRequest.TheVariants.{Cells}
+use Rattle.mpw_wire.specs.declared.request.LineAsk.{LineAsk}
+use Rattle.mpw_wire.specs.declared.request.LineAsk.TheVariants as ask
 use Rattle.mpw_wire.specs.Words.{words, is_visible_word}
 
 infixl 10 ◌>>=◌
@@ -102,12 +107,13 @@ set_of name cardinality roles = do
 -- the requests of a verb alone
 unfoldable pub bare_request : List ℕ → Option Request
 bare_request verb =
-    if name_eq verb (codes "close") then Some Close
+    if name_eq verb (codes "close") then Some (Policy Close)
     else if name_eq verb (codes "whoami") then Some Whoami
+    else if name_eq verb (codes "cells") then Some (Layout Cells)
     else None
 
--- the requests of a verb and one name
-unfoldable pub request_of_one : List ℕ → List ℕ → Option Request
+-- the requests of the policy of a verb and one name
+unfoldable pub request_of_one : List ℕ → List ℕ → Option PolicyRequest
 request_of_one verb word =
     if name_eq verb (codes "activate") then option_map Activate (name_of word)
     else if name_eq verb (codes "drop") then option_map DropRole (name_of word)
@@ -118,8 +124,8 @@ request_of_one verb word =
     else if name_eq verb (codes "undsd") then option_map UnDsd (name_of word)
     else None
 
--- the requests of a verb and two words
-unfoldable pub request_of_two : List ℕ → List ℕ → List ℕ → Option Request
+-- those of a verb and two words
+unfoldable pub request_of_two : List ℕ → List ℕ → List ℕ → Option PolicyRequest
 request_of_two verb first second =
     if name_eq verb (codes "open") then option_map (λ login. Open login.0 login.1) (login_of first second)
     else if name_eq verb (codes "adduser") then option_map (λ login. AddUser login.0 login.1) (login_of first second)
@@ -129,28 +135,60 @@ request_of_two verb first second =
     else if name_eq verb (codes "uninherit") then option_map (λ pair. Uninherit pair.0 pair.1) (pair_of first second)
     else None
 
--- the requests of a verb and three words
-unfoldable pub request_of_three : List ℕ → List ℕ → List ℕ → List ℕ → Option Request
+-- those of a verb and three words
+unfoldable pub request_of_three : List ℕ → List ℕ → List ℕ → List ℕ → Option PolicyRequest
 request_of_three verb operation object role =
     if name_eq verb (codes "grant") then option_map Grant (grant_of operation object role)
     else if name_eq verb (codes "revoke") then option_map Revoke (grant_of operation object role)
     else None
 
--- the requests of a verb, a set's name and cardinality, and two roles or more
-unfoldable pub request_of_more : List ℕ → List ℕ → List ℕ → List (List ℕ) → Option Request
+-- those of a verb, a set's name and cardinality, and two roles or more
+unfoldable pub request_of_more : List ℕ → List ℕ → List ℕ → List (List ℕ) → Option PolicyRequest
 request_of_more verb name cardinality roles =
     if name_eq verb (codes "ssd") then option_map Ssd (set_of name cardinality roles)
     else if name_eq verb (codes "dsd") then option_map Dsd (set_of name cardinality roles)
     else None
 
-abbrev pub request_of_words : List (List ℕ) → Option Request
-request_of_words [] = None
-request_of_words (verb ∷ []) = bare_request verb
-request_of_words (verb ∷ a ∷ []) = request_of_one verb a
-request_of_words (verb ∷ a ∷ b ∷ []) = request_of_two verb a b
-request_of_words (verb ∷ a ∷ b ∷ c ∷ []) = request_of_three verb a b c
-request_of_words (verb ∷ a ∷ b ∷ c ∷ d ∷ more) = request_of_more verb a b (c ∷ d ∷ more)
+-- what a request's line asks, and no form where it is none's
+abbrev pub asked : Option Request → LineAsk
+asked (Some request) = ask.Request request
+asked None = ask.Form
 
--- the request whose text a line is
-abbrev pub request_of : List ℕ → Option Request
-request_of line = request_of_words (words line)
+abbrev pub asked_policy : Option PolicyRequest → LineAsk
+asked_policy request = asked (option_map Policy request)
+
+-- the greatest number of bytes that follow a line
+unfoldable pub max_payload : ℕ
+max_payload = 16777216
+
+-- a number of bytes that is too great is so whatever its digits are
+abbrev pub length_of : List ℕ → List ℕ → Bool → Option ℕ → LineAsk
+length_of cell top false length = ask.Form
+length_of cell top true (Some length) = ask.Submission cell top length
+length_of cell top true None = ask.Long
+
+abbrev pub submission_to : Option (List ℕ) → Option (List ℕ) → List ℕ → LineAsk
+submission_to None top length = ask.Form
+submission_to (Some cell) None length = ask.Form
+submission_to (Some cell) (Some top) length = length_of cell top (is_decimal length) (number_of 0 max_payload length)
+
+-- to submit a cell with a structure, and how many bytes follow
+unfoldable pub submission_of : List ℕ → List ℕ → List ℕ → LineAsk
+submission_of cell top length = submission_to (name_of cell) (name_of top) length
+
+-- what a verb and three words ask
+unfoldable pub ask_of_three : List ℕ → List ℕ → List ℕ → List ℕ → LineAsk
+ask_of_three verb first second third =
+    if name_eq verb (codes "submit") then submission_of first second third else asked_policy (request_of_three verb first second third)
+
+abbrev pub ask_of_words : List (List ℕ) → LineAsk
+ask_of_words [] = ask.Form
+ask_of_words (verb ∷ []) = asked (bare_request verb)
+ask_of_words (verb ∷ a ∷ []) = asked_policy (request_of_one verb a)
+ask_of_words (verb ∷ a ∷ b ∷ []) = asked_policy (request_of_two verb a b)
+ask_of_words (verb ∷ a ∷ b ∷ c ∷ []) = ask_of_three verb a b c
+ask_of_words (verb ∷ a ∷ b ∷ c ∷ d ∷ more) = asked_policy (request_of_more verb a b (c ∷ d ∷ more))
+
+-- what a line asks
+abbrev pub ask_of : List ℕ → LineAsk
+ask_of line = ask_of_words (words line)

@@ -12,9 +12,10 @@ use Rattle.mpw_wire.specs.declared.fault.WireFault.TheVariants.{Read, Write, Mem
 use Rattle.mpw_wire.specs.declared.serve.End.{End}
 use Rattle.mpw_wire.specs.declared.serve.End.TheVariants as end
 use Rattle.mpw_wire.specs.declared.reply.Refusal.TheVariants as refusal
-use Rattle.mpw_wire.specs.Reading.{TakesLine, TakesLong, TakesNothing, TakesFront, TakesSome}
+use Rattle.mpw_wire.specs.Reading.{TakesLine, TakesTooLong, TakesCut, TakesNothing, BreaksRead, BreaksMemory, IsText}
 use Rattle.mpw_wire.specs.Reply.{reply_text, refusal_text}
-use Rattle.mpw_wire.specs.Request.{request_of}
+use Rattle.mpw_wire.specs.declared.request.LineAsk.TheVariants as ask
+use Rattle.mpw_wire.specs.Request.{ask_of}
 use Rattle.mpw_wire.specs.Writing.{fault_of}
 
 -- what a request got: the desk's reply, or the word that memory was wanting
@@ -27,11 +28,13 @@ pub data Turn : Type 0 where
   asked : List ℕ → Request → Answer → Turn
   malformed : List ℕ → Turn
 
--- what ended the connection: the end of the input, a line that is too long, no room for a line, a source that failed,
+-- what ended the connection: the end of the input, a line that is too long or asks to submit too much, an input that
+-- ends before what is to follow a line, no room for a request, a source that failed,
 -- as many lines as one connection may have, or a sink that failed at the text of a line
 pub data Stop : Type 0 where
   closed : Stop
   long : Stop
+  cut : Stop
   starving : Stop
   unreadable : Stop
   spent : Stop
@@ -48,6 +51,7 @@ turn_text (malformed line) = refusal_text refusal.Form
 abbrev pub stop_text : Stop → List ℕ
 stop_text closed = []
 stop_text long = refusal_text refusal.Long
+stop_text cut = refusal_text refusal.Cut
 stop_text starving = refusal_text refusal.Memory
 stop_text unreadable = []
 stop_text spent = []
@@ -58,11 +62,11 @@ abbrev pub IsAnswer : ℕ → Request → Desk → Answer → Desk → Type 0
 IsAnswer conn request desk (replied reply) desk' = record { reply = reply; desk = desk' } ≡ handled desk (event.Ask conn request)
 IsAnswer conn request desk starved desk' = desk' ≡ desk
 
--- the line is taken off the input, and it gets what it asks; one that is no request's text leaves the desk
+-- the text is taken off the input, and it gets what it asks; a line that is no request's text leaves the desk
 abbrev pub IsTurn : ℕ → Option (List ℕ) → Desk → Turn → Option (List ℕ) → Desk → Type 0
 IsTurn conn input desk (asked line request answer) input' desk' =
-    TakesLine input input' line × (request_of line ≡ Some request) × IsAnswer conn request desk answer desk'
-IsTurn conn input desk (malformed line) input' desk' = TakesLine input input' line × (request_of line ≡ None) × (desk' ≡ desk)
+    IsText input input' line request × IsAnswer conn request desk answer desk'
+IsTurn conn input desk (malformed line) input' desk' = TakesLine input input' line × (ask_of line ≡ ask.Form) × (desk' ≡ desk)
 
 -- the lines were answered one after the other
 pub data IsTrace (conn : ℕ) (input : Option (List ℕ)) (desk : Desk) : List Turn → Option (List ℕ) → Desk → Type 0 where
@@ -77,9 +81,10 @@ max_lines = 4096
 -- what ended the connection did so, after that many lines
 abbrev pub IsStop : ℕ → ℕ → Option (List ℕ) → Desk → Stop → Option (List ℕ) → Desk → Type 0
 IsStop conn lines input desk closed input' desk' = (lines < max_lines) × TakesNothing input input' × (desk' ≡ desk)
-IsStop conn lines input desk long input' desk' = (lines < max_lines) × TakesLong input input' × (desk' ≡ desk)
-IsStop conn lines input desk starving input' desk' = (lines < max_lines) × TakesSome input input' × (desk' ≡ desk)
-IsStop conn lines input desk unreadable input' desk' = (lines < max_lines) × TakesFront input input' × (desk' ≡ desk)
+IsStop conn lines input desk long input' desk' = (lines < max_lines) × TakesTooLong input input' × (desk' ≡ desk)
+IsStop conn lines input desk cut input' desk' = (lines < max_lines) × TakesCut input input' × (desk' ≡ desk)
+IsStop conn lines input desk starving input' desk' = (lines < max_lines) × BreaksMemory input input' × (desk' ≡ desk)
+IsStop conn lines input desk unreadable input' desk' = (lines < max_lines) × BreaksRead input input' × (desk' ≡ desk)
 IsStop conn lines input desk spent input' desk' = (lines ≡ max_lines) × (input' ≡ input) × (desk' ≡ desk)
 IsStop conn lines input desk (unwritten turn) input' desk' = (lines < max_lines) × IsTurn conn input desk turn input' desk'
 
@@ -87,6 +92,7 @@ IsStop conn lines input desk (unwritten turn) input' desk' = (lines < max_lines)
 abbrev pub end_of : Stop → Option End
 end_of closed = Some end.Closed
 end_of long = Some end.Long
+end_of cut = Some end.Cut
 end_of starving = Some end.Memory
 end_of unreadable = None
 end_of spent = Some end.Spent
@@ -96,6 +102,7 @@ end_of (unwritten turn) = None
 abbrev pub HasText : Stop → Type 0
 HasText closed = ⊥
 HasText long = ⊤
+HasText cut = ⊤
 HasText starving = ⊤
 HasText unreadable = ⊥
 HasText spent = ⊥

@@ -1,7 +1,7 @@
 //! Lines of text to requests, and replies to lines of text.
 //!
-//! A request is one line of words parted by one space. [`parse_request`] reads such a line, and [`write_reply`] writes
-//! the text of a reply. A token is read into its SHA-256 digest at once and is kept nowhere.
+//! A request is one line of words parted by one space, and behind some of them bytes that the line counts. [`parse_line`]
+//! reads such a line, and [`write_reply`] writes the text of a reply. A token is read into its SHA-256 digest at once and is kept nowhere.
 #![tactic(auto)]
 
 mod device;
@@ -12,8 +12,6 @@ mod read;
 mod reply;
 mod request;
 mod serve;
-#[cfg(test)]
-mod tests;
 mod words;
 mod write;
 
@@ -23,5 +21,5 @@ pub use fault::WireFault;
 pub use line::{MAX_LINE, MAX_LINES};
 pub use read::{Asked, read_request};
 pub use reply::write_reply;
-pub use request::parse_request;
+pub use request::{LineAsk, MAX_PAYLOAD, parse_line};
 pub use serve::{End, serve_core};

@@ -1,6 +1,6 @@
 //! Lines: bytes up to a line feed or up to the end of the input.
-ghost use Rattle.std.specs.Prelude.{◌≡◌, IfOk, IfErr};
-ghost use Rattle.mpw_wire.specs.Reading.{Takes, Breaks, read_failures};
+ghost use Rattle.std.specs.Prelude.{◌≡◌, IfOk, IfErr, option_map};
+ghost use Rattle.mpw_wire.specs.Reading.{Takes, BreaksLine, TakesBytes, BreaksBytes, read_failures};
 ghost use Rattle.mpw_wire.specs.Writing.{fault_of};
 
 use crate::{Source, WireFault};
@@ -29,7 +29,7 @@ pub(crate) enum Taken {
 /// `Read` where the source failed, and `Memory` where there is no room for the line.
 pub(crate) fn take_line<R: Source>(alloc: Global, reader: &mut R) -> Result<Taken, WireFault>
     ensures taken { IfOk result (Takes (R.remaining reader.old) (R.remaining reader.new)) }
-    ensures fault { IfErr result (Breaks (R.remaining reader.old) (R.remaining reader.new)) }
+    ensures fault { IfErr result (BreaksLine (R.remaining reader.old) (R.remaining reader.new)) }
     ensures failures { R.failures reader.new ≡ read_failures (fault_of result) (R.failures reader.old) }
 {
     let mut line = Vec::new(alloc);
@@ -43,4 +43,28 @@ pub(crate) fn take_line<R: Source>(alloc: Global, reader: &mut R) -> Result<Take
         }
     }
     Ok(Taken::Long)
+}
+
+/// Takes so many bytes off the front of the input: a byte each turn. It answers `None` where the input ends before.
+///
+/// # Errors
+/// `Read` where the source failed, and `Memory` where there is no room for the bytes.
+pub(crate) fn take_bytes<R: Source>(
+    alloc: Global,
+    reader: &mut R,
+    length: usize,
+) -> Result<Option<Vec<u8>>, WireFault>
+    ensures taken { IfOk result (λ taken. TakesBytes (R.remaining reader.old) (R.remaining reader.new) length (option_map (λ bytes. bytes.items) taken)) }
+    ensures fault { IfErr result (BreaksBytes (R.remaining reader.old) (R.remaining reader.new) length) }
+    ensures failures { R.failures reader.new ≡ read_failures (fault_of result) (R.failures reader.old) }
+{
+    let mut bytes = Vec::new(alloc);
+    for _ in 0..length {
+        match reader.next_byte() {
+            Ok(Some(byte)) => bytes.push(byte)?,
+            Ok(None) => return Ok(None),
+            Err(_) => return Err(WireFault::Read),
+        }
+    }
+    Ok(Some(bytes))
 }

@@ -1,29 +1,57 @@
 //! Requests off the input.
-ghost use Rattle.std.specs.Prelude.{◌≡◌, IfOk, IfErr};
-ghost use Rattle.mpw_wire.specs.Reading.{Reads, Breaks, read_failures};
+ghost use Rattle.std.specs.Prelude.{◌≡◌, ℕ, List, Option, IfOk, IfErr};
+ghost use Rattle.mpw_wire.specs.Reading.{Reads, Breaks, TakesOffer, read_failures};
 ghost use Rattle.mpw_wire.specs.Writing.{fault_of};
 
-use crate::line::{Taken, take_line};
-use crate::request::parse_request;
+use crate::line::{Taken, take_bytes, take_line};
+use crate::request::{LineAsk, parse_line};
 use crate::{Source, WireFault};
-use mpw_core::Request;
+use mpw_core::{LayoutRequest, Request, SharedRequest};
+use mpw_geom::Name;
+use mpw_library::LibraryText;
 use std::alloc::Global;
 
 /// What the next line of the input asks.
 #[derive(Drop)]
 pub enum Asked {
     /// The line is this request's text.
-    Request(Request),
+    Request(SharedRequest),
     /// The line is no request's text.
     Form,
-    /// The line is longer than 4096 bytes.
+    /// The line is longer than 4096 bytes, or asks to submit more than 2^24.
     Long,
+    /// The input ends before the bytes that the line asks to submit.
+    Cut,
     /// The input is at its end.
     End,
 }
 
-/// Reads the next line of the input. A line ends with a line feed, which the last one may lack where it isn't empty.
-/// It costs the line's size, and takes room for the line and the request's names.
+/// Reads the bytes that a line asks to submit.
+fn read_submission<R: Source>(
+    alloc: Global,
+    reader: &mut R,
+    cell: Name,
+    top: Name,
+    length: usize,
+) -> Result<Asked, WireFault>
+    ensures asked { (old : Option (List ℕ)) (line : List ℕ) → TakesOffer old (R.remaining reader.old) line cell top length → IfOk result (Reads old (R.remaining reader.new)) }
+    ensures fault { (old : Option (List ℕ)) (line : List ℕ) → TakesOffer old (R.remaining reader.old) line cell top length → IfErr result (Breaks old (R.remaining reader.new)) }
+    ensures failures { R.failures reader.new ≡ read_failures (fault_of result) (R.failures reader.old) }
+{
+    match take_bytes(alloc, reader, length)? {
+        Some(bytes) => {
+            let text = LibraryText::read(alloc, bytes)?;
+            let request = Request::Layout(LayoutRequest::Submit { cell, top, text });
+            let shared = SharedRequest::new(alloc, request)?;
+            Ok(Asked::Request(shared))
+        }
+        None => Ok(Asked::Cut),
+    }
+}
+
+/// Reads the next request of the input: a line, and the bytes that it asks to submit. A line ends with a line feed,
+/// which the last one may lack where it isn't empty. It costs the text's size, and takes room for the line, the
+/// request's names, and the bytes with the library that they are of.
 ///
 /// # Errors
 /// `Read` where the source failed, and `Memory` where there is no room.
@@ -33,9 +61,13 @@ pub fn read_request<R: Source>(alloc: Global, reader: &mut R) -> Result<Asked, W
     ensures failures { R.failures reader.new ≡ read_failures (fault_of result) (R.failures reader.old) }
 {
     match take_line(alloc, reader)? {
-        Taken::Line(line) => match parse_request(alloc, line.as_slice())? {
-            Some(request) => Ok(Asked::Request(request)),
-            None => Ok(Asked::Form),
+        Taken::Line(line) => match parse_line(alloc, line.as_slice())? {
+            LineAsk::Request(request) => Ok(Asked::Request(request)),
+            LineAsk::Submission { cell, top, length } => {
+                read_submission(alloc, reader, cell, top, length)
+            }
+            LineAsk::Long => Ok(Asked::Long),
+            LineAsk::Form => Ok(Asked::Form),
         },
         Taken::Long => Ok(Asked::Long),
         Taken::End => Ok(Asked::End),

@@ -247,8 +247,10 @@ pub(crate) enum Refusal {
     Memory,
     /// The line is no request's text.
     Form,
-    /// The line is too long.
+    /// The line is too long, or what is to follow it.
     Long,
+    /// The input ends before what is to follow the line.
+    Cut,
 }
 
 /// The number and the word of a refusal.
@@ -260,6 +262,7 @@ fn refusal_words(refusal: Refusal) -> &'static str
         Refusal::Memory => "17 memory",
         Refusal::Form => "40 form",
         Refusal::Long => "41 long",
+        Refusal::Cut => "42 cut",
     }
 }
 

@@ -1,18 +1,21 @@
 //! Request lines.
 ghost use Rattle.std.specs.Prelude.{◌≡◌, IfOk};
-ghost use Rattle.mpw_core.specs.declared.event.Request.TheVariants as ask;
 ghost use Rattle.mpw_geom.specs.Names.{name_eq};
-ghost use Rattle.mpw_wire.specs.Request.{name_of, token_of, operation_of, object_of, grant_of, login_of, pair_of, names_of, set_of, bare_request, request_of_one, request_of_two, request_of_three, request_of_more, request_of};
+ghost use Rattle.mpw_wire.specs.Request.{name_of, token_of, operation_of, object_of, grant_of, login_of, pair_of, names_of, set_of, bare_request, request_of_one, request_of_two, request_of_three, request_of_more, asked, asked_policy, max_payload, submission_of, ask_of_three, ask_of};
+ghost use Rattle.mpw_text.specs.Text.{number_of};
 ghost use Rattle.mpw_wire.specs.Words.{words};
 
 use crate::digest::digest_of;
 use crate::words::{Arguments, cut, read_arguments};
-use mpw_core::Request;
+use mpw_core::{LayoutRequest, PolicyRequest, Request, SharedRequest};
 use mpw_geom::{Name, NameFault, Names, is_name};
 use mpw_rbac::{Digest, Grant, Object, Operation};
 use mpw_separation::SeparationSet;
-use mpw_text::{parts, read_count};
+use mpw_text::{is_decimal, parts, read_count};
 use std::alloc::{AllocError, Global};
+
+/// The greatest number of bytes that follow a line.
+pub const MAX_PAYLOAD: usize = 1 << 24;
 
 /// Whether a word is this text.
 fn is(word: &[u8], text: &str) -> bool
@@ -129,33 +132,35 @@ fn bare(verb: &[u8]) -> Option<Request>
     ensures { result ≡ bare_request verb.now }
 {
     if is(verb, "close") {
-        Some(Request::Close)
+        Some(Request::Policy(PolicyRequest::Close))
     } else if is(verb, "whoami") {
         Some(Request::Whoami)
+    } else if is(verb, "cells") {
+        Some(Request::Layout(LayoutRequest::Cells))
     } else {
         None
     }
 }
 
-/// The requests of a verb and one name.
+/// The requests of the policy of a verb and one name.
 #[tactic(auto, unfolding(crate::specs::Request::request_of_one))]
-fn of_one(alloc: Global, verb: &[u8], word: &[u8]) -> Result<Option<Request>, AllocError>
+fn of_one(alloc: Global, verb: &[u8], word: &[u8]) -> Result<Option<PolicyRequest>, AllocError>
     ensures { IfOk result (λ request. request ≡ request_of_one verb.now word.now) }
 {
     if is(verb, "activate") {
-        Ok(name(alloc, word)?.map(|role| Request::Activate { role }))
+        Ok(name(alloc, word)?.map(|role| PolicyRequest::Activate { role }))
     } else if is(verb, "drop") {
-        Ok(name(alloc, word)?.map(|role| Request::DropRole { role }))
+        Ok(name(alloc, word)?.map(|role| PolicyRequest::DropRole { role }))
     } else if is(verb, "deluser") {
-        Ok(name(alloc, word)?.map(|user| Request::DelUser { user }))
+        Ok(name(alloc, word)?.map(|user| PolicyRequest::DelUser { user }))
     } else if is(verb, "addrole") {
-        Ok(name(alloc, word)?.map(|role| Request::AddRole { role }))
+        Ok(name(alloc, word)?.map(|role| PolicyRequest::AddRole { role }))
     } else if is(verb, "delrole") {
-        Ok(name(alloc, word)?.map(|role| Request::DelRole { role }))
+        Ok(name(alloc, word)?.map(|role| PolicyRequest::DelRole { role }))
     } else if is(verb, "unssd") {
-        Ok(name(alloc, word)?.map(|name| Request::UnSsd { name }))
+        Ok(name(alloc, word)?.map(|name| PolicyRequest::UnSsd { name }))
     } else if is(verb, "undsd") {
-        Ok(name(alloc, word)?.map(|name| Request::UnDsd { name }))
+        Ok(name(alloc, word)?.map(|name| PolicyRequest::UnDsd { name }))
     } else {
         Ok(None)
     }
@@ -200,21 +205,27 @@ fn of_two(
     verb: &[u8],
     first: &[u8],
     second: &[u8],
-) -> Result<Option<Request>, AllocError>
+) -> Result<Option<PolicyRequest>, AllocError>
     ensures { IfOk result (λ request. request ≡ request_of_two verb.now first.now second.now) }
 {
     if is(verb, "open") {
-        Ok(login(alloc, first, second)?.map(|(user, digest)| Request::Open { user, digest }))
+        Ok(login(alloc, first, second)?.map(|(user, digest)| PolicyRequest::Open { user, digest }))
     } else if is(verb, "adduser") {
-        Ok(login(alloc, first, second)?.map(|(user, digest)| Request::AddUser { user, digest }))
+        Ok(login(alloc, first, second)?.map(|(user, digest)| PolicyRequest::AddUser {
+            user,
+            digest,
+        }))
     } else if is(verb, "assign") {
-        Ok(pair(alloc, first, second)?.map(|(user, role)| Request::Assign { user, role }))
+        Ok(pair(alloc, first, second)?.map(|(user, role)| PolicyRequest::Assign { user, role }))
     } else if is(verb, "deassign") {
-        Ok(pair(alloc, first, second)?.map(|(user, role)| Request::Deassign { user, role }))
+        Ok(pair(alloc, first, second)?.map(|(user, role)| PolicyRequest::Deassign { user, role }))
     } else if is(verb, "inherit") {
-        Ok(pair(alloc, first, second)?.map(|(senior, junior)| Request::Inherit { senior, junior }))
+        Ok(pair(alloc, first, second)?.map(|(senior, junior)| PolicyRequest::Inherit {
+            senior,
+            junior,
+        }))
     } else if is(verb, "uninherit") {
-        Ok(pair(alloc, first, second)?.map(|(senior, junior)| Request::Uninherit {
+        Ok(pair(alloc, first, second)?.map(|(senior, junior)| PolicyRequest::Uninherit {
             senior,
             junior,
         }))
@@ -231,13 +242,13 @@ fn of_three(
     first: &[u8],
     second: &[u8],
     third: &[u8],
-) -> Result<Option<Request>, AllocError>
+) -> Result<Option<PolicyRequest>, AllocError>
     ensures { IfOk result (λ request. request ≡ request_of_three verb.now first.now second.now third.now) }
 {
     if is(verb, "grant") {
-        Ok(grant(alloc, first, second, third)?.map(|grant| Request::Grant { grant }))
+        Ok(grant(alloc, first, second, third)?.map(|grant| PolicyRequest::Grant { grant }))
     } else if is(verb, "revoke") {
-        Ok(grant(alloc, first, second, third)?.map(|grant| Request::Revoke { grant }))
+        Ok(grant(alloc, first, second, third)?.map(|grant| PolicyRequest::Revoke { grant }))
     } else {
         Ok(None)
     }
@@ -288,32 +299,117 @@ fn of_more(
     name: &[u8],
     cardinality: &[u8],
     roles: &[u8],
-) -> Result<Option<Request>, AllocError>
+) -> Result<Option<PolicyRequest>, AllocError>
     ensures { IfOk result (λ request. request ≡ request_of_more verb.now name.now cardinality.now (words roles.now)) }
 {
     if is(verb, "ssd") {
-        Ok(set(alloc, name, cardinality, roles)?.map(|set| Request::Ssd { set }))
+        Ok(set(alloc, name, cardinality, roles)?.map(|set| PolicyRequest::Ssd { set }))
     } else if is(verb, "dsd") {
-        Ok(set(alloc, name, cardinality, roles)?.map(|set| Request::Dsd { set }))
+        Ok(set(alloc, name, cardinality, roles)?.map(|set| PolicyRequest::Dsd { set }))
     } else {
         Ok(None)
     }
 }
 
-/// The request whose text a line is, without its line feed, and `None` where it is none's. Two passes at a token, and
-/// n log n comparisons at the roles of a set.
+/// What a line asks.
+#[derive(Drop)]
+pub enum LineAsk {
+    /// The request whose text the line is.
+    Request(SharedRequest),
+    /// To submit the bytes that follow the line, so many.
+    Submission {
+        cell: Name,
+        top: Name,
+        length: usize,
+    },
+    /// To submit more than 2^24 bytes.
+    Long,
+    /// The line is no request's text.
+    Form,
+}
+
+/// What a request's line asks, and no form where it is none's.
+fn ask(alloc: Global, request: Option<Request>) -> Result<LineAsk, AllocError>
+    ensures { IfOk result (λ ask. ask ≡ asked request) }
+{
+    match request {
+        Some(request) => Ok(LineAsk::Request(SharedRequest::new(alloc, request)?)),
+        None => Ok(LineAsk::Form),
+    }
+}
+
+/// The same of a request of the policy.
+fn ask_policy(alloc: Global, request: Option<PolicyRequest>) -> Result<LineAsk, AllocError>
+    ensures { IfOk result (λ ask. ask ≡ asked_policy request) }
+{
+    ask(alloc, request.map(Request::Policy))
+}
+
+/// The number of bytes that a word counts, up to 2^24.
+#[tactic(auto, unfolding(crate::specs::Request::max_payload))]
+fn payload_length(word: &[u8]) -> Option<usize>
+    ensures { result ≡ number_of 0 max_payload word.now }
+{
+    read_count(word, 0, MAX_PAYLOAD)
+}
+
+/// What the words of a submission ask: a cell, a structure, and how many bytes follow.
+#[tactic(auto, unfolding(crate::specs::Request::submission_of))]
+fn submission(
+    alloc: Global,
+    cell_word: &[u8],
+    top_word: &[u8],
+    length_word: &[u8],
+) -> Result<LineAsk, AllocError>
+    ensures { IfOk result (λ ask. ask ≡ submission_of cell_word.now top_word.now length_word.now) }
+{
+    let Some(cell) = name(alloc, cell_word)? else {
+        return Ok(LineAsk::Form);
+    };
+    let Some(top) = name(alloc, top_word)? else {
+        return Ok(LineAsk::Form);
+    };
+    if !is_decimal(length_word) {
+        return Ok(LineAsk::Form);
+    }
+    match payload_length(length_word) {
+        Some(length) => Ok(LineAsk::Submission { cell, top, length }),
+        None => Ok(LineAsk::Long),
+    }
+}
+
+/// What a verb and three words ask.
+#[tactic(auto, unfolding(crate::specs::Request::ask_of_three))]
+fn ask_three(
+    alloc: Global,
+    verb: &[u8],
+    first: &[u8],
+    second: &[u8],
+    third: &[u8],
+) -> Result<LineAsk, AllocError>
+    ensures { IfOk result (λ ask. ask ≡ ask_of_three verb.now first.now second.now third.now) }
+{
+    if is(verb, "submit") {
+        return submission(alloc, first, second, third);
+    }
+    ask_policy(alloc, of_three(alloc, verb, first, second, third)?)
+}
+
+/// What a line asks, without its line feed. Two passes at a token, and n log n comparisons at the roles of a set.
 ///
 /// # Errors
 /// Where there is no room for a name.
-pub fn parse_request(alloc: Global, line: &[u8]) -> Result<Option<Request>, AllocError>
-    ensures { IfOk result (λ request. request ≡ request_of line.now) }
+pub fn parse_line(alloc: Global, line: &[u8]) -> Result<LineAsk, AllocError>
+    ensures { IfOk result (λ ask. ask ≡ ask_of line.now) }
 {
     let (verb, rest) = cut(line);
     match read_arguments(rest) {
-        Arguments::Zero => Ok(bare(verb)),
-        Arguments::One(first) => of_one(alloc, verb, first),
-        Arguments::Two(first, second) => of_two(alloc, verb, first, second),
-        Arguments::Three(first, second, third) => of_three(alloc, verb, first, second, third),
-        Arguments::More(first, second, rest) => of_more(alloc, verb, first, second, rest),
+        Arguments::Zero => ask(alloc, bare(verb)),
+        Arguments::One(first) => ask_policy(alloc, of_one(alloc, verb, first)?),
+        Arguments::Two(first, second) => ask_policy(alloc, of_two(alloc, verb, first, second)?),
+        Arguments::Three(first, second, third) => ask_three(alloc, verb, first, second, third),
+        Arguments::More(first, second, rest) => {
+            ask_policy(alloc, of_more(alloc, verb, first, second, rest)?)
+        }
     }
 }

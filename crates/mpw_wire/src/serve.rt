@@ -8,7 +8,7 @@ use crate::line::MAX_LINES;
 use crate::read::{Asked, read_request};
 use crate::reply::{Refusal, write_refusal, write_reply};
 use crate::{Sink, Source, WireFault};
-use mpw_core::{Core, Event, Request};
+use mpw_core::{Core, Event, SharedRequest};
 use std::alloc::Global;
 
 /// How a connection ended.
@@ -16,8 +16,10 @@ use std::alloc::Global;
 pub enum End {
     /// The input was read to its end.
     Closed,
-    /// A line was longer than 4096 bytes.
+    /// A line was longer than 4096 bytes, or asked to submit more than 2^24.
     Long,
+    /// The input ended before the bytes that a line asked to submit.
+    Cut,
     /// There was no room to read a line.
     Memory,
     /// 4096 lines were answered.
@@ -28,7 +30,7 @@ pub enum End {
 fn answer<W: Sink>(
     core: &mut Core,
     conn: u32,
-    request: Request,
+    request: SharedRequest,
     writer: &mut W,
 ) -> Result<(), WireFault>
     ensures { (answer : Answer) × IsAnswer conn request core.old answer core.new × Writes W.contents W.failures writer.old writer.new result (answer_text answer) }
@@ -65,6 +67,7 @@ fn serve_line<R: Source, W: Sink>(
         Ok(Asked::Request(request)) => told(None, answer(core, conn, request, writer)),
         Ok(Asked::Form) => told(None, write_refusal(Refusal::Form, writer)),
         Ok(Asked::Long) => told(Some(End::Long), write_refusal(Refusal::Long, writer)),
+        Ok(Asked::Cut) => told(Some(End::Cut), write_refusal(Refusal::Cut, writer)),
         Ok(Asked::End) => Ok(Some(End::Closed)),
         Err(WireFault::Memory) => {
             told(Some(End::Memory), write_refusal(Refusal::Memory, writer))
@@ -97,7 +100,8 @@ fn serve_lines<R: Source, W: Sink>(
 }
 
 /// Serves a connection: the lines of the reader get their replies on the writer, in order, until the input ends, a
-/// line is too long, there is no room for a line, or 4096 lines were answered. Then the desk is handed the
+/// line is too long, the bytes that it asks to submit are too many or cut off, there is no room for a request, or 4096
+/// lines were answered. Then the desk is handed the
 /// connection's end. It costs the lines, and for each request what the core's step costs.
 ///
 /// # Errors

@@ -9,7 +9,7 @@ pub returns-in-Ok-Request-clause-line : goal.returns-in-Ok-Request-clause-line
 returns-in-Ok-Request-clause-line g c =
     let asked = subst (Reads (g.R.Source.remaining c.args.reader.now) (g.R.Source.remaining c.read_request.new.reader)) c.in-Ok-Request.field-0-is c.in-Ok-Request.ensures.asked in
     let answered = c.answer.ensures in
-    serves_turn _ _ _ _ _ _ _ _ _ (Turn.asked asked.0 c.in-Ok-Request.request answered.0) c.answer.result c.told.result c.told.ensures (asked.1, asked.2, answered.1) answered.2
+    serves_turn _ _ _ _ _ _ _ _ _ (Turn.asked asked.0 c.in-Ok-Request.request answered.0) c.answer.result c.told.result c.told.ensures (asked.1, answered.1) answered.2
 
 pub returns-in-Ok-Form-clause-line : goal.returns-in-Ok-Form-clause-line
 returns-in-Ok-Form-clause-line g c =
@@ -20,6 +20,11 @@ pub returns-in-Ok-Long-clause-line : goal.returns-in-Ok-Long-clause-line
 returns-in-Ok-Long-clause-line g c =
     let asked = subst (Reads (g.R.Source.remaining c.args.reader.now) (g.R.Source.remaining c.read_request.new.reader)) c.in-Ok-Long.field-0-is c.in-Ok-Long.ensures.asked in
     serves_stop _ _ _ _ _ _ _ _ Stop.long _ c.write_refusal-in-Ok-Long.result c.told-in-Ok-Long.result c.told-in-Ok-Long.ensures (omega arith, asked, refl) refl tt c.write_refusal-in-Ok-Long.ensures
+
+pub returns-in-Ok-Cut-clause-line : goal.returns-in-Ok-Cut-clause-line
+returns-in-Ok-Cut-clause-line g c =
+    let asked = subst (Reads (g.R.Source.remaining c.args.reader.now) (g.R.Source.remaining c.read_request.new.reader)) c.in-Ok-Cut.field-0-is c.in-Ok-Cut.ensures.asked in
+    serves_stop _ _ _ _ _ _ _ _ Stop.cut _ c.write_refusal-in-Ok-Cut.result c.told-in-Ok-Cut.result c.told-in-Ok-Cut.ensures (omega arith, asked, refl) refl tt c.write_refusal-in-Ok-Cut.ensures
 
 pub returns-in-Ok-End-clause-line : goal.returns-in-Ok-End-clause-line
 returns-in-Ok-End-clause-line g c =

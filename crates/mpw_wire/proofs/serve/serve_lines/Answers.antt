@@ -1,5 +1,5 @@
 use Rattle.std.proofs.Common.{rules, refl, ap, Ok, Err}
-use Rattle.mpw_wire.proofs.ServingLemmas.{start, advance, finish}
+use Rattle.mpw_wire.proofs.ServingLemmas.{start, advance, finish, spent}
 use Rattle.mpw_wire.proofs.serve.serve_lines.Goals as goal
 
 pub loop-init : goal.loop-init
@@ -12,3 +12,6 @@ loop-preserved g c =
 pub returns-in-Err-clause-lines : goal.returns-in-Err-clause-lines
 returns-in-Err-clause-lines g c =
     finish _ _ _ _ _ _ _ _ _ _ _ c.loop.invariant.0 (search rules) (Err c.in-Err.fault) (Err c.in-Err.fault) refl c.in-Err.ensures.line
+
+pub returns-clause-lines : goal.returns-clause-lines
+returns-clause-lines g c = spent _ _ _ _ _ _ _ _ c.loop.invariant.0 (search rules)

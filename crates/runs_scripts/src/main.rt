@@ -1,0 +1,167 @@
+//! Serves stored scripts over new desks, and tells whether each is answered as it is written there.
+//!
+//! The standard input names a script a line, from the folder of data, with what the devices do:
+//! - `NAME`: they don't fail;
+//! - `NAME source N`, `NAME sink N`: the source fails before byte N, the sink after N bytes;
+//! - `NAME source each`, `NAME sink each`: so at each byte in turn.
+#![tactic(auto)]
+
+mod devices;
+mod limit;
+mod serving;
+mod transcript;
+
+use anyhow::Result;
+use limit::fill_a_history;
+use serving::{Devices, Served, is_front, serve};
+use std::fs;
+use transcript::{Transcript, read_transcript};
+
+/// A line of the standard input.
+#[derive(Clone, Copy)]
+struct Case<'a> {
+    name: &'a str,
+    device: &'a str,
+    place: &'a str,
+}
+
+/// The words of a line of the standard input.
+fn read_case(line: &str) -> Case {
+    let mut words = line.split_whitespace();
+    Case {
+        name: words.next().unwrap_or(""),
+        device: words.next().unwrap_or(""),
+        place: words.next().unwrap_or(""),
+    }
+}
+
+/// The devices of which one fails at a place.
+fn failing(device: &str, place: usize) -> Devices {
+    if device == "source" {
+        Devices {
+            source: place,
+            sink: usize::MAX,
+        }
+    } else {
+        Devices {
+            source: usize::MAX,
+            sink: place,
+        }
+    }
+}
+
+/// Where two texts differ first: the number of the line, counted from 1.
+fn first_difference(told: &[u8], wanted: &[u8]) -> usize {
+    let mut line = 1usize;
+    for (a, b) in told.iter().zip(wanted) {
+        if a != b {
+            break;
+        }
+        if *a == b'\n' {
+            line = line.saturating_add(1);
+        }
+    }
+    line
+}
+
+/// Tells of a script over devices that don't fail.
+fn tell(rt: &HostRuntime, name: &str, script: &Transcript) -> Result<()> {
+    let served = serve(
+        rt.alloc(),
+        script.input.as_slice(),
+        &failing("", usize::MAX),
+    )?;
+    if served.text.as_slice() == script.replies.as_slice() {
+        println!(rt;
+            "{name}: answered as written; {}; {} calls",
+            served.end, served.calls
+        )?;
+    } else {
+        let line = first_difference(served.text.as_slice(), script.replies.as_slice());
+        println!(rt; "{name}: ANOTHER reply at line {line}")?;
+    }
+    Ok(())
+}
+
+/// Tells of a script over a device that fails at one place.
+fn tell_failing(rt: &HostRuntime, case: &Case, script: &Transcript, place: usize) -> Result<()> {
+    let served = serve(
+        rt.alloc(),
+        script.input.as_slice(),
+        &failing(case.device, place),
+    )?;
+    let front = if is_front(&served, script) {
+        "a front"
+    } else {
+        "NO front"
+    };
+    println!(rt;
+        "{}, the {} fails at {place}: {} bytes, {front} of the replies; {}; {} calls",
+        case.name,
+        case.device,
+        served.text.len(),
+        served.end,
+        served.calls
+    )?;
+    Ok(())
+}
+
+/// Whether the replies end in a front of those that are written, and the fault is told.
+fn is_told(served: &Served, script: &Transcript, device: &str) -> bool {
+    is_front(served, script) && served.end == (if device == "source" { "Read" } else { "Write" })
+}
+
+/// Tells of a script over a device that fails at each byte in turn.
+fn tell_each(rt: &HostRuntime, case: &Case, script: &Transcript) -> Result<()> {
+    let places = if case.device == "source" {
+        script.input.len()
+    } else {
+        script.replies.len()
+    };
+    let mut told = 0usize;
+    for place in 0..places {
+        let served = serve(
+            rt.alloc(),
+            script.input.as_slice(),
+            &failing(case.device, place),
+        )?;
+        if is_told(&served, script, case.device) {
+            told = told.saturating_add(1);
+        }
+    }
+    println!(rt;
+        "{}, the {} fails at each of {places} bytes: {told} times a front of the replies and the fault",
+        case.name, case.device
+    )?;
+    Ok(())
+}
+
+/// Reads a script of the folder of data.
+fn script(rt: &HostRuntime, name: &str) -> Result<Transcript> {
+    let path = format!(in rt.alloc(); "{name}.txt")?;
+    let text = fs::read_to_string(rt, path.as_str())?;
+    Ok(read_transcript(rt.alloc(), text.as_str())?)
+}
+
+/// Serves one line of the standard input.
+fn run_case(rt: &HostRuntime, line: &str) -> Result<()> {
+    let case = read_case(line);
+    let script = script(rt, case.name)?;
+    if case.device.is_empty() {
+        return tell(rt, case.name, &script);
+    }
+    match case.place.parse::<usize>() {
+        Ok(place) => tell_failing(rt, &case, &script, place),
+        Err(_) => tell_each(rt, &case, &script),
+    }
+}
+
+fn main(rt: HostRuntime) -> Result<()> {
+    for line in rt.lines(rt.alloc()) {
+        let line = line?;
+        if !line.is_empty() {
+            run_case(&rt, line.as_str())?;
+        }
+    }
+    fill_a_history(&rt)
+}

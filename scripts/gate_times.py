@@ -1,0 +1,86 @@
+#!/usr/bin/env python3
+"""Runs a command, and then tells what each crate's proofs, tests, wrong bodies and programs took.
+
+  scripts/gate_times.py rt ci
+
+The times are processor seconds of the checker's processes, read off /proc twice a second, so a little too small.
+"""
+import collections
+import glob
+import os
+import subprocess
+import sys
+import threading
+import time
+
+TICK = os.sysconf("SC_CLK_TCK")
+COLUMNS = ("proof", "tests", "wrong bodies", "runs")
+
+
+def work_of(pid):
+    """Returns the crate and the kind of work of a process, or None."""
+    with open(f"/proc/{pid}/cmdline", "rb") as file:
+        words = file.read().decode(errors="replace").split("\0")
+    program = os.path.basename(words[0]) if words else ""
+    if "/rt-run-" in words[0]:
+        return program.removesuffix("_tests"), "runs"
+    if program != "rattle" or "--crate-name" not in words:
+        return None
+    crate = words[words.index("--crate-name") + 1]
+    if "/rt-edit-" in os.readlink(f"/proc/{pid}/cwd"):
+        return crate, "wrong bodies"
+    return crate, "tests" if "--test" in words else "proof"
+
+
+def seconds_of(pid):
+    with open(f"/proc/{pid}/stat", encoding="utf-8", errors="replace") as file:
+        fields = file.read().rpartition(")")[2].split()
+    return (int(fields[11]) + int(fields[12])) / TICK
+
+
+def sample(spent):
+    for folder in glob.glob("/proc/[0-9]*"):
+        pid = int(os.path.basename(folder))
+        try:
+            work = work_of(pid)
+            if work:
+                spent[pid, work] = max(spent.get((pid, work), 0), seconds_of(pid))
+        except (OSError, IndexError, ValueError):
+            pass
+
+
+def tell(spent, wall):
+    table = collections.defaultdict(lambda: dict.fromkeys(COLUMNS, 0.0))
+    for (_, (crate, kind)), seconds in spent.items():
+        table[crate][kind] += seconds
+    print(f"{'processor seconds':<18}" + "".join(f"{name:>14}" for name in COLUMNS) + f"{'all':>10}")
+    for crate, row in sorted(table.items(), key=lambda it: -sum(it[1].values())):
+        print(f"{crate:<18}" + "".join(f"{row[name]:>14.0f}" for name in COLUMNS) + f"{sum(row.values()):>10.0f}")
+    sums = [sum(row[name] for row in table.values()) for name in COLUMNS]
+    print(f"{'all':<18}" + "".join(f"{it:>14.0f}" for it in sums) + f"{sum(sums):>10.0f}")
+    print(f"{wall:.0f} seconds in all, {len(os.sched_getaffinity(0))} processors", flush=True)
+
+
+def hand_on(lines, kept):
+    for line in lines:
+        print(line, end="", flush=True)
+        kept.append(line.rstrip("\n"))
+        del kept[:-1]
+
+
+def main(words):
+    began, spent, last = time.monotonic(), {}, []
+    with subprocess.Popen(words, stdout=subprocess.PIPE, text=True, errors="replace") as ran:
+        printing = threading.Thread(target=hand_on, args=(ran.stdout, last))
+        printing.start()
+        while ran.poll() is None:
+            sample(spent)
+            time.sleep(0.5)
+        printing.join()
+    tell(spent, time.monotonic() - began)
+    print(*last)
+    return ran.returncode
+
+
+if __name__ == "__main__":
+    sys.exit(main(sys.argv[1:]))
