@@ -1,0 +1,131 @@
+#!/usr/bin/env python3
+"""Proves the crates that a program stands on, side by side where none stands on the other, and then the program.
+
+  scripts/build.py PROGRAM
+
+Two runs of the toolchain in one tree wait for each other, so each crate is proved in a tree of its own that has the
+crates below it. What was proved is put back at once: a run that was broken off goes on where it stood. The way is told
+on the standard error.
+"""
+import os
+import shutil
+import subprocess
+import sys
+import tempfile
+import time
+from concurrent.futures import FIRST_COMPLETED, ThreadPoolExecutor, wait
+
+TOP = os.path.dirname(os.path.dirname(os.path.abspath(__file__)))
+# The memory that a check may take, in bytes.
+NEED = 4_500_000_000
+
+
+def say(text):
+    print(f"mpw: {text}", file=sys.stderr, flush=True)
+
+
+def crates_of_file():
+    found = {}
+    with open(f"{TOP}/crates.txt", encoding="utf-8") as file:
+        for line in file:
+            name, colon, deps = line.partition("#")[0].partition(":")
+            if colon:
+                found[name.split()[0]] = deps.split()
+    return {name: [it for it in deps if it in found] for name, deps in found.items()}
+
+
+def below(crates, name):
+    found = []
+    for dep in crates[name]:
+        found += [it for it in [*below(crates, dep), dep] if it not in found]
+    return found
+
+
+def newest(folder):
+    times = [os.path.getmtime(f"{at}/{it}") for at, _, files in os.walk(folder) for it in files]
+    return max(times, default=0)
+
+
+def is_proved(crates, name):
+    stamp = f"{TOP}/crates/{name}/out/rlib/stamp"
+    if not os.path.isfile(stamp):
+        return False
+    made = os.path.getmtime(stamp)
+    parts = [f"{TOP}/crates/{it}/{part}" for it in [name, *below(crates, name)] for part in ("src", "specs", "proofs")]
+    return all(newest(part) <= made for part in parts)
+
+
+def copy_crate(name, tree, with_out):
+    for part in ("src", "specs", "proofs", *with_out):
+        if os.path.isdir(f"{TOP}/crates/{name}/{part}"):
+            shutil.copytree(f"{TOP}/crates/{name}/{part}", f"{tree}/crates/{name}/{part}", symlinks=True)
+
+
+def prove(crates, name, jobs):
+    """Proves a crate, and returns what was said where that failed."""
+    with tempfile.TemporaryDirectory(prefix="mpw-build-") as tree:
+        wanted = [*below(crates, name), name]
+        with open(f"{TOP}/crates.txt", encoding="utf-8") as file:
+            lines = [line for line in file if line.partition(":")[0].split()[:1] in ([it] for it in wanted)]
+        with open(f"{tree}/crates.txt", "w", encoding="utf-8") as file:
+            file.writelines(lines)
+        for it in wanted[:-1]:
+            copy_crate(it, tree, ["out/rlib"])
+        copy_crate(name, tree, ["out"])
+        words = ["rt", "lib", "--jobs", str(jobs)]
+        how = {"cwd": f"{tree}/crates/{name}", "stdin": subprocess.DEVNULL, "stdout": subprocess.PIPE}
+        ran = subprocess.run(words, **how, stderr=subprocess.STDOUT, errors="replace")
+        out = f"{TOP}/crates/{name}/out"
+        if os.path.isdir(f"{tree}/crates/{name}/out"):
+            shutil.rmtree(out, ignore_errors=True)
+            shutil.move(f"{tree}/crates/{name}/out", out)
+        return "" if ran.returncode == 0 else ran.stdout
+
+
+def lanes():
+    with open("/proc/meminfo", encoding="utf-8") as file:
+        free = next(int(line.split()[1]) * 1024 for line in file if line.startswith("MemAvailable"))
+    return max(1, min(len(os.sched_getaffinity(0)), int(free / NEED)))
+
+
+def prove_all(crates, wanted):
+    """Proves crates, each once those below it are; returns whether all were."""
+    left = [it for it in wanted if not is_proved(crates, it)]
+    total, most, running, began = len(left), lanes(), {}, {}
+    with ThreadPoolExecutor(most) as pool:
+        while left or running:
+            busy = [it[0] for it in running.values()]
+            ready = [it for it in left if not any(dep in left or dep in busy for dep in below(crates, it))]
+            used = sum(it[1] for it in running.values())
+            for name in ready[: max(0, most - used)]:
+                jobs = max(1, (most - used) // min(len(ready), max(1, most - used)))
+                left.remove(name)
+                began[name] = time.monotonic()
+                running[pool.submit(prove, crates, name, jobs)] = (name, jobs)
+            for done in wait(running, return_when=FIRST_COMPLETED).done:
+                name = running.pop(done)[0]
+                if done.result():
+                    say(f"{name} could not be proved:\n{done.result()[-4000:]}")
+                    return False
+                say(f"{total - len(left) - len(running)} of {total} crates proved: {name}, {time.monotonic() - began[name]:.0f} s")
+    return True
+
+
+def main(words):
+    program = words[0]
+    crates = crates_of_file()
+    wanted = below(crates, program)
+    say(f"proving and building {program}; the first time takes about 15 minutes on four processors")
+    if not prove_all(crates, wanted):
+        return 1
+    say(f"proving {program} itself")
+    how = {"cwd": f"{TOP}/crates/{program}", "stdin": subprocess.DEVNULL, "stdout": subprocess.PIPE}
+    ran = subprocess.run(["rt", "run", "--", "--help"], **how, stderr=subprocess.STDOUT, errors="replace")
+    if not os.path.isfile(f"{TOP}/crates/{program}/out/{program}"):
+        say(f"the program could not be built:\n{ran.stdout[-4000:]}")
+        return 1
+    return 0
+
+
+if __name__ == "__main__":
+    sys.exit(main(sys.argv[1:]))
