@@ -1,5 +1,6 @@
 -- Each step keeps what every policy keeps.
-use Rattle.std.proofs.Common.{◌≡◌, ℕ, List, [], ◌∷◌, Result, Ok, Err, true, refl}
+use Rattle.std.proofs.Common.{◌≡◌, ℕ, Bool, true, false, cond, List, [], ◌∷◌, Result, Ok, Err, refl}
+use Rattle.std.specs.Prelude.{◌&&◌, not}
 use Rattle.mpw_rbac.specs.declared.refusal.Refusal.{Refusal}
 use Rattle.mpw_rbac.specs.Policy.{Policy}
 use Rattle.mpw_rbac.specs.Rows as rows
@@ -21,7 +22,7 @@ use Rattle.mpw_hier.specs.declared.submission.Submission.{Submission}
 use Rattle.mpw_core.specs.declared.reply.Line.{Line}
 use Rattle.mpw_core.specs.declared.reply.Reply.{Reply}
 use Rattle.mpw_core.specs.Layouts as layouts
-use Rattle.mpw_core.specs.Step.{State, new_state, changed, asked, shelved, listed, identity_lines, layout_outcome, outcome_of, step, after}
+use Rattle.mpw_core.specs.Step.{State, Outcome, new_state, left, changed, asked, shelved, listed, identity_lines, layout_outcome, outcome_of, wanted, unkept, settled, step, after}
 
 -- the requests over the shelf leave the policy
 policy-shelved : (s : State) (row : Result Submission Reply) → (shelved s row).state.policy ≡ s.policy
@@ -70,14 +71,21 @@ keeps-request s conn (ask.Policy request) sound = keeps-changed s (row_of s.poli
 keeps-request s conn ask.Whoami sound = keeps-asked s (rows.whoami s.policy conn) sound
 keeps-request s conn (ask.Layout request) sound = keeps-layout s conn request sound
 
-keeps-step : (s : State) (event : Event) → active_authorized s.policy ≡ true → active_authorized (after s event).policy ≡ true
+keeps-wanted : (s : State) (event : Event) → active_authorized s.policy ≡ true → active_authorized (wanted s event).state.policy ≡ true
+unfolding wanted
+keeps-wanted s (event.Ask conn request) sound = keeps-request s conn request sound
+keeps-wanted s (event.Gone conn) sound = law.keeps-end_session conn s.policy (rows.end_session s.policy conn) refl sound
+
+keeps-settled : (s : State) (event : Event) (kept : Bool) (outcome : Outcome) → active_authorized s.policy ≡ true → active_authorized outcome.state.policy ≡ true → active_authorized (settled s event kept outcome).state.policy ≡ true
+keeps-settled s event kept outcome before now = elim (outcome.changes && not kept) as (λ b. active_authorized (cond b (left (unkept event) (record s { closed = true })) outcome).state.policy ≡ true) [ true ↦ before | false ↦ now ]
+
+keeps-step : (s : State) (event : Event) (kept : Bool) → active_authorized s.policy ≡ true → active_authorized (after s event kept).policy ≡ true
 unfolding step
-keeps-step s (event.Ask conn request) sound = keeps-request s conn request sound
-keeps-step s (event.Gone conn) sound = law.keeps-end_session conn s.policy (rows.end_session s.policy conn) refl sound
+keeps-step s event kept sound = keeps-settled s event kept (wanted s event) sound (keeps-wanted s event sound)
 
 keeps-calls : (s : State) (calls : List Call) → active_authorized s.policy ≡ true → active_authorized (state_after s calls).policy ≡ true
 keeps-calls s [] sound = sound
-keeps-calls s (call ∷ calls) sound = keeps-calls (after s call.event) calls (keeps-step s call.event sound)
+keeps-calls s (call ∷ calls) sound = keeps-calls (after s call.event call.kept) calls (keeps-step s call.event call.kept sound)
 
 pub keeps-history : (officer digest : List ℕ) (calls : List Call) → active_authorized (state_after (new_state officer digest) calls).policy ≡ true
 unfolding new_state
@@ -121,14 +129,21 @@ sound-request s conn (ask.Policy request) sound = sound-changed s (row_of s.poli
 sound-request s conn ask.Whoami sound = sound-asked s (rows.whoami s.policy conn) sound
 sound-request s conn (ask.Layout request) sound = sound-layout s conn request sound
 
-sound-step : (s : State) (event : Event) → Sound s.policy → Sound (after s event).policy
+sound-wanted : (s : State) (event : Event) → Sound s.policy → Sound (wanted s event).state.policy
+unfolding wanted
+sound-wanted s (event.Ask conn request) sound = sound-request s conn request sound
+sound-wanted s (event.Gone conn) sound = law.sound-end_session conn s.policy (rows.end_session s.policy conn) refl sound
+
+sound-settled : (s : State) (event : Event) (kept : Bool) (outcome : Outcome) → Sound s.policy → Sound outcome.state.policy → Sound (settled s event kept outcome).state.policy
+sound-settled s event kept outcome before now = elim (outcome.changes && not kept) as (λ b. Sound (cond b (left (unkept event) (record s { closed = true })) outcome).state.policy) [ true ↦ before | false ↦ now ]
+
+sound-step : (s : State) (event : Event) (kept : Bool) → Sound s.policy → Sound (after s event kept).policy
 unfolding step
-sound-step s (event.Ask conn request) sound = sound-request s conn request sound
-sound-step s (event.Gone conn) sound = law.sound-end_session conn s.policy (rows.end_session s.policy conn) refl sound
+sound-step s event kept sound = sound-settled s event kept (wanted s event) sound (sound-wanted s event sound)
 
 sound-calls : (s : State) (calls : List Call) → Sound s.policy → Sound (state_after s calls).policy
 sound-calls s [] sound = sound
-sound-calls s (call ∷ calls) sound = sound-calls (after s call.event) calls (sound-step s call.event sound)
+sound-calls s (call ∷ calls) sound = sound-calls (after s call.event call.kept) calls (sound-step s call.event call.kept sound)
 
 pub sound-history : (officer digest : List ℕ) (calls : List Call) → Sound (state_after (new_state officer digest) calls).policy
 unfolding new_state

@@ -1,5 +1,5 @@
 -- A denial names what the connection's session lacks.
-use Rattle.std.proofs.Common.{◌≡◌, ℕ, List, Result, Ok, Err, false, refl, ap}
+use Rattle.std.proofs.Common.{◌≡◌, ℕ, Bool, List, Result, Ok, Err, false, refl, sym, ap, ◌∙◌}
 use Rattle.mpw_geom.specs.Names.{contains_name}
 use Rattle.mpw_rbac.specs.declared.permission.Object.{Object}
 use Rattle.mpw_rbac.specs.declared.permission.Operation.{Operation}
@@ -23,8 +23,9 @@ use Rattle.mpw_hier.specs.declared.submission.Submission.{Submission}
 use Rattle.mpw_core.specs.declared.reply.Line.{Line}
 use Rattle.mpw_core.specs.declared.reply.Reply.{Reply}
 use Rattle.mpw_core.specs.Layouts as layouts
-use Rattle.mpw_core.specs.Step.{State, told, changed, asked, shelved, listed, identity_lines, layout_outcome, outcome_of, step, reply_of}
+use Rattle.mpw_core.specs.Step.{State, Outcome, told, changed, asked, shelved, listed, identity_lines, layout_outcome, outcome_of, wanted, step, reply_of}
 use Rattle.mpw_core.proofs.LayoutDenials.{denies-submitted, denies-cells}
+use Rattle.mpw_core.proofs.RefusalLemmas.{settled-denied}
 
 permission-told : (r : Refusal) (operation : Operation) (object : Object) → told r ≡ reply.Denied (denial.Permission operation object) → r ≡ refusal.NotPermitted operation object
 permission-told refusal.Opened operation object e = cc
@@ -103,10 +104,14 @@ lacks-request s conn (ask.Policy request) operation object e = lacks-row s.polic
 lacks-request s conn ask.Whoami operation object e = absurd (law.denies-whoami s.policy conn operation object (permission-asked s (rows.whoami s.policy conn) operation object e))
 lacks-request s conn (ask.Layout request) operation object e = lacks-layout s conn request operation object e
 
-pub lacks-permission : (s : State) (conn : ℕ) (request : Request) (operation : Operation) (object : Object) → reply_of s (event.Ask conn request) ≡ reply.Denied (denial.Permission operation object) → permits s.policy conn operation object ≡ false
-unfolding step
-lacks-permission s conn request operation object e = lacks-request s conn request operation object e
+pub lacks-permission : (s : State) (conn : ℕ) (request : Request) (kept : Bool) (operation : Operation) (object : Object) → reply_of s (event.Ask conn request) kept ≡ reply.Denied (denial.Permission operation object) → permits s.policy conn operation object ≡ false
+unfolding step wanted
+lacks-permission s conn request kept operation object e =
+    let same = settled-denied s (event.Ask conn request) kept (outcome_of s conn request) (denial.Permission operation object) e in
+    lacks-request s conn request operation object (ap (λ (o : Outcome). o.reply) (sym same) ∙ e)
 
-pub lacks-role : (s : State) (conn : ℕ) (role other : List ℕ) → reply_of s (event.Ask conn (ask.Policy (Activate role))) ≡ reply.Denied (denial.Activation other) → (other ≡ role) × (contains_name (authorized s.policy (rows.user_of s.policy conn)) role ≡ false)
-unfolding step
-lacks-role s conn role other e = law.denies-activate s.policy conn role other (activation-changed s (rows.activate s.policy conn role) other e)
+pub lacks-role : (s : State) (conn : ℕ) (role other : List ℕ) (kept : Bool) → reply_of s (event.Ask conn (ask.Policy (Activate role))) kept ≡ reply.Denied (denial.Activation other) → (other ≡ role) × (contains_name (authorized s.policy (rows.user_of s.policy conn)) role ≡ false)
+unfolding step wanted
+lacks-role s conn role other kept e =
+    let same = settled-denied s (event.Ask conn (ask.Policy (Activate role))) kept (outcome_of s conn (ask.Policy (Activate role))) (denial.Activation other) e in
+    law.denies-activate s.policy conn role other (activation-changed s (rows.activate s.policy conn role) other (ap (λ (o : Outcome). o.reply) (sym same) ∙ e))

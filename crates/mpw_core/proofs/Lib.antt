@@ -5,3 +5,4 @@ pub mod RefusalLemmas
 pub mod DenialLemmas
 mod LayoutDenials
 mod LayoutLemmas
+mod KeepingLemmas

@@ -2,11 +2,12 @@
 use Rattle.std.specs.Prelude.{◌≡◌, ℕ, Bool, true, false, List, [], ◌∷◌, ◌++◌, Result, Ok, Err}
 use Rattle.mpw_rbac.specs.declared.refusal.PolicyFault.{PolicyFault}
 use Rattle.mpw_rbac.specs.declared.refusal.PolicyFault.TheVariants.{Refused, Memory}
+use Rattle.mpw_rbac.specs.Policy.{Policy}
 use Rattle.mpw_hier.specs.declared.fault.HierFault.{HierFault}
 use Rattle.mpw_hier.specs.declared.fault.HierFault.TheVariants as hier
 use Rattle.mpw_hier.specs.declared.submission.Submission.{Submission}
-use Rattle.mpw_core.specs.declared.answer.Change.{Change}
-use Rattle.mpw_core.specs.declared.answer.Change.TheVariants.{Nothing, NextPolicy, NextShelf}
+use Rattle.mpw_core.specs.declared.answer.Next.{Next}
+use Rattle.mpw_core.specs.declared.answer.Next.TheVariants.{Nothing, NextPolicy, NextShelf}
 use Rattle.mpw_core.specs.declared.answer.Fault.{Fault}
 use Rattle.mpw_core.specs.declared.answer.Fault.TheVariants as fault
 use Rattle.mpw_core.specs.declared.reply.Code.TheVariants as code
@@ -15,20 +16,31 @@ use Rattle.mpw_core.specs.declared.reply.Reply.TheVariants as reply
 use Rattle.mpw_core.specs.Step.{State, Outcome, told}
 
 -- the refusal is told, and nothing changes; want of memory gives no answer
-abbrev pub IsRefusal : PolicyFault → Reply → Change → Type 0
-IsRefusal (Refused refusal) reply change = (reply ≡ told refusal) × (change ≡ Nothing)
-IsRefusal Memory reply change = ⊥
+abbrev pub IsRefusal : PolicyFault → Reply → Next → Type 0
+IsRefusal (Refused refusal) reply next = (reply ≡ told refusal) × (next ≡ Nothing)
+IsRefusal Memory reply next = ⊥
 
 -- the state after an answer
-abbrev pub state_with : State → Change → State
+abbrev pub state_with : State → Next → State
 state_with state Nothing = state
 state_with state (NextPolicy policy) = record state { policy = policy }
 state_with state (NextShelf shelf) = record state { shelf = shelf }
 
--- the answer gives the outcome: its reply, and its state
-pub record Gives (state : State) (outcome : Outcome) (reply : Reply) (change : Change) : Type 0 where
+-- whether something moves in
+abbrev pub is_change : Next → Bool
+is_change Nothing = false
+is_change (NextPolicy policy) = true
+is_change (NextShelf shelf) = true
+
+-- the answer gives the outcome: its reply, its state, and whether that is a change
+pub record Gives (state : State) (outcome : Outcome) (reply : Reply) (next : Next) : Type 0 where
   pub told : reply ≡ outcome.reply
-  pub left : state_with state change ≡ outcome.state
+  pub left : state_with state next ≡ outcome.state
+  pub changes : is_change next ≡ outcome.changes
+
+-- the state of a desk that isn't closed
+abbrev pub open_state : Policy → List Submission → State
+open_state policy shelf = record { policy = policy; shelf = shelf; closed = false }
 
 -- what a function of a row answers: its value, seen by view, or the reply that ends the row, or want of memory
 abbrev pub Told : {B : Type 0} → Fault → Result B Reply → Type 0

@@ -1,5 +1,6 @@
 pub mod Answer
 pub mod History
+pub mod Keeping
 pub mod Layouts
 pub mod PolicyRows
 pub mod Step

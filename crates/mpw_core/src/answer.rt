@@ -3,12 +3,12 @@ ghost use Rattle.std.specs.Prelude.{◌≡◌, IfOk, IfErr, OnOk, Ok, [], ◌∷
 ghost use Rattle.std.specs.Option.{unwrap_or};
 ghost use Rattle.std.specs.Prelude.{List, Result, length};
 ghost use Rattle.mpw_rbac.specs.Policy.{Policy as PolicyState};
-ghost use Rattle.mpw_rbac.specs.Rows.{IsFaultOf, end_session};
+ghost use Rattle.mpw_rbac.specs.Rows.{IsFaultOf};
 ghost use Rattle.mpw_rbac.specs.declared.refusal.Refusal.{Refusal as PolicyRefusal};
 ghost use Rattle.mpw_hier.specs.declared.submission.Submission.{Submission};
-ghost use Rattle.mpw_core.specs.Answer.{IsRefusal, Gives, Told, Answers, IsShelved};
+ghost use Rattle.mpw_core.specs.Answer.{IsRefusal, Gives, Told, Answers, IsShelved, open_state};
 ghost use Rattle.mpw_core.specs.PolicyRows.{row_of};
-ghost use Rattle.mpw_core.specs.Step.{State, told, changed, asked, shelved, listed, layout_outcome, step, outcome_of, identity_lines};
+ghost use Rattle.mpw_core.specs.Step.{State, told, changed, asked, shelved, listed, layout_outcome, wanted, parted, outcome_of, identity_lines};
 ghost use Rattle.mpw_rbac.specs.Rows as rows;
 ghost use Rattle.mpw_core.specs.declared.answer.Fault.TheVariants.{Memory};
 ghost use Rattle.mpw_core.specs.declared.reply.Reply.{Reply as ReplyTold};
@@ -22,9 +22,9 @@ use mpw_hier::Shelf;
 use mpw_rbac::{Identity, Policy, PolicyFault, Refusal};
 use std::alloc::{AllocError, Global};
 
-/// What an event changes.
+/// What moves in where an event is answered.
 #[derive(Drop)]
-pub(crate) enum Change {
+pub(crate) enum Next {
     Nothing,
     NextPolicy(Policy),
     NextShelf(Shelf),
@@ -34,7 +34,7 @@ pub(crate) enum Change {
 #[derive(Drop)]
 pub(crate) struct Answer {
     pub(crate) reply: Reply,
-    pub(crate) change: Change,
+    pub(crate) next: Next,
 }
 
 /// Why a row gives no value.
@@ -77,12 +77,12 @@ fn told(refusal: Refusal) -> Reply
 
 /// A fault of the policy as an answer that changes nothing, or as want of memory.
 fn refused(fault: PolicyFault) -> Result<Answer, AllocError>
-    ensures { IfOk result (λ answer. IsRefusal fault answer.reply answer.change) }
+    ensures { IfOk result (λ answer. IsRefusal fault answer.reply answer.next) }
 {
     match fault {
         PolicyFault::Refused(refusal) => Ok(Answer {
             reply: told(refusal),
-            change: Change::Nothing,
+            next: Next::Nothing,
         }),
         PolicyFault::Memory => Err(AllocError),
     }
@@ -90,12 +90,12 @@ fn refused(fault: PolicyFault) -> Result<Answer, AllocError>
 
 /// The answer of a changed copy of the policy.
 fn changed(next: Policy, made: Result<(), PolicyFault>) -> Result<Answer, AllocError>
-    ensures { (state : State) (row : Result PolicyState PolicyRefusal) → OnOk made (row ≡ Ok next) → IfErr made (IsFaultOf row) → IfOk result (λ answer. Gives state (changed state row) answer.reply answer.change) }
+    ensures { (state : State) (row : Result PolicyState PolicyRefusal) → OnOk made (row ≡ Ok next) → IfErr made (IsFaultOf row) → IfOk result (λ answer. Gives state (changed state row) answer.reply answer.next) }
 {
     match made {
         Ok(()) => Ok(Answer {
             reply: Reply::Ok(Lines::none()),
-            change: Change::NextPolicy(next),
+            next: Next::NextPolicy(next),
         }),
         Err(fault) => refused(fault),
     }
@@ -118,12 +118,12 @@ fn identity_lines(alloc: Global, identity: Identity) -> Result<Lines, AllocError
 
 /// Answers `whoami`.
 fn whoami(alloc: Global, policy: &Policy, conn: u32) -> Result<Answer, AllocError>
-    ensures { (state : State) → state.policy ≡ policy.now → IfOk result (λ answer. Gives state (asked state identity_lines (rows.whoami policy.now conn)) answer.reply answer.change) }
+    ensures { (state : State) → state.policy ≡ policy.now → IfOk result (λ answer. Gives state (asked state identity_lines (rows.whoami policy.now conn)) answer.reply answer.next) }
 {
     match policy.whoami(conn) {
         Ok(identity) => Ok(Answer {
             reply: Reply::Ok(identity_lines(alloc, identity)?),
-            change: Change::Nothing,
+            next: Next::Nothing,
         }),
         Err(fault) => refused(fault),
     }
@@ -131,7 +131,7 @@ fn whoami(alloc: Global, policy: &Policy, conn: u32) -> Result<Answer, AllocErro
 
 /// Answers a request of the policy on a copy of it.
 fn revised(policy: &Policy, conn: u32, request: &PolicyRequest) -> Result<Answer, AllocError>
-    ensures { (state : State) → state.policy ≡ policy.now → IfOk result (λ answer. Gives state (changed state (row_of policy.now conn request.now)) answer.reply answer.change) }
+    ensures { (state : State) → state.policy ≡ policy.now → IfOk result (λ answer. Gives state (changed state (row_of policy.now conn request.now)) answer.reply answer.next) }
 {
     let mut next = policy.copy()?;
     let made = make(&mut next, conn, request);
@@ -146,7 +146,7 @@ fn layout(
     conn: u32,
     request: &LayoutRequest,
 ) -> Result<Answer, AllocError>
-    ensures { IfOk result (λ answer. Gives (record { policy = policy.now; shelf = shelf.now }) (layout_outcome (record { policy = policy.now; shelf = shelf.now }) conn request.now) answer.reply answer.change) }
+    ensures { IfOk result (λ answer. Gives (open_state policy.now shelf.now) (layout_outcome (open_state policy.now shelf.now) conn request.now) answer.reply answer.next) }
 {
     match request {
         LayoutRequest::Submit { cell, top, text } => {
@@ -164,7 +164,7 @@ fn ask(
     conn: u32,
     request: &Request,
 ) -> Result<Answer, AllocError>
-    ensures { IfOk result (λ answer. Gives (record { policy = policy.now; shelf = shelf.now }) (outcome_of (record { policy = policy.now; shelf = shelf.now }) conn request.now) answer.reply answer.change) }
+    ensures { IfOk result (λ answer. Gives (open_state policy.now shelf.now) (outcome_of (open_state policy.now shelf.now) conn request.now) answer.reply answer.next) }
 {
     match request {
         Request::Policy(request) => revised(policy, conn, request),
@@ -184,13 +184,13 @@ fn version_line(alloc: Global, version: u32) -> Result<Lines, AllocError>
 
 /// The answer to what submits.
 fn submission(alloc: Global, made: Result<Shelved, Fault>) -> Result<Answer, AllocError>
-    ensures { (state : State) (row : Result Submission ReplyTold) → IfOk made (λ next. IsShelved state.shelf row next.shelf next.version) → IfErr made (λ fault. Told fault row) → IfOk result (λ answer. Gives state (shelved state row) answer.reply answer.change) }
+    ensures { (state : State) (row : Result Submission ReplyTold) → IfOk made (λ next. IsShelved state.shelf row next.shelf next.version) → IfErr made (λ fault. Told fault row) → IfOk result (λ answer. Gives state (shelved state row) answer.reply answer.next) }
 {
     match made {
         Ok(next) => {
             Ok(Answer {
                 reply: Reply::Ok(version_line(alloc, next.version)?),
-                change: Change::NextShelf(next.shelf),
+                next: Next::NextShelf(next.shelf),
             })
         }
         Err(fault) => told_fault(fault),
@@ -199,12 +199,12 @@ fn submission(alloc: Global, made: Result<Shelved, Fault>) -> Result<Answer, All
 
 /// The answer to what lists.
 fn listing(made: Result<Lines, Fault>) -> Result<Answer, AllocError>
-    ensures { (state : State) (row : Result (List LineTold) ReplyTold) → Answers (λ lines. lines) made row → IfOk result (λ answer. Gives state (listed state row) answer.reply answer.change) }
+    ensures { (state : State) (row : Result (List LineTold) ReplyTold) → Answers (λ lines. lines) made row → IfOk result (λ answer. Gives state (listed state row) answer.reply answer.next) }
 {
     match made {
         Ok(lines) => Ok(Answer {
             reply: Reply::Ok(lines),
-            change: Change::Nothing,
+            next: Next::Nothing,
         }),
         Err(fault) => told_fault(fault),
     }
@@ -212,12 +212,12 @@ fn listing(made: Result<Lines, Fault>) -> Result<Answer, AllocError>
 
 /// A reply that ends a row changes nothing; want of memory gives no answer.
 fn told_fault(fault: Fault) -> Result<Answer, AllocError>
-    ensures { IfOk result (λ answer. (fault ≡ Fault.Told answer.reply) × (answer.change ≡ Change.Nothing)) }
+    ensures { IfOk result (λ answer. (fault ≡ Fault.Told answer.reply) × (answer.next ≡ Next.Nothing)) }
 {
     match fault {
         Fault::Told(reply) => Ok(Answer {
             reply,
-            change: Change::Nothing,
+            next: Next::Nothing,
         }),
         Fault::Memory => Err(AllocError),
     }
@@ -225,19 +225,19 @@ fn told_fault(fault: Fault) -> Result<Answer, AllocError>
 
 /// Answers a connection's end. Where the connection has no session there is nothing to change, and nothing is copied.
 fn gone(policy: &Policy, conn: u32) -> Result<Answer, AllocError>
-    ensures { (state : State) → state.policy ≡ policy.now → IfOk result (λ answer. Gives state (record { reply = Reply.Gone; state = record state { policy = end_session policy.now conn } }) answer.reply answer.change) }
+    ensures { (state : State) → state.policy ≡ policy.now → IfOk result (λ answer. Gives state (parted state conn) answer.reply answer.next) }
 {
     if !policy.has_session(conn) {
         return Ok(Answer {
             reply: Reply::Gone,
-            change: Change::Nothing,
+            next: Next::Nothing,
         });
     }
     let mut next = policy.copy()?;
     next.end(conn);
     Ok(Answer {
         reply: Reply::Gone,
-        change: Change::NextPolicy(next),
+        next: Next::NextPolicy(next),
     })
 }
 
@@ -246,14 +246,14 @@ fn gone(policy: &Policy, conn: u32) -> Result<Answer, AllocError>
 ///
 /// # Errors
 /// Where there is no room for it.
-#[tactic(auto, unfolding(crate::specs::Step::step))]
+#[tactic(auto, unfolding(crate::specs::Step::wanted))]
 pub(crate) fn prepare(
     alloc: Global,
     policy: &Policy,
     shelf: &Shelf,
     event: &Event,
 ) -> Result<Answer, AllocError>
-    ensures { IfOk result (λ answer. Gives (record { policy = policy.now; shelf = shelf.now }) (step (record { policy = policy.now; shelf = shelf.now }) event.now) answer.reply answer.change) }
+    ensures { IfOk result (λ answer. Gives (open_state policy.now shelf.now) (wanted (open_state policy.now shelf.now) event.now) answer.reply answer.next) }
 {
     match event {
         Event::Ask { conn, request } => ask(alloc, policy, shelf, *conn, request.get()),

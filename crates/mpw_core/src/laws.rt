@@ -1,17 +1,18 @@
 //! Laws of the definitions alone. Each function has an empty body: its contract is the law.
-ghost use Rattle.std.specs.Prelude.{◌≡◌, ℕ, List, true, false, None};
+ghost use Rattle.std.specs.Prelude.{◌≡◌, ◌≢◌, ℕ, Bool, List, true, false, None};
 ghost use Rattle.mpw_geom.specs.Names.{contains_name};
 ghost use Rattle.mpw_rbac.specs.Policy.{authorized, is_user, permits, session_of};
 ghost use Rattle.mpw_rbac.specs.Rows.{is_login, user_of};
 ghost use Rattle.mpw_rbac.specs.Sound.{active_authorized, Sound};
 ghost use Rattle.mpw_core.specs.History.{state_after};
-ghost use Rattle.mpw_core.specs.Step.{State, new_state, outcome_of, reply_of, after};
+ghost use Rattle.mpw_core.specs.Step.{State, new_state, outcome_of, wanted, unkept, left, step, reply_of, after};
 ghost use Rattle.mpw_core.specs.declared.event.Event.{Event};
 ghost use Rattle.mpw_core.specs.declared.event.Event.TheVariants as event;
 ghost use Rattle.mpw_core.specs.declared.event.Request.{Request as AnyRequest};
 ghost use Rattle.mpw_core.specs.declared.event.Request.TheVariants as ask;
 ghost use Rattle.mpw_core.specs.declared.policy.PolicyRequest.TheVariants as Request;
 ghost use Rattle.mpw_core.specs.declared.reply.Code.{Code};
+ghost use Rattle.mpw_core.specs.declared.reply.Code.TheVariants as code;
 ghost use Rattle.mpw_core.specs.declared.reply.Denial.{Denial};
 ghost use Rattle.mpw_core.specs.declared.reply.Denial.TheVariants as denial;
 ghost use Rattle.mpw_core.specs.declared.reply.Reply.TheVariants as Reply;
@@ -36,15 +37,21 @@ pub fn unknown_users_are_denied_like_wrong_tokens()
     ensures wrong { (state : State) (conn : ℕ) (user digest : List ℕ) → session_of state.policy conn ≡ None → is_login state.policy user digest ≡ false → (outcome_of state conn (ask.Policy (Request.Open user digest))).reply ≡ Reply.Denied denial.Login }
 {}
 
-/// A denial or a refusal leaves the state as it was.
+/// A denial leaves the state as it was, and so does a refusal unless it tells that the change could not be kept.
 pub fn denials_and_refusals_change_nothing()
-    ensures denied { (state : State) (event : Event) (why : Denial) → reply_of state event ≡ Reply.Denied why → after state event ≡ state }
-    ensures refused { (state : State) (event : Event) (why : Code) → reply_of state event ≡ Reply.Refused why → after state event ≡ state }
+    ensures denied { (state : State) (event : Event) (kept : Bool) (why : Denial) → reply_of state event kept ≡ Reply.Denied why → after state event kept ≡ state }
+    ensures refused { (state : State) (event : Event) (kept : Bool) (why : Code) → why ≢ code.Store → reply_of state event kept ≡ Reply.Refused why → after state event kept ≡ state }
+{}
+
+/// A change that is kept counts as it was wanted; one that could not be kept closes the desk and changes nothing else.
+pub fn changes_count_once_they_are_kept()
+    ensures kept { (state : State) (event : Event) → step state event true ≡ wanted state event }
+    ensures unkept { (state : State) (event : Event) → (wanted state event).changes ≡ true → step state event false ≡ left (unkept event) (record state { closed = true }) }
 {}
 
 /// A denial of a permission, whatever the request, names one that the connection's session lacks. A denial of an
 /// activation names the role that was asked for, and the session's user is not authorized for it.
 pub fn denials_name_what_the_session_lacks()
-    ensures permission { (state : State) (conn : ℕ) (request : AnyRequest) (operation : Operation) (object : Object) → reply_of state (event.Ask conn request) ≡ Reply.Denied (denial.Permission operation object) → permits state.policy conn operation object ≡ false }
-    ensures activation { (state : State) (conn : ℕ) (role other : List ℕ) → reply_of state (event.Ask conn (ask.Policy (Request.Activate role))) ≡ Reply.Denied (denial.Activation other) → (other ≡ role) × (contains_name (authorized state.policy (user_of state.policy conn)) role ≡ false) }
+    ensures permission { (state : State) (conn : ℕ) (request : AnyRequest) (kept : Bool) (operation : Operation) (object : Object) → reply_of state (event.Ask conn request) kept ≡ Reply.Denied (denial.Permission operation object) → permits state.policy conn operation object ≡ false }
+    ensures activation { (state : State) (conn : ℕ) (role other : List ℕ) (kept : Bool) → reply_of state (event.Ask conn (ask.Policy (Request.Activate role))) kept ≡ Reply.Denied (denial.Activation other) → (other ≡ role) × (contains_name (authorized state.policy (user_of state.policy conn)) role ≡ false) }
 {}

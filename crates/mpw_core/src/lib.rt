@@ -9,6 +9,7 @@
 mod answer;
 mod desk;
 mod event;
+mod keeper;
 mod laws;
 mod layouts;
 mod policy;
@@ -16,8 +17,9 @@ mod reply;
 
 pub use desk::{Core, MAX_EVENTS, replay};
 pub use event::{Call, Event, Request, SharedRequest};
+pub use keeper::{Change, Keeper, KeptChange, NoKeeper, NotKept};
 pub use laws::{
-    denials_and_refusals_change_nothing, denials_name_what_the_session_lacks,
+    changes_count_once_they_are_kept, denials_and_refusals_change_nothing, denials_name_what_the_session_lacks,
     every_state_keeps_authorization, every_state_keeps_separation,
     unknown_users_are_denied_like_wrong_tokens,
 };

@@ -1,8 +1,9 @@
 use Rattle.std.proofs.Common.{refl}
+use Rattle.mpw_core.specs.Answer.{open_state}
 use Rattle.mpw_core.specs.Step.{State}
 use Rattle.mpw_core.proofs.answer.ask.Goals as goal
 
 pub returns-in-Whoami : goal.returns-in-Whoami
 returns-in-Whoami c =
-    let state : State = record { policy = c.args.policy.now; shelf = c.args.shelf.now } in
+    let state : State = open_state c.args.policy.now c.args.shelf.now in
     rw c.in-Whoami.is (c.whoami.ensures state refl)

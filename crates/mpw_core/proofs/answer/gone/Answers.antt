@@ -1,12 +1,17 @@
 -- Without a session the policy is what it would be after its end.
-use Rattle.std.proofs.Common.{◌≡◌, ◌∙◌, sym, ap, refl}
-use Rattle.mpw_rbac.specs.Policy.{Policy}
+use Rattle.std.proofs.Common.{◌≡◌, ◌∙◌, Bool, false, sym, ap, refl}
+use Rattle.std.specs.Prelude.{is_some}
+use Rattle.mpw_rbac.specs.Policy.{Policy, session_of}
 use Rattle.mpw_rbac.proofs.RowLemmas.{end-absent}
 use Rattle.mpw_core.specs.Step.{State}
 use Rattle.mpw_core.proofs.answer.gone.Goals as goal
 
 pub returns-then-not-has_session : goal.returns-then-not-has_session
-returns-then-not-has_session c = λ state same. record {
-  told = refl;
-  left = ap (λ (p : Policy). record state { policy = p }) (same ∙ sym (end-absent c.args.policy.now c.args.conn (sym c.has_session.ensures ∙ c.if-not-has_session.true)));
-}
+returns-then-not-has_session c = λ state same.
+    let none : is_some (session_of c.args.policy.now c.args.conn) ≡ false = sym c.has_session.ensures ∙ c.if-not-has_session.true in
+    let absent : is_some (session_of state.policy c.args.conn) ≡ false = ap (λ (p : Policy). is_some (session_of p c.args.conn)) same ∙ none in
+    record {
+      told = refl;
+      left = ap (λ (p : Policy). record state { policy = p }) (sym (end-absent state.policy c.args.conn absent));
+      changes = sym absent;
+    }
