@@ -6,7 +6,7 @@ ghost use Rattle.mpw_wire.specs.Serving.{write_failures};
 ghost use Rattle.mpw_wire.specs.Writing.{fault_of};
 
 use crate::settings::Settings;
-use mpw_core::Core;
+use mpw_core::{Core, NoKeeper};
 use mpw_wire::{End, Sink, Source, WireFault, serve_core};
 use std::alloc::Global;
 
@@ -29,5 +29,5 @@ pub fn serve_script<R: Source, W: Sink>(
 {
     let Settings::Script { officer, digest } = settings;
     let mut core = Core::new(alloc, officer, digest)?;
-    serve_core(alloc, &mut core, CONNECTION, reader, writer)
+    serve_core(alloc, &mut core, &mut NoKeeper, CONNECTION, reader, writer)
 }

@@ -2,7 +2,7 @@
 use Rattle.std.proofs.Common.{◌≡◌, refl}
 use Rattle.mpw_records.specs.declared.fault.ReadFault.{ReadFault}
 use Rattle.mpw_core.specs.declared.reply.Code.{Code}
-use Rattle.mpw_core.specs.declared.reply.Code.TheVariants.{Read, NoTop, Cycle, NoCell, Extent, Shapes, Deep, Full, Opened, Unknown, Known, Used, Loop, Ended}
+use Rattle.mpw_core.specs.declared.reply.Code.TheVariants.{Read, NoTop, Cycle, NoCell, Extent, Shapes, Deep, Full, Opened, Unknown, Known, Used, Loop, Ended, Store, Closed}
 use Rattle.mpw_wire.specs.Reply.{code_text, refused_text, refusal_line}
 
 -- that of any but a text's fault has no offset
@@ -21,3 +21,5 @@ refused_alone Known other = refl
 refused_alone Used other = refl
 refused_alone Loop other = refl
 refused_alone Ended other = refl
+refused_alone Store other = refl
+refused_alone Closed other = refl

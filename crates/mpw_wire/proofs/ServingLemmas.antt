@@ -4,7 +4,7 @@ use Rattle.std.specs.Prelude.{⊤}
 use Rattle.std.specs.List.{flat_map}
 use Rattle.std.proofs.KnownBytes.{Appends-trans, Appends-nil}
 use Rattle.std.specs.Io.KnownBytes.{Appends}
-use Rattle.mpw_core.specs.History.{Desk}
+use Rattle.mpw_core.specs.History.{KeptDesk}
 use Rattle.mpw_wire.specs.declared.fault.WireFault.{WireFault}
 use Rattle.mpw_wire.specs.declared.fault.WireFault.TheVariants.{Read, Write, Memory}
 use Rattle.mpw_wire.specs.declared.serve.End.{End}
@@ -17,7 +17,7 @@ flat_map-push f [] turn = append-nil (f turn)
 flat_map-push f (t ∷ turns) turn = ap (λ l. f t ++ l) (flat_map-push f turns turn) ∙ sym (append_assoc (f t) (flat_map f turns) (f turn))
 
 -- a line whose text was written, or at which the sink failed
-pub serves_turn : (conn : ℕ) (input input' output output' : Option (List ℕ)) (desk desk' : Desk) (failed failed' : ℕ) (t : Turn) (written : Result ⊤ WireFault) (result : Result (Option End) WireFault)
+pub serves_turn : (conn : ℕ) (input input' output output' : Option (List ℕ)) (desk desk' : KeptDesk) (failed failed' : ℕ) (t : Turn) (written : Result ⊤ WireFault) (result : Result (Option End) WireFault)
     → result ≡ told None written → IsTurn conn input desk t input' desk' → WritesKnown output output' failed failed' (fault_of written) (turn_text t)
     → ServesLine conn input input' output output' desk desk' result
 serves_turn conn input input' output output' desk desk' failed failed' t (Ok u) result e h w =
@@ -28,7 +28,7 @@ serves_turn conn input input' output output' desk desk' failed failed' t (Err Wr
 serves_turn conn input input' output output' desk desk' failed failed' t (Err Memory) result e h w = absurd w
 
 -- the end of the connection whose text was written, or at which the sink failed
-pub serves_stop : (conn : ℕ) (input input' output output' : Option (List ℕ)) (desk : Desk) (failed failed' : ℕ) (s : Stop) (end : End) (written : Result ⊤ WireFault) (result : Result (Option End) WireFault)
+pub serves_stop : (conn : ℕ) (input input' output output' : Option (List ℕ)) (desk : KeptDesk) (failed failed' : ℕ) (s : Stop) (end : End) (written : Result ⊤ WireFault) (result : Result (Option End) WireFault)
     → result ≡ told (Some end) written → IsStop conn 0 input desk s input' desk → end_of s ≡ Some end → HasText s → WritesKnown output output' failed failed' (fault_of written) (stop_text s)
     → ServesLine conn input input' output output' desk desk result
 serves_stop conn input input' output output' desk failed failed' s end (Ok u) result e h is has w =
@@ -47,17 +47,17 @@ TellsLast (Err f) (Ok e) = ⊥
 TellsLast (Err f) (Err f') = f' ≡ f
 
 -- the connection so far, after some lines that were answered
-pub record Progress (conn : ℕ) (input input' output output' : Option (List ℕ)) (desk desk' : Desk) (count : ℕ) : Type 0 where
+pub record Progress (conn : ℕ) (input input' output output' : Option (List ℕ)) (desk desk' : KeptDesk) (count : ℕ) : Type 0 where
   pub turns : List Turn
   pub answered : IsTrace conn input desk turns input' desk'
   pub counted : length turns ≡ count
   pub written : Appends output output' (flat_map turn_text turns)
 
-pub start : (conn : ℕ) (input output : Option (List ℕ)) (desk : Desk) → Progress conn input input output output desk desk 0
+pub start : (conn : ℕ) (input output : Option (List ℕ)) (desk : KeptDesk) → Progress conn input input output output desk desk 0
 start conn input output desk = record { turns = []; answered = IsTrace.none; counted = refl; written = Appends-nil output }
 
 -- a line was answered, and the connection goes on
-pub advance : (conn : ℕ) (input mid input' output between output' : Option (List ℕ)) (desk middle desk' : Desk) (count : ℕ)
+pub advance : (conn : ℕ) (input mid input' output between output' : Option (List ℕ)) (desk middle desk' : KeptDesk) (count : ℕ)
     → Progress conn input mid output between desk middle count → (result : Result (Option End) WireFault) → result ≡ Ok None
     → ServesLine conn mid input' between output' middle desk' result
     → Progress conn input input' output output' desk desk' (count + 1)
@@ -73,7 +73,7 @@ advance conn input mid input' output between output' desk middle desk' count p r
     }
 
 -- what ended the connection on its first line ends it on a later one
-stop_at : (conn lines : ℕ) (input input' : Option (List ℕ)) (desk desk' : Desk) (s : Stop) → lines < max_lines → IsStop conn 0 input desk s input' desk' → IsStop conn lines input desk s input' desk'
+stop_at : (conn lines : ℕ) (input input' : Option (List ℕ)) (desk desk' : KeptDesk) (s : Stop) → lines < max_lines → IsStop conn 0 input desk s input' desk' → IsStop conn lines input desk s input' desk'
 stop_at conn lines input input' desk desk' Stop.closed lt h = (lt, h.1, h.2)
 stop_at conn lines input input' desk desk' Stop.long lt h = (lt, h.1, h.2)
 stop_at conn lines input input' desk desk' Stop.cut lt h = (lt, h.1, h.2)
@@ -90,7 +90,7 @@ written_after output mid output' (Some Write) before last p (front, rest, e, q) 
 written_after output mid output' (Some Memory) before last p w = absurd w
 
 -- the last line of the connection, or the one at which a device failed
-pub finish : (conn : ℕ) (input mid input' output between output' : Option (List ℕ)) (desk middle desk' : Desk) (count : ℕ)
+pub finish : (conn : ℕ) (input mid input' output between output' : Option (List ℕ)) (desk middle desk' : KeptDesk) (count : ℕ)
     → Progress conn input mid output between desk middle count → count < max_lines
     → (result : Result (Option End) WireFault) (told : Result End WireFault) → TellsLast result told
     → ServesLine conn mid input' between output' middle desk' result
@@ -120,7 +120,7 @@ finish conn input mid input' output between output' desk middle desk' count p lt
 })
 
 -- as many lines as one connection may have were answered
-pub spent : (conn : ℕ) (input input' output output' : Option (List ℕ)) (desk desk' : Desk) (count : ℕ)
+pub spent : (conn : ℕ) (input input' output output' : Option (List ℕ)) (desk desk' : KeptDesk) (count : ℕ)
     → Progress conn input input' output output' desk desk' count → count ≡ max_lines
     → ServesLines conn input input' output output' desk desk' (Ok end.Spent)
 spent conn input input' output output' desk desk' count p e = record {

@@ -16,7 +16,7 @@ use Rattle.mpw_records.specs.declared.fault.Code.TheVariants as fault
 use Rattle.mpw_core.specs.declared.reply.Denial.{Denial}
 use Rattle.mpw_core.specs.declared.reply.Denial.TheVariants.{Session, Login, Permission, Activation, Ssd, Dsd}
 use Rattle.mpw_core.specs.declared.reply.Code.{Code}
-use Rattle.mpw_core.specs.declared.reply.Code.TheVariants.{Read, NoTop, Cycle, NoCell, Extent, Shapes, Deep, Full, Opened, Unknown, Known, Used, Loop, Ended}
+use Rattle.mpw_core.specs.declared.reply.Code.TheVariants.{Read, NoTop, Cycle, NoCell, Extent, Shapes, Deep, Full, Opened, Unknown, Known, Used, Loop, Ended, Store, Closed}
 use Rattle.mpw_core.specs.declared.reply.Reply.{Reply}
 use Rattle.mpw_wire.specs.declared.reply.Refusal.{Refusal}
 use Rattle.mpw_wire.specs.declared.reply.Refusal.TheVariants as refusal
@@ -119,6 +119,8 @@ code_text Known = codes "33 known"
 code_text Used = codes "35 used"
 code_text Loop = codes "36 loop"
 code_text Ended = codes "46 ended"
+code_text Store = codes "60 store"
+code_text Closed = codes "61 closed"
 
 -- the line of a text's fault, with the offset of its record
 abbrev pub fault_line : ReadFault → List ℕ
@@ -143,6 +145,8 @@ refused_text Known = refusal_line (code_text Known)
 refused_text Used = refusal_line (code_text Used)
 refused_text Loop = refusal_line (code_text Loop)
 refused_text Ended = refusal_line (code_text Ended)
+refused_text Store = refusal_line (code_text Store)
+refused_text Closed = refusal_line (code_text Closed)
 
 -- the number and the word of what is refused before the desk is asked
 unfoldable pub refusal_words : Refusal → List ℕ

@@ -6,7 +6,7 @@ use Rattle.std.specs.Io.Iter.{u64_saturate}
 use Rattle.mpw_core.specs.declared.event.Request.{Request}
 use Rattle.mpw_core.specs.declared.event.Event.TheVariants as event
 use Rattle.mpw_core.specs.declared.reply.Reply.{Reply}
-use Rattle.mpw_core.specs.History.{Desk, handled}
+use Rattle.mpw_core.specs.History.{KeptDesk, IsHandled}
 use Rattle.mpw_wire.specs.declared.fault.WireFault.{WireFault}
 use Rattle.mpw_wire.specs.declared.fault.WireFault.TheVariants.{Read, Write, Memory}
 use Rattle.mpw_wire.specs.declared.serve.End.{End}
@@ -57,21 +57,21 @@ stop_text unreadable = []
 stop_text spent = []
 stop_text (unwritten turn) = turn_text turn
 
--- the desk's reply is its own, and the desk goes on with it; want of memory leaves the desk
-abbrev pub IsAnswer : ℕ → Request → Desk → Answer → Desk → Type 0
-IsAnswer conn request desk (replied reply) desk' = record { reply = reply; desk = desk' } ≡ handled desk (event.Ask conn request)
+-- the desk's reply is its own, and the desk goes on with it, its keeper too; want of memory leaves both
+abbrev pub IsAnswer : ℕ → Request → KeptDesk → Answer → KeptDesk → Type 0
+IsAnswer conn request desk (replied reply) desk' = IsHandled desk (event.Ask conn request) reply desk'
 IsAnswer conn request desk starved desk' = desk' ≡ desk
 
 -- the text is taken off the input, and it gets what it asks; a line that is no request's text leaves the desk
-abbrev pub IsTurn : ℕ → Option (List ℕ) → Desk → Turn → Option (List ℕ) → Desk → Type 0
+abbrev pub IsTurn : ℕ → Option (List ℕ) → KeptDesk → Turn → Option (List ℕ) → KeptDesk → Type 0
 IsTurn conn input desk (asked line request answer) input' desk' =
     IsText input input' line request × IsAnswer conn request desk answer desk'
 IsTurn conn input desk (malformed line) input' desk' = TakesLine input input' line × (ask_of line ≡ ask.Form) × (desk' ≡ desk)
 
 -- the lines were answered one after the other
-pub data IsTrace (conn : ℕ) (input : Option (List ℕ)) (desk : Desk) : List Turn → Option (List ℕ) → Desk → Type 0 where
+pub data IsTrace (conn : ℕ) (input : Option (List ℕ)) (desk : KeptDesk) : List Turn → Option (List ℕ) → KeptDesk → Type 0 where
   none : IsTrace conn input desk [] input desk
-  then : (turns : List Turn) (turn : Turn) (input' input'' : Option (List ℕ)) (desk' desk'' : Desk)
+  then : (turns : List Turn) (turn : Turn) (input' input'' : Option (List ℕ)) (desk' desk'' : KeptDesk)
       → IsTrace conn input desk turns input' desk' → IsTurn conn input' desk' turn input'' desk'' → IsTrace conn input desk (turns ++ turn ∷ []) input'' desk''
 
 -- the greatest number of lines of one connection
@@ -79,7 +79,7 @@ abbrev pub max_lines : ℕ
 max_lines = 4096
 
 -- what ended the connection did so, after that many lines
-abbrev pub IsStop : ℕ → ℕ → Option (List ℕ) → Desk → Stop → Option (List ℕ) → Desk → Type 0
+abbrev pub IsStop : ℕ → ℕ → Option (List ℕ) → KeptDesk → Stop → Option (List ℕ) → KeptDesk → Type 0
 IsStop conn lines input desk closed input' desk' = (lines < max_lines) × TakesNothing input input' × (desk' ≡ desk)
 IsStop conn lines input desk long input' desk' = (lines < max_lines) × TakesTooLong input input' × (desk' ≡ desk)
 IsStop conn lines input desk cut input' desk' = (lines < max_lines) × TakesCut input input' × (desk' ≡ desk)
@@ -130,10 +130,10 @@ write_failures (Some Write) failures = u64_saturate (failures + 1)
 write_failures (Some Memory) failures = failures
 
 -- the lines of a connection: those that were answered, what ended it, and the text of all that
-pub record ServesLines (conn : ℕ) (input input' output output' : Option (List ℕ)) (desk desk' : Desk) (result : Result End WireFault) : Type 0 where
+pub record ServesLines (conn : ℕ) (input input' output output' : Option (List ℕ)) (desk desk' : KeptDesk) (result : Result End WireFault) : Type 0 where
   pub turns : List Turn
   pub left : Option (List ℕ)
-  pub reached : Desk
+  pub reached : KeptDesk
   pub stop : Stop
   pub answered : IsTrace conn input desk turns left reached
   pub stopped : IsStop conn (length turns) left reached stop input' desk'
@@ -141,13 +141,13 @@ pub record ServesLines (conn : ℕ) (input input' output output' : Option (List 
   pub written : Written output output' (fault_of result) (flat_map turn_text turns) (stop_text stop)
 
 -- the end of the connection is handed to the desk, which leaves it only where memory is wanting
-abbrev pub IsGone : ℕ → Desk → Desk → Type 0
-IsGone conn desk desk' = (desk' ≡ (handled desk (event.Gone conn)).desk) ⊎ (desk' ≡ desk)
+abbrev pub IsGone : ℕ → KeptDesk → KeptDesk → Type 0
+IsGone conn desk desk' = ((reply : Reply) × IsHandled desk (event.Gone conn) reply desk') ⊎ (desk' ≡ desk)
 
 -- a connection: its lines, and its end
-abbrev pub Serves : ℕ → Option (List ℕ) → Option (List ℕ) → Option (List ℕ) → Option (List ℕ) → Desk → Desk → Result End WireFault → Type 0
+abbrev pub Serves : ℕ → Option (List ℕ) → Option (List ℕ) → Option (List ℕ) → Option (List ℕ) → KeptDesk → KeptDesk → Result End WireFault → Type 0
 Serves conn input input' output output' desk desk' result =
-    (reached : Desk) × ServesLines conn input input' output output' desk reached result × IsGone conn reached desk'
+    (reached : KeptDesk) × ServesLines conn input input' output output' desk reached result × IsGone conn reached desk'
 
 -- the end, where what is written for it was written
 abbrev pub told : {A : Type 0} → Option End → Result A WireFault → Result (Option End) WireFault
@@ -155,14 +155,14 @@ told end (Ok answer) = Ok end
 told end (Err fault) = Err fault
 
 -- one line ends the connection
-pub record StopsLine (conn : ℕ) (input input' output output' : Option (List ℕ)) (desk desk' : Desk) (result : Result End WireFault) : Type 0 where
+pub record StopsLine (conn : ℕ) (input input' output output' : Option (List ℕ)) (desk desk' : KeptDesk) (result : Result End WireFault) : Type 0 where
   pub stop : Stop
   pub stopped : IsStop conn 0 input desk stop input' desk'
   pub told : Tells stop result
   pub written : Written output output' (fault_of result) [] (stop_text stop)
 
 -- one line is answered, or it ends the connection
-abbrev pub ServesLine : ℕ → Option (List ℕ) → Option (List ℕ) → Option (List ℕ) → Option (List ℕ) → Desk → Desk → Result (Option End) WireFault → Type 0
+abbrev pub ServesLine : ℕ → Option (List ℕ) → Option (List ℕ) → Option (List ℕ) → Option (List ℕ) → KeptDesk → KeptDesk → Result (Option End) WireFault → Type 0
 ServesLine conn input input' output output' desk desk' (Ok None) =
     (turn : Turn) × IsTurn conn input desk turn input' desk' × Appends output output' (turn_text turn)
 ServesLine conn input input' output output' desk desk' (Ok (Some end)) = StopsLine conn input input' output output' desk desk' (Ok end)

@@ -210,6 +210,8 @@ fn code_words(code: Code) -> &'static str
         Code::Used => "35 used",
         Code::Loop => "36 loop",
         Code::Ended => "46 ended",
+        Code::Store => "60 store",
+        Code::Closed => "61 closed",
     }
 }
 

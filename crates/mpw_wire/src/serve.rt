@@ -1,5 +1,6 @@
 //! Serving a connection: each line gets its reply, in order, until the connection ends.
 ghost use Rattle.std.specs.Prelude.{◌≡◌};
+ghost use Rattle.mpw_core.specs.History.{kept_desk};
 ghost use Rattle.mpw_wire.specs.Reading.{read_failures};
 ghost use Rattle.mpw_wire.specs.Writing.{Writes, fault_of};
 ghost use Rattle.mpw_wire.specs.Serving.{Answer, told, IsAnswer, answer_text, ServesLine, ServesLines, Serves, write_failures};
@@ -8,7 +9,7 @@ use crate::line::MAX_LINES;
 use crate::read::{Asked, read_request};
 use crate::reply::{Refusal, write_refusal, write_reply};
 use crate::{Sink, Source, WireFault};
-use mpw_core::{Core, Event, SharedRequest};
+use mpw_core::{Core, Event, Keeper, SharedRequest};
 use std::alloc::Global;
 
 /// How a connection ended.
@@ -27,15 +28,16 @@ pub enum End {
 }
 
 /// Answers a request.
-fn answer<W: Sink>(
+fn answer<K: Keeper, W: Sink>(
     core: &mut Core,
+    keeper: &mut K,
     conn: u32,
     request: SharedRequest,
     writer: &mut W,
 ) -> Result<(), WireFault>
-    ensures { (answer : Answer) × IsAnswer conn request core.old answer core.new × Writes W.contents W.failures writer.old writer.new result (answer_text answer) }
+    ensures { (answer : Answer) × IsAnswer conn request (kept_desk core.old (K.kept keeper.old) K.takes_all) answer (kept_desk core.new (K.kept keeper.new) K.takes_all) × Writes W.contents W.failures writer.old writer.new result (answer_text answer) }
 {
-    match core.handle(Event::Ask { conn, request }) {
+    match core.handle(keeper, Event::Ask { conn, request }) {
         Ok(reply) => write_reply(&reply, writer),
         Err(_) => write_refusal(Refusal::Memory, writer),
     }
@@ -52,19 +54,20 @@ fn told(end: Option<End>, written: Result<(), WireFault>) -> Result<Option<End>,
 }
 
 /// Serves one line. It answers `None` where the connection goes on.
-fn serve_line<R: Source, W: Sink>(
+fn serve_line<K: Keeper, R: Source, W: Sink>(
     alloc: Global,
     core: &mut Core,
+    keeper: &mut K,
     conn: u32,
     reader: &mut R,
     writer: &mut W,
 ) -> Result<Option<End>, WireFault>
-    ensures line { ServesLine conn (R.remaining reader.old) (R.remaining reader.new) (W.contents writer.old) (W.contents writer.new) core.old core.new result }
+    ensures line { ServesLine conn (R.remaining reader.old) (R.remaining reader.new) (W.contents writer.old) (W.contents writer.new) (kept_desk core.old (K.kept keeper.old) K.takes_all) (kept_desk core.new (K.kept keeper.new) K.takes_all) result }
     ensures reader { R.failures reader.new ≡ read_failures (fault_of result) (R.failures reader.old) }
     ensures writer { W.failures writer.new ≡ write_failures (fault_of result) (W.failures writer.old) }
 {
     match read_request(alloc, reader) {
-        Ok(Asked::Request(request)) => told(None, answer(core, conn, request, writer)),
+        Ok(Asked::Request(request)) => told(None, answer(core, keeper, conn, request, writer)),
         Ok(Asked::Form) => told(None, write_refusal(Refusal::Form, writer)),
         Ok(Asked::Long) => told(Some(End::Long), write_refusal(Refusal::Long, writer)),
         Ok(Asked::Cut) => told(Some(End::Cut), write_refusal(Refusal::Cut, writer)),
@@ -78,19 +81,20 @@ fn serve_line<R: Source, W: Sink>(
 }
 
 /// Serves lines until the connection ends.
-fn serve_lines<R: Source, W: Sink>(
+fn serve_lines<K: Keeper, R: Source, W: Sink>(
     alloc: Global,
     core: &mut Core,
+    keeper: &mut K,
     conn: u32,
     reader: &mut R,
     writer: &mut W,
 ) -> Result<End, WireFault>
-    ensures lines { ServesLines conn (R.remaining reader.old) (R.remaining reader.new) (W.contents writer.old) (W.contents writer.new) core.old core.new result }
+    ensures lines { ServesLines conn (R.remaining reader.old) (R.remaining reader.new) (W.contents writer.old) (W.contents writer.new) (kept_desk core.old (K.kept keeper.old) K.takes_all) (kept_desk core.new (K.kept keeper.new) K.takes_all) result }
     ensures reader { R.failures reader.new ≡ read_failures (fault_of result) (R.failures reader.old) }
     ensures writer { W.failures writer.new ≡ write_failures (fault_of result) (W.failures writer.old) }
 {
     for _ in 0..MAX_LINES {
-        match serve_line(alloc, core, conn, reader, writer) {
+        match serve_line(alloc, core, keeper, conn, reader, writer) {
             Ok(None) => {}
             Ok(Some(end)) => return Ok(end),
             Err(fault) => return Err(fault),
@@ -102,22 +106,24 @@ fn serve_lines<R: Source, W: Sink>(
 /// Serves a connection: the lines of the reader get their replies on the writer, in order, until the input ends, a
 /// line is too long, the bytes that it asks to submit are too many or cut off, there is no room for a request, or 4096
 /// lines were answered. Then the desk is handed the
-/// connection's end. It costs the lines, and for each request what the core's step costs.
+/// connection's end. What is accepted is handed to the keeper first. It costs the lines, and for each request what the
+/// core's step costs.
 ///
 /// # Errors
 /// `Read` where the source failed and `Write` where the sink failed; what was accepted before stays accepted.
-pub fn serve_core<R: Source, W: Sink>(
+pub fn serve_core<K: Keeper, R: Source, W: Sink>(
     alloc: Global,
     core: &mut Core,
+    keeper: &mut K,
     conn: u32,
     reader: &mut R,
     writer: &mut W,
 ) -> Result<End, WireFault>
-    ensures served { Serves conn (R.remaining reader.old) (R.remaining reader.new) (W.contents writer.old) (W.contents writer.new) core.old core.new result }
+    ensures served { Serves conn (R.remaining reader.old) (R.remaining reader.new) (W.contents writer.old) (W.contents writer.new) (kept_desk core.old (K.kept keeper.old) K.takes_all) (kept_desk core.new (K.kept keeper.new) K.takes_all) result }
     ensures reader { R.failures reader.new ≡ read_failures (fault_of result) (R.failures reader.old) }
     ensures writer { W.failures writer.new ≡ write_failures (fault_of result) (W.failures writer.old) }
 {
-    let end = serve_lines(alloc, core, conn, reader, writer);
-    let _ = core.handle(Event::Gone { conn });
+    let end = serve_lines(alloc, core, keeper, conn, reader, writer);
+    let _ = core.handle(keeper, Event::Gone { conn });
     end
 }

@@ -3,14 +3,14 @@
 use crate::devices::Paper;
 use crate::serving::new_desk;
 use anyhow::Result;
-use mpw_core::{Core, Event, MAX_EVENTS, Request, SharedRequest};
+use mpw_core::{Core, Event, MAX_EVENTS, NoKeeper, Request, SharedRequest};
 use mpw_wire::write_reply;
 use std::alloc::{AllocError, Global};
 
 /// Ends a connection so many times.
 fn end_connections(core: &mut Core, count: usize) -> Result<(), AllocError> {
     for _ in 0..count {
-        core.handle(Event::Gone { conn: 2 })?;
+        core.handle(&mut NoKeeper, Event::Gone { conn: 2 })?;
     }
     Ok(())
 }
@@ -18,7 +18,7 @@ fn end_connections(core: &mut Core, count: usize) -> Result<(), AllocError> {
 /// The text of what `whoami` is answered.
 fn whoami(alloc: Global, core: &mut Core) -> Result<Vec<u8>, AllocError> {
     let request = SharedRequest::new(alloc, Request::Whoami)?;
-    let reply = core.handle(Event::Ask { conn: 1, request })?;
+    let reply = core.handle(&mut NoKeeper, Event::Ask { conn: 1, request })?;
     let mut paper = Paper {
         bytes: Vec::new(alloc),
         room: usize::MAX,
@@ -28,17 +28,23 @@ fn whoami(alloc: Global, core: &mut Core) -> Result<Vec<u8>, AllocError> {
     Ok(paper.bytes)
 }
 
+/// Tells what `whoami` is answered.
+fn tell_whoami(rt: &HostRuntime, core: &mut Core) -> Result<()> {
+    let text = String::from_utf8(whoami(rt.alloc(), core)?)?;
+    println!(rt; "  whoami: {}, {} calls", text.trim(), core.history().len())?;
+    Ok(())
+}
+
 /// Fills a history up to its last call but one, and tells what the next two requests are answered.
+fn fill(rt: &HostRuntime, core: &mut Core) -> Result<()> {
+    end_connections(core, MAX_EVENTS - 1)?;
+    println!(rt; "a history of {} calls", core.history().len())?;
+    tell_whoami(rt, core)?;
+    tell_whoami(rt, core)
+}
+
+/// The end of a history, told.
 pub fn fill_a_history(rt: &HostRuntime) -> Result<()> {
     let mut core = new_desk(rt.alloc())?;
-    end_connections(&mut core, MAX_EVENTS - 1)?;
-    let last = String::from_utf8(whoami(rt.alloc(), &mut core)?)?;
-    let past = String::from_utf8(whoami(rt.alloc(), &mut core)?)?;
-    println!(rt;
-        "a history of {MAX_EVENTS} calls: the last {}, the next {}, {} calls",
-        last.trim(),
-        past.trim(),
-        core.history().len()
-    )?;
-    Ok(())
+    fill(rt, &mut core)
 }

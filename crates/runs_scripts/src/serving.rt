@@ -2,7 +2,7 @@
 
 use crate::devices::{Paper, Text};
 use crate::transcript::Transcript;
-use mpw_core::Core;
+use mpw_core::{Core, NoKeeper};
 use mpw_geom::Name;
 use mpw_wire::{End, WireFault, digest_of, serve_core};
 use std::alloc::{AllocError, Global};
@@ -58,7 +58,7 @@ pub fn serve(alloc: Global, bytes: &[u8], devices: &Devices) -> Result<Served, A
         room: devices.sink,
         failures: 0,
     };
-    let end = serve_core(alloc, &mut core, 1, &mut reader, &mut writer);
+    let end = serve_core(alloc, &mut core, &mut NoKeeper, 1, &mut reader, &mut writer);
     Ok(Served {
         text: writer.bytes,
         end: end_word(end),
