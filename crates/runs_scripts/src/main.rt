@@ -3,17 +3,21 @@
 //! The standard input names a script a line, from the folder of data, with what the devices do:
 //! - `NAME`: they don't fail;
 //! - `NAME source N`, `NAME sink N`: the source fails before byte N, the sink after N bytes;
-//! - `NAME source each`, `NAME sink each`: so at each byte in turn.
+//! - `NAME source each`, `NAME sink each`: so at each byte in turn;
+//! - `NAME keeper N`: the keeper fails from its Nth call on, and the script says how that is answered;
+//! - `NAME keeper each`: so at each call in turn, where the script says how all is answered that is kept.
 #![tactic(auto)]
 
 mod devices;
+mod keeper;
 mod limit;
 mod serving;
 mod transcript;
 
 use anyhow::Result;
+use keeper::Fails;
 use limit::fill_a_history;
-use serving::{Devices, Served, is_front, serve};
+use serving::{Devices, Served, is_closed, is_front, serve};
 use std::fs;
 use transcript::{Transcript, read_transcript};
 
@@ -37,17 +41,19 @@ fn read_case(line: &str) -> Case {
 
 /// The devices of which one fails at a place.
 fn failing(device: &str, place: usize) -> Devices {
+    let mut devices = Devices {
+        source: usize::MAX,
+        sink: usize::MAX,
+        keeper: Fails::Never,
+    };
     if device == "source" {
-        Devices {
-            source: place,
-            sink: usize::MAX,
-        }
-    } else {
-        Devices {
-            source: usize::MAX,
-            sink: place,
-        }
+        devices.source = place;
+    } else if device == "sink" {
+        devices.sink = place;
+    } else if device == "keeper" {
+        devices.keeper = Fails::From(place);
     }
+    devices
 }
 
 /// Where two texts differ first: the number of the line, counted from 1.
@@ -64,22 +70,45 @@ fn first_difference(told: &[u8], wanted: &[u8]) -> usize {
     line
 }
 
-/// Tells of a script over devices that don't fail.
-fn tell(rt: &HostRuntime, name: &str, script: &Transcript) -> Result<()> {
-    let served = serve(
-        rt.alloc(),
-        script.input.as_slice(),
-        &failing("", usize::MAX),
-    )?;
+/// Tells of a script that says how it is answered.
+fn tell(rt: &HostRuntime, case: &Case, script: &Transcript, devices: &Devices) -> Result<()> {
+    let served = serve(rt.alloc(), script.input.as_slice(), devices)?;
     if served.text.as_slice() == script.replies.as_slice() {
         println!(rt;
-            "{name}: answered as written; {}; {} calls",
-            served.end, served.calls
+            "{}: answered as written; {}; {} calls, {} changes",
+            case.name, served.end, served.calls, served.kept
         )?;
     } else {
         let line = first_difference(served.text.as_slice(), script.replies.as_slice());
-        println!(rt; "{name}: ANOTHER reply at line {line}")?;
+        println!(rt; "{}: ANOTHER reply at line {line}", case.name)?;
     }
+    Ok(())
+}
+
+/// How often a script is told as closed, where its keeper fails at each of some calls in turn.
+fn closed_times(rt: &HostRuntime, script: &Transcript, calls: usize) -> Result<usize> {
+    let mut closed = 0usize;
+    for call in 1..=calls {
+        let served = serve(
+            rt.alloc(),
+            script.input.as_slice(),
+            &failing("keeper", call),
+        )?;
+        if served.kept == call - 1 && is_closed(&served, script) {
+            closed = closed.saturating_add(1);
+        }
+    }
+    Ok(closed)
+}
+
+/// Tells of a script whose keeper fails at each call in turn.
+fn tell_closed(rt: &HostRuntime, case: &Case, script: &Transcript) -> Result<()> {
+    let served = serve(rt.alloc(), script.input.as_slice(), &failing("", 0))?;
+    let closed = closed_times(rt, script, served.kept)?;
+    println!(rt;
+        "{}, the keeper fails at each of {} calls: {closed} times closed from there on",
+        case.name, served.kept
+    )?;
     Ok(())
 }
 
@@ -147,12 +176,12 @@ fn script(rt: &HostRuntime, name: &str) -> Result<Transcript> {
 fn run_case(rt: &HostRuntime, line: &str) -> Result<()> {
     let case = read_case(line);
     let script = script(rt, case.name)?;
-    if case.device.is_empty() {
-        return tell(rt, case.name, &script);
-    }
-    match case.place.parse::<usize>() {
-        Ok(place) => tell_failing(rt, &case, &script, place),
-        Err(_) => tell_each(rt, &case, &script),
+    match (case.device, case.place.parse::<usize>()) {
+        ("", _) => tell(rt, &case, &script, &failing("", 0)),
+        ("keeper", Ok(place)) => tell(rt, &case, &script, &failing("keeper", place)),
+        ("keeper", Err(_)) => tell_closed(rt, &case, &script),
+        (_, Ok(place)) => tell_failing(rt, &case, &script, place),
+        (_, Err(_)) => tell_each(rt, &case, &script),
     }
 }
 

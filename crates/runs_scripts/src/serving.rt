@@ -1,25 +1,28 @@
 //! One connection over a new desk of the officer `root`, whose token is `abc`.
 
 use crate::devices::{Paper, Text};
+use crate::keeper::{Fails, MemoryKeeper};
 use crate::transcript::Transcript;
-use mpw_core::{Core, NoKeeper};
+use mpw_core::Core;
 use mpw_geom::Name;
 use mpw_wire::{End, WireFault, digest_of, serve_core};
 use std::alloc::{AllocError, Global};
 
-/// The places at which the devices fail.
+/// The places at which the devices and the keeper fail.
 #[derive(Clone, Copy)]
 pub struct Devices {
     pub source: usize,
     pub sink: usize,
+    pub keeper: Fails,
 }
 
-/// What came of a connection: the text, the end, and the number of calls in the history.
+/// What came of a connection: the text, the end, and the numbers of calls in the history and of changes that were kept.
 #[derive(Drop)]
 pub struct Served {
     pub text: Vec<u8>,
     pub end: &'static str,
     pub calls: usize,
+    pub kept: usize,
 }
 
 /// A new desk.
@@ -58,11 +61,16 @@ pub fn serve(alloc: Global, bytes: &[u8], devices: &Devices) -> Result<Served, A
         room: devices.sink,
         failures: 0,
     };
-    let end = serve_core(alloc, &mut core, &mut NoKeeper, 1, &mut reader, &mut writer);
+    let mut keeper = MemoryKeeper {
+        kept: Vec::new(alloc),
+        fails: devices.keeper,
+    };
+    let end = serve_core(alloc, &mut core, &mut keeper, 1, &mut reader, &mut writer);
     Ok(Served {
         text: writer.bytes,
         end: end_word(end),
         calls: core.history().len(),
+        kept: keeper.kept.len(),
     })
 }
 
@@ -72,4 +80,35 @@ pub fn is_front(served: &Served, script: &Transcript) -> bool {
         .replies
         .as_slice()
         .starts_with(served.text.as_slice())
+}
+
+/// The bytes behind the first line of a text.
+fn behind_the_first_line(text: &[u8]) -> &[u8] {
+    match text.iter().position(|byte| *byte == b'\n') {
+        Some(end) => &text[end + 1..],
+        None => &[],
+    }
+}
+
+/// Whether every line of a text is this one, which ends with a line feed.
+fn are_all(text: &[u8], line: &[u8]) -> bool {
+    !line.is_empty() && text.chunks(line.len().max(1)).all(|chunk| chunk == line)
+}
+
+/// Whether the replies are those of a script up to one that tells that a change could not be kept, and then all tell that
+/// the desk is closed; or all are the script's, where the connection's end could not be kept.
+pub fn is_closed(served: &Served, script: &Transcript) -> bool {
+    let text = served.text.as_slice();
+    let wanted = script.replies.as_slice();
+    let mut same = 0usize;
+    for (told, written) in text.iter().zip(wanted) {
+        if told != written {
+            break;
+        }
+        same = same.saturating_add(1);
+    }
+    let rest = &text[same.min(text.len())..];
+    same == wanted.len() && rest.is_empty()
+        || rest.starts_with(b"REFUSED 60 store\n")
+            && are_all(behind_the_first_line(rest), b"REFUSED 61 closed\n")
 }
