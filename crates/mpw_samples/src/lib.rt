@@ -1,4 +1,4 @@
-//! Small GDSII libraries for tests, built record by record.
+//! Small GDSII libraries for stored runs, built record by record or by a short notation ([`text_of_library`]).
 //!
 //! A [`Sample`] begins with a unit, takes structures with their elements, and gives its bytes:
 //! ```text
@@ -14,12 +14,10 @@
 
 mod encode;
 mod error;
-#[cfg(test)]
 mod notation;
 mod record;
 mod sample;
-#[cfg(test)]
-mod tests;
 
 pub use error::SampleError;
+pub use notation::{NotationError, hex_bytes, text_of_library};
 pub use sample::{NANOMETRE, Sample};
