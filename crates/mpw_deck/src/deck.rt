@@ -5,14 +5,15 @@ ghost use Rattle.mpw_deck.specs.declared.deck.DeckKind.TheVariants.{Memory};
 
 use crate::rule::Rule;
 use std::alloc::{AllocError, Global};
+use std::error::Error;
+use std::fmt;
 use std::marker::Model;
-use thiserror::Error;
 
 /// The greatest number of rules of a deck.
 pub const MAX_RULES: usize = 256;
 
 /// Rules in order. In contracts they are the list of them.
-#[derive(Debug, Drop)]
+#[derive(Drop)]
 pub struct Rules {
     items: Vec<Rule>,
 }
@@ -92,7 +93,7 @@ fn are_same(first: &[Rule], second: &[Rule]) -> bool
 
 /// A deck: the side of the tiles in nm, 256 to 2^30, and the rules, at most 256, with names of
 /// their own.
-#[derive(Debug, Drop)]
+#[derive(Drop)]
 pub struct Deck {
     pub tile: u32,
     pub rules: Rules,
@@ -122,25 +123,47 @@ impl Deck {
 }
 
 /// What is wrong with a line of a deck's text.
-#[derive(Clone, Copy, Debug, PartialEq, Eq, Error)]
+#[derive(Clone, Copy, PartialEq, Eq)]
 pub enum DeckKind {
-    #[error("word")]
     Word,
-    #[error("number")]
     Number,
-    #[error("layer")]
     Layer,
-    #[error("two equal layers")]
     SameLayer,
-    #[error("a rule's name used twice")]
     DoubleRule,
-    #[error("the tile line stands first, and once")]
     Tile,
-    #[error("more than 256 rules")]
     Rules,
-    #[error("out of memory")]
     Memory,
 }
+
+impl DeckKind {
+    /// What is said of a line.
+    fn words(self) -> &'static str {
+        match self {
+            DeckKind::Word => "word",
+            DeckKind::Number => "number",
+            DeckKind::Layer => "layer",
+            DeckKind::SameLayer => "two equal layers",
+            DeckKind::DoubleRule => "a rule's name used twice",
+            DeckKind::Tile => "the tile line stands first, and once",
+            DeckKind::Rules => "more than 256 rules",
+            DeckKind::Memory => "out of memory",
+        }
+    }
+}
+
+impl fmt::Display for DeckKind {
+    fn fmt<W: fmt::Write>(&self, f: &mut fmt::Formatter<W>) -> fmt::Result {
+        f.write_str(self.words())
+    }
+}
+
+impl fmt::Debug for DeckKind {
+    fn fmt<W: fmt::Write>(&self, f: &mut fmt::Formatter<W>) -> fmt::Result {
+        f.write_str(self.words())
+    }
+}
+
+impl Error for DeckKind {}
 
 impl From<AllocError> for DeckKind {
     ghost from_gives = { λ _ kind. kind ≡ Memory };
@@ -152,7 +175,7 @@ impl From<AllocError> for DeckKind {
 
 /// The first faulty line of a deck's text, counted from 1, and its first fault. At `Memory` the
 /// line is where reading stopped.
-#[derive(Clone, Copy, Debug, PartialEq, Eq, Error)]
+#[derive(Clone, Copy, Debug, PartialEq, Eq, thiserror::Error)]
 #[error("line {line}: {kind}")]
 pub struct DeckFault {
     pub kind: DeckKind,

@@ -92,6 +92,3 @@ pub fn read_deck(alloc: Global, text: &[u8]) -> Result<Deck, DeckFault>
     let rules = Rules::from_vec(rules(alloc, rest)?);
     Ok(Deck { tile, rules })
 }
-
-#[cfg(test)]
-mod tests;

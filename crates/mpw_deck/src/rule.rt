@@ -15,7 +15,7 @@ pub enum Check {
 }
 
 /// A rule: its name, which has no colon, its check, and its distance in nm, 1 to 65535.
-#[derive(Debug, Drop)]
+#[derive(Drop)]
 pub struct Rule {
     pub name: Name,
     pub check: Check,

@@ -8,14 +8,14 @@ use std::alloc::AllocError;
 
 /// A polygon by its corners in file order, without the closing point (GDSII Stream, BOUNDARY and
 /// BOX). Other repeats stay. The edge from the last corner to the first is implied.
-#[derive(Debug, Drop)]
+#[derive(Drop)]
 pub struct Boundary {
     pub layer: Layer,
     pub points: Points,
 }
 
 /// A wire along a centre line (GDSII Stream, PATH). Consecutive repeats are taken as one point.
-#[derive(Debug, Drop)]
+#[derive(Drop)]
 pub struct Path {
     pub layer: Layer,
     /// The whole width in nm, even, 0 where none was given.
@@ -28,7 +28,7 @@ pub struct Path {
 }
 
 /// Places a structure, once or in rows and columns (GDSII Stream, SREF and AREF).
-#[derive(Debug, Drop)]
+#[derive(Drop)]
 pub struct Reference {
     /// The structure that is placed.
     pub name: Name,
@@ -46,7 +46,7 @@ pub struct Reference {
 }
 
 /// An element of a structure.
-#[derive(Debug, Drop)]
+#[derive(Drop)]
 pub enum Element {
     Boundary(Boundary),
     Path(Path),

@@ -7,7 +7,7 @@ use std::alloc::AllocError;
 use std::marker::Model;
 
 /// The points of an element in file order, in nm. One allocation, however many there are.
-#[derive(Debug, Drop)]
+#[derive(Drop)]
 pub struct Points {
     items: Vec<Point>,
 }

@@ -76,32 +76,3 @@ impl Box2 {
         self.y0.max(other.y0) <= self.y1.min(other.y1)
     }
 }
-
-#[cfg(test)]
-mod tests {
-    use super::*;
-
-    fn unit(x: i64, y: i64) -> Box2
-        requires x { x ≤ℤ pos 1000 }
-        requires y { y ≤ℤ pos 1000 }
-    {
-        Box2 {
-            x0: x,
-            y0: y,
-            x1: x + 1,
-            y1: y + 1,
-        }
-    }
-
-    #[test]
-    fn a_common_corner_meets(rt: HostRuntime) {
-        assert!(rt; unit(0, 0).meets(unit(1, 1)));
-        assert!(rt; unit(0, 0).meets(unit(-1, 1)));
-        assert!(rt; !unit(0, 0).meets(unit(2, 0)));
-        assert!(rt; !unit(0, 0).meets(unit(0, 2)));
-        assert_eq!(rt;
-            Box2::between(Point { x: 1, y: 0 }, Point { x: 0, y: 1 }),
-            unit(0, 0)
-        );
-    }
-}

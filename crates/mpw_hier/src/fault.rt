@@ -4,35 +4,58 @@ ghost use Rattle.std.specs.Prelude.{◌≡◌};
 ghost use Rattle.mpw_hier.specs.declared.fault.HierFault.TheVariants.{Memory};
 
 use std::alloc::{AllocError, AllocFailed};
-use thiserror::Error;
+use std::error::Error;
+use std::fmt;
 
 /// Why a library can't be put on the shelf.
-#[derive(Debug, Drop, Error)]
+#[derive(Clone, Copy)]
 pub enum HierFault {
-    #[error("memory")]
     Memory,
     /// The library has no structure of the top's name.
-    #[error("notop")]
     NoTop,
     /// A structure below the top leads back to itself.
-    #[error("cycle")]
     Cycle,
     /// A name outside the library is no cell with a submission.
-    #[error("nocell")]
     NoCell,
     /// The extent of a structure below the top reaches beyond 2^30 nm.
-    #[error("extent")]
     Extent,
     /// More than 2^20 flat shapes.
-    #[error("shapes")]
     Shapes,
     /// More than 64 levels.
-    #[error("deep")]
     Deep,
     /// There are 4096 submissions, or 1024 cells and this is another.
-    #[error("full")]
     Full,
 }
+
+impl HierFault {
+    /// The fault's word, as replies have it.
+    fn word(self) -> &'static str {
+        match self {
+            HierFault::Memory => "memory",
+            HierFault::NoTop => "notop",
+            HierFault::Cycle => "cycle",
+            HierFault::NoCell => "nocell",
+            HierFault::Extent => "extent",
+            HierFault::Shapes => "shapes",
+            HierFault::Deep => "deep",
+            HierFault::Full => "full",
+        }
+    }
+}
+
+impl fmt::Display for HierFault {
+    fn fmt<W: fmt::Write>(&self, f: &mut fmt::Formatter<W>) -> fmt::Result {
+        f.write_str(self.word())
+    }
+}
+
+impl fmt::Debug for HierFault {
+    fn fmt<W: fmt::Write>(&self, f: &mut fmt::Formatter<W>) -> fmt::Result {
+        f.write_str(self.word())
+    }
+}
+
+impl Error for HierFault {}
 
 impl From<AllocError> for HierFault {
     ghost from_gives = { λ _ e. e ≡ Memory };

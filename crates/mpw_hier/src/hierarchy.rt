@@ -52,7 +52,7 @@ fn no_numbers(alloc: Global, count: usize) -> Result<Vec<Option<usize>>, AllocEr
 }
 
 /// What a name means, and how much that shows.
-#[derive(Clone, Copy, Debug)]
+#[derive(Clone, Copy)]
 struct Link {
     target: Target,
     size: Size,

@@ -18,17 +18,11 @@ mod node;
 mod order;
 mod outside;
 mod shelf;
-#[cfg(test)]
-mod shelf_tests;
 mod size;
 mod size_array;
 mod size_box;
 mod size_shape;
-#[cfg(test)]
-mod size_tests;
 mod submission;
-#[cfg(test)]
-mod tests;
 
 pub use bindings::{Binding, Bindings};
 pub use fault::HierFault;

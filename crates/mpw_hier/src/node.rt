@@ -8,7 +8,7 @@ use std::marker::Model;
 use std::sync::Arc;
 
 /// What a reference places.
-#[derive(Clone, Copy, Debug, PartialEq, Eq)]
+#[derive(Clone, Copy, PartialEq, Eq)]
 pub enum Target {
     /// A node of the same submission, by number. It stands before the one that places it.
     Own(usize),
@@ -17,7 +17,7 @@ pub enum Target {
 }
 
 /// A reference that shows something.
-#[derive(Clone, Copy, Debug)]
+#[derive(Clone, Copy)]
 pub struct Child {
     /// Where the reference stands among the structure's elements.
     pub element: usize,
@@ -25,7 +25,7 @@ pub struct Child {
 }
 
 /// A structure that the top of a submission reaches.
-#[derive(Debug, Drop)]
+#[derive(Drop)]
 pub struct Node {
     /// Where the structure stands in the library.
     pub structure: usize,

@@ -26,7 +26,7 @@ pub struct Descent {
 }
 
 /// What a step found.
-#[derive(Clone, Copy, Debug, PartialEq, Eq)]
+#[derive(Clone, Copy, PartialEq, Eq)]
 pub enum Step {
     On,
     Done,

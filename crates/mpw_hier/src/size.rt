@@ -27,7 +27,7 @@ const MANY: u32 = (1 << 20) + 1;
 const DEEP: u32 = 65;
 
 /// What a structure shows, up to the limits.
-#[derive(Clone, Copy, Debug)]
+#[derive(Clone, Copy)]
 pub struct Size {
     /// Flat shapes, at most 2^20 + 1, which stands for all beyond the limit.
     pub count: u32,

@@ -6,7 +6,7 @@ use mpw_elements::Element;
 use std::marker::Model;
 
 /// The elements of a structure in file order.
-#[derive(Debug, Drop)]
+#[derive(Drop)]
 pub struct Elements {
     items: Vec<Element>,
 }

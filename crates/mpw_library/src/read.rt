@@ -19,7 +19,7 @@ use mpw_records::{Code, ReadFault, Record, Records, kind};
 use std::alloc::Global;
 
 /// What stands next in a structure.
-#[derive(Debug, Drop)]
+#[derive(Drop)]
 pub enum Item {
     /// ENDSTR.
     End,

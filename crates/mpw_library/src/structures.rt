@@ -10,7 +10,7 @@ use std::collections::BTreeMap;
 use std::marker::Model;
 
 /// A structure: a name and what stands in it.
-#[derive(Debug, Drop)]
+#[derive(Drop)]
 pub struct Structure {
     pub name: Name,
     pub elements: Elements,

@@ -7,7 +7,7 @@ use byteorder::{BigEndian, ByteOrder};
 use std::marker::Model;
 
 /// An eight-byte real.
-#[derive(Debug, Drop)]
+#[derive(Drop)]
 pub struct Real8 {
     negative: bool,
     exponent: u8,
@@ -129,48 +129,4 @@ fn is_near(mantissa: u64, exponent: u8, number: u16) -> bool
     let value = u128::from(mantissa) * 1_000_000_000;
     let unit = u128::from(number) * 16u128.pow(below);
     value.abs_diff(unit) * 1_000_000_000 <= unit
-}
-
-#[cfg(test)]
-mod tests {
-    use super::*;
-
-    #[test]
-    fn whole_numbers(rt: HostRuntime) {
-        let zero = [[0xFF, 0, 0, 0, 0, 0, 0, 0], [0x80, 0, 0, 0, 0, 0, 0, 0]];
-        for bytes in zero {
-            assert!(rt; Real8::of(bytes).is_whole(0));
-            assert!(rt; !Real8::of(bytes).is_whole(1));
-        }
-        assert!(rt; Real8::of([0x42, 1, 0, 0, 0, 0, 0, 0]).is_whole(1));
-        let minus = Real8::of([0xC2, 0x5A, 0, 0, 0, 0, 0, 0]);
-        assert!(rt; minus.is_whole(-90));
-        assert!(rt; !minus.is_whole(90));
-        assert!(rt; Real8::of([0x41, 0xF0, 0, 0, 0, 0, 0, 0]).is_whole(15));
-        // beside 15 by one part in 2^52
-        assert!(rt; !Real8::of([0x41, 0xF0, 0, 0, 0, 0, 0, 1]).is_whole(15));
-        // -2^31, and 2^60 with the least and the greatest exponent
-        assert!(rt; Real8::of([0xC8, 0x80, 0, 0, 0, 0, 0, 0]).is_whole(i32::MIN));
-        assert!(rt; !Real8::of([0x7F, 0x80, 0, 0, 0, 0, 0, 0]).is_whole(0));
-        assert!(rt; !Real8::of([0x00, 0x80, 0, 0, 0, 0, 0, 0]).is_whole(0));
-    }
-
-    #[test]
-    fn units(rt: HostRuntime) {
-        for (bytes, unit) in [
-            ([0x39, 0x44, 0xB8, 0x2F, 0xA0, 0x9B, 0x5A, 0x54], Some(1)),
-            ([0x39, 0x44, 0xB8, 0x2F, 0xA0, 0x9B, 0x5A, 0x52], Some(1)),
-            ([0xB9, 0x44, 0xB8, 0x2F, 0xA0, 0x9B, 0x5A, 0x54], None),
-            ([0x39, 0x89, 0x70, 0x5F, 0x41, 0x36, 0xB4, 0xA8], Some(2)),
-            ([0x39, 0xAB, 0xCC, 0x77, 0x11, 0x84, 0x61, 0xD2], None),
-            ([0x3A, 0x15, 0x79, 0x8E, 0xE2, 0x30, 0x8C, 0x3A], Some(5)),
-            ([0x3C, 0x10, 0xC6, 0xF7, 0xA0, 0xB5, 0xED, 0x8D], Some(1000)),
-            ([0x41, 0x10, 0, 0, 0, 0, 0, 0], None),
-            ([0x80, 0, 0, 0, 0, 0, 0, 0], None),
-            ([0, 0, 0, 0, 0, 0, 0, 0], None),
-        ] {
-            assert_eq!(rt; Real8::of(bytes).nanometres(), unit, "{bytes:?}");
-            assert_eq!(rt; Real8::read(&bytes).nanometres(), unit);
-        }
-    }
 }

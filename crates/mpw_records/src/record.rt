@@ -10,7 +10,7 @@ use crate::kind;
 use byteorder::{BigEndian, ByteOrder};
 
 /// A record of a text.
-#[derive(Clone, Copy, Debug)]
+#[derive(Clone, Copy)]
 pub struct Record<'a> {
     /// Where the record begins, in bytes from the text's front.
     pub offset: usize,

@@ -7,7 +7,7 @@ use std::alloc::{AllocError, AllocFailed};
 use thiserror::Error;
 
 /// Why records weren't added.
-#[derive(Debug, Drop, Error)]
+#[derive(Clone, Copy, Debug, Error)]
 pub enum SampleError {
     /// A record's data has more than 65531 bytes.
     #[error("a record has at most 65531 bytes of data")]

@@ -10,7 +10,8 @@
 //!   four (03), a text (06), else bytes in hex; a word `=..` gives the bytes of any type in hex;
 //! - `unit ..`, first, is the unit in metres, eight bytes in hex; `bare`, first, leaves out the head;
 //! - `chain N` is structures `S0` to `S(N-1)`, a square and then each placing the one before;
-//! - `grid N` is N squares; `open` leaves a structure without its end.
+//! - `fan N` is structures `F0` to `F(N-1)` with a square each, and `places NAME N` places `NAME0` to `NAME(N-1)`;
+//! - `grid N` is N squares, and `stairs N` a path of width 2 through N points, with steps of 1; `open` leaves a structure without its end.
 
 use crate::error::SampleError;
 use crate::sample::{NANOMETRE, Sample};
@@ -58,6 +59,13 @@ fn number(word: &str) -> Result<i32, NotationError> {
 
 fn short(word: &str) -> Result<u16, NotationError> {
     match word.parse::<u16>() {
+        Ok(number) => Ok(number),
+        Err(_) => Err(NotationError::Notation),
+    }
+}
+
+fn count_of(word: &str) -> Result<u32, NotationError> {
+    match word.parse::<u32>() {
         Ok(number) => Ok(number),
         Err(_) => Err(NotationError::Notation),
     }
@@ -270,6 +278,17 @@ fn add_grid(text: &mut Sample, words: &[&str]) -> Result<(), NotationError> {
     Ok(())
 }
 
+/// Places of names with a number behind.
+fn add_places(text: &mut Sample, alloc: Global, words: &[&str]) -> Result<(), NotationError> {
+    let [name, count] = words else {
+        return Err(NotationError::Notation);
+    };
+    for number in 0..count_of(count)? {
+        text.place(format!(in alloc; "{name}{number}")?.as_str(), 0, 0)?;
+    }
+    Ok(())
+}
+
 /// A structure of a chain.
 fn add_link(text: &mut Sample, alloc: Global, level: u32) -> Result<(), NotationError> {
     text.begin(format!(in alloc; "S{level}")?.as_str())?;
@@ -284,13 +303,37 @@ fn add_chain(text: &mut Sample, alloc: Global, words: &[&str]) -> Result<(), Not
     let [count] = words else {
         return Err(NotationError::Notation);
     };
-    let Ok(count) = count.parse::<u32>() else {
-        return Err(NotationError::Notation);
-    };
-    for level in 0..count {
+    for level in 0..count_of(count)? {
         add_link(text, alloc, level)?;
     }
     Ok(())
+}
+
+fn add_fan(text: &mut Sample, alloc: Global, words: &[&str]) -> Result<(), NotationError> {
+    let [count] = words else {
+        return Err(NotationError::Notation);
+    };
+    for number in 0..count_of(count)? {
+        text.begin(format!(in alloc; "F{number}")?.as_str())?;
+        text.boundary(1, 0, &[(0, 0), (1, 0), (1, 1), (0, 1), (0, 0)])?;
+        text.end()?;
+    }
+    Ok(())
+}
+
+/// A path that goes up in steps: to the right at even points, and up at odd ones.
+fn add_stairs(text: &mut Sample, alloc: Global, words: &[&str]) -> Result<(), NotationError> {
+    let [count] = words else {
+        return Err(NotationError::Notation);
+    };
+    let mut points = Vec::new(alloc);
+    for step in 0..short(count)? {
+        points.push((i32::from(step / 2 + step % 2), i32::from(step / 2)))?;
+    }
+    add_path_head(text, "1/0", ".")?;
+    text.long(kind::WIDTH, 2)?;
+    text.points(&points)?;
+    Ok(text.record(kind::ENDEL, 0, &[])?)
 }
 
 /// Adds one item behind the others.
@@ -306,6 +349,9 @@ fn add_words(text: &mut Sample, alloc: Global, words: &[&str]) -> Result<(), Not
         "a" => add_array(text, alloc, rest),
         "grid" => add_grid(text, rest),
         "chain" => add_chain(text, alloc, rest),
+        "fan" => add_fan(text, alloc, rest),
+        "stairs" => add_stairs(text, alloc, rest),
+        "places" => add_places(text, alloc, rest),
         _ => add_record(text, alloc, key, rest),
     }
 }

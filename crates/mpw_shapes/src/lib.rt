@@ -23,8 +23,6 @@ mod path;
 mod rows;
 mod shape;
 mod sweep;
-#[cfg(test)]
-mod tests;
 mod turn;
 
 pub use path::{Wire, first_wire};

@@ -12,7 +12,7 @@ use std::alloc::{AllocError, Global};
 
 /// How far a segment of a centre line reaches to its sides, before its first point and behind its
 /// second, in nm.
-#[derive(Clone, Copy, Debug)]
+#[derive(Clone, Copy)]
 pub struct Wire {
     /// Half the width of the path.
     pub half: i64,

@@ -6,15 +6,9 @@
 #![tactic(auto)]
 
 mod fit;
-#[cfg(test)]
-mod flat_tests;
 mod frame;
 mod laws;
-#[cfg(test)]
-mod random;
 mod root;
-#[cfg(test)]
-mod tests;
 mod walk;
 mod way;
 

@@ -4,14 +4,14 @@ use mpw_elements::Element;
 use mpw_geom::Placing;
 
 /// A submission, by number, and how it is placed.
-#[derive(Clone, Copy, Debug)]
+#[derive(Clone, Copy)]
 pub struct Root {
     pub submission: u32,
     pub placing: Placing,
 }
 
 /// A shape of the submission `origin`, by number, and how it is placed.
-#[derive(Clone, Copy, Debug)]
+#[derive(Clone, Copy)]
 pub struct Placed<'a> {
     pub origin: u32,
     pub placing: Placing,

@@ -1,24 +1,18 @@
-//! Walks over random shelves, compared with a plain recursive flattening.
+//! The flat list of placed submissions by plain recursion, as a second opinion of walks.
 
-use super::*;
-use crate::random::Random;
+use anyhow::{Context, Result, bail};
 use mpw_elements::{Element, Reference};
 use mpw_geom::{Layer, Name, Orient, Placing, Point};
 use mpw_hier::{Shelf, Submission};
 use mpw_library::Structure;
+use mpw_walk::{Placed, Root, Walk};
 use std::alloc::Global;
-use std::process::Abort;
-use std::test::Fail;
-
-const SEED: u64 = 1;
-
-const SHELVES: u32 = 200;
 
 /// More levels than a random shelf has: a library has 4 at most, and a name outside takes one more.
 const LEVELS: u32 = 30;
 
 /// The affine map that takes (x, y) to (xx x + xy y + x0, yx x + yy y + y0).
-#[derive(Clone, Copy, Debug, PartialEq, Eq)]
+#[derive(Clone, Copy, PartialEq, Eq)]
 struct Affine {
     xx: i64,
     xy: i64,
@@ -30,7 +24,7 @@ struct Affine {
 
 /// A shape of a submission, and where it is.
 #[derive(Clone, Copy)]
-struct Shown<'a> {
+pub struct Shown<'a> {
     origin: u32,
     map: Affine,
     element: &'a Element,
@@ -90,7 +84,7 @@ fn instance(reference: &Reference, row: u16, column: u16) -> Affine {
     map_of(reference.orient, by)
 }
 
-fn add_row(maps: &mut Vec<Affine>, reference: &Reference, row: u16) -> Result<(), Fail> {
+fn add_row(maps: &mut Vec<Affine>, reference: &Reference, row: u16) -> Result<()> {
     for column in 0..reference.columns {
         maps.push(instance(reference, row, column))?;
     }
@@ -98,7 +92,7 @@ fn add_row(maps: &mut Vec<Affine>, reference: &Reference, row: u16) -> Result<()
 }
 
 /// The instances of a reference: row by row, the column running fastest.
-fn instances(alloc: Global, reference: &Reference) -> Result<Vec<Affine>, Fail> {
+fn instances(alloc: Global, reference: &Reference) -> Result<Vec<Affine>> {
     let mut maps = Vec::new(alloc);
     for row in 0..reference.rows {
         add_row(&mut maps, reference, row)?;
@@ -107,7 +101,7 @@ fn instances(alloc: Global, reference: &Reference) -> Result<Vec<Affine>, Fail> 
 }
 
 /// What each instance of a structure's references places, in file order.
-fn targets(alloc: Global, structure: &Structure) -> Result<Vec<(&Name, Affine)>, Fail> {
+fn targets(alloc: Global, structure: &Structure) -> Result<Vec<(&Name, Affine)>> {
     let mut targets = Vec::new(alloc);
     for element in structure.elements.as_slice() {
         if let Element::Reference(reference) = element {
@@ -121,7 +115,7 @@ fn add_targets<'a>(
     targets: &mut Vec<(&'a Name, Affine)>,
     reference: &'a Reference,
     maps: &[Affine],
-) -> Result<(), Fail> {
+) -> Result<()> {
     for map in maps {
         targets.push((&reference.name, *map))?;
     }
@@ -134,7 +128,7 @@ fn add_shapes<'a>(
     structure: &'a Structure,
     origin: u32,
     map: Affine,
-) -> Result<(), Fail> {
+) -> Result<()> {
     for element in structure.elements.as_slice() {
         if !matches!(element, Element::Reference(_)) {
             list.push(Shown {
@@ -156,13 +150,13 @@ fn own<'a>(submission: &'a Submission, name: &Name) -> Option<&'a Structure> {
     None
 }
 
-fn bound(submission: &Submission, name: &Name) -> Result<u32, Fail> {
+fn bound(submission: &Submission, name: &Name) -> Result<u32> {
     for binding in submission.bound.as_slice() {
         if binding.name.as_str() == name.as_str() {
             return Ok(binding.submission);
         }
     }
-    Err("a bound name")?
+    bail!("a bound name")
 }
 
 /// Adds what a name shows to the submission of a number, placed by a map.
@@ -173,14 +167,14 @@ fn flatten<'a>(
     name: &Name,
     map: Affine,
     depth: u32,
-) -> Result<(), Fail> {
+) -> Result<()> {
     if depth == 0 {
-        return Err("fewer levels")?;
+        bail!("fewer levels");
     }
-    let submission = shelf.get(number).ok_or("a submission")?;
+    let submission = shelf.get(number).context("a submission")?;
     let Some(structure) = own(submission, name) else {
         let outer = bound(submission, name)?;
-        let top = &shelf.get(outer).ok_or("a bound submission")?.top;
+        let top = &shelf.get(outer).context("a bound submission")?.top;
         return flatten(list, shelf, outer, top, map, depth - 1);
     };
     add_shapes(list, structure, number, map)?;
@@ -190,11 +184,11 @@ fn flatten<'a>(
     Ok(())
 }
 
-fn flat_list<'a>(alloc: Global, shelf: &'a Shelf, roots: &[Root]) -> Result<Vec<Shown<'a>>, Fail> {
+pub fn flat_list<'a>(alloc: Global, shelf: &'a Shelf, roots: &[Root]) -> Result<Vec<Shown<'a>>> {
     let mut list = Vec::new(alloc);
     for root in roots {
         let map = map_of(root.placing.orient, root.placing.by);
-        let top = &shelf.get(root.submission).ok_or("a root")?.top;
+        let top = &shelf.get(root.submission).context("a root")?.top;
         flatten(&mut list, shelf, root.submission, top, map, LEVELS)?;
     }
     Ok(list)
@@ -210,7 +204,7 @@ fn layer(element: &Element) -> Option<Layer> {
 }
 
 /// Whether the walk gives the list and then ends.
-fn gives(walk: &mut Walk, list: &[Shown<'_>]) -> bool {
+pub fn gives(walk: &mut Walk, list: &[Shown<'_>]) -> bool {
     for shown in list {
         let Some(placed) = walk.next() else {
             return false;
@@ -222,38 +216,4 @@ fn gives(walk: &mut Walk, list: &[Shown<'_>]) -> bool {
         }
     }
     walk.next().is_none()
-}
-
-/// How many shapes the roots show, as the shelf tells.
-fn told(shelf: &Shelf, roots: &[Root]) -> usize {
-    let mut count = 0usize;
-    for root in roots {
-        count = count.saturating_add(shelf.count(root.submission) as usize);
-    }
-    count
-}
-
-/// Walks over a random shelf, and tells how many shapes it shows.
-fn compared(rt: &impl Abort, alloc: Global, random: &mut Random) -> Result<usize, Fail> {
-    let shelf = random.shelf(alloc)?;
-    let roots = random.roots(alloc, &shelf)?;
-    if roots.len() > 10 || !all_fit(&shelf, &roots) {
-        return Err("roots that fit")?;
-    }
-    let list = flat_list(alloc, &shelf, &roots)?;
-    let mut walk = Walk::new(alloc, &shelf, &roots)?;
-    assert!(rt; gives(&mut walk, &list));
-    assert_eq!(rt; list.len(), told(&shelf, &roots));
-    Ok(list.len())
-}
-
-#[test]
-fn random_shelves_are_flattened(rt: HostRuntime) -> Result<(), Fail> {
-    let mut random = Random::new(SEED);
-    let mut shapes = 0usize;
-    for _ in 0..SHELVES {
-        shapes = shapes.saturating_add(compared(&rt, rt.alloc(), &mut random)?);
-    }
-    assert!(rt; shapes > 1000, "{shapes} shapes");
-    Ok(())
 }

@@ -1,0 +1,96 @@
+//! What layouts show: the lines of the standard input are commands, with a library in the notation of `mpw_samples`
+//! behind a bar where one is asked for. Each line is repeated, with the answer below. A line that begins with `#`, and
+//! an empty one, says nothing.
+//!
+//! - `boxes | ..` prints the rectangles of each element, `total | ..` how many they are, and the sum of their areas;
+//! - `squares x y .. | ..` counts their unit squares from 0 to 39, and tells whether each of the squares is one;
+//! - `figure NAME` prints how many points a boundary of a known form has, how many boxes it gives, and their area;
+//!   `figure NAME N` tells only that the boxes are at most so many, if they are;
+//! - `scribbles N` compares the boxes of random boundaries with the winding numbers of each square;
+//! - `outside TOP | ..` prints the names outside that a top shows;
+//! - `new` begins with an empty shelf, `copy` goes on with a copy, `cells` prints the cells;
+//! - `submit CELL TOP | ..` puts a library on the shelf, and prints what it shows;
+//! - `fill C N | ..` submits the library's `TOP` to the cells C0 to C(N-1), and `again CELL N | ..` N times to one;
+//! - `walk N R90 x y, ..` prints each shape of placed submissions, `count N R90 x y, ..` their number;
+//! - `walks N` compares walks over random shelves with a plain flattening.
+#![tactic(auto)]
+
+mod figures;
+mod flat;
+mod random;
+mod shapes;
+mod shelves;
+mod walks;
+
+use anyhow::{Result, bail};
+use mpw_hier::Shelf;
+use mpw_samples::text_of_library;
+
+/// Commands over the shelf.
+fn answer_shelf(
+    rt: &(impl Print + AllocGlobal),
+    shelf: &mut Shelf,
+    words: &[&str],
+    notation: &str,
+) -> Result<()> {
+    let bytes = text_of_library(rt.alloc(), notation)?;
+    match words {
+        ["submit", cell, top] => shelves::submit(rt, shelf, cell, top, &bytes),
+        ["fill", cell, count] => shelves::fill(rt, shelf, cell, count, &bytes),
+        ["again", cell, count] => shelves::again(rt, shelf, cell, count, &bytes),
+        ["cells"] => shelves::cells(rt, shelf),
+        ["new"] => {
+            *shelf = Shelf::new(rt.alloc());
+            Ok(())
+        }
+        ["copy"] => {
+            *shelf = shelf.copy(rt.alloc())?;
+            Ok(())
+        }
+        _ => bail!("a command"),
+    }
+}
+
+fn answer_words(
+    rt: &(impl Print + AllocGlobal),
+    shelf: &mut Shelf,
+    words: &[&str],
+    notation: &str,
+) -> Result<()> {
+    match words {
+        ["boxes"] => shapes::boxes(rt, notation),
+        ["total"] => shapes::total(rt, notation),
+        ["squares", rest @ ..] => shapes::squares(rt, rest, notation),
+        ["figure", name, rest @ ..] => shapes::figure(rt, name, rest),
+        ["scribbles", count] => shapes::scribbles(rt, count),
+        ["outside", top] => shelves::outside(rt, top, notation),
+        ["walks", count] => walks::compared(rt, count),
+        _ => answer_shelf(rt, shelf, words, notation),
+    }
+}
+
+/// Answers a line.
+fn answer(rt: &(impl Print + AllocGlobal), shelf: &mut Shelf, line: &str) -> Result<()> {
+    if line.is_empty() || line.starts_with('#') {
+        return Ok(());
+    }
+    if let Some(roots) = line.strip_prefix("walk ") {
+        return walks::walk(rt, shelf, roots);
+    }
+    if let Some(roots) = line.strip_prefix("count ") {
+        return walks::count(rt, shelf, roots);
+    }
+    let (command, notation) = line.split_once('|').unwrap_or((line, ""));
+    let words: Vec<&str> = command.split_whitespace().collect(rt.alloc())?;
+    answer_words(rt, shelf, &words, notation)
+}
+
+fn main(rt: HostRuntime) -> Result<()> {
+    let mut shelf = Shelf::new(rt.alloc());
+    for line in rt.lines(rt.alloc()) {
+        let line = line?;
+        println!(rt; "{line}")?;
+        answer(&rt, &mut shelf, line.as_str())?;
+    }
+    Ok(())
+}

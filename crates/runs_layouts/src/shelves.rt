@@ -1,0 +1,142 @@
+//! A shelf of submissions.
+
+ghost use Rattle.mpw_library.specs.Library.{IsLibrary};
+
+use anyhow::{Result, bail};
+use mpw_geom::{Box2, Name};
+use mpw_hier::{HierFault, Shelf, Submission, externals};
+use mpw_library::{Library, read_library};
+use mpw_samples::text_of_library;
+use std::alloc::Global;
+
+/// Submits the top of a library as a cell.
+fn put(
+    alloc: Global,
+    shelf: &mut Shelf,
+    cell: Name,
+    top: Name,
+    library: Library,
+) -> Result<u32, HierFault>
+    requires { IsLibrary library }
+{
+    let names = externals(alloc, &library, &top)?;
+    let bound = shelf.bind(alloc, names.as_slice())?;
+    let submission = Submission {
+        submitter: cell.copy()?,
+        cell,
+        version: 0,
+        library,
+        top,
+        bound,
+    };
+    shelf.push(alloc, submission)
+}
+
+pub fn put_text(
+    alloc: Global,
+    shelf: &mut Shelf,
+    cell: &str,
+    top: &str,
+    bytes: &[u8],
+) -> Result<Result<u32, HierFault>> {
+    let library = read_library(alloc, bytes)?;
+    let cell = Name::read(alloc, cell.as_bytes())?;
+    let top = Name::read(alloc, top.as_bytes())?;
+    Ok(put(alloc, shelf, cell, top, library))
+}
+
+/// What a submission shows.
+fn print_shown(rt: &impl Print, shelf: &Shelf, number: u32) -> Result<()> {
+    let version = shelf.get(number).map(|s| s.version).unwrap_or(0);
+    let (count, height) = (shelf.count(number), shelf.height(number));
+    print!(rt; "    {number} is version {version}: {count} shapes, {height} levels")?;
+    match shelf.extent(number) {
+        Some(Box2 { x0, y0, x1, y1 }) => Ok(println!(rt; ", {x0} {y0} {x1} {y1}")?),
+        None => Ok(println!(rt; ", no extent")?),
+    }
+}
+
+/// Prints what the submission shows, or why there is none.
+pub fn submit(
+    rt: &(impl Print + AllocGlobal),
+    shelf: &mut Shelf,
+    cell: &str,
+    top: &str,
+    bytes: &[u8],
+) -> Result<()> {
+    match put_text(rt.alloc(), shelf, cell, top, bytes)? {
+        Ok(number) => print_shown(rt, shelf, number),
+        Err(fault) => Ok(println!(rt; "    {fault}")?),
+    }
+}
+
+fn number(word: &str) -> Result<u32> {
+    match word.parse::<u32>() {
+        Ok(number) => Ok(number),
+        Err(_) => bail!("a number"),
+    }
+}
+
+/// Submits to so many cells, and prints what the last one shows.
+pub fn fill(
+    rt: &(impl Print + AllocGlobal),
+    shelf: &mut Shelf,
+    cell: &str,
+    count: &str,
+    bytes: &[u8],
+) -> Result<()> {
+    let mut last = 0;
+    for k in 0..number(count)? {
+        let cell = format!(in rt.alloc(); "{cell}{k}")?;
+        last = put_text(rt.alloc(), shelf, cell.as_str(), "TOP", bytes)??;
+    }
+    print_shown(rt, shelf, last)
+}
+
+/// Submits so many times to a cell, and prints what the last one shows.
+pub fn again(
+    rt: &(impl Print + AllocGlobal),
+    shelf: &mut Shelf,
+    cell: &str,
+    count: &str,
+    bytes: &[u8],
+) -> Result<()> {
+    let mut last = 0;
+    for _ in 0..number(count)? {
+        last = put_text(rt.alloc(), shelf, cell, "TOP", bytes)??;
+    }
+    print_shown(rt, shelf, last)
+}
+
+/// Prints how many names there are, and each if they are few.
+fn print_names(rt: &impl Print, names: &[Name]) -> Result<()> {
+    let count = names.len();
+    print!(rt; "    {count}:")?;
+    if count > 10 {
+        if let [first, .., last] = names {
+            print!(rt; " {first} to {last}")?;
+        }
+    } else {
+        for name in names {
+            print!(rt; " {name}")?;
+        }
+    }
+    Ok(println!(rt; "")?)
+}
+
+/// Prints the cells that have a submission.
+pub fn cells(rt: &(impl Print + AllocGlobal), shelf: &Shelf) -> Result<()> {
+    let names = shelf.cells(rt.alloc())?;
+    print_names(rt, names.as_slice())
+}
+
+/// Prints the names outside the library that the top shows.
+pub fn outside(rt: &(impl Print + AllocGlobal), top: &str, notation: &str) -> Result<()> {
+    let alloc = rt.alloc();
+    let library = read_library(alloc, &text_of_library(alloc, notation)?)?;
+    let top = Name::read(alloc, top.as_bytes())?;
+    match externals(alloc, &library, &top) {
+        Ok(names) => print_names(rt, names.as_slice()),
+        Err(fault) => Ok(println!(rt; "    {fault}")?),
+    }
+}

@@ -1,0 +1,167 @@
+//! Walks over placed submissions.
+
+use crate::flat::{flat_list, gives};
+use crate::random::Random;
+use anyhow::{Result, bail};
+use mpw_geom::{Orient, Placing, Point};
+use mpw_hier::Shelf;
+use mpw_walk::{Placed, Root, Walk, all_fit};
+use std::alloc::Global;
+
+const SEED: u64 = 1;
+
+/// The orientations by their names.
+const ORIENTS: [(&str, Orient); 8] = [
+    ("R0", Orient::R0),
+    ("R90", Orient::R90),
+    ("R180", Orient::R180),
+    ("R270", Orient::R270),
+    ("M0", Orient::M0),
+    ("M90", Orient::M90),
+    ("M180", Orient::M180),
+    ("M270", Orient::M270),
+];
+
+fn orient(word: &str) -> Result<Orient> {
+    for (name, orient) in ORIENTS {
+        if name == word {
+            return Ok(orient);
+        }
+    }
+    bail!("an orientation")
+}
+
+fn name_of(wanted: Orient) -> &'static str {
+    for (name, orient) in ORIENTS {
+        if orient == wanted {
+            return name;
+        }
+    }
+    "none"
+}
+
+fn number(word: &str) -> Result<i64> {
+    match word.parse::<i64>() {
+        Ok(number) => Ok(number),
+        Err(_) => bail!("a number"),
+    }
+}
+
+fn root(words: &[&str]) -> Result<Root> {
+    let [submission, turn, x, y] = words else {
+        bail!("a root");
+    };
+    let Ok(submission) = submission.parse::<u32>() else {
+        bail!("a submission");
+    };
+    let orient = orient(turn)?;
+    let by = Point {
+        x: number(x)?,
+        y: number(y)?,
+    };
+    Ok(Root {
+        submission,
+        placing: Placing { orient, by },
+    })
+}
+
+/// Roots with commas between them.
+fn roots(alloc: Global, text: &str) -> Result<Vec<Root>> {
+    let mut roots = Vec::new(alloc);
+    for part in text.split(',') {
+        let words: Vec<&str> = part.split_whitespace().collect(alloc)?;
+        if !words.is_empty() {
+            roots.push(root(&words)?)?;
+        }
+    }
+    Ok(roots)
+}
+
+fn print_placed(rt: &impl Print, placed: Placed<'_>) -> Result<()> {
+    let origin = placed.origin;
+    let turn = name_of(placed.placing.orient);
+    let Point { x, y } = placed.placing.by;
+    Ok(println!(rt; "    {origin} {turn} {x} {y}")?)
+}
+
+/// Prints each shape by its origin and its placing, and the number of turns.
+pub fn walk(rt: &(impl Print + AllocGlobal), shelf: &Shelf, text: &str) -> Result<()> {
+    let roots = roots(rt.alloc(), text)?;
+    if roots.len() > 10 || !all_fit(shelf, &roots) {
+        return Ok(println!(rt; "    no roots")?);
+    }
+    let mut walk = Walk::new(rt.alloc(), shelf, &roots)?;
+    for _ in 0..100 {
+        match walk.next() {
+            Some(placed) => print_placed(rt, placed)?,
+            None => break,
+        }
+    }
+    let turns = walk.turns();
+    Ok(println!(rt; "    {turns} turns")?)
+}
+
+/// How many shapes a walk gives.
+fn number_of(walk: &mut Walk<'_>) -> u64 {
+    let mut count = 0u64;
+    for _ in 0..u64::MAX {
+        if walk.next().is_none() {
+            break;
+        }
+        count = count.wrapping_add(1);
+    }
+    count
+}
+
+/// Prints how many shapes a walk gives, and the number of turns.
+pub fn count(rt: &(impl Print + AllocGlobal), shelf: &Shelf, text: &str) -> Result<()> {
+    let roots = roots(rt.alloc(), text)?;
+    if roots.len() > 10 || !all_fit(shelf, &roots) {
+        return Ok(println!(rt; "    no roots")?);
+    }
+    let mut walk = Walk::new(rt.alloc(), shelf, &roots)?;
+    let count = number_of(&mut walk);
+    let turns = walk.turns();
+    Ok(println!(rt; "    {count} shapes, {turns} turns")?)
+}
+
+/// How many shapes the roots show, as the shelf tells.
+fn told(shelf: &Shelf, roots: &[Root]) -> usize {
+    let mut count = 0usize;
+    for root in roots {
+        count = count.saturating_add(shelf.count(root.submission) as usize);
+    }
+    count
+}
+
+/// Walks over a random shelf, and tells how many shapes it shows, or none where the flat list differs.
+fn compared_one(alloc: Global, random: &mut Random) -> Result<Option<usize>> {
+    let shelf = random.shelf(alloc)?;
+    let roots = random.roots(alloc, &shelf)?;
+    if roots.len() > 10 || !all_fit(&shelf, &roots) {
+        bail!("roots that fit");
+    }
+    let list = flat_list(alloc, &shelf, &roots)?;
+    let mut walk = Walk::new(alloc, &shelf, &roots)?;
+    if gives(&mut walk, &list) && list.len() == told(&shelf, &roots) {
+        return Ok(Some(list.len()));
+    }
+    Ok(None)
+}
+
+/// Compares walks over so many random shelves with a plain flattening.
+pub fn compared(rt: &(impl Print + AllocGlobal), word: &str) -> Result<()> {
+    let Ok(shelves) = word.parse::<u32>() else {
+        bail!("a number");
+    };
+    let mut random = Random::new(SEED);
+    let mut shapes = 0usize;
+    for shelf in 0..shelves {
+        match compared_one(rt.alloc(), &mut random)? {
+            Some(count) => shapes = shapes.saturating_add(count),
+            None => println!(rt; "    shelf {shelf} differs")?,
+        }
+    }
+    let size = if shapes > 1000 { "more" } else { "not more" };
+    Ok(println!(rt; "    {shelves} shelves, {size} than 1000 shapes, equal")?)
+}
