@@ -23,36 +23,3 @@ pub fn read_digest(text: &str) -> Option<[u8; 32]>
 {
     <[u8; 32] as FromHex>::from_hex(text).ok()
 }
-
-#[cfg(test)]
-mod tests {
-    use super::*;
-    use std::test::Fail;
-
-    const ABC: &str = "ba7816bf8f01cfea414140de5dae2223b00361a396177a9cb410ff61f20015ad";
-
-    const UPPER: &str = "BA7816BF8F01CFEA414140DE5DAE2223B00361A396177A9CB410FF61F20015AD";
-
-    fn read(text: &str) -> Option<[u8; 32]> {
-        read_digest(text)
-    }
-
-    fn digest(bytes: &[u8]) -> [u8; 32] {
-        digest_of(bytes)
-    }
-
-    #[test]
-    fn digest_of_abc(rt: HostRuntime) -> Result<(), Fail> {
-        assert!(rt; read(ABC) == Some(digest(b"abc")));
-        assert!(rt; read(UPPER) == Some(digest(b"abc")));
-        assert!(rt; read("").is_none());
-        assert!(rt; read("ba7816bf").is_none());
-        assert!(rt;
-            read("ga7816bf8f01cfea414140de5dae2223b00361a396177a9cb410ff61f20015ad").is_none()
-        );
-        assert!(rt;
-            read("ba7816bf8f01cfea414140de5dae2223b00361a396177a9cb410ff61f20015ad0").is_none()
-        );
-        Ok(())
-    }
-}

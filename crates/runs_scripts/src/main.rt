@@ -9,12 +9,14 @@
 #![tactic(auto)]
 
 mod devices;
+mod digests;
 mod keeper;
 mod limit;
 mod serving;
 mod transcript;
 
 use anyhow::Result;
+use digests::tell_digests;
 use keeper::Fails;
 use limit::fill_a_history;
 use serving::{Devices, Served, is_closed, is_front, serve};
@@ -192,5 +194,6 @@ fn main(rt: HostRuntime) -> Result<()> {
             run_case(&rt, line.as_str())?;
         }
     }
+    tell_digests(&rt)?;
     fill_a_history(&rt)
 }
