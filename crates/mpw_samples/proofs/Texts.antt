@@ -1,5 +1,5 @@
 -- The text of records, and the data of points, from a place on.
-use Rattle.std.proofs.Common.{◌≡◌, ℕ, ◌+◌, ◌<◌, ◌||◌, Bool, true, ℤ, IsTrue, Err, refl, sym, ap, ◌∙◌, List, ◌∷◌, ◌++◌, length, get_or, drop, map}
+use Rattle.std.proofs.Common.{◌≡◌, ℕ, ◌+◌, ◌<◌, ◌||◌, ℤ, IsTrue, Err, refl, sym, ap, ◌∙◌, List, ◌++◌, length, get_or, drop, map}
 use Rattle.std.proofs.lemmas.List.{at_drop_more}
 use Rattle.mpw_samples.specs.declared.record.NewRecord.{NewRecord}
 use Rattle.mpw_samples.specs.declared.error.SampleError.{SampleError}

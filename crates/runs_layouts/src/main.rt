@@ -1,12 +1,7 @@
-//! What layouts show: the lines of the standard input are commands, with a library in the notation of `mpw_samples`
+//! What submissions show: the lines of the standard input are commands, with a library in the notation of `mpw_samples`
 //! behind a bar where one is asked for. Each line is repeated, with the answer below. A line that begins with `#`, and
 //! an empty one, says nothing.
 //!
-//! - `boxes | ..` prints the rectangles of each element, `total | ..` how many they are, and the sum of their areas;
-//! - `squares x y .. | ..` counts their unit squares from 0 to 39, and tells whether each of the squares is one;
-//! - `figure NAME` prints how many points a boundary of a known form has, how many boxes it gives, and their area;
-//!   `figure NAME N` tells only that the boxes are at most so many, if they are;
-//! - `scribbles N` compares the boxes of random boundaries with the winding numbers of each square;
 //! - `outside TOP | ..` prints the names outside that a top shows;
 //! - `new` begins with an empty shelf, `copy` goes on with a copy, `cells` prints the cells;
 //! - `submit CELL TOP | ..` puts a library on the shelf, and prints what it shows;
@@ -15,10 +10,8 @@
 //! - `walks N` compares walks over random shelves with a plain flattening.
 #![tactic(auto)]
 
-mod figures;
 mod flat;
 mod random;
-mod shapes;
 mod shelves;
 mod walks;
 
@@ -58,11 +51,6 @@ fn answer_words(
     notation: &str,
 ) -> Result<()> {
     match words {
-        ["boxes"] => shapes::boxes(rt, notation),
-        ["total"] => shapes::total(rt, notation),
-        ["squares", rest @ ..] => shapes::squares(rt, rest, notation),
-        ["figure", name, rest @ ..] => shapes::figure(rt, name, rest),
-        ["scribbles", count] => shapes::scribbles(rt, count),
         ["outside", top] => shelves::outside(rt, top, notation),
         ["walks", count] => walks::compared(rt, count),
         _ => answer_shelf(rt, shelf, words, notation),

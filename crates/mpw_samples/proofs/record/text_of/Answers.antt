@@ -1,7 +1,7 @@
-use Rattle.std.proofs.Common.{◌≡◌, ℕ, ◌+◌, Vec, Global, false, ◌||◌, [], ◌++◌, map, drop, sym, ap, ◌∙◌, rules, append_assoc, append-nil}
+use Rattle.std.proofs.Common.{ℕ, ◌+◌, Vec, Global, ◌||◌, [], map, drop, sym, ap, ◌∙◌, append_assoc, append-nil}
 use Rattle.std.proofs.lemmas.List.{at_drop_all}
 use Rattle.std.proofs.lemmas.Result.{err_from_is_err_and}
-use Rattle.mpw_samples.specs.Text.{raw, text_of, has_too_long, is_too_long}
+use Rattle.mpw_samples.specs.Text.{raw, text_of, has_too_long}
 use Rattle.mpw_samples.proofs.Texts.{text_more, too_long_more, gives_err, found_too_long}
 use Rattle.mpw_samples.proofs.record.text_of.Goals as goal
 
