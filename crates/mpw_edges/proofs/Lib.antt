@@ -1,7 +1,7 @@
 pub mod Tests
 pub mod Region
 pub mod Found
-pub mod Exchange
+pub mod Pairing
 pub mod Maximal
 pub mod Window
 pub mod Computed

@@ -1,8 +1,10 @@
 -- Which pairs of edges the search finds, and on which line and row.
-use Rattle.std.specs.Prelude.{◌≡◌, ℕ, ℤ, pos, ◌-ℤ◌, ◌≤ℤ◌, ◌<ℤ◌, List, Contains}
+use Rattle.std.specs.Prelude.{◌≡◌, ℕ, ◌≤◌, ℤ, pos, ◌-ℤ◌, ◌≤ℤ◌, ◌<ℤ◌, List, length, slice_index_or, take, drop, Contains, All, AllPairs, ◌⊎◌, ◌↔◌}
 use Rattle.std.specs.Bool.{MatchBool}
 use Rattle.mpw_geom.specs.declared.plane.Box2.{Box2}
 use Rattle.mpw_region.specs.declared.runs.Line.{Line}
+use Rattle.mpw_region.specs.declared.runs.Run.{Run}
+use Rattle.mpw_region.specs.Runs.{CoversPlace, IsFilled}
 use Rattle.mpw_edges.specs.declared.pair.Edge.{Edge}
 use Rattle.mpw_edges.specs.declared.pair.Limits.{Limits}
 
@@ -41,3 +43,32 @@ fall_of b = record { x = b.x1; y0 = b.y0; y1 = b.y1 }
 -- the two edges of a box of the list
 abbrev pub IsWidthOf : Limits → List Box2 → Line → ℤ → Type 0
 IsWidthOf limits boxes line j = (b : Box2) × Contains boxes b × IsPairPlace 0 limits (rise_of b) (fall_of b) line j
+
+-- the first edge's rows are below the second's, or they have the same rows and the first is left of the second
+abbrev pub IsEdgeBefore : Edge → Edge → Type 0
+IsEdgeBefore e f = (e.y1 ≤ℤ f.y0) ⊎ ((e.y0 ≡ f.y0) × (e.y1 ≡ f.y1) × (e.x <ℤ f.x))
+
+-- edges from below, and in each band from left to right
+pub record AreEdges (edges : List Edge) : Type 0 where
+  pub filled : All (λ e. e.y0 <ℤ e.y1) edges
+  pub ordered : AllPairs IsEdgeBefore edges
+
+abbrev pub IsLeftOf : Edge → Edge → Type 0
+IsLeftOf e f = e.x <ℤ f.x
+
+-- the edge has the rows of the other
+abbrev pub HasRowsOf : Edge → Edge → Type 0
+HasRowsOf e f = (f.y0 ≡ e.y0) × (f.y1 ≡ e.y1)
+
+-- the first n of the edges are the band of the first one: they have its rows, from left to right, and what follows is above
+pub record IsBand (edges : List Edge) (n : ℕ) : Type 0 where
+  pub some : 1 ≤ n
+  pub within : n ≤ length edges
+  pub rows : (d : Edge) → All (HasRowsOf (slice_index_or edges 0 d)) (take n edges)
+  pub left : AllPairs IsLeftOf (take n edges)
+  pub above : (d : Edge) → All (λ e. (slice_index_or edges 0 d).y1 ≤ℤ e.y0) (drop n edges)
+
+-- what is found and what is left to find, before and after
+pub record Moves (old : List Run) (P : Line → ℤ → Type 0) (new : List Run) (Q : Line → ℤ → Type 0) : Type 0 where
+  pub places : (line : Line) (at : ℤ) → (CoversPlace new line at ⊎ Q line at) ↔ (CoversPlace old line at ⊎ P line at)
+  pub filled : All IsFilled old → All IsFilled new

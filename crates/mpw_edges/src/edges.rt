@@ -6,7 +6,7 @@ ghost use Rattle.mpw_region.specs.Squares.{covers};
 ghost use Rattle.mpw_region.specs.Banded.{AreBands};
 ghost use Rattle.mpw_edges.specs.Steps.{IsWidth, IsSpace, IsSeparation, IsEnclosing};
 ghost use Rattle.mpw_edges.specs.Pieces.{IsInCore, HasVerticalStep};
-ghost use Rattle.mpw_edges.specs.Pairs.{IsWidthOf, rise_of, fall_of};
+ghost use Rattle.mpw_edges.specs.Pairs.{IsWidthOf, AreEdges, rise_of, fall_of};
 
 use crate::pair::{Edge, Limits, add_pair, add_pairs};
 use mpw_deck::{Check, Rule};
@@ -36,18 +36,36 @@ fn fall(b: &Box2) -> Edge
     }
 }
 
-/// The edges at which boxes begin.
-fn rises(alloc: Global, boxes: &[Box2]) -> Result<Vec<Edge>, AllocError>
+/// The edges at which boxes begin, one for each box.
+fn rise_edges(alloc: Global, boxes: &[Box2]) -> Result<Vec<Edge>, AllocError>
     ensures { IfOk result (λ v. v.items ≡ map rise_of boxes.now) }
 {
     boxes.iter().map(|b| rise(b)).collect(alloc)
 }
 
-/// The edges at which boxes end.
-fn falls(alloc: Global, boxes: &[Box2]) -> Result<Vec<Edge>, AllocError>
+/// The edges at which the boxes of bands begin, from below and from left to right.
+fn rises(alloc: Global, boxes: &[Box2]) -> Result<Vec<Edge>, AllocError>
+    requires { AreBands boxes.now }
+    ensures edges { IfOk result (λ v. v.items ≡ map rise_of boxes.now) }
+    ensures ordered { IfOk result (λ v. AreEdges v.items) }
+{
+    rise_edges(alloc, boxes)
+}
+
+/// The edges at which boxes end, one for each box.
+fn fall_edges(alloc: Global, boxes: &[Box2]) -> Result<Vec<Edge>, AllocError>
     ensures { IfOk result (λ v. v.items ≡ map fall_of boxes.now) }
 {
     boxes.iter().map(|b| fall(b)).collect(alloc)
+}
+
+/// The edges at which the boxes of bands end, from below and from left to right.
+fn falls(alloc: Global, boxes: &[Box2]) -> Result<Vec<Edge>, AllocError>
+    requires { AreBands boxes.now }
+    ensures edges { IfOk result (λ v. v.items ≡ map fall_of boxes.now) }
+    ensures ordered { IfOk result (λ v. AreEdges v.items) }
+{
+    fall_edges(alloc, boxes)
 }
 
 /// Adds the rows of the two edges of each box.
@@ -155,8 +173,8 @@ fn enclosings(
     Ok(runs)
 }
 
-/// The rows with a pair step between vertical edges of the regions' boxes. The cost is the product
-/// of the numbers of boxes.
+/// The rows with a pair step between vertical edges of the regions' boxes, cut where a band of either
+/// region ends. A width costs a test a box, the others what [`add_pairs`] does.
 pub(crate) fn runs(
     alloc: Global,
     rule: &Rule,

@@ -3,19 +3,28 @@
 ghost use Rattle.std.specs.Prelude.{
   ◌≡◌,
   ◌↔◌,
+  ◌+◌,
+  ◌≤◌,
   ◌≤ℤ◌,
   ◌<ℤ◌,
   ◌-ℤ◌,
+  ◌⊎◌,
   pos,
   ℤ,
   IsTrue,
   OnOk,
   MatchBool,
   MatchOption,
+  All,
+  AllPairs,
+  IfOk,
+  length,
+  take,
+  drop,
 };
 ghost use Rattle.mpw_region.specs.declared.runs.Line.{Line as LineValue};
 ghost use Rattle.mpw_region.specs.Runs.{HoldsPlace, IsFilled, Adds};
-ghost use Rattle.mpw_edges.specs.Pairs.{IsInRows, IsPairPlace, IsPairFrom, IsPairOf};
+ghost use Rattle.mpw_edges.specs.Pairs.{IsInRows, IsPairPlace, IsPairFrom, IsPairOf, IsLeftOf, AreEdges, IsBand, Moves};
 
 use mpw_geom::Box2;
 use mpw_region::{Line, Run};
@@ -125,7 +134,24 @@ pub(crate) fn add_pair(
     Ok(())
 }
 
-/// Adds the rows of each pair of this edge and one of the others.
+/// Whether the second edge, to the right of the first, is too far from it to be a pair.
+fn is_past(from: &Edge, to: &Edge, limits: &Limits) -> bool
+    ensures { IsTrue result → pos limits.now.distance ≤ℤ (to.now.x -ℤ from.now.x) }
+{
+    from.x <= to.x && to.x.abs_diff(from.x) >= u64::from(limits.distance)
+}
+
+/// The place of the first edge that isn't left of this one. A binary search.
+fn place_of(tos: &[Edge], from: &Edge) -> usize
+    requires { AllPairs IsLeftOf tos.now }
+    ensures within { result ≤ length tos.now }
+    ensures left { All (λ to. to.x <ℤ from.now.x) (take result tos.now) }
+{
+    tos.partition_point(|to| to.x < from.x)
+}
+
+/// Adds the rows of each pair of this edge and one of a band's: a search for the first that isn't left
+/// of it, and then one test a pair and one more.
 fn add_pairs_from(
     runs: &mut Vec<Run>,
     side: u8,
@@ -133,16 +159,101 @@ fn add_pairs_from(
     tos: &[Edge],
     limits: &Limits,
 ) -> Result<(), AllocError>
+    requires { AllPairs IsLeftOf tos.now }
     ensures { OnOk result (Adds runs.old.items runs.new.items
         (IsPairFrom side limits.now tos.now from.now)) }
 {
-    for to in tos {
+    for k in place_of(tos, from)..tos.len() {
+        let to = &tos[k];
+        if is_past(from, to, limits) {
+            return Ok(());
+        }
         add_pair(runs, side, from, to, limits)?;
     }
     Ok(())
 }
 
-/// Adds the rows of each pair of an edge of each list. The cost is the product of their lengths.
+/// Adds the rows of each pair of an edge of each of two bands.
+fn add_band_pairs(
+    runs: &mut Vec<Run>,
+    side: u8,
+    froms: &[Edge],
+    tos: &[Edge],
+    limits: &Limits,
+) -> Result<(), AllocError>
+    requires { AllPairs IsLeftOf tos.now }
+    ensures { OnOk result (Adds runs.old.items runs.new.items
+        (IsPairOf side limits.now froms.now tos.now)) }
+{
+    for from in froms {
+        add_pairs_from(runs, side, from, tos, limits)?;
+    }
+    Ok(())
+}
+
+/// How many edges the band of the first one has. A binary search.
+fn band_length(edges: &[Edge]) -> usize
+    requires edges { AreEdges edges.now }
+    requires some { 1 ≤ length edges.now }
+    ensures { IsBand edges.now result }
+{
+    let first = &edges[0];
+    edges.partition_point(|edge| edge.y0 <= first.y0)
+}
+
+/// Whether the edges have a row in common.
+fn share_rows(from: &Edge, to: &Edge) -> bool
+    ensures { MatchBool result
+        ((from.now.y0 <ℤ to.now.y1) × (to.now.y0 <ℤ from.now.y1))
+        ((to.now.y1 ≤ℤ from.now.y0) ⊎ (from.now.y1 ≤ℤ to.now.y0)) }
+{
+    from.y0 < to.y1 && to.y0 < from.y1
+}
+
+/// Whether the first edge ends no higher than the second.
+fn ends_first(from: &Edge, to: &Edge) -> bool
+    ensures { MatchBool result (from.now.y1 ≤ℤ to.now.y1) (to.now.y1 ≤ℤ from.now.y1) }
+{
+    from.y1 <= to.y1
+}
+
+/// Adds the rows of each pair of the lists' lowest bands, and tells how many edges of each list have no
+/// further pairs: those of the band that ends first.
+fn add_bands(
+    runs: &mut Vec<Run>,
+    side: u8,
+    froms: &[Edge],
+    tos: &[Edge],
+    limits: &Limits,
+) -> Result<(usize, usize), AllocError>
+    requires froms { AreEdges froms.now }
+    requires tos { AreEdges tos.now }
+    requires some_from { 1 ≤ length froms.now }
+    requires some_to { 1 ≤ length tos.now }
+    ensures from_within { IfOk result (λ r. r.0 ≤ length froms.now) }
+    ensures to_within { IfOk result (λ r. r.1 ≤ length tos.now) }
+    ensures further { IfOk result (λ r. 1 ≤ r.0 + r.1) }
+    ensures moves { IfOk result (λ r.
+        Moves runs.old.items (IsPairOf side limits.now froms.now tos.now)
+        runs.new.items (IsPairOf side limits.now (drop r.0 froms.now) (drop r.1 tos.now))) }
+{
+    let band = band_length(froms);
+    let other = band_length(tos);
+    if share_rows(&froms[0], &tos[0]) {
+        add_band_pairs(runs, side, &froms[..band], &tos[..other], limits)?;
+    }
+    if ends_first(&froms[0], &tos[0]) {
+        Ok((band, 0))
+    } else {
+        Ok((0, other))
+    }
+}
+
+/// Adds the rows of each pair of an edge of each list.
+///
+/// The bands of both lists are gone through from below, by two pointers. In two bands with rows in
+/// common each edge of the first looks for the near ones of the second: a binary search and the pairs
+/// that it finds.
 pub(crate) fn add_pairs(
     runs: &mut Vec<Run>,
     side: u8,
@@ -150,11 +261,20 @@ pub(crate) fn add_pairs(
     tos: &[Edge],
     limits: &Limits,
 ) -> Result<(), AllocError>
+    requires froms { AreEdges froms.now }
+    requires tos { AreEdges tos.now }
     ensures { OnOk result (Adds runs.old.items runs.new.items
         (IsPairOf side limits.now froms.now tos.now)) }
 {
-    for from in froms {
-        add_pairs_from(runs, side, from, tos, limits)?;
+    let mut i = 0;
+    let mut j = 0;
+    while i < froms.len() {
+        if j >= tos.len() {
+            return Ok(());
+        }
+        let (m, n) = add_bands(runs, side, &froms[i..], &tos[j..], limits)?;
+        i += m;
+        j += n;
     }
     Ok(())
 }

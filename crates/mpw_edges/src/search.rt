@@ -1,12 +1,14 @@
 //! The pieces that a core finds.
 
-ghost use Rattle.std.specs.Prelude.{◌≡◌, ◌↔◌, ℤ, IfOk, map, Contains, AllPairs};
+ghost use Rattle.std.specs.Prelude.{◌≡◌, ◌↔◌, ◌++◌, ℤ, IfOk, map, Contains, AllPairs};
 ghost use Rattle.mpw_region.specs.declared.runs.Line.{Line as LineValue};
 ghost use Rattle.mpw_region.specs.Runs.{CoversPlace, AreApart};
 ghost use Rattle.mpw_region.specs.Squares.{covers};
+ghost use Rattle.mpw_region.specs.Banded.{AreBands};
+ghost use Rattle.mpw_edges.specs.declared.run.Axis.TheVariants.{V, H};
 ghost use Rattle.mpw_edges.specs.declared.run.Piece.{Piece as PieceValue};
-ghost use Rattle.mpw_edges.specs.Edges.{exchanged};
 ghost use Rattle.mpw_edges.specs.Pieces.{
+  HasStep,
   HasVerticalStep,
   IsPiece,
   ComesBefore,
@@ -18,23 +20,25 @@ use crate::edges::runs;
 use crate::run::{Axis, Piece};
 use mpw_deck::Rule;
 use mpw_geom::Box2;
-use mpw_region::{Bands, Run, bands, joined};
+use mpw_region::{Bands, Run, joined};
 use std::alloc::{AllocError, Global};
 
-/// The maximal runs of rows with a pair step between vertical edges.
+/// The maximal runs of rows with a pair step between vertical edges of bands.
 fn vertical(
     alloc: Global,
     rule: &Rule,
-    first: &Bands,
-    second: &Bands,
+    first: &[Box2],
+    second: &[Box2],
     core: Box2,
 ) -> Result<Vec<Run>, AllocError>
+    requires first { AreBands first.now }
+    requires second { AreBands second.now }
     ensures places { IfOk result (λ v. (line : LineValue) (j : ℤ) → CoversPlace v.items line j
         ↔ HasVerticalStep rule.now (covers first.now) (covers second.now) core
         line.side line.first line.second j) }
     ensures apart { IfOk result (λ v. AreApart v.items) }
 {
-    let found = runs(alloc, rule, first.as_slice(), second.as_slice(), core)?;
+    let found = runs(alloc, rule, first, second, core)?;
     joined(alloc, found)
 }
 
@@ -50,19 +54,34 @@ fn exchanged_box(b: &Box2) -> Box2
     }
 }
 
-/// The boxes with their coordinates exchanged.
-fn exchanged_boxes(alloc: Global, boxes: &[Box2]) -> Result<Vec<Box2>, AllocError>
-    ensures { IfOk result (λ v. v.items ≡ map exchanged_box boxes.now) }
+/// The maximal runs of rows with a pair step of the rule on the axis inside the core: the line of a run
+/// has the side, `x1` and `x2`. They are what [`pieces`] tells of the axis, for a caller that finds the
+/// steps of many cores and joins their runs.
+///
+/// For `k` runs before they are joined the cost is that of finding them (see [`pieces`]) and `k log k`.
+///
+/// # Errors
+/// Where there is no room.
+pub fn steps(
+    alloc: Global,
+    rule: &Rule,
+    axis: Axis,
+    first: &Bands,
+    second: &Bands,
+    core: Box2,
+) -> Result<Vec<Run>, AllocError>
+    ensures places { IfOk result (λ v. (line : LineValue) (j : ℤ) → CoversPlace v.items line j
+        ↔ HasStep rule.now (covers first.now) (covers second.now) core axis
+        line.side line.first line.second j) }
+    ensures apart { IfOk result (λ v. AreApart v.items) }
 {
-    boxes.iter().map(|b| exchanged_box(b)).collect(alloc)
-}
-
-/// The region with its coordinates exchanged.
-fn exchanged(alloc: Global, region: &Bands) -> Result<Bands, AllocError>
-    ensures { IfOk result (λ r. (i j : ℤ) → covers r i j ≡ covers region.now j i) }
-{
-    let boxes = exchanged_boxes(alloc, region.as_slice())?;
-    bands(alloc, boxes.as_slice())
+    match axis {
+        Axis::V => vertical(alloc, rule, first.as_slice(), second.as_slice(), core),
+        Axis::H => {
+            let core = exchanged_box(&core);
+            vertical(alloc, rule, first.columns(), second.columns(), core)
+        }
+    }
 }
 
 /// The runs as pieces of an axis.
@@ -81,22 +100,22 @@ fn pieces_on(alloc: Global, axis: Axis, runs: &[Run]) -> Result<Vec<Piece>, Allo
         .collect(alloc)
 }
 
-/// The maximal runs of rows with a pair step between horizontal edges.
-fn horizontal(
+/// The runs of both axes as pieces, those of axis `V` first. One pass.
+///
+/// # Errors
+/// Where there is no room.
+pub fn pieces_of(
     alloc: Global,
-    rule: &Rule,
-    first: &Bands,
-    second: &Bands,
-    core: Box2,
-) -> Result<Vec<Run>, AllocError>
-    ensures places { IfOk result (λ v. (line : LineValue) (j : ℤ) → CoversPlace v.items line j
-        ↔ HasVerticalStep rule.now (exchanged (covers first.now)) (exchanged (covers second.now))
-        (exchanged_box core) line.side line.first line.second j) }
-    ensures apart { IfOk result (λ v. AreApart v.items) }
+    vertical: &[Run],
+    horizontal: &[Run],
+) -> Result<Vec<Piece>, AllocError>
+    ensures { IfOk result (λ v.
+        v.items ≡ map (piece_of V) vertical.now ++ map (piece_of H) horizontal.now) }
 {
-    let first = exchanged(alloc, first)?;
-    let second = exchanged(alloc, second)?;
-    vertical(alloc, rule, &first, &second, exchanged_box(&core))
+    let mut pieces = pieces_on(alloc, Axis::V, vertical)?;
+    let more = pieces_on(alloc, Axis::H, horizontal)?;
+    pieces.extend_from_slice(more.as_slice())?;
+    Ok(pieces)
 }
 
 /// What the rule finds in the half-open core, from `(x0, y0)` to before `(x1, y1)`: the maximal runs
@@ -107,10 +126,10 @@ fn horizontal(
 /// coordinates are exchanged. So what is found depends on the squares of the core alone, widened on
 /// each side by the distance plus 1.
 ///
-/// The cost on axis `V` is a test a box for a width, the square of the boxes for a space, and twice
-/// the product of the two regions' boxes for a check of two layers, with a sort of what is found. On
-/// axis `H` it is the same of the boxes that [`bands`] makes of the exchanged ones, and its own cost
-/// before. The only error is that memory ran out.
+/// The cost on each axis is a test a box for a width. For the other checks it is, in each two bands of
+/// the regions with rows in common, a binary search for each box of the first, and the pairs found,
+/// which are cut where a band ends; each list of bands is gone through once. Then the runs found are
+/// sorted and joined. The only error is that memory ran out.
 pub fn pieces(
     alloc: Global,
     rule: &Rule,
@@ -122,13 +141,7 @@ pub fn pieces(
         Contains v.items p ↔ IsPiece rule.now (covers first.now) (covers second.now) core p) }
     ensures ordered { IfOk result (λ v. AllPairs ComesBefore v.items) }
 {
-    let found = vertical(alloc, rule, first, second, core)?;
-    let mut pieces = pieces_on(alloc, Axis::V, found.as_slice())?;
-    let found = horizontal(alloc, rule, first, second, core)?;
-    let more = pieces_on(alloc, Axis::H, found.as_slice())?;
-    pieces.extend_from_slice(more.as_slice())?;
-    Ok(pieces)
+    let vertical = steps(alloc, rule, Axis::V, first, second, core)?;
+    let horizontal = steps(alloc, rule, Axis::H, first, second, core)?;
+    pieces_of(alloc, vertical.as_slice(), horizontal.as_slice())
 }
-
-#[cfg(test)]
-mod tests;

@@ -2,5 +2,7 @@ pub mod Order
 pub mod Held
 pub mod Adding
 pub mod Joins
-pub mod Strips
-pub mod Banded
+pub mod Active
+pub mod Merging
+pub mod Borders
+pub mod Sweeping

@@ -1,5 +1,8 @@
 pub mod Squares
 pub mod Runs
 pub mod Order
-pub mod Strips
 pub mod Banded
+pub mod Exchange
+pub mod Region
+pub mod Sweep
+pub mod Swept

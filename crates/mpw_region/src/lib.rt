@@ -1,16 +1,19 @@
 //! The merged region of a list of boxes, as bands of rows.
 //!
 //! [`bands`] gives boxes that have the same unit squares, ordered by rows and then from left to
-//! right, in which no two boxes of a row touch. [`joined`] is the tool behind it: runs of whole
-//! numbers on lines, with overlapping and touching runs of one line made into one.
+//! right, in which no two boxes of a row touch. [`laws::Sweep`] is the sweep behind it. [`joined`] makes
+//! runs of whole numbers on lines into one where they overlap or touch.
 //!
-//! A call of [`bands`] takes the boxes of one window. In time and in memory it may cost the square of
-//! their number, or the number of boxes times that of bands: the first page of `cut.rt` counts both.
+//! A call of [`bands`] takes the boxes of one window. Its cost grows with the boxes that share rows: the
+//! first page of `cut.rt` counts it.
 #![tactic(auto)]
 
 mod cut;
+pub mod laws;
+mod merge;
 mod region;
 mod runs;
+mod sweep;
 
 pub use cut::bands;
 pub use region::Bands;

@@ -2,6 +2,7 @@
 
 ghost use Rattle.std.specs.Prelude.{◌≡◌};
 ghost use Rattle.mpw_region.specs.Banded.{AreBands};
+ghost use Rattle.mpw_region.specs.Region.{IsRegion, AreColumnsOf};
 
 use mpw_geom::Box2;
 use std::marker::Model;
@@ -9,30 +10,33 @@ use std::marker::Model;
 /// A set of unit squares as bands of rows. In contracts it is the list of its boxes: from below,
 /// and in each band from left to right with a gap between any two. What stands on it speaks of the
 /// squares alone, so whether neighbouring bands of equal columns are one is no part of its meaning.
+///
+/// Beside them it keeps the bands of the same squares with their coordinates exchanged.
 #[derive(Debug, Drop)]
 pub struct Bands {
     boxes: Vec<Box2>,
+    columns: Vec<Box2>,
 }
 
 impl Model for Bands {
     ghost use Rattle.std.specs.Prelude.{List};
     ghost use Rattle.mpw_geom.specs.declared.plane.Box2.{Box2};
-    ghost use Rattle.mpw_region.specs.Banded.{AreBands};
+    ghost use Rattle.mpw_region.specs.Region.{IsRegion};
 
     ghost Value = { List Box2 };
 
     ghost view = { λ b. b.boxes.items };
 
-    ghost invariant = { λ b. AreBands b.boxes.items };
+    ghost invariant = { λ b. IsRegion b.boxes.items b.columns.items };
 }
 
 impl Bands {
-    /// The region of boxes that are bands already.
-    pub(crate) fn of(boxes: Vec<Box2>) -> Bands
-        requires { AreBands boxes.items }
+    /// The region of boxes that are bands already, with those of the exchanged squares.
+    pub(crate) fn of(boxes: Vec<Box2>, columns: Vec<Box2>) -> Bands
+        requires { IsRegion boxes.items columns.items }
         ensures { result ≡ boxes.items }
     {
-        Bands { boxes }
+        Bands { boxes, columns }
     }
 
     /// The boxes: bands of rows from below, and in each band intervals from left to right.
@@ -41,5 +45,12 @@ impl Bands {
         ensures banded { AreBands self.now }
     {
         self.boxes.as_slice()
+    }
+
+    /// The bands of the same squares with their coordinates exchanged, made with the region.
+    pub fn columns(&self) -> &[Box2]
+        ensures { AreColumnsOf self.now result.now }
+    {
+        self.columns.as_slice()
     }
 }

@@ -1,13 +1,24 @@
-use Rattle.mpw_edges.specs.Pairs.{IsPairFrom}
-use Rattle.mpw_region.proofs.Adding.{Adds-start, Adds-more, Adds-all}
-use Rattle.mpw_edges.proofs.Region.{no_edge}
+use Rattle.std.proofs.Common.{inl, inr, arith, length-drop}
+use Rattle.std.proofs.lemmas.List.{take_rest, length-take}
+use Rattle.mpw_edges.specs.declared.pair.Edge.{Edge}
+use Rattle.mpw_edges.specs.Pairs.{IsPairOf}
+use Rattle.mpw_edges.proofs.Pairing.{Moves-start, Moves-on, Moves-all}
 use Rattle.mpw_edges.proofs.pair.add_pairs.Goals as goal
 
-pub loop-from-init : goal.loop-from-init
-loop-from-init c = Adds-start c.args.runs.now.items (λ from. IsPairFrom c.args.side c.args.limits.now c.args.tos.now from)
+pub returns-then-j-tos : goal.returns-then-j-tos
+returns-then-j-tos c = Moves-all c.args.runs.now.items c.loop-i.runs.items c.args.side c.args.limits.now c.args.froms.now c.args.tos.now c.loop-i.i c.loop-i.j c.loop-i.invariant.moves (inr c.if-j-tos.true)
 
-pub loop-from-preserved : goal.loop-from-preserved
-loop-from-preserved c = Adds-more c.args.runs.now.items _ _ (λ from. IsPairFrom c.args.side c.args.limits.now c.args.tos.now from) c.args.froms.now c.loop-from.from-index no_edge c.loop-from-test.true c.loop-from.invariant c.in_ok-add_pairs_from.ensures
+pub loop-i-preserved : goal.loop-i-preserved
+loop-i-preserved c =
+    let froms = c.args.froms.now in
+    let tos = c.args.tos.now in
+    let i = c.loop-i.i in
+    let j = c.loop-i.j in
+    record {
+      moves = Moves-on c.args.runs.now.items c.loop-i.runs.items c.add_bands.new.runs.items (IsPairOf c.args.side c.args.limits.now froms tos) c.args.side c.args.limits.now froms tos _ _ i j c.in_ok-m.m c.in_ok-m.n (take_rest froms i) (take_rest tos j) c.loop-i.invariant.moves c.in_ok-m.ensures.moves;
+      from = omega (arith, c.in_ok-m.ensures.from_within, length-take {A = Edge}, length-drop {A = Edge});
+      to = omega (arith, c.in_ok-m.ensures.to_within, length-take {A = Edge}, length-drop {A = Edge});
+    }
 
 pub returns : goal.returns
-returns c = Adds-all c.args.runs.now.items _ (λ from. IsPairFrom c.args.side c.args.limits.now c.args.tos.now from) c.args.froms.now c.loop-from.from-index c.loop-from-test.false c.loop-from.invariant
+returns c = Moves-all c.args.runs.now.items c.loop-i.runs.items c.args.side c.args.limits.now c.args.froms.now c.args.tos.now c.loop-i.i c.loop-i.j c.loop-i.invariant.moves (inl c.loop-i-test.false)

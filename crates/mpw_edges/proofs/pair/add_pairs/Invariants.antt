@@ -1,7 +1,13 @@
-use Rattle.std.proofs.Common.{take}
-use Rattle.mpw_region.specs.Runs.{Adds}
-use Rattle.mpw_edges.specs.Pairs.{IsPairOf}
+use Rattle.std.proofs.Common.{ℕ, ◌+◌, ◌-◌, ◌≤◌, length, drop}
+use Rattle.mpw_edges.specs.Pairs.{IsPairOf, Moves}
 use Rattle.mpw_edges.proofs.pair.add_pairs.Given as goal
 
-abbrev pub invariant-loop-from : goal.invariant-loop-from
-invariant-loop-from l = Adds l.initial.runs.items l.runs.items (IsPairOf l.side l.limits (take l.from-index l.froms) l.tos)
+abbrev pub invariant-loop-i : goal.invariant-loop-i
+invariant-loop-i l = record {
+  moves : Moves l.initial.runs.items (IsPairOf l.side l.limits l.froms l.tos) l.runs.items (IsPairOf l.side l.limits (drop l.i l.froms) (drop l.j l.tos));
+  from : l.i ≤ length l.froms;
+  to : l.j ≤ length l.tos;
+}
+
+abbrev pub decreases-loop-i : goal.decreases-loop-i
+decreases-loop-i l = (length l.froms - l.i) + (length l.tos - l.j)

@@ -5,7 +5,7 @@ use mir.Val.{SFits}
 use Rattle.std.proofs.lemmas.Int.{to_z-of_z}
 use Rattle.std.proofs.lemmas.List.{take_all}
 use Rattle.mpw_geom.proofs.Squares.{no_box}
-use Rattle.mpw_region.proofs.Strips.{HasBorders, borders_more, borders_moved, ordered_from_sort}
+use Rattle.mpw_region.proofs.Borders.{HasBorders, borders_more, borders_moved, ordered_from_sort}
 use Rattle.mpw_region.proofs.cut.borders.Goals as goal
 
 pub loop-b-preserved : goal.loop-b-preserved

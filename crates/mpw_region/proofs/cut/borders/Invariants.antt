@@ -1,6 +1,6 @@
 use Rattle.std.proofs.Common.{take}
 use Rattle.std.specs.Prelude.{All}
-use Rattle.mpw_region.proofs.Strips.{HasBorders}
+use Rattle.mpw_region.proofs.Borders.{HasBorders}
 use Rattle.mpw_region.proofs.cut.borders.Given as goal
 
 abbrev pub invariant-loop-b : goal.invariant-loop-b

@@ -1,0 +1,139 @@
+-- What a core finds is what its halves find, each in its window.
+use Rattle.std.proofs.Common.{◌≡◌, ℕ, ◌+◌, ◌≤◌, ℤ, ◌≤ℤ◌, ◌<ℤ◌, List, [], ◌++◌, ◌⊎◌, inl, inr, subst, sym, ap, pos, neg_ℤ, ◌^◌, arith}
+use Rattle.std.specs.Prelude.{◌↔◌, All}
+use Rattle.std.proofs.lemmas.Int.{ints, by_lt_z}
+use Rattle.std.proofs.lemmas.List.Elements.{All-append, Contains-append_left, Contains-append_right, Contains-append_cases}
+use Rattle.mpw_geom.specs.declared.plane.Box2.{Box2}
+use Rattle.mpw_geom.specs.declared.plane.Point.{Point}
+use Rattle.mpw_geom.specs.Plane.{IsBoxInPlane, IsCoordinate}
+use Rattle.mpw_region.specs.declared.runs.Line.{Line}
+use Rattle.mpw_region.specs.declared.runs.Run.{Run}
+use Rattle.mpw_region.specs.Runs.{CoversPlace, HoldsPlace, IsFilled, Adds}
+use Rattle.mpw_region.specs.Squares.{covers}
+use Rattle.mpw_region.proofs.Adding.{Adds-both, Adds-same}
+use Rattle.mpw_deck.specs.declared.rule.Rule.{Rule}
+use Rattle.mpw_edges.specs.declared.run.Axis.{Axis}
+use Rattle.mpw_edges.specs.declared.run.Axis.TheVariants.{V, H}
+use Rattle.mpw_edges.specs.Edges.{Squares}
+use Rattle.mpw_edges.specs.Pieces.{IsInCore, HasStep}
+use Rattle.mpw_edges.specs.Laws.{AreSameIn}
+use Rattle.mpw_edges.proofs.Window.{step_same, back}
+use Rattle.mpw_checks.specs.Cells.{StepsIn, window_of, AreAlikeIn, AreHalves, IsMiddle, left_of, right_of, below, above}
+
+-- a pair step belongs to just one half
+step_in_half : (rule : Rule) (a b : Squares) (core low high : Box2) → AreHalves core low high → (axis : Axis) (side : ℕ) (x1 x2 j : ℤ) → HasStep rule a b core axis side x1 x2 j → HasStep rule a b low axis side x1 x2 j ⊎ HasStep rule a b high axis side x1 x2 j
+step_in_half rule a b core low high h V side x1 x2 j s = elim ((h x1 j).0 s.1) [ inl p ↦ inl (s.0, p) | inr p ↦ inr (s.0, p) ]
+step_in_half rule a b core low high h H side x1 x2 j s =
+    elim ((h j x1).0 (s.1.2, s.1.3, s.1.0, s.1.1)) [ inl p ↦ inl (s.0, (p.2, p.3, p.0, p.1)) | inr p ↦ inr (s.0, (p.2, p.3, p.0, p.1)) ]
+
+step_of_half : (rule : Rule) (a b : Squares) (core low high : Box2) → AreHalves core low high → (axis : Axis) (side : ℕ) (x1 x2 j : ℤ) → HasStep rule a b low axis side x1 x2 j ⊎ HasStep rule a b high axis side x1 x2 j → HasStep rule a b core axis side x1 x2 j
+step_of_half rule a b core low high h V side x1 x2 j (inl s) = (s.0, (h x1 j).1 (inl s.1))
+step_of_half rule a b core low high h V side x1 x2 j (inr s) = (s.0, (h x1 j).1 (inr s.1))
+step_of_half rule a b core low high h H side x1 x2 j (inl s) = let p = (h j x1).1 (inl (s.1.2, s.1.3, s.1.0, s.1.1)) in (s.0, (p.2, p.3, p.0, p.1))
+step_of_half rule a b core low high h H side x1 x2 j (inr s) = let p = (h j x1).1 (inr (s.1.2, s.1.3, s.1.0, s.1.1)) in (s.0, (p.2, p.3, p.0, p.1))
+
+itself : (n : ℕ) → n ≤ n
+itself n = omega arith
+
+seen : (rule : Rule) (first second f s : List Box2) (core : Box2) → AreAlikeIn (window_of core rule) first f → AreAlikeIn (window_of core rule) second s → (axis : Axis) (line : Line) (j : ℤ) → StepsIn rule first second core axis line j → StepsIn rule f s core axis line j
+seen rule first second f s core p q axis line j = step_same rule rule.distance (covers first) (covers second) (covers f) (covers s) core (itself rule.distance) p q axis line.side line.first line.second j
+
+meant : (rule : Rule) (first second f s : List Box2) (core : Box2) → AreAlikeIn (window_of core rule) first f → AreAlikeIn (window_of core rule) second s → (axis : Axis) (line : Line) (j : ℤ) → StepsIn rule f s core axis line j → StepsIn rule first second core axis line j
+meant rule first second f s core p q axis line j = step_same rule rule.distance (covers f) (covers s) (covers first) (covers second) core (itself rule.distance) (back (window_of core rule) (covers first) (covers f) p) (back (window_of core rule) (covers second) (covers s) q) axis line.side line.first line.second j
+
+pub Adds-halves : (old mid new : List Run) (rule : Rule) (first second f s f' s' : List Box2) (core low high : Box2) (axis : Axis) → AreHalves core low high
+    → AreAlikeIn (window_of low rule) first f → AreAlikeIn (window_of low rule) second s → AreAlikeIn (window_of high rule) first f' → AreAlikeIn (window_of high rule) second s'
+    → Adds old mid (StepsIn rule f s low axis) → Adds mid new (StepsIn rule f' s' high axis) → Adds old new (StepsIn rule first second core axis)
+Adds-halves old mid new rule first second f s f' s' core low high axis halves p q p' q' below above =
+    Adds-same old new (λ line j. StepsIn rule f s low axis line j ⊎ StepsIn rule f' s' high axis line j) (StepsIn rule first second core axis)
+    (Adds-both old mid new (StepsIn rule f s low axis) (StepsIn rule f' s' high axis) below above) to from
+  where
+    to : (line : Line) (j : ℤ) → StepsIn rule f s low axis line j ⊎ StepsIn rule f' s' high axis line j → StepsIn rule first second core axis line j
+    to line j (inl t) = step_of_half rule (covers first) (covers second) core low high halves axis line.side line.first line.second j (inl (meant rule first second f s low p q axis line j t))
+    to line j (inr t) = step_of_half rule (covers first) (covers second) core low high halves axis line.side line.first line.second j (inr (meant rule first second f' s' high p' q' axis line j t))
+
+    from : (line : Line) (j : ℤ) → StepsIn rule first second core axis line j → StepsIn rule f s low axis line j ⊎ StepsIn rule f' s' high axis line j
+    from line j t = elim (step_in_half rule (covers first) (covers second) core low high halves axis line.side line.first line.second j t) [
+      | inl u ↦ inl (seen rule first second f s low p q axis line j u)
+      | inr u ↦ inr (seen rule first second f' s' high p' q' axis line j u)
+    ]
+
+-- runs that hold just the places of P are added
+pub Adds-found : (old found new : List Run) (P : Line → ℤ → Type 0) → new ≡ old ++ found → ((line : Line) (j : ℤ) → CoversPlace found line j ↔ P line j) → All IsFilled found → Adds old new P
+Adds-found old found new P e h filled = subst (λ (rs : List Run). Adds old rs P) (sym e) (record {
+  places = λ line j. (to line j, from line j);
+  filled = λ f. All-append IsFilled old found f filled;
+})
+  where
+    to : (line : Line) (j : ℤ) → CoversPlace (old ++ found) line j → CoversPlace old line j ⊎ P line j
+    to line j c = elim (Contains-append_cases old found c.0 c.1) [
+      | inl a ↦ inl (c.0, a, c.2)
+      | inr b ↦ inr ((h line j).0 (c.0, b, c.2))
+    ]
+
+    from : (line : Line) (j : ℤ) → CoversPlace old line j ⊎ P line j → CoversPlace (old ++ found) line j
+    from line j (inl c) = (c.0, Contains-append_left old found c.0 c.1, c.2)
+    from line j (inr p) = let c = (h line j).1 p in (c.0, Contains-append_right old found c.0 c.1, c.2)
+
+-- ---- the halves at a point
+
+between : (low high m z : ℤ) → m ≤ℤ high → ((y : ℤ) → y ≤ℤ low → y ≤ℤ high → y ≤ℤ m) → m ≤ℤ z → z <ℤ high → low ≤ℤ z
+between low high m z u l a b =
+    by_lt_z high low
+    (λ c. absurd (let s = l high (omega (arith, ints, c)) (omega (arith, ints)) in omega (arith, ints, s, a, b)))
+    (λ c. let s = l low (omega (arith, ints)) c in omega (arith, ints, s, a))
+
+pub column_halves : (core : Box2) (at : Point) → IsMiddle core at → AreHalves core (left_of core at) (right_of core at)
+column_halves core at h x y = (
+  λ p. by_lt_z x at.x (λ l. inl (p.0, l, p.2, p.3)) (λ l. inr (l, p.1, p.2, p.3)),
+  λ p. elim p [
+    | inl q ↦ (q.0, (let u = h.column in omega (arith, ints, u, q.1)), q.2, q.3)
+    | inr q ↦ (between core.x0 core.x1 at.x x h.column h.columns q.0 q.1, q.1, q.2, q.3)
+  ],
+)
+
+pub row_halves : (core : Box2) (at : Point) → IsMiddle core at → AreHalves core (below core at) (above core at)
+row_halves core at h x y = (
+  λ p. by_lt_z y at.y (λ l. inl (p.0, p.1, p.2, l)) (λ l. inr (p.0, p.1, l, p.3)),
+  λ p. elim p [
+    | inl q ↦ (q.0, q.1, q.2, (let u = h.row in omega (arith, ints, u, q.3)))
+    | inr q ↦ (q.0, q.1, between core.y0 core.y1 at.y y h.row h.rows q.2 q.3, q.3)
+  ],
+)
+
+coordinate : (low high m : ℤ) → IsCoordinate low → IsCoordinate high → m ≤ℤ high → ((y : ℤ) → y ≤ℤ low → y ≤ℤ high → y ≤ℤ m) → IsCoordinate m
+coordinate low high m p q u l = record {
+  low = l (neg_ℤ (pos (2 ^ 48))) p.low q.low;
+  high = let s = q.high in omega (arith, ints, u, s);
+}
+
+pub in_plane_columns : (core : Box2) (at : Point) → IsBoxInPlane core → IsMiddle core at → IsBoxInPlane (left_of core at) × IsBoxInPlane (right_of core at)
+in_plane_columns core at p h =
+    let m = coordinate core.x0 core.x1 at.x p.x0 p.x1 h.column h.columns in
+    (record { x0 = p.x0; y0 = p.y0; x1 = m; y1 = p.y1 }, record { x0 = m; y0 = p.y0; x1 = p.x1; y1 = p.y1 })
+
+pub in_plane_rows : (core : Box2) (at : Point) → IsBoxInPlane core → IsMiddle core at → IsBoxInPlane (below core at) × IsBoxInPlane (above core at)
+in_plane_rows core at p h =
+    let m = coordinate core.y0 core.y1 at.y p.y0 p.y1 h.row h.rows in
+    (record { x0 = p.x0; y0 = p.y0; x1 = p.x1; y1 = m }, record { x0 = p.x0; y0 = m; x1 = p.x1; y1 = p.y1 })
+
+pub same_box : (a b : Box2) → a.x0 ≡ b.x0 → a.y0 ≡ b.y0 → a.x1 ≡ b.x1 → a.y1 ≡ b.y1 → a ≡ b
+same_box a b e f g h =
+    ap (λ (p : ℤ × ℤ × ℤ × ℤ). let c : Box2 = record { x0 = p.0; y0 = p.1; x1 = p.2; y1 = p.3 } in c) (let k : (let q : ℤ × ℤ × ℤ × ℤ = (a.x0, a.y0, a.x1, a.y1) in q) ≡ (b.x0, b.y0, b.x1, b.y1) = cc in k)
+
+-- the slices that code hands on
+pub Adds-seen : (old new : List Run) (rule : Rule) (f f' s s' : List Box2) (core : Box2) (axis : Axis) → f ≡ f' → s ≡ s' → Adds old new (StepsIn rule f s core axis) → Adds old new (StepsIn rule f' s' core axis)
+Adds-seen old new rule f f' s s' core axis e g h = subst (λ (x : List Box2). Adds old new (StepsIn rule f' x core axis)) g (subst (λ (x : List Box2). Adds old new (StepsIn rule x s core axis)) e h)
+
+pub step_lists : (rule : Rule) (a a' b b' : Squares) (core : Box2) (axis : Axis) (runs : List Run) → a ≡ a' → b ≡ b' → ((line : Line) (j : ℤ) → CoversPlace runs line j ↔ HasStep rule a b core axis line.side line.first line.second j) → (line : Line) (j : ℤ) → CoversPlace runs line j ↔ HasStep rule a' b' core axis line.side line.first line.second j
+step_lists rule a a' b b' core axis runs e g h line j =
+    subst (λ (x : Squares). CoversPlace runs line j ↔ HasStep rule a' x core axis line.side line.first line.second j) g
+    (subst (λ (x : Squares). CoversPlace runs line j ↔ HasStep rule x b core axis line.side line.first line.second j) e (h line j))
+
+-- runs that were added to none and joined
+pub joined_places : (runs joined : List Run) (P : Line → ℤ → Type 0) → Adds [] runs P → ((line : Line) (j : ℤ) → CoversPlace joined line j ↔ CoversPlace runs line j) → (line : Line) (j : ℤ) → CoversPlace joined line j ↔ P line j
+joined_places runs joined P h same line j = (λ c. to ((h.places line j).0 ((same line j).0 c)), λ p. (same line j).1 ((h.places line j).1 (inr p)))
+  where
+    to : CoversPlace [] line j ⊎ P line j → P line j
+    to (inl c) = absurd (omega (arith, c.1.1))
+    to (inr p) = p

@@ -1,0 +1,10 @@
+use Rattle.std.proofs.Common.{take, ◌≤ℤ◌, ◌<ℤ◌, ◌≤◌, length}
+use Rattle.std.specs.Prelude.{All}
+use Rattle.mpw_region.specs.Sweep.{HoldsJust}
+use Rattle.mpw_region.proofs.sweep.take_in.Given as goal
+
+abbrev pub invariant-loop-n : goal.invariant-loop-n
+invariant-loop-n l = record {
+  begun : All (λ b. b.y0 ≤ℤ l.fn.row) (take l.n l.boxes);
+  active : HoldsJust (take l.n l.boxes) (λ b. l.fn.row <ℤ b.y1) l.active.items;
+}

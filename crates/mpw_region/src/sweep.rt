@@ -1,0 +1,146 @@
+//! A sweep of boxes from below: at each row, the list of the boxes that have it.
+//!
+//! The boxes are sorted once by their lowest rows. A step goes up to a row, drops the boxes that end at
+//! it or below, takes in those that begin, and puts the list in order from the left. What the list held
+//! before is in order already, so the sort finds it as one run. A step costs the boxes that it drops,
+//! keeps and takes in, and an order of those that it takes in.
+
+ghost use Rattle.std.specs.Prelude.{
+  ◌≡◌,
+  ◌≤◌,
+  ◌≤ℤ◌,
+  ◌<ℤ◌,
+  int_lt,
+  [],
+  IfOk,
+  OnOk,
+  All,
+  AllPairs,
+  Contains,
+  ◌↔◌,
+  filter,
+  length,
+  take,
+};
+ghost use Rattle.std.specs.List.Sorted.{IsPermutation};
+ghost use Rattle.mpw_geom.specs.declared.plane.Box2.{Box2 as BoxValue};
+ghost use Rattle.mpw_region.specs.Sweep.{HasRow, HoldsJust, BeginsBelow, BeginsLeft, IsSweep};
+
+use mpw_geom::Box2;
+use std::alloc::{AllocError, Global};
+
+/// A sweep: its row, the boxes that have it, all boxes from below, and how many of these it has come to.
+#[derive(Debug, Drop)]
+pub struct Sweep {
+    row: i64,
+    active: Vec<Box2>,
+    boxes: Vec<Box2>,
+    next: usize,
+}
+
+/// Sorts the boxes by their lowest rows.
+fn sort_from_below(boxes: &mut Vec<Box2>) -> Result<(), AllocError>
+    ensures moved { IsPermutation boxes.old.items boxes.new.items }
+    ensures ordered { OnOk result (AllPairs BeginsBelow boxes.new.items) }
+{
+    boxes.sort_by_key(|b| b.y0)
+}
+
+/// Sorts the boxes by their first columns.
+fn sort_from_left(boxes: &mut Vec<Box2>) -> Result<(), AllocError>
+    ensures moved { IsPermutation boxes.old.items boxes.new.items }
+    ensures ordered { OnOk result (AllPairs BeginsLeft boxes.new.items) }
+{
+    boxes.sort_by_key(|b| b.x0)
+}
+
+/// Drops the boxes that end at the row or below it.
+fn drop_ended(active: &mut Vec<Box2>, row: i64)
+    ensures { active.new.items ≡ filter (λ b. int_lt row b.y1) active.old.items }
+{
+    active.retain(
+        |b: &Box2| -> bool
+            ensures { result ≡ int_lt row b.now.y1 }
+        { row < b.y1 },
+    );
+}
+
+/// Takes in the boxes from the place `next` on that begin at the row or below it and end above, and
+/// tells the place of the first that begins above.
+fn take_in(
+    active: &mut Vec<Box2>,
+    boxes: &[Box2],
+    next: usize,
+    row: i64,
+) -> Result<usize, AllocError>
+    requires within { next ≤ length boxes.now }
+    requires ordered { AllPairs BeginsBelow boxes.now }
+    requires begun { All (λ b. b.y0 ≤ℤ row) (take next boxes.now) }
+    requires active { HoldsJust (take next boxes.now) (λ b. row <ℤ b.y1) active.old.items }
+    ensures within { IfOk result (λ n. n ≤ length boxes.now) }
+    ensures begun { IfOk result (λ n. All (λ b. b.y0 ≤ℤ row) (take n boxes.now)) }
+    ensures active { IfOk result (λ n.
+        HoldsJust (take n boxes.now) (λ b. row <ℤ b.y1) active.new.items) }
+    ensures exact { OnOk result (HoldsJust boxes.now (λ b. HasRow b row) active.new.items) }
+{
+    for n in next..boxes.len() {
+        let b = &boxes[n];
+        if row < b.y0 {
+            return Ok(n);
+        }
+        if row < b.y1 {
+            active.push(*b)?;
+        }
+    }
+    Ok(boxes.len())
+}
+
+impl Sweep {
+    /// A sweep of the boxes, which holds none yet. It costs a sort of the boxes.
+    ///
+    /// # Errors
+    /// Where there is no room to sort.
+    pub fn new(alloc: Global, boxes: Vec<Box2>) -> Result<Sweep, AllocError>
+        ensures sweep { IfOk result IsSweep }
+        ensures boxes { IfOk result (λ s. IsPermutation boxes.items s.boxes.items) }
+        ensures row { IfOk result (λ s. s.row ≡ i64.MIN) }
+    {
+        let mut boxes = boxes;
+        sort_from_below(&mut boxes)?;
+        Ok(Sweep {
+            row: i64::MIN,
+            active: Vec::new(alloc),
+            boxes,
+            next: 0,
+        })
+    }
+
+    /// Goes up to the row. Its list then holds exactly the boxes that have the row, from the left.
+    ///
+    /// # Errors
+    /// Where there is no room; the sweep is then of no further use.
+    pub fn step(&mut self, row: i64) -> Result<(), AllocError>
+        requires sweep { IsSweep self.old }
+        requires upwards { self.old.row ≤ℤ row }
+        ensures sweep { OnOk result (IsSweep self.new) }
+        ensures row { OnOk result (self.new.row ≡ row) }
+        ensures boxes { self.new.boxes ≡ self.old.boxes }
+        ensures exact { OnOk result
+            (HoldsJust self.old.boxes.items (λ b. HasRow b row) self.new.active.items) }
+        ensures ordered { OnOk result (AllPairs BeginsLeft self.new.active.items) }
+    {
+        drop_ended(&mut self.active, row);
+        let next = take_in(&mut self.active, self.boxes.as_slice(), self.next, row)?;
+        sort_from_left(&mut self.active)?;
+        self.next = next;
+        self.row = row;
+        Ok(())
+    }
+
+    /// The boxes that have the row of the last step.
+    pub fn active(&self) -> &[Box2]
+        ensures { result.now ≡ self.now.active.items }
+    {
+        self.active.as_slice()
+    }
+}

@@ -1,0 +1,49 @@
+//! Random layouts, the same in each run.
+
+ghost use Rattle.std.specs.Prelude.{◌<◌};
+
+use mpw_geom::Box2;
+use std::alloc::{AllocError, Global};
+
+/// The number of columns and rows of a layout.
+pub const SIZE: i64 = 64;
+
+/// Numbers that look random, the same in each run.
+#[derive(Drop)]
+pub struct Numbers {
+    pub state: u64,
+}
+
+impl Numbers {
+    pub fn below(&mut self, n: u32) -> i64
+        requires { 0 < n }
+    {
+        self.state = self
+            .state
+            .wrapping_mul(6_364_136_223_846_793_005)
+            .wrapping_add(1_442_695_040_888_963_407);
+        let drawn = (self.state >> 33) % u64::from(n);
+        i64::try_from(drawn).unwrap_or(0)
+    }
+
+    pub fn place(&mut self, n: u32) -> Box2
+        requires { 0 < n }
+    {
+        let x0 = self.below(64);
+        let y0 = self.below(64);
+        let x1 = x0.saturating_add(self.below(n)).min(SIZE);
+        let y1 = y0.saturating_add(self.below(n)).min(SIZE);
+        Box2 { x0, y0, x1, y1 }
+    }
+
+    /// So many boxes, each narrower than `n`.
+    pub fn places(&mut self, alloc: Global, count: i64, n: u32) -> Result<Vec<Box2>, AllocError>
+        requires { 0 < n }
+    {
+        let mut boxes = Vec::new(alloc);
+        for _ in 0..count {
+            boxes.push(self.place(n))?;
+        }
+        Ok(boxes)
+    }
+}
