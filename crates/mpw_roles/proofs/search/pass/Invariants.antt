@@ -1,6 +1,6 @@
 use Rattle.std.proofs.Common.{◌≡◌, ℕ, ◌≤◌, ◌<◌, true, false, not, count_by, length, get_or}
 use Rattle.mpw_roles.specs.Marks.{Marks, IsSearch}
-use Rattle.mpw_roles.proofs.below.pass.Given as goal
+use Rattle.mpw_roles.proofs.search.pass.Given as goal
 
 -- the search goes on; until a role is expanded nothing changes, and each marked role so far is expanded
 abbrev pub invariant-loop-index : goal.invariant-loop-index

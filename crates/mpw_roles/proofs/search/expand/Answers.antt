@@ -2,7 +2,7 @@
 use Rattle.std.proofs.Common.{sym, ◌∙◌, ap, ◌≡◌}
 use Rattle.mpw_roles.specs.Marks.{marked_all}
 use Rattle.mpw_roles.proofs.SearchLemmas.{expand-at}
-use Rattle.mpw_roles.proofs.below.expand.Goals as goal
+use Rattle.mpw_roles.proofs.search.expand.Goals as goal
 
 pub returns-clause-search : goal.returns-clause-search
 returns-clause-search c =

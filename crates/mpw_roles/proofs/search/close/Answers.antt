@@ -1,7 +1,7 @@
 -- The search goes from pass to pass, and ends where each mark is expanded.
 use Rattle.std.proofs.Common.{arith}
 use Rattle.mpw_roles.proofs.SearchLemmas.{search-start}
-use Rattle.mpw_roles.proofs.below.close.Goals as goal
+use Rattle.mpw_roles.proofs.search.close.Goals as goal
 
 pub loop-expanded-init : goal.loop-expanded-init
 loop-expanded-init c = record {

@@ -1,8 +1,8 @@
 -- Each turn is one call of `expand`.
 use Rattle.std.proofs.Common.{◌≡◌, ◌<◌, false, not, count_by, get_or, sym, ◌∙◌, ap, arith, true≢false, below_more}
 use Rattle.mpw_roles.proofs.SearchLemmas.{all-expanded}
-use Rattle.mpw_roles.proofs.below.pass.Goals as goal
-use Rattle.mpw_roles.proofs.below.pass.Goals.{then-expand, else-expand}
+use Rattle.mpw_roles.proofs.search.pass.Goals as goal
+use Rattle.mpw_roles.proofs.search.pass.Goals.{then-expand, else-expand}
 
 pub loop-index-preserved : goal.loop-index-preserved
 loop-index-preserved c =

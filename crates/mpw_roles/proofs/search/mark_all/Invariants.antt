@@ -1,6 +1,6 @@
 use Rattle.std.proofs.Common.{◌≡◌, ◌≤◌, length, drop}
 use Rattle.mpw_roles.specs.Marks.{marked_all}
-use Rattle.mpw_roles.proofs.below.mark_all.Given as goal
+use Rattle.mpw_roles.proofs.search.mark_all.Given as goal
 
 -- the marks so far and those to come are all
 abbrev pub invariant-loop-role : goal.invariant-loop-role

@@ -5,7 +5,7 @@ use Rattle.mpw_geom.specs.Names.{name_eq}
 use Rattle.mpw_roles.specs.Hierarchy.{role_names, is_role}
 use Rattle.mpw_roles.proofs.MarksLemmas.{set-first, marked-none}
 use Rattle.mpw_roles.proofs.TableLemmas.{is_role-lookup}
-use Rattle.mpw_roles.proofs.below.mark.Goals as goal
+use Rattle.mpw_roles.proofs.search.mark.Goals as goal
 
 pub returns-in-Some : goal.returns-in-Some
 returns-in-Some c =
