@@ -134,6 +134,11 @@ impl Roles {
         }
     }
 
+    /// The allocator of the roles.
+    pub fn allocator(&self) -> Global {
+        *self.table.allocator()
+    }
+
     /// The number of roles.
     pub fn len(&self) -> usize
         ensures { result ≡ length self.now }

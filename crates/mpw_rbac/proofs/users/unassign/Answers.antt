@@ -4,7 +4,7 @@ use Rattle.mpw_geom.specs.Names.{without_name}
 use Rattle.mpw_rbac.specs.Rows.{unassigned}
 use Rattle.mpw_rbac.specs.declared.session.User.{User}
 use Rattle.mpw_rbac.proofs.TableLemmas.{retained, kept-all}
-use Rattle.mpw_rbac.proofs.admin.unassign.Goals as goal
+use Rattle.mpw_rbac.proofs.users.unassign.Goals as goal
 
 pub returns : goal.returns
 returns c =
