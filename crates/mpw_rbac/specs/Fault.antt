@@ -1,4 +1,6 @@
 -- The faults of the hierarchy and of the sets of separation, as those of the policy.
+use Rattle.std.specs.Prelude.{◌≡◌, Result, Err}
+use Rattle.mpw_roles.specs.Hierarchy.{Hierarchy}
 use Rattle.mpw_roles.specs.declared.fault.RolesFault.{RolesFault}
 use Rattle.mpw_roles.specs.declared.fault.RolesFault.TheVariants as roles
 use Rattle.mpw_separation.specs.declared.fault.SetsFault.{SetsFault}
@@ -20,3 +22,8 @@ fault_of_sets sets.Known = Refused Known
 fault_of_sets sets.Unknown = Refused Unknown
 fault_of_sets sets.Full = Refused Full
 fault_of_sets sets.Memory = Memory
+
+-- a fault is want of memory, or that of the row of the hierarchy
+abbrev pub IsHierarchyFault : Result Hierarchy RolesFault → PolicyFault → Type 0
+IsHierarchyFault row (Refused refusal) = (fault : RolesFault) × (row ≡ Err fault) × (fault_of_roles fault ≡ Refused refusal)
+IsHierarchyFault row Memory = Unit {0}

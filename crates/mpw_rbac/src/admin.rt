@@ -9,51 +9,12 @@ ghost use Rattle.mpw_rbac.specs.Rows.{IsFaultOf, digest_of_user, unassigned, ung
 ghost use Rattle.mpw_rbac.specs.Rows as rows;
 ghost use Rattle.mpw_rbac.specs.Table.{without_key};
 
+use crate::hierarchy::{with_role, without_role};
 use crate::trim::trim;
 use crate::{Digest, Grant, Policy, PolicyFault, Refusal, User};
-use indexmap::{IndexMap, IndexSet};
 use mpw_geom::{Name, Names};
 use mpw_separation::Kind;
 use std::alloc::AllocError;
-
-/// The users but one.
-fn without_user(users: &mut IndexMap<Name, User>, user: &Name)
-    ensures { users.new.entries ≡ without_key name_eq users.old.entries user.now }
-{
-    users.retain(
-        |other: &Name, value: &mut User| -> bool
-            ensures { (result ≡ not (name_eq user.entry.now other.now)) × (value.new ≡ value.old) }
-        {
-            let _value = value;
-            *user != *other
-        },
-    );
-}
-
-/// Nobody is assigned the role.
-fn unassign(users: &mut IndexMap<Name, User>, role: &Name)
-    ensures { users.new.entries ≡ unassigned users.old.entries role.now }
-{
-    users.retain(
-        |_user: &Name, value: &mut User| -> bool
-            ensures { (result ≡ true) × (value.new ≡ record value.old { roles = without_name value.old.roles role.entry.now }) }
-        {
-            value.roles.remove(role);
-            true
-        },
-    );
-}
-
-/// The role is granted nothing.
-fn ungrant(granted: &mut IndexSet<Grant>, role: &Name)
-    ensures { granted.new.keys ≡ ungranted granted.old.keys role.now }
-{
-    granted.retain(
-        |grant: &Grant| -> bool
-            ensures { result ≡ not (name_eq role.entry.now grant.now.role) }
-        { *role != grant.role },
-    );
-}
 
 impl Policy {
     /// Adds a user with a digest and without roles (AddUser).
@@ -72,15 +33,16 @@ impl Policy {
         if !self.has_room_for_user() {
             return Err(PolicyFault::Refused(Refusal::Full));
         }
-        let roles = Names::new(*self.users.allocator());
-        self.users.insert(user, User { digest, roles })?;
+        let roles = Names::new(*self.sessions.allocator());
+        let users = self.users.with(user, User { digest, roles })?;
+        self.users = users;
         Ok(())
     }
 
-    /// Deletes a user, whose sessions end (DeleteUser). It takes no memory.
+    /// Deletes a user, whose sessions end (DeleteUser).
     ///
     /// # Errors
-    /// `NoSession`, `NotPermitted`, `Unknown` user, tested in this order. The policy is then as it was.
+    /// `NoSession`, `NotPermitted`, `Unknown` user, tested in this order; or `Memory`. The policy is then as it was.
     pub fn deluser(&mut self, conn: u32, user: &Name) -> Result<(), PolicyFault>
         ensures ok { OnOk result (rows.deluser self.old conn user.now ≡ Ok self.new) }
         ensures refused { IfErr result (IsFaultOf (rows.deluser self.old conn user.now)) }
@@ -90,8 +52,9 @@ impl Policy {
         if !self.is_user(user) {
             return Err(PolicyFault::Refused(Refusal::Unknown));
         }
-        without_user(&mut self.users, user);
-        trim(&self.users, &self.roles, &mut self.sessions);
+        let users = self.users.without(user)?;
+        trim(users.table(), &self.roles, &mut self.sessions);
+        self.users = users;
         Ok(())
     }
 
@@ -105,15 +68,16 @@ impl Policy {
         ensures err { OnErr result (self.new ≡ self.old) }
     {
         self.administers(conn)?;
-        self.roles.add(role)?;
+        let roles = with_role(&self.roles, role)?;
+        self.roles = roles;
         Ok(())
     }
 
-    /// Deletes a role, with its assignments, its grants and each pair that it is in (DeleteRole). It takes no memory.
+    /// Deletes a role, with its assignments, its grants and each pair that it is in (DeleteRole).
     ///
     /// # Errors
-    /// `NoSession`, `NotPermitted`, `Unknown` role, `Used` by a separation set, tested in this order. The policy is then
-    /// as it was.
+    /// `NoSession`, `NotPermitted`, `Unknown` role, `Used` by a separation set, tested in this order; or `Memory`. The
+    /// policy is then as it was.
     pub fn delrole(&mut self, conn: u32, role: &Name) -> Result<(), PolicyFault>
         ensures ok { OnOk result (rows.delrole self.old conn role.now ≡ Ok self.new) }
         ensures refused { IfErr result (IsFaultOf (rows.delrole self.old conn role.now)) }
@@ -126,10 +90,13 @@ impl Policy {
         if self.is_used(role) {
             return Err(PolicyFault::Refused(Refusal::Used));
         }
-        self.roles.remove(role)?;
-        unassign(&mut self.users, role);
-        ungrant(&mut self.granted, role);
-        trim(&self.users, &self.roles, &mut self.sessions);
+        let roles = without_role(&self.roles, role)?;
+        let users = self.users.unassigned(role)?;
+        let granted = self.granted.ungranted(role)?;
+        trim(users.table(), &roles, &mut self.sessions);
+        self.users = users;
+        self.roles = roles;
+        self.granted = granted;
         Ok(())
     }
 
@@ -154,7 +121,8 @@ impl Policy {
         if let Some(name) = self.broken_by_assigned(assigned.roles.as_slice()) {
             return Err(PolicyFault::Refused(Refusal::Ssd(name.copy()?)));
         }
-        self.users.insert(user.copy()?, assigned)?;
+        let users = self.users.with(user.copy()?, assigned)?;
+        self.users = users;
         Ok(())
     }
 
@@ -173,8 +141,9 @@ impl Policy {
             return Err(PolicyFault::Refused(Refusal::Unknown));
         }
         let assigned = self.assigned_without(user, role)?;
-        self.users.insert(user.copy()?, assigned)?;
-        trim(&self.users, &self.roles, &mut self.sessions);
+        let users = self.users.with(user.copy()?, assigned)?;
+        trim(users.table(), &self.roles, &mut self.sessions);
+        self.users = users;
         Ok(())
     }
 
@@ -230,7 +199,7 @@ impl Policy {
         ensures err { OnErr result (self.new ≡ self.old) }
     {
         self.administers(conn)?;
-        if !self.roles.contains(&grant.role) {
+        if !self.is_role(&grant.role) {
             return Err(PolicyFault::Refused(Refusal::Unknown));
         }
         if self.has_grant(&grant) {
@@ -239,14 +208,15 @@ impl Policy {
         if !self.has_room_for_grant() {
             return Err(PolicyFault::Refused(Refusal::Full));
         }
-        self.granted.insert(grant)?;
+        let granted = self.granted.with(grant)?;
+        self.granted = granted;
         Ok(())
     }
 
-    /// Takes a grant back (RevokePermission). It takes no memory.
+    /// Takes a grant back (RevokePermission).
     ///
     /// # Errors
-    /// `NoSession`, `NotPermitted`, `Unknown` grant, tested in this order. The policy is then as it was.
+    /// `NoSession`, `NotPermitted`, `Unknown` grant, tested in this order; or `Memory`. The policy is then as it was.
     pub fn revoke(&mut self, conn: u32, grant: &Grant) -> Result<(), PolicyFault>
         ensures ok { OnOk result (rows.revoke self.old conn grant.now ≡ Ok self.new) }
         ensures refused { IfErr result (IsFaultOf (rows.revoke self.old conn grant.now)) }
@@ -256,11 +226,8 @@ impl Policy {
         if !self.has_grant(grant) {
             return Err(PolicyFault::Refused(Refusal::Unknown));
         }
-        self.granted.retain(
-            |other: &Grant| -> bool
-                ensures { result ≡ not (grant_eq grant.entry.now other.now) }
-            { *grant != *other },
-        );
+        let granted = self.granted.without(grant)?;
+        self.granted = granted;
         Ok(())
     }
 }

@@ -1,7 +1,9 @@
 //! The administrative requests of the role hierarchy.
-ghost use Rattle.std.specs.Prelude.{◌≡◌, [], ◌∷◌, map, IfErr, OnOk, OnErr, Ok, Err};
+ghost use Rattle.std.specs.Prelude.{◌≡◌, [], ◌∷◌, map, IfOk, IfErr, OnOk, OnErr, Ok, Err};
 ghost use Rattle.std.specs.Option.{option_copied};
 ghost use Rattle.mpw_separation.specs.Separation.{least_broken};
+ghost use Rattle.mpw_roles.specs.Rows as hierarchy;
+ghost use Rattle.mpw_rbac.specs.Fault.{IsHierarchyFault};
 ghost use Rattle.mpw_rbac.specs.Policy.{assigned_lists, active_lists};
 ghost use Rattle.mpw_rbac.specs.Rows.{IsFaultOf};
 ghost use Rattle.mpw_rbac.specs.Rows as rows;
@@ -11,6 +13,51 @@ use crate::trim::trim;
 use crate::{Policy, PolicyFault, Refusal};
 use mpw_geom::Name;
 use mpw_roles::Roles;
+use std::sync::Arc;
+
+/// The roles with one more.
+pub(crate) fn with_role(roles: &Roles, role: Name) -> Result<Arc<Roles>, PolicyFault>
+    ensures ok { IfOk result (λ next. hierarchy.add roles.now role ≡ Ok next.value) }
+    ensures refused { IfErr result (IsHierarchyFault (hierarchy.add roles.now role)) }
+{
+    let mut next = roles.copy()?;
+    next.add(role)?;
+    let alloc = next.allocator();
+    Ok(Arc::new(alloc, next)?)
+}
+
+/// The roles but one.
+pub(crate) fn without_role(roles: &Roles, role: &Name) -> Result<Arc<Roles>, PolicyFault>
+    ensures ok { IfOk result (λ next. hierarchy.remove roles.now role.now ≡ Ok next.value) }
+    ensures refused { IfErr result (IsHierarchyFault (hierarchy.remove roles.now role.now)) }
+{
+    let mut next = roles.copy()?;
+    next.remove(role)?;
+    let alloc = next.allocator();
+    Ok(Arc::new(alloc, next)?)
+}
+
+/// The roles with a pair more.
+fn with_pair(roles: &Roles, senior: &Name, junior: &Name) -> Result<Arc<Roles>, PolicyFault>
+    ensures ok { IfOk result (λ next. hierarchy.inherit roles.now senior.now junior.now ≡ Ok next.value) }
+    ensures refused { IfErr result (IsHierarchyFault (hierarchy.inherit roles.now senior.now junior.now)) }
+{
+    let mut next = roles.copy()?;
+    next.inherit(senior, junior)?;
+    let alloc = next.allocator();
+    Ok(Arc::new(alloc, next)?)
+}
+
+/// The roles with a pair less.
+fn without_pair(roles: &Roles, senior: &Name, junior: &Name) -> Result<Arc<Roles>, PolicyFault>
+    ensures ok { IfOk result (λ next. hierarchy.uninherit roles.now senior.now junior.now ≡ Ok next.value) }
+    ensures refused { IfErr result (IsHierarchyFault (hierarchy.uninherit roles.now senior.now junior.now)) }
+{
+    let mut next = roles.copy()?;
+    next.uninherit(senior, junior)?;
+    let alloc = next.allocator();
+    Ok(Arc::new(alloc, next)?)
+}
 
 impl Policy {
     /// Makes the senior an immediate senior of the junior (AddInheritance).
@@ -24,8 +71,7 @@ impl Policy {
         ensures err { OnErr result (self.new ≡ self.old) }
     {
         self.administers(conn)?;
-        let mut next = self.roles.copy()?;
-        next.inherit(senior, junior)?;
+        let next = with_pair(&self.roles, senior, junior)?;
         if let Some(name) = self.broken_static(&next) {
             return Err(PolicyFault::Refused(Refusal::Ssd(name.copy()?)));
         }
@@ -47,8 +93,9 @@ impl Policy {
         ensures err { OnErr result (self.new ≡ self.old) }
     {
         self.administers(conn)?;
-        self.roles.uninherit(senior, junior)?;
-        trim(&self.users, &self.roles, &mut self.sessions);
+        let roles = without_pair(&self.roles, senior, junior)?;
+        trim(self.users.table(), &roles, &mut self.sessions);
+        self.roles = roles;
         Ok(())
     }
 
@@ -56,7 +103,7 @@ impl Policy {
     fn broken_static(&self, roles: &Roles) -> Option<&Name>
         ensures { option_copied result ≡ least_broken roles.now self.now.ssd (assigned_lists self.now.users) }
     {
-        least_static(&self.sets, roles, &self.users)
+        least_static(&self.sets, roles, self.users.table())
     }
 
     /// The least name of the dynamic sets that some session would break in another hierarchy.

@@ -6,6 +6,7 @@
 #![tactic(auto)]
 
 mod admin;
+mod grants;
 mod hierarchy;
 mod laws;
 mod permission;
@@ -15,6 +16,7 @@ mod separation;
 mod session;
 mod sessions;
 mod trim;
+mod users;
 
 pub use laws::{
     denied_only_for_the_least_broken_set, denied_only_without_the_permission,

@@ -11,6 +11,8 @@ ghost use Rattle.mpw_rbac.specs.Rows.{IsFaultOf, administered, user_of};
 ghost use Rattle.mpw_rbac.specs.Rows as rows;
 ghost use Rattle.mpw_rbac.specs.Table.{value_at};
 
+use crate::grants::Grants;
+use crate::users::Users;
 use crate::{Digest, Grant, Identity, Object, Operation, PolicyFault, Refusal, Session, User};
 use indexmap::{IndexMap, IndexSet};
 use mpw_geom::{Name, Names};
@@ -18,6 +20,7 @@ use mpw_roles::{Below, Roles};
 use mpw_separation::Sets;
 use std::alloc::{AllocError, Global};
 use std::marker::Model;
+use std::sync::Arc;
 
 /// The greatest number of users.
 pub const MAX_USERS: usize = 512;
@@ -28,9 +31,9 @@ pub const MAX_GRANTS: usize = 4096;
 /// Users, roles, grants, separation sets and sessions, in the order in which they were added.
 #[derive(Drop)]
 pub struct Policy {
-    pub(crate) users: IndexMap<Name, User>,
-    pub(crate) roles: Roles,
-    pub(crate) granted: IndexSet<Grant>,
+    pub(crate) users: Users,
+    pub(crate) roles: Arc<Roles>,
+    pub(crate) granted: Grants,
     pub(crate) sets: Sets,
     pub(crate) sessions: IndexMap<u32, Session>,
 }
@@ -41,9 +44,9 @@ impl Model for Policy {
 
     ghost Value = { PolicyState };
 
-    ghost view = { λ p. policy_of p.users.entries p.roles p.granted.keys p.sets p.sessions.entries };
+    ghost view = { λ p. policy_of p.users p.roles.value p.granted p.sets p.sessions.entries };
 
-    ghost invariant = { λ p. Sound (policy_of p.users.entries p.roles p.granted.keys p.sets p.sessions.entries) };
+    ghost invariant = { λ p. Sound (policy_of p.users p.roles.value p.granted p.sets p.sessions.entries) };
 }
 
 /// Whether one of the grants is of the operation on the object, to one of the roles.
@@ -74,14 +77,14 @@ impl Policy {
     pub(crate) fn user(&self, user: &Name) -> Option<&User>
         ensures { option_copied result ≡ value_at name_eq self.now.users user.now }
     {
-        self.users.get(user)
+        self.users.table().get(user)
     }
 
     /// Whether that is a user.
     pub(crate) fn is_user(&self, user: &Name) -> bool
         ensures { result ≡ is_user self.now user.now }
     {
-        self.users.contains_key(user)
+        self.users.table().contains_key(user)
     }
 
     /// Whether that is a role.
@@ -105,21 +108,21 @@ impl Policy {
     pub(crate) fn has_grant(&self, grant: &Grant) -> bool
         ensures { result ≡ list_any (grant_eq grant.now) self.now.granted }
     {
-        self.granted.contains(grant)
+        self.granted.table().contains(grant)
     }
 
     /// Whether one more user fits.
     pub(crate) fn has_room_for_user(&self) -> bool
         ensures { result ≡ nat_lt (length self.now.users) max_users }
     {
-        self.users.len() < MAX_USERS
+        self.users.table().len() < MAX_USERS
     }
 
     /// Whether one more grant fits.
     pub(crate) fn has_room_for_grant(&self) -> bool
         ensures { result ≡ nat_lt (length self.now.granted) max_grants }
     {
-        self.granted.len() < MAX_GRANTS
+        self.granted.table().len() < MAX_GRANTS
     }
 
     /// Whether some acting role of the connection's session was granted the operation on the object. It takes no
@@ -130,7 +133,7 @@ impl Policy {
         match self.session(conn) {
             Some(session) => {
                 let acting = self.roles.below(session.active.as_slice());
-                is_granted(&self.granted, &acting, operation, object)
+                is_granted(self.granted.table(), &acting, operation, object)
             }
             None => false,
         }
@@ -170,47 +173,28 @@ impl Policy {
         ensures memory { IfErr result (λ fault. fault ≡ PolicyFault.Memory) }
     {
         let role = officer_role(alloc)?;
-        let mut roles = Roles::new(alloc);
-        roles.add(role.copy()?)?;
-        let mut assigned = Names::new(alloc);
-        assigned.push(role.copy()?)?;
-        let mut users = IndexMap::new(alloc);
-        users.insert(
-            officer,
-            User {
-                digest,
-                roles: assigned,
-            },
-        )?;
-        let mut granted = IndexSet::new(alloc);
-        let operation = Operation::Admin;
-        let object = Object::Desk;
-        granted.insert(Grant {
-            operation,
-            object,
-            role,
-        })?;
-        let sets = Sets::new(alloc);
-        let sessions = IndexMap::new(alloc);
+        let roles = first_roles(alloc, &role)?;
+        let users = first_users(alloc, officer, digest, &role)?;
+        let granted = first_grants(alloc, role)?;
         Ok(Policy {
             users,
             roles,
             granted,
-            sets,
-            sessions,
+            sets: Sets::new(alloc),
+            sessions: IndexMap::new(alloc),
         })
     }
 
-    /// The same policy, in memory of its own; the names share their text.
+    /// The same policy. Users, roles and grants are shared: a count each; sets and sessions are copied.
     ///
     /// # Errors
     /// Where there is no room for it.
     pub fn copy(&self) -> Result<Policy, AllocError>
         ensures { IfOk result (λ policy. policy ≡ self.now) }
     {
-        let users = copy_users(&self.users)?;
-        let roles = self.roles.copy()?;
-        let granted = copy_granted(&self.granted)?;
+        let users = self.users.copy()?;
+        let roles = copy_roles(&self.roles)?;
+        let granted = self.granted.copy()?;
         let sets = self.sets.copy()?;
         let sessions = copy_sessions(&self.sessions)?;
         Ok(Policy {
@@ -223,18 +207,50 @@ impl Policy {
     }
 }
 
-/// The same users.
-fn copy_users(users: &IndexMap<Name, User>) -> Result<IndexMap<Name, User>, AllocError>
-    ensures { IfOk result (λ copy. copy.entries ≡ users.now.entries) }
+/// The same roles: one count.
+fn copy_roles(roles: &Arc<Roles>) -> Result<Arc<Roles>, AllocError>
+    ensures { IfOk result (λ copy. copy.value ≡ roles.now.value) }
 {
-    users.clone()
+    roles.clone()
 }
 
-/// The same grants.
-fn copy_granted(granted: &IndexSet<Grant>) -> Result<IndexSet<Grant>, AllocError>
-    ensures { IfOk result (λ copy. copy.keys ≡ granted.now.keys) }
+/// The roles of a new desk: that of the officer.
+fn first_roles(alloc: Global, role: &Name) -> Result<Arc<Roles>, PolicyFault>
+    ensures ok { IfOk result (λ roles. roles.value ≡ (role.now, []) ∷ []) }
+    ensures memory { IfErr result (λ fault. fault ≡ PolicyFault.Memory) }
 {
-    granted.clone()
+    let mut roles = Roles::new(alloc);
+    roles.add(role.copy()?)?;
+    Ok(Arc::new(alloc, roles)?)
+}
+
+/// The users of a new desk: the officer.
+fn first_users(
+    alloc: Global,
+    officer: Name,
+    digest: Digest,
+    role: &Name,
+) -> Result<Users, AllocError>
+    ensures { IfOk result (λ users. users ≡ (officer, record { digest = digest; roles = role.now ∷ [] }) ∷ []) }
+{
+    let mut roles = Names::new(alloc);
+    roles.push(role.copy()?)?;
+    let mut table = IndexMap::new(alloc);
+    table.insert(officer, User { digest, roles })?;
+    Users::new(alloc, table)
+}
+
+/// The grants of a new desk: that the officer may administer it.
+fn first_grants(alloc: Global, role: Name) -> Result<Grants, AllocError>
+    ensures { IfOk result (λ grants. grants ≡ record { operation = Operation.Admin; object = Object.Desk; role = role } ∷ []) }
+{
+    let mut table = IndexSet::new(alloc);
+    table.insert(Grant {
+        operation: Operation::Admin,
+        object: Object::Desk,
+        role,
+    })?;
+    Grants::new(alloc, table)
 }
 
 /// The same sessions.

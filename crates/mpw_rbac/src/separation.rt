@@ -190,7 +190,7 @@ impl Policy {
     fn is_broken_by_users(&self, set: &SeparationSet) -> bool
         ensures { result ≡ is_broken self.now.roles (assigned_lists self.now.users) set.now }
     {
-        breaks_a_user(set, &self.roles, &self.users)
+        breaks_a_user(set, &self.roles, self.users.table())
     }
 
     /// Whether some session breaks the set.

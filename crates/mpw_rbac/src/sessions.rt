@@ -222,7 +222,7 @@ impl Policy {
     fn authorized_by_name(&self, user: &Name) -> Result<Names, AllocError>
         ensures { IfOk result (λ names. names ≡ by_name (authorized self.now user.now)) }
     {
-        let alloc = *self.users.allocator();
+        let alloc = *self.sessions.allocator();
         let mut names = match self.user(user) {
             Some(found) => self.roles.below(found.roles.as_slice()).names(alloc)?,
             None => self.roles.below(&[]).names(alloc)?,

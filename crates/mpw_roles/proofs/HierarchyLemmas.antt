@@ -112,7 +112,7 @@ pub names-with_juniors : (h : Hierarchy) (r : Name) (js : List Name) → role_na
 names-with_juniors [] r js = refl
 names-with_juniors (e ∷ es) r js = elim (name_eq r e.0) as (λ b. role_names (cond b ((e.0, js) ∷ es) (e ∷ with_juniors es r js)) ≡ e.0 ∷ role_names es) [ true ↦ refl | false ↦ ap (λ l. e.0 ∷ l) (names-with_juniors es r js) ]
 
-length-with_juniors : (h : Hierarchy) (r : Name) (js : List Name) → length (with_juniors h r js) ≡ length h
+pub length-with_juniors : (h : Hierarchy) (r : Name) (js : List Name) → length (with_juniors h r js) ≡ length h
 length-with_juniors [] r js = refl
 length-with_juniors (e ∷ es) r js = elim (name_eq r e.0) as (λ b. length (cond b ((e.0, js) ∷ es) (e ∷ with_juniors es r js)) ≡ suc (length es)) [ true ↦ refl | false ↦ ap suc (length-with_juniors es r js) ]
 
@@ -162,7 +162,7 @@ pairs-with_pair h s j there a b pair =
       | false ↦ λ _. pair
     ] refl
 
-with_pair-chains : (h : Hierarchy) (s j : Name) → is_role h s ≡ true → (a b : Name) → IsAtLeast (with_pair h s j) a b → IsAtLeast h a b ⊎ (IsAtLeast h a s × IsAtLeast h j b)
+pub with_pair-chains : (h : Hierarchy) (s j : Name) → is_role h s ≡ true → (a b : Name) → IsAtLeast (with_pair h s j) a b → IsAtLeast h a b ⊎ (IsAtLeast h a s × IsAtLeast h j b)
 with_pair-chains h s j there a b same = inl same
 with_pair-chains h s j there a b (chain {middle = m} pair rest) =
     elim (with_pair-back h s j there a m pair) [
@@ -317,7 +317,7 @@ IsHierarchy-without_role h r is = record {
     fewer = pairs-without_role h r
 
 -- a chain between two roles ends with a pair, so what it leads down to is a role
-junior_role : (h : Hierarchy) → IsHierarchy h → (a b : Name) → IsAtLeast h a b → (a ≡ b) ⊎ (is_role h b ≡ true)
+pub junior_role : (h : Hierarchy) → IsHierarchy h → (a b : Name) → IsAtLeast h a b → (a ≡ b) ⊎ (is_role h b ≡ true)
 junior_role h is a b same = inl refl
 junior_role h is a b (chain {middle = m} pair rest) = elim (junior_role h is m b rest) [
   | inl end ↦ inr (ap (is_role h) (sym end) ∙ is.pairs_of_roles a m pair)

@@ -1,5 +1,7 @@
 pub mod CallerLemmas
 pub mod HierarchyLemmas
 pub mod MarksLemmas
+pub mod MaskLemmas
+pub mod PlacesLemmas
 pub mod SearchLemmas
 pub mod TableLemmas

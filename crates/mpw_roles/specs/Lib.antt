@@ -1,5 +1,7 @@
 pub mod Decided
 pub mod Hierarchy
 pub mod Marks
+pub mod Mask
 pub mod Order
+pub mod Places
 pub mod Rows

@@ -1,12 +1,15 @@
 //! The roles with their immediate juniors.
-ghost use Rattle.std.specs.Prelude.{◌≡◌, ◌⊎◌, [], ◌∷◌, ◌++◌, not, length, true, Ok, Err, IfOk, IfErr, OnOk, OnErr};
+ghost use Rattle.std.specs.Prelude.{◌≡◌, ◌⊎◌, ◌==◌, ◌<◌, ◌≤◌, ◌&&◌, ◌||◌, ℕ, [], ◌∷◌, ◌++◌, not, length, true, Ok, Err, IfOk, IfErr, IfSome, OnOk, OnErr, position};
 ghost use Rattle.indexmap.specs.IndexMap.{insert_entry};
 ghost use Rattle.mpw_geom.specs.Names.{name_eq, without_name, by_name};
-ghost use Rattle.mpw_roles.specs.Hierarchy.{Name as RoleName, role_names, is_role, is_immediate, immediate_juniors};
+ghost use Rattle.mpw_roles.specs.Hierarchy.{Name as RoleName, Hierarchy, role_names, with_pair, is_role, is_immediate, immediate_juniors};
+ghost use Rattle.mpw_roles.specs.Mask.{has};
 ghost use Rattle.mpw_roles.specs.Order.{at_least, roles_below, IsHierarchy};
+ghost use Rattle.mpw_roles.specs.Places.{mask_at, is_place_under, is_place_below, IsMasked};
 ghost use Rattle.mpw_roles.specs.Rows as rows;
 
-use crate::{Below, RolesFault};
+use crate::search::remask;
+use crate::{Below, Mask, RolesFault};
 use indexmap::IndexMap;
 use mpw_geom::{Name, Names};
 use std::alloc::{AllocError, Global};
@@ -19,21 +22,23 @@ pub const MAX_ROLES: usize = 512;
 /// Each role with its immediate juniors.
 pub(crate) type Table = IndexMap<Name, Names>;
 
-/// Roles in the order in which they were added, each with its immediate juniors.
+/// Roles in the order in which they were added, each with its immediate juniors; and for the role at each place the mask
+/// of the places of the roles at or below it. There may be more masks than roles.
 #[derive(Drop)]
 pub struct Roles {
     table: Table,
+    masks: Vec<Mask>,
 }
 
 impl Model for Roles {
     ghost use Rattle.std.specs.Prelude.{ℕ, List};
-    ghost use Rattle.mpw_roles.specs.Order.{IsHierarchy};
+    ghost use Rattle.mpw_roles.specs.Places.{IsRoles};
 
     ghost Value = { List (List ℕ × List (List ℕ)) };
 
     ghost view = { λ roles. roles.table.entries };
 
-    ghost invariant = { λ roles. IsHierarchy roles.table.entries };
+    ghost invariant = { λ roles. IsRoles roles.table.entries roles.masks.items };
 }
 
 /// Gives a role these immediate juniors; a new role goes last.
@@ -46,6 +51,78 @@ fn put(table: &mut Table, role: Name, juniors: Names) -> Result<(), RolesFault>
     Ok(())
 }
 
+/// Makes room for the mask of one more role.
+fn reserve(masks: &mut Vec<Mask>, count: usize) -> Result<(), RolesFault>
+    requires { count ≤ length masks.old.items }
+    ensures ok { OnOk result (count < length masks.new.items) }
+    ensures memory { IfErr result (λ fault. fault ≡ RolesFault.Memory) }
+    ensures same { (place : ℕ) → place < count → mask_at masks.new.items place ≡ mask_at masks.old.items place }
+    ensures long { count ≤ length masks.new.items }
+{
+    if masks.len() == count {
+        masks.push(Mask::new())?;
+    }
+    Ok(())
+}
+
+/// Writes the mask of a role that has no juniors: its own place.
+fn write_own(masks: &mut [Mask], place: usize)
+    requires within { place < length masks.old }
+    requires small { place < 512 }
+    ensures own { (other : ℕ) → has (mask_at masks.new place) other ≡ other == place }
+    ensures others { (role : ℕ) → role < place → mask_at masks.new role ≡ mask_at masks.old role }
+    ensures long { length masks.new ≡ length masks.old }
+{
+    let mut own = Mask::new();
+    own.insert(place);
+    masks[place] = own;
+}
+
+/// Each mask that has the place of the senior gets the places of the junior's mask.
+fn join_places(masks: &mut [Mask], senior: usize, junior: usize)
+    requires senior { senior < length masks.old }
+    requires junior { junior < length masks.old }
+    ensures joined { (role : ℕ) → role < length masks.old → (place : ℕ) → has (mask_at masks.new role) place ≡ (has (mask_at masks.old role) place || (has (mask_at masks.old role) senior && has (mask_at masks.old junior) place)) }
+    ensures long { length masks.new ≡ length masks.old }
+{
+    let added = masks[junior];
+    for role in 0..masks.len() {
+        if masks[role].contains(senior) {
+            masks[role].add(&added);
+        }
+    }
+}
+
+/// The masks after a new pair of roles.
+fn join(table: &Table, masks: &mut [Mask], senior: &Name, junior: &Name)
+    requires { length table.now.entries ≤ length masks.old }
+    ensures masked { (h : Hierarchy) → role_names h ≡ role_names table.now.entries → is_role h senior.now ≡ true → is_role h junior.now ≡ true → IsMasked h masks.old → IsMasked (with_pair h senior.now junior.now) masks.new }
+    ensures long { length masks.new ≡ length masks.old }
+{
+    let Some(above) = table.get_index_of(senior) else {
+        return;
+    };
+    let Some(below) = table.get_index_of(junior) else {
+        return;
+    };
+    join_places(masks, above, below);
+}
+
+/// The masks of the roles among the seniors, joined.
+fn joined(table: &Table, masks: &[Mask], seniors: &[Name]) -> Mask
+    requires hierarchy { IsHierarchy table.now.entries }
+    requires masked { IsMasked table.now.entries masks.now }
+    ensures { (place : ℕ) → has result place ≡ is_place_below table.now.entries seniors.now place }
+{
+    let mut mask = Mask::new();
+    for senior in seniors {
+        if let Some(place) = table.get_index_of(senior) {
+            mask.add(&masks[place]);
+        }
+    }
+    mask
+}
+
 impl Roles {
     /// A hierarchy without roles. It takes no memory.
     pub fn new(alloc: Global) -> Roles
@@ -53,7 +130,13 @@ impl Roles {
     {
         Roles {
             table: IndexMap::new(alloc),
+            masks: Vec::new(alloc),
         }
+    }
+
+    /// The allocator of the roles.
+    pub fn allocator(&self) -> Global {
+        *self.table.allocator()
     }
 
     /// The number of roles.
@@ -85,12 +168,15 @@ impl Roles {
         if self.len() >= MAX_ROLES {
             return Err(RolesFault::Full);
         }
+        let place = self.table.len();
+        reserve(&mut self.masks, place)?;
         let juniors = Names::new(*self.table.allocator());
         put(&mut self.table, role, juniors)?;
+        write_own(&mut self.masks, place);
         Ok(())
     }
 
-    /// Removes a role with each pair that it is in. It takes no memory.
+    /// Removes a role with each pair that it is in. It takes no memory, and costs a search for each role.
     ///
     /// # Errors
     /// `NoRole`. The roles are then as they were.
@@ -110,6 +196,7 @@ impl Roles {
                 *role != *name
             },
         );
+        remask(&self.table, &mut self.masks);
         Ok(())
     }
 
@@ -133,8 +220,8 @@ impl Roles {
             return Err(RolesFault::Cycle);
         }
         let juniors = self.juniors_with(senior, junior)?;
-        let senior = senior.copy()?;
-        put(&mut self.table, senior, juniors)?;
+        put(&mut self.table, senior.copy()?, juniors)?;
+        join(&self.table, &mut self.masks, senior, junior);
         Ok(())
     }
 
@@ -151,8 +238,8 @@ impl Roles {
             return Err(RolesFault::NoPair);
         }
         let juniors = self.juniors_without(senior, junior)?;
-        let senior = senior.copy()?;
-        put(&mut self.table, senior, juniors)?;
+        put(&mut self.table, senior.copy()?, juniors)?;
+        remask(&self.table, &mut self.masks);
         Ok(())
     }
 
@@ -194,21 +281,55 @@ impl Roles {
         }
     }
 
-    /// The roles at or below some others, which need not be roles. It takes no memory, and costs the pairs and,
-    /// for each step of the longest chain, the roles.
+    /// The place of a role: where it stands in the order of the roles, which is its bit in every mask. A look-up.
+    pub fn place(&self, role: &Name) -> Option<usize>
+        ensures place { result ≡ position (name_eq role.now) (role_names self.now) }
+        ensures within { IfSome result (λ place. place < length self.now) }
+        ensures small { IfSome result (λ place. place < 512) }
+    {
+        self.table.get_index_of(role)
+    }
+
+    /// The places of the roles at or below a role; of a name that is no role none. A look-up.
+    pub fn mask(&self, role: &Name) -> Mask
+        ensures { (place : ℕ) → has result place ≡ is_place_under self.now role.now place }
+    {
+        match self.table.get_index_of(role) {
+            Some(place) => self.masks[place],
+            None => Mask::new(),
+        }
+    }
+
+    /// The places of the roles at or below some others, which need not be roles. It takes no memory, and costs a look-up
+    /// for each of them.
+    pub fn mask_below(&self, seniors: &[Name]) -> Mask
+        ensures { (place : ℕ) → has result place ≡ is_place_below self.now seniors.now place }
+    {
+        joined(&self.table, &self.masks, seniors)
+    }
+
+    /// The roles at or below some others, which need not be roles. It takes no memory, and costs a look-up for each of
+    /// them.
     pub fn below<'a>(&'a self, seniors: &[Name]) -> Below<'a>
         ensures { result ≡ roles_below self.now seniors.now }
     {
-        Below::search(&self.table, seniors)
+        let mask = self.mask_below(seniors);
+        let _unique = self.table.len();
+        Below::new(&self.table, mask)
     }
 
-    /// Whether the senior is the junior, or a chain of immediate pairs leads from it down to the junior. It takes no
-    /// memory, and costs what `below` does.
+    /// Whether the senior is the junior, or a chain of immediate pairs leads from it down to the junior: two look-ups and
+    /// a bit. It takes no memory.
     pub fn at_least(&self, senior: &Name, junior: &Name) -> bool
         ensures { result ≡ at_least self.now senior.now junior.now }
     {
-        let _roles = &self.table;
-        *senior == *junior || self.below(slice::from_ref(senior)).contains(junior)
+        match (
+            self.table.get_index_of(senior),
+            self.table.get_index_of(junior),
+        ) {
+            (Some(above), Some(below)) => self.masks[above].contains(below),
+            _ => *senior == *junior,
+        }
     }
 
     /// The roles at or below a role, by name: what `below` costs, and a sort.
@@ -232,7 +353,8 @@ impl Roles {
         ensures { IfOk result (λ roles. roles ≡ self.now) }
     {
         let table = self.table.clone()?;
-        Ok(Roles { table })
+        let masks = self.masks.clone()?;
+        Ok(Roles { table, masks })
     }
 
     /// Every value keeps what a hierarchy keeps: 512 roles at most, each once, pairs of roles, each once, and no cycle.

@@ -10,8 +10,6 @@ mod fault;
 mod least;
 mod set;
 mod sets;
-#[cfg(test)]
-mod tests;
 
 pub use fault::SetsFault;
 pub use least::lesser;

@@ -11,24 +11,24 @@ use Rattle.mpw_rbac.proofs.KeepLemmas.{keep-adduser}
 use Rattle.mpw_rbac.proofs.TableLemmas.{insert-new}
 use Rattle.mpw_rbac.proofs.policy.Policy.adduser.Goals as goal
 
-pub invariant_of-self-2 : goal.invariant_of-self-2
-invariant_of-self-2 c =
+pub invariant_of-self : goal.invariant_of-self
+invariant_of-self c =
     let in' = c.self.inside in
-    let p = policy_of in'.users.entries in'.roles in'.granted.keys in'.sets in'.sessions.entries in
+    let p = policy_of in'.users in'.roles.value in'.granted in'.sets in'.sessions.entries in
     let user = c.args.user in
     let new : is_user p user ≡ false = ap (λ (q : Policy). is_user q user) c.self.view_is ∙ sym c.is_user.ensures ∙ c.if-is_user.false in
-    let is : c.insert.new.self.entries ≡ p.users ++ (user, record { digest = c.args.digest; roles = [] }) ∷ [] =
-    c.in_ok-insert.ensures.entries ∙ ap (λ rs. insert_entry name_eq p.users user (record { digest = c.args.digest; roles = rs })) c.new-roles.ensures ∙ insert-new name_eq p.users user _ new in
+    let is : c.in_ok-users.users ≡ p.users ++ (user, record { digest = c.args.digest; roles = [] }) ∷ [] =
+    c.in_ok-users.ensures ∙ ap (λ rs. insert_entry name_eq p.users user (record { digest = c.args.digest; roles = rs })) c.new-roles.ensures ∙ insert-new name_eq p.users user _ new in
     subst (λ us. Sound (record p { users = us })) (sym is) (keep-adduser p user c.args.digest c.self.invariant)
 
 pub returns-clause-ok : goal.returns-clause-ok
 returns-clause-ok c =
     let in' = c.self.inside in
-    let p = policy_of in'.users.entries in'.roles in'.granted.keys in'.sets in'.sessions.entries in
+    let p = policy_of in'.users in'.roles.value in'.granted in'.sets in'.sessions.entries in
     let user = c.args.user in
     let new : is_user p user ≡ false = ap (λ (q : Policy). is_user q user) c.self.view_is ∙ sym c.is_user.ensures ∙ c.if-is_user.false in
     let room : nat_lt (length p.users) 512 ≡ true = ap (λ (q : Policy). nat_lt (length q.users) 512) c.self.view_is ∙ sym c.has_room_for_user.ensures ∙ c.if-not-has_room_for_user.false in
     let ok : rows.administered p c.args.conn ≡ Ok p = subst (λ (q : Policy). rows.administered q c.args.conn ≡ Ok q) (sym c.self.view_is) c.in_ok-administers.ensures.ok in
-    let is : c.insert.new.self.entries ≡ insert_entry name_eq p.users user (record { digest = c.args.digest; roles = [] }) =
-    c.in_ok-insert.ensures.entries ∙ ap (λ rs. insert_entry name_eq p.users user (record { digest = c.args.digest; roles = rs })) c.new-roles.ensures in
-    rw (← c.self.view_is) (adduser-ok p c.args.conn ok user c.args.digest c.insert.new.self.entries new room is)
+    let is : c.in_ok-users.users ≡ insert_entry name_eq p.users user (record { digest = c.args.digest; roles = [] }) =
+    c.in_ok-users.ensures ∙ ap (λ rs. insert_entry name_eq p.users user (record { digest = c.args.digest; roles = rs })) c.new-roles.ensures in
+    rw (← c.self.view_is) (adduser-ok p c.args.conn ok user c.args.digest c.in_ok-users.users new room is)

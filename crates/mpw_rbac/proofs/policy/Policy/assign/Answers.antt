@@ -15,7 +15,7 @@ use Rattle.mpw_rbac.proofs.policy.Policy.assign.Goals as goal
 pub returns-in-Some-clause-refused : goal.returns-in-Some-clause-refused
 returns-in-Some-clause-refused c =
     let in' = c.self.inside in
-    let p = policy_of in'.users.entries in'.roles in'.granted.keys in'.sets in'.sessions.entries in
+    let p = policy_of in'.users in'.roles.value in'.granted in'.sets in'.sessions.entries in
     let ok : rows.administered p c.args.conn ≡ Ok p = subst (λ (q : Policy). rows.administered q c.args.conn ≡ Ok q) (sym c.self.view_is) c.in_ok-administers.ensures.ok in
     let user = c.args.user.now in
     let role = c.args.role.now in
@@ -30,10 +30,10 @@ returns-in-Some-clause-refused c =
     ∙ sym c.in-Some.ensures in
     rw (← c.self.view_is) (assign-broken p c.args.conn ok user role c.in-Some.name.now known role_known new told ∙ ap (λ n. Err (Ssd n)) (sym c.in_ok-copy.ensures))
 
-pub invariant_of-self-2 : goal.invariant_of-self-2
-invariant_of-self-2 c =
+pub invariant_of-self : goal.invariant_of-self
+invariant_of-self c =
     let in' = c.self.inside in
-    let p = policy_of in'.users.entries in'.roles in'.granted.keys in'.sets in'.sessions.entries in
+    let p = policy_of in'.users in'.roles.value in'.granted in'.sets in'.sessions.entries in
     let ok : rows.administered p c.args.conn ≡ Ok p = subst (λ (q : Policy). rows.administered q c.args.conn ≡ Ok q) (sym c.self.view_is) c.in_ok-administers.ensures.ok in
     let user = c.args.user.now in
     let role = c.args.role.now in
@@ -46,14 +46,14 @@ invariant_of-self-2 c =
     ∙ ap (λ (q : Policy). least_broken q.roles q.ssd ((assigned_roles q user ++ role ∷ []) ∷ [])) c.self.view_is
     ∙ ap (λ l. least_broken c.args.self.now.roles c.args.self.now.ssd (l ∷ [])) (sym asked)
     ∙ sym c.in_default.ensures in
-    let is : c.insert.new.self.entries ≡ insert_entry name_eq p.users user (record { digest = rows.digest_of_user p user; roles = assigned_roles p user ++ role ∷ [] }) =
-    c.in_ok-insert.ensures.entries ∙ (λ i. insert_entry name_eq p.users (c.in_ok-copy-2.ensures i) (c.in_ok-assigned.ensures i)) ∙ ap (λ (q : Policy). insert_entry name_eq p.users user (record { digest = rows.digest_of_user q user; roles = assigned_roles q user ++ role ∷ [] })) (sym c.self.view_is) in
-    sound-assign_row c.args.conn user role p (record p { users = c.insert.new.self.entries }) (assign-ok p c.args.conn ok user role c.insert.new.self.entries known role_known new told is) c.self.invariant
+    let is : c.in_ok-users.users ≡ insert_entry name_eq p.users user (record { digest = rows.digest_of_user p user; roles = assigned_roles p user ++ role ∷ [] }) =
+    c.in_ok-users.ensures ∙ (λ i. insert_entry name_eq p.users (c.in_ok-copy-2.ensures i) (c.in_ok-assigned.ensures i)) ∙ ap (λ (q : Policy). insert_entry name_eq p.users user (record { digest = rows.digest_of_user q user; roles = assigned_roles q user ++ role ∷ [] })) (sym c.self.view_is) in
+    sound-assign_row c.args.conn user role p (record p { users = c.in_ok-users.users }) (assign-ok p c.args.conn ok user role c.in_ok-users.users known role_known new told is) c.self.invariant
 
 pub returns-clause-ok : goal.returns-clause-ok
 returns-clause-ok c =
     let in' = c.self.inside in
-    let p = policy_of in'.users.entries in'.roles in'.granted.keys in'.sets in'.sessions.entries in
+    let p = policy_of in'.users in'.roles.value in'.granted in'.sets in'.sessions.entries in
     let ok : rows.administered p c.args.conn ≡ Ok p = subst (λ (q : Policy). rows.administered q c.args.conn ≡ Ok q) (sym c.self.view_is) c.in_ok-administers.ensures.ok in
     let user = c.args.user.now in
     let role = c.args.role.now in
@@ -66,6 +66,6 @@ returns-clause-ok c =
     ∙ ap (λ (q : Policy). least_broken q.roles q.ssd ((assigned_roles q user ++ role ∷ []) ∷ [])) c.self.view_is
     ∙ ap (λ l. least_broken c.args.self.now.roles c.args.self.now.ssd (l ∷ [])) (sym asked)
     ∙ sym c.in_default.ensures in
-    let is : c.insert.new.self.entries ≡ insert_entry name_eq p.users user (record { digest = rows.digest_of_user p user; roles = assigned_roles p user ++ role ∷ [] }) =
-    c.in_ok-insert.ensures.entries ∙ (λ i. insert_entry name_eq p.users (c.in_ok-copy-2.ensures i) (c.in_ok-assigned.ensures i)) ∙ ap (λ (q : Policy). insert_entry name_eq p.users user (record { digest = rows.digest_of_user q user; roles = assigned_roles q user ++ role ∷ [] })) (sym c.self.view_is) in
-    rw (← c.self.view_is) (assign-ok p c.args.conn ok user role c.insert.new.self.entries known role_known new told is)
+    let is : c.in_ok-users.users ≡ insert_entry name_eq p.users user (record { digest = rows.digest_of_user p user; roles = assigned_roles p user ++ role ∷ [] }) =
+    c.in_ok-users.ensures ∙ (λ i. insert_entry name_eq p.users (c.in_ok-copy-2.ensures i) (c.in_ok-assigned.ensures i)) ∙ ap (λ (q : Policy). insert_entry name_eq p.users user (record { digest = rows.digest_of_user q user; roles = assigned_roles q user ++ role ∷ [] })) (sym c.self.view_is) in
+    rw (← c.self.view_is) (assign-ok p c.args.conn ok user role c.in_ok-users.users known role_known new told is)

@@ -13,11 +13,11 @@ use Rattle.mpw_rbac.proofs.policy.Policy.grant.Goals as goal
 pub returns-clause-ok : goal.returns-clause-ok
 returns-clause-ok c =
     let in' = c.self.inside in
-    let p = policy_of in'.users.entries in'.roles in'.granted.keys in'.sets in'.sessions.entries in
+    let p = policy_of in'.users in'.roles.value in'.granted in'.sets in'.sessions.entries in
     let new = c.args.grant in
     let ok : rows.administered p c.args.conn ≡ Ok p = subst (λ (q : Policy). rows.administered q c.args.conn ≡ Ok q) (sym c.self.view_is) c.in_ok-administers.ensures.ok in
-    let known : is_role p.roles new.role ≡ true = sym c.contains.ensures ∙ c.if-not-contains.false in
+    let known : is_role p.roles new.role ≡ true = ap (λ (q : Policy). is_role q.roles new.role) c.self.view_is ∙ sym c.is_role.ensures ∙ c.if-not-is_role.false in
     let unknown : list_any (grant_eq new) p.granted ≡ false = ap (λ (q : Policy). list_any (grant_eq new) q.granted) c.self.view_is ∙ sym c.has_grant.ensures ∙ c.if-has_grant.false in
     let room : nat_lt (length p.granted) 4096 ≡ true = ap (λ (q : Policy). nat_lt (length q.granted) 4096) c.self.view_is ∙ sym c.has_room_for_grant.ensures ∙ c.if-not-has_room_for_grant.false in
-    let is : c.insert.new.self.keys ≡ p.granted ++ new ∷ [] = c.in_ok-insert.ensures.keys ∙ ap (λ b. cond b p.granted (p.granted ++ new ∷ [])) (any-same _ (grant_eq new) (λ g. search rules) p.granted ∙ unknown) in
-    rw (← c.self.view_is) (grant-ok p c.args.conn ok new c.insert.new.self.keys known unknown room is)
+    let is : c.in_ok-granted.granted ≡ p.granted ++ new ∷ [] = c.in_ok-granted.ensures ∙ ap (λ b. cond b p.granted (p.granted ++ new ∷ [])) unknown in
+    rw (← c.self.view_is) (grant-ok p c.args.conn ok new c.in_ok-granted.granted known unknown room is)

@@ -13,12 +13,12 @@ use Rattle.mpw_rbac.proofs.policy.Policy.inherit.Goals as goal
 pub invariant_of-self : goal.invariant_of-self
 invariant_of-self c =
     let in' = c.self.inside in
-    let p = policy_of in'.users.entries in'.roles in'.granted.keys in'.sets in'.sessions.entries in
+    let p = policy_of in'.users in'.roles.value in'.granted in'.sets in'.sessions.entries in
     let senior = c.args.senior.now in
     let junior = c.args.junior.now in
-    let made : hierarchy.inherit p.roles senior junior ≡ Ok c.inherit.new.self = ap (λ h. hierarchy.inherit h senior junior) (sym c.in_ok-next.ensures) ∙ c.in_ok-inherit.ensures.ok in
-    let pair = inherited-pair p.roles senior junior c.inherit.new.self made in
-    let static : least_broken (with_pair p.roles senior junior) p.ssd (assigned_lists p.users) ≡ None = (λ i. least_broken (sym pair.1 i) (c.self.view_is i).ssd (assigned_lists (c.self.view_is i).users)) ∙ sym c.in_default.ensures in
-    let dynamic : least_broken (with_pair p.roles senior junior) p.dsd (active_lists p.sessions) ≡ None = (λ i. least_broken (sym pair.1 i) (c.self.view_is i).dsd (active_lists (c.self.view_is i).sessions)) ∙ sym c.in_default-broken_dynamic.ensures in
+    let made : hierarchy.inherit p.roles senior junior ≡ Ok c.in_ok-next.next.value = ap (λ h. hierarchy.inherit h senior junior) (sym c.deref.ensures) ∙ c.in_ok-next.ensures.ok in
+    let pair = inherited-pair p.roles senior junior c.in_ok-next.next.value made in
+    let static : least_broken (with_pair p.roles senior junior) p.ssd (assigned_lists p.users) ≡ None = (λ i. least_broken (sym pair.1 i) (c.self.view_is i).ssd (assigned_lists (c.self.view_is i).users)) ∙ ap (λ h. least_broken h c.args.self.now.ssd (assigned_lists c.args.self.now.users)) (sym c.deref-2.ensures) ∙ sym c.in_default.ensures in
+    let dynamic : least_broken (with_pair p.roles senior junior) p.dsd (active_lists p.sessions) ≡ None = (λ i. least_broken (sym pair.1 i) (c.self.view_is i).dsd (active_lists (c.self.view_is i).sessions)) ∙ ap (λ h. least_broken h c.args.self.now.dsd (active_lists c.args.self.now.sessions)) (sym c.deref-3.ensures) ∙ sym c.in_default-broken_dynamic.ensures in
     subst (λ h. Sound (record p { roles = h })) (sym pair.1)
     (keep-inherit p senior junior pair.0 (holds-of_none (with_pair p.roles senior junior) p.ssd (assigned_lists p.users) static) (holds-of_none (with_pair p.roles senior junior) p.dsd (active_lists p.sessions) dynamic) c.self.invariant)

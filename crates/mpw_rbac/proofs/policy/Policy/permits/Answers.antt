@@ -13,6 +13,6 @@ returns-in-Some c =
     let obj = c.args.object.now in
     let s = c.in-Some.session.now in
     c.is_granted.ensures
-    ∙ ap (λ roles. list_any (is_granted_to roles op obj) c.self.inside.granted.keys) (c.below-acting.ensures ∙ ap (roles_below c.self.inside.roles) c.as_slice.ensures)
+    ∙ (λ i. list_any (is_granted_to ((c.below-acting.ensures ∙ (λ j. roles_below (c.deref.ensures j) (c.as_slice.ensures j))) i) op obj) (c.table.ensures i))
     ∙ ap (λ (q : Policy). session_permits q s op obj) c.self.view_is
     ∙ ap (λ o. option_map_or (λ (x : Session). session_permits c.args.self.now x op obj) o false) c.in-Some.ensures

@@ -1,16 +1,29 @@
--- Other roles are at least this one where it is among those below them.
-use Rattle.std.proofs.Common.{◌∙◌, sym, ap, subst}
-use Rattle.mpw_geom.specs.Names.{contains_name}
-use Rattle.mpw_roles.specs.Order.{roles_below, IsHierarchy}
-use Rattle.mpw_roles.proofs.HierarchyLemmas.{below-one, at_least-refl}
+-- Two places, and the bit of the mask at the one.
+use Rattle.std.proofs.Common.{◌≡◌, ◌∙◌, sym, ap, subst, false, arith, is_some}
+use Rattle.mpw_roles.specs.Hierarchy.{is_role}
+use Rattle.mpw_roles.specs.Mask.{has}
+use Rattle.mpw_roles.specs.Order.{at_least, IsHierarchy}
+use Rattle.mpw_roles.specs.Places.{mask_at}
+use Rattle.mpw_roles.proofs.PlacesLemmas.{bit-at_least, stranger-above, stranger-below, mask-there}
+use Rattle.mpw_roles.proofs.TableLemmas.{is_role-lookup}
 use Rattle.mpw_roles.proofs.roles.Roles.at_least.Goals as goal
+use Rattle.mpw_roles.proofs.roles.Roles.at_least.Goals.{in_default-via-in-Some+in_default, in_default-via-in_default}
 
-pub returns-then-eq : goal.returns-then-eq
-returns-then-eq c = c.if-eq.true ∙ at_least-refl c.args.self.now c.args.senior.now c.args.junior.now (sym c.eq.ensures ∙ c.if-eq.true)
-
-pub returns-else-eq : goal.returns-else-eq
-returns-else-eq c =
-    let h = c.args.self.now in
+pub returns-in-Some-Some : goal.returns-in-Some-Some
+returns-in-Some-Some c =
+    let h = c.self.inside.table.entries in
+    let ms = c.self.inside.masks.items in
     c.contains.ensures
-    ∙ ap (λ l. contains_name l c.args.junior.now) (c.below.ensures ∙ ap (roles_below h) c.from_ref.ensures.value)
-    ∙ below-one h (subst IsHierarchy c.self.view_is c.self.invariant) c.args.senior.now c.args.junior.now (sym c.if-eq.ensures)
+    ∙ ap (λ m. has m c.in-Some-Some.below) (c.index.ensures ∙ mask-there ms c.in-Some-Some.above c.index.result.now (let long = c.self.invariant.masked.long in let inside = c.in-Some-Some.ensures.within in omega arith))
+    ∙ bit-at_least h ms c.self.invariant.masked c.args.senior.now c.args.junior.now c.in-Some-Some.above c.in-Some-Some.below c.in-Some-Some.ensures.index c.in-Some-Some.ensures'.index
+    ∙ ap (λ k. at_least k c.args.senior.now c.args.junior.now) c.self.view_is
+
+pub returns-in_default : goal.returns-in_default
+returns-in_default c =
+    let h = c.self.inside.table.entries in
+    c.eq.ensures
+    ∙ elim c.in_default.branch [
+      | in_default-via-in-Some+in_default w ↦ stranger-below h c.self.invariant.kept c.args.senior.now c.args.junior.now (sym (is_role-lookup h c.args.junior.now) ∙ sym w.in_default.ensures'.found)
+      | in_default-via-in_default w ↦ stranger-above h c.args.senior.now c.args.junior.now (sym (is_role-lookup h c.args.senior.now) ∙ sym c.get_index_of.ensures.found ∙ ap is_some w.in_default.is-0)
+    ]
+    ∙ ap (λ k. at_least k c.args.senior.now c.args.junior.now) c.self.view_is

@@ -3,4 +3,4 @@ use Rattle.mpw_roles.specs.Order.{IsHierarchy}
 use Rattle.mpw_roles.proofs.roles.Roles.is_hierarchy.Goals as goal
 
 pub returns : goal.returns
-returns c = subst IsHierarchy c.self.view_is c.self.invariant
+returns c = subst IsHierarchy c.self.view_is c.self.invariant.kept

@@ -4,4 +4,4 @@ use Rattle.mpw_roles.proofs.HierarchyLemmas.{antisymmetric}
 use Rattle.mpw_roles.proofs.roles.Roles.order_is_antisymmetric.Goals as goal
 
 pub returns : goal.returns
-returns c = antisymmetric c.args.self.now (subst IsHierarchy c.self.view_is c.self.invariant)
+returns c = antisymmetric c.args.self.now (subst IsHierarchy c.self.view_is c.self.invariant.kept)

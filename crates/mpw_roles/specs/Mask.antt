@@ -1,0 +1,8 @@
+-- Sets of places, 512 at most: a place is a bit of one of eight words.
+use Rattle.std.specs.Prelude.{ℕ, ◌/◌, ◌%◌, Bool, ◌&&◌, ◌==◌, nat_lt, slice_index}
+use Rattle.std.specs.Int.{bit_at}
+use Rattle.mpw_roles.specs.declared.mask.Mask.{Mask}
+
+-- whether the place is in the set
+unfoldable pub has : Mask → ℕ → Bool
+has mask place = nat_lt place 512 && (bit_at (slice_index mask.words (place / 64)) (place % 64) == 1)

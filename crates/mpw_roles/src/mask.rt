@@ -1,0 +1,64 @@
+//! Sets of places, 512 at most, as the bits of eight words.
+ghost use Rattle.std.specs.Prelude.{◌≡◌, ℕ, ◌<◌, true, false, ◌||◌, ◌&&◌, ◌==◌};
+ghost use Rattle.mpw_roles.specs.Mask.{has};
+
+/// The number of words.
+const WORDS: usize = 8;
+
+/// The number of places.
+const PLACES: usize = 512;
+
+/// A set of places below 512: what one word does to 64 places at once.
+#[derive(Clone, Copy)]
+pub struct Mask {
+    words: [u64; WORDS],
+}
+
+impl Mask {
+    /// The set without places.
+    pub fn new() -> Mask
+        ensures { (place : ℕ) → has result place ≡ false }
+    {
+        Mask { words: [0; WORDS] }
+    }
+
+    /// Whether the place is in the set.
+    pub fn contains(&self, place: usize) -> bool
+        ensures { result ≡ has self.now place }
+    {
+        if place >= PLACES {
+            return false;
+        }
+        (self.words[place / 64] >> (place % 64)) & 1 == 1
+    }
+
+    /// Adds a place.
+    pub fn insert(&mut self, place: usize)
+        requires { place < 512 }
+        ensures { (other : ℕ) → has self.new other ≡ (has self.old other || other == place) }
+    {
+        self.words[place / 64] |= 1u64 << (place % 64);
+    }
+
+    /// Adds the places of another set.
+    pub fn add(&mut self, other: &Mask)
+        ensures { (place : ℕ) → has self.new place ≡ (has self.old place || has other.now place) }
+    {
+        'words: for k in 0..WORDS {
+            self.words[k] |= other.words[k];
+        }
+    }
+
+    /// Whether a place is in both sets.
+    pub fn meets(&self, other: &Mask) -> bool
+        ensures some { result ≡ true → (place : ℕ) × (has self.now place ≡ true) × (has other.now place ≡ true) }
+        ensures none { result ≡ false → (place : ℕ) → (has self.now place && has other.now place) ≡ false }
+    {
+        'words: for k in 0..WORDS {
+            if self.words[k] & other.words[k] != 0 {
+                return true;
+            }
+        }
+        false
+    }
+}

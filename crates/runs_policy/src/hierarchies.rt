@@ -1,0 +1,267 @@
+//! Random hierarchies: each mask beside a plain search over the pairs, in full after each change.
+use crate::name;
+use mpw_geom::Name;
+use mpw_roles::{Mask, Roles};
+use std::alloc::{AllocError, Global};
+use std::io;
+
+/// The greatest number of roles.
+const MAX_ROLES: usize = 512;
+
+/// A linear congruential generator.
+#[derive(Drop)]
+struct Random {
+    state: u64,
+}
+
+impl Random {
+    /// A number below another one, which is no 0.
+    fn below(&mut self, limit: usize) -> usize {
+        self.state = self
+            .state
+            .wrapping_mul(6364136223846793005)
+            .wrapping_add(1442695040888963407);
+        let drawn = (self.state >> 33) as usize;
+        if limit == 0 { 0 } else { drawn % limit }
+    }
+}
+
+/// The second body: names, and pairs of places of a senior and a junior.
+#[derive(Drop)]
+struct Plain {
+    names: Vec<Name>,
+    pairs: Vec<(usize, usize)>,
+}
+
+fn is_marked(marks: &[bool], place: usize) -> bool {
+    match marks.get(place) {
+        Some(mark) => *mark,
+        None => false,
+    }
+}
+
+fn mark(marks: &mut [bool], place: usize) {
+    if place < marks.len() {
+        marks[place] = true;
+    }
+}
+
+/// Marks the juniors of marked seniors, and says whether there was one to mark.
+fn pass(pairs: &[(usize, usize)], marks: &mut [bool]) -> bool {
+    let mut changed = false;
+    for (senior, junior) in pairs {
+        if is_marked(marks, *senior) && !is_marked(marks, *junior) {
+            mark(marks, *junior);
+            changed = true;
+        }
+    }
+    changed
+}
+
+/// The places at or below one.
+fn search(pairs: &[(usize, usize)], senior: usize) -> [bool; MAX_ROLES] {
+    let mut marks = [false; MAX_ROLES];
+    mark(&mut marks, senior);
+    for _ in 0..MAX_ROLES {
+        if !pass(pairs, &mut marks) {
+            return marks;
+        }
+    }
+    marks
+}
+
+/// In how many places the mask of a role differs from the search.
+fn row_differences(bits: &[usize], mask: &Mask, marks: &[bool]) -> usize {
+    let mut wrong: usize = 0;
+    for (place, bit) in bits.iter().enumerate() {
+        if mask.contains(*bit) != is_marked(marks, place) {
+            wrong = wrong.saturating_add(1);
+        }
+    }
+    wrong
+}
+
+/// The bit of each role.
+fn bits(alloc: Global, roles: &Roles, names: &[Name]) -> Result<Vec<usize>, AllocError> {
+    let mut bits = Vec::new(alloc);
+    for role in names {
+        bits.push(roles.place(role).unwrap_or(MAX_ROLES))?;
+    }
+    Ok(bits)
+}
+
+/// In how many pairs of roles the two bodies differ.
+fn differences(alloc: Global, roles: &Roles, plain: &Plain) -> Result<usize, AllocError> {
+    let bits = bits(alloc, roles, plain.names.as_slice())?;
+    let mut wrong: usize = 0;
+    for (place, senior) in plain.names.iter().enumerate() {
+        let marks = search(plain.pairs.as_slice(), place);
+        let mask = roles.mask(senior);
+        let row = row_differences(bits.as_slice(), &mask, &marks);
+        wrong = wrong.saturating_add(row);
+    }
+    Ok(wrong)
+}
+
+/// Takes the pair at a place back, in both bodies; whether they agree that it was there.
+fn take_back(roles: &mut Roles, plain: &mut Plain, at: usize) -> bool {
+    if at >= plain.pairs.len() {
+        return true;
+    }
+    let (senior, junior) = plain.pairs.swap_remove(at);
+    let (Some(above), Some(below)) = (plain.names.get(senior), plain.names.get(junior)) else {
+        return false;
+    };
+    roles.uninherit(above, below).is_ok()
+}
+
+/// Makes a pair in both bodies; whether they agree on what is answered.
+fn make(
+    roles: &mut Roles,
+    plain: &mut Plain,
+    senior: usize,
+    junior: usize,
+) -> Result<bool, AllocError> {
+    let closes = is_marked(&search(plain.pairs.as_slice(), junior), senior);
+    let known = plain
+        .pairs
+        .iter()
+        .any(|pair| pair.0 == senior && pair.1 == junior);
+    let (Some(above), Some(below)) = (plain.names.get(senior), plain.names.get(junior)) else {
+        return Ok(false);
+    };
+    let made = roles.inherit(above, below).is_ok();
+    if made {
+        plain.pairs.push((senior, junior))?;
+    }
+    Ok(made != (closes || known))
+}
+
+/// Removes a role in both bodies; the last role takes its place in the second.
+fn remove(roles: &mut Roles, plain: &mut Plain, at: usize) -> bool {
+    if at >= plain.names.len() {
+        return true;
+    }
+    let gone = plain.names.swap_remove(at);
+    let last = plain.names.len();
+    plain.pairs.retain(|pair| pair.0 != at && pair.1 != at);
+    for pair in plain.pairs.iter_mut() {
+        if pair.0 == last {
+            pair.0 = at;
+        }
+        if pair.1 == last {
+            pair.1 = at;
+        }
+    }
+    roles.remove(&gone).is_ok()
+}
+
+/// Adds a role with that number to both bodies.
+fn add(
+    alloc: Global,
+    roles: &mut Roles,
+    plain: &mut Plain,
+    number: usize,
+) -> Result<bool, AllocError> {
+    let role = name(alloc, format!(in alloc; "r{number}")?.as_str())?;
+    let made = roles.add(role.copy()?).is_ok();
+    plain.names.push(role)?;
+    Ok(made)
+}
+
+/// One change, of four kinds; whether the two bodies agree on its answer.
+fn change(
+    alloc: Global,
+    roles: &mut Roles,
+    plain: &mut Plain,
+    random: &mut Random,
+    number: usize,
+) -> Result<bool, AllocError> {
+    let count = plain.names.len();
+    match random.below(16) {
+        0 => {
+            let same = remove(roles, plain, random.below(count));
+            Ok(same & add(alloc, roles, plain, number)?)
+        }
+        1..=4 => {
+            let at = random.below(plain.pairs.len());
+            Ok(take_back(roles, plain, at))
+        }
+        _ => {
+            let senior = random.below(count);
+            let junior = random.below(count);
+            make(roles, plain, senior, junior)
+        }
+    }
+}
+
+/// So many changes: how many answers differ.
+fn change_all(
+    alloc: Global,
+    roles: &mut Roles,
+    plain: &mut Plain,
+    random: &mut Random,
+    changes: usize,
+) -> Result<usize, AllocError> {
+    let mut wrong: usize = 0;
+    for number in 0..changes {
+        if !change(
+            alloc,
+            roles,
+            plain,
+            random,
+            number.saturating_add(MAX_ROLES),
+        )? {
+            wrong = wrong.saturating_add(1);
+        }
+    }
+    Ok(wrong)
+}
+
+/// So many changes, with all compared after each: how many differences there were, in answers and in masks.
+fn compare_all(
+    alloc: Global,
+    roles: &mut Roles,
+    plain: &mut Plain,
+    random: &mut Random,
+    changes: usize,
+) -> Result<usize, AllocError> {
+    let mut wrong: usize = 0;
+    for number in 0..changes {
+        if !change(alloc, roles, plain, random, number.saturating_add(4096))? {
+            wrong = wrong.saturating_add(1);
+        }
+        wrong = wrong.saturating_add(differences(alloc, roles, plain)?);
+    }
+    Ok(wrong)
+}
+
+/// So many roles, some changes first, and then so many with all compared after each.
+fn run(alloc: Global, count: usize, first: usize, changes: usize) -> Result<usize, AllocError> {
+    let mut roles = Roles::new(alloc);
+    let mut plain = Plain {
+        names: Vec::new(alloc),
+        pairs: Vec::new(alloc),
+    };
+    let mut random = Random {
+        state: count as u64,
+    };
+    for number in 0..count {
+        add(alloc, &mut roles, &mut plain, number)?;
+    }
+    let before = change_all(alloc, &mut roles, &mut plain, &mut random, first)?;
+    let after = compare_all(alloc, &mut roles, &mut plain, &mut random, changes)?;
+    Ok(before.saturating_add(after))
+}
+
+/// Prints the part on random hierarchies.
+pub fn show(rt: &HostRuntime) -> io::Result<()> {
+    println!(rt; "# masks beside a plain search")?;
+    for (count, first, changes) in [(8, 0, 300), (64, 60, 60), (512, 500, 12)] {
+        let wrong = run(rt.alloc(), count, first, changes)?;
+        println!(rt;
+            "{count} roles, {first} changes, and compared in full after each of {changes} more: {wrong} differences"
+        )?;
+    }
+    Ok(())
+}
