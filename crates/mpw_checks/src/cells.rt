@@ -1,7 +1,7 @@
 //! A core in cells: halves of halves, each checked by itself.
 //!
-//! Halving goes on while the squares of the numbers of rectangles in both windows are together less
-//! than three quarters of the square of their number before, and more than [`FEW`] are left. So a cell
+//! Halving goes on while more than [`FEW`] rectangles are left and it doubles at most one in 64, or the squares of
+//! their numbers in both windows are together less than three quarters of the square of their number before. So a cell
 //! has few rectangles wherever the layout is dense, rectangles that all share a place are not divided
 //! for nothing, and the passes over a rectangle are about as many as the halvings.
 
@@ -47,7 +47,7 @@ fn pays(all: usize, low: usize, high: usize) -> bool {
     let halves = low
         .saturating_mul(low)
         .saturating_add(high.saturating_mul(high));
-    halves < whole / 4 * 3
+    low.saturating_add(high) <= all.saturating_add(all / 64) || halves < whole / 4 * 3
 }
 
 /// The parts of the rectangles that lie in the core's window.

@@ -1,0 +1,98 @@
+//! The rectangles of two layers, and what a check finds among them.
+
+use mpw_deck::{Check, Rule};
+use mpw_geom::{Box2, Layer, Name};
+use std::alloc::{AllocError, Global};
+
+const FIRST: Layer = Layer {
+    layer: 1,
+    datatype: 0,
+};
+
+const SECOND: Layer = Layer {
+    layer: 2,
+    datatype: 0,
+};
+
+/// A core that holds all.
+const CORE: Box2 = Box2 {
+    x0: -2_000_000_000,
+    y0: -2_000_000_000,
+    x1: 2_000_000_000,
+    y1: 2_000_000_000,
+};
+
+/// The rectangles of two layers.
+#[derive(Drop)]
+pub struct Shapes {
+    first: Vec<Box2>,
+    second: Vec<Box2>,
+}
+
+fn number(word: Option<&str>) -> i64 {
+    match word {
+        Some(word) => word.parse::<i64>().unwrap_or(0),
+        None => 0,
+    }
+}
+
+fn check_of(word: &str) -> Option<Check> {
+    match word {
+        "width" => Some(Check::Width(FIRST)),
+        "space" => Some(Check::Space(FIRST)),
+        "separation" => Some(Check::Separation(FIRST, SECOND)),
+        "enclosing" => Some(Check::Enclosing(FIRST, SECOND)),
+        _ => None,
+    }
+}
+
+fn rule_of(alloc: Global, word: &str, distance: i64) -> Option<Rule> {
+    let check = check_of(word)?;
+    let name = Name::read(alloc, b"rule").ok()?;
+    let distance = u32::try_from(distance).ok()?;
+    Some(Rule {
+        name,
+        check,
+        distance,
+    })
+}
+
+impl Shapes {
+    pub fn new(alloc: Global) -> Shapes {
+        Shapes {
+            first: Vec::new(alloc),
+            second: Vec::new(alloc),
+        }
+    }
+
+    /// Takes a rectangle, or tells how many pieces a check finds.
+    pub fn answer(&mut self, alloc: Global, line: &str) -> Result<Option<usize>, AllocError> {
+        let mut words = line.split(' ');
+        let verb = words.next().unwrap_or("");
+        let x0 = number(words.next());
+        let y0 = number(words.next());
+        let x1 = number(words.next());
+        let y1 = number(words.next());
+        let shape = Box2 { x0, y0, x1, y1 };
+        match verb {
+            "a" => self.first.push(shape)?,
+            "b" => self.second.push(shape)?,
+            _ => return self.found(alloc, verb, x0),
+        }
+        Ok(None)
+    }
+
+    fn found(&self, alloc: Global, verb: &str, distance: i64) -> Result<Option<usize>, AllocError> {
+        let Some(rule) = rule_of(alloc, verb, distance) else {
+            return Ok(None);
+        };
+        let one_layer = matches!(rule.check, Check::Width(_) | Check::Space(_));
+        let second = if one_layer {
+            &self.second.as_slice()[..0]
+        } else {
+            self.second.as_slice()
+        };
+        let pieces = mpw_checks::pieces(alloc, &rule, self.first.as_slice(), second, CORE)?;
+        Ok(Some(pieces.len()))
+    }
+}
