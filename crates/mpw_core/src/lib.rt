@@ -19,9 +19,9 @@ pub use desk::{Core, MAX_EVENTS, replay};
 pub use event::{Call, Event, Request, SharedRequest};
 pub use keeper::{Change, Keeper, KeptChange, NoKeeper, NotKept};
 pub use laws::{
-    changes_count_once_they_are_kept, denials_and_refusals_change_nothing, denials_name_what_the_session_lacks,
-    every_state_keeps_authorization, every_state_keeps_separation,
-    unknown_users_are_denied_like_wrong_tokens,
+    changes_count_once_they_are_kept, denials_and_refusals_change_nothing,
+    denials_name_what_the_session_lacks, every_state_keeps_authorization,
+    every_state_keeps_separation, unknown_users_are_denied_like_wrong_tokens,
 };
 pub use layouts::LayoutRequest;
 pub use policy::PolicyRequest;
