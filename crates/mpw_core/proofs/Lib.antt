@@ -7,3 +7,4 @@ mod LayoutDenials
 mod LayoutLemmas
 mod KeepingLemmas
 mod RestartLemmas
+pub mod GoingOnLemmas

@@ -4,7 +4,8 @@ ghost use Rattle.mpw_geom.specs.Names.{contains_name};
 ghost use Rattle.mpw_rbac.specs.Policy.{authorized, is_user, permits, session_of};
 ghost use Rattle.mpw_rbac.specs.Rows.{is_login, user_of};
 ghost use Rattle.mpw_rbac.specs.Sound.{active_authorized, Sound};
-ghost use Rattle.mpw_core.specs.History.{state_after};
+ghost use Rattle.mpw_core.specs.History.{state_after, KeptDesk, IsHandled, GoesOnTo};
+ghost use Rattle.mpw_core.specs.declared.reply.Reply.{Reply as AnyReply};
 ghost use Rattle.mpw_core.specs.Step.{State, new_state, outcome_of, wanted, unkept, left, step, reply_of, after};
 ghost use Rattle.mpw_core.specs.declared.event.Event.{Event};
 ghost use Rattle.mpw_core.specs.declared.event.Event.TheVariants as event;
@@ -54,6 +55,14 @@ pub fn a_restart_ends_every_session()
     ensures told { (state : State) (kept : Bool) → reply_of state event.Restart kept ≡ Reply.Restarted }
     ensures ended { (state : State) (kept : Bool) (conn : ℕ) → session_of (after state event.Restart kept).policy conn ≡ None }
     ensures rest { (state : State) (kept : Bool) → record (after state event.Restart kept) { policy = state.policy } ≡ state }
+{}
+
+/// A desk goes on by calls, and a keeper whose list is known has just their changes behind those before, in order: where an
+/// event is handled, where nothing is, and so over every list of events.
+pub fn keepers_have_the_changes_in_order()
+    ensures handled { (d left : KeptDesk) (event : Event) (reply : AnyReply) → IsHandled d event reply left → GoesOnTo d left }
+    ensures stays { (d : KeptDesk) → GoesOnTo d d }
+    ensures on { (a b c : KeptDesk) → GoesOnTo a b → GoesOnTo b c → GoesOnTo a c }
 {}
 
 /// A denial of a permission, whatever the request, names one that the connection's session lacks. A denial of an

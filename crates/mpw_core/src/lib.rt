@@ -22,7 +22,7 @@ pub use laws::{
     a_restart_ends_every_session, changes_count_once_they_are_kept,
     denials_and_refusals_change_nothing, denials_name_what_the_session_lacks,
     every_state_keeps_authorization, every_state_keeps_separation,
-    unknown_users_are_denied_like_wrong_tokens,
+    keepers_have_the_changes_in_order, unknown_users_are_denied_like_wrong_tokens,
 };
 pub use layouts::LayoutRequest;
 pub use policy::PolicyRequest;

@@ -22,4 +22,4 @@ pub use line::{MAX_LINE, MAX_LINES};
 pub use read::{Asked, read_request};
 pub use reply::write_reply;
 pub use request::{LineAsk, MAX_PAYLOAD, parse_line};
-pub use serve::{End, serve_core};
+pub use serve::{End, serve_core, served_changes_are_kept_in_order};

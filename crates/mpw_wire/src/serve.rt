@@ -1,6 +1,6 @@
 //! Serving a connection: each line gets its reply, in order, until the connection ends.
-ghost use Rattle.std.specs.Prelude.{◌≡◌};
-ghost use Rattle.mpw_core.specs.History.{kept_desk};
+ghost use Rattle.std.specs.Prelude.{◌≡◌, ℕ, List, Option, Result};
+ghost use Rattle.mpw_core.specs.History.{KeptDesk, GoesOnTo, kept_desk};
 ghost use Rattle.mpw_wire.specs.Reading.{read_failures};
 ghost use Rattle.mpw_wire.specs.Writing.{Writes, fault_of};
 ghost use Rattle.mpw_wire.specs.Serving.{Answer, told, IsAnswer, answer_text, ServesLine, ServesLines, IsGone, Serves, write_failures};
@@ -9,7 +9,7 @@ use crate::line::MAX_LINES;
 use crate::read::{Asked, read_request};
 use crate::reply::{Refusal, write_refusal, write_reply};
 use crate::{Sink, Source, WireFault};
-use mpw_core::{Core, Event, Keeper, SharedRequest};
+use mpw_core::{Core, Event, Keeper, SharedRequest, keepers_have_the_changes_in_order};
 use std::alloc::Global;
 
 /// How a connection ended.
@@ -133,4 +133,12 @@ pub fn serve_core<K: Keeper, R: Source, W: Sink>(
     let end = serve_lines(alloc, core, keeper, conn, reader, writer);
     hand_end(core, keeper, conn);
     end
+}
+
+/// A connection that was served leads the desk on by calls, and a keeper whose list is known has just their changes behind
+/// those before, in order.
+pub fn served_changes_are_kept_in_order()
+    ensures { (conn : ℕ) (input left output written : Option (List ℕ)) (desk reached : KeptDesk) (result : Result End WireFault) → Serves conn input left output written desk reached result → GoesOnTo desk reached }
+{
+    keepers_have_the_changes_in_order();
 }
