@@ -94,16 +94,14 @@ def prove_all(crates, wanted):
     total, most, running, began = len(left), lanes(), {}, {}
     with ThreadPoolExecutor(most) as pool:
         while left or running:
-            busy = [it[0] for it in running.values()]
+            busy = running.values()
             ready = [it for it in left if not any(dep in left or dep in busy for dep in below(crates, it))]
-            used = sum(it[1] for it in running.values())
-            for name in ready[: max(0, most - used)]:
-                jobs = max(1, (most - used) // min(len(ready), max(1, most - used)))
+            for name in ready[: most - len(running)]:
                 left.remove(name)
                 began[name] = time.monotonic()
-                running[pool.submit(prove, crates, name, jobs)] = (name, jobs)
+                running[pool.submit(prove, crates, name, most)] = name
             for done in wait(running, return_when=FIRST_COMPLETED).done:
-                name = running.pop(done)[0]
+                name = running.pop(done)
                 if done.result():
                     say(f"{name} could not be proved:\n{done.result()[-4000:]}")
                     return False
