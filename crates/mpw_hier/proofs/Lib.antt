@@ -26,3 +26,6 @@ pub mod Adding
 pub mod Reached
 pub mod ReachTests
 pub mod Pushing
+pub mod Origins
+pub mod Stays
+pub mod Holding

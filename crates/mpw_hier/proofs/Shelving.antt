@@ -54,7 +54,7 @@ later_cond : (b : Bool) (n : ℕ) (o before : Option ℕ) → later (cond b (Som
 later_cond true n o before = refl
 later_cond false n o before = refl
 
-present_push : (k : ℕ) (ss : List Submission) (s : Submission) (q : List ℕ) → present_from k (ss ++ s ∷ []) q ≡ cond (name_eq s.cell q) (Some (k + length ss)) (present_from k ss q)
+pub present_push : (k : ℕ) (ss : List Submission) (s : Submission) (q : List ℕ) → present_from k (ss ++ s ∷ []) q ≡ cond (name_eq s.cell q) (Some (k + length ss)) (present_from k ss q)
 present_push k [] s q = go (name_eq s.cell q)
   where
     go : (b : Bool) → later None (cond b (Some k) None) ≡ cond b (Some (k + 0)) None

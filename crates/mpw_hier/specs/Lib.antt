@@ -14,3 +14,5 @@ pub mod Nodes
 pub mod Building
 pub mod SizeParts
 pub mod Reach
+pub mod Shelved
+pub mod Holding

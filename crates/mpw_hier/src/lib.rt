@@ -26,7 +26,10 @@ mod submission;
 
 pub use bindings::{Binding, Bindings};
 pub use fault::HierFault;
-pub use laws::reaching_is_decided;
+pub use laws::{
+    earlier_submissions_stay, extents_are_least_boxes, reaching_is_decided,
+    shelves_have_their_numbers,
+};
 pub use node::{Child, Node, Nodes, Target};
 pub use outside::externals;
 pub use shelf::Shelf;

@@ -17,3 +17,4 @@ pub mod Targets
 pub mod Ways
 pub mod Kept
 pub mod Starts
+pub mod Roots

@@ -3,3 +3,4 @@ pub mod Frames
 pub mod Near
 pub mod Way
 pub mod Walk
+pub mod Roots
