@@ -29,3 +29,4 @@ pub mod Pushing
 pub mod Origins
 pub mod Stays
 pub mod Holding
+pub mod Outlining

@@ -1,5 +1,6 @@
 pub mod Structures
 pub mod Outside
+pub mod Outline
 pub mod Graph
 pub mod Descent
 pub mod Levels
