@@ -1,6 +1,6 @@
 -- What a step does to the way of a walk.
 use Rattle.std.proofs.Common.{◌≡◌, ℕ, zero, suc, ◌+◌, ◌<◌, ◌≤◌, ◌^◌, ◌⊎◌, inl, inr, List, [], ◌∷◌, ◌++◌, length, map, take, drop, Some, None, refl, sym, ap, subst, ◌∙◌, arith, append_assoc}
-use Rattle.std.specs.Prelude.{slice_get, slice_index, All, Result, Ok, is_ok, if◌then◌else◌}
+use Rattle.std.specs.Prelude.{slice_get, slice_index, All}
 use Rattle.std.specs.List.{flat_map}
 use Rattle.std.proofs.lemmas.Option.{slice_get_within}
 use Rattle.std.proofs.lemmas.List.{length-append, drop_all, nil_from_length}
@@ -254,10 +254,6 @@ module _ (ss : List Submission) (roots : List Root) (root turns : ℕ) (frames :
   left_does over none =
       let same = left_over over none in
       (record { first = ap first_given same; behind = ap behind_first same; count = ap (λ left. turns + length left) same }, omega (arith, ap length same, length-append frames (f ∷ [])))
-
--- what a push leaves
-pub pushed : {A E X : Type 0} (r : Result A E) (a : A) (zs xs ys : List X) → zs ≡ (if is_ok r then xs else ys) → r ≡ Ok a → zs ≡ xs
-pushed r a zs xs ys e o = e ∙ ap (λ r. if is_ok r then xs else ys) o
 
 -- ---- a root is entered, or passed over
 

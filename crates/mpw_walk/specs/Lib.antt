@@ -1,5 +1,6 @@
 pub mod Turns
 pub mod Frames
+pub mod Stack
 pub mod Near
 pub mod Way
 pub mod Walk

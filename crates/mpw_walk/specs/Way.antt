@@ -1,5 +1,5 @@
 -- The way of a walk: the structures that it has entered, the turns to come of them, and what is true on the way.
-use Rattle.std.specs.Prelude.{◌≡◌, ◌≤◌, ◌<◌, ◌+◌, ◌-◌, ◌*◌, ◌^◌, ℕ, List, [], ◌++◌, length, drop, slice_get, fold, All, Some, vec_capacity}
+use Rattle.std.specs.Prelude.{◌≡◌, ◌≤◌, ◌<◌, ◌+◌, ◌-◌, ◌*◌, ◌^◌, ℕ, List, [], ◌++◌, length, drop, slice_get, fold, All, Some}
 use Rattle.mpw_geom.specs.Plane.{IsInPlane}
 use Rattle.mpw_elements.specs.Element.{IsElement}
 use Rattle.mpw_library.specs.Library.{IsLibrary}
@@ -46,9 +46,8 @@ pub record IsOnWay (ss : List Submission) (roots : List Root) (root turns : ℕ)
   pub close : All IsCloseItem (given (left_of ss roots root frames))
   pub few : turns + length (left_of ss roots root frames) < 2 ^ 64
 
-pub record IsWay (w : Way) (frames : List Frame) : Type 0 where
-  pub on : IsOnWay w.shelf.now w.roots.now w.root w.turns frames
-  pub room : 64 ≤ vec_capacity w.frames
+abbrev pub IsWay : Way → List Frame → Type 0
+IsWay w frames = IsOnWay w.shelf.now w.roots.now w.root w.turns frames
 
 -- ---- steps
 

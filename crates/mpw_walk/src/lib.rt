@@ -1,12 +1,13 @@
 //! The flat lists of submissions on a shelf, one shape at a time.
 //!
 //! [`Walk`] goes through placed submissions and gives each shape that they show with its origin and
-//! its placing. It goes down the hierarchy with a stack of its own, which is reserved once: one frame
-//! a level.
+//! its placing. It goes down the hierarchy with a stack of its own of one frame a level, which is of
+//! fixed size.
 #![tactic(auto)]
 
 mod fit;
 mod frame;
+mod frames;
 mod laws;
 mod root;
 mod walk;

@@ -3,21 +3,18 @@
 //! To contracts it is the number of its turns so far and the turns to come, which give the flat lists of
 //! the roots.
 
-ghost use Rattle.std.specs.Prelude.{◌≡◌, ◌≤◌, ◌+◌, ◌^◌, [], ◌∷◌, length, IfOk, IfSome, IfNone, All};
+ghost use Rattle.std.specs.Prelude.{◌≡◌, ◌≤◌, ◌+◌, ◌^◌, [], ◌∷◌, length, IfSome, IfNone, All};
 ghost use Rattle.mpw_walk.specs.Turns.{given, behind_first, flat_roots, roots_turns};
 ghost use Rattle.mpw_walk.specs.Walk.{IsRoot};
 ghost use Rattle.mpw_walk.specs.Way.{IsPlaceable, item_of};
 
+use crate::frames::Frames;
 use crate::root::{Placed, Root};
 use crate::way::Way;
 use mpw_hier::Shelf;
-use std::alloc::{AllocError, Global};
 use std::marker::Model;
 
-/// The greatest number of levels.
-const LEVELS: usize = 64;
-
-/// The shapes of placed submissions that are still to come. Only [`Walk::new`] takes memory.
+/// The shapes of placed submissions that are still to come. It takes no memory: its stack has a fixed size.
 #[derive(Drop)]
 pub struct Walk<'a> {
     way: Way<'a>,
@@ -39,26 +36,24 @@ impl<'a> Walk<'a> {
     /// The walk over the roots in order: for each, its own shapes in file order, and then what it places,
     /// an array row by row, the column running fastest. What shows nothing is passed over.
     ///
-    /// An error is want of memory, which is taken for one frame a level.
-    pub fn new(alloc: Global, shelf: &'a Shelf, roots: &'a [Root]) -> Result<Walk<'a>, AllocError>
+    /// It takes no memory.
+    pub fn new(shelf: &'a Shelf, roots: &'a [Root]) -> Walk<'a>
         requires roots { All (IsRoot shelf.now) roots.now }
         requires few { length roots.now ≤ 2 ^ 32 }
-        ensures turns { IfOk result (λ walk. walk.turns ≡ 0) }
-        ensures left { IfOk result (λ walk. walk.left ≡ roots_turns shelf.now roots.now) }
-        ensures given { IfOk result (λ walk. given walk.left ≡ flat_roots shelf.now roots.now) }
+        ensures turns { result.turns ≡ 0 }
+        ensures left { result.left ≡ roots_turns shelf.now roots.now }
+        ensures given { given result.left ≡ flat_roots shelf.now roots.now }
     {
         shelf.is_shelf();
-        let mut frames = Vec::new(alloc);
-        frames.reserve(LEVELS)?;
-        Ok(Walk {
+        Walk {
             way: Way {
                 shelf,
                 roots,
                 root: 0,
-                frames,
+                frames: Frames::new(),
                 turns: 0,
             },
-        })
+        }
     }
 
     /// The next shape; none behind the last. It takes no memory. One turn enters each instance on the way

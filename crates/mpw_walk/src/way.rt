@@ -11,6 +11,7 @@ ghost use Rattle.mpw_walk.specs.Way.{IsWay, IsPlaceable, Does, left, item_of};
 ghost use Rattle.mpw_walk.specs.declared.way.Step.TheVariants as steps;
 
 use crate::frame::{Frame, instance};
+use crate::frames::Frames;
 use crate::root::{Placed, Root};
 use mpw_elements::Reference;
 use mpw_hier::{Shelf, Target};
@@ -31,7 +32,7 @@ pub struct Way<'a> {
     /// The next root.
     pub root: usize,
     /// Each structure is placed by the one before, the first by a root.
-    pub frames: Vec<Frame<'a>>,
+    pub frames: Frames<'a>,
     /// The turns so far.
     pub turns: u64,
 }
@@ -47,8 +48,8 @@ impl<'a> Way<'a> {
     {
         let entered = frame.target(self.shelf, target, reference);
         let placing = instance(reference, frame.row, frame.column).then(frame.placing);
-        self.frames.push(frame.behind_instance(reference)).unwrap();
-        self.frames.push(Frame { placing, ..entered }).unwrap();
+        self.frames.push(frame.behind_instance(reference));
+        self.frames.push(Frame { placing, ..entered });
         self.turns += 1;
     }
 
@@ -64,7 +65,7 @@ impl<'a> Way<'a> {
                 shape: frame.shape + 1,
                 ..*frame
             };
-            self.frames.push(next).unwrap();
+            self.frames.push(next);
             self.turns += 1;
             return Step::Given(placed);
         }
@@ -88,7 +89,7 @@ impl<'a> Way<'a> {
         let top = Frame::top(self.shelf, root.submission);
         if top.node.size.count > 0 {
             let placing = root.placing;
-            self.frames.push(Frame { placing, ..top }).unwrap();
+            self.frames.push(Frame { placing, ..top });
             self.turns += 1;
         }
         Step::On

@@ -1,4 +1,4 @@
-use Rattle.std.proofs.Common.{◌≡◌, [], List, sym, ap, subst, ◌∙◌, arith}
+use Rattle.std.proofs.Common.{List, sym, ap, subst, ◌∙◌}
 use Rattle.mpw_walk.specs.Turns.{given}
 use Rattle.mpw_walk.specs.Way.{left_of, IsOnWay}
 use Rattle.mpw_walk.specs.declared.frame.Frame.{Frame}
@@ -7,29 +7,20 @@ use Rattle.mpw_walk.proofs.Kept.{shelf_kept}
 use Rattle.mpw_walk.proofs.Starts.{start_left, start_way}
 use Rattle.mpw_walk.proofs.walk.Walk.new.Goals as goal
 
-empty_left : (frames kept : List Frame) → frames ≡ kept → kept ≡ [] → frames ≡ []
-empty_left frames kept e none = e ∙ none
-
 pub invariant_of-result : goal.invariant_of-result
 invariant_of-result c =
     let ss = c.args.shelf.now in
     let roots = c.args.roots.now in
-    let none = empty_left c.reserve.new.self.items c.new-frames.result.items c.reserve.ensures.items c.new-frames.ensures.items in
-    record {
-      on = subst (λ (fs : List Frame). IsOnWay ss roots 0 0 fs) (sym none) (start_way ss roots (shelf_kept ss c.is_shelf.ensures) c.requires.roots c.requires.few);
-      room = omega (arith, c.in_ok-reserve.ensures.ok);
-    }
+    subst (λ (fs : List Frame). IsOnWay ss roots 0 0 fs) (sym c.new.ensures) (start_way ss roots (shelf_kept ss c.is_shelf.ensures) c.requires.roots c.requires.few)
 
 pub returns-clause-left : goal.returns-clause-left
 returns-clause-left c =
     let ss = c.args.shelf.now in
     let roots = c.args.roots.now in
-    let none = empty_left c.reserve.new.self.items c.new-frames.result.items c.reserve.ensures.items c.new-frames.ensures.items in
-    ap (left_of ss roots 0) none ∙ start_left ss roots
+    ap (left_of ss roots 0) c.new.ensures ∙ start_left ss roots
 
 pub returns-clause-given : goal.returns-clause-given
 returns-clause-given c =
     let ss = c.args.shelf.now in
     let roots = c.args.roots.now in
-    let none = empty_left c.reserve.new.self.items c.new-frames.result.items c.reserve.ensures.items c.new-frames.ensures.items in
-    ap (λ (fs : List Frame). given (left_of ss roots 0 fs)) none ∙ ap given (start_left ss roots) ∙ roots_given ss roots
+    ap (λ (fs : List Frame). given (left_of ss roots 0 fs)) c.new.ensures ∙ ap given (start_left ss roots) ∙ roots_given ss roots
