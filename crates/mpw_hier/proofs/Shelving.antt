@@ -44,12 +44,6 @@ get_more xs x n y is =
 
 -- ---- the present submission
 
-later_some : (o : Option ℕ) (b : Bool) (n : ℕ) → later (cond b (Some n) o) None ≡ cond b (Some n) o
-later_some None true n = refl
-later_some (Some m) true n = refl
-later_some None false n = refl
-later_some (Some m) false n = refl
-
 later_cond : (b : Bool) (n : ℕ) (o before : Option ℕ) → later (cond b (Some n) o) before ≡ cond b (Some n) (later o before)
 later_cond true n o before = refl
 later_cond false n o before = refl
