@@ -75,6 +75,7 @@ keeps-wanted : (s : State) (event : Event) → active_authorized s.policy ≡ tr
 unfolding wanted
 keeps-wanted s (event.Ask conn request) sound = keeps-request s conn request sound
 keeps-wanted s (event.Gone conn) sound = law.keeps-end_session conn s.policy (rows.end_session s.policy conn) refl sound
+keeps-wanted s event.Restart sound = law.keeps-end_sessions s.policy (rows.end_sessions s.policy) refl sound
 
 keeps-settled : (s : State) (event : Event) (kept : Bool) (outcome : Outcome) → active_authorized s.policy ≡ true → active_authorized outcome.state.policy ≡ true → active_authorized (settled s event kept outcome).state.policy ≡ true
 keeps-settled s event kept outcome before now = elim (outcome.changes && not kept) as (λ b. active_authorized (cond b (left (unkept event) (record s { closed = true })) outcome).state.policy ≡ true) [ true ↦ before | false ↦ now ]
@@ -133,6 +134,7 @@ sound-wanted : (s : State) (event : Event) → Sound s.policy → Sound (wanted 
 unfolding wanted
 sound-wanted s (event.Ask conn request) sound = sound-request s conn request sound
 sound-wanted s (event.Gone conn) sound = law.sound-end_session conn s.policy (rows.end_session s.policy conn) refl sound
+sound-wanted s event.Restart sound = law.sound-end_sessions s.policy (rows.end_sessions s.policy) refl sound
 
 sound-settled : (s : State) (event : Event) (kept : Bool) (outcome : Outcome) → Sound s.policy → Sound outcome.state.policy → Sound (settled s event kept outcome).state.policy
 sound-settled s event kept outcome before now = elim (outcome.changes && not kept) as (λ b. Sound (cond b (left (unkept event) (record s { closed = true })) outcome).state.policy) [ true ↦ before | false ↦ now ]

@@ -1,5 +1,5 @@
 -- The parts of a row as the shelf tells them.
-use Rattle.std.proofs.Common.{◌≡◌, ℕ, ◌+◌, ◌<◌, zero, suc, Bool, true, false, cond, List, [], ◌∷◌, ◌++◌, length, get_or, drop, Option, Some, None, Result, Ok, Err, refl, sym, ap, subst, ◌∙◌, true≢false}
+use Rattle.std.proofs.Common.{◌≡◌, ℕ, ◌+◌, ◌<◌, Bool, true, false, List, [], ◌∷◌, ◌++◌, length, get_or, drop, Option, Some, None, Result, Ok, Err, refl, sym, ap, ◌∙◌}
 use Rattle.std.specs.Prelude.{slice_get, ◌↔◌}
 use Rattle.std.proofs.lemmas.List.{at_drop_more}
 use Rattle.mpw_rbac.specs.declared.permission.Object.TheVariants as objects
@@ -11,7 +11,6 @@ use Rattle.mpw_hier.specs.declared.fault.HierFault.{HierFault}
 use Rattle.mpw_hier.specs.declared.fault.HierFault.TheVariants as hier
 use Rattle.mpw_hier.specs.declared.submission.Submission.{Submission}
 use Rattle.mpw_hier.specs.Outside.{AreExternals, IsOfExternals}
-use Rattle.mpw_hier.specs.Structures.{IsCyclic}
 use Rattle.mpw_hier.specs.Limits.{IsFar, KeepsLimits, IsRefused, numbered}
 use Rattle.mpw_hier.specs.Reach.{is_cyclic, is_far}
 use Rattle.mpw_hier.proofs.ReachTests.{cycles_found, externals_one, far_found}

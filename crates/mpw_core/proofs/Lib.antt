@@ -6,3 +6,4 @@ pub mod DenialLemmas
 mod LayoutDenials
 mod LayoutLemmas
 mod KeepingLemmas
+mod RestartLemmas

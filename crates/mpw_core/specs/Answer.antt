@@ -3,11 +3,12 @@ use Rattle.std.specs.Prelude.{◌≡◌, ℕ, Bool, true, false, List, [], ◌�
 use Rattle.mpw_rbac.specs.declared.refusal.PolicyFault.{PolicyFault}
 use Rattle.mpw_rbac.specs.declared.refusal.PolicyFault.TheVariants.{Refused, Memory}
 use Rattle.mpw_rbac.specs.Policy.{Policy}
+use Rattle.mpw_rbac.specs.Rows.{end_sessions}
 use Rattle.mpw_hier.specs.declared.fault.HierFault.{HierFault}
 use Rattle.mpw_hier.specs.declared.fault.HierFault.TheVariants as hier
 use Rattle.mpw_hier.specs.declared.submission.Submission.{Submission}
 use Rattle.mpw_core.specs.declared.answer.Next.{Next}
-use Rattle.mpw_core.specs.declared.answer.Next.TheVariants.{Nothing, NextPolicy, NextShelf}
+use Rattle.mpw_core.specs.declared.answer.Next.TheVariants.{Nothing, NextPolicy, NextShelf, NoSessions}
 use Rattle.mpw_core.specs.declared.answer.Fault.{Fault}
 use Rattle.mpw_core.specs.declared.answer.Fault.TheVariants as fault
 use Rattle.mpw_core.specs.declared.reply.Code.TheVariants as code
@@ -25,12 +26,14 @@ abbrev pub state_with : State → Next → State
 state_with state Nothing = state
 state_with state (NextPolicy policy) = record state { policy = policy }
 state_with state (NextShelf shelf) = record state { shelf = shelf }
+state_with state NoSessions = record state { policy = end_sessions state.policy }
 
--- whether something moves in
+-- whether something moves in that has to be kept
 abbrev pub is_change : Next → Bool
 is_change Nothing = false
 is_change (NextPolicy policy) = true
 is_change (NextShelf shelf) = true
+is_change NoSessions = false
 
 -- the answer gives the outcome: its reply, its state, and whether that is a change
 pub record Gives (state : State) (outcome : Outcome) (reply : Reply) (next : Next) : Type 0 where

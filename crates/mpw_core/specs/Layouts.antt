@@ -1,5 +1,5 @@
 -- The requests over the shelf: each with its tests in order, and what it gives where all pass.
-use Rattle.std.specs.Prelude.{◌≡◌, ℕ, Bool, true, false, not, List, [], ◌∷◌, ◌++◌, map, is_some, slice_get, Option, None, Some, Result, Ok, Err, if◌then◌else◌}
+use Rattle.std.specs.Prelude.{ℕ, Bool, not, List, [], ◌∷◌, map, is_some, slice_get, Option, None, Some, Result, Ok, Err, if◌then◌else◌}
 use Rattle.std.specs.List.{flat_map}
 use Rattle.mpw_geom.specs.Names.{by_name}
 use Rattle.mpw_records.specs.declared.fault.ReadFault.{ReadFault}
@@ -21,7 +21,6 @@ use Rattle.mpw_hier.specs.Reach.{is_cyclic, external_names, is_far}
 use Rattle.mpw_core.specs.declared.reply.Line.{Line}
 use Rattle.mpw_core.specs.declared.reply.Line.TheVariants as line
 use Rattle.mpw_core.specs.declared.reply.Denial.TheVariants as denial
-use Rattle.mpw_core.specs.declared.reply.Code.{Code}
 use Rattle.mpw_core.specs.declared.reply.Code.TheVariants as code
 use Rattle.mpw_core.specs.declared.reply.Reply.{Reply}
 use Rattle.mpw_core.specs.declared.reply.Reply.TheVariants as reply

@@ -28,6 +28,8 @@ pub(crate) enum Next {
     Nothing,
     NextPolicy(Policy),
     NextShelf(Shelf),
+    /// All sessions end, which takes no memory.
+    NoSessions,
 }
 
 /// A reply, and what changes with it.
@@ -258,5 +260,9 @@ pub(crate) fn prepare(
     match event {
         Event::Ask { conn, request } => ask(alloc, policy, shelf, *conn, request.get()),
         Event::Gone { conn } => gone(policy, *conn),
+        Event::Restart => Ok(Answer {
+            reply: Reply::Restarted,
+            next: Next::NoSessions,
+        }),
     }
 }

@@ -49,6 +49,13 @@ pub fn changes_count_once_they_are_kept()
     ensures unkept { (state : State) (event : Event) → (wanted state event).changes ≡ true → step state event false ≡ left (unkept event) (record state { closed = true }) }
 {}
 
+/// A restart ends every session, and changes nothing else of the policy, the shelf, and whether the desk is closed.
+pub fn a_restart_ends_every_session()
+    ensures told { (state : State) (kept : Bool) → reply_of state event.Restart kept ≡ Reply.Restarted }
+    ensures ended { (state : State) (kept : Bool) (conn : ℕ) → session_of (after state event.Restart kept).policy conn ≡ None }
+    ensures rest { (state : State) (kept : Bool) → record (after state event.Restart kept) { policy = state.policy } ≡ state }
+{}
+
 /// A denial of a permission, whatever the request, names one that the connection's session lacks. A denial of an
 /// activation names the role that was asked for, and the session's user is not authorized for it.
 pub fn denials_name_what_the_session_lacks()

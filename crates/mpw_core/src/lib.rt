@@ -2,8 +2,8 @@
 //!
 //! To every contract the core is its history. The tables that the code keeps stand under one invariant: they are what
 //! the written rules give for that history. An event is answered in three parts: *prepare* makes the reply and the
-//! changed tables and all the room that they need, and changes nothing; nothing is kept elsewhere yet; *commit* moves
-//! the prepared parts in, takes no memory and cannot fail.
+//! changed tables and all the room that they need, and changes nothing; *keep* hands the change to a keeper; *commit*
+//! moves the prepared parts in, takes no memory and cannot fail.
 #![tactic(auto)]
 
 mod answer;
@@ -19,9 +19,10 @@ pub use desk::{Core, MAX_EVENTS, replay};
 pub use event::{Call, Event, Request, SharedRequest};
 pub use keeper::{Change, Keeper, KeptChange, NoKeeper, NotKept};
 pub use laws::{
-    changes_count_once_they_are_kept, denials_and_refusals_change_nothing,
-    denials_name_what_the_session_lacks, every_state_keeps_authorization,
-    every_state_keeps_separation, unknown_users_are_denied_like_wrong_tokens,
+    a_restart_ends_every_session, changes_count_once_they_are_kept,
+    denials_and_refusals_change_nothing, denials_name_what_the_session_lacks,
+    every_state_keeps_authorization, every_state_keeps_separation,
+    unknown_users_are_denied_like_wrong_tokens,
 };
 pub use layouts::LayoutRequest;
 pub use policy::PolicyRequest;

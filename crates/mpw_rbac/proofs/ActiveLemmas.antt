@@ -61,6 +61,12 @@ stays-trim q = was-there (λ (e : ℕ × Session). (e.0, kept_roles q e.1)) (λ 
 stays : (p : Policy) (tests : List rows.Test) (next q : Policy) → decided tests next ≡ Ok q → Stays p.sessions next.sessions → Stays p.sessions q.sessions
 stays p tests next q is there = subst (λ (k : Policy). Stays p.sessions k.sessions) (decided-value tests next q is) there
 
+pub adds-end_session : (conn : ℕ) → AddsNoActive (λ p. Ok (rows.end_session p conn))
+adds-end_session conn p q is = stays p [] (rows.end_session p conn) q is (stays-filter (λ (e : ℕ × Session). not (conn == e.0)) p.sessions)
+
+pub adds-end_sessions : AddsNoActive (λ p. Ok (rows.end_sessions p))
+adds-end_sessions p q is = stays p [] (rows.end_sessions p) q is refl
+
 pub adds-close_session : (conn : ℕ) → AddsNoActive (λ p. rows.close_session p conn)
 adds-close_session conn p q is = stays p (rows.in_session p conn ∷ []) (rows.end_session p conn) q is (stays-filter (λ (e : ℕ × Session). not (conn == e.0)) p.sessions)
 

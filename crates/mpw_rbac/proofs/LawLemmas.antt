@@ -46,6 +46,12 @@ keeps-end_session conn p q is s = keeps [] (rows.end_session p conn) q is (sound
 pub sound-end_session : (conn : ℕ) → KeepsSound (λ p. Ok (rows.end_session p conn))
 sound-end_session conn p q is s = sound [] (rows.end_session p conn) q is (keep.keep-end p conn s)
 
+pub keeps-end_sessions : KeepsAuthorization (λ p. Ok (rows.end_sessions p))
+keeps-end_sessions p q is s = keeps [] (rows.end_sessions p) q is refl
+
+pub sound-end_sessions : KeepsSound (λ p. Ok (rows.end_sessions p))
+sound-end_sessions p q is s = sound [] (rows.end_sessions p) q is (keep.keep-end_all p s)
+
 pub keeps-open_session : (conn : ℕ) (user digest : List ℕ) → KeepsAuthorization (λ p. rows.open_session p conn user digest)
 keeps-open_session conn user digest p q is s =
     let t = all-pass (row.open-tests p conn user digest) (row.opened p conn user) q is in

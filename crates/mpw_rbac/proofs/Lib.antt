@@ -1,3 +1,4 @@
+pub mod AccessLemmas
 pub mod ActiveLemmas
 pub mod ApartLemmas
 pub mod DenialLemmas

@@ -1,3 +1,4 @@
+pub mod Access
 pub mod Fault
 pub mod Grant
 pub mod Laws

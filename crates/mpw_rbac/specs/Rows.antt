@@ -77,6 +77,10 @@ open_session policy conn user digest =
 abbrev pub end_session : Policy → ℕ → Policy
 end_session policy conn = record policy { sessions = without_key (λ a b. a == b) policy.sessions conn }
 
+-- every session ends
+abbrev pub end_sessions : Policy → Policy
+end_sessions policy = record policy { sessions = [] }
+
 -- delete_session
 abbrev pub close_session : Policy → ℕ → Result Policy Refusal
 close_session policy conn = decided (in_session policy conn ∷ []) (end_session policy conn)

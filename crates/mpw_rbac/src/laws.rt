@@ -1,11 +1,11 @@
 //! Laws of the policy's definitions alone. Each function has an empty body: its contract is the law.
-ghost use Rattle.std.specs.Prelude.{◌≡◌, ℕ, List, [], ◌∷◌, ◌++◌, true, false, Ok, Err, Some, nat_lt, count_by};
+ghost use Rattle.std.specs.Prelude.{◌≡◌, ℕ, List, [], ◌∷◌, ◌++◌, true, false, Ok, Err, None, Some, nat_lt, count_by};
 ghost use Rattle.std.specs.List.{list_all};
 ghost use Rattle.mpw_geom.specs.Names.{contains_name};
 ghost use Rattle.mpw_roles.specs.Hierarchy.{with_pair};
 ghost use Rattle.mpw_separation.specs.Set.{SeparationSet};
 ghost use Rattle.mpw_rbac.specs.Laws.{KeepsAuthorization, KeepsSound, DeniesRightly, IsLeastStatic, IsLeastDynamic, AddsNoActive};
-ghost use Rattle.mpw_rbac.specs.Policy.{Policy as PolicyState, new_policy, is_user, authorized, acting, assigned_roles, assigned_lists, session_of, session_permits, trim};
+ghost use Rattle.mpw_rbac.specs.Policy.{Policy as PolicyState, new_policy, is_user, authorized, acting, assigned_roles, assigned_lists, session_of, permits, session_permits, trim};
 ghost use Rattle.mpw_rbac.specs.Rows as rows;
 ghost use Rattle.mpw_rbac.specs.Sound.{active_authorized, sets_hold, Sound};
 ghost use Rattle.mpw_rbac.specs.declared.permission.Grant.{Grant};
@@ -18,6 +18,7 @@ ghost use Rattle.mpw_rbac.specs.declared.session.Session.{Session};
 pub fn each_request_keeps_authorization()
     ensures new_desk { (officer digest : List ℕ) → active_authorized (new_policy officer digest) ≡ true }
     ensures end_session { (conn : ℕ) → KeepsAuthorization (λ p. Ok (rows.end_session p conn)) }
+    ensures end_sessions { KeepsAuthorization (λ p. Ok (rows.end_sessions p)) }
     ensures open_session { (conn : ℕ) (user digest : List ℕ) → KeepsAuthorization (λ p. rows.open_session p conn user digest) }
     ensures close_session { (conn : ℕ) → KeepsAuthorization (λ p. rows.close_session p conn) }
     ensures activate { (conn : ℕ) (role : List ℕ) → KeepsAuthorization (λ p. rows.activate p conn role) }
@@ -43,6 +44,7 @@ pub fn each_request_keeps_authorization()
 pub fn each_request_keeps_separation()
     ensures new_desk { (officer digest : List ℕ) → Sound (new_policy officer digest) }
     ensures end_session { (conn : ℕ) → KeepsSound (λ p. Ok (rows.end_session p conn)) }
+    ensures end_sessions { KeepsSound (λ p. Ok (rows.end_sessions p)) }
     ensures open_session { (conn : ℕ) (user digest : List ℕ) → KeepsSound (λ p. rows.open_session p conn user digest) }
     ensures close_session { (conn : ℕ) → KeepsSound (λ p. rows.close_session p conn) }
     ensures activate { (conn : ℕ) (role : List ℕ) → KeepsSound (λ p. rows.activate p conn role) }
@@ -61,6 +63,12 @@ pub fn each_request_keeps_separation()
     ensures dsd { (conn : ℕ) (set : SeparationSet) → KeepsSound (λ p. rows.dsd p conn set) }
     ensures unssd { (conn : ℕ) (name : List ℕ) → KeepsSound (λ p. rows.unssd p conn name) }
     ensures undsd { (conn : ℕ) (name : List ℕ) → KeepsSound (λ p. rows.undsd p conn name) }
+{}
+
+/// Where every session ended, no connection has one, and no connection is permitted anything.
+pub fn ended_sessions_permit_nothing()
+    ensures sessions { (p : PolicyState) (conn : ℕ) → session_of (rows.end_sessions p) conn ≡ None }
+    ensures permits { (p : PolicyState) (conn : ℕ) (operation : Operation) (object : Object) → permits (rows.end_sessions p) conn operation object ≡ false }
 {}
 
 /// More active roles never permit less.
@@ -107,6 +115,8 @@ pub fn denied_only_for_the_least_broken_set()
 /// Of the requests that change users, roles, pairs, grants or sets none makes a role active: each session that is left
 /// was there, with all the roles that it has. So a role that left a session doesn't come back by a later assignment.
 pub fn only_activation_adds_active_roles()
+    ensures end_session { (conn : ℕ) → AddsNoActive (λ p. Ok (rows.end_session p conn)) }
+    ensures end_sessions { AddsNoActive (λ p. Ok (rows.end_sessions p)) }
     ensures close_session { (conn : ℕ) → AddsNoActive (λ p. rows.close_session p conn) }
     ensures adduser { (conn : ℕ) (user digest : List ℕ) → AddsNoActive (λ p. rows.adduser p conn user digest) }
     ensures deluser { (conn : ℕ) (user : List ℕ) → AddsNoActive (λ p. rows.deluser p conn user) }

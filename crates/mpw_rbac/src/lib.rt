@@ -5,6 +5,7 @@
 //! refused request changes nothing.
 #![tactic(auto)]
 
+mod access;
 mod admin;
 mod grants;
 mod hierarchy;
@@ -18,9 +19,10 @@ mod sessions;
 mod trim;
 mod users;
 
+pub use access::Access;
 pub use laws::{
     denied_only_for_the_least_broken_set, denied_only_without_the_permission,
-    each_request_keeps_authorization, each_request_keeps_separation,
+    each_request_keeps_authorization, each_request_keeps_separation, ended_sessions_permit_nothing,
     more_active_roles_never_permit_less, only_activation_adds_active_roles,
     sound_policies_keep_duties_apart, static_sets_are_tested_first, trim_leaves_sound_policies,
 };

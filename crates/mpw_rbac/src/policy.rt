@@ -6,7 +6,7 @@ ghost use Rattle.std.specs.Option.{option_copied};
 ghost use Rattle.mpw_geom.specs.Names.{name_eq, contains_name, by_name};
 ghost use Rattle.mpw_roles.specs.Hierarchy.{is_role};
 ghost use Rattle.mpw_roles.specs.Order.{roles_below};
-ghost use Rattle.mpw_rbac.specs.Policy.{max_users, max_grants, permits, is_user, is_granted_to, session_of, assigned_roles, authorized, new_policy};
+ghost use Rattle.mpw_rbac.specs.Policy.{max_users, max_grants, permits, is_user, session_of, assigned_roles, authorized, new_policy};
 ghost use Rattle.mpw_rbac.specs.Rows.{IsFaultOf, administered, user_of};
 ghost use Rattle.mpw_rbac.specs.Rows as rows;
 ghost use Rattle.mpw_rbac.specs.Table.{value_at};
@@ -16,7 +16,7 @@ use crate::users::Users;
 use crate::{Digest, Grant, Identity, Object, Operation, PolicyFault, Refusal, Session, User};
 use indexmap::{IndexMap, IndexSet};
 use mpw_geom::{Name, Names};
-use mpw_roles::{Below, Roles};
+use mpw_roles::Roles;
 use mpw_separation::Sets;
 use std::alloc::{AllocError, Global};
 use std::marker::Model;
@@ -47,22 +47,6 @@ impl Model for Policy {
     ghost view = { λ p. policy_of p.users p.roles.value p.granted p.sets p.sessions.entries };
 
     ghost invariant = { λ p. Sound (policy_of p.users p.roles.value p.granted p.sets p.sessions.entries) };
-}
-
-/// Whether one of the grants is of the operation on the object, to one of the roles.
-fn is_granted(
-    granted: &IndexSet<Grant>,
-    roles: &Below,
-    operation: Operation,
-    object: &Object,
-) -> bool
-    ensures { result ≡ list_any (is_granted_to roles.now operation object.now) granted.now.keys }
-{
-    granted.iter().any(
-        |grant: &Grant| -> bool
-            ensures { result ≡ is_granted_to roles.entry.now operation object.entry.now grant.now }
-        { operation == grant.operation && *object == grant.object && roles.contains(&grant.role) },
-    )
 }
 
 impl Policy {
@@ -130,13 +114,7 @@ impl Policy {
     pub fn permits(&self, conn: u32, operation: Operation, object: &Object) -> bool
         ensures { result ≡ permits self.now conn operation object.now }
     {
-        match self.session(conn) {
-            Some(session) => {
-                let acting = self.roles.below(session.active.as_slice());
-                is_granted(self.granted.table(), &acting, operation, object)
-            }
-            None => false,
-        }
+        self.access(conn, operation).permits(object)
     }
 
     /// The tests that every administrative request begins with: a session, and the permission `admin desk`.

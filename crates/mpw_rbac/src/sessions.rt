@@ -4,7 +4,7 @@ ghost use Rattle.std.specs.Option.{option_copied};
 ghost use Rattle.mpw_geom.specs.Names.{contains_name, without_name, by_name};
 ghost use Rattle.mpw_separation.specs.Separation.{least_broken};
 ghost use Rattle.mpw_rbac.specs.Policy.{session_of, authorized, identity_of};
-ghost use Rattle.mpw_rbac.specs.Rows.{IsFaultOf, is_login, end_session, active_roles, user_of};
+ghost use Rattle.mpw_rbac.specs.Rows.{IsFaultOf, is_login, end_session, end_sessions, active_roles, user_of};
 ghost use Rattle.mpw_rbac.specs.Rows as rows;
 
 use crate::{Digest, Identity, Policy, PolicyFault, Refusal, Session};
@@ -65,6 +65,13 @@ impl Policy {
                 *other != conn
             },
         );
+    }
+
+    /// Ends every session, as a desk does that begins anew. It takes no memory.
+    pub fn end_all(&mut self)
+        ensures { self.new ≡ end_sessions self.old }
+    {
+        self.sessions.truncate(0);
     }
 
     /// Makes a role active in the connection's session (AddActiveRole).

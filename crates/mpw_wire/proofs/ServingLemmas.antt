@@ -1,16 +1,18 @@
 -- Serving line by line.
-use Rattle.std.proofs.Common.{◌≡◌, ◌∙◌, ◌<◌, ℕ, ◌+◌, List, [], ◌∷◌, ◌++◌, length, Option, Some, None, Result, Ok, Err, refl, sym, ap, subst, append_assoc, append-nil, length-append, arith}
-use Rattle.std.specs.Prelude.{⊤}
+use Rattle.std.proofs.Common.{◌≡◌, ◌∙◌, ◌<◌, ℕ, ◌+◌, List, [], ◌∷◌, ◌++◌, length, Option, Some, None, Result, Ok, Err, refl, sym, ap, subst, append_assoc, append-nil, length-append, arith, inl, inr}
+use Rattle.std.specs.Prelude.{⊤, IfOk, OnErr}
 use Rattle.std.specs.List.{flat_map}
 use Rattle.std.proofs.KnownBytes.{Appends-trans, Appends-nil}
 use Rattle.std.specs.Io.KnownBytes.{Appends}
-use Rattle.mpw_core.specs.History.{KeptDesk}
+use Rattle.mpw_core.specs.declared.event.Event.TheVariants as event
+use Rattle.mpw_core.specs.declared.reply.Reply.{Reply}
+use Rattle.mpw_core.specs.History.{KeptDesk, IsHandled}
 use Rattle.mpw_wire.specs.declared.fault.WireFault.{WireFault}
 use Rattle.mpw_wire.specs.declared.fault.WireFault.TheVariants.{Read, Write, Memory}
 use Rattle.mpw_wire.specs.declared.serve.End.{End}
 use Rattle.mpw_wire.specs.declared.serve.End.TheVariants as end
 use Rattle.mpw_wire.specs.Writing.{WritesKnown, fault_of}
-use Rattle.mpw_wire.specs.Serving.{Turn, Stop, IsTrace, IsTurn, IsStop, Written, HasText, ServesLine, ServesLines, max_lines, turn_text, stop_text, end_of, told}
+use Rattle.mpw_wire.specs.Serving.{Turn, Stop, IsTrace, IsTurn, IsStop, Written, HasText, ServesLine, ServesLines, IsGone, max_lines, turn_text, stop_text, end_of, told}
 
 flat_map-push : (f : Turn → List ℕ) (turns : List Turn) (turn : Turn) → flat_map f (turns ++ turn ∷ []) ≡ flat_map f turns ++ f turn
 flat_map-push f [] turn = append-nil (f turn)
@@ -133,3 +135,8 @@ spent conn input input' output output' desk desk' count p e = record {
   told = refl;
   written = subst (Appends output output') (sym (append-nil (flat_map turn_text p.turns))) p.written;
 }
+
+-- the end of a connection was handled, or memory was wanting
+pub gone_cases : {E : Type 0} (conn : ℕ) (d d' : KeptDesk) (result : Result Reply E) → IfOk result (λ reply. IsHandled d (event.Gone conn) reply d') → OnErr result (d' ≡ d) → IsGone conn d d'
+gone_cases conn d d' (Ok reply) ok err = inl (reply, ok)
+gone_cases conn d d' (Err e) ok err = inr err

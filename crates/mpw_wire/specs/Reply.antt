@@ -172,4 +172,5 @@ reply_text (reply.Ok lines) = accepted_text lines
 reply_text (reply.Denied denial) = denial_text denial
 reply_text (reply.Refused code) = refused_text code
 reply_text reply.Gone = []
+reply_text reply.Restarted = []
 reply_text reply.Ended = []

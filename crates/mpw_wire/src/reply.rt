@@ -286,7 +286,7 @@ fn write_text<W: Sink>(reply: &Reply, writer: &mut W) -> Result<(), WireFault>
         Reply::Ok(lines) => write_accepted(writer, lines.as_slice()),
         Reply::Denied(denial) => write_denial(writer, denial),
         Reply::Refused(code) => write_code(writer, *code),
-        Reply::Gone | Reply::Ended => Ok(()),
+        Reply::Gone | Reply::Restarted | Reply::Ended => Ok(()),
     }
 }
 

@@ -3,7 +3,7 @@ ghost use Rattle.std.specs.Prelude.{◌≡◌};
 ghost use Rattle.mpw_core.specs.History.{kept_desk};
 ghost use Rattle.mpw_wire.specs.Reading.{read_failures};
 ghost use Rattle.mpw_wire.specs.Writing.{Writes, fault_of};
-ghost use Rattle.mpw_wire.specs.Serving.{Answer, told, IsAnswer, answer_text, ServesLine, ServesLines, Serves, write_failures};
+ghost use Rattle.mpw_wire.specs.Serving.{Answer, told, IsAnswer, answer_text, ServesLine, ServesLines, IsGone, Serves, write_failures};
 
 use crate::line::MAX_LINES;
 use crate::read::{Asked, read_request};
@@ -35,7 +35,7 @@ fn answer<K: Keeper, W: Sink>(
     request: SharedRequest,
     writer: &mut W,
 ) -> Result<(), WireFault>
-    ensures { (answer : Answer) × IsAnswer conn request (kept_desk core.old (K.kept keeper.old) K.takes_all) answer (kept_desk core.new (K.kept keeper.new) K.takes_all) × Writes W.contents W.failures writer.old writer.new result (answer_text answer) }
+    ensures { (answer : Answer) × IsAnswer conn request (kept_desk core.old (K.kept keeper.old) (K.failures keeper.old)) answer (kept_desk core.new (K.kept keeper.new) (K.failures keeper.new)) × Writes W.contents W.failures writer.old writer.new result (answer_text answer) }
 {
     match core.handle(keeper, Event::Ask { conn, request }) {
         Ok(reply) => write_reply(&reply, writer),
@@ -62,7 +62,7 @@ fn serve_line<K: Keeper, R: Source, W: Sink>(
     reader: &mut R,
     writer: &mut W,
 ) -> Result<Option<End>, WireFault>
-    ensures line { ServesLine conn (R.remaining reader.old) (R.remaining reader.new) (W.contents writer.old) (W.contents writer.new) (kept_desk core.old (K.kept keeper.old) K.takes_all) (kept_desk core.new (K.kept keeper.new) K.takes_all) result }
+    ensures line { ServesLine conn (R.remaining reader.old) (R.remaining reader.new) (W.contents writer.old) (W.contents writer.new) (kept_desk core.old (K.kept keeper.old) (K.failures keeper.old)) (kept_desk core.new (K.kept keeper.new) (K.failures keeper.new)) result }
     ensures reader { R.failures reader.new ≡ read_failures (fault_of result) (R.failures reader.old) }
     ensures writer { W.failures writer.new ≡ write_failures (fault_of result) (W.failures writer.old) }
 {
@@ -89,7 +89,7 @@ fn serve_lines<K: Keeper, R: Source, W: Sink>(
     reader: &mut R,
     writer: &mut W,
 ) -> Result<End, WireFault>
-    ensures lines { ServesLines conn (R.remaining reader.old) (R.remaining reader.new) (W.contents writer.old) (W.contents writer.new) (kept_desk core.old (K.kept keeper.old) K.takes_all) (kept_desk core.new (K.kept keeper.new) K.takes_all) result }
+    ensures lines { ServesLines conn (R.remaining reader.old) (R.remaining reader.new) (W.contents writer.old) (W.contents writer.new) (kept_desk core.old (K.kept keeper.old) (K.failures keeper.old)) (kept_desk core.new (K.kept keeper.new) (K.failures keeper.new)) result }
     ensures reader { R.failures reader.new ≡ read_failures (fault_of result) (R.failures reader.old) }
     ensures writer { W.failures writer.new ≡ write_failures (fault_of result) (W.failures writer.old) }
 {
@@ -101,6 +101,13 @@ fn serve_lines<K: Keeper, R: Source, W: Sink>(
         }
     }
     Ok(End::Spent)
+}
+
+/// Hands the desk the connection's end, which leaves it only where memory is wanting.
+fn hand_end<K: Keeper>(core: &mut Core, keeper: &mut K, conn: u32)
+    ensures { IsGone conn (kept_desk core.old (K.kept keeper.old) (K.failures keeper.old)) (kept_desk core.new (K.kept keeper.new) (K.failures keeper.new)) }
+{
+    let _ = core.handle(keeper, Event::Gone { conn });
 }
 
 /// Serves a connection: the lines of the reader get their replies on the writer, in order, until the input ends, a
@@ -119,11 +126,11 @@ pub fn serve_core<K: Keeper, R: Source, W: Sink>(
     reader: &mut R,
     writer: &mut W,
 ) -> Result<End, WireFault>
-    ensures served { Serves conn (R.remaining reader.old) (R.remaining reader.new) (W.contents writer.old) (W.contents writer.new) (kept_desk core.old (K.kept keeper.old) K.takes_all) (kept_desk core.new (K.kept keeper.new) K.takes_all) result }
+    ensures served { Serves conn (R.remaining reader.old) (R.remaining reader.new) (W.contents writer.old) (W.contents writer.new) (kept_desk core.old (K.kept keeper.old) (K.failures keeper.old)) (kept_desk core.new (K.kept keeper.new) (K.failures keeper.new)) result }
     ensures reader { R.failures reader.new ≡ read_failures (fault_of result) (R.failures reader.old) }
     ensures writer { W.failures writer.new ≡ write_failures (fault_of result) (W.failures writer.old) }
 {
     let end = serve_lines(alloc, core, keeper, conn, reader, writer);
-    let _ = core.handle(keeper, Event::Gone { conn });
+    hand_end(core, keeper, conn);
     end
 }

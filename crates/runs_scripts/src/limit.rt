@@ -1,6 +1,7 @@
 //! The end of a history.
 
 use crate::devices::Paper;
+use crate::restart::tell_restart;
 use crate::serving::new_desk;
 use anyhow::Result;
 use mpw_core::{Core, Event, MAX_EVENTS, NoKeeper, Request, SharedRequest};
@@ -29,18 +30,20 @@ fn whoami(alloc: Global, core: &mut Core) -> Result<Vec<u8>, AllocError> {
 }
 
 /// Tells what `whoami` is answered.
-fn tell_whoami(rt: &HostRuntime, core: &mut Core) -> Result<()> {
+pub fn tell_whoami(rt: &HostRuntime, core: &mut Core) -> Result<()> {
     let text = String::from_utf8(whoami(rt.alloc(), core)?)?;
     println!(rt; "  whoami: {}, {} calls", text.trim(), core.history().len())?;
     Ok(())
 }
 
-/// Fills a history up to its last call but one, and tells what the next two requests are answered.
+/// Fills a history up to its last call but one, and tells what the next two requests are answered, and a restart behind
+/// them.
 fn fill(rt: &HostRuntime, core: &mut Core) -> Result<()> {
     end_connections(core, MAX_EVENTS - 1)?;
     println!(rt; "a history of {} calls", core.history().len())?;
     tell_whoami(rt, core)?;
-    tell_whoami(rt, core)
+    tell_whoami(rt, core)?;
+    tell_restart(rt, core)
 }
 
 /// The end of a history, told.

@@ -5,6 +5,7 @@
 //! - `NAME source N`, `NAME sink N`: the source fails before byte N, the sink after N bytes;
 //! - `NAME source each`, `NAME sink each`: so at each byte in turn;
 //! - `NAME keeper N`: the keeper fails from its Nth call on, and the script says how that is answered;
+//! - `NAME once N`: the same where it fails at its Nth call alone;
 //! - `NAME keeper each`: so at each call in turn, where the script says how all is answered that is kept.
 #![tactic(auto)]
 
@@ -12,6 +13,7 @@ mod devices;
 mod digests;
 mod keeper;
 mod limit;
+mod restart;
 mod serving;
 mod transcript;
 
@@ -19,6 +21,7 @@ use anyhow::Result;
 use digests::tell_digests;
 use keeper::Fails;
 use limit::fill_a_history;
+use restart::restart_desks;
 use serving::{Devices, Served, is_closed, is_front, serve};
 use std::fs;
 use transcript::{Transcript, read_transcript};
@@ -54,6 +57,8 @@ fn failing(device: &str, place: usize) -> Devices {
         devices.sink = place;
     } else if device == "keeper" {
         devices.keeper = Fails::From(place);
+    } else if device == "once" {
+        devices.keeper = Fails::At(place);
     }
     devices
 }
@@ -181,6 +186,7 @@ fn run_case(rt: &HostRuntime, line: &str) -> Result<()> {
     match (case.device, case.place.parse::<usize>()) {
         ("", _) => tell(rt, &case, &script, &failing("", 0)),
         ("keeper", Ok(place)) => tell(rt, &case, &script, &failing("keeper", place)),
+        ("once", Ok(place)) => tell(rt, &case, &script, &failing("once", place)),
         ("keeper", Err(_)) => tell_closed(rt, &case, &script),
         (_, Ok(place)) => tell_failing(rt, &case, &script, place),
         (_, Err(_)) => tell_each(rt, &case, &script),
@@ -195,5 +201,6 @@ fn main(rt: HostRuntime) -> Result<()> {
         }
     }
     tell_digests(&rt)?;
-    fill_a_history(&rt)
+    fill_a_history(&rt)?;
+    restart_desks(&rt)
 }

@@ -64,6 +64,8 @@ pub fn serve(alloc: Global, bytes: &[u8], devices: &Devices) -> Result<Served, A
     let mut keeper = MemoryKeeper {
         kept: Vec::new(alloc),
         fails: devices.keeper,
+        asked: 0,
+        failures: 0,
     };
     let end = serve_core(alloc, &mut core, &mut keeper, 1, &mut reader, &mut writer);
     Ok(Served {

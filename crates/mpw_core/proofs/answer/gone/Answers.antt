@@ -1,9 +1,8 @@
 -- Without a session the policy is what it would be after its end.
-use Rattle.std.proofs.Common.{◌≡◌, ◌∙◌, Bool, false, sym, ap, refl}
+use Rattle.std.proofs.Common.{◌≡◌, ◌∙◌, false, sym, ap, refl}
 use Rattle.std.specs.Prelude.{is_some}
 use Rattle.mpw_rbac.specs.Policy.{Policy, session_of}
 use Rattle.mpw_rbac.proofs.RowLemmas.{end-absent}
-use Rattle.mpw_core.specs.Step.{State}
 use Rattle.mpw_core.proofs.answer.gone.Goals as goal
 
 pub returns-then-not-has_session : goal.returns-then-not-has_session

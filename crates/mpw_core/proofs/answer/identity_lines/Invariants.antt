@@ -1,4 +1,4 @@
-use Rattle.std.proofs.Common.{◌≡◌, [], ◌∷◌, ◌++◌, map, take}
+use Rattle.std.proofs.Common.{◌≡◌, ◌∷◌, ◌++◌, map, take}
 use Rattle.mpw_core.specs.declared.reply.Line.TheVariants.{User, Active, Authorized}
 use Rattle.mpw_core.proofs.answer.identity_lines.Given as goal
 

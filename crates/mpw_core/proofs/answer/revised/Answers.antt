@@ -1,5 +1,5 @@
 -- The row of the request is made on a copy.
-use Rattle.std.proofs.Common.{◌≡◌, sym, subst, IfOk, IfErr, OnOk, Ok}
+use Rattle.std.proofs.Common.{◌≡◌, subst, IfErr, OnOk, Ok}
 use Rattle.mpw_rbac.specs.Policy.{Policy}
 use Rattle.mpw_rbac.specs.Rows.{IsFaultOf}
 use Rattle.mpw_core.specs.PolicyRows.{row_of}

@@ -1,8 +1,6 @@
-use Rattle.std.proofs.Common.{◌≡◌, ◌++◌, ◌∷◌, [], length, Some, sym, ap, subst, ◌∙◌}
+use Rattle.std.proofs.Common.{◌≡◌, Some}
 use Rattle.std.specs.Prelude.{slice_get}
 use Rattle.mpw_hier.specs.Limits.{numbered}
-use Rattle.mpw_core.specs.Answer.{Told, IsShelved}
-use Rattle.mpw_core.specs.Layouts.{kept}
 use Rattle.mpw_core.proofs.LayoutLemmas.{kept-ok, kept-err, last_get}
 use Rattle.mpw_core.proofs.layouts.keep.Goals as goal
 

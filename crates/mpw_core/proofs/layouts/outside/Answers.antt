@@ -1,4 +1,4 @@
-use Rattle.std.proofs.Common.{sym, ap, subst}
+use Rattle.std.proofs.Common.{sym, subst}
 use Rattle.mpw_core.specs.Answer.{Told}
 use Rattle.mpw_core.specs.Layouts.{outside}
 use Rattle.mpw_core.proofs.LayoutLemmas.{outside-ok, outside-err}

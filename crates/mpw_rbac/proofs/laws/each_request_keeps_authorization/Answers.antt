@@ -5,6 +5,7 @@ pub returns : goal.returns
 returns c = record {
   new_desk = law.keeps-new_desk;
   end_session = law.keeps-end_session;
+  end_sessions = law.keeps-end_sessions;
   open_session = law.keeps-open_session;
   close_session = law.keeps-close_session;
   activate = law.keeps-activate;

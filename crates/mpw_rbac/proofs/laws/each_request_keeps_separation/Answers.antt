@@ -5,6 +5,7 @@ pub returns : goal.returns
 returns c = record {
   new_desk = law.sound-new_desk;
   end_session = law.sound-end_session;
+  end_sessions = law.sound-end_sessions;
   open_session = law.sound-open_session;
   close_session = law.sound-close_session;
   activate = law.sound-activate_row;

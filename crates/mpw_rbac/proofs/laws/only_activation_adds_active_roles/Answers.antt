@@ -3,6 +3,8 @@ use Rattle.mpw_rbac.proofs.laws.only_activation_adds_active_roles.Goals as goal
 
 pub returns : goal.returns
 returns c = record {
+  end_session = active.adds-end_session;
+  end_sessions = active.adds-end_sessions;
   close_session = active.adds-close_session;
   adduser = active.adds-adduser;
   deluser = active.adds-deluser;

@@ -1,0 +1,16 @@
+-- The acting roles were found when the access was made.
+use Rattle.std.proofs.Common.{◌≡◌, ◌∙◌, ap}
+use Rattle.std.specs.List.{list_any}
+use Rattle.mpw_rbac.specs.Access.{Access}
+use Rattle.mpw_rbac.specs.Policy.{is_granted_to, permits}
+use Rattle.mpw_rbac.proofs.AccessLemmas.{permits-acting}
+use Rattle.mpw_rbac.proofs.access.Access.permits.Goals as goal
+
+pub returns : goal.returns
+returns c =
+    let a = c.self.inside in
+    let object = c.args.object.now in
+    c.is_granted_to.ensures
+    ∙ ap (λ l. list_any (is_granted_to l a.operation object) a.policy.now.granted) c.self.invariant
+    ∙ permits-acting a.policy.now a.conn a.operation object
+    ∙ ap (λ (x : Access). permits x.policy x.conn x.operation object) c.self.view_is

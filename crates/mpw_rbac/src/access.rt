@@ -1,0 +1,83 @@
+//! Which objects a session has access to by one operation: its acting roles are found once, for many objects.
+ghost use Rattle.std.specs.Prelude.{◌≡◌};
+ghost use Rattle.std.specs.List.{list_any};
+ghost use Rattle.mpw_roles.specs.Order.{roles_below};
+ghost use Rattle.mpw_rbac.specs.Policy.{is_granted_to, permits};
+ghost use Rattle.mpw_rbac.specs.Rows.{active_roles};
+
+use crate::{Grant, Object, Operation, Policy};
+use mpw_roles::Below;
+use std::marker::Model;
+
+/// The access of a connection's session by one operation, of one policy. Making it takes no memory and finds the acting
+/// roles; each object asked about then costs no search of the hierarchy.
+#[derive(Drop)]
+pub struct Access<'a> {
+    policy: &'a Policy,
+    conn: u32,
+    operation: Operation,
+    acting: Below<'a>,
+}
+
+impl<'a> Model for Access<'a> {
+    ghost use Rattle.std.specs.Prelude.{◌≡◌};
+    ghost use Rattle.mpw_roles.specs.Order.{roles_below};
+    ghost use Rattle.mpw_rbac.specs.Access.{Access as AccessState};
+    ghost use Rattle.mpw_rbac.specs.Rows.{active_roles};
+
+    ghost Value = { AccessState };
+
+    ghost view = { λ a. record { policy = a.policy.now; conn = a.conn; operation = a.operation } };
+
+    ghost invariant = { λ a. a.acting ≡ roles_below a.policy.now.roles (active_roles a.policy.now a.conn) };
+}
+
+impl Access<'_> {
+    /// Whether the session may do the operation to the object: what [`Policy::permits`] answers. It takes no memory.
+    pub fn permits(&self, object: &Object) -> bool
+        ensures { result ≡ permits self.now.policy self.now.conn self.now.operation object.now }
+    {
+        self.policy
+            .is_granted_to(&self.acting, self.operation, object)
+    }
+}
+
+impl Policy {
+    /// What the connection's session may do by one operation, to ask about many objects. A connection without a session
+    /// may do nothing. It takes no memory.
+    pub fn access(&self, conn: u32, operation: Operation) -> Access<'_>
+        ensures { result ≡ record { policy = self.now; conn = conn; operation = operation } }
+    {
+        Access {
+            policy: self,
+            conn,
+            operation,
+            acting: self.acting(conn),
+        }
+    }
+
+    /// The roles that act in the connection's session; none where it has no session.
+    fn acting(&self, conn: u32) -> Below<'_>
+        ensures { result ≡ roles_below self.now.roles (active_roles self.now conn) }
+    {
+        match self.session(conn) {
+            Some(session) => self.roles.below(session.active.as_slice()),
+            None => self.roles.below(&[]),
+        }
+    }
+
+    /// Whether the operation on the object was granted to one of the roles.
+    pub(crate) fn is_granted_to(&self, roles: &Below, operation: Operation, object: &Object) -> bool
+        ensures { result ≡ list_any (is_granted_to roles.now operation object.now) self.now.granted }
+    {
+        self.granted.table().iter().any(
+            |grant: &Grant| -> bool
+                ensures { result ≡ is_granted_to roles.entry.now operation object.entry.now grant.now }
+            {
+                operation == grant.operation
+                    && *object == grant.object
+                    && roles.contains(&grant.role)
+            },
+        )
+    }
+}

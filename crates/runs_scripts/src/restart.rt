@@ -1,0 +1,80 @@
+//! The end of all sessions.
+
+use crate::keeper::{Fails, MemoryKeeper};
+use crate::limit::tell_whoami;
+use crate::serving::new_desk;
+use anyhow::Result;
+use mpw_core::{Core, Event, Keeper, NoKeeper, PolicyRequest, Reply, Request, SharedRequest};
+use mpw_geom::Name;
+use mpw_wire::digest_of;
+use std::alloc::{AllocError, Global};
+
+/// The word of a reply.
+fn reply_word(reply: &Reply) -> &'static str {
+    match reply {
+        Reply::Ok(_) => "accepted",
+        Reply::Denied(_) => "denied",
+        Reply::Refused(_) => "refused",
+        Reply::Gone => "gone",
+        Reply::Restarted => "restarted",
+        Reply::Ended => "ended",
+    }
+}
+
+/// The login of the officer.
+fn login(alloc: Global) -> Result<SharedRequest, AllocError> {
+    let Ok(user) = Name::read(alloc, b"root") else {
+        return Err(AllocError);
+    };
+    let digest = digest_of(b"abc");
+    SharedRequest::new(alloc, Request::Policy(PolicyRequest::Open { user, digest }))
+}
+
+/// The word of what the officer's login on connection 1 is answered.
+fn open<K: Keeper>(alloc: Global, core: &mut Core, keeper: &mut K) -> Result<&'static str> {
+    let request = login(alloc)?;
+    let reply = core.handle(keeper, Event::Ask { conn: 1, request })?;
+    Ok(reply_word(&reply))
+}
+
+/// The word of what a restart is answered.
+fn restart(core: &mut Core) -> Result<&'static str> {
+    let reply = core.handle(&mut NoKeeper, Event::Restart)?;
+    Ok(reply_word(&reply))
+}
+
+/// Tells what a restart is answered, and what a session is told then.
+pub fn tell_restart(rt: &HostRuntime, core: &mut Core) -> Result<()> {
+    let word = restart(core)?;
+    println!(rt; "  restart: {word}, {} calls", core.history().len())?;
+    tell_whoami(rt, core)
+}
+
+/// A restart ends the officer's session.
+fn restart_a_desk(rt: &HostRuntime, core: &mut Core) -> Result<()> {
+    let word = open(rt.alloc(), core, &mut NoKeeper)?;
+    println!(rt; "a session of the officer: {word}")?;
+    tell_whoami(rt, core)?;
+    tell_restart(rt, core)
+}
+
+/// A closed desk doesn't take a restart.
+fn restart_a_closed_desk(rt: &HostRuntime, core: &mut Core) -> Result<()> {
+    let mut keeper = MemoryKeeper {
+        kept: Vec::new(rt.alloc()),
+        fails: Fails::From(1),
+        asked: 0,
+        failures: 0,
+    };
+    let word = open(rt.alloc(), core, &mut keeper)?;
+    println!(rt; "a login that could not be kept: {word}")?;
+    tell_restart(rt, core)
+}
+
+/// Restarts, told.
+pub fn restart_desks(rt: &HostRuntime) -> Result<()> {
+    let mut core = new_desk(rt.alloc())?;
+    restart_a_desk(rt, &mut core)?;
+    let mut closed = new_desk(rt.alloc())?;
+    restart_a_closed_desk(rt, &mut closed)
+}
