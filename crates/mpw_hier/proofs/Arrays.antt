@@ -145,7 +145,9 @@ moved_columns r n d b =
 
 one_row : (r : Reference) (n row : ℕ) (b : Box2) → r.columns ≡ suc n → hull_of (map (λ t. placed_box t b) (row_of r row)) ≡ Some (moved_box (led row r.row_step) (columns_box r n (first_of r b)))
 one_row r n row b e =
-    ap hull_of (map_each (λ t. placed_box t b) (instance r row) _ (λ column. instance_box r row column b) (range_with_len 0 r.columns)) ∙ ap (λ k. hull_of (map (λ column. moved_box (led column r.column_step) (moved_box (led row r.row_step) (first_of r b))) (range_with_len 0 k))) e ∙ line_of r.column_step (moved_box (led row r.row_step) (first_of r b)) n ∙ ap Some (moved_columns r n (led row r.row_step) (first_of r b))
+    ap hull_of (map_each (λ t. placed_box t b) (instance r row) _ (λ column. instance_box r row column b) (range_with_len 0 r.columns))
+    ∙ ap (λ k. hull_of (map (λ column. moved_box (led column r.column_step) (moved_box (led row r.row_step) (first_of r b))) (range_with_len 0 k))) e
+    ∙ line_of r.column_step (moved_box (led row r.row_step) (first_of r b)) n ∙ ap Some (moved_columns r n (led row r.row_step) (first_of r b))
 
 -- the box that code makes of the first instance and of the last column and row
 abbrev pub corners_box : Reference → (n m : ℕ) → Box2 → Box2
@@ -158,20 +160,33 @@ corners_box r n m b = record {
 
 at_corners : (r : Reference) (n m : ℕ) (b : Box2) → joined (moved_box (led 0 r.row_step) (columns_box r n b)) (moved_box (led m r.row_step) (columns_box r n b)) ≡ corners_box r n m b
 at_corners r n m b =
-    same_box _ _ (corner_least b.x0 _ _ _ _ (no_step r.column_step.x) (no_step r.row_step.x)) (corner_least b.y0 _ _ _ _ (no_step r.column_step.y) (no_step r.row_step.y)) (corner_most b.x1 _ _ _ _ (no_step r.column_step.x) (no_step r.row_step.x)) (corner_most b.y1 _ _ _ _ (no_step r.column_step.y) (no_step r.row_step.y))
+    same_box _ _ (corner_least b.x0 _ _ _ _ (no_step r.column_step.x) (no_step r.row_step.x)) (corner_least b.y0 _ _ _ _ (no_step r.column_step.y) (no_step r.row_step.y))
+    (corner_most b.x1 _ _ _ _ (no_step r.column_step.x) (no_step r.row_step.x)) (corner_most b.y1 _ _ _ _ (no_step r.column_step.y) (no_step r.row_step.y))
 
 pub array_is : (r : Reference) (n m : ℕ) (b : Box2) → r.columns ≡ suc n → r.rows ≡ suc m → array_extent r (Some b) ≡ Some (corners_box r n m (first_of r b))
 unfolding array_extent instances
 array_is r n m b e f =
-    hull_flat (λ t. placed_box t b) (row_of r) (λ row. moved_box (led row r.row_step) (columns_box r n (first_of r b))) (λ row. one_row r n row b e) (range_with_len 0 r.rows) ∙ ap (λ k. hull_of (map (λ row. moved_box (led row r.row_step) (columns_box r n (first_of r b))) (range_with_len 0 k))) f ∙ line_of r.row_step (columns_box r n (first_of r b)) m ∙ ap Some (at_corners r n m (first_of r b))
+    hull_flat (λ t. placed_box t b) (row_of r) (λ row. moved_box (led row r.row_step) (columns_box r n (first_of r b))) (λ row. one_row r n row b e)
+    (range_with_len 0 r.rows) ∙ ap (λ k. hull_of (map (λ row. moved_box (led row r.row_step) (columns_box r n (first_of r b))) (range_with_len 0 k))) f
+    ∙ line_of r.row_step (columns_box r n (first_of r b)) m ∙ ap Some (at_corners r n m (first_of r b))
 
 -- the same box, as code makes it step by step
 corner_sum : (w f c r p q : ℤ) (g : ℤ → ℤ → ℤ) (h : ℤ) → w ≡ (f +ℤ c) +ℤ r → f ≡ h → c ≡ g p (pos 0) → r ≡ g q (pos 0) → (s t : ℤ) → p ≡ s → q ≡ t → (h +ℤ g s (pos 0)) +ℤ g t (pos 0) ≡ w
 corner_sum w f c r p q g h e a b d s t u v = sym (e ∙ rw (a, b, d, u, v) refl)
 
-pub array_made : (r : Reference) (b first : Box2) (p q : WidePoint) (columns rows whole : WideBox) → 1 ≤ r.columns → 1 ≤ r.rows → first ≡ first_of r b → p.x ≡ pos (r.columns - 1) *ℤ r.column_step.x → p.y ≡ pos (r.columns - 1) *ℤ r.column_step.y → q.x ≡ pos (r.rows - 1) *ℤ r.row_step.x → q.y ≡ pos (r.rows - 1) *ℤ r.row_step.y → columns ≡ record { x0 = int_min p.x (pos 0); y0 = int_min p.y (pos 0); x1 = int_max p.x (pos 0); y1 = int_max p.y (pos 0) } → rows ≡ record { x0 = int_min q.x (pos 0); y0 = int_min q.y (pos 0); x1 = int_max q.x (pos 0); y1 = int_max q.y (pos 0) } → whole.x0 ≡ (first.x0 +ℤ columns.x0) +ℤ rows.x0 → whole.y0 ≡ (first.y0 +ℤ columns.y0) +ℤ rows.y0 → whole.x1 ≡ (first.x1 +ℤ columns.x1) +ℤ rows.x1 → whole.y1 ≡ (first.y1 +ℤ columns.y1) +ℤ rows.y1 → array_extent r (Some b) ≡ Some (record { x0 = whole.x0; y0 = whole.y0; x1 = whole.x1; y1 = whole.y1 })
+pub array_made : (r : Reference) (b first : Box2) (p q : WidePoint) (columns rows whole : WideBox) → 1 ≤ r.columns → 1 ≤ r.rows → first ≡ first_of r b
+    → p.x ≡ pos (r.columns - 1) *ℤ r.column_step.x → p.y ≡ pos (r.columns - 1) *ℤ r.column_step.y → q.x ≡ pos (r.rows - 1) *ℤ r.row_step.x
+    → q.y ≡ pos (r.rows - 1) *ℤ r.row_step.y → columns ≡ record { x0 = int_min p.x (pos 0); y0 = int_min p.y (pos 0); x1 = int_max p.x (pos 0); y1 = int_max p.y (pos 0) }
+    → rows ≡ record { x0 = int_min q.x (pos 0); y0 = int_min q.y (pos 0); x1 = int_max q.x (pos 0); y1 = int_max q.y (pos 0) }
+    → whole.x0 ≡ (first.x0 +ℤ columns.x0) +ℤ rows.x0 → whole.y0 ≡ (first.y0 +ℤ columns.y0) +ℤ rows.y0 → whole.x1 ≡ (first.x1 +ℤ columns.x1) +ℤ rows.x1
+    → whole.y1 ≡ (first.y1 +ℤ columns.y1) +ℤ rows.y1 → array_extent r (Some b) ≡ Some (record { x0 = whole.x0; y0 = whole.y0; x1 = whole.x1; y1 = whole.y1 })
 array_made r b first p q columns rows whole one_column one_row f px py qx qy cs rs x0 y0 x1 y1 =
     let h = first_of r b in
     let e : r.columns ≡ suc (r.columns - 1) = omega (arith, one_column) in
     let g : r.rows ≡ suc (r.rows - 1) = omega (arith, one_row) in
-    array_is r (r.columns - 1) (r.rows - 1) b e g ∙ ap Some (same_box _ _ (corner_sum whole.x0 first.x0 columns.x0 rows.x0 p.x q.x int_min h.x0 x0 (ap (λ (k : Box2). k.x0) f) (ap (λ (k : WideBox). k.x0) cs) (ap (λ (k : WideBox). k.x0) rs) _ _ px qx) (corner_sum whole.y0 first.y0 columns.y0 rows.y0 p.y q.y int_min h.y0 y0 (ap (λ (k : Box2). k.y0) f) (ap (λ (k : WideBox). k.y0) cs) (ap (λ (k : WideBox). k.y0) rs) _ _ py qy) (corner_sum whole.x1 first.x1 columns.x1 rows.x1 p.x q.x int_max h.x1 x1 (ap (λ (k : Box2). k.x1) f) (ap (λ (k : WideBox). k.x1) cs) (ap (λ (k : WideBox). k.x1) rs) _ _ px qx) (corner_sum whole.y1 first.y1 columns.y1 rows.y1 p.y q.y int_max h.y1 y1 (ap (λ (k : Box2). k.y1) f) (ap (λ (k : WideBox). k.y1) cs) (ap (λ (k : WideBox). k.y1) rs) _ _ py qy))
+    array_is r (r.columns - 1) (r.rows - 1) b e g ∙ ap Some
+    (same_box _ _
+    (corner_sum whole.x0 first.x0 columns.x0 rows.x0 p.x q.x int_min h.x0 x0 (ap (λ (k : Box2). k.x0) f) (ap (λ (k : WideBox). k.x0) cs) (ap (λ (k : WideBox). k.x0) rs) _ _ px qx)
+    (corner_sum whole.y0 first.y0 columns.y0 rows.y0 p.y q.y int_min h.y0 y0 (ap (λ (k : Box2). k.y0) f) (ap (λ (k : WideBox). k.y0) cs) (ap (λ (k : WideBox). k.y0) rs) _ _ py qy)
+    (corner_sum whole.x1 first.x1 columns.x1 rows.x1 p.x q.x int_max h.x1 x1 (ap (λ (k : Box2). k.x1) f) (ap (λ (k : WideBox). k.x1) cs) (ap (λ (k : WideBox). k.x1) rs) _ _ px qx)
+    (corner_sum whole.y1 first.y1 columns.y1 rows.y1 p.y q.y int_max h.y1 y1 (ap (λ (k : Box2). k.y1) f) (ap (λ (k : WideBox). k.y1) cs) (ap (λ (k : WideBox). k.y1) rs) _ _ py qy))

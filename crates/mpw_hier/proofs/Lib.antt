@@ -26,3 +26,7 @@ pub mod Adding
 pub mod Reached
 pub mod ReachTests
 pub mod Pushing
+pub mod Origins
+pub mod Stays
+pub mod Holding
+pub mod Outlining

@@ -1,5 +1,5 @@
 -- The tests of what a top reaches are true exactly where the relations hold.
-use Rattle.std.proofs.Common.{◌≡◌, ℕ, zero, suc, ◌+◌, ◌<◌, Bool, true, false, cond, not, ◌&&◌, ◌||◌, inl, inr, List, [], ◌∷◌, map, Option, Some, None, refl, sym, ap, subst, ◌∙◌, arith, true≢false}
+use Rattle.std.proofs.Common.{◌≡◌, ℕ, zero, suc, ◌+◌, Bool, true, false, cond, not, ◌&&◌, inl, inr, List, [], ◌∷◌, Option, Some, None, refl, sym, ap, subst, ◌∙◌, arith, true≢false}
 use Rattle.std.specs.Prelude.{slice_get, nat_eq, ◌↔◌, filter}
 use Rattle.std.specs.Cmp.Lexicographic.{pointwise}
 use Rattle.std.specs.List.{list_any, flat_map}
@@ -7,8 +7,8 @@ use Rattle.std.proofs.lemmas.Bool.{and_parts}
 use Rattle.std.proofs.lemmas.List.Folds.{list_any-append}
 use Rattle.std.proofs.lemmas.Map.Views.{any-filter_same}
 use Rattle.mpw_geom.specs.declared.plane.Box2.{Box2}
-use Rattle.mpw_geom.specs.Names.{name_eq, contains_name, by_name}
-use Rattle.mpw_geom.specs.Links.{linked, is_linked, Leads, same as link_same, chain as link_chain, leads}
+use Rattle.mpw_geom.specs.Names.{name_eq, contains_name}
+use Rattle.mpw_geom.specs.Links.{linked, is_linked, Leads, same as link_same, chain as link_chain}
 use Rattle.mpw_geom.proofs.Linked.{leads-sound, leads-complete, some_name, any_name}
 use Rattle.mpw_geom.proofs.NamesLemmas.{in_by_name, by_name-same}
 use Rattle.mpw_library.specs.declared.structures.Structure.{Structure}

@@ -44,17 +44,11 @@ get_more xs x n y is =
 
 -- ---- the present submission
 
-later_some : (o : Option ℕ) (b : Bool) (n : ℕ) → later (cond b (Some n) o) None ≡ cond b (Some n) o
-later_some None true n = refl
-later_some (Some m) true n = refl
-later_some None false n = refl
-later_some (Some m) false n = refl
-
 later_cond : (b : Bool) (n : ℕ) (o before : Option ℕ) → later (cond b (Some n) o) before ≡ cond b (Some n) (later o before)
 later_cond true n o before = refl
 later_cond false n o before = refl
 
-present_push : (k : ℕ) (ss : List Submission) (s : Submission) (q : List ℕ) → present_from k (ss ++ s ∷ []) q ≡ cond (name_eq s.cell q) (Some (k + length ss)) (present_from k ss q)
+pub present_push : (k : ℕ) (ss : List Submission) (s : Submission) (q : List ℕ) → present_from k (ss ++ s ∷ []) q ≡ cond (name_eq s.cell q) (Some (k + length ss)) (present_from k ss q)
 present_push k [] s q = go (name_eq s.cell q)
   where
     go : (b : Bool) → later None (cond b (Some k) None) ≡ cond b (Some (k + 0)) None

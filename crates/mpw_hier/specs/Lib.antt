@@ -1,5 +1,6 @@
 pub mod Structures
 pub mod Outside
+pub mod Outline
 pub mod Graph
 pub mod Descent
 pub mod Levels
@@ -14,3 +15,5 @@ pub mod Nodes
 pub mod Building
 pub mod SizeParts
 pub mod Reach
+pub mod Shelved
+pub mod Holding

@@ -6,6 +6,7 @@
 ghost use Rattle.std.specs.Prelude.{◌≡◌, ◌<◌, [], length, replicate, slice_set, IfOk, IfErr, OnOk, Err, Some, None};
 ghost use Rattle.mpw_library.specs.Library.{IsLibrary};
 ghost use Rattle.mpw_library.specs.Places.{place_of};
+ghost use Rattle.mpw_hier.specs.Outline.{IsOutline};
 ghost use Rattle.mpw_hier.specs.Outside.{graph_of};
 ghost use Rattle.mpw_hier.specs.Graph.{IsFromBelow};
 ghost use Rattle.mpw_hier.specs.Limits.{IsBound, IsFar, IsOfNodes};
@@ -16,8 +17,7 @@ ghost use Rattle.mpw_hier.specs.Values.{flats};
 use crate::bindings::Binding;
 use crate::fault::HierFault;
 use crate::node::{Child, Node, Target};
-use crate::order::order_from_below;
-use crate::outside::graph_of;
+use crate::outline::Outline;
 use crate::shelf::Shelf;
 use crate::size::{Size, size_of};
 use crate::submission::Submission;
@@ -230,21 +230,15 @@ pub fn nodes_of(
     alloc: Global,
     shelf: &Shelf,
     submission: &Submission,
+    outline: &Outline,
 ) -> Result<Vec<Node>, HierFault>
     requires library { IsLibrary submission.now.library }
+    requires outline { IsOutline submission.now.library submission.now.top outline.now }
     requires bound { IsBound shelf.now submission.now }
     ensures ok { IfOk result (λ nodes. IsHierarchy shelf.now submission.now nodes.items) }
     ensures far { result ≡ Err HierFault.Extent → IsFar shelf.now submission.now }
     ensures faults { IfErr result IsOfNodes }
 {
-    let library = &submission.library;
-    let Some(top) = library.position(&submission.top) else {
-        return Err(HierFault::NoTop);
-    };
-    let graph = graph_of(alloc, library)?;
-    let Some(order) = order_from_below(alloc, &graph, top)? else {
-        return Err(HierFault::Cycle);
-    };
     let hierarchy = Hierarchy::new(alloc, shelf, submission)?;
-    nodes_upto(alloc, hierarchy, &order, top)
+    nodes_upto(alloc, hierarchy, &outline.order, outline.place)
 }

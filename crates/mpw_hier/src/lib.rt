@@ -1,8 +1,9 @@
 //! The shelf of submissions. A submission's library may name cells that others submitted before, and
 //! shows their present submissions.
 //!
-//! [`externals`] tells the names outside a library that its top shows, and [`Shelf::bind`] the
-//! submissions to which they are bound.
+//! [`Outline`] is what of a library depends on the library and its top alone, found once: the names
+//! outside, to which [`Shelf::bind`] tells the submissions, and the structures from below, of which
+//! [`Shelf::put`] makes the nodes.
 //!
 //! The structures of a library are places of a graph (`graph`), which are put in order from below
 //! (`order`) without recursion, since a chain may be as long as a text; names outside are gathered in
@@ -16,6 +17,7 @@ mod hierarchy;
 mod laws;
 mod node;
 mod order;
+mod outline;
 mod outside;
 mod shelf;
 mod size;
@@ -26,9 +28,12 @@ mod submission;
 
 pub use bindings::{Binding, Bindings};
 pub use fault::HierFault;
-pub use laws::reaching_is_decided;
+pub use laws::{
+    earlier_submissions_stay, extents_are_least_boxes, reaching_is_decided,
+    shelves_have_their_numbers,
+};
 pub use node::{Child, Node, Nodes, Target};
-pub use outside::externals;
+pub use outline::{Outline, externals};
 pub use shelf::Shelf;
 pub use size::Size;
 pub use size_box::is_box_near;

@@ -1,15 +1,12 @@
 //! Names outside a library.
 
-ghost use Rattle.std.specs.Prelude.{◌≡◌, ◌<◌, ◌++◌, ◌↔◌, None, length, Err, IfOk, IfErr, OnOk, All};
-ghost use Rattle.mpw_library.specs.Places.{place_of};
+ghost use Rattle.std.specs.Prelude.{◌≡◌, ◌<◌, ◌++◌, length, IfOk, OnOk, All};
 ghost use Rattle.mpw_hier.specs.Structures.{names_of};
-ghost use Rattle.mpw_hier.specs.Outside.{places_of, names_outside, graph_of, outside_from_all, AreExternals, IsOfExternals};
+ghost use Rattle.mpw_hier.specs.Outside.{places_of, names_outside, graph_of, outside_from_all};
 
-use crate::fault::HierFault;
 use crate::graph::Graph;
-use crate::order::order_from_below;
 use mpw_elements::Element;
-use mpw_geom::{Name, Names};
+use mpw_geom::Names;
 use mpw_library::Library;
 use std::alloc::{AllocError, Global};
 
@@ -58,7 +55,7 @@ fn add_outside(names: &mut Names, library: &Library, elements: &[Element]) -> Re
 }
 
 /// The names outside the library to which the structures at these places refer.
-fn outside_from(alloc: Global, library: &Library, places: &[usize]) -> Result<Names, AllocError>
+pub fn outside_from(alloc: Global, library: &Library, places: &[usize]) -> Result<Names, AllocError>
     requires { All (λ place. place < length library.now) places.now }
     ensures { IfOk result (λ names. names ≡ outside_from_all library.now places.now) }
 {
@@ -67,29 +64,5 @@ fn outside_from(alloc: Global, library: &Library, places: &[usize]) -> Result<Na
     for place in places {
         add_outside(&mut names, library, structures[*place].elements.as_slice())?;
     }
-    Ok(names)
-}
-
-/// The names outside the library that the top shows, in order of name, each once.
-///
-/// Linear in the library's references, with a search for each of them, and a sort of the names.
-///
-/// # Errors
-/// `NoTop` where the library has no structure of that name; `Cycle` where a structure below the top
-/// leads back to itself; or want of memory.
-pub fn externals(alloc: Global, library: &Library, top: &Name) -> Result<Names, HierFault>
-    ensures ok { IfOk result (AreExternals library.now top.now) }
-    ensures no_top { (result ≡ Err HierFault.NoTop) ↔ (place_of library.now top.now ≡ None) }
-    ensures faults { IfErr result (IsOfExternals library.now top.now) }
-{
-    let Some(place) = library.position(top) else {
-        return Err(HierFault::NoTop);
-    };
-    let graph = graph_of(alloc, library)?;
-    let Some(order) = order_from_below(alloc, &graph, place)? else {
-        return Err(HierFault::Cycle);
-    };
-    let mut names = outside_from(alloc, library, &order)?;
-    names.sort()?;
     Ok(names)
 }

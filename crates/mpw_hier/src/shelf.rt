@@ -6,6 +6,7 @@ ghost use Rattle.mpw_hier.specs.Shelf.{present, versions, bound_to, IsOfBinding}
 ghost use Rattle.mpw_hier.specs.Limits.{IsBound, KeepsLimits, IsRefused, IsSubmitted, IsShelf, numbered, has_room_for};
 ghost use Rattle.mpw_library.specs.Library.{IsLibrary};
 ghost use Rattle.mpw_hier.specs.Nodes.{AreNodes, AreNodesOf};
+ghost use Rattle.mpw_hier.specs.Outline.{IsOutline};
 ghost use Rattle.mpw_hier.specs.Sizes.{IsSizeOf};
 ghost use Rattle.mpw_hier.specs.Boxes.{is_box_near};
 ghost use Rattle.mpw_hier.specs.Values.{flat, flats, count, height, heights, extent};
@@ -14,6 +15,7 @@ use crate::bindings::{Binding, Bindings};
 use crate::fault::HierFault;
 use crate::hierarchy::nodes_of;
 use crate::node::{Node, Nodes};
+use crate::outline::Outline;
 use crate::size::Size;
 use crate::submission::Submission;
 use mpw_geom::{Box2, Name, Names};
@@ -226,7 +228,8 @@ impl Shelf {
         Ok(number)
     }
 
-    /// Puts a submission on the shelf, with the next version of its cell. The result is its number.
+    /// Puts a submission on the shelf, with the next version of its cell. The result is its number. The outline is that of
+    /// its library and top, and its bindings are those of the outline's names.
     ///
     /// Linear in the library, with a search for each name, however deep its structures are.
     ///
@@ -235,9 +238,15 @@ impl Shelf {
     /// 2^30 nm in its own coordinates, `Shapes` above 2^20 flat shapes, `Deep` above 64 levels, `Full`
     /// where there are 4096 submissions, or 1024 cells and this would be another; or want of memory.
     /// The shelf is then as before.
-    pub fn push(&mut self, alloc: Global, submission: Submission) -> Result<u32, HierFault>
+    pub fn put(
+        &mut self,
+        alloc: Global,
+        submission: Submission,
+        outline: &Outline,
+    ) -> Result<u32, HierFault>
         requires library { IsLibrary submission.library }
-        requires bound { IsBound self.old submission }
+        requires outline { IsOutline submission.library submission.top outline.now }
+        requires bound { bound_to self.old outline.now.names ≡ Some submission.bound }
         ensures ok { OnOk result (self.new ≡ self.old ++ numbered self.old submission ∷ []) }
         ensures number { IfOk result (λ number. number ≡ length self.old) }
         ensures kept { OnOk result (KeepsLimits self.old submission) }
@@ -246,7 +255,7 @@ impl Shelf {
     {
         let mut submission = submission;
         submission.version = self.next_version(&submission.cell);
-        let nodes = nodes_of(alloc, self, &submission)?;
+        let nodes = nodes_of(alloc, self, &submission, outline)?;
         let size = nodes[nodes.len() - 1].size;
         if size.count > MOST_SHAPES {
             return Err(HierFault::Shapes);
@@ -259,6 +268,23 @@ impl Shelf {
         }
         let nodes = Nodes::from_vec(alloc, nodes)?;
         Ok(self.append(submission, nodes)?)
+    }
+
+    /// As [`Shelf::put`], with the outline found again.
+    ///
+    /// # Errors
+    /// As those of [`Shelf::put`].
+    pub fn push(&mut self, alloc: Global, submission: Submission) -> Result<u32, HierFault>
+        requires library { IsLibrary submission.library }
+        requires bound { IsBound self.old submission }
+        ensures ok { OnOk result (self.new ≡ self.old ++ numbered self.old submission ∷ []) }
+        ensures number { IfOk result (λ number. number ≡ length self.old) }
+        ensures kept { OnOk result (KeepsLimits self.old submission) }
+        ensures err { OnErr result (self.new ≡ self.old) }
+        ensures faults { IfErr result (IsRefused self.old submission) }
+    {
+        let outline = Outline::new(alloc, &submission.library, &submission.top)?;
+        self.put(alloc, submission, &outline)
     }
 }
 

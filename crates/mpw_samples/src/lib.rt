@@ -12,12 +12,17 @@
 //! Every call adds its records whole, or changes nothing.
 #![tactic(auto)]
 
+mod coded;
 mod encode;
 mod error;
 mod notation;
 mod record;
+mod references;
 mod sample;
+mod shapes;
+mod words;
 
 pub use error::SampleError;
-pub use notation::{NotationError, hex_bytes, text_of_library};
+pub use notation::text_of_library;
 pub use sample::{NANOMETRE, Sample};
+pub use words::{NotationError, hex_bytes};

@@ -49,17 +49,23 @@ module _ (ss : List Submission) (n : ℕ) (s : Submission) (is : slice_get ss n 
       nil_from_length _ (omega (arith, few, zero))
 
   -- a structure of its own
-  pub own_turns : (nodes : List Node) (k : ℕ) (node : Node) (structure : Structure) (name : List ℕ) → AreNodesOf before levels s nodes → slice_get nodes k ≡ Some node → slice_get s.library node.structure ≡ Some structure → place_of s.library name ≡ Some node.structure → named_turns ss n name ≡ shown_turns n structure (named_turns ss n)
+  pub own_turns : (nodes : List Node) (k : ℕ) (node : Node) (structure : Structure) (name : List ℕ) → AreNodesOf before levels s nodes → slice_get nodes k ≡ Some node
+      → slice_get s.library node.structure ≡ Some structure → place_of s.library name ≡ Some node.structure
+      → named_turns ss n name ≡ shown_turns n structure (named_turns ss n)
   unfolding named_turns all_turns
   own_turns nodes k node structure name w at here place =
       subst (λ o. turns_at ss n o name ≡ shown_turns n structure (λ target. turns_at ss n o target)) (sym is) (own_shown shown_turns [] turns_by_targets ss n s nodes k node structure name is w at here place)
 
-  pub own_levels : (nodes : List Node) (k : ℕ) (node : Node) (structure : Structure) (name : List ℕ) → AreNodesOf before levels s nodes → slice_get nodes k ≡ Some node → slice_get s.library node.structure ≡ Some structure → place_of s.library name ≡ Some node.structure → structure_levels levels s name ≡ shown_height structure (structure_levels levels s)
+  pub own_levels : (nodes : List Node) (k : ℕ) (node : Node) (structure : Structure) (name : List ℕ) → AreNodesOf before levels s nodes → slice_get nodes k ≡ Some node
+      → slice_get s.library node.structure ≡ Some structure → place_of s.library name ≡ Some node.structure
+      → structure_levels levels s name ≡ shown_height structure (structure_levels levels s)
   unfolding heights
   own_levels nodes k node structure name w at here place =
       own_shown (λ _. shown_height) 0 (λ _. heights_by_targets) ss n s nodes k node structure name is w at here place
 
-  pub own_items_shown : (nodes : List Node) (k : ℕ) (node : Node) (structure : Structure) (name : List ℕ) → AreNodesOf before levels s nodes → slice_get nodes k ≡ Some node → slice_get s.library node.structure ≡ Some structure → place_of s.library name ≡ Some node.structure → structure_items before s name ≡ shown_items n structure (structure_items before s)
+  pub own_items_shown : (nodes : List Node) (k : ℕ) (node : Node) (structure : Structure) (name : List ℕ) → AreNodesOf before levels s nodes
+      → slice_get nodes k ≡ Some node → slice_get s.library node.structure ≡ Some structure → place_of s.library name ≡ Some node.structure
+      → structure_items before s name ≡ shown_items n structure (structure_items before s)
   unfolding flats
   own_items_shown nodes k node structure name w at here place =
       own_shown shown_items [] items_by_targets ss n s nodes k node structure name is w at here place
@@ -82,7 +88,9 @@ module _ (ss : List Submission) (n : ℕ) (s : Submission) (is : slice_get ss n 
       go (Some (elements.Path p)) at = refl
       go (Some (elements.Reference r)) at = ap (flat_map (entered (below r.name))) (instances_front r (some c.element r at))
 
-  pub node_turns : (nodes : List Node) (k : ℕ) (node : Node) (structure : Structure) → AreNodesOf before levels s nodes → slice_get nodes k ≡ Some node → slice_get s.library node.structure ≡ Some structure → turns_of_shapes n structure.elements node.shapes.items ++ turns_of_children (named_turns ss n) structure.elements 0 0 node.children.items ≡ shown_turns n structure (named_turns ss n)
+  pub node_turns : (nodes : List Node) (k : ℕ) (node : Node) (structure : Structure) → AreNodesOf before levels s nodes → slice_get nodes k ≡ Some node
+      → slice_get s.library node.structure ≡ Some structure
+      → turns_of_shapes n structure.elements node.shapes.items ++ turns_of_children (named_turns ss n) structure.elements 0 0 node.children.items ≡ shown_turns n structure (named_turns ss n)
   node_turns nodes k node structure w at here =
       let m = w.each k node at in
       let same = one (slice_get s.library node.structure) m.structure structure m.is here in
@@ -90,5 +98,7 @@ module _ (ss : List Submission) (n : ℕ) (s : Submission) (is : slice_get ss n 
       let shapes : turns_of_shapes n es node.shapes.items ≡ map give (own_items n es) = ap (turns_of_shapes n es) m.shapes ∙ ap (λ (x : Structure). turns_of_shapes n es (shape_places 0 x.elements)) same ∙ shapes_all n [] es in
       let below = named_turns ss n in
       let rows : (i : ℕ) (r : Reference) → slice_get es i ≡ Some (elements.Reference r) → 0 < r.rows = λ i r e. let q : IsReference r = element_read s.library node.structure structure i (elements.Reference r) w.library here e in omega (arith, q.rows.least) in
-      let children = subst (λ (x : Structure). flat_map (λ (c : Child). reference_turns below (slice_get x.elements c.element)) node.children.items ≡ flat_map (λ (r : Reference). placed_turns r (below r.name)) (references x.elements)) same (children_all s before (take k nodes) m.structure.elements below nothing_named m.children [] refl refl) in
+      let children = subst
+      (λ (x : Structure). flat_map (λ (c : Child). reference_turns below (slice_get x.elements c.element)) node.children.items ≡ flat_map (λ (r : Reference). placed_turns r (below r.name)) (references x.elements))
+      same (children_all s before (take k nodes) m.structure.elements below nothing_named m.children [] refl refl) in
       rw (shapes, children_front below es rows node.children.items, children) refl

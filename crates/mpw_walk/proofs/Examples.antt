@@ -10,7 +10,7 @@ use Rattle.mpw_hier.specs.declared.submission.Submission.{Submission}
 use Rattle.mpw_hier.specs.Levels.{by_levels}
 use Rattle.mpw_hier.specs.Values.{from_first, flats}
 use Rattle.mpw_hier.specs.Items.{Item, instances, placed_again}
-use Rattle.mpw_walk.specs.Turns.{Turn, enter, give, flat_roots, all_turns, roots_turns}
+use Rattle.mpw_walk.specs.Turns.{flat_roots}
 use Rattle.mpw_walk.specs.declared.root.Root.{Root}
 
 abbrev at : ℕ → ℕ → Point
@@ -58,12 +58,3 @@ shown_at i = (i.origin, i.placing.by)
 pub seven_items : map shown_at (flat_roots shelf roots) ≡ (1, at 1000 0) ∷ (0, at 1000 0) ∷ (0, at 1000 10) ∷ (0, at 900 0) ∷ (0, at 900 10) ∷ (0, at 800 0) ∷ (0, at 800 10) ∷ []
 unfolding flat_roots flats from_first by_levels instances placed_again placed_point oriented_point
 seven_items = refl
-
-abbrev is_enter : Turn → ℕ
-is_enter enter = 1
-is_enter (give item) = 0
-
--- one turn enters the root and one each instance; the empty cell has none
-pub fourteen_turns : map is_enter (roots_turns shelf roots) ≡ 1 ∷ 0 ∷ 1 ∷ 0 ∷ 1 ∷ 0 ∷ 1 ∷ 0 ∷ 1 ∷ 0 ∷ 1 ∷ 0 ∷ 1 ∷ 0 ∷ []
-unfolding roots_turns all_turns from_first by_levels instances placed_again placed_point oriented_point
-fourteen_turns = refl

@@ -2,6 +2,7 @@ pub mod Examples
 pub mod Placings
 pub mod Related
 pub mod Given
+pub mod Roots
 pub mod Arrays
 pub mod Fronts
 pub mod Named

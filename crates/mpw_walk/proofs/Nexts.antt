@@ -59,7 +59,9 @@ shape_within ss f q h =
     let here : get_or f.node.now.shapes.items f.shape 0 ≡ get_or (shape_places 0 es) f.shape 0 = ap (λ ps. get_or ps f.shape 0) places in
     omega (arith, w, same_length, here)
 
-pub shape_next : (ss : List Submission) (f : Frame) (e : Element) → f.shape < length f.node.now.shapes.items → slice_get f.elements.now (slice_index f.node.now.shapes.items f.shape) ≡ Some e → turns_to_come ss f ≡ give (record { origin = f.submission; placing = f.placing; element = e }) ∷ turns_to_come ss (record f { shape = f.shape + 1 })
+pub shape_next : (ss : List Submission) (f : Frame) (e : Element) → f.shape < length f.node.now.shapes.items
+    → slice_get f.elements.now (slice_index f.node.now.shapes.items f.shape) ≡ Some e
+    → turns_to_come ss f ≡ give (record { origin = f.submission; placing = f.placing; element = e }) ∷ turns_to_come ss (record f { shape = f.shape + 1 })
 unfolding turns_to_come turns_within
 shape_next ss f e h is =
     let places = f.node.now.shapes.items in
@@ -69,7 +71,9 @@ shape_next ss f e h is =
 -- ---- children
 
 -- behind an instance the frame is at the next column, the next row, or the next child
-pub behind_cases : (f : Frame) (r : Reference) (P : Frame → Type 0) → (f.column + 1 < r.columns → P (record f { column = f.column + 1 })) → (r.columns ≤ f.column + 1 → f.row + 1 < r.rows → P (record f { row = f.row + 1; column = 0 })) → (r.columns ≤ f.column + 1 → r.rows ≤ f.row + 1 → P (record f { child = f.child + 1; row = 0; column = 0 })) → P (behind_instance f r)
+pub behind_cases : (f : Frame) (r : Reference) (P : Frame → Type 0) → (f.column + 1 < r.columns → P (record f { column = f.column + 1 }))
+    → (r.columns ≤ f.column + 1 → f.row + 1 < r.rows → P (record f { row = f.row + 1; column = 0 }))
+    → (r.columns ≤ f.column + 1 → r.rows ≤ f.row + 1 → P (record f { child = f.child + 1; row = 0; column = 0 })) → P (behind_instance f r)
 behind_cases f r P column row child =
     go (nat_lt (f.column + 1) r.columns) refl (nat_lt (f.row + 1) r.rows) refl
   where
@@ -88,7 +92,13 @@ same_reference e = cc
 pub behind_frame : (ss : List Submission) (f : Frame) (q : IsFrame ss f) (target : Target) (r : Reference) → IsNext f target r → IsFrame ss (behind_instance f r)
 behind_frame ss f q target r x =
     let there = q.within x.child r x.child_is x.reference_is in
-    let grid : (row column : ℕ) → row < r.rows → column < r.columns → (c : Child) (t : Reference) → slice_get f.node.now.children.items f.child ≡ Some c → slice_get f.elements.now c.element ≡ Some (elements.Reference t) → (row < t.rows) × (column < t.columns) = λ row column a b c t at ref. let child = one (slice_get f.node.now.children.items f.child) x.child c x.child_is at in let both : Some (elements.Reference r) ≡ Some (elements.Reference t) = sym x.reference_is ∙ ap (λ (c : Child). slice_get f.elements.now c.element) child ∙ ref in let same = same_reference both in (subst (λ (t : Reference). row < t.rows) same a, subst (λ (t : Reference). column < t.columns) same b) in
+    let grid : (row column : ℕ) → row < r.rows → column < r.columns → (c : Child) (t : Reference) → slice_get f.node.now.children.items f.child ≡ Some c
+    → slice_get f.elements.now c.element ≡ Some (elements.Reference t) → (row < t.rows) × (column < t.columns) =
+    λ row column a b c t at ref.
+    let child = one (slice_get f.node.now.children.items f.child) x.child c x.child_is at in
+    let both : Some (elements.Reference r) ≡ Some (elements.Reference t) = sym x.reference_is ∙ ap (λ (c : Child). slice_get f.elements.now c.element) child ∙ ref in
+    let same = same_reference both in
+    (subst (λ (t : Reference). row < t.rows) same a, subst (λ (t : Reference). column < t.columns) same b) in
     behind_cases f r (IsFrame ss)
     (λ more. frame_at ss f q f.shape f.child f.row (f.column + 1) f.placing (grid f.row (f.column + 1) there.0 more) q.near)
     (λ last more. frame_at ss f q f.shape f.child (f.row + 1) 0 f.placing (grid (f.row + 1) 0 more (omega (arith, there.1))) q.near)
@@ -119,9 +129,15 @@ child_next ss f q target r x =
     let there = q.within x.child r x.child_is x.reference_is in
     let ts = below r.name in
     let left = flat_map (λ (c : Child). reference_turns below (slice_get es c.element)) (drop (f.child + 1) cs) in
-    let split : (row column : ℕ) → turns_of_children below es row column (drop f.child cs) ≡ flat_map (entered ts) (instances_from r row column) ++ left = λ row column. ap (turns_of_children below es row column) (drop_get cs f.child x.child x.child_is) ∙ ap (λ o. instance_turns below row column o ++ left) x.reference_is in
-    let go : (rest : List Placing) → instances_from r f.row f.column ≡ instance r f.row f.column ∷ rest → children_of ss f ≡ entered ts (instance r f.row f.column) ++ (flat_map (entered ts) rest ++ left) = λ rest e. split f.row f.column ∙ ap (λ l. flat_map (entered ts) l ++ left) e ∙ append_assoc (entered ts (instance r f.row f.column)) (flat_map (entered ts) rest) left in
-    behind_cases f r (λ (g : Frame). children_of ss f ≡ entered ts (instance r f.row f.column) ++ children_of ss g) (λ more. go (instances_from r f.row (f.column + 1)) (next_column r f.row f.column there.1) ∙ ap (λ l. entered ts (instance r f.row f.column) ++ l) (sym (split f.row (f.column + 1)))) (λ last more. go (instances_from r (f.row + 1) 0) (next_row r f.row f.column there.1 last more) ∙ ap (λ l. entered ts (instance r f.row f.column) ++ l) (sym (split (f.row + 1) 0))) (λ last end. go [] (no_next r f.row f.column there.1 last end) ∙ ap (λ l. entered ts (instance r f.row f.column) ++ l) (sym (children_front ss f.submission q.submission q.is below es (λ i t e. let z = rows_read ss f q i t e in omega (arith, z.rows.least)) (drop (f.child + 1) cs))))
+    let split : (row column : ℕ) → turns_of_children below es row column (drop f.child cs) ≡ flat_map (entered ts) (instances_from r row column) ++ left =
+    λ row column. ap (turns_of_children below es row column) (drop_get cs f.child x.child x.child_is) ∙ ap (λ o. instance_turns below row column o ++ left) x.reference_is in
+    let go : (rest : List Placing) → instances_from r f.row f.column ≡ instance r f.row f.column ∷ rest
+    → children_of ss f ≡ entered ts (instance r f.row f.column) ++ (flat_map (entered ts) rest ++ left) =
+    λ rest e. split f.row f.column ∙ ap (λ l. flat_map (entered ts) l ++ left) e ∙ append_assoc (entered ts (instance r f.row f.column)) (flat_map (entered ts) rest) left in
+    behind_cases f r (λ (g : Frame). children_of ss f ≡ entered ts (instance r f.row f.column) ++ children_of ss g)
+    (λ more. go (instances_from r f.row (f.column + 1)) (next_column r f.row f.column there.1) ∙ ap (λ l. entered ts (instance r f.row f.column) ++ l) (sym (split f.row (f.column + 1))))
+    (λ last more. go (instances_from r (f.row + 1) 0) (next_row r f.row f.column there.1 last more) ∙ ap (λ l. entered ts (instance r f.row f.column) ++ l) (sym (split (f.row + 1) 0)))
+    (λ last end. go [] (no_next r f.row f.column there.1 last end) ∙ ap (λ l. entered ts (instance r f.row f.column) ++ l) (sym (children_front ss f.submission q.submission q.is below es (λ i t e. let z = rows_read ss f q i t e in omega (arith, z.rows.least)) (drop (f.child + 1) cs))))
 
 pub shapes_over : (ss : List Submission) (f : Frame) → length f.node.now.shapes.items ≤ f.shape → turns_to_come ss f ≡ map (placed_turn f.placing) (children_of ss f)
 unfolding turns_to_come turns_within
@@ -132,12 +148,18 @@ frame_over ss f h none =
     shapes_over ss f h ∙ rw (drop_all f.child f.node.now.children.items (none_past f.node.now.children.items f.child none)) refl
 
 -- an instance is entered that shows something
-pub instance_next : (ss : List Submission) (f : Frame) (q : IsFrame ss f) (target : Target) (r : Reference) → IsNext f target r → length f.node.now.shapes.items ≤ f.shape → 0 < length (named_turns ss f.submission r.name) → turns_to_come ss f ≡ enter ∷ map (placed_turn (placed_again f.placing (instance r f.row f.column))) (named_turns ss f.submission r.name) ++ turns_to_come ss (behind_instance f r)
+pub instance_next : (ss : List Submission) (f : Frame) (q : IsFrame ss f) (target : Target) (r : Reference) → IsNext f target r → length f.node.now.shapes.items ≤ f.shape
+    → 0 < length (named_turns ss f.submission r.name)
+    → turns_to_come ss f ≡ enter ∷ map (placed_turn (placed_again f.placing (instance r f.row f.column))) (named_turns ss f.submission r.name)
+    ++ turns_to_come ss (behind_instance f r)
 instance_next ss f q target r x over some =
     let ts = named_turns ss f.submission r.name in
     let t = instance r f.row f.column in
     let whole = shapes_over ss f over ∙ ap (map (placed_turn f.placing)) (child_next ss f q target r x) ∙ map-append (placed_turn f.placing) (entered ts t) (children_of ss (behind_instance f r)) in
-    let rest : map (placed_turn f.placing) (children_of ss (behind_instance f r)) ≡ turns_to_come ss (behind_instance f r) = behind_cases f r (λ (g : Frame). map (placed_turn f.placing) (children_of ss g) ≡ turns_to_come ss g) (λ _. sym (shapes_over ss (record f { column = f.column + 1 }) over)) (λ _ _. sym (shapes_over ss (record f { row = f.row + 1; column = 0 }) over)) (λ _ _. sym (shapes_over ss (record f { child = f.child + 1; row = 0; column = 0 }) over)) in
+    let rest : map (placed_turn f.placing) (children_of ss (behind_instance f r)) ≡ turns_to_come ss (behind_instance f r) = behind_cases f r
+    (λ (g : Frame). map (placed_turn f.placing) (children_of ss g) ≡ turns_to_come ss g) (λ _. sym (shapes_over ss (record f { column = f.column + 1 }) over))
+    (λ _ _. sym (shapes_over ss (record f { row = f.row + 1; column = 0 }) over))
+    (λ _ _. sym (shapes_over ss (record f { child = f.child + 1; row = 0; column = 0 }) over)) in
     whole ∙ ap (λ turns. map (placed_turn f.placing) (entered ts t) ++ turns) rest ∙ ap (λ turns. turns ++ turns_to_come ss (behind_instance f r)) (go ts some)
   where
     go : (ts : List Turn) → 0 < length ts → map (placed_turn f.placing) (entered ts (instance r f.row f.column)) ≡ enter ∷ map (placed_turn (placed_again f.placing (instance r f.row f.column))) ts

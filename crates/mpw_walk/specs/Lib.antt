@@ -4,3 +4,4 @@ pub mod Stack
 pub mod Near
 pub mod Way
 pub mod Walk
+pub mod Roots

@@ -1,16 +1,26 @@
 //! Which roots a walk may have.
 
-ghost use Rattle.std.specs.Prelude.{◌≡◌, ◌↔◌, All, IsTrue, true};
+ghost use Rattle.std.specs.Prelude.{◌≡◌, ◌<◌, ◌↔◌, ◌∷◌, [], length, All, IsTrue, true};
 ghost use Rattle.mpw_hier.specs.Boxes.{is_box_near, placed_box};
+ghost use Rattle.mpw_hier.specs.Values.{flat};
 ghost use Rattle.mpw_walk.specs.Frames.{IsWithin};
+ghost use Rattle.mpw_walk.specs.Roots.{unmoved_root};
+ghost use Rattle.mpw_walk.specs.Turns.{flat_roots};
 ghost use Rattle.mpw_walk.specs.Walk.{IsRoot};
 
+use crate::laws::unmoved_roots_show_their_submission;
 use crate::root::Root;
-use mpw_geom::{Box2, Placing, Point};
+use mpw_geom::{Box2, Orient, Placing, Point};
 use mpw_hier::{Shelf, is_box_near};
 
 /// The longest displacement along an axis, in nm.
 const LONGEST: i64 = 1 << 31;
+
+/// Where a submission was drawn.
+const UNMOVED: Placing = Placing {
+    orient: Orient::R0,
+    by: Point { x: 0, y: 0 },
+};
 
 /// Whether a displacement is at most 2^31 nm along each axis.
 fn is_short(by: Point) -> bool
@@ -39,6 +49,21 @@ fn is_placed_near(placing: Placing, b: Box2) -> bool
 }
 
 impl Root {
+    /// The submission of a number on the shelf where it was drawn, neither turned nor moved: a root of any walk over the shelf.
+    pub fn unmoved(shelf: &Shelf, submission: u32) -> Root
+        requires { submission < length shelf.now }
+        ensures is { result ≡ unmoved_root submission }
+        ensures root { IsRoot shelf.now result }
+        ensures shapes { flat_roots shelf.now (result ∷ []) ≡ flat shelf.now submission }
+    {
+        shelf.is_shelf();
+        unmoved_roots_show_their_submission();
+        Root {
+            submission,
+            placing: UNMOVED,
+        }
+    }
+
     /// Whether the submission is on the shelf, and shows nothing beyond -2^30 to 2^30 nm where it is
     /// placed. Takes no memory.
     pub fn fits(&self, shelf: &Shelf) -> bool

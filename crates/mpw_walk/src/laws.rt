@@ -1,12 +1,18 @@
-//! Laws of the definitions alone. Each function has an empty body: its contract is the law.
+//! Laws of the definitions alone. Each function calls at most the laws that its own rests on: its contract is the law.
 
-ghost use Rattle.std.specs.Prelude.{◌≡◌, ◌≤◌, ◌+◌, ◌*◌, List, length, map};
+ghost use Rattle.std.specs.Prelude.{◌≡◌, ◌≤◌, ◌<◌, ◌+◌, ◌*◌, ◌++◌, ◌∷◌, ◌↔◌, [], ℕ, List, length, map, All};
 ghost use Rattle.mpw_geom.specs.declared.placing.Placing.{Placing};
-ghost use Rattle.mpw_hier.specs.Items.{placed_item};
-ghost use Rattle.mpw_hier.specs.Values.{height};
+ghost use Rattle.mpw_hier.specs.Boxes.{extent_of};
+ghost use Rattle.mpw_hier.specs.Items.{Item, placed_item};
+ghost use Rattle.mpw_hier.specs.Limits.{IsShelf};
+ghost use Rattle.mpw_hier.specs.Values.{flat, height};
 ghost use Rattle.mpw_hier.specs.declared.submission.Submission.{Submission};
+ghost use Rattle.mpw_walk.specs.Roots.{unmoved_root, roots_extent, roots_count};
 ghost use Rattle.mpw_walk.specs.Turns.{given, flat_root, flat_roots, placed_root, root_turns, roots_turns};
+ghost use Rattle.mpw_walk.specs.Walk.{IsRoot};
 ghost use Rattle.mpw_walk.specs.declared.root.Root.{Root};
+
+use mpw_hier::{earlier_submissions_stay, extents_are_least_boxes, shelves_have_their_numbers};
 
 /// The turns of roots give their flat lists in order. A root has at most as many turns as it has
 /// shapes times one more than its levels.
@@ -21,3 +27,36 @@ pub fn turns_give_flat_lists()
 pub fn roots_are_placed_again()
     ensures { (t : Placing) (ss : List Submission) (roots : List Root) → flat_roots ss (map (placed_root t) roots) ≡ map (placed_item t) (flat_roots ss roots) }
 {}
+
+/// A submission that is not moved is a root of any shelf that has it, and shows its own flat list.
+pub fn unmoved_roots_show_their_submission()
+    ensures fits { (ss : List Submission) → IsShelf ss → (number : ℕ) → number < length ss → IsRoot ss (unmoved_root number) }
+    ensures shapes { (ss : List Submission) (number : ℕ) → flat_roots ss (unmoved_root number ∷ []) ≡ flat ss number }
+{
+    shelves_have_their_numbers();
+    extents_are_least_boxes();
+}
+
+/// Each shape that roots show comes from a submission on the shelf.
+pub fn shapes_come_from_the_shelf()
+    ensures { (ss : List Submission) (roots : List Root) → All (λ (i : Item). i.origin < length ss) (flat_roots ss roots) }
+{
+    shelves_have_their_numbers();
+}
+
+/// What was a root stays one when other submissions come, and shows the same; what was on the shelf and no root becomes none.
+pub fn roots_stay_roots()
+    ensures roots { (ss later : List Submission) (root : Root) → root.submission < length ss → IsRoot ss root ↔ IsRoot (ss ++ later) root }
+    ensures shapes { (ss later : List Submission) (roots : List Root) → All (IsRoot ss) roots → flat_roots (ss ++ later) roots ≡ flat_roots ss roots }
+{
+    earlier_submissions_stay();
+}
+
+/// The extent of roots is the least box that holds their placed extents, and they show as many shapes as their submissions
+/// together.
+pub fn roots_show_what_their_submissions_do()
+    ensures extent { (ss : List Submission) (roots : List Root) → extent_of (flat_roots ss roots) ≡ roots_extent ss roots }
+    ensures count { (ss : List Submission) (roots : List Root) → length (flat_roots ss roots) ≡ roots_count ss roots }
+{
+    extents_are_least_boxes();
+}

@@ -14,6 +14,9 @@ mod walk;
 mod way;
 
 pub use fit::all_fit;
-pub use laws::{roots_are_placed_again, turns_give_flat_lists};
+pub use laws::{
+    roots_are_placed_again, roots_show_what_their_submissions_do, roots_stay_roots,
+    shapes_come_from_the_shelf, turns_give_flat_lists, unmoved_roots_show_their_submission,
+};
 pub use root::{Placed, Root};
 pub use walk::Walk;

@@ -11,7 +11,7 @@ ghost use Rattle.mpw_walk.specs.Way.{IsPlaceable, item_of};
 use crate::frames::Frames;
 use crate::root::{Placed, Root};
 use crate::way::Way;
-use mpw_hier::Shelf;
+use mpw_hier::{Shelf, shelves_have_their_numbers};
 use std::marker::Model;
 
 /// The shapes of placed submissions that are still to come. It takes no memory: its stack has a fixed size.
@@ -45,6 +45,7 @@ impl<'a> Walk<'a> {
         ensures given { given result.left ≡ flat_roots shelf.now roots.now }
     {
         shelf.is_shelf();
+        shelves_have_their_numbers();
         Walk {
             way: Way {
                 shelf,

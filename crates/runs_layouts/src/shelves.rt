@@ -4,7 +4,7 @@ ghost use Rattle.mpw_library.specs.Library.{IsLibrary};
 
 use anyhow::{Result, bail};
 use mpw_geom::{Box2, Name};
-use mpw_hier::{HierFault, Shelf, Submission, externals};
+use mpw_hier::{HierFault, Outline, Shelf, Submission};
 use mpw_library::{Library, read_library};
 use mpw_samples::text_of_library;
 use std::alloc::Global;
@@ -19,8 +19,8 @@ fn put(
 ) -> Result<u32, HierFault>
     requires { IsLibrary library }
 {
-    let names = externals(alloc, &library, &top)?;
-    let bound = shelf.bind(alloc, names.as_slice())?;
+    let outline = Outline::new(alloc, &library, &top)?;
+    let bound = shelf.bind(alloc, outline.names.as_slice())?;
     let submission = Submission {
         submitter: cell.copy()?,
         cell,
@@ -29,7 +29,7 @@ fn put(
         top,
         bound,
     };
-    shelf.push(alloc, submission)
+    shelf.put(alloc, submission, &outline)
 }
 
 pub fn put_text(
@@ -135,8 +135,8 @@ pub fn outside(rt: &(impl Print + AllocGlobal), top: &str, notation: &str) -> Re
     let alloc = rt.alloc();
     let library = read_library(alloc, &text_of_library(alloc, notation)?)?;
     let top = Name::read(alloc, top.as_bytes())?;
-    match externals(alloc, &library, &top) {
-        Ok(names) => print_names(rt, names.as_slice()),
+    match Outline::new(alloc, &library, &top) {
+        Ok(outline) => print_names(rt, outline.names.as_slice()),
         Err(fault) => Ok(println!(rt; "    {fault}")?),
     }
 }

@@ -90,7 +90,7 @@ pub fn walk(rt: &(impl Print + AllocGlobal), shelf: &Shelf, text: &str) -> Resul
     if roots.len() > 10 || !all_fit(shelf, &roots) {
         return Ok(println!(rt; "    no roots")?);
     }
-    let mut walk = Walk::new(rt.alloc(), shelf, &roots)?;
+    let mut walk = Walk::new(shelf, &roots);
     for _ in 0..100 {
         match walk.next() {
             Some(placed) => print_placed(rt, placed)?,
@@ -119,7 +119,7 @@ pub fn count(rt: &(impl Print + AllocGlobal), shelf: &Shelf, text: &str) -> Resu
     if roots.len() > 10 || !all_fit(shelf, &roots) {
         return Ok(println!(rt; "    no roots")?);
     }
-    let mut walk = Walk::new(rt.alloc(), shelf, &roots)?;
+    let mut walk = Walk::new(shelf, &roots);
     let count = number_of(&mut walk);
     let turns = walk.turns();
     Ok(println!(rt; "    {count} shapes, {turns} turns")?)
@@ -142,7 +142,7 @@ fn compared_one(alloc: Global, random: &mut Random) -> Result<Option<usize>> {
         bail!("roots that fit");
     }
     let list = flat_list(alloc, &shelf, &roots)?;
-    let mut walk = Walk::new(alloc, &shelf, &roots)?;
+    let mut walk = Walk::new(&shelf, &roots);
     if gives(&mut walk, &list) && list.len() == told(&shelf, &roots) {
         return Ok(Some(list.len()));
     }

@@ -6,7 +6,7 @@ use Rattle.mpw_hier.proofs.Leading.{leads_within}
 use Rattle.mpw_hier.proofs.Linking.{place_within, graph_length, graph_within, cycle_named, acyclic}
 use Rattle.mpw_geom.proofs.NamesLemmas.{in_by_name}
 use Rattle.mpw_hier.proofs.Shown.{shown, only_shown}
-use Rattle.mpw_hier.proofs.outside.externals.Goals as goal
+use Rattle.mpw_hier.proofs.outline.Outline.new.Goals as goal
 
 pub order_from_below-requires-clause-graph : goal.order_from_below-requires-clause-graph
 order_from_below-requires-clause-graph c = subst IsGraph (sym c.in_ok-graph.ensures) (graph_within c.args.library.now)
@@ -44,9 +44,13 @@ returns-clause-ok c =
     let made = c.in_ok-sort.ensures.ok ∙ ap by_name (c.in_ok-names.ensures ∙ ap (outside_from_all ss) c.deref.ensures.value) in
     let same = λ (name : List ℕ). ap (λ names. contains_name names name) made ∙ in_by_name name (outside_from_all ss order.items) in
     record {
-      place = place;
       found = e;
-      acyclic = acyclic ss c.args.top.now place e order.items o;
-      by_name = record { given = outside_from_all ss order.items; same = made };
-      outside = λ name. (λ h. only_shown ss c.args.top.now place e order.items o name (sym (same name) ∙ h), λ h. same name ∙ shown ss c.args.top.now place e order.items o name h);
+      from_below = o;
+      externals = record {
+        place = place;
+        found = e;
+        acyclic = acyclic ss c.args.top.now place e order.items o;
+        by_name = record { given = outside_from_all ss order.items; same = made };
+        outside = λ name. (λ h. only_shown ss c.args.top.now place e order.items o name (sym (same name) ∙ h), λ h. same name ∙ shown ss c.args.top.now place e order.items o name h);
+      };
     }

@@ -1,0 +1,5 @@
+use Rattle.mpw_hier.proofs.Stays.{earlier_stay}
+use Rattle.mpw_hier.proofs.laws.earlier_submissions_stay.Goals as goal
+
+pub returns : goal.returns
+returns c = earlier_stay

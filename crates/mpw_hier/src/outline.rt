@@ -1,0 +1,67 @@
+//! A library as its top shows it: what depends on the library and the top alone, found once.
+
+ghost use Rattle.std.specs.Prelude.{◌≡◌, ◌↔◌, None, Err, IfOk, IfErr};
+ghost use Rattle.mpw_library.specs.Places.{place_of};
+ghost use Rattle.mpw_hier.specs.Outside.{AreExternals, IsOfExternals};
+ghost use Rattle.mpw_hier.specs.Outline.{IsOutline};
+
+use crate::fault::HierFault;
+use crate::order::order_from_below;
+use crate::outside::{graph_of, outside_from};
+use mpw_geom::{Name, Names};
+use mpw_library::Library;
+use std::alloc::Global;
+
+/// The structures that a library's top reaches, and the names outside the library among what it reaches.
+#[derive(Drop)]
+pub struct Outline {
+    /// The names outside the library, in order of name, each once.
+    pub names: Names,
+    /// Where the top stands in the library.
+    pub(crate) place: usize,
+    /// Where the structures stand that the top reaches, each behind those that it places, the top among them.
+    pub(crate) order: Vec<usize>,
+}
+
+impl Outline {
+    /// What the top of a library reaches.
+    ///
+    /// Linear in the library's references, with a search for each of them, and a sort of the names outside.
+    ///
+    /// # Errors
+    /// `NoTop` where the library has no structure of that name; `Cycle` where a structure below the top
+    /// leads back to itself; or want of memory.
+    pub fn new(alloc: Global, library: &Library, top: &Name) -> Result<Outline, HierFault>
+        ensures ok { IfOk result (IsOutline library.now top.now) }
+        ensures no_top { (result ≡ Err HierFault.NoTop) ↔ (place_of library.now top.now ≡ None) }
+        ensures faults { IfErr result (IsOfExternals library.now top.now) }
+    {
+        let Some(place) = library.position(top) else {
+            return Err(HierFault::NoTop);
+        };
+        let graph = graph_of(alloc, library)?;
+        let Some(order) = order_from_below(alloc, &graph, place)? else {
+            return Err(HierFault::Cycle);
+        };
+        let mut names = outside_from(alloc, library, &order)?;
+        names.sort()?;
+        Ok(Outline {
+            names,
+            place,
+            order,
+        })
+    }
+}
+
+/// The names outside the library that the top shows, in order of name, each once.
+///
+/// # Errors
+/// As those of [`Outline::new`].
+pub fn externals(alloc: Global, library: &Library, top: &Name) -> Result<Names, HierFault>
+    ensures ok { IfOk result (AreExternals library.now top.now) }
+    ensures no_top { (result ≡ Err HierFault.NoTop) ↔ (place_of library.now top.now ≡ None) }
+    ensures faults { IfErr result (IsOfExternals library.now top.now) }
+{
+    let outline = Outline::new(alloc, library, top)?;
+    Ok(outline.names)
+}

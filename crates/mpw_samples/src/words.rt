@@ -1,0 +1,86 @@
+//! The words of an item of the notation, and why a notation gives no text.
+
+use crate::error::SampleError;
+use hex::FromHexError;
+use std::alloc::{AllocError, AllocFailed, Global};
+use thiserror::Error;
+
+/// Why a notation gives no text.
+#[derive(Clone, Copy, Debug, Error)]
+pub enum NotationError {
+    #[error("not in the notation of samples")]
+    Notation,
+    #[error("out of memory")]
+    Memory,
+}
+
+impl From<SampleError> for NotationError {
+    fn from(error: SampleError) -> NotationError {
+        match error {
+            SampleError::TooLong => NotationError::Notation,
+            SampleError::Memory => NotationError::Memory,
+        }
+    }
+}
+
+impl From<AllocError> for NotationError {
+    fn from(_error: AllocError) -> NotationError {
+        NotationError::Memory
+    }
+}
+
+impl<T: Drop> From<AllocFailed<T>> for NotationError {
+    fn from(_error: AllocFailed<T>) -> NotationError {
+        NotationError::Memory
+    }
+}
+
+pub fn number(word: &str) -> Result<i32, NotationError> {
+    match word.parse::<i32>() {
+        Ok(number) => Ok(number),
+        Err(_) => Err(NotationError::Notation),
+    }
+}
+
+pub fn short(word: &str) -> Result<u16, NotationError> {
+    match word.parse::<u16>() {
+        Ok(number) => Ok(number),
+        Err(_) => Err(NotationError::Notation),
+    }
+}
+
+pub fn count_of(word: &str) -> Result<u32, NotationError> {
+    match word.parse::<u32>() {
+        Ok(number) => Ok(number),
+        Err(_) => Err(NotationError::Notation),
+    }
+}
+
+/// A layer and a datatype, `L/D`.
+pub fn layer(word: &str) -> Result<(u16, u16), NotationError> {
+    match word.split_once('/') {
+        Some((layer, datatype)) => Ok((short(layer)?, short(datatype)?)),
+        None => Err(NotationError::Notation),
+    }
+}
+
+/// The bytes that a word spells in hex.
+pub fn hex_bytes(alloc: Global, word: &str) -> Result<Vec<u8>, NotationError> {
+    match hex::decode(alloc, word) {
+        Ok(bytes) => Ok(bytes),
+        Err(FromHexError::OutOfMemory) => Err(NotationError::Memory),
+        Err(_) => Err(NotationError::Notation),
+    }
+}
+
+/// Points by their coordinates in turn.
+pub fn points(alloc: Global, words: &[&str]) -> Result<Vec<(i32, i32)>, NotationError> {
+    let mut points = Vec::new(alloc);
+    for pair in words.chunks(2) {
+        let [x, y] = pair else {
+            return Err(NotationError::Notation);
+        };
+        points.push((number(x)?, number(y)?))?;
+    }
+    Ok(points)
+}
