@@ -84,6 +84,13 @@ impl SeparationSet {
         self.name
     }
 
+    /// How many of the roles nobody may have: from 2 to the number of the roles.
+    pub fn cardinality(&self) -> usize
+        ensures { result ≡ self.now.cardinality }
+    {
+        self.cardinality
+    }
+
     /// The set's roles.
     pub fn roles(&self) -> &[Name]
         ensures roles { result.now ≡ self.now.roles }

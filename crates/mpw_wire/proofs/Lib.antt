@@ -3,4 +3,6 @@ pub mod WordLemmas
 pub mod WritingLemmas
 pub mod ReadingLemmas
 pub mod ServingLemmas
+pub mod StoredLemmas
+pub mod AskedLemmas
 mod ReplyLemmas

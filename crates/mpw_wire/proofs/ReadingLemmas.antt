@@ -7,6 +7,7 @@ use Rattle.std.specs.Result.{IsErrAnd}
 use Rattle.mpw_wire.specs.declared.fault.WireFault.{WireFault}
 use Rattle.mpw_wire.specs.declared.fault.WireFault.TheVariants.{Memory}
 use Rattle.mpw_wire.specs.Reading.{IsUnbroken, BreaksLine, BreaksBytes, TakesSome, TakesUpTo}
+use Rattle.mpw_wire.specs.declared.operand.Origin.{Origin}
 use Rattle.mpw_wire.specs.Request.{name_of, names_of, ◌>>=◌}
 use Rattle.std.proofs.KnownBytes.{Consumes-trans}
 use Rattle.std.specs.Io.KnownBytes.{Consumes}
@@ -23,29 +24,29 @@ with_no_names None = refl
 with_no_names (Some names) = refl
 
 -- a word that is a name is the next of them
-pub names_next : (front : List (List ℕ)) (words : List (List ℕ)) (i : ℕ) (word name : List ℕ) → i < length words → get_or words i [] ≡ word → name_of word ≡ Some name
-    → with_names (front ++ name ∷ []) (names_of (drop (i + 1) words)) ≡ with_names front (names_of (drop i words))
+pub names_next : (origin : Origin) (front : List (List ℕ)) (words : List (List ℕ)) (i : ℕ) (word name : List ℕ) → i < length words → get_or words i [] ≡ word → name_of origin word ≡ Some name
+    → with_names (front ++ name ∷ []) (names_of origin (drop (i + 1) words)) ≡ with_names front (names_of origin (drop i words))
 unfolding names_of
-names_next front words i word name lt at told =
-    let more = at_drop_more names_of words i [] lt in
-    let here : names_of (get_or words i [] ∷ drop (i + 1) words) ≡ option_map (λ names. name ∷ names) (names_of (drop (i + 1) words)) =
-    ap (λ w. name_of w >>= λ n. option_map (λ names. n ∷ names) (names_of (drop (i + 1) words))) at
-    ∙ ap (λ o. o >>= λ n. option_map (λ names. n ∷ names) (names_of (drop (i + 1) words))) told in
-    pushed front name (names_of (drop (i + 1) words)) ∙ sym (ap (with_names front) (more ∙ here))
+names_next origin front words i word name lt at told =
+    let more = at_drop_more (names_of origin) words i [] lt in
+    let here : names_of origin (get_or words i [] ∷ drop (i + 1) words) ≡ option_map (λ names. name ∷ names) (names_of origin (drop (i + 1) words)) =
+    ap (λ w. name_of origin w >>= λ n. option_map (λ names. n ∷ names) (names_of origin (drop (i + 1) words))) at
+    ∙ ap (λ o. o >>= λ n. option_map (λ names. n ∷ names) (names_of origin (drop (i + 1) words))) told in
+    pushed front name (names_of origin (drop (i + 1) words)) ∙ sym (ap (with_names front) (more ∙ here))
   where
     pushed : (front : List (List ℕ)) (name : List ℕ) (rest : Option (List (List ℕ))) → with_names (front ++ name ∷ []) rest ≡ with_names front (option_map (λ names. name ∷ names) rest)
     pushed front name None = refl
     pushed front name (Some names) = ap (λ l. Some l) (append_assoc front (name ∷ []) names)
 
 -- a word that is no name leaves none
-pub names_none : (front : List (List ℕ)) (words : List (List ℕ)) (i : ℕ) (word : List ℕ) → i < length words → get_or words i [] ≡ word → name_of word ≡ None
-    → with_names front (names_of (drop i words)) ≡ None
+pub names_none : (origin : Origin) (front : List (List ℕ)) (words : List (List ℕ)) (i : ℕ) (word : List ℕ) → i < length words → get_or words i [] ≡ word → name_of origin word ≡ None
+    → with_names front (names_of origin (drop i words)) ≡ None
 unfolding names_of
-names_none front words i word lt at told =
-    let more = at_drop_more names_of words i [] lt in
-    let here : names_of (get_or words i [] ∷ drop (i + 1) words) ≡ None =
-    ap (λ w. name_of w >>= λ n. option_map (λ names. n ∷ names) (names_of (drop (i + 1) words))) at
-    ∙ ap (λ o. o >>= λ n. option_map (λ names. n ∷ names) (names_of (drop (i + 1) words))) told in
+names_none origin front words i word lt at told =
+    let more = at_drop_more (names_of origin) words i [] lt in
+    let here : names_of origin (get_or words i [] ∷ drop (i + 1) words) ≡ None =
+    ap (λ w. name_of origin w >>= λ n. option_map (λ names. n ∷ names) (names_of origin (drop (i + 1) words))) at
+    ∙ ap (λ o. o >>= λ n. option_map (λ names. n ∷ names) (names_of origin (drop (i + 1) words))) told in
     ap (with_names front) (more ∙ here)
 
 pub unbroken_push : (line : List ℕ) (byte : ℕ) → IsUnbroken line → (byte ≡ 0x0A → ⊥) → IsUnbroken (line ++ byte ∷ [])

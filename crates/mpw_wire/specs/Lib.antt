@@ -4,5 +4,6 @@ pub mod Reading
 pub mod Reply
 pub mod Request
 pub mod Serving
+pub mod Stored
 pub mod Words
 pub mod Writing

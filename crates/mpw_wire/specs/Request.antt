@@ -1,6 +1,9 @@
--- The text of a request line: its words, and the request that they ask.
-use Rattle.std.specs.Prelude.{ℕ, Bool, true, false, List, [], ◌∷◌, length, codes, Option, Some, None, option_map, option_and_then, if◌then◌else◌}
+-- The text of a request line: its words, and the request that they ask. A line stands on a connection or in a store; both
+-- have the same forms, and differ in how a word is read.
+use Rattle.std.specs.Prelude.{ℕ, Bool, true, false, List, [], ◌∷◌, length, codes, Option, Some, None, option_map, option_and_then, not, ◌==◌, if◌then◌else◌}
 use Rattle.sha2.specs.Sha256.{sha256}
+use Rattle.std.specs.Result.{result_ok}
+use Rattle.hex.specs.Hex.{decode_sized}
 use Rattle.mpw_text.specs.Text.{number_of, is_decimal}
 use Rattle.mpw_geom.specs.Names.{name_eq}
 use Rattle.mpw_separation.specs.Set.{SeparationSet, formed}
@@ -14,6 +17,8 @@ use Rattle.mpw_core.specs.declared.event.Request.TheVariants.{Policy, Whoami, La
 use Rattle.mpw_core.specs.declared.policy.PolicyRequest.{PolicyRequest}
 use Rattle.mpw_core.specs.declared.policy.PolicyRequest.TheVariants.{Open, Close, Activate, DropRole, AddUser, DelUser, AddRole, DelRole, Assign, Deassign, Grant, Revoke, Inherit, Uninherit, Ssd, Dsd, UnSsd, UnDsd}
 use Rattle.mpw_core.specs.declared.layouts.LayoutRequest.TheVariants.{Cells}
+use Rattle.mpw_wire.specs.declared.operand.Origin.{Origin}
+use Rattle.mpw_wire.specs.declared.operand.Origin.TheVariants.{Connection, Store}
 use Rattle.mpw_wire.specs.declared.request.LineAsk.{LineAsk}
 use Rattle.mpw_wire.specs.declared.request.LineAsk.TheVariants as ask
 use Rattle.mpw_wire.specs.Words.{words, is_visible_word}
@@ -22,16 +27,23 @@ infixl 10 ◌>>=◌
 abbrev pub ◌>>=◌ : {A B : Type 0} → Option A → (A → Option B) → Option B
 option >>= next = option_and_then next option
 
--- the name that a word is; `-` is none in a request
-unfoldable pub name_of : List ℕ → Option (List ℕ)
-name_of word =
-    if name_eq word (codes "-") then None
-    else if is_visible_word word then Some word
-    else None
+-- the name of these bytes
+unfoldable pub visible_of : List ℕ → Option (List ℕ)
+visible_of word = if is_visible_word word then Some word else None
+
+-- the name that a word is; `-` is none on a connection
+unfoldable pub name_of : Origin → List ℕ → Option (List ℕ)
+name_of Connection word = if name_eq word (codes "-") then None else visible_of word
+name_of Store word = visible_of word
 
 -- the digest of the token that a word is
 unfoldable pub token_of : List ℕ → Option (List ℕ)
 token_of word = if is_visible_word word then Some (sha256 word) else None
+
+-- the digest that a word gives: that of a token, or in a store the one that 64 hexadecimal digits spell
+unfoldable pub digest_of : Origin → List ℕ → Option (List ℕ)
+digest_of Connection word = token_of word
+digest_of Store word = result_ok (decode_sized word 32)
 
 -- the operation that a word names
 unfoldable pub operation_of : List ℕ → Option Operation
@@ -49,58 +61,69 @@ operation_of word =
     else if name_eq word (codes "audit") then Some Audit
     else None
 
-abbrev pub cell_of : List ℕ → Option Object
-cell_of word = option_map Cell (name_of word)
+-- whether the operation is on cells; the others are on the desk
+unfoldable pub is_on_cells : Operation → Bool
+is_on_cells Submit = true
+is_on_cells Use = true
+is_on_cells Read = true
+is_on_cells Place = true
+is_on_cells Admin = false
+is_on_cells Deck = false
+is_on_cells Run = false
+is_on_cells Waive = false
+is_on_cells Sign = false
+is_on_cells Verdict = false
+is_on_cells Audit = false
 
-abbrev pub desk_of : List ℕ → Option Object
-desk_of word = if name_eq word (codes "desk") then Some Desk else None
+-- a cell by its name, or the desk by the word `desk`
+unfoldable pub object_by : Origin → Bool → List ℕ → Option Object
+object_by origin true word = option_map Cell (name_of origin word)
+object_by origin false word = if name_eq word (codes "desk") then Some Desk else None
 
--- an operation on a cell has its name as object, and one on the desk has the word `desk`
-unfoldable pub object_of : Operation → List ℕ → Option Object
-object_of Submit word = cell_of word
-object_of Use word = cell_of word
-object_of Read word = cell_of word
-object_of Place word = cell_of word
-object_of Admin word = desk_of word
-object_of Deck word = desk_of word
-object_of Run word = desk_of word
-object_of Waive word = desk_of word
-object_of Sign word = desk_of word
-object_of Verdict word = desk_of word
-object_of Audit word = desk_of word
+-- an operation on cells has a cell's name as object, and one on the desk the word `desk`. A grant's value may hold an
+-- object of the other kind: no line of a connection asks it, and in a store a tab stands before that object's word
+abbrev pub stored_object : Bool → List ℕ → Option Object
+stored_object on_cells [] = object_by Store on_cells []
+stored_object on_cells (first ∷ rest) =
+    if first == 0x09 then object_by Store (not on_cells) rest
+    else object_by Store on_cells (first ∷ rest)
+
+unfoldable pub object_of : Origin → Operation → List ℕ → Option Object
+object_of Connection operation word = object_by Connection (is_on_cells operation) word
+object_of Store operation word = stored_object (is_on_cells operation) word
 
 -- a grant is an operation, an object of it and a role
-unfoldable pub grant_of : List ℕ → List ℕ → List ℕ → Option permission.Grant
-grant_of operation object role = do
+unfoldable pub grant_of : Origin → List ℕ → List ℕ → List ℕ → Option permission.Grant
+grant_of origin operation object role = do
   operation ← operation_of operation
-  object ← object_of operation object
-  role ← name_of role
+  object ← object_of origin operation object
+  role ← name_of origin role
   Some (record { operation = operation; object = object; role = role })
 
--- a user's name, and the digest of a token
-unfoldable pub login_of : List ℕ → List ℕ → Option (List ℕ × List ℕ)
-login_of user token = do
-  user ← name_of user
-  digest ← token_of token
+-- a user's name, and the digest of its token
+unfoldable pub login_of : Origin → List ℕ → List ℕ → Option (List ℕ × List ℕ)
+login_of origin user digest = do
+  user ← name_of origin user
+  digest ← digest_of origin digest
   Some (user, digest)
 
 -- two names
-unfoldable pub pair_of : List ℕ → List ℕ → Option (List ℕ × List ℕ)
-pair_of first second = do
-  first ← name_of first
-  second ← name_of second
+unfoldable pub pair_of : Origin → List ℕ → List ℕ → Option (List ℕ × List ℕ)
+pair_of origin first second = do
+  first ← name_of origin first
+  second ← name_of origin second
   Some (first, second)
 
 -- names, one a word
-unfoldable pub names_of : List (List ℕ) → Option (List (List ℕ))
-names_of [] = Some []
-names_of (word ∷ words) = name_of word >>= λ name. option_map (λ names. name ∷ names) (names_of words)
+unfoldable pub names_of : Origin → List (List ℕ) → Option (List (List ℕ))
+names_of origin [] = Some []
+names_of origin (word ∷ words) = name_of origin word >>= λ name. option_map (λ names. name ∷ names) (names_of origin words)
 
 -- a set of roles of which nobody may have that many: its name, that number and the roles, where they have the form of one
-unfoldable pub set_of : List ℕ → List ℕ → List (List ℕ) → Option SeparationSet
-set_of name cardinality roles = do
-  name ← name_of name
-  roles ← names_of roles
+unfoldable pub set_of : Origin → List ℕ → List ℕ → List (List ℕ) → Option SeparationSet
+set_of origin name cardinality roles = do
+  name ← name_of origin name
+  roles ← names_of origin roles
   cardinality ← number_of 0 (length roles) cardinality
   formed (record { name = name; cardinality = cardinality; roles = roles })
 
@@ -113,40 +136,40 @@ bare_request verb =
     else None
 
 -- the requests of the policy of a verb and one name
-unfoldable pub request_of_one : List ℕ → List ℕ → Option PolicyRequest
-request_of_one verb word =
-    if name_eq verb (codes "activate") then option_map Activate (name_of word)
-    else if name_eq verb (codes "drop") then option_map DropRole (name_of word)
-    else if name_eq verb (codes "deluser") then option_map DelUser (name_of word)
-    else if name_eq verb (codes "addrole") then option_map AddRole (name_of word)
-    else if name_eq verb (codes "delrole") then option_map DelRole (name_of word)
-    else if name_eq verb (codes "unssd") then option_map UnSsd (name_of word)
-    else if name_eq verb (codes "undsd") then option_map UnDsd (name_of word)
+unfoldable pub request_of_one : Origin → List ℕ → List ℕ → Option PolicyRequest
+request_of_one origin verb word =
+    if name_eq verb (codes "activate") then option_map Activate (name_of origin word)
+    else if name_eq verb (codes "drop") then option_map DropRole (name_of origin word)
+    else if name_eq verb (codes "deluser") then option_map DelUser (name_of origin word)
+    else if name_eq verb (codes "addrole") then option_map AddRole (name_of origin word)
+    else if name_eq verb (codes "delrole") then option_map DelRole (name_of origin word)
+    else if name_eq verb (codes "unssd") then option_map UnSsd (name_of origin word)
+    else if name_eq verb (codes "undsd") then option_map UnDsd (name_of origin word)
     else None
 
 -- those of a verb and two words
-unfoldable pub request_of_two : List ℕ → List ℕ → List ℕ → Option PolicyRequest
-request_of_two verb first second =
-    if name_eq verb (codes "open") then option_map (λ login. Open login.0 login.1) (login_of first second)
-    else if name_eq verb (codes "adduser") then option_map (λ login. AddUser login.0 login.1) (login_of first second)
-    else if name_eq verb (codes "assign") then option_map (λ pair. Assign pair.0 pair.1) (pair_of first second)
-    else if name_eq verb (codes "deassign") then option_map (λ pair. Deassign pair.0 pair.1) (pair_of first second)
-    else if name_eq verb (codes "inherit") then option_map (λ pair. Inherit pair.0 pair.1) (pair_of first second)
-    else if name_eq verb (codes "uninherit") then option_map (λ pair. Uninherit pair.0 pair.1) (pair_of first second)
+unfoldable pub request_of_two : Origin → List ℕ → List ℕ → List ℕ → Option PolicyRequest
+request_of_two origin verb first second =
+    if name_eq verb (codes "open") then option_map (λ login. Open login.0 login.1) (login_of origin first second)
+    else if name_eq verb (codes "adduser") then option_map (λ login. AddUser login.0 login.1) (login_of origin first second)
+    else if name_eq verb (codes "assign") then option_map (λ pair. Assign pair.0 pair.1) (pair_of origin first second)
+    else if name_eq verb (codes "deassign") then option_map (λ pair. Deassign pair.0 pair.1) (pair_of origin first second)
+    else if name_eq verb (codes "inherit") then option_map (λ pair. Inherit pair.0 pair.1) (pair_of origin first second)
+    else if name_eq verb (codes "uninherit") then option_map (λ pair. Uninherit pair.0 pair.1) (pair_of origin first second)
     else None
 
 -- those of a verb and three words
-unfoldable pub request_of_three : List ℕ → List ℕ → List ℕ → List ℕ → Option PolicyRequest
-request_of_three verb operation object role =
-    if name_eq verb (codes "grant") then option_map Grant (grant_of operation object role)
-    else if name_eq verb (codes "revoke") then option_map Revoke (grant_of operation object role)
+unfoldable pub request_of_three : Origin → List ℕ → List ℕ → List ℕ → List ℕ → Option PolicyRequest
+request_of_three origin verb operation object role =
+    if name_eq verb (codes "grant") then option_map Grant (grant_of origin operation object role)
+    else if name_eq verb (codes "revoke") then option_map Revoke (grant_of origin operation object role)
     else None
 
 -- those of a verb, a set's name and cardinality, and two roles or more
-unfoldable pub request_of_more : List ℕ → List ℕ → List ℕ → List (List ℕ) → Option PolicyRequest
-request_of_more verb name cardinality roles =
-    if name_eq verb (codes "ssd") then option_map Ssd (set_of name cardinality roles)
-    else if name_eq verb (codes "dsd") then option_map Dsd (set_of name cardinality roles)
+unfoldable pub request_of_more : Origin → List ℕ → List ℕ → List ℕ → List (List ℕ) → Option PolicyRequest
+request_of_more origin verb name cardinality roles =
+    if name_eq verb (codes "ssd") then option_map Ssd (set_of origin name cardinality roles)
+    else if name_eq verb (codes "dsd") then option_map Dsd (set_of origin name cardinality roles)
     else None
 
 -- what a request's line asks, and no form where it is none's
@@ -161,34 +184,40 @@ asked_policy request = asked (option_map Policy request)
 unfoldable pub max_payload : ℕ
 max_payload = 16777216
 
+-- the greatest number of bytes that a length word counts: in a store any that a slice may have
+unfoldable pub longest : Origin → ℕ
+longest Connection = max_payload
+longest Store = 9223372036854775807
+
 -- a number of bytes that is too great is so whatever its digits are
 abbrev pub length_of : List ℕ → List ℕ → Bool → Option ℕ → LineAsk
 length_of cell top false length = ask.Form
 length_of cell top true (Some length) = ask.Submission cell top length
 length_of cell top true None = ask.Long
 
-abbrev pub submission_to : Option (List ℕ) → Option (List ℕ) → List ℕ → LineAsk
-submission_to None top length = ask.Form
-submission_to (Some cell) None length = ask.Form
-submission_to (Some cell) (Some top) length = length_of cell top (is_decimal length) (number_of 0 max_payload length)
+abbrev pub submission_to : Origin → Option (List ℕ) → Option (List ℕ) → List ℕ → LineAsk
+submission_to origin None top length = ask.Form
+submission_to origin (Some cell) None length = ask.Form
+submission_to origin (Some cell) (Some top) length = length_of cell top (is_decimal length) (number_of 0 (longest origin) length)
 
 -- to submit a cell with a structure, and how many bytes follow
-unfoldable pub submission_of : List ℕ → List ℕ → List ℕ → LineAsk
-submission_of cell top length = submission_to (name_of cell) (name_of top) length
+unfoldable pub submission_of : Origin → List ℕ → List ℕ → List ℕ → LineAsk
+submission_of origin cell top length = submission_to origin (name_of origin cell) (name_of origin top) length
 
 -- what a verb and three words ask
-unfoldable pub ask_of_three : List ℕ → List ℕ → List ℕ → List ℕ → LineAsk
-ask_of_three verb first second third =
-    if name_eq verb (codes "submit") then submission_of first second third else asked_policy (request_of_three verb first second third)
+unfoldable pub ask_of_three : Origin → List ℕ → List ℕ → List ℕ → List ℕ → LineAsk
+ask_of_three origin verb first second third =
+    if name_eq verb (codes "submit") then submission_of origin first second third else asked_policy (request_of_three origin verb first second third)
 
-abbrev pub ask_of_words : List (List ℕ) → LineAsk
-ask_of_words [] = ask.Form
-ask_of_words (verb ∷ []) = asked (bare_request verb)
-ask_of_words (verb ∷ a ∷ []) = asked_policy (request_of_one verb a)
-ask_of_words (verb ∷ a ∷ b ∷ []) = asked_policy (request_of_two verb a b)
-ask_of_words (verb ∷ a ∷ b ∷ c ∷ []) = ask_of_three verb a b c
-ask_of_words (verb ∷ a ∷ b ∷ c ∷ d ∷ more) = asked_policy (request_of_more verb a b (c ∷ d ∷ more))
+-- what the words of a line ask
+abbrev pub ask_by : Origin → List (List ℕ) → LineAsk
+ask_by origin [] = ask.Form
+ask_by origin (verb ∷ []) = asked (bare_request verb)
+ask_by origin (verb ∷ a ∷ []) = asked_policy (request_of_one origin verb a)
+ask_by origin (verb ∷ a ∷ b ∷ []) = asked_policy (request_of_two origin verb a b)
+ask_by origin (verb ∷ a ∷ b ∷ c ∷ []) = ask_of_three origin verb a b c
+ask_by origin (verb ∷ a ∷ b ∷ c ∷ d ∷ more) = asked_policy (request_of_more origin verb a b (c ∷ d ∷ more))
 
--- what a line asks
+-- what a line of a connection asks
 abbrev pub ask_of : List ℕ → LineAsk
-ask_of line = ask_of_words (words line)
+ask_of line = ask_by Connection (words line)

@@ -7,11 +7,14 @@
 mod device;
 mod digest;
 mod fault;
+mod form;
 mod line;
+mod operand;
 mod read;
 mod reply;
 mod request;
 mod serve;
+mod stored;
 mod words;
 mod write;
 
@@ -23,3 +26,4 @@ pub use read::{Asked, read_request};
 pub use reply::write_reply;
 pub use request::{LineAsk, MAX_PAYLOAD, parse_line};
 pub use serve::{End, serve_core, served_changes_are_kept_in_order};
+pub use stored::{read_stored, requests_are_stored_once, stored_line, stored_payload};

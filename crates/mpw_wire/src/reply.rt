@@ -97,7 +97,7 @@ fn write_accepted<W: Sink>(writer: &mut W, lines: &[Line]) -> Result<(), WireFau
 
 /// The word of an operation.
 #[tactic(auto, unfolding(crate::specs::Reply::operation_text))]
-fn operation_word(operation: &Operation) -> &str
+pub(crate) fn operation_word(operation: &Operation) -> &str
     ensures { result.now ≡ operation_text operation.now }
 {
     match operation {

@@ -1,6 +1,5 @@
 use Rattle.std.proofs.Common.{rules, sym, subst}
-use Rattle.mpw_wire.specs.Reply.{refused_text}
-use Rattle.mpw_wire.specs.Writing.{fault_of, WritesKnown}
+use Rattle.mpw_wire.specs.Writing.{WritesKnown}
 use Rattle.mpw_wire.proofs.ReplyLemmas.{refused_alone}
 use Rattle.mpw_wire.proofs.reply.write_code.Goals as goal
 

@@ -4,21 +4,21 @@ use Rattle.std.proofs.Math.ListN.{drop_of_length-le}
 use Rattle.mpw_wire.specs.Request.{names_of}
 use Rattle.mpw_wire.specs.Words.{words}
 use Rattle.mpw_wire.proofs.ReadingLemmas.{with_names, with_no_names, names_next, names_none}
-use Rattle.mpw_wire.proofs.request.names.Goals as goal
+use Rattle.mpw_wire.proofs.operand.names.Goals as goal
 
 pub loop-word-init : goal.loop-word-init
 unfolding words
 loop-word-init c =
     let items = c.deref-word-items.result.now in
     let words_are : map (λ word. word.now) items ≡ words c.args.text.now = ap (map (λ word. word.now)) c.deref-word-items.ensures.value ∙ c.in_ok-words.ensures in
-    ap (λ n. with_names n (names_of (map (λ word. word.now) items))) c.new-names.ensures ∙ with_no_names _ ∙ ap names_of words_are
+    ap (λ n. with_names n (names_of c.args.origin (map (λ word. word.now) items))) c.new-names.ensures ∙ with_no_names _ ∙ ap (names_of c.args.origin) words_are
 
 pub returns-in-None : goal.returns-in-None
 returns-in-None c =
     let items = c.deref-word-items.result.now in
     let ws = map (λ word. word.now) items in
     let within : c.loop-word.word-index < length ws = subst (λ n. c.loop-word.word-index < n) (sym (length-map items (λ word. word.now))) (search rules) in
-    let none = names_none c.loop-word.names ws c.loop-word.word-index _ within (get_or-map (λ word. word.now) items c.loop-word.word-index _ [] (search rules)) (sym c.in_ok-name.ensures ∙ c.in-None.is) in
+    let none = names_none c.args.origin c.loop-word.names ws c.loop-word.word-index _ within (get_or-map (λ word. word.now) items c.loop-word.word-index _ [] (search rules)) (sym c.in_ok-name.ensures ∙ c.in-None.is) in
     sym none ∙ c.loop-word.invariant
 
 pub loop-word-preserved : goal.loop-word-preserved
@@ -26,8 +26,8 @@ loop-word-preserved c =
     let items = c.deref-word-items.result.now in
     let ws = map (λ word. word.now) items in
     let within : c.loop-word.word-index < length ws = subst (λ n. c.loop-word.word-index < n) (sym (length-map items (λ word. word.now))) (search rules) in
-    let next = names_next c.loop-word.names ws c.loop-word.word-index _ c.in-Some.name within (get_or-map (λ word. word.now) items c.loop-word.word-index _ [] (search rules)) (sym c.in_ok-name.ensures ∙ c.in-Some.is) in
-    ap (λ n. with_names n (names_of (drop (c.loop-word.word-index + 1) ws))) c.in_ok-push-in-Some.ensures.ok ∙ next ∙ c.loop-word.invariant
+    let next = names_next c.args.origin c.loop-word.names ws c.loop-word.word-index _ c.in-Some.name within (get_or-map (λ word. word.now) items c.loop-word.word-index _ [] (search rules)) (sym c.in_ok-name.ensures ∙ c.in-Some.is) in
+    ap (λ n. with_names n (names_of c.args.origin (drop (c.loop-word.word-index + 1) ws))) c.in_ok-push-in-Some.ensures.ok ∙ next ∙ c.loop-word.invariant
 
 pub returns : goal.returns
 unfolding names_of
@@ -35,5 +35,5 @@ returns c =
     let items = c.deref-word-items.result.now in
     let ws = map (λ word. word.now) items in
     let past : length ws ≤ c.loop-word.word-index = subst (λ n. n ≤ c.loop-word.word-index) (sym (length-map items (λ word. word.now))) (search rules) in
-    let whole = ap (λ rest. with_names c.loop-word.names (names_of rest)) (drop_of_length-le ws past) ∙ ap (λ names. Some names) (append-nil c.loop-word.names) in
+    let whole = ap (λ rest. with_names c.loop-word.names (names_of c.args.origin rest)) (drop_of_length-le ws past) ∙ ap (λ names. Some names) (append-nil c.loop-word.names) in
     sym whole ∙ c.loop-word.invariant

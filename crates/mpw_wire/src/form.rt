@@ -1,0 +1,141 @@
+//! The forms of requests: a verb, and how many words stand behind it.
+ghost use Rattle.std.specs.Prelude.{◌≡◌, IfOk};
+ghost use Rattle.mpw_wire.specs.Request.{bare_request, request_of_one, request_of_two, request_of_three, request_of_more};
+ghost use Rattle.mpw_wire.specs.Words.{words};
+
+use crate::operand::{Origin, grant, is, login, name, pair, set};
+use mpw_core::{LayoutRequest, PolicyRequest, Request};
+use std::alloc::{AllocError, Global};
+
+/// The requests of a verb alone.
+#[tactic(auto, unfolding(crate::specs::Request::bare_request))]
+pub(crate) fn bare(verb: &[u8]) -> Option<Request>
+    ensures { result ≡ bare_request verb.now }
+{
+    if is(verb, "close") {
+        Some(Request::Policy(PolicyRequest::Close))
+    } else if is(verb, "whoami") {
+        Some(Request::Whoami)
+    } else if is(verb, "cells") {
+        Some(Request::Layout(LayoutRequest::Cells))
+    } else {
+        None
+    }
+}
+
+/// The requests of the policy of a verb and one name.
+#[tactic(auto, unfolding(crate::specs::Request::request_of_one))]
+pub(crate) fn of_one(
+    alloc: Global,
+    origin: Origin,
+    verb: &[u8],
+    word: &[u8],
+) -> Result<Option<PolicyRequest>, AllocError>
+    ensures { IfOk result (λ request. request ≡ request_of_one origin verb.now word.now) }
+{
+    if is(verb, "activate") {
+        Ok(name(alloc, origin, word)?.map(|role| PolicyRequest::Activate { role }))
+    } else if is(verb, "drop") {
+        Ok(name(alloc, origin, word)?.map(|role| PolicyRequest::DropRole { role }))
+    } else if is(verb, "deluser") {
+        Ok(name(alloc, origin, word)?.map(|user| PolicyRequest::DelUser { user }))
+    } else if is(verb, "addrole") {
+        Ok(name(alloc, origin, word)?.map(|role| PolicyRequest::AddRole { role }))
+    } else if is(verb, "delrole") {
+        Ok(name(alloc, origin, word)?.map(|role| PolicyRequest::DelRole { role }))
+    } else if is(verb, "unssd") {
+        Ok(name(alloc, origin, word)?.map(|name| PolicyRequest::UnSsd { name }))
+    } else if is(verb, "undsd") {
+        Ok(name(alloc, origin, word)?.map(|name| PolicyRequest::UnDsd { name }))
+    } else {
+        Ok(None)
+    }
+}
+
+/// The requests of a verb and two words.
+#[tactic(auto, unfolding(crate::specs::Request::request_of_two))]
+pub(crate) fn of_two(
+    alloc: Global,
+    origin: Origin,
+    verb: &[u8],
+    first: &[u8],
+    second: &[u8],
+) -> Result<Option<PolicyRequest>, AllocError>
+    ensures { IfOk result (λ request. request ≡ request_of_two origin verb.now first.now second.now) }
+{
+    if is(verb, "open") {
+        Ok(login(alloc, origin, first, second)?.map(|(user, digest)| PolicyRequest::Open {
+            user,
+            digest,
+        }))
+    } else if is(verb, "adduser") {
+        Ok(login(alloc, origin, first, second)?.map(|(user, digest)| PolicyRequest::AddUser {
+            user,
+            digest,
+        }))
+    } else if is(verb, "assign") {
+        Ok(pair(alloc, origin, first, second)?.map(|(user, role)| PolicyRequest::Assign {
+            user,
+            role,
+        }))
+    } else if is(verb, "deassign") {
+        Ok(pair(alloc, origin, first, second)?.map(|(user, role)| PolicyRequest::Deassign {
+            user,
+            role,
+        }))
+    } else if is(verb, "inherit") {
+        Ok(pair(alloc, origin, first, second)?.map(|(senior, junior)| PolicyRequest::Inherit {
+            senior,
+            junior,
+        }))
+    } else if is(verb, "uninherit") {
+        Ok(pair(alloc, origin, first, second)?.map(|(senior, junior)| PolicyRequest::Uninherit {
+            senior,
+            junior,
+        }))
+    } else {
+        Ok(None)
+    }
+}
+
+/// The requests of a verb and three words.
+#[tactic(auto, unfolding(crate::specs::Request::request_of_three))]
+pub(crate) fn of_three(
+    alloc: Global,
+    origin: Origin,
+    verb: &[u8],
+    first: &[u8],
+    second: &[u8],
+    third: &[u8],
+) -> Result<Option<PolicyRequest>, AllocError>
+    ensures { IfOk result (λ request. request ≡ request_of_three origin verb.now first.now second.now third.now) }
+{
+    if is(verb, "grant") {
+        Ok(grant(alloc, origin, first, second, third)?.map(|grant| PolicyRequest::Grant { grant }))
+    } else if is(verb, "revoke") {
+        Ok(grant(alloc, origin, first, second, third)?.map(|grant| PolicyRequest::Revoke { grant }))
+    } else {
+        Ok(None)
+    }
+}
+
+/// The requests of a verb, a set's name and cardinality, and two roles or more.
+#[tactic(auto, unfolding(crate::specs::Request::request_of_more))]
+pub(crate) fn of_more(
+    alloc: Global,
+    origin: Origin,
+    verb: &[u8],
+    name: &[u8],
+    cardinality: &[u8],
+    roles: &[u8],
+) -> Result<Option<PolicyRequest>, AllocError>
+    ensures { IfOk result (λ request. request ≡ request_of_more origin verb.now name.now cardinality.now (words roles.now)) }
+{
+    if is(verb, "ssd") {
+        Ok(set(alloc, origin, name, cardinality, roles)?.map(|set| PolicyRequest::Ssd { set }))
+    } else if is(verb, "dsd") {
+        Ok(set(alloc, origin, name, cardinality, roles)?.map(|set| PolicyRequest::Dsd { set }))
+    } else {
+        Ok(None)
+    }
+}

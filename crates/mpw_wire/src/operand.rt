@@ -1,0 +1,265 @@
+//! The parts of requests: names, digests, grants and sets of roles, off the words of a line.
+//!
+//! A line stands on a connection or in a store, and both have the same forms. What differs is how a word is read: a
+//! connection has a token where a store has the digits of its digest.
+ghost use Rattle.std.specs.Prelude.{◌≡◌, IfOk};
+ghost use Rattle.mpw_geom.specs.Names.{name_eq};
+ghost use Rattle.mpw_wire.specs.Request.{visible_of, name_of, token_of, digest_of, operation_of, is_on_cells, object_by, object_of, grant_of, login_of, pair_of, names_of, set_of};
+ghost use Rattle.mpw_wire.specs.Words.{words};
+
+use crate::digest::digest_of;
+use hex::FromHex;
+use mpw_geom::{Name, NameFault, Names, is_name};
+use mpw_rbac::{Digest, Grant, Object, Operation};
+use mpw_separation::SeparationSet;
+use mpw_text::{parts, read_count};
+use std::alloc::{AllocError, Global};
+
+/// Where a line stands.
+#[derive(Clone, Copy, Debug, PartialEq, Eq)]
+pub(crate) enum Origin {
+    /// On a connection.
+    Connection,
+    /// In a store.
+    Store,
+}
+
+/// Whether a word is this text.
+pub(crate) fn is(word: &[u8], text: &str) -> bool
+    ensures { result ≡ name_eq word.now text.now }
+{
+    word == text.as_bytes()
+}
+
+/// The name of these bytes.
+#[tactic(auto, using(crate::proofs::WordLemmas::read_word, crate::proofs::WordLemmas::refused_word), unfolding(crate::specs::Request::visible_of))]
+fn visible(alloc: Global, word: &[u8]) -> Result<Option<Name>, AllocError>
+    ensures { IfOk result (λ name. name ≡ visible_of word.now) }
+{
+    match Name::read(alloc, word) {
+        Ok(name) => Ok(Some(name)),
+        Err(NameFault::BadName) => Ok(None),
+        Err(NameFault::Memory) => Err(AllocError),
+    }
+}
+
+/// The name that a word is. On a connection `-` is none.
+#[tactic(auto, unfolding(crate::specs::Request::name_of))]
+pub(crate) fn name(alloc: Global, origin: Origin, word: &[u8]) -> Result<Option<Name>, AllocError>
+    ensures { IfOk result (λ name. name ≡ name_of origin word.now) }
+{
+    match origin {
+        Origin::Connection => {
+            if is(word, "-") {
+                return Ok(None);
+            }
+            visible(alloc, word)
+        }
+        Origin::Store => visible(alloc, word),
+    }
+}
+
+/// The digest of the token that a word is.
+#[tactic(auto, using(crate::proofs::WordLemmas::read_word, crate::proofs::WordLemmas::refused_word), unfolding(crate::specs::Request::token_of))]
+fn token(word: &[u8]) -> Option<Digest>
+    ensures { result ≡ token_of word.now }
+{
+    if is_name(word) {
+        Some(digest_of(word))
+    } else {
+        None
+    }
+}
+
+/// The digest that a word gives: that of a token, or the one that the digits spell.
+#[tactic(auto, unfolding(crate::specs::Request::digest_of))]
+fn digest(origin: Origin, word: &[u8]) -> Option<Digest>
+    ensures { result ≡ digest_of origin word.now }
+{
+    match origin {
+        Origin::Connection => token(word),
+        Origin::Store => <[u8; 32] as FromHex>::from_hex(word).ok(),
+    }
+}
+
+/// The operation that a word names.
+#[tactic(auto, unfolding(crate::specs::Request::operation_of))]
+fn operation(word: &[u8]) -> Option<Operation>
+    ensures { result ≡ operation_of word.now }
+{
+    if is(word, "submit") {
+        Some(Operation::Submit)
+    } else if is(word, "use") {
+        Some(Operation::Use)
+    } else if is(word, "read") {
+        Some(Operation::Read)
+    } else if is(word, "place") {
+        Some(Operation::Place)
+    } else if is(word, "admin") {
+        Some(Operation::Admin)
+    } else if is(word, "deck") {
+        Some(Operation::Deck)
+    } else if is(word, "run") {
+        Some(Operation::Run)
+    } else if is(word, "waive") {
+        Some(Operation::Waive)
+    } else if is(word, "sign") {
+        Some(Operation::Sign)
+    } else if is(word, "verdict") {
+        Some(Operation::Verdict)
+    } else if is(word, "audit") {
+        Some(Operation::Audit)
+    } else {
+        None
+    }
+}
+
+/// Whether the operation is on cells. The others are on the desk.
+#[tactic(auto, unfolding(crate::specs::Request::is_on_cells))]
+pub(crate) fn is_on_cells(operation: Operation) -> bool
+    ensures { result ≡ is_on_cells operation }
+{
+    match operation {
+        Operation::Submit | Operation::Use | Operation::Read | Operation::Place => true,
+        _ => false,
+    }
+}
+
+/// The cell of a name, or the desk, as a word tells it.
+#[tactic(auto, unfolding(crate::specs::Request::object_by))]
+fn object_by(
+    alloc: Global,
+    origin: Origin,
+    on_cells: bool,
+    word: &[u8],
+) -> Result<Option<Object>, AllocError>
+    ensures { IfOk result (λ object. object ≡ object_by origin on_cells word.now) }
+{
+    if on_cells {
+        return Ok(name(alloc, origin, word)?.map(Object::Cell));
+    }
+    if is(word, "desk") {
+        return Ok(Some(Object::Desk));
+    }
+    Ok(None)
+}
+
+/// The object of an operation that a word is. In a store a tab before the word tells an object of the other kind.
+#[tactic(auto, unfolding(crate::specs::Request::object_of))]
+fn object(
+    alloc: Global,
+    origin: Origin,
+    operation: Operation,
+    word: &[u8],
+) -> Result<Option<Object>, AllocError>
+    ensures { IfOk result (λ object. object ≡ object_of origin operation word.now) }
+{
+    let on_cells = is_on_cells(operation);
+    match (origin, word) {
+        (Origin::Store, [b'\t', rest @ ..]) => object_by(alloc, origin, !on_cells, rest),
+        _ => object_by(alloc, origin, on_cells, word),
+    }
+}
+
+/// The grant that three words name.
+#[tactic(auto, unfolding(crate::specs::Request::grant_of))]
+pub(crate) fn grant(
+    alloc: Global,
+    origin: Origin,
+    operation_word: &[u8],
+    object_word: &[u8],
+    role_word: &[u8],
+) -> Result<Option<Grant>, AllocError>
+    ensures { IfOk result (λ grant. grant ≡ grant_of origin operation_word.now object_word.now role_word.now) }
+{
+    let Some(operation) = operation(operation_word) else {
+        return Ok(None);
+    };
+    let Some(object) = object(alloc, origin, operation, object_word)? else {
+        return Ok(None);
+    };
+    let Some(role) = name(alloc, origin, role_word)? else {
+        return Ok(None);
+    };
+    Ok(Some(Grant {
+        operation,
+        object,
+        role,
+    }))
+}
+
+/// The user and the digest that two words give.
+#[tactic(auto, unfolding(crate::specs::Request::login_of))]
+pub(crate) fn login(
+    alloc: Global,
+    origin: Origin,
+    user_word: &[u8],
+    digest_word: &[u8],
+) -> Result<Option<(Name, Digest)>, AllocError>
+    ensures { IfOk result (λ login. login ≡ login_of origin user_word.now digest_word.now) }
+{
+    let Some(user) = name(alloc, origin, user_word)? else {
+        return Ok(None);
+    };
+    let Some(digest) = digest(origin, digest_word) else {
+        return Ok(None);
+    };
+    Ok(Some((user, digest)))
+}
+
+/// The two names that two words are.
+#[tactic(auto, unfolding(crate::specs::Request::pair_of))]
+pub(crate) fn pair(
+    alloc: Global,
+    origin: Origin,
+    first: &[u8],
+    second: &[u8],
+) -> Result<Option<(Name, Name)>, AllocError>
+    ensures { IfOk result (λ pair. pair ≡ pair_of origin first.now second.now) }
+{
+    let Some(first) = name(alloc, origin, first)? else {
+        return Ok(None);
+    };
+    let Some(second) = name(alloc, origin, second)? else {
+        return Ok(None);
+    };
+    Ok(Some((first, second)))
+}
+
+/// The names that the words of a text are.
+fn names(alloc: Global, origin: Origin, text: &[u8]) -> Result<Option<Names>, AllocError>
+    ensures { IfOk result (λ names. names ≡ names_of origin (words text.now)) }
+{
+    let words = parts(alloc, text, b' ')?;
+    let mut names = Names::new(alloc);
+    for word in &words {
+        match name(alloc, origin, word)? {
+            Some(name) => names.push(name)?,
+            None => return Ok(None),
+        }
+    }
+    Ok(Some(names))
+}
+
+/// The set of roles that a name, a cardinality and the words of a text give.
+#[tactic(auto, unfolding(crate::specs::Request::set_of))]
+pub(crate) fn set(
+    alloc: Global,
+    origin: Origin,
+    name_word: &[u8],
+    cardinality_word: &[u8],
+    roles_text: &[u8],
+) -> Result<Option<SeparationSet>, AllocError>
+    ensures { IfOk result (λ set. set ≡ set_of origin name_word.now cardinality_word.now (words roles_text.now)) }
+{
+    let Some(name) = name(alloc, origin, name_word)? else {
+        return Ok(None);
+    };
+    let Some(roles) = names(alloc, origin, roles_text)? else {
+        return Ok(None);
+    };
+    let Some(cardinality) = read_count(cardinality_word, 0, roles.as_slice().len()) else {
+        return Ok(None);
+    };
+    SeparationSet::new(name, cardinality, roles)
+}
