@@ -2,6 +2,7 @@ pub mod AccessLemmas
 pub mod ActiveLemmas
 pub mod ApartLemmas
 pub mod DenialLemmas
+pub mod GrantedLemmas
 pub mod HolderLemmas
 pub mod KeepLemmas
 pub mod LawLemmas

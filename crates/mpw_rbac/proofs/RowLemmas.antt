@@ -129,6 +129,34 @@ inherited-pair h senior junior after e =
     let d : Bool × RolesFault = (not (at_least h junior senior), faults.Cycle) in
     ((parts (is_role h senior) (is_role h junior) (first-pass a (b ∷ d ∷ []) (with_pair h senior junior) after e)).0, sym (left-value (a ∷ b ∷ d ∷ []) (with_pair h senior junior) after e))
 
+inherited-tests : (h : Hierarchy) (senior junior : Name) (after : Hierarchy) → roles.inherit h senior junior ≡ Ok after
+    → ((is_role h senior && is_role h junior) ≡ true) × (not (is_immediate h senior junior) ≡ true) × (not (at_least h junior senior) ≡ true)
+inherited-tests h senior junior after e = by (is_role h senior && is_role h junior) (not (is_immediate h senior junior)) (not (at_least h junior senior)) e
+  where
+    by : (x y z : Bool) → decided ((x, faults.NoRole) ∷ (y, faults.Known) ∷ (z, faults.Cycle) ∷ []) (with_pair h senior junior) ≡ Ok after → (x ≡ true) × (y ≡ true) × (z ≡ true)
+    by true true true f = (refl, refl, refl)
+    by true true false f = cc
+    by true false z f = cc
+    by false y z f = cc
+
+-- a pair that would break a set
+module _ (p : Policy) (conn : ℕ) (ok : rows.administered p conn ≡ Ok p) (senior junior name : Name) (after : Hierarchy) (made : roles.inherit p.roles senior junior ≡ Ok after) where
+  pub inherit-static : least_broken after p.ssd (assigned_lists p.users) ≡ Some name → rows.inherit p conn senior junior ≡ Err (Ssd name)
+  inherit-static broken =
+      let f = administered-facts p conn ok in
+      let t = inherited-tests p.roles senior junior after made in
+      let some : least_broken (with_pair p.roles senior junior) p.ssd (assigned_lists p.users) ≡ Some name = ap (λ h. least_broken h p.ssd (assigned_lists p.users)) (sym (inherited-pair p.roles senior junior after made).1) ∙ broken in
+      rw (f.0, f.1, t.0, t.1, t.2, some)
+
+  pub inherit-dynamic : least_broken after p.ssd (assigned_lists p.users) ≡ None → least_broken after p.dsd (active_lists p.sessions) ≡ Some name → rows.inherit p conn senior junior ≡ Err (Dsd name)
+  inherit-dynamic kept broken =
+      let f = administered-facts p conn ok in
+      let t = inherited-tests p.roles senior junior after made in
+      let pair = inherited-pair p.roles senior junior after made in
+      let none : least_broken (with_pair p.roles senior junior) p.ssd (assigned_lists p.users) ≡ None = ap (λ h. least_broken h p.ssd (assigned_lists p.users)) (sym pair.1) ∙ kept in
+      let some : least_broken (with_pair p.roles senior junior) p.dsd (active_lists p.sessions) ≡ Some name = ap (λ h. least_broken h p.dsd (active_lists p.sessions)) (sym pair.1) ∙ broken in
+      rw (f.0, f.1, t.0, t.1, t.2, none, some)
+
 pub uninherited-pair : (h : Hierarchy) (senior junior : Name) (after : Hierarchy) → roles.uninherit h senior junior ≡ Ok after → (is_immediate h senior junior ≡ true) × (after ≡ without_pair h senior junior)
 uninherited-pair h senior junior after e =
     let a : Bool × RolesFault = (is_immediate h senior junior, faults.NoPair) in

@@ -1,5 +1,5 @@
 -- A sound policy has nothing to trim.
-use Rattle.std.proofs.Common.{◌≡◌, ◌∙◌, ℕ, Bool, true, cond, ◌&&◌, List, [], ◌∷◌, map, filter, refl, ap}
+use Rattle.std.proofs.Common.{◌≡◌, ◌∙◌, ℕ, Bool, true, cond, List, [], ◌∷◌, map, filter, refl, ap}
 use Rattle.std.specs.List.{list_all}
 use Rattle.mpw_geom.specs.Names.{contains_name}
 use Rattle.mpw_rbac.specs.Policy.{Policy, authorized, is_user, kept_roles, kept_sessions, trim}

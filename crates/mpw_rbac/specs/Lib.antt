@@ -1,6 +1,7 @@
 pub mod Access
 pub mod Fault
 pub mod Grant
+pub mod Holders
 pub mod Laws
 pub mod Policy
 pub mod Rows

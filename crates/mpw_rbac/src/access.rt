@@ -1,27 +1,30 @@
 //! Which objects a session has access to by one operation: its acting roles are found once, for many objects.
-ghost use Rattle.std.specs.Prelude.{◌≡◌};
+ghost use Rattle.std.specs.Prelude.{◌≡◌, ℕ, List};
 ghost use Rattle.std.specs.List.{list_any};
+ghost use Rattle.mpw_roles.specs.Mask.{has};
 ghost use Rattle.mpw_roles.specs.Order.{roles_below};
+ghost use Rattle.mpw_roles.specs.Places.{is_place_below};
 ghost use Rattle.mpw_rbac.specs.Policy.{is_granted_to, permits};
 ghost use Rattle.mpw_rbac.specs.Rows.{active_roles};
 
-use crate::{Grant, Object, Operation, Policy};
-use mpw_roles::Below;
+use crate::{Object, Operation, Policy};
+use mpw_roles::Mask;
 use std::marker::Model;
 
-/// The access of a connection's session by one operation, of one policy. Making it takes no memory and finds the acting
-/// roles; each object asked about then costs no search of the hierarchy.
+/// The access of a connection's session by one operation, of one policy. Making it takes no memory and costs a look-up for
+/// each active role; each object asked about then costs one look-up.
 #[derive(Drop)]
 pub struct Access<'a> {
     policy: &'a Policy,
     conn: u32,
     operation: Operation,
-    acting: Below<'a>,
+    acting: Mask,
 }
 
 impl<'a> Model for Access<'a> {
-    ghost use Rattle.std.specs.Prelude.{◌≡◌};
-    ghost use Rattle.mpw_roles.specs.Order.{roles_below};
+    ghost use Rattle.std.specs.Prelude.{◌≡◌, ℕ};
+    ghost use Rattle.mpw_roles.specs.Mask.{has};
+    ghost use Rattle.mpw_roles.specs.Places.{is_place_below};
     ghost use Rattle.mpw_rbac.specs.Access.{Access as AccessState};
     ghost use Rattle.mpw_rbac.specs.Rows.{active_roles};
 
@@ -29,7 +32,7 @@ impl<'a> Model for Access<'a> {
 
     ghost view = { λ a. record { policy = a.policy.now; conn = a.conn; operation = a.operation } };
 
-    ghost invariant = { λ a. a.acting ≡ roles_below a.policy.now.roles (active_roles a.policy.now a.conn) };
+    ghost invariant = { λ a. (place : ℕ) → has a.acting place ≡ is_place_below a.policy.now.roles (active_roles a.policy.now a.conn) place };
 }
 
 impl Access<'_> {
@@ -56,28 +59,23 @@ impl Policy {
         }
     }
 
-    /// The roles that act in the connection's session; none where it has no session.
-    fn acting(&self, conn: u32) -> Below<'_>
-        ensures { result ≡ roles_below self.now.roles (active_roles self.now conn) }
+    /// The places of the roles that act in the connection's session; none where it has no session.
+    fn acting(&self, conn: u32) -> Mask
+        ensures { (place : ℕ) → has result place ≡ is_place_below self.now.roles (active_roles self.now conn) place }
     {
         match self.session(conn) {
-            Some(session) => self.roles.below(session.active.as_slice()),
-            None => self.roles.below(&[]),
+            Some(session) => self
+                .permissions
+                .roles()
+                .mask_below(session.active.as_slice()),
+            None => self.permissions.roles().mask_below(&[]),
         }
     }
 
-    /// Whether the operation on the object was granted to one of the roles.
-    pub(crate) fn is_granted_to(&self, roles: &Below, operation: Operation, object: &Object) -> bool
-        ensures { result ≡ list_any (is_granted_to roles.now operation object.now) self.now.granted }
+    /// Whether the operation on the object was granted to one of the roles of a mask.
+    fn is_granted_to(&self, roles: &Mask, operation: Operation, object: &Object) -> bool
+        ensures { (seniors : List (List ℕ)) → ((place : ℕ) → has roles.now place ≡ is_place_below self.now.roles seniors place) → result ≡ list_any (is_granted_to (roles_below self.now.roles seniors) operation object.now) self.now.granted }
     {
-        self.granted.table().iter().any(
-            |grant: &Grant| -> bool
-                ensures { result ≡ is_granted_to roles.entry.now operation object.entry.now grant.now }
-            {
-                operation == grant.operation
-                    && *object == grant.object
-                    && roles.contains(&grant.role)
-            },
-        )
+        self.permissions.is_granted_to(roles, operation, object)
     }
 }

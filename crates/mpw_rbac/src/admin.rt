@@ -53,7 +53,7 @@ impl Policy {
             return Err(PolicyFault::Refused(Refusal::Unknown));
         }
         let users = self.users.without(user)?;
-        trim(users.table(), &self.roles, &mut self.sessions);
+        trim(users.table(), self.permissions.roles(), &mut self.sessions);
         self.users = users;
         Ok(())
     }
@@ -68,8 +68,8 @@ impl Policy {
         ensures err { OnErr result (self.new ≡ self.old) }
     {
         self.administers(conn)?;
-        let roles = with_role(&self.roles, role)?;
-        self.roles = roles;
+        let permissions = with_role(&self.permissions, role)?;
+        self.permissions = permissions;
         Ok(())
     }
 
@@ -90,13 +90,11 @@ impl Policy {
         if self.is_used(role) {
             return Err(PolicyFault::Refused(Refusal::Used));
         }
-        let roles = without_role(&self.roles, role)?;
+        let permissions = without_role(&self.permissions, role)?;
         let users = self.users.unassigned(role)?;
-        let granted = self.granted.ungranted(role)?;
-        trim(users.table(), &roles, &mut self.sessions);
+        trim(users.table(), permissions.roles(), &mut self.sessions);
         self.users = users;
-        self.roles = roles;
-        self.granted = granted;
+        self.permissions = permissions;
         Ok(())
     }
 
@@ -142,7 +140,7 @@ impl Policy {
         }
         let assigned = self.assigned_without(user, role)?;
         let users = self.users.with(user.copy()?, assigned)?;
-        trim(users.table(), &self.roles, &mut self.sessions);
+        trim(users.table(), self.permissions.roles(), &mut self.sessions);
         self.users = users;
         Ok(())
     }
@@ -178,7 +176,8 @@ impl Policy {
     fn broken_by_assigned(&self, assigned: &[Name]) -> Option<&Name>
         ensures { option_copied result ≡ least_broken self.now.roles self.now.ssd (assigned.now ∷ []) }
     {
-        self.sets.first_broken(Kind::Static, &self.roles, assigned)
+        self.sets
+            .first_broken(Kind::Static, self.permissions.roles(), assigned)
     }
 
     /// Whether the role is one of a separation set.
@@ -208,8 +207,8 @@ impl Policy {
         if !self.has_room_for_grant() {
             return Err(PolicyFault::Refused(Refusal::Full));
         }
-        let granted = self.granted.with(grant)?;
-        self.granted = granted;
+        let permissions = self.permissions.with(grant)?;
+        self.permissions = permissions;
         Ok(())
     }
 
@@ -226,8 +225,8 @@ impl Policy {
         if !self.has_grant(grant) {
             return Err(PolicyFault::Refused(Refusal::Unknown));
         }
-        let granted = self.granted.without(grant)?;
-        self.granted = granted;
+        let permissions = self.permissions.without(grant)?;
+        self.permissions = permissions;
         Ok(())
     }
 }

@@ -5,58 +5,69 @@ ghost use Rattle.mpw_separation.specs.Separation.{least_broken};
 ghost use Rattle.mpw_roles.specs.Rows as hierarchy;
 ghost use Rattle.mpw_rbac.specs.Fault.{IsHierarchyFault};
 ghost use Rattle.mpw_rbac.specs.Policy.{assigned_lists, active_lists};
-ghost use Rattle.mpw_rbac.specs.Rows.{IsFaultOf};
+ghost use Rattle.mpw_rbac.specs.Rows.{IsFaultOf, ungranted};
 ghost use Rattle.mpw_rbac.specs.Rows as rows;
 
+use crate::permissions::Permissions;
 use crate::separation::{least_dynamic, least_static};
 use crate::trim::trim;
 use crate::{Policy, PolicyFault, Refusal};
 use mpw_geom::Name;
 use mpw_roles::Roles;
-use std::sync::Arc;
 
-/// The roles with one more.
-pub(crate) fn with_role(roles: &Roles, role: Name) -> Result<Arc<Roles>, PolicyFault>
-    ensures ok { IfOk result (λ next. hierarchy.add roles.now role ≡ Ok next.value) }
-    ensures refused { IfErr result (IsHierarchyFault (hierarchy.add roles.now role)) }
+/// With one more role.
+pub(crate) fn with_role(permissions: &Permissions, role: Name) -> Result<Permissions, PolicyFault>
+    ensures ok { IfOk result (λ next. hierarchy.add permissions.now.roles role ≡ Ok next.roles) }
+    ensures same { IfOk result (λ next. next.granted ≡ permissions.now.granted) }
+    ensures refused { IfErr result (IsHierarchyFault (hierarchy.add permissions.now.roles role)) }
 {
-    let mut next = roles.copy()?;
-    next.add(role)?;
-    let alloc = next.allocator();
-    Ok(Arc::new(alloc, next)?)
+    let mut roles = permissions.roles().copy()?;
+    roles.add(role)?;
+    Ok(permissions.with_roles(roles)?)
 }
 
-/// The roles but one.
-pub(crate) fn without_role(roles: &Roles, role: &Name) -> Result<Arc<Roles>, PolicyFault>
-    ensures ok { IfOk result (λ next. hierarchy.remove roles.now role.now ≡ Ok next.value) }
-    ensures refused { IfErr result (IsHierarchyFault (hierarchy.remove roles.now role.now)) }
+/// Without a role, and the grants to it.
+pub(crate) fn without_role(
+    permissions: &Permissions,
+    role: &Name,
+) -> Result<Permissions, PolicyFault>
+    ensures ok { IfOk result (λ next. hierarchy.remove permissions.now.roles role.now ≡ Ok next.roles) }
+    ensures ungranted { IfOk result (λ next. next.granted ≡ ungranted permissions.now.granted role.now) }
+    ensures refused { IfErr result (IsHierarchyFault (hierarchy.remove permissions.now.roles role.now)) }
 {
-    let mut next = roles.copy()?;
-    next.remove(role)?;
-    let alloc = next.allocator();
-    Ok(Arc::new(alloc, next)?)
+    let mut roles = permissions.roles().copy()?;
+    roles.remove(role)?;
+    Ok(permissions.without_role(roles, role)?)
 }
 
-/// The roles with a pair more.
-fn with_pair(roles: &Roles, senior: &Name, junior: &Name) -> Result<Arc<Roles>, PolicyFault>
-    ensures ok { IfOk result (λ next. hierarchy.inherit roles.now senior.now junior.now ≡ Ok next.value) }
-    ensures refused { IfErr result (IsHierarchyFault (hierarchy.inherit roles.now senior.now junior.now)) }
+/// With a pair more.
+fn with_pair(
+    permissions: &Permissions,
+    senior: &Name,
+    junior: &Name,
+) -> Result<Permissions, PolicyFault>
+    ensures ok { IfOk result (λ next. hierarchy.inherit permissions.now.roles senior.now junior.now ≡ Ok next.roles) }
+    ensures same { IfOk result (λ next. next.granted ≡ permissions.now.granted) }
+    ensures refused { IfErr result (IsHierarchyFault (hierarchy.inherit permissions.now.roles senior.now junior.now)) }
 {
-    let mut next = roles.copy()?;
-    next.inherit(senior, junior)?;
-    let alloc = next.allocator();
-    Ok(Arc::new(alloc, next)?)
+    let mut roles = permissions.roles().copy()?;
+    roles.inherit(senior, junior)?;
+    Ok(permissions.with_roles(roles)?)
 }
 
-/// The roles with a pair less.
-fn without_pair(roles: &Roles, senior: &Name, junior: &Name) -> Result<Arc<Roles>, PolicyFault>
-    ensures ok { IfOk result (λ next. hierarchy.uninherit roles.now senior.now junior.now ≡ Ok next.value) }
-    ensures refused { IfErr result (IsHierarchyFault (hierarchy.uninherit roles.now senior.now junior.now)) }
+/// With a pair less.
+fn without_pair(
+    permissions: &Permissions,
+    senior: &Name,
+    junior: &Name,
+) -> Result<Permissions, PolicyFault>
+    ensures ok { IfOk result (λ next. hierarchy.uninherit permissions.now.roles senior.now junior.now ≡ Ok next.roles) }
+    ensures same { IfOk result (λ next. next.granted ≡ permissions.now.granted) }
+    ensures refused { IfErr result (IsHierarchyFault (hierarchy.uninherit permissions.now.roles senior.now junior.now)) }
 {
-    let mut next = roles.copy()?;
-    next.uninherit(senior, junior)?;
-    let alloc = next.allocator();
-    Ok(Arc::new(alloc, next)?)
+    let mut roles = permissions.roles().copy()?;
+    roles.uninherit(senior, junior)?;
+    Ok(permissions.with_roles(roles)?)
 }
 
 impl Policy {
@@ -71,14 +82,14 @@ impl Policy {
         ensures err { OnErr result (self.new ≡ self.old) }
     {
         self.administers(conn)?;
-        let next = with_pair(&self.roles, senior, junior)?;
-        if let Some(name) = self.broken_static(&next) {
+        let next = with_pair(&self.permissions, senior, junior)?;
+        if let Some(name) = self.broken_static(next.roles()) {
             return Err(PolicyFault::Refused(Refusal::Ssd(name.copy()?)));
         }
-        if let Some(name) = self.broken_dynamic(&next) {
+        if let Some(name) = self.broken_dynamic(next.roles()) {
             return Err(PolicyFault::Refused(Refusal::Dsd(name.copy()?)));
         }
-        self.roles = next;
+        self.permissions = next;
         Ok(())
     }
 
@@ -93,9 +104,9 @@ impl Policy {
         ensures err { OnErr result (self.new ≡ self.old) }
     {
         self.administers(conn)?;
-        let roles = without_pair(&self.roles, senior, junior)?;
-        trim(self.users.table(), &roles, &mut self.sessions);
-        self.roles = roles;
+        let permissions = without_pair(&self.permissions, senior, junior)?;
+        trim(self.users.table(), permissions.roles(), &mut self.sessions);
+        self.permissions = permissions;
         Ok(())
     }
 

@@ -7,10 +7,11 @@
 
 mod access;
 mod admin;
-mod grants;
 mod hierarchy;
+mod holders;
 mod laws;
 mod permission;
+mod permissions;
 mod policy;
 mod refusal;
 mod separation;

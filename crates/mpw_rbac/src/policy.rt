@@ -11,7 +11,7 @@ ghost use Rattle.mpw_rbac.specs.Rows.{IsFaultOf, administered, user_of};
 ghost use Rattle.mpw_rbac.specs.Rows as rows;
 ghost use Rattle.mpw_rbac.specs.Table.{value_at};
 
-use crate::grants::Grants;
+use crate::permissions::Permissions;
 use crate::users::Users;
 use crate::{Digest, Grant, Identity, Object, Operation, PolicyFault, Refusal, Session, User};
 use indexmap::{IndexMap, IndexSet};
@@ -20,7 +20,6 @@ use mpw_roles::Roles;
 use mpw_separation::Sets;
 use std::alloc::{AllocError, Global};
 use std::marker::Model;
-use std::sync::Arc;
 
 /// The greatest number of users.
 pub const MAX_USERS: usize = 512;
@@ -32,8 +31,7 @@ pub const MAX_GRANTS: usize = 4096;
 #[derive(Drop)]
 pub struct Policy {
     pub(crate) users: Users,
-    pub(crate) roles: Arc<Roles>,
-    pub(crate) granted: Grants,
+    pub(crate) permissions: Permissions,
     pub(crate) sets: Sets,
     pub(crate) sessions: IndexMap<u32, Session>,
 }
@@ -44,9 +42,9 @@ impl Model for Policy {
 
     ghost Value = { PolicyState };
 
-    ghost view = { λ p. policy_of p.users p.roles.value p.granted p.sets p.sessions.entries };
+    ghost view = { λ p. policy_of p.users p.permissions.roles p.permissions.granted p.sets p.sessions.entries };
 
-    ghost invariant = { λ p. Sound (policy_of p.users p.roles.value p.granted p.sets p.sessions.entries) };
+    ghost invariant = { λ p. Sound (policy_of p.users p.permissions.roles p.permissions.granted p.sets p.sessions.entries) };
 }
 
 impl Policy {
@@ -75,7 +73,7 @@ impl Policy {
     pub(crate) fn is_role(&self, role: &Name) -> bool
         ensures { result ≡ is_role self.now.roles role.now }
     {
-        self.roles.contains(role)
+        self.permissions.roles().contains(role)
     }
 
     /// Whether the role is assigned to the user.
@@ -92,7 +90,7 @@ impl Policy {
     pub(crate) fn has_grant(&self, grant: &Grant) -> bool
         ensures { result ≡ list_any (grant_eq grant.now) self.now.granted }
     {
-        self.granted.table().contains(grant)
+        self.permissions.grants().contains(grant)
     }
 
     /// Whether one more user fits.
@@ -106,11 +104,11 @@ impl Policy {
     pub(crate) fn has_room_for_grant(&self) -> bool
         ensures { result ≡ nat_lt (length self.now.granted) max_grants }
     {
-        self.granted.table().len() < MAX_GRANTS
+        self.permissions.grants().len() < MAX_GRANTS
     }
 
     /// Whether some acting role of the connection's session was granted the operation on the object. It takes no
-    /// memory, and costs a search of the hierarchy and a pass over the grants.
+    /// memory, and costs a look-up for each active role, one for the object, and an `and` of eight words.
     pub fn permits(&self, conn: u32, operation: Operation, object: &Object) -> bool
         ensures { result ≡ permits self.now conn operation object.now }
     {
@@ -151,19 +149,17 @@ impl Policy {
         ensures memory { IfErr result (λ fault. fault ≡ PolicyFault.Memory) }
     {
         let role = officer_role(alloc)?;
-        let roles = first_roles(alloc, &role)?;
         let users = first_users(alloc, officer, digest, &role)?;
-        let granted = first_grants(alloc, role)?;
+        let permissions = first_permissions(alloc, role)?;
         Ok(Policy {
             users,
-            roles,
-            granted,
+            permissions,
             sets: Sets::new(alloc),
             sessions: IndexMap::new(alloc),
         })
     }
 
-    /// The same policy. Users, roles and grants are shared: a count each; sets and sessions are copied.
+    /// The same policy. Users, roles and grants are shared, a count each; sets and sessions are copied.
     ///
     /// # Errors
     /// Where there is no room for it.
@@ -171,35 +167,26 @@ impl Policy {
         ensures { IfOk result (λ policy. policy ≡ self.now) }
     {
         let users = self.users.copy()?;
-        let roles = copy_roles(&self.roles)?;
-        let granted = self.granted.copy()?;
+        let permissions = self.permissions.copy()?;
         let sets = self.sets.copy()?;
         let sessions = copy_sessions(&self.sessions)?;
         Ok(Policy {
             users,
-            roles,
-            granted,
+            permissions,
             sets,
             sessions,
         })
     }
 }
 
-/// The same roles: one count.
-fn copy_roles(roles: &Arc<Roles>) -> Result<Arc<Roles>, AllocError>
-    ensures { IfOk result (λ copy. copy.value ≡ roles.now.value) }
-{
-    roles.clone()
-}
-
 /// The roles of a new desk: that of the officer.
-fn first_roles(alloc: Global, role: &Name) -> Result<Arc<Roles>, PolicyFault>
-    ensures ok { IfOk result (λ roles. roles.value ≡ (role.now, []) ∷ []) }
+fn first_roles(alloc: Global, role: &Name) -> Result<Roles, PolicyFault>
+    ensures ok { IfOk result (λ roles. roles ≡ (role.now, []) ∷ []) }
     ensures memory { IfErr result (λ fault. fault ≡ PolicyFault.Memory) }
 {
     let mut roles = Roles::new(alloc);
     roles.add(role.copy()?)?;
-    Ok(Arc::new(alloc, roles)?)
+    Ok(roles)
 }
 
 /// The users of a new desk: the officer.
@@ -219,8 +206,8 @@ fn first_users(
 }
 
 /// The grants of a new desk: that the officer may administer it.
-fn first_grants(alloc: Global, role: Name) -> Result<Grants, AllocError>
-    ensures { IfOk result (λ grants. grants ≡ record { operation = Operation.Admin; object = Object.Desk; role = role } ∷ []) }
+fn first_grants(alloc: Global, role: Name) -> Result<IndexSet<Grant>, AllocError>
+    ensures { IfOk result (λ grants. grants.keys ≡ record { operation = Operation.Admin; object = Object.Desk; role = role } ∷ []) }
 {
     let mut table = IndexSet::new(alloc);
     table.insert(Grant {
@@ -228,7 +215,17 @@ fn first_grants(alloc: Global, role: Name) -> Result<Grants, AllocError>
         object: Object::Desk,
         role,
     })?;
-    Grants::new(alloc, table)
+    Ok(table)
+}
+
+/// The roles and grants of a new desk.
+fn first_permissions(alloc: Global, role: Name) -> Result<Permissions, PolicyFault>
+    ensures ok { IfOk result (λ next. next ≡ record { roles = (role, []) ∷ []; granted = record { operation = Operation.Admin; object = Object.Desk; role = role } ∷ [] }) }
+    ensures memory { IfErr result (λ fault. fault ≡ PolicyFault.Memory) }
+{
+    let roles = first_roles(alloc, &role)?;
+    let granted = first_grants(alloc, role)?;
+    Ok(Permissions::new(alloc, roles, granted)?)
 }
 
 /// The same sessions.

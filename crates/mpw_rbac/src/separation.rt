@@ -190,13 +190,13 @@ impl Policy {
     fn is_broken_by_users(&self, set: &SeparationSet) -> bool
         ensures { result ≡ is_broken self.now.roles (assigned_lists self.now.users) set.now }
     {
-        breaks_a_user(set, &self.roles, self.users.table())
+        breaks_a_user(set, self.permissions.roles(), self.users.table())
     }
 
     /// Whether some session breaks the set.
     fn is_broken_by_sessions(&self, set: &SeparationSet) -> bool
         ensures { result ≡ is_broken self.now.roles (active_lists self.now.sessions) set.now }
     {
-        breaks_a_session(set, &self.roles, &self.sessions)
+        breaks_a_session(set, self.permissions.roles(), &self.sessions)
     }
 }

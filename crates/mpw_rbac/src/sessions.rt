@@ -164,8 +164,12 @@ impl Policy {
         ensures { result ≡ contains_name (authorized self.now user.now) role.now }
     {
         match self.user(user) {
-            Some(found) => self.roles.below(found.roles.as_slice()).contains(role),
-            None => self.roles.below(&[]).contains(role),
+            Some(found) => self
+                .permissions
+                .roles()
+                .below(found.roles.as_slice())
+                .contains(role),
+            None => self.permissions.roles().below(&[]).contains(role),
         }
     }
 
@@ -222,7 +226,8 @@ impl Policy {
     fn broken_by_active(&self, active: &[Name]) -> Option<&Name>
         ensures { option_copied result ≡ least_broken self.now.roles self.now.dsd (active.now ∷ []) }
     {
-        self.sets.first_broken(Kind::Dynamic, &self.roles, active)
+        self.sets
+            .first_broken(Kind::Dynamic, self.permissions.roles(), active)
     }
 
     /// The roles that a user is authorized for, by name.
@@ -231,8 +236,12 @@ impl Policy {
     {
         let alloc = *self.sessions.allocator();
         let mut names = match self.user(user) {
-            Some(found) => self.roles.below(found.roles.as_slice()).names(alloc)?,
-            None => self.roles.below(&[]).names(alloc)?,
+            Some(found) => self
+                .permissions
+                .roles()
+                .below(found.roles.as_slice())
+                .names(alloc)?,
+            None => self.permissions.roles().below(&[]).names(alloc)?,
         };
         names.sort()?;
         Ok(names)

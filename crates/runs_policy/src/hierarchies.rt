@@ -33,6 +33,14 @@ struct Plain {
     pairs: Vec<(usize, usize)>,
 }
 
+/// Both bodies, and what draws their changes.
+#[derive(Drop)]
+struct Bodies {
+    roles: Roles,
+    plain: Plain,
+    random: Random,
+}
+
 fn is_marked(marks: &[bool], place: usize) -> bool {
     match marks.get(place) {
         Some(mark) => *mark,
@@ -196,68 +204,89 @@ fn change(
 }
 
 /// So many changes: how many answers differ.
-fn change_all(
-    alloc: Global,
-    roles: &mut Roles,
-    plain: &mut Plain,
-    random: &mut Random,
-    changes: usize,
-) -> Result<usize, AllocError> {
+fn change_all(alloc: Global, bodies: &mut Bodies, changes: usize) -> Result<usize, AllocError> {
     let mut wrong: usize = 0;
     for number in 0..changes {
-        if !change(
+        let same = change(
             alloc,
-            roles,
-            plain,
-            random,
+            &mut bodies.roles,
+            &mut bodies.plain,
+            &mut bodies.random,
             number.saturating_add(MAX_ROLES),
-        )? {
+        )?;
+        if !same {
             wrong = wrong.saturating_add(1);
         }
     }
     Ok(wrong)
 }
 
-/// So many changes, with all compared after each: how many differences there were, in answers and in masks.
-fn compare_all(
-    alloc: Global,
-    roles: &mut Roles,
-    plain: &mut Plain,
-    random: &mut Random,
-    changes: usize,
-) -> Result<usize, AllocError> {
+/// One change with all compared after it: how many differences there were, in its answer and in masks.
+fn compare(alloc: Global, bodies: &mut Bodies, number: usize) -> Result<usize, AllocError> {
+    let same = change(
+        alloc,
+        &mut bodies.roles,
+        &mut bodies.plain,
+        &mut bodies.random,
+        number,
+    )?;
+    let wrong = differences(alloc, &bodies.roles, &bodies.plain)?;
+    Ok(if same { wrong } else { wrong.saturating_add(1) })
+}
+
+/// So many changes, with all compared after each: how many differences there were.
+fn compare_all(alloc: Global, bodies: &mut Bodies, changes: usize) -> Result<usize, AllocError> {
     let mut wrong: usize = 0;
     for number in 0..changes {
-        if !change(alloc, roles, plain, random, number.saturating_add(4096))? {
-            wrong = wrong.saturating_add(1);
-        }
-        wrong = wrong.saturating_add(differences(alloc, roles, plain)?);
+        wrong = wrong.saturating_add(compare(alloc, bodies, number.saturating_add(4096))?);
     }
     Ok(wrong)
+}
+
+/// Adds so many roles to both bodies.
+fn add_all(alloc: Global, bodies: &mut Bodies, count: usize) -> Result<(), AllocError> {
+    for number in 0..count {
+        add(alloc, &mut bodies.roles, &mut bodies.plain, number)?;
+    }
+    Ok(())
 }
 
 /// So many roles, some changes first, and then so many with all compared after each.
-fn run(alloc: Global, count: usize, first: usize, changes: usize) -> Result<usize, AllocError> {
-    let mut roles = Roles::new(alloc);
-    let mut plain = Plain {
-        names: Vec::new(alloc),
-        pairs: Vec::new(alloc),
-    };
-    let mut random = Random {
-        state: count as u64,
-    };
-    for number in 0..count {
-        add(alloc, &mut roles, &mut plain, number)?;
-    }
-    let before = change_all(alloc, &mut roles, &mut plain, &mut random, first)?;
-    let after = compare_all(alloc, &mut roles, &mut plain, &mut random, changes)?;
+fn drive(
+    alloc: Global,
+    bodies: &mut Bodies,
+    count: usize,
+    first: usize,
+    changes: usize,
+) -> Result<usize, AllocError> {
+    add_all(alloc, bodies, count)?;
+    let before = change_all(alloc, bodies, first)?;
+    let after = compare_all(alloc, bodies, changes)?;
     Ok(before.saturating_add(after))
+}
+
+/// Two bodies without roles, and changes drawn from a seed.
+fn new_bodies(alloc: Global, seed: usize) -> Bodies {
+    Bodies {
+        roles: Roles::new(alloc),
+        plain: Plain {
+            names: Vec::new(alloc),
+            pairs: Vec::new(alloc),
+        },
+        random: Random { state: seed as u64 },
+    }
+}
+
+/// How many differences there were.
+fn run(alloc: Global, count: usize, first: usize, changes: usize) -> Result<usize, AllocError> {
+    let mut bodies = new_bodies(alloc, count);
+    drive(alloc, &mut bodies, count, first, changes)
 }
 
 /// Prints the part on random hierarchies.
 pub fn show(rt: &HostRuntime) -> io::Result<()> {
     println!(rt; "# masks beside a plain search")?;
-    for (count, first, changes) in [(8, 0, 300), (64, 60, 60), (512, 500, 12)] {
+    for (count, first, changes) in [(8, 0, 300), (64, 0, 300), (512, 300, 300)] {
         let wrong = run(rt.alloc(), count, first, changes)?;
         println!(rt;
             "{count} roles, {first} changes, and compared in full after each of {changes} more: {wrong} differences"

@@ -1,7 +1,7 @@
 //! Rows of requests: what a user is authorized for while the paths of a diamond go, and the limit of roles.
 use crate::name;
 use mpw_geom::Names;
-use mpw_rbac::{Digest, Policy, PolicyFault, Refusal};
+use mpw_rbac::{Digest, Object, Operation, Policy, PolicyFault, Refusal};
 use std::alloc::{AllocError, Global};
 use std::io;
 
@@ -20,17 +20,22 @@ fn told(made: Result<(), PolicyFault>) -> &'static str {
     }
 }
 
-/// A new desk, with the officer's session on connection 1, or `None` where memory is wanting.
-fn desk(alloc: Global) -> Result<Option<Policy>, AllocError> {
-    let Ok(mut policy) = Policy::new(alloc, name(alloc, "root")?, DIGEST) else {
-        return Ok(None);
-    };
-    let opened = policy.open(1, &name(alloc, "root")?, &DIGEST).is_ok();
-    let active = policy.activate(1, &name(alloc, "officer")?).is_ok();
-    if opened && active {
-        return Ok(Some(policy));
+/// A new desk.
+fn desk(alloc: Global) -> Result<Policy, AllocError> {
+    match Policy::new(alloc, name(alloc, "root")?, DIGEST) {
+        Ok(policy) => Ok(policy),
+        Err(_) => Err(AllocError),
     }
-    Ok(None)
+}
+
+/// Opens the officer's session on connection 1, and says what that is answered.
+fn log_in_officer(alloc: Global, policy: &mut Policy) -> Result<&'static str, AllocError> {
+    let root = name(alloc, "root")?;
+    let opened = told(policy.open(1, &root, &DIGEST));
+    if opened != "ok" {
+        return Ok(opened);
+    }
+    Ok(told(policy.activate(1, &name(alloc, "officer")?)))
 }
 
 fn inherit(
@@ -126,43 +131,78 @@ fn take_apart(rt: &HostRuntime, policy: &mut Policy) -> io::Result<()> {
 
 /// A diamond keeps its foot while one path is left.
 fn diamond(rt: &HostRuntime, policy: &mut Policy) -> io::Result<()> {
+    println!(rt; "officer: {}", log_in_officer(rt.alloc(), policy)?)?;
     link_all(rt, policy)?;
     log_in(rt, policy)?;
     take_apart(rt, policy)
 }
 
 fn show_diamond(rt: &HostRuntime) -> io::Result<()> {
-    match desk(rt.alloc())? {
-        Some(mut policy) => diamond(rt, &mut policy),
-        None => println!(rt; "no desk"),
+    let mut policy = desk(rt.alloc())?;
+    diamond(rt, &mut policy)
+}
+
+/// Adds a role, and says what that is answered.
+fn add_role(alloc: Global, policy: &mut Policy, text: &str) -> Result<&'static str, AllocError> {
+    Ok(told(policy.addrole(1, name(alloc, text)?)))
+}
+
+/// Adds so many roles, and says how many of them were added.
+fn add_roles(alloc: Global, policy: &mut Policy, count: u32) -> Result<u32, AllocError> {
+    let mut added: u32 = 0;
+    for index in 1..count {
+        let text = format!(in alloc; "r{index}")?;
+        if add_role(alloc, policy, text.as_str())? == "ok" {
+            added = added.saturating_add(1);
+        }
     }
+    Ok(added)
+}
+
+/// Deletes a role, and says what that is answered.
+fn delete_role(alloc: Global, policy: &mut Policy, text: &str) -> Result<&'static str, AllocError> {
+    Ok(told(policy.delrole(1, &name(alloc, text)?)))
+}
+
+/// Fills the roles up to their limit and past it.
+fn limit(rt: &HostRuntime, policy: &mut Policy) -> io::Result<()> {
+    let alloc = rt.alloc();
+    println!(rt; "officer: {}", log_in_officer(alloc, policy)?)?;
+    println!(rt; "roles added: {}", add_roles(alloc, policy, 512)?)?;
+    println!(rt; "one role more: {}", add_role(alloc, policy, "last")?)?;
+    println!(rt; "delete r7: {}", delete_role(alloc, policy, "r7")?)?;
+    println!(rt; "one role more: {}", add_role(alloc, policy, "last")?)
 }
 
 /// 512 roles and no more, the officer's among them.
 fn show_limit(rt: &HostRuntime) -> io::Result<()> {
-    let alloc = rt.alloc();
-    let Some(mut policy) = desk(alloc)? else {
-        return println!(rt; "no desk");
-    };
-    for index in 1..512u32 {
-        let role = name(alloc, format!(in alloc; "r{index}")?.as_str())?;
-        let made = told(policy.addrole(1, role));
-        if made != "ok" {
-            println!(rt; "role {index}: {made}")?;
-        }
-    }
+    let mut policy = desk(rt.alloc())?;
+    limit(rt, &mut policy)
+}
+
+/// Prints what is permitted on connection 1, and whether it has a session.
+fn print_access(rt: &HostRuntime, policy: &Policy) -> io::Result<()> {
+    let access = policy.access(1, Operation::Admin);
     println!(rt;
-        "one role more: {}",
-        told(policy.addrole(1, name(alloc, "last")?))
-    )?;
-    println!(rt;
-        "delete r7: {}",
-        told(policy.delrole(1, &name(alloc, "r7")?))
-    )?;
-    println!(rt;
-        "one role more: {}",
-        told(policy.addrole(1, name(alloc, "last")?))
+        "session {}, admin desk {}, at once {}",
+        policy.has_session(1),
+        access.permits(&Object::Desk),
+        policy.permits(1, Operation::Admin, &Object::Desk)
     )
+}
+
+/// Ends every session.
+fn end_all(rt: &HostRuntime, policy: &mut Policy) -> io::Result<()> {
+    println!(rt; "officer: {}", log_in_officer(rt.alloc(), policy)?)?;
+    print_access(rt, policy)?;
+    policy.end_all();
+    print_access(rt, policy)
+}
+
+/// Where every session ended, nothing is permitted.
+fn show_end(rt: &HostRuntime) -> io::Result<()> {
+    let mut policy = desk(rt.alloc())?;
+    end_all(rt, &mut policy)
 }
 
 /// Prints the part on sessions.
@@ -170,5 +210,7 @@ pub fn show(rt: &HostRuntime) -> io::Result<()> {
     println!(rt; "# a diamond of roles")?;
     show_diamond(rt)?;
     println!(rt; "# the limit of roles")?;
-    show_limit(rt)
+    show_limit(rt)?;
+    println!(rt; "# the end of all sessions")?;
+    show_end(rt)
 }

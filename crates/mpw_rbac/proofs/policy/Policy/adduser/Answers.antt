@@ -14,7 +14,7 @@ use Rattle.mpw_rbac.proofs.policy.Policy.adduser.Goals as goal
 pub invariant_of-self : goal.invariant_of-self
 invariant_of-self c =
     let in' = c.self.inside in
-    let p = policy_of in'.users in'.roles.value in'.granted in'.sets in'.sessions.entries in
+    let p = policy_of in'.users in'.permissions.roles in'.permissions.granted in'.sets in'.sessions.entries in
     let user = c.args.user in
     let new : is_user p user ≡ false = ap (λ (q : Policy). is_user q user) c.self.view_is ∙ sym c.is_user.ensures ∙ c.if-is_user.false in
     let is : c.in_ok-users.users ≡ p.users ++ (user, record { digest = c.args.digest; roles = [] }) ∷ [] =
@@ -24,7 +24,7 @@ invariant_of-self c =
 pub returns-clause-ok : goal.returns-clause-ok
 returns-clause-ok c =
     let in' = c.self.inside in
-    let p = policy_of in'.users in'.roles.value in'.granted in'.sets in'.sessions.entries in
+    let p = policy_of in'.users in'.permissions.roles in'.permissions.granted in'.sets in'.sessions.entries in
     let user = c.args.user in
     let new : is_user p user ≡ false = ap (λ (q : Policy). is_user q user) c.self.view_is ∙ sym c.is_user.ensures ∙ c.if-is_user.false in
     let room : nat_lt (length p.users) 512 ≡ true = ap (λ (q : Policy). nat_lt (length q.users) 512) c.self.view_is ∙ sym c.has_room_for_user.ensures ∙ c.if-not-has_room_for_user.false in

@@ -15,7 +15,7 @@ use Rattle.mpw_rbac.proofs.policy.Policy.assign.Goals as goal
 pub returns-in-Some-clause-refused : goal.returns-in-Some-clause-refused
 returns-in-Some-clause-refused c =
     let in' = c.self.inside in
-    let p = policy_of in'.users in'.roles.value in'.granted in'.sets in'.sessions.entries in
+    let p = policy_of in'.users in'.permissions.roles in'.permissions.granted in'.sets in'.sessions.entries in
     let ok : rows.administered p c.args.conn ≡ Ok p = subst (λ (q : Policy). rows.administered q c.args.conn ≡ Ok q) (sym c.self.view_is) c.in_ok-administers.ensures.ok in
     let user = c.args.user.now in
     let role = c.args.role.now in
@@ -33,7 +33,7 @@ returns-in-Some-clause-refused c =
 pub invariant_of-self : goal.invariant_of-self
 invariant_of-self c =
     let in' = c.self.inside in
-    let p = policy_of in'.users in'.roles.value in'.granted in'.sets in'.sessions.entries in
+    let p = policy_of in'.users in'.permissions.roles in'.permissions.granted in'.sets in'.sessions.entries in
     let ok : rows.administered p c.args.conn ≡ Ok p = subst (λ (q : Policy). rows.administered q c.args.conn ≡ Ok q) (sym c.self.view_is) c.in_ok-administers.ensures.ok in
     let user = c.args.user.now in
     let role = c.args.role.now in
@@ -53,7 +53,7 @@ invariant_of-self c =
 pub returns-clause-ok : goal.returns-clause-ok
 returns-clause-ok c =
     let in' = c.self.inside in
-    let p = policy_of in'.users in'.roles.value in'.granted in'.sets in'.sessions.entries in
+    let p = policy_of in'.users in'.permissions.roles in'.permissions.granted in'.sets in'.sessions.entries in
     let ok : rows.administered p c.args.conn ≡ Ok p = subst (λ (q : Policy). rows.administered q c.args.conn ≡ Ok q) (sym c.self.view_is) c.in_ok-administers.ensures.ok in
     let user = c.args.user.now in
     let role = c.args.role.now in

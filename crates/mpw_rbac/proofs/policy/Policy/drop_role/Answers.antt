@@ -11,7 +11,7 @@ use Rattle.mpw_rbac.proofs.policy.Policy.drop_role.Goals as goal
 pub invariant_of-self-2 : goal.invariant_of-self-2
 invariant_of-self-2 c =
     let in' = c.self.inside in
-    let p = policy_of in'.users in'.roles.value in'.granted in'.sets in'.sessions.entries in
+    let p = policy_of in'.users in'.permissions.roles in'.permissions.granted in'.sets in'.sessions.entries in
     let conn = c.args.conn in
     let role = c.args.role.now in
     let there : is_some (session_of p conn) ≡ true = ap (λ (q : Policy). is_some (session_of q conn)) c.self.view_is ∙ sym c.has_session.ensures ∙ c.if-not-has_session.false in
@@ -23,7 +23,7 @@ invariant_of-self-2 c =
 pub returns-clause-ok : goal.returns-clause-ok
 returns-clause-ok c =
     let in' = c.self.inside in
-    let p = policy_of in'.users in'.roles.value in'.granted in'.sets in'.sessions.entries in
+    let p = policy_of in'.users in'.permissions.roles in'.permissions.granted in'.sets in'.sessions.entries in
     let conn = c.args.conn in
     let role = c.args.role.now in
     let there : is_some (session_of p conn) ≡ true = ap (λ (q : Policy). is_some (session_of q conn)) c.self.view_is ∙ sym c.has_session.ensures ∙ c.if-not-has_session.false in

@@ -5,4 +5,4 @@ use Rattle.mpw_rbac.proofs.TableLemmas.{any-same}
 use Rattle.mpw_rbac.proofs.policy.Policy.has_grant.Goals as goal
 
 pub returns : goal.returns
-returns c = rw (← c.self.view_is) (c.contains.ensures ∙ any-same _ (grant_eq c.args.grant.now) (λ g. search rules) c.table.result.now.keys ∙ ap (list_any (grant_eq c.args.grant.now)) c.table.ensures)
+returns c = rw (← c.self.view_is) (c.contains.ensures ∙ any-same _ (grant_eq c.args.grant.now) (λ g. search rules) c.grants.result.now.keys ∙ ap (list_any (grant_eq c.args.grant.now)) c.grants.ensures)

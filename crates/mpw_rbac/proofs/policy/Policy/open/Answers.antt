@@ -13,7 +13,7 @@ use Rattle.mpw_rbac.proofs.policy.Policy.open.Goals as goal
 pub invariant_of-self-2 : goal.invariant_of-self-2
 invariant_of-self-2 c =
     let in' = c.self.inside in
-    let p = policy_of in'.users in'.roles.value in'.granted in'.sets in'.sessions.entries in
+    let p = policy_of in'.users in'.permissions.roles in'.permissions.granted in'.sets in'.sessions.entries in
     let user = c.args.user.now in
     let login : rows.is_login p user c.args.digest.now ≡ true = ap (λ (q : Policy). rows.is_login q user c.args.digest.now) c.self.view_is ∙ sym c.is_login.ensures ∙ c.if-not-is_login.false in
     let closed : is_some (session_of p c.args.conn) ≡ false = ap (λ (q : Policy). is_some (session_of q c.args.conn)) c.self.view_is ∙ sym c.has_session.ensures ∙ c.if-has_session.false in
@@ -25,7 +25,7 @@ invariant_of-self-2 c =
 pub returns-clause-ok : goal.returns-clause-ok
 returns-clause-ok c =
     let in' = c.self.inside in
-    let p = policy_of in'.users in'.roles.value in'.granted in'.sets in'.sessions.entries in
+    let p = policy_of in'.users in'.permissions.roles in'.permissions.granted in'.sets in'.sessions.entries in
     let user = c.args.user.now in
     let login : rows.is_login p user c.args.digest.now ≡ true = ap (λ (q : Policy). rows.is_login q user c.args.digest.now) c.self.view_is ∙ sym c.is_login.ensures ∙ c.if-not-is_login.false in
     let closed : is_some (session_of p c.args.conn) ≡ false = ap (λ (q : Policy). is_some (session_of q c.args.conn)) c.self.view_is ∙ sym c.has_session.ensures ∙ c.if-has_session.false in

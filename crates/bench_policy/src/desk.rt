@@ -1,0 +1,130 @@
+//! A desk of so many roles and grants, with a session at the top of the hierarchy.
+
+use mpw_geom::Name;
+use mpw_rbac::{Digest, Grant, Object, Operation, Policy};
+use std::alloc::{AllocError, Global};
+
+/// The digest of each user here.
+const DIGEST: Digest = [7; 32];
+
+/// A name that is known to be one.
+pub fn name(alloc: Global, text: &str) -> Result<Name, AllocError> {
+    match Name::read(alloc, text.as_bytes()) {
+        Ok(name) => Ok(name),
+        Err(_) => Err(AllocError),
+    }
+}
+
+/// The name with that number.
+pub fn numbered(alloc: Global, letter: &str, number: u32) -> Result<Name, AllocError> {
+    let text = format!(in alloc; "{letter}{number}")?;
+    name(alloc, text.as_str())
+}
+
+/// A new desk.
+pub fn new_desk(alloc: Global) -> Result<Policy, AllocError> {
+    match Policy::new(alloc, name(alloc, "root")?, DIGEST) {
+        Ok(policy) => Ok(policy),
+        Err(_) => Err(AllocError),
+    }
+}
+
+/// Opens a session of a user with an active role; whether it was.
+fn log_in(
+    alloc: Global,
+    policy: &mut Policy,
+    conn: u32,
+    user: &str,
+    role: &str,
+) -> Result<bool, AllocError> {
+    let user = name(alloc, user)?;
+    let opened = policy.open(conn, &user, &DIGEST).is_ok();
+    let active = policy.activate(conn, &name(alloc, role)?).is_ok();
+    Ok(opened && active)
+}
+
+/// The roles from `r0` on, one less than the number, since the officer's is one; how many were refused.
+fn add_roles(alloc: Global, policy: &mut Policy, roles: u32) -> Result<u32, AllocError> {
+    let mut refused: u32 = 0;
+    for number in 1..roles {
+        let role = numbered(alloc, "r", number.saturating_sub(1))?;
+        if policy.addrole(1, role).is_err() {
+            refused = refused.saturating_add(1);
+        }
+    }
+    Ok(refused)
+}
+
+/// Makes each role but the first an immediate junior of the one at half its number; how many pairs were refused.
+fn add_pairs(alloc: Global, policy: &mut Policy, roles: u32) -> Result<u32, AllocError> {
+    let mut refused: u32 = 0;
+    for number in 2..roles {
+        let junior = number.saturating_sub(1);
+        let senior = junior.saturating_sub(1) / 2;
+        let senior = numbered(alloc, "r", senior)?;
+        let junior = numbered(alloc, "r", junior)?;
+        if policy.inherit(1, &senior, &junior).is_err() {
+            refused = refused.saturating_add(1);
+        }
+    }
+    Ok(refused)
+}
+
+/// The grant of reading a cell to a role, both by their numbers.
+pub fn grant_of(alloc: Global, cell: u32, role: u32) -> Result<Grant, AllocError> {
+    let object = Object::Cell(numbered(alloc, "c", cell)?);
+    let role = numbered(alloc, "r", role)?;
+    Ok(Grant {
+        operation: Operation::Read,
+        object,
+        role,
+    })
+}
+
+/// Grants reading a cell each to the roles in turn; how many grants were refused.
+fn add_grants(
+    alloc: Global,
+    policy: &mut Policy,
+    roles: u32,
+    grants: u32,
+) -> Result<u32, AllocError> {
+    let mut refused: u32 = 0;
+    let count = roles.saturating_sub(1);
+    for cell in 0..grants {
+        let role = if count == 0 { 0 } else { cell % count };
+        if policy.grant(1, grant_of(alloc, cell, role)?).is_err() {
+            refused = refused.saturating_add(1);
+        }
+    }
+    Ok(refused)
+}
+
+/// Adds the user at the top of the hierarchy; whether that was refused.
+fn add_user(alloc: Global, policy: &mut Policy) -> Result<bool, AllocError> {
+    let added = policy.adduser(1, name(alloc, "ann")?, DIGEST).is_ok();
+    let ann = name(alloc, "ann")?;
+    let assigned = policy.assign(1, &ann, &name(alloc, "r0")?).is_ok();
+    Ok(!(added && assigned))
+}
+
+/// Fills a new desk, and opens a session on connection 2 whose active role is at least every other; how much was refused.
+pub fn fill(
+    alloc: Global,
+    policy: &mut Policy,
+    roles: u32,
+    grants: u32,
+) -> Result<u32, AllocError> {
+    let officer = log_in(alloc, policy, 1, "root", "officer")?;
+    let refused_roles = add_roles(alloc, policy, roles)?;
+    let refused_pairs = add_pairs(alloc, policy, roles)?;
+    let refused_grants = add_grants(alloc, policy, roles, grants)?;
+    let refused_user = add_user(alloc, policy)?;
+    let session = log_in(alloc, policy, 2, "ann", "r0")?;
+    let others = u32::from(!officer) + u32::from(refused_user) + u32::from(!session);
+    Ok(
+        refused_roles
+            .saturating_add(refused_pairs)
+            .saturating_add(refused_grants)
+            .saturating_add(others),
+    )
+}

@@ -1,0 +1,273 @@
+-- The masks of an operation, one grant after the other, and what they answer.
+use Rattle.std.proofs.Common.{◌≡◌, ℕ, zero, suc, ◌+◌, ◌<◌, ◌≢◌, Bool, true, false, cond, not, ◌||◌, ◌&&◌, inl, inr, List, [], ◌∷◌, ◌++◌, length, get_or, eqb, eq-eqb, Option, None, Some, refl, sym, ap, subst, ◌∙◌, true≢false, arith}
+use Rattle.std.specs.Prelude.{nat_lt, position}
+use Rattle.std.specs.List.{list_any, position_or_len}
+use Rattle.std.specs.Cmp.{both_ways}
+use Rattle.std.specs.Map.{lookup}
+use Rattle.std.specs.Option.{option_map_or}
+use Rattle.std.proofs.lemmas.Bool.{cases_eq, cases_lt, lt-ltb, ltb-true, ne_eqb}
+use Rattle.std.proofs.lemmas.List.Quantifiers.{position-Some}
+use Rattle.std.proofs.lemmas.List.Sums.{fails_before_first}
+use Rattle.std.proofs.Math.Seq.{get_or-append_seam}
+use Rattle.std.proofs.Math.ListN.{get_or-append}
+use Rattle.mpw_geom.specs.Names.{name_eq, contains_name}
+use Rattle.mpw_roles.specs.declared.mask.Mask.{Mask}
+use Rattle.mpw_roles.specs.Hierarchy.{Name, Hierarchy, role_names, is_role}
+use Rattle.mpw_roles.specs.Mask.{has}
+use Rattle.mpw_roles.specs.Order.{is_below, roles_below, are_distinct}
+use Rattle.mpw_roles.specs.Places.{name_at, is_place_below}
+use Rattle.mpw_roles.proofs.CallerLemmas.{same_name, name_eq-refl, or_right, or_cases, contains-roles_below}
+use Rattle.mpw_rbac.specs.Grant.{operation_index, operation_eq, object_eq}
+use Rattle.mpw_rbac.specs.Holders.{is_grant_of, is_place_granted, holds, IsHeld}
+use Rattle.mpw_rbac.specs.Policy.{is_granted_to}
+use Rattle.mpw_rbac.specs.declared.permission.Grant.{Grant}
+use Rattle.mpw_rbac.specs.Table.{value_at}
+use Rattle.mpw_rbac.specs.declared.permission.Object.{Object}
+use Rattle.mpw_rbac.specs.declared.permission.Object.TheVariants.{Cell, Desk}
+use Rattle.mpw_rbac.specs.declared.permission.Operation.{Operation}
+use Rattle.mpw_rbac.proofs.SeparationLemmas.{refuted, both, parts}
+
+or_assoc : (a b c : Bool) → ((a || b) || c) ≡ (a || (b || c))
+or_assoc true b c = refl
+or_assoc false b c = refl
+
+or_false : (a : Bool) → (a || false) ≡ a
+or_false true = refl
+or_false false = refl
+
+and_false : (a : Bool) → (a && false) ≡ false
+and_false true = refl
+and_false false = refl
+
+and_or : (f a b : Bool) → (f && (a || b)) ≡ ((f && a) || (f && b))
+and_or true a b = refl
+and_or false a b = refl
+
+any-last : {X : Type 0} (f : X → Bool) (xs : List X) (y : X) → list_any f (xs ++ y ∷ []) ≡ (list_any f xs || f y)
+any-last f [] y = or_false (f y)
+any-last f (x ∷ xs) y = ap (λ b. f x || b) (any-last f xs y) ∙ sym (or_assoc (f x) (list_any f xs) (f y))
+
+-- objects that are equal are the same
+same_object : (a b : Object) → object_eq a b ≡ true → a ≡ b
+same_object (Cell a) (Cell b) is = ap Cell (same_name a b is)
+same_object (Cell a) Desk is = absurd (true≢false (sym is))
+same_object Desk (Cell b) is = absurd (true≢false (sym is))
+same_object Desk Desk is = refl
+
+object-refl : (a : Object) → object_eq a a ≡ true
+object-refl (Cell a) = name_eq-refl a
+object-refl Desk = refl
+
+other_way : (a b : Object) → object_eq a b ≡ object_eq b a
+other_way a b = both_ways _ _
+    (λ is. ap (object_eq b) (same_object a b is) ∙ object-refl b)
+    (λ is. ap (object_eq a) (same_object b a is) ∙ object-refl a)
+
+module _ (eq : Object → Object → Bool) (same : (a b : Object) → eq a b ≡ object_eq a b) where
+  looked-up : (es : List (Object × Mask)) (o : Object) → lookup (eq o) es ≡ value_at object_eq es o
+  looked-up [] o = refl
+  looked-up (e ∷ es) o = λ i. cond (same o e.0 i) (Some e.1) (looked-up es o i)
+
+pub value-found : (test : Object → Bool) (o : Object) (es : List (Object × Mask)) (r : Option Mask) → r ≡ lookup test es → ((x : Object) → test x ≡ object_eq o x) → r ≡ value_at object_eq es o
+value-found test o es r is same = is ∙ by es
+  where
+    by : (xs : List (Object × Mask)) → lookup test xs ≡ value_at object_eq xs o
+    by [] = refl
+    by (e ∷ xs) = λ i. cond (same e.0 i) (Some e.1) (by xs i)
+
+-- the mask of one object is written
+put-holds : (old : List (Object × Mask)) (mask : Mask) (object : Object) (place : ℕ) → ((q : ℕ) → has mask q ≡ (holds old object q || eqb q place)) → (other : Object) (q : ℕ)
+    → option_map_or (λ m. has m q) (cond (object_eq object other) (Some mask) (value_at object_eq old other)) false ≡ (holds old other q || (object_eq other object && eqb q place))
+put-holds old mask object place is other q = elim (object_eq object other) as (λ b. object_eq object other ≡ b → option_map_or (λ m. has m q) (cond b (Some mask) (value_at object_eq old other)) false ≡ (holds old other q || (object_eq other object && eqb q place))) [
+  | true ↦ λ here.
+      is q
+      ∙ ap (λ o. holds old o q || eqb q place) (same_object object other here)
+      ∙ ap (λ b. holds old other q || (b && eqb q place)) (sym (sym (other_way object other) ∙ here))
+  | false ↦ λ apart. sym (ap (λ b. holds old other q || (b && eqb q place)) (sym (other_way object other) ∙ apart) ∙ or_false (holds old other q))
+] refl
+
+module _ (eq : Object → Object → Bool) (same : (a b : Object) → eq a b ≡ object_eq a b) where
+  pub holds-put : (old new : List (Object × Mask)) (mask : Mask) (object key : Object) (place : ℕ) → key ≡ object → ((q : ℕ) → has mask q ≡ (holds old object q || eqb q place))
+      → ((other : Object) → lookup (eq other) new ≡ cond (eq key other) (Some mask) (lookup (eq other) old)) → (other : Object) (q : ℕ) → holds new other q ≡ (holds old other q || (object_eq other object && eqb q place))
+  holds-put old new mask object key place at is put other q =
+      ap (λ o. option_map_or (λ m. has m q) o false)
+      (sym (looked-up eq same new other) ∙ put other ∙ (λ i. cond ((same key other ∙ ap (λ k. object_eq k other) at) i) (Some mask) (looked-up eq same old other i)))
+      ∙ put-holds old mask object place is other q
+
+-- no grants, no holders
+pub held-none : (roles : List Name) (operation : ℕ) → IsHeld roles [] operation []
+held-none roles operation = record { exact = λ object place. sym (and_false (nat_lt place (length roles))) }
+
+-- one grant more
+pub held-more : (roles : List Name) (done : List Grant) (g : Grant) (operation : ℕ) (old new : List (Object × Mask))
+    → ((object : Object) (place : ℕ) → holds new object place ≡ (holds old object place || (nat_lt place (length roles) && is_grant_of operation object (get_or roles place []) g)))
+    → IsHeld roles done operation old → IsHeld roles (done ++ g ∷ []) operation new
+held-more roles done g operation old new step held = record {
+  exact = λ object place.
+      step object place
+      ∙ ap (λ b. b || (nat_lt place (length roles) && is_grant_of operation object (get_or roles place []) g)) (held.exact object place)
+      ∙ sym (and_or (nat_lt place (length roles)) (list_any (is_grant_of operation object (get_or roles place [])) done) (is_grant_of operation object (get_or roles place []) g))
+      ∙ ap (λ b. nat_lt place (length roles) && b) (sym (any-last (is_grant_of operation object (get_or roles place [])) done g));
+}
+
+-- one that isn't of the operation, or is to no role
+held-same : (roles : List Name) (done : List Grant) (g : Grant) (operation : ℕ) (table : List (Object × Mask))
+    → ((object : Object) (place : ℕ) → (nat_lt place (length roles) && is_grant_of operation object (get_or roles place []) g) ≡ false)
+    → IsHeld roles done operation table → IsHeld roles (done ++ g ∷ []) operation table
+held-same roles done g operation table none held =
+    held-more roles done g operation table table (λ object place. sym (ap (λ b. holds table object place || b) (none object place) ∙ or_false (holds table object place))) held
+
+pub held-other : (roles : List Name) (done : List Grant) (g : Grant) (operation : ℕ) (table : List (Object × Mask)) → operation_index g.operation ≢ operation
+    → IsHeld roles done operation table → IsHeld roles (done ++ g ∷ []) operation table
+held-other roles done g operation table other held =
+    held-same roles done g operation table
+    (λ object place. ap (λ b. nat_lt place (length roles) && (b && (object_eq object g.object && name_eq (get_or roles place []) g.role))) (ne_eqb operation (operation_index g.operation) (λ is. other (sym is))) ∙ and_false (nat_lt place (length roles)))
+    held
+
+contains-at : (names : List Name) (i : ℕ) (r : Name) → i < length names → name_eq r (get_or names i []) ≡ true → contains_name names r ≡ true
+contains-at [] i r inside is = absurd (omega arith)
+contains-at (x ∷ xs) zero r inside is = ap (λ b. b || contains_name xs r) is
+contains-at (x ∷ xs) (suc i) r inside is = or_right (name_eq r x) (contains_name xs r) (contains-at xs i r (omega arith) is)
+
+turned : (a b : Name) → name_eq a b ≡ true → name_eq b a ≡ true
+turned a b is = ap (λ n. name_eq b n) (same_name a b is) ∙ name_eq-refl b
+
+pub held-stranger : (roles : List Name) (done : List Grant) (g : Grant) (operation : ℕ) (table : List (Object × Mask)) → contains_name roles g.role ≡ false
+    → IsHeld roles done operation table → IsHeld roles (done ++ g ∷ []) operation table
+held-stranger roles done g operation table none held =
+    held-same roles done g operation table
+    (λ object place. refuted _ (λ is.
+    let inside = parts (nat_lt place (length roles)) _ is in
+    let grant = parts (eqb operation (operation_index g.operation)) _ inside.1 in
+    let at = parts (object_eq object g.object) _ grant.1 in
+    true≢false (sym (contains-at roles place g.role (ltb-true place (length roles) inside.0) (turned (get_or roles place []) g.role at.1)) ∙ none)))
+    held
+
+-- names that stand once stand at one place
+place-once : (names : List Name) → are_distinct names ≡ true → (i j : ℕ) → i < length names → j < length names → name_eq (get_or names i []) (get_or names j []) ≡ true → i ≡ j
+place-once [] once i j a b is = absurd (omega arith)
+place-once (x ∷ xs) once zero zero a b is = refl
+place-once (x ∷ xs) once zero (suc j) a b is = absurd (true≢false (sym (parts (not (contains_name xs x)) (are_distinct xs) once).0 ∙ ap not (contains-at xs j x (omega arith) is)))
+place-once (x ∷ xs) once (suc i) zero a b is = absurd (true≢false (sym (parts (not (contains_name xs x)) (are_distinct xs) once).0 ∙ ap not (contains-at xs i x (omega arith) (turned (get_or xs i []) x is))))
+place-once (x ∷ xs) once (suc i) (suc j) a b is = ap suc (place-once xs (parts (not (contains_name xs x)) (are_distinct xs) once).1 i j (omega arith) (omega arith) is)
+
+-- the place of a role that was found is where its name stands
+place-is : (names : List Name) → are_distinct names ≡ true → (r : Name) (i : ℕ) → Some i ≡ position (name_eq r) names → (q : ℕ) → eqb q i ≡ (nat_lt q (length names) && name_eq (get_or names q []) r)
+place-is names once r i found q =
+    let at = position-Some (name_eq r) names i [] (sym found) in
+    both_ways (eqb q i) (nat_lt q (length names) && name_eq (get_or names q []) r)
+    (λ is. elim (cases_eq q i) [
+      | inl same ↦ both (nat_lt q (length names)) (name_eq (get_or names q []) r) (lt-ltb q (length names) (let inside = at.0 in omega arith)) (ap (λ k. name_eq (get_or names k []) r) same ∙ turned r (get_or names i []) at.1)
+      | inr other ↦ absurd (true≢false (sym is ∙ ne_eqb q i other))
+    ])
+    (λ is.
+    let p = parts (nat_lt q (length names)) (name_eq (get_or names q []) r) is in
+    eq-eqb q i (place-once names once q i (ltb-true q (length names) p.0) at.0 (ap (λ n. name_eq n (get_or names i [])) (same_name (get_or names q []) r p.1) ∙ at.1)))
+
+put_in : (l e o n k : Bool) → e ≡ true → k ≡ (l && n) → (o && k) ≡ (l && (e && (o && n)))
+put_in true true o n k is at = ap (λ b. o && b) at
+put_in false true o n k is at = ap (λ b. o && b) at ∙ and_false o
+put_in l false o n k is at = absurd (true≢false (sym is))
+
+pub held-place : (roles : List Name) → are_distinct roles ≡ true → (done : List Grant) (g : Grant) (operation : ℕ) (old new : List (Object × Mask)) (i : ℕ)
+    → operation_index g.operation ≡ operation → Some i ≡ position (name_eq g.role) roles
+    → ((object : Object) (place : ℕ) → holds new object place ≡ (holds old object place || (object_eq object g.object && eqb place i)))
+    → IsHeld roles done operation old → IsHeld roles (done ++ g ∷ []) operation new
+held-place roles once done g operation old new i of found put held =
+    held-more roles done g operation old new
+    (λ object place. put object place ∙ ap (λ b. holds old object place || b) (put_in (nat_lt place (length roles)) (eqb operation (operation_index g.operation)) (object_eq object g.object) (name_eq (get_or roles place []) g.role) (eqb place i) (eq-eqb operation (operation_index g.operation) (sym of)) (place-is roles once g.role i found place)))
+    held
+
+-- the place of a role
+place_of : (names : List Name) (r : Name) → contains_name names r ≡ true → (i : ℕ) × (i < length names) × (get_or names i [] ≡ r)
+place_of [] r there = absurd (true≢false (sym there))
+place_of (x ∷ xs) r there = elim (or_cases (name_eq r x) (contains_name xs r) there) [
+  | inl here ↦ (zero, omega arith, sym (same_name r x here))
+  | inr later ↦ let rest = place_of xs r later in (suc rest.0, (let inside = rest.1 in omega arith), rest.2)
+]
+
+-- what passes for some item passes for it in any test
+any-found : {X : Type 0} (p : X → Bool) (xs : List X) → list_any p xs ≡ true → (x : X) × (p x ≡ true) × ((q : X → Bool) → q x ≡ true → list_any q xs ≡ true)
+any-found p [] is = absurd (true≢false (sym is))
+any-found p (x ∷ xs) is = elim (or_cases (p x) (list_any p xs) is) [
+  | inl here ↦ (x, here, λ q t. ap (λ b. b || list_any q xs) t)
+  | inr later ↦ let found = any-found p xs later in (found.0, found.1, λ q t. or_right (q x) (list_any q xs) (found.2 q t))
+]
+
+length-names : (h : Hierarchy) → length (role_names h) ≡ length h
+length-names [] = refl
+length-names (e ∷ es) = ap suc (length-names es)
+
+-- a place that is below the seniors and granted is a grant to a role below them
+granted-of-place : (h : Hierarchy) (granted : List Grant) (seniors : List Name) (operation : Operation) (object : Object) (q : ℕ)
+    → is_place_below h seniors q ≡ true → is_place_granted (role_names h) granted (operation_index operation) object q ≡ true → list_any (is_granted_to (roles_below h seniors) operation object) granted ≡ true
+granted-of-place h granted seniors operation object q below is =
+    let under = parts (nat_lt q (length h)) (is_below h seniors (name_at h q)) below in
+    let some = parts (nat_lt q (length (role_names h))) (list_any (is_grant_of (operation_index operation) object (name_at h q)) granted) is in
+    let found = any-found (is_grant_of (operation_index operation) object (name_at h q)) granted some.1 in
+    let g = found.0 in
+    let a = parts (operation_eq operation g.operation) (object_eq object g.object && name_eq (name_at h q) g.role) found.1 in
+    let b = parts (object_eq object g.object) (name_eq (name_at h q) g.role) a.1 in
+    let there : is_role h (name_at h q) ≡ true = contains-at (role_names h) q (name_at h q) (let inside = ltb-true q (length h) under.0 in omega (arith, length-names h)) (name_eq-refl (name_at h q)) in
+    let role : contains_name (roles_below h seniors) g.role ≡ true = ap (contains_name (roles_below h seniors)) (sym (same_name (name_at h q) g.role b.1)) ∙ contains-roles_below h seniors (name_at h q) ∙ both (is_role h (name_at h q)) (is_below h seniors (name_at h q)) there under.1 in
+    found.2 (is_granted_to (roles_below h seniors) operation object) (both (operation_eq operation g.operation) _ a.0 (both (object_eq object g.object) _ b.0 role))
+
+-- and the other way
+place-of-granted : (h : Hierarchy) (granted : List Grant) (seniors : List Name) (operation : Operation) (object : Object)
+    → list_any (is_granted_to (roles_below h seniors) operation object) granted ≡ true
+    → (q : ℕ) × (is_place_below h seniors q ≡ true) × (is_place_granted (role_names h) granted (operation_index operation) object q ≡ true)
+place-of-granted h granted seniors operation object is =
+    let found = any-found (is_granted_to (roles_below h seniors) operation object) granted is in
+    let g = found.0 in
+    let a = parts (operation_eq operation g.operation) (object_eq object g.object && contains_name (roles_below h seniors) g.role) found.1 in
+    let b = parts (object_eq object g.object) (contains_name (roles_below h seniors) g.role) a.1 in
+    let below = parts (is_role h g.role) (is_below h seniors g.role) (sym (contains-roles_below h seniors g.role) ∙ b.1) in
+    let at = place_of (role_names h) g.role below.0 in
+    let q = at.0 in
+    let inside : q < length h = let i = at.1 in omega (arith, length-names h) in (
+      q,
+      both (nat_lt q (length h)) _ (lt-ltb q (length h) inside) (ap (is_below h seniors) at.2 ∙ below.1),
+      both (nat_lt q (length (role_names h))) _ (lt-ltb q (length (role_names h)) at.1)
+          (found.2 (is_grant_of (operation_index operation) object (name_at h q)) (both (operation_eq operation g.operation) _ a.0 (both (object_eq object g.object) _ b.0 (ap (λ n. name_eq n g.role) at.2 ∙ name_eq-refl g.role)))),
+    )
+
+-- masks that meet answer the grants
+pub meets-granted : (h : Hierarchy) (granted : List Grant) (seniors : List Name) (operation : Operation) (object : Object) (acting holding : Mask) (b : Bool)
+    → ((q : ℕ) → has acting q ≡ is_place_below h seniors q) → ((q : ℕ) → has holding q ≡ is_place_granted (role_names h) granted (operation_index operation) object q)
+    → (b ≡ true → (q : ℕ) × (has holding q ≡ true) × (has acting q ≡ true)) → (b ≡ false → (q : ℕ) → (has holding q && has acting q) ≡ false)
+    → b ≡ list_any (is_granted_to (roles_below h seniors) operation object) granted
+meets-granted h granted seniors operation object acting holding true acts holds_it some none =
+    let at = some refl in
+    sym (granted-of-place h granted seniors operation object at.0 (sym (acts at.0) ∙ at.2) (sym (holds_it at.0) ∙ at.1))
+meets-granted h granted seniors operation object acting holding false acts holds_it some none =
+    sym (refuted _ (λ is.
+    let at = place-of-granted h granted seniors operation object is in
+    true≢false (sym (both (has holding at.0) (has acting at.0) (holds_it at.0 ∙ at.2) (acts at.0 ∙ at.1)) ∙ none refl at.0)))
+
+-- one operation's masks more
+pub are-held-more : (roles : List Name) (granted : List Grant) (done : List (List (Object × Mask))) (new : List (Object × Mask)) (n : ℕ) → length done ≡ n
+    → ((k : ℕ) → k < n → IsHeld roles granted k (get_or done k [])) → IsHeld roles granted n new → (k : ℕ) → k < n + 1 → IsHeld roles granted k (get_or (done ++ new ∷ []) k [])
+are-held-more roles granted done new n long held here k less = elim (cases_lt k n) [
+  | inl before ↦ subst (λ t. IsHeld roles granted k t) (sym (get_or-append done (new ∷ []) [] k (omega arith))) (held k before)
+  | inr after ↦
+      let last : k ≡ length done = omega arith in
+      let now : k ≡ n = omega arith in
+      subst (λ t. IsHeld roles granted k t) (sym (ap (λ i. get_or (done ++ new ∷ []) i []) last ∙ get_or-append_seam done new [] [])) (subst (λ i. IsHeld roles granted i new) (sym now) here)
+]
+
+-- a name without a place is none of them
+pub unplaced : (names : List Name) (r : Name) → None ≡ position (name_eq r) names → contains_name names r ≡ false
+unplaced names r none = refuted (contains_name names r) (λ there.
+    let at = place_of names r there in
+    let past : nat_lt (position_or_len (name_eq r) names) (length names) ≡ false =
+    elim (nat_lt (position_or_len (name_eq r) names) (length names)) as (λ b. None ≡ cond b (Some (position_or_len (name_eq r) names)) None → b ≡ false) [ true ↦ λ e. cc | false ↦ λ _. refl ] none in
+    elim (cases_lt (position_or_len (name_eq r) names) (length names)) [
+      | inl less ↦ true≢false (sym (lt-ltb _ _ less) ∙ past)
+      | inr far ↦ true≢false (sym (ap (name_eq r) at.2 ∙ name_eq-refl r) ∙ fails_before_first (name_eq r) names at.0 [] (let inside = at.1 in omega arith))
+    ])
+
+-- an item that is there is the one at its place, whatever stands in for none
+pub there : {X : Type 0} (xs : List X) (i : ℕ) (a b : X) → i < length xs → get_or xs i a ≡ get_or xs i b
+there [] i a b inside = absurd (omega arith)
+there (x ∷ xs) zero a b inside = refl
+there (x ∷ xs) (suc i) a b inside = there xs i a b (omega arith)
