@@ -16,7 +16,6 @@ ghost use Rattle.mpw_edges.specs.Pieces.{IsPiece, ComesBefore, exchanged_box};
 ghost use Rattle.mpw_checks.specs.Cells.{StepsIn};
 
 use crate::halves::{Layers, halves, in_window};
-use crate::load::Load;
 use mpw_deck::Rule;
 use mpw_edges::{Piece, pieces_of, vertical_steps};
 use mpw_geom::Box2;
@@ -57,15 +56,15 @@ fn add_core(
     ensures { OnOk result (Adds found.old.items found.new.items
         (StepsIn rule.now layers.now.first.items layers.now.second.items core V)) }
 {
-    if depth == 0 {
+    let load = layers.load;
+    if depth == 0 || load.is_light() {
         return add_strip(alloc, found, rule, layers, core);
     }
-    let load = Load::of(layers);
     let (left, right) = halves(&core, &load.extent);
     let (first, second) = (layers.first.as_slice(), layers.second.as_slice());
     let low = in_window(alloc, rule, first, second, &left)?;
     let high = in_window(alloc, rule, first, second, &right)?;
-    if !load.is_eased_by(&Load::of(&low), &Load::of(&high)) {
+    if !load.is_eased_by(&low.load, &high.load) {
         return add_strip(alloc, found, rule, layers, core);
     }
     add_core(alloc, found, rule, &low, left, depth - 1)?;

@@ -12,15 +12,18 @@ ghost use Rattle.mpw_checks.specs.Cells.{
   AreAlikeIn,
 };
 
+use crate::across::merged;
+use crate::load::Load;
 use mpw_deck::Rule;
 use mpw_geom::{Box2, Point};
 use std::alloc::{AllocError, Global};
 
-/// The rectangles of both layers in a window.
+/// The rectangles of both layers in a window, and how much work they are.
 #[derive(Drop)]
 pub(crate) struct Layers {
     pub(crate) first: Vec<Box2>,
     pub(crate) second: Vec<Box2>,
+    pub(crate) load: Load,
 }
 
 /// The core widened on each side by the rule's distance and 1.
@@ -103,7 +106,7 @@ fn has_area(b: &Box2) -> bool
 fn parts(alloc: Global, boxes: &[Box2], window: &Box2) -> Result<Vec<Box2>, AllocError>
     ensures { IfOk result (λ v. AreAlikeIn window.now boxes.now v.items) }
 {
-    let mut found = Vec::new(alloc);
+    let mut found = Vec::with_capacity(alloc, boxes.len())?;
     for b in boxes {
         let part = part(b, window);
         if has_area(&part) {
@@ -111,6 +114,15 @@ fn parts(alloc: Global, boxes: &[Box2], window: &Box2) -> Result<Vec<Box2>, Allo
         }
     }
     Ok(found)
+}
+
+/// The boxes as far as the window has them, few of them from side to side of all.
+fn seen(alloc: Global, boxes: &[Box2], window: &Box2) -> Result<Vec<Box2>, AllocError>
+    ensures { IfOk result (λ v. AreAlikeIn window.now boxes.now v.items) }
+{
+    let parts = parts(alloc, boxes, window)?;
+    let extent = Load::of(parts.as_slice(), &[]).extent;
+    merged(alloc, parts, &extent)
 }
 
 /// The parts of the rectangles that lie in the core's window.
@@ -126,7 +138,12 @@ pub(crate) fn in_window(
     ensures second { IfOk result (λ l. AreAlikeIn (window_of core.now rule.now) second.now l.second.items) }
 {
     let window = window(core, rule);
-    let first = parts(alloc, first, &window)?;
-    let second = parts(alloc, second, &window)?;
-    Ok(Layers { first, second })
+    let first = seen(alloc, first, &window)?;
+    let second = seen(alloc, second, &window)?;
+    let load = Load::of(first.as_slice(), second.as_slice());
+    Ok(Layers {
+        first,
+        second,
+        load,
+    })
 }

@@ -6,6 +6,7 @@
 //! strip is checked by itself, and runs that go on from one strip to the next are joined.
 #![tactic(auto)]
 
+mod across;
 mod cells;
 mod halves;
 mod load;

@@ -1,7 +1,9 @@
 //! Whether a core is halved, and where: guesses that decide the cost and nothing else.
 
-use crate::halves::Layers;
 use mpw_geom::Box2;
+
+/// So few rectangles are a strip.
+const FEW: u64 = 8;
 
 /// What a rectangle costs beside the bands that it shares.
 const ITSELF: u64 = 4;
@@ -16,7 +18,7 @@ pub(crate) struct Load {
 
 impl Load {
     /// The load of the rectangles of both layers. One pass.
-    pub(crate) fn of(layers: &Layers) -> Load {
+    pub(crate) fn of(first: &[Box2], second: &[Box2]) -> Load {
         let mut load = Load {
             count: 0,
             heights: 0,
@@ -27,8 +29,8 @@ impl Load {
                 y1: i64::MIN,
             },
         };
-        load.add(layers.first.as_slice());
-        load.add(layers.second.as_slice());
+        load.add(first);
+        load.add(second);
         load
     }
 
@@ -43,6 +45,11 @@ impl Load {
                 y1: self.extent.y1.max(b.y1),
             };
         }
+    }
+
+    /// Whether there are so few rectangles that halves would be no gain.
+    pub(crate) fn is_light(&self) -> bool {
+        self.count <= FEW
     }
 
     /// About how many boxes the bands have: two borders a rectangle, each with as many rectangles as a row has.
