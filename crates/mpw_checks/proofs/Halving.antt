@@ -18,7 +18,7 @@ use Rattle.mpw_edges.specs.Edges.{Squares}
 use Rattle.mpw_edges.specs.Pieces.{IsInCore, HasStep}
 use Rattle.mpw_edges.specs.Laws.{AreSameIn}
 use Rattle.mpw_edges.proofs.Window.{step_same, back}
-use Rattle.mpw_checks.specs.Cells.{StepsIn, window_of, AreAlikeIn, AreHalves, IsMiddle, left_of, right_of, below, above}
+use Rattle.mpw_checks.specs.Cells.{StepsIn, window_of, AreAlikeIn, AreHalves, IsMiddle, left_of, right_of}
 
 -- a pair step belongs to just one half
 step_in_half : (rule : Rule) (a b : Squares) (core low high : Box2) → AreHalves core low high → (axis : Axis) (side : ℕ) (x1 x2 j : ℤ) → HasStep rule a b core axis side x1 x2 j → HasStep rule a b low axis side x1 x2 j ⊎ HasStep rule a b high axis side x1 x2 j
@@ -35,10 +35,10 @@ step_of_half rule a b core low high h H side x1 x2 j (inr s) = let p = (h j x1).
 itself : (n : ℕ) → n ≤ n
 itself n = omega arith
 
-seen : (rule : Rule) (first second f s : List Box2) (core : Box2) → AreAlikeIn (window_of core rule) first f → AreAlikeIn (window_of core rule) second s → (axis : Axis) (line : Line) (j : ℤ) → StepsIn rule first second core axis line j → StepsIn rule f s core axis line j
+pub seen : (rule : Rule) (first second f s : List Box2) (core : Box2) → AreAlikeIn (window_of core rule) first f → AreAlikeIn (window_of core rule) second s → (axis : Axis) (line : Line) (j : ℤ) → StepsIn rule first second core axis line j → StepsIn rule f s core axis line j
 seen rule first second f s core p q axis line j = step_same rule rule.distance (covers first) (covers second) (covers f) (covers s) core (itself rule.distance) p q axis line.side line.first line.second j
 
-meant : (rule : Rule) (first second f s : List Box2) (core : Box2) → AreAlikeIn (window_of core rule) first f → AreAlikeIn (window_of core rule) second s → (axis : Axis) (line : Line) (j : ℤ) → StepsIn rule f s core axis line j → StepsIn rule first second core axis line j
+pub meant : (rule : Rule) (first second f s : List Box2) (core : Box2) → AreAlikeIn (window_of core rule) first f → AreAlikeIn (window_of core rule) second s → (axis : Axis) (line : Line) (j : ℤ) → StepsIn rule f s core axis line j → StepsIn rule first second core axis line j
 meant rule first second f s core p q axis line j = step_same rule rule.distance (covers f) (covers s) (covers first) (covers second) core (itself rule.distance) (back (window_of core rule) (covers first) (covers f) p) (back (window_of core rule) (covers second) (covers s) q) axis line.side line.first line.second j
 
 pub Adds-halves : (old mid new : List Run) (rule : Rule) (first second f s f' s' : List Box2) (core low high : Box2) (axis : Axis) → AreHalves core low high
@@ -92,15 +92,6 @@ column_halves core at h x y = (
   ],
 )
 
-pub row_halves : (core : Box2) (at : Point) → IsMiddle core at → AreHalves core (below core at) (above core at)
-row_halves core at h x y = (
-  λ p. by_lt_z y at.y (λ l. inl (p.0, p.1, p.2, l)) (λ l. inr (p.0, p.1, l, p.3)),
-  λ p. elim p [
-    | inl q ↦ (q.0, q.1, q.2, (let u = h.row in omega (arith, ints, u, q.3)))
-    | inr q ↦ (q.0, q.1, between core.y0 core.y1 at.y y h.row h.rows q.2 q.3, q.3)
-  ],
-)
-
 coordinate : (low high m : ℤ) → IsCoordinate low → IsCoordinate high → m ≤ℤ high → ((y : ℤ) → y ≤ℤ low → y ≤ℤ high → y ≤ℤ m) → IsCoordinate m
 coordinate low high m p q u l = record {
   low = l (neg_ℤ (pos (2 ^ 48))) p.low q.low;
@@ -112,18 +103,13 @@ in_plane_columns core at p h =
     let m = coordinate core.x0 core.x1 at.x p.x0 p.x1 h.column h.columns in
     (record { x0 = p.x0; y0 = p.y0; x1 = m; y1 = p.y1 }, record { x0 = m; y0 = p.y0; x1 = p.x1; y1 = p.y1 })
 
-pub in_plane_rows : (core : Box2) (at : Point) → IsBoxInPlane core → IsMiddle core at → IsBoxInPlane (below core at) × IsBoxInPlane (above core at)
-in_plane_rows core at p h =
-    let m = coordinate core.y0 core.y1 at.y p.y0 p.y1 h.row h.rows in
-    (record { x0 = p.x0; y0 = p.y0; x1 = p.x1; y1 = m }, record { x0 = p.x0; y0 = m; x1 = p.x1; y1 = p.y1 })
-
 pub same_box : (a b : Box2) → a.x0 ≡ b.x0 → a.y0 ≡ b.y0 → a.x1 ≡ b.x1 → a.y1 ≡ b.y1 → a ≡ b
 same_box a b e f g h =
     ap (λ (p : ℤ × ℤ × ℤ × ℤ). let c : Box2 = record { x0 = p.0; y0 = p.1; x1 = p.2; y1 = p.3 } in c) (let k : (let q : ℤ × ℤ × ℤ × ℤ = (a.x0, a.y0, a.x1, a.y1) in q) ≡ (b.x0, b.y0, b.x1, b.y1) = cc in k)
 
 -- the slices that code hands on
-pub Adds-seen : (old new : List Run) (rule : Rule) (f f' s s' : List Box2) (core : Box2) (axis : Axis) → f ≡ f' → s ≡ s' → Adds old new (StepsIn rule f s core axis) → Adds old new (StepsIn rule f' s' core axis)
-Adds-seen old new rule f f' s s' core axis e g h = subst (λ (x : List Box2). Adds old new (StepsIn rule f' x core axis)) g (subst (λ (x : List Box2). Adds old new (StepsIn rule x s core axis)) e h)
+pub seen_slices : (slice boxes : List Box2) → slice ≡ boxes → (window : Box2) (parts : List Box2) → AreAlikeIn window slice parts → AreAlikeIn window boxes parts
+seen_slices slice boxes e window parts h = subst (λ (x : List Box2). AreAlikeIn window x parts) e h
 
 pub step_lists : (rule : Rule) (a a' b b' : Squares) (core : Box2) (axis : Axis) (runs : List Run) → a ≡ a' → b ≡ b' → ((line : Line) (j : ℤ) → CoversPlace runs line j ↔ HasStep rule a b core axis line.side line.first line.second j) → (line : Line) (j : ℤ) → CoversPlace runs line j ↔ HasStep rule a' b' core axis line.side line.first line.second j
 step_lists rule a a' b b' core axis runs e g h line j =

@@ -1,4 +1,4 @@
--- A core in two halves, and what is found in each.
+-- A core in two halves, left and right, and what is found in each.
 use Rattle.std.specs.Prelude.{◌≡◌, ℕ, ◌+◌, ℤ, ◌≤ℤ◌, List, ◌⊎◌, ◌↔◌}
 use Rattle.std.specs.Int.{int_min, int_max}
 use Rattle.mpw_geom.specs.declared.plane.Point.{Point}
@@ -22,25 +22,17 @@ window_of core rule = widened core (rule.distance + 1)
 abbrev pub AreAlikeIn : Box2 → List Box2 → List Box2 → Type 0
 AreAlikeIn window a b = AreSameIn window (covers a) (covers b)
 
--- the core left and right of a point, below and above it
+-- the core left and right of a point
 abbrev pub left_of : Box2 → Point → Box2
 left_of core at = record { x0 = core.x0; y0 = core.y0; x1 = at.x; y1 = core.y1 }
 
 abbrev pub right_of : Box2 → Point → Box2
 right_of core at = record { x0 = at.x; y0 = core.y0; x1 = core.x1; y1 = core.y1 }
 
-abbrev pub below : Box2 → Point → Box2
-below core at = record { x0 = core.x0; y0 = core.y0; x1 = core.x1; y1 = at.y }
-
-abbrev pub above : Box2 → Point → Box2
-above core at = record { x0 = core.x0; y0 = at.y; x1 = core.x1; y1 = core.y1 }
-
--- the point is no further than the core's last corner, nor than both corners before
+-- the point is no further than the core's right side, nor than both sides before
 pub record IsMiddle (core : Box2) (at : Point) : Type 0 where
   pub column : at.x ≤ℤ core.x1
-  pub row : at.y ≤ℤ core.y1
   pub columns : (z : ℤ) → z ≤ℤ core.x0 → z ≤ℤ core.x1 → z ≤ℤ at.x
-  pub rows : (z : ℤ) → z ≤ℤ core.y0 → z ≤ℤ core.y1 → z ≤ℤ at.y
 
 -- the part of the box in the window
 abbrev pub part_of : Box2 → Box2 → Box2

@@ -6,20 +6,28 @@ ghost use Rattle.mpw_checks.specs.Cells.{
   window_of,
   left_of,
   right_of,
-  below,
-  above,
   part_of,
   IsMiddle,
   AreHalves,
   AreAlikeIn,
 };
 
+use crate::across::merged;
+use crate::load::Load;
 use mpw_deck::Rule;
 use mpw_geom::{Box2, Point};
 use std::alloc::{AllocError, Global};
 
+/// The rectangles of both layers in a window, and how much work they are.
+#[derive(Drop)]
+pub(crate) struct Layers {
+    pub(crate) first: Vec<Box2>,
+    pub(crate) second: Vec<Box2>,
+    pub(crate) load: Load,
+}
+
 /// The core widened on each side by the rule's distance and 1.
-pub(crate) fn window(core: &Box2, rule: &Rule) -> Box2
+fn window(core: &Box2, rule: &Rule) -> Box2
     requires { IsBoxInPlane core.now }
     ensures { result ≡ window_of core.now rule.now }
 {
@@ -32,17 +40,15 @@ pub(crate) fn window(core: &Box2, rule: &Rule) -> Box2
     }
 }
 
-/// A point in the middle of the core, or its last corner where it has none.
-fn middle(core: &Box2) -> Point
+/// A point in the middle of the extent, or where that is outside the core, at its side.
+fn middle(core: &Box2, extent: &Box2) -> Point
     ensures { IsMiddle core.now result }
 {
     Point {
-        x: (core.x0.wrapping_add(core.x1) / 2)
+        x: (extent.x0.wrapping_add(extent.x1) / 2)
             .max(core.x0)
             .min(core.x1),
-        y: (core.y0.wrapping_add(core.y1) / 2)
-            .max(core.y0)
-            .min(core.y1),
+        y: core.y0,
     }
 }
 
@@ -66,39 +72,15 @@ fn columns(core: &Box2, at: Point) -> (Box2, Box2)
     (low, high)
 }
 
-/// The core below and above the point.
-fn rows(core: &Box2, at: Point) -> (Box2, Box2)
-    ensures low { result.0 ≡ below core.now at }
-    ensures high { result.1 ≡ above core.now at }
-{
-    let low = Box2 {
-        x0: core.x0,
-        y0: core.y0,
-        x1: core.x1,
-        y1: at.y,
-    };
-    let high = Box2 {
-        x0: core.x0,
-        y0: at.y,
-        x1: core.x1,
-        y1: core.y1,
-    };
-    (low, high)
-}
-
-/// The core in two halves, across its longer side.
-pub(crate) fn halves(core: &Box2) -> (Box2, Box2)
+/// The core in two halves, left and right of the middle of the extent.
+pub(crate) fn halves(core: &Box2, extent: &Box2) -> (Box2, Box2)
     requires { IsBoxInPlane core.now }
     ensures cores { AreHalves core.now result.0 result.1 }
     ensures low { IsBoxInPlane result.0 }
     ensures high { IsBoxInPlane result.1 }
 {
-    let at = middle(core);
-    if core.x0.abs_diff(core.x1) > core.y0.abs_diff(core.y1) {
-        columns(core, at)
-    } else {
-        rows(core, at)
-    }
+    let at = middle(core, extent);
+    columns(core, at)
 }
 
 /// The part of the box in the window.
@@ -121,10 +103,10 @@ fn has_area(b: &Box2) -> bool
 }
 
 /// The parts of the boxes in the window. One pass.
-pub(crate) fn parts(alloc: Global, boxes: &[Box2], window: &Box2) -> Result<Vec<Box2>, AllocError>
+fn parts(alloc: Global, boxes: &[Box2], window: &Box2) -> Result<Vec<Box2>, AllocError>
     ensures { IfOk result (λ v. AreAlikeIn window.now boxes.now v.items) }
 {
-    let mut found = Vec::new(alloc);
+    let mut found = Vec::with_capacity(alloc, boxes.len())?;
     for b in boxes {
         let part = part(b, window);
         if has_area(&part) {
@@ -132,4 +114,36 @@ pub(crate) fn parts(alloc: Global, boxes: &[Box2], window: &Box2) -> Result<Vec<
         }
     }
     Ok(found)
+}
+
+/// The boxes as far as the window has them, few of them from side to side of all.
+fn seen(alloc: Global, boxes: &[Box2], window: &Box2) -> Result<Vec<Box2>, AllocError>
+    ensures { IfOk result (λ v. AreAlikeIn window.now boxes.now v.items) }
+{
+    let parts = parts(alloc, boxes, window)?;
+    let extent = Load::of(parts.as_slice(), &[]).extent;
+    merged(alloc, parts, &extent)
+}
+
+/// The parts of the rectangles that lie in the core's window.
+pub(crate) fn in_window(
+    alloc: Global,
+    rule: &Rule,
+    first: &[Box2],
+    second: &[Box2],
+    core: &Box2,
+) -> Result<Layers, AllocError>
+    requires { IsBoxInPlane core.now }
+    ensures first { IfOk result (λ l. AreAlikeIn (window_of core.now rule.now) first.now l.first.items) }
+    ensures second { IfOk result (λ l. AreAlikeIn (window_of core.now rule.now) second.now l.second.items) }
+{
+    let window = window(core, rule);
+    let first = seen(alloc, first, &window)?;
+    let second = seen(alloc, second, &window)?;
+    let load = Load::of(first.as_slice(), second.as_slice());
+    Ok(Layers {
+        first,
+        second,
+        load,
+    })
 }

@@ -10,4 +10,4 @@ mod search;
 
 pub use laws::{exchange_exchanges_axes, test_decides_pair_steps, window_decides};
 pub use run::{Axis, Piece};
-pub use search::{pieces, pieces_of, steps};
+pub use search::{pieces, pieces_of, vertical_steps};

@@ -23,8 +23,15 @@ use mpw_geom::Box2;
 use mpw_region::{Bands, Run, joined};
 use std::alloc::{AllocError, Global};
 
-/// The maximal runs of rows with a pair step between vertical edges of bands.
-fn vertical(
+/// The maximal runs of rows with a pair step between vertical edges of bands, whose boxes are given: the line
+/// of a run has the side, `x1` and `x2`. They are what [`pieces`] tells of axis `V`, for a caller that finds
+/// the steps of many cores and joins their runs.
+///
+/// For `k` runs before they are joined the cost is that of finding them (see [`pieces`]) and `k log k`.
+///
+/// # Errors
+/// Where there is no room.
+pub fn vertical_steps(
     alloc: Global,
     rule: &Rule,
     first: &[Box2],
@@ -54,15 +61,8 @@ fn exchanged_box(b: &Box2) -> Box2
     }
 }
 
-/// The maximal runs of rows with a pair step of the rule on the axis inside the core: the line of a run
-/// has the side, `x1` and `x2`. They are what [`pieces`] tells of the axis, for a caller that finds the
-/// steps of many cores and joins their runs.
-///
-/// For `k` runs before they are joined the cost is that of finding them (see [`pieces`]) and `k log k`.
-///
-/// # Errors
-/// Where there is no room.
-pub fn steps(
+/// The maximal runs of rows with a pair step of the rule on the axis inside the core.
+fn steps(
     alloc: Global,
     rule: &Rule,
     axis: Axis,
@@ -76,10 +76,10 @@ pub fn steps(
     ensures apart { IfOk result (λ v. AreApart v.items) }
 {
     match axis {
-        Axis::V => vertical(alloc, rule, first.as_slice(), second.as_slice(), core),
+        Axis::V => vertical_steps(alloc, rule, first.as_slice(), second.as_slice(), core),
         Axis::H => {
             let core = exchanged_box(&core);
-            vertical(alloc, rule, first.columns(), second.columns(), core)
+            vertical_steps(alloc, rule, first.columns(), second.columns(), core)
         }
     }
 }

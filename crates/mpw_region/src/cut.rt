@@ -47,9 +47,9 @@ pub fn bands(alloc: Global, boxes: &[Box2]) -> Result<Bands, AllocError>
         any_has_square b s ≡ any_has_square boxes.now s) }
     ensures banded { IfOk result AreBands }
 {
-    let rows = swept(alloc, boxes)?;
-    let exchanged = exchanged_boxes(alloc, boxes)?;
-    let columns = swept(alloc, exchanged.as_slice())?;
+    let rows = row_bands(alloc, boxes)?;
+    let exchanged = exchange(alloc, boxes)?;
+    let columns = row_bands(alloc, exchanged.as_slice())?;
     Ok(Bands::of(rows, columns))
 }
 
@@ -65,8 +65,11 @@ fn exchanged_box(b: &Box2) -> Box2
     }
 }
 
-/// The boxes with their coordinates exchanged.
-fn exchanged_boxes(alloc: Global, boxes: &[Box2]) -> Result<Vec<Box2>, AllocError>
+/// The boxes with their coordinates exchanged, in order. One pass.
+///
+/// # Errors
+/// Where there is no room.
+pub fn exchange(alloc: Global, boxes: &[Box2]) -> Result<Vec<Box2>, AllocError>
     ensures { IfOk result (λ v. v.items ≡ map exchanged_box boxes.now) }
 {
     boxes.iter().map(|b| exchanged_box(b)).collect(alloc)
@@ -107,8 +110,12 @@ fn borders(alloc: Global, boxes: &[Box2]) -> Result<Vec<i64>, AllocError>
     Ok(rows)
 }
 
-/// The squares of the boxes, as bands.
-fn swept(alloc: Global, boxes: &[Box2]) -> Result<Vec<Box2>, AllocError>
+/// The unit squares of the boxes as the boxes of bands, for a caller that looks along rows alone: the half
+/// of [`bands`], at half its cost.
+///
+/// # Errors
+/// Where there is no room.
+pub fn row_bands(alloc: Global, boxes: &[Box2]) -> Result<Vec<Box2>, AllocError>
     ensures squares { IfOk result (λ v. (i j : ℤ) → covers v.items i j ≡ covers boxes.now i j) }
     ensures banded { IfOk result (λ v. AreBands v.items) }
 {

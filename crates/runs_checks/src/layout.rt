@@ -1,6 +1,6 @@
 //! The layout that the lines make, and the answer to each line.
 
-use crate::compare::{both, differences};
+use crate::compare::{Kind, both, differences, grid_differences};
 use mpw_deck::{Check, Rule};
 use mpw_edges::{Axis, Piece};
 use mpw_geom::{Box2, Layer, Name};
@@ -24,12 +24,21 @@ pub const CHECKS: [Check; 4] = [
     Check::Enclosing(FIRST, SECOND),
 ];
 
-/// The boxes of two layers.
+/// The boxes of two layers, and the core that is checked.
 #[derive(Drop)]
 pub struct Shapes {
     first: Vec<Box2>,
     second: Vec<Box2>,
+    core: Box2,
 }
+
+/// The core of a layout for which the lines name none.
+const CORE: Box2 = Box2 {
+    x0: -1000,
+    y0: -1000,
+    x1: 1000,
+    y1: 1000,
+};
 
 /// A rule of the check.
 pub fn rule_of(alloc: Global, check: Check, distance: u32) -> Option<Rule> {
@@ -77,6 +86,7 @@ impl Shapes {
         Shapes {
             first: Vec::new(alloc),
             second: Vec::new(alloc),
+            core: CORE,
         }
     }
 
@@ -100,9 +110,14 @@ impl Shapes {
             "clear" => {
                 self.first.clear();
                 self.second.clear();
+                self.core = CORE;
             }
-            "random" => return differences(alloc, a, 9, 32),
-            "crowded" => return differences(alloc, a, 60, 8),
+            "core" => self.core = shape,
+            "random" => return differences(alloc, a, Kind::Few),
+            "crowded" => return differences(alloc, a, Kind::Crowded),
+            "aligned" => return differences(alloc, a, Kind::Aligned),
+            "wide" => return differences(alloc, a, Kind::Wide),
+            "grids" => return grid_differences(alloc, a),
             _ => return self.found(alloc, verb, u32::try_from(a).unwrap_or(1)),
         }
         Ok(String::new(alloc))
@@ -115,18 +130,12 @@ impl Shapes {
         let Some(rule) = rule_of(alloc, check, distance) else {
             return format!(in alloc; "no rule\n");
         };
-        let core = Box2 {
-            x0: -1000,
-            y0: -1000,
-            x1: 1000,
-            y1: 1000,
-        };
         let (bands, cells) = both(
             alloc,
             &rule,
             self.first.as_slice(),
             self.second.as_slice(),
-            core,
+            self.core,
         )?;
         if bands.as_slice() != cells.as_slice() {
             return format!(in alloc; "bands and cells differ\n");

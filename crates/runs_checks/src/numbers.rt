@@ -46,4 +46,45 @@ impl Numbers {
         }
         Ok(boxes)
     }
+
+    /// So many boxes, each narrower than `n`, whose borders are multiples of eight.
+    pub fn aligned(&mut self, alloc: Global, count: i64, n: u32) -> Result<Vec<Box2>, AllocError>
+        requires { 0 < n }
+    {
+        let boxes = self.places(alloc, count, n)?;
+        boxes.iter().map(|b| snapped(b)).collect(alloc)
+    }
+
+    /// So many boxes over a place of 3,000 by 300, one in four of them long.
+    pub fn wide(&mut self, alloc: Global, count: i64) -> Result<Vec<Box2>, AllocError> {
+        let mut boxes = Vec::new(alloc);
+        for _ in 0..count {
+            let x0 = self.below(3000);
+            let y0 = self.below(300);
+            let long = self.below(4) == 0;
+            let wide = if long {
+                self.below(900)
+            } else {
+                self.below(40)
+            };
+            let high = self.below(40);
+            boxes.push(Box2 {
+                x0,
+                y0,
+                x1: x0.saturating_add(wide),
+                y1: y0.saturating_add(high),
+            })?;
+        }
+        Ok(boxes)
+    }
+}
+
+/// The box with each coordinate made a multiple of eight.
+fn snapped(b: &Box2) -> Box2 {
+    Box2 {
+        x0: b.x0 & !7,
+        y0: b.y0 & !7,
+        x1: b.x1 & !7,
+        y1: b.y1 & !7,
+    }
 }

@@ -1,15 +1,12 @@
-use Rattle.std.proofs.Common.{◌≡◌, ◌∙◌, ◌++◌, [], ap, subst, sym, map, List}
+use Rattle.std.proofs.Common.{◌≡◌, ◌∙◌, ◌++◌, ap, subst, sym, map, List}
 use Rattle.std.specs.Prelude.{Contains, AllPairs, ◌↔◌}
 use Rattle.std.proofs.lemmas.Result.{IfOk-weaker}
 use Rattle.mpw_region.specs.declared.runs.Run.{Run}
-use Rattle.mpw_region.specs.Runs.{Adds}
 use Rattle.mpw_region.specs.Squares.{covers}
 use Rattle.mpw_edges.specs.declared.run.Axis.TheVariants.{V, H}
 use Rattle.mpw_edges.specs.declared.run.Piece.{Piece}
 use Rattle.mpw_edges.specs.Pieces.{piece_of, IsPiece, ComesBefore}
 use Rattle.mpw_edges.proofs.Maximal.{exact_pieces, ordered_pieces}
-use Rattle.mpw_checks.specs.Cells.{StepsIn}
-use Rattle.mpw_checks.proofs.Halving.{joined_places}
 use Rattle.mpw_checks.proofs.cells.pieces.Goals as goal
 
 -- the list of the code, as the two lists that it was made of
@@ -19,15 +16,10 @@ both_lists all seen vs seen' hs e f g =
 
 pub returns-clause-exact : goal.returns-clause-exact
 returns-clause-exact c =
-    let rule = c.args.rule.now in
-    let vertical = subst (λ (rs : List Run). Adds rs c.add_core.new.found.vertical.items (StepsIn rule c.args.first.now c.args.second.now c.args.core V)) c.new.ensures.items c.in_ok-add_core.ensures.vertical in
-    let horizontal = subst (λ (rs : List Run). Adds rs c.add_core.new.found.horizontal.items (StepsIn rule c.args.first.now c.args.second.now c.args.core H)) c.new-2.ensures.items c.in_ok-add_core.ensures.horizontal in
     IfOk-weaker c.pieces_of.result _ _
     (λ v e p.
-    subst (λ (ps : List Piece). Contains ps p ↔ IsPiece rule (covers c.args.first.now) (covers c.args.second.now) c.args.core p) (sym (both_lists v.items c.as_slice.result.now c.in_ok-vertical.vertical.items c.as_slice-2.result.now c.in_ok-horizontal.horizontal.items e c.as_slice.ensures.value c.as_slice-2.ensures.value))
-    (exact_pieces rule (covers c.args.first.now) (covers c.args.second.now) c.args.core c.in_ok-vertical.vertical.items c.in_ok-horizontal.horizontal.items c.in_ok-vertical.ensures.apart c.in_ok-horizontal.ensures.apart
-    (joined_places c.add_core.new.found.vertical.items c.in_ok-vertical.vertical.items (StepsIn rule c.args.first.now c.args.second.now c.args.core V) vertical c.in_ok-vertical.ensures.places)
-    (joined_places c.add_core.new.found.horizontal.items c.in_ok-horizontal.horizontal.items (StepsIn rule c.args.first.now c.args.second.now c.args.core H) horizontal c.in_ok-horizontal.ensures.places) p))
+    subst (λ (ps : List Piece). Contains ps p ↔ IsPiece c.args.rule.now (covers c.args.first.now) (covers c.args.second.now) c.args.core p) (sym (both_lists v.items c.as_slice.result.now c.in_ok-vertical.vertical.items c.as_slice-2.result.now c.in_ok-horizontal.horizontal.items e c.as_slice.ensures.value c.as_slice-2.ensures.value))
+    (exact_pieces c.args.rule.now (covers c.args.first.now) (covers c.args.second.now) c.args.core c.in_ok-vertical.vertical.items c.in_ok-horizontal.horizontal.items c.in_ok-vertical.ensures.apart c.in_ok-horizontal.ensures.apart c.in_ok-vertical.ensures.places c.in_ok-horizontal.ensures.places p))
     c.pieces_of.ensures
 
 pub returns-clause-ordered : goal.returns-clause-ordered

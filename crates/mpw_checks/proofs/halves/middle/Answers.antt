@@ -5,7 +5,5 @@ use Rattle.mpw_checks.proofs.halves.middle.Goals as goal
 pub returns : goal.returns
 returns c = record {
   column = omega (arith, ints, clamps);
-  row = omega (arith, ints, clamps);
   columns = λ z l h. omega (arith, ints, clamps, l, h);
-  rows = λ z l h. omega (arith, ints, clamps, l, h);
 }

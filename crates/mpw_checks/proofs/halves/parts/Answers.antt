@@ -6,7 +6,7 @@ use Rattle.mpw_checks.proofs.halves.parts.Goals as goal
 use Rattle.mpw_checks.proofs.halves.parts.Goals.{then-has_area+in_ok-push, else-has_area}
 
 pub loop-b-init : goal.loop-b-init
-loop-b-init c = rw c.new-found.ensures.items (ArePartsOf-none c.args.window.now)
+loop-b-init c = rw c.in_ok-found.ensures.items (ArePartsOf-none c.args.window.now)
 
 pub loop-b-preserved : goal.loop-b-preserved
 loop-b-preserved c =

@@ -7,7 +7,7 @@ use Rattle.mpw_geom.specs.Plane.{HasArea}
 use Rattle.mpw_region.specs.Sweep.{HoldsJust}
 use Rattle.mpw_region.specs.Swept.{IsCovered}
 use Rattle.mpw_region.proofs.Sweeping.{covers-same, covered_by_filled}
-use Rattle.mpw_region.proofs.cut.swept.Goals as goal
+use Rattle.mpw_region.proofs.cut.row_bands.Goals as goal
 
 pub returns-clause-squares : goal.returns-clause-squares
 returns-clause-squares c =

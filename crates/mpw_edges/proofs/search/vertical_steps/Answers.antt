@@ -1,5 +1,5 @@
 use Rattle.std.proofs.lemmas.Result.{IfOk-weaker}
-use Rattle.mpw_edges.proofs.search.vertical.Goals as goal
+use Rattle.mpw_edges.proofs.search.vertical_steps.Goals as goal
 
 pub returns-clause-places : goal.returns-clause-places
 returns-clause-places c =

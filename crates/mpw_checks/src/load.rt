@@ -1,0 +1,67 @@
+//! Whether a core is halved, and where: guesses that decide the cost and nothing else.
+
+use mpw_geom::Box2;
+
+/// So few rectangles are a strip.
+const FEW: u64 = 8;
+
+/// What a rectangle costs beside the bands that it shares.
+const ITSELF: u64 = 4;
+
+/// How many rectangles there are, the sum of their heights, and the box about them all.
+#[derive(Clone, Copy)]
+pub(crate) struct Load {
+    count: u64,
+    heights: u64,
+    pub(crate) extent: Box2,
+}
+
+impl Load {
+    /// The load of the rectangles of both layers. One pass.
+    pub(crate) fn of(first: &[Box2], second: &[Box2]) -> Load {
+        let mut load = Load {
+            count: 0,
+            heights: 0,
+            extent: Box2 {
+                x0: i64::MAX,
+                y0: i64::MAX,
+                x1: i64::MIN,
+                y1: i64::MIN,
+            },
+        };
+        load.add(first);
+        load.add(second);
+        load
+    }
+
+    fn add(&mut self, boxes: &[Box2]) {
+        for b in boxes {
+            self.count = self.count.saturating_add(1);
+            self.heights = self.heights.saturating_add(b.y0.abs_diff(b.y1));
+            self.extent = Box2 {
+                x0: self.extent.x0.min(b.x0),
+                y0: self.extent.y0.min(b.y0),
+                x1: self.extent.x1.max(b.x1),
+                y1: self.extent.y1.max(b.y1),
+            };
+        }
+    }
+
+    /// Whether there are so few rectangles that halves would be no gain.
+    pub(crate) fn is_light(&self) -> bool {
+        self.count <= FEW
+    }
+
+    /// About how many boxes the bands have: two borders a rectangle, each with as many rectangles as a row has.
+    pub(crate) fn work(&self) -> u64 {
+        let height = self.extent.y0.abs_diff(self.extent.y1);
+        let in_a_row = self.heights.checked_div(height).unwrap_or(0);
+        self.count.saturating_mul(in_a_row.saturating_add(ITSELF))
+    }
+
+    /// Whether two halves are less work by more than one part in sixteen.
+    pub(crate) fn is_eased_by(&self, low: &Load, high: &Load) -> bool {
+        let work = self.work();
+        low.work().saturating_add(high.work()) < work.saturating_sub(work / 16)
+    }
+}
