@@ -1,13 +1,13 @@
 //! Plans: the tiles over an extent.
 
-ghost use Rattle.std.specs.Prelude.{◌≡◌, ◌≤◌, ◌<◌, ◌^◌, ℕ, ◌+◌, IfOk, IfErr};
-ghost use Rattle.mpw_geom.specs.Plane.{IsBoxInPlane, IsOrdered};
-ghost use Rattle.mpw_grid.specs.Grid.{IsBoxWithin};
+ghost use Rattle.std.specs.Prelude.{◌≡◌, ◌↔◌, ◌≤◌, ◌<◌, ◌^◌, ℕ, ◌+◌, ◌*◌, IfOk, IfErr};
+ghost use Rattle.mpw_geom.specs.Plane.{IsBoxInPlane, IsOrdered, HasArea};
+ghost use Rattle.mpw_grid.specs.Grid.{columns, rows, column_of, row_of, IsBoxWithin, IsInBlock, ShareSquare};
 ghost use Rattle.mpw_tiles.specs.Plan.{greatest_distance, plan_of, tiles, tile_core, tile_window};
 
 use mpw_deck::{Deck, Rule};
 use mpw_geom::Box2;
-use mpw_grid::Grid;
+use mpw_grid::{Block, Grid};
 use std::marker::Model;
 use thiserror::Error;
 
@@ -92,5 +92,27 @@ impl Plan {
         ensures near { (m : ℕ) → IsBoxWithin m self.now.grid.extent → IsBoxWithin (m + 2 ^ 33) result }
     {
         self.grid.window(tile, self.margin)
+    }
+
+    /// The tiles whose windows share a unit square with the box, by division.
+    pub(crate) fn meeting(&self, b: Box2) -> Block
+        requires plane { IsBoxInPlane b }
+        requires area { HasArea b }
+        ensures columns { result.column1 ≤ columns self.now.grid }
+        ensures rows { result.row1 ≤ rows self.now.grid }
+        ensures exact { (tile : ℕ) → tile < tiles self.now → IsInBlock result (column_of self.now.grid tile) (row_of self.now.grid tile)
+            ↔ ShareSquare (tile_window self.now tile) b }
+    {
+        self.grid.meeting(b, self.margin)
+    }
+
+    /// The number of the tile in a column and a row.
+    pub(crate) fn tile(&self, column: u32, row: u32) -> u32
+        requires column { column < columns self.now.grid }
+        requires row { row < rows self.now.grid }
+        ensures number { result ≡ row * columns self.now.grid + column }
+        ensures within { result < tiles self.now }
+    {
+        self.grid.cell(column, row)
     }
 }
