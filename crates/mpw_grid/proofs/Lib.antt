@@ -1,0 +1,4 @@
+pub mod Intervals
+pub mod Cells
+pub mod Cores
+pub mod Windows

@@ -1,0 +1,41 @@
+use Rattle.std.proofs.Common.{◌≡◌, ℕ, ap, arith}
+use Rattle.std.proofs.lemmas.Int.{ints}
+use Rattle.mpw_geom.specs.declared.plane.Box2.{Box2}
+use Rattle.mpw_grid.specs.Grid.{core_of, window_of}
+use Rattle.mpw_grid.proofs.Cores.{same_box}
+use Rattle.mpw_grid.proofs.grid.Grid.window.Goals as goal
+
+pub overflow_sub-result : goal.overflow_sub-result
+overflow_sub-result c = let m = c.requires.margin in let l = c.core-core.ensures.reach.left in omega (arith, ints)
+
+pub overflow_sub-result-2 : goal.overflow_sub-result-2
+overflow_sub-result-2 c = let m = c.requires.margin in let l = c.core-core.ensures.reach.bottom in omega (arith, ints)
+
+pub overflow_add-result : goal.overflow_add-result
+overflow_add-result c = let m = c.requires.margin in let l = c.core-core.ensures.reach.right in omega (arith, ints)
+
+pub overflow_add-result-2 : goal.overflow_add-result-2
+overflow_add-result-2 c = let m = c.requires.margin in let l = c.core-core.ensures.reach.top in omega (arith, ints)
+
+pub returns-clause-window : goal.returns-clause-window
+returns-clause-window c =
+    let m = c.requires.margin in
+    let e = ap (λ (b : Box2). b.x0) c.core-core.ensures.core in
+    let f = ap (λ (b : Box2). b.y0) c.core-core.ensures.core in
+    let g = ap (λ (b : Box2). b.x1) c.core-core.ensures.core in
+    let h = ap (λ (b : Box2). b.y1) c.core-core.ensures.core in
+    let l = c.core-core.ensures.reach.left in
+    let l' = c.core-core.ensures.reach.bottom in
+    let r = c.core-core.ensures.reach.right in
+    let r' = c.core-core.ensures.reach.top in
+    same_box _ _ (omega (arith, ints)) (omega (arith, ints)) (omega (arith, ints)) (omega (arith, ints))
+
+pub returns-clause-near : goal.returns-clause-near
+returns-clause-near c = λ k b.
+    let n = c.core-core.ensures.near k b in
+    let l = n.left in
+    let r = n.right in
+    let d = n.bottom in
+    let t = n.top in
+    let m = c.requires.margin in
+    record { left = omega (arith, ints); right = omega (arith, ints); bottom = omega (arith, ints); top = omega (arith, ints) }

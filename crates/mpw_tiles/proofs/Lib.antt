@@ -1,0 +1,3 @@
+pub mod Tiles
+pub mod Lists
+pub mod Placed

@@ -1,0 +1,4 @@
+pub mod Plan
+pub mod Laws
+pub mod Listing
+pub mod Placed

@@ -1,0 +1,121 @@
+//! Sorting rectangles into the windows of the tiles that they meet.
+//!
+//! The tiles are found by division, so a rectangle costs constant time and the lists that it goes into.
+
+ghost use Rattle.std.specs.Prelude.{◌≡◌, ◌≤◌, ◌<◌, [], length, All, OnOk, IfOk};
+ghost use Rattle.mpw_geom.specs.Plane.{IsBoxInPlane};
+ghost use Rattle.mpw_grid.specs.Grid.{columns, rows, column_of, row_of, IsInBlock};
+ghost use Rattle.mpw_tiles.specs.Plan.{tiles};
+ghost use Rattle.mpw_tiles.specs.Listing.{Lists, IsInRow, HasSquareOf, IsListed, AddsSquares, AreWindowsOf};
+
+use crate::listing::{Rectangle, Window, list_at};
+use crate::plan::Plan;
+use mpw_grid::Block;
+use std::alloc::{AllocError, Global};
+
+/// Adds the rectangle to the lists of a row's tiles, from one column up to before another.
+fn list_in_row(
+    lists: &mut Vec<Window>,
+    plan: &Plan,
+    block: &Block,
+    row: u32,
+    rectangle: &Rectangle,
+) -> Result<(), AllocError>
+    requires count { length lists.old.items ≡ tiles plan.now }
+    requires columns { block.now.column1 ≤ columns plan.now.grid }
+    requires row { row < rows plan.now.grid }
+    ensures ok { OnOk result (Lists lists.old.items lists.new.items rectangle.now
+        (IsInRow plan.now.grid block.now.column0 block.now.column1 row)) }
+{
+    for column in block.column0..block.column1 {
+        let tile = plan.tile(column, row) as usize;
+        list_at(lists, tile, *rectangle)?;
+    }
+    Ok(())
+}
+
+/// Adds the rectangle to the lists of a block of tiles.
+fn list_in_block(
+    lists: &mut Vec<Window>,
+    plan: &Plan,
+    block: &Block,
+    rectangle: &Rectangle,
+) -> Result<(), AllocError>
+    requires count { length lists.old.items ≡ tiles plan.now }
+    requires columns { block.now.column1 ≤ columns plan.now.grid }
+    requires rows { block.now.row1 ≤ rows plan.now.grid }
+    ensures ok { OnOk result (Lists lists.old.items lists.new.items rectangle.now
+        (λ tile. IsInBlock block.now (column_of plan.now.grid tile) (row_of plan.now.grid tile))) }
+{
+    for row in block.row0..block.row1 {
+        list_in_row(lists, plan, block, row, rectangle)?;
+    }
+    Ok(())
+}
+
+/// Adds the rectangle to the lists of the tiles whose windows share a square with it. An error is want of
+/// memory.
+pub(crate) fn list_rectangle(
+    lists: &mut Vec<Window>,
+    plan: &Plan,
+    rectangle: &Rectangle,
+) -> Result<(), AllocError>
+    requires count { length lists.old.items ≡ tiles plan.now }
+    requires plane { IsBoxInPlane rectangle.now.area }
+    ensures ok { OnOk result (AddsSquares plan.now lists.old.items lists.new.items (HasSquareOf rectangle.now)) }
+{
+    let area = rectangle.area;
+    if area.x0 >= area.x1 || area.y0 >= area.y1 {
+        return Ok(());
+    }
+    let block = plan.meeting(area);
+    list_in_block(lists, plan, &block, rectangle)?;
+    Ok(())
+}
+
+/// So many empty windows. An error is want of memory.
+fn empty_windows(alloc: Global, count: u32) -> Result<Vec<Window>, AllocError>
+    ensures count { IfOk result (λ v. length v.items ≡ count) }
+    ensures empty { IfOk result (λ v. All (λ w. w ≡ []) v.items) }
+{
+    let mut windows = Vec::new(alloc);
+    for tile in 0..count {
+        windows.push(Window::new(alloc))?;
+    }
+    Ok(windows)
+}
+
+/// Adds the rectangles to the windows that they share squares with. An error is want of memory.
+fn list_all(
+    lists: &mut Vec<Window>,
+    plan: &Plan,
+    rectangles: &[Rectangle],
+) -> Result<(), AllocError>
+    requires count { length lists.old.items ≡ tiles plan.now }
+    requires plane { All (λ r. IsBoxInPlane r.area) rectangles.now }
+    ensures ok { OnOk result (AddsSquares plan.now lists.old.items lists.new.items (IsListed rectangles.now)) }
+{
+    for rectangle in rectangles {
+        list_rectangle(lists, plan, rectangle)?;
+    }
+    Ok(())
+}
+
+/// The windows of the plan's tiles over placed rectangles, one a tile, in order. Each rectangle is listed in the
+/// windows with which it shares a unit square, found by division: linear in the tiles, the rectangles and what
+/// is listed.
+///
+/// # Errors
+/// Where there is no memory.
+pub fn windows_of(
+    alloc: Global,
+    plan: &Plan,
+    rectangles: &[Rectangle],
+) -> Result<Vec<Window>, AllocError>
+    requires plane { All (λ r. IsBoxInPlane r.area) rectangles.now }
+    ensures { IfOk result (λ v. AreWindowsOf plan.now rectangles.now v.items) }
+{
+    let mut windows = empty_windows(alloc, plan.tiles())?;
+    list_all(&mut windows, plan, rectangles)?;
+    Ok(windows)
+}

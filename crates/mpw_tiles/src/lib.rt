@@ -1,0 +1,18 @@
+//! Tiles of a run: the grid over the layout, and the window of each tile.
+//!
+//! A [`Plan`] is a grid of half-open cores over the layout's extent. Each pair step of a rule belongs to exactly
+//! one core. What a core finds depends on the squares of its window, which is wider by the deck's greatest
+//! distance plus 1 on each side. [`windows_of`] sorts placed rectangles into the windows that they meet.
+#![tactic(auto)]
+
+mod fill;
+mod laws;
+mod listing;
+mod place;
+mod plan;
+
+pub use fill::windows_of;
+pub use laws::{each_step_has_one_tile, each_window_decides};
+pub use listing::{Rectangle, Window};
+pub use place::placed_area;
+pub use plan::{MAX_TILES, Plan, TooManyTiles};
