@@ -5,10 +5,9 @@ ghost use Rattle.std.specs.Prelude.{◌≡◌, ◌++◌, slice_get, IfOk, IfErr,
 ghost use Rattle.std.specs.List.{flat_map};
 ghost use Rattle.mpw_library.specs.Grammar.{library_of};
 ghost use Rattle.mpw_library.specs.Library.{IsLibrary};
-ghost use Rattle.mpw_hier.specs.Outside.{AreExternals};
+ghost use Rattle.mpw_hier.specs.Outline.{IsOutline};
 ghost use Rattle.mpw_hier.specs.Shelf.{bound_to};
 ghost use Rattle.mpw_hier.specs.declared.submission.Submission.{Submission as SubmissionTold};
-ghost use Rattle.mpw_hier.specs.Limits.{IsBound};
 ghost use Rattle.mpw_core.specs.Answer.{Answers, Told, IsShelved, fault_of};
 ghost use Rattle.mpw_core.specs.Layouts as row;
 ghost use Rattle.mpw_rbac.specs.Rows.{user_of};
@@ -16,7 +15,7 @@ ghost use Rattle.mpw_rbac.specs.Rows.{user_of};
 use crate::answer::Fault;
 use crate::{Code, Denial, Line, Lines, Reply};
 use mpw_geom::{Name, Names};
-use mpw_hier::{Bindings, HierFault, Shelf, Submission, externals};
+use mpw_hier::{Bindings, HierFault, Outline, Shelf, Submission, reaching_is_decided};
 use mpw_library::{Library, LibraryText};
 use mpw_rbac::{Object, Operation, Policy};
 use std::alloc::{AllocError, Global};
@@ -76,13 +75,14 @@ fn read(text: &LibraryText) -> Result<Library, Fault>
     }
 }
 
-/// The names outside the library that the top shows.
-fn outside(alloc: Global, library: &Library, top: &Name) -> Result<Names, Fault>
-    ensures outside { Answers (λ names. names) result (row.outside library.now top.now) }
-    ensures externals { IfOk result (AreExternals library.now top.now) }
+/// What the top of the library reaches, with the names outside the library.
+fn outside(alloc: Global, library: &Library, top: &Name) -> Result<Outline, Fault>
+    ensures outside { Answers (λ outline. outline.names) result (row.outside library.now top.now) }
+    ensures outline { IfOk result (IsOutline library.now top.now) }
 {
-    match externals(alloc, library, top) {
-        Ok(names) => Ok(names),
+    reaching_is_decided();
+    match Outline::new(alloc, library, top) {
+        Ok(outline) => Ok(outline),
         Err(fault) => Err(fault_of(fault)),
     }
 }
@@ -120,14 +120,21 @@ pub(crate) struct Shelved {
 
 /// The shelf with one more submission, if that keeps the limits.
 #[tactic(auto, unfolding(crate::specs::Layouts::kept))]
-fn keep(alloc: Global, shelf: &Shelf, submission: Submission) -> Result<Shelved, Fault>
+fn keep(
+    alloc: Global,
+    shelf: &Shelf,
+    submission: Submission,
+    outline: &Outline,
+) -> Result<Shelved, Fault>
     requires library { IsLibrary submission.library }
-    requires bound { IsBound shelf.now submission }
+    requires outline { IsOutline submission.library submission.top outline.now }
+    requires bound { bound_to shelf.now outline.now.names ≡ Some submission.bound }
     ensures ok { IfOk result (λ next. IsShelved shelf.now (row.kept shelf.now submission) next.shelf next.version) }
     ensures err { IfErr result (λ fault. Told fault (row.kept shelf.now submission)) }
 {
+    reaching_is_decided();
     let mut shelf = shelf.copy(alloc)?;
-    match shelf.push(alloc, submission) {
+    match shelf.put(alloc, submission, outline) {
         Ok(number) => {
             let version = version_of(&shelf, number);
             Ok(Shelved { shelf, version })
@@ -169,9 +176,9 @@ fn submit_library(
     ensures ok { IfOk result (λ next. IsShelved shelf.now (row.submitted_library policy.now shelf.now conn offer.cell offer.top offer.library) next.shelf next.version) }
     ensures err { IfErr result (λ fault. Told fault (row.submitted_library policy.now shelf.now conn offer.cell offer.top offer.library)) }
 {
-    let names = outside(alloc, &offer.library, &offer.top)?;
-    usable(policy, conn, names.as_slice())?;
-    let bound = bind(alloc, shelf, names.as_slice())?;
+    let outline = outside(alloc, &offer.library, &offer.top)?;
+    usable(policy, conn, outline.names.as_slice())?;
+    let bound = bind(alloc, shelf, outline.names.as_slice())?;
     let Offer {
         cell,
         submitter,
@@ -186,7 +193,7 @@ fn submit_library(
         top,
         bound,
     };
-    keep(alloc, shelf, submission)
+    keep(alloc, shelf, submission, &outline)
 }
 
 /// The shelf with the submission that a text makes. It takes the library's size, with a search for each name, and
