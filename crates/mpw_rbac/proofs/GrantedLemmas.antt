@@ -1,5 +1,5 @@
 -- The masks of an operation, one grant after the other, and what they answer.
-use Rattle.std.proofs.Common.{◌≡◌, ℕ, zero, suc, ◌+◌, ◌<◌, ◌≢◌, Bool, true, false, cond, not, ◌||◌, ◌&&◌, inl, inr, List, [], ◌∷◌, ◌++◌, length, get_or, eqb, eq-eqb, Option, None, Some, refl, sym, ap, subst, ◌∙◌, true≢false, arith}
+use Rattle.std.proofs.Common.{◌≡◌, ℕ, zero, suc, ◌<◌, Bool, true, false, cond, not, ◌||◌, ◌&&◌, inl, inr, List, [], ◌∷◌, ◌++◌, length, get_or, eqb, eq-eqb, Option, None, Some, refl, sym, ap, ◌∙◌, true≢false, arith}
 use Rattle.std.specs.Prelude.{nat_lt, position}
 use Rattle.std.specs.List.{list_any, position_or_len}
 use Rattle.std.specs.Cmp.{both_ways}
@@ -8,8 +8,6 @@ use Rattle.std.specs.Option.{option_map_or}
 use Rattle.std.proofs.lemmas.Bool.{cases_eq, cases_lt, lt-ltb, ltb-true, ne_eqb}
 use Rattle.std.proofs.lemmas.List.Quantifiers.{position-Some}
 use Rattle.std.proofs.lemmas.List.Sums.{fails_before_first}
-use Rattle.std.proofs.Math.Seq.{get_or-append_seam}
-use Rattle.std.proofs.Math.ListN.{get_or-append}
 use Rattle.mpw_geom.specs.Names.{name_eq, contains_name}
 use Rattle.mpw_roles.specs.declared.mask.Mask.{Mask}
 use Rattle.mpw_roles.specs.Hierarchy.{Name, Hierarchy, role_names, is_role}
@@ -94,10 +92,6 @@ module _ (eq : Object → Object → Bool) (same : (a b : Object) → eq a b ≡
       (sym (looked-up eq same new other) ∙ put other ∙ (λ i. cond ((same key other ∙ ap (λ k. object_eq k other) at) i) (Some mask) (looked-up eq same old other i)))
       ∙ put-holds old mask object place is other q
 
--- no grants, no holders
-pub held-none : (roles : List Name) (operation : ℕ) → IsHeld roles [] operation []
-held-none roles operation = record { exact = λ object place. sym (and_false (nat_lt place (length roles))) }
-
 -- one grant more
 pub held-more : (roles : List Name) (done : List Grant) (g : Grant) (operation : ℕ) (old new : List (Object × Mask))
     → ((object : Object) (place : ℕ) → holds new object place ≡ (holds old object place || (nat_lt place (length roles) && is_grant_of operation object (get_or roles place []) g)))
@@ -116,13 +110,6 @@ held-same : (roles : List Name) (done : List Grant) (g : Grant) (operation : ℕ
     → IsHeld roles done operation table → IsHeld roles (done ++ g ∷ []) operation table
 held-same roles done g operation table none held =
     held-more roles done g operation table table (λ object place. sym (ap (λ b. holds table object place || b) (none object place) ∙ or_false (holds table object place))) held
-
-pub held-other : (roles : List Name) (done : List Grant) (g : Grant) (operation : ℕ) (table : List (Object × Mask)) → operation_index g.operation ≢ operation
-    → IsHeld roles done operation table → IsHeld roles (done ++ g ∷ []) operation table
-held-other roles done g operation table other held =
-    held-same roles done g operation table
-    (λ object place. ap (λ b. nat_lt place (length roles) && (b && (object_eq object g.object && name_eq (get_or roles place []) g.role))) (ne_eqb operation (operation_index g.operation) (λ is. other (sym is))) ∙ and_false (nat_lt place (length roles)))
-    held
 
 contains-at : (names : List Name) (i : ℕ) (r : Name) → i < length names → name_eq r (get_or names i []) ≡ true → contains_name names r ≡ true
 contains-at [] i r inside is = absurd (omega arith)
@@ -243,17 +230,6 @@ meets-granted h granted seniors operation object acting holding false acts holds
     sym (refuted _ (λ is.
     let at = place-of-granted h granted seniors operation object is in
     true≢false (sym (both (has holding at.0) (has acting at.0) (holds_it at.0 ∙ at.2) (acts at.0 ∙ at.1)) ∙ none refl at.0)))
-
--- one operation's masks more
-pub are-held-more : (roles : List Name) (granted : List Grant) (done : List (List (Object × Mask))) (new : List (Object × Mask)) (n : ℕ) → length done ≡ n
-    → ((k : ℕ) → k < n → IsHeld roles granted k (get_or done k [])) → IsHeld roles granted n new → (k : ℕ) → k < n + 1 → IsHeld roles granted k (get_or (done ++ new ∷ []) k [])
-are-held-more roles granted done new n long held here k less = elim (cases_lt k n) [
-  | inl before ↦ subst (λ t. IsHeld roles granted k t) (sym (get_or-append done (new ∷ []) [] k (omega arith))) (held k before)
-  | inr after ↦
-      let last : k ≡ length done = omega arith in
-      let now : k ≡ n = omega arith in
-      subst (λ t. IsHeld roles granted k t) (sym (ap (λ i. get_or (done ++ new ∷ []) i []) last ∙ get_or-append_seam done new [] [])) (subst (λ i. IsHeld roles granted i new) (sym now) here)
-]
 
 -- a name without a place is none of them
 pub unplaced : (names : List Name) (r : Name) → None ≡ position (name_eq r) names → contains_name names r ≡ false

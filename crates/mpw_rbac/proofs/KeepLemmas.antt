@@ -234,13 +234,7 @@ holds-nobody h [] = refl
 holds-nobody h (x ∷ xs) = holds-nobody h xs
 
 pub keep-end_all : (p : Policy) → Sound p → Sound (rows.end_sessions p)
-keep-end_all p s = record {
-  sessions = refl;
-  static = s.static;
-  dynamic = holds-nobody p.roles p.dsd;
-  static_proper = s.static_proper;
-  dynamic_proper = s.dynamic_proper;
-}
+keep-end_all p s = record { sessions = refl; static = s.static; dynamic = holds-nobody p.roles p.dsd; static_proper = s.static_proper; dynamic_proper = s.dynamic_proper }
 
 -- a role without pairs breaks nothing
 pub keep-addrole : (p : Policy) (role : Name) → Sound p → Sound (record p { roles = with_role p.roles role })

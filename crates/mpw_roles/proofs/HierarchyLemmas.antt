@@ -4,7 +4,7 @@ use Rattle.std.proofs.lemmas.List.{length-map}
 use Rattle.std.specs.Cmp.Lexicographic.{bytes_decides}
 use Rattle.mpw_geom.specs.Names.{name_eq, contains_name, without_name}
 use Rattle.mpw_roles.specs.Hierarchy.{Name, Hierarchy, role_names, is_role, is_immediate, immediate_juniors, with_juniors, entries_without, with_role, without_role, with_pair, without_pair}
-use Rattle.mpw_roles.specs.Order.{at_least, is_below, roles_below, are_distinct, IsAtLeast, IsHierarchy}
+use Rattle.mpw_roles.specs.Order.{at_least, are_distinct, IsAtLeast, IsHierarchy}
 use Rattle.mpw_geom.specs.Links.{same, chain}
 use Rattle.mpw_geom.proofs.Linked.{same_name, or_right, or_cases, leads-sound, leads-complete, chain-trans, weaken_link, linked-without_same, linked-without_other}
 
@@ -343,22 +343,3 @@ contains-filter p (x ∷ xs) b =
     and_false : (t : Bool) → (t && false) ≡ false
     and_false true = refl
     and_false false = refl
-
--- the roles below one senior answer the order
-pub below-one : (h : Hierarchy) → IsHierarchy h → (a b : Name) → name_eq a b ≡ false → contains_name (roles_below h (a ∷ [])) b ≡ at_least h a b
-below-one h is a b apart =
-    contains-filter (is_below h (a ∷ [])) (role_names h) b
-    ∙ elim (at_least h a b) as (λ t. at_least h a b ≡ t → (is_role h b && (t || false)) ≡ t) [
-      | true ↦ λ down. elim (junior_role h is a b (leads-sound h a b down)) [
-        | inl equal ↦ absurd (true≢false (sym ((bytes_decides a b).1 equal) ∙ apart))
-        | inr role ↦ ap (λ t. t && true) role
-      ]
-      | false ↦ λ _. and_false (is_role h b)
-    ] refl
-  where
-    and_false : (t : Bool) → (t && false) ≡ false
-    and_false true = refl
-    and_false false = refl
-
-pub at_least-refl : (h : Hierarchy) (a b : Name) → name_eq a b ≡ true → true ≡ at_least h a b
-at_least-refl h a b equal = sym (leads-complete h a b (subst (IsAtLeast h a) (same_name a b equal) same))

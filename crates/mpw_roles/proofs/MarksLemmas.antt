@@ -48,12 +48,6 @@ is_marked-none (e ∷ es) (m ∷ ms) r none =
       | false ↦ λ is. is_marked-none es ms r is
     ] none
 
-pub role-from_marked : (h : Hierarchy) (ms : Marks) (r : Name) → is_marked h ms r ≡ true → is_role h r ≡ true
-role-from_marked h ms r is = elim (is_role h r) as (λ b. is_role h r ≡ b → b ≡ true) [
-  | true ↦ λ _. refl
-  | false ↦ λ none. absurd (true≢false (sym is ∙ is_marked-none h ms r none))
-] refl
-
 pub length-marked : (h : Hierarchy) (ms : Marks) (r : Name) → length h ≤ length ms → length (marked h ms r) ≡ length ms
 length-marked [] ms r long = refl
 length-marked (e ∷ es) [] r long = refl

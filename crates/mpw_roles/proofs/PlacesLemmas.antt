@@ -1,10 +1,10 @@
 -- Places of roles, and the masks of each change of a hierarchy.
-use Rattle.std.proofs.Common.{◌≡◌, ℕ, zero, suc, ◌+◌, ◌<◌, ◌≤◌, ◌≢◌, Bool, true, false, cond, ◌||◌, ◌&&◌, ◌⊎◌, inl, inr, List, [], ◌∷◌, ◌++◌, length, filter, get_or, set, eqb, eq-eqb, None, Some, refl, sym, ap, subst, ◌∙◌, true≢false, arith, length-append, zero-add, add-one, drop, take, get_or-set_same, get_or-set_other}
+use Rattle.std.proofs.Common.{◌≡◌, ℕ, zero, suc, ◌+◌, ◌<◌, ◌≤◌, Bool, true, false, cond, ◌||◌, ◌&&◌, ◌⊎◌, inl, inr, List, [], ◌∷◌, ◌++◌, length, filter, get_or, set, eqb, eq-eqb, Some, refl, sym, ap, subst, ◌∙◌, true≢false, arith, length-append, zero-add, add-one, drop, take}
 use Rattle.std.specs.Prelude.{nat_lt, position, replicate}
 use Rattle.std.specs.Cmp.Lexicographic.{bytes_decides}
 use Rattle.std.specs.Cmp.{both_ways}
-use Rattle.std.specs.List.{IsDistinct, list_any}
-use Rattle.std.proofs.lemmas.List.{length-replicate, take_all}
+use Rattle.std.specs.List.{IsDistinct}
+use Rattle.std.proofs.lemmas.List.{take_all}
 use Rattle.std.proofs.lemmas.List.Quantifiers.{position-Some}
 use Rattle.std.proofs.lemmas.Bool.{cases_eq, cases_lt, lt-ltb, ltb-true, le-ltb, ne_eqb, and_right}
 use Rattle.mpw_geom.specs.Names.{name_eq, contains_name}
@@ -12,11 +12,11 @@ use Rattle.mpw_geom.specs.Links.{same, chain}
 use Rattle.mpw_geom.proofs.Linked.{same_name, name_eq-refl, leads-sound, leads-complete, chain-trans}
 use Rattle.mpw_roles.specs.declared.mask.Mask.{Mask}
 use Rattle.mpw_roles.specs.Hierarchy.{Name, Hierarchy, role_names, is_role, is_immediate, immediate_juniors, with_role, with_pair}
-use Rattle.mpw_roles.specs.Marks.{Marks, is_marked, marked, marked_names, IsReached, Keeps, IsExpanded}
+use Rattle.mpw_roles.specs.Marks.{Marks, marked, marked_names, IsReached, Keeps, IsExpanded}
 use Rattle.mpw_roles.specs.Mask.{has}
 use Rattle.mpw_roles.specs.Order.{at_least, is_below, roles_below, IsAtLeast, IsHierarchy}
 use Rattle.mpw_roles.specs.Places.{name_at, is_place_under, is_place_below, marks_from, mask_at, IsMasked}
-use Rattle.mpw_roles.proofs.HierarchyLemmas.{junior_role, names-with_role, juniors-with_role, names-with_juniors, length-with_juniors, at_least-fewer, chains-fewer, pairs-with_pair, with_pair-chains, juniors-with_juniors, contains-append}
+use Rattle.mpw_roles.proofs.HierarchyLemmas.{junior_role, juniors-with_role, names-with_juniors, length-with_juniors, at_least-fewer, chains-fewer, pairs-with_pair, with_pair-chains, juniors-with_juniors, contains-append}
 use Rattle.mpw_roles.proofs.MarksLemmas.{set-first, read-first, distinct-first, length-names}
 use Rattle.mpw_roles.proofs.SearchLemmas.{first_role, search-end}
 

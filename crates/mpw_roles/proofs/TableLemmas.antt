@@ -1,8 +1,6 @@
 -- The table of roles, in the words of the hierarchy.
 use Rattle.std.proofs.Common.{◌≡◌, ◌<◌, Bool, true, false, cond, not, ◌||◌, List, [], ◌∷◌, ◌++◌, length, map, None, Some, Ok, is_some, refl, sym, ap, subst, ◌∙◌, true≢false}
 use Rattle.std.specs.Prelude.{nat_lt}
-use Rattle.std.specs.List.{AllZip}
-use Rattle.std.proofs.lemmas.List.Elements.{same_from_all_zip}
 use Rattle.std.specs.Map.{lookup}
 use Rattle.std.specs.Map.Calls.{RetainsPairs}
 use borrow.Author.Tests.{lt-ltb}
@@ -72,7 +70,3 @@ remove-retained R role f says (e ∷ es) kept h =
     let s = says e.0 e.1 h.0 h.1 h.2 h.4 in
     let rest = remove-retained R role f says es h.3 (subst (λ g. RetainsPairs R g es h.3) s.2 h.5) in
     h.6 ∙ (λ j. cond (s.0 j) ((e.0, s.1 j) ∷ rest j) (rest j)) ∙ elim (not (name_eq role e.0)) as (λ b. cond b ((e.0, without_name e.1 role) ∷ without_role es role) (without_role es role) ≡ map (λ (x : Name × List Name). (x.0, without_name x.1 role)) (cond b (e ∷ entries_without es role) (entries_without es role))) [ true ↦ refl | false ↦ refl ]
-
--- where a clone equals its source, the clones are the table
-pub clones-same : (h k : Hierarchy) → AllZip (λ (p q : Name × List Name). (q.0 ≡ p.0) × (q.1 ≡ p.1)) h k → k ≡ h
-clones-same h k zip = same_from_all_zip _ h k zip (λ p q both i. (both.0 i, both.1 i))

@@ -1,6 +1,6 @@
 -- The role hierarchy (ANSI INCITS 359-2004, 6.2.1): the roles in the order in which they were added, each with its
 -- immediate juniors in the order in which they were commanded.
-use Rattle.std.specs.Prelude.{ℕ, Bool, not, List, [], ◌∷◌, ◌++◌, map, filter, if◌then◌else◌}
+use Rattle.std.specs.Prelude.{ℕ, Bool, List, [], ◌∷◌, ◌++◌, map, if◌then◌else◌}
 use Rattle.mpw_geom.specs.Names.{name_eq, contains_name, without_name}
 use Rattle.mpw_geom.specs.Links.{Links, linked, is_linked, links_without}
 

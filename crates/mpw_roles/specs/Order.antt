@@ -1,9 +1,9 @@
 -- The order of roles (ANSI INCITS 359-2004, 6.2.1): the reflexive and transitive closure of the immediate pairs.
-use Rattle.std.specs.Prelude.{◌≡◌, ℕ, ◌≤◌, zero, suc, Bool, true, false, not, ◌||◌, ◌&&◌, List, [], ◌∷◌, length, filter}
+use Rattle.std.specs.Prelude.{◌≡◌, ◌≤◌, Bool, true, false, not, ◌&&◌, List, [], ◌∷◌, length, filter}
 use Rattle.std.specs.List.{list_any}
-use Rattle.mpw_geom.specs.Names.{name_eq, contains_name}
+use Rattle.mpw_geom.specs.Names.{contains_name}
 use Rattle.mpw_geom.specs.Links.{Leads, leads}
-use Rattle.mpw_roles.specs.Hierarchy.{Name, Hierarchy, max_roles, role_names, is_role, immediate_juniors, is_immediate, entries_without}
+use Rattle.mpw_roles.specs.Hierarchy.{Name, Hierarchy, max_roles, role_names, is_role, immediate_juniors, is_immediate}
 
 -- the senior is the junior, or a chain of immediate pairs leads from it down to the junior
 abbrev pub IsAtLeast : Hierarchy → Name → Name → Type 0

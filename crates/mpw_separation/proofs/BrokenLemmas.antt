@@ -1,12 +1,12 @@
 -- The least broken set, holder by holder.
-use Rattle.std.proofs.Common.{◌≡◌, ℕ, ◌+◌, ◌<◌, length, take, get_or, Bool, true, false, cond, ◌||◌, ◌&&◌, List, [], ◌∷◌, ◌++◌, map, filter, Option, None, Some, refl, sym, ap, ◌∙◌}
+use Rattle.std.proofs.Common.{◌≡◌, ℕ, ◌+◌, ◌<◌, length, take, get_or, Bool, true, false, cond, ◌||◌, ◌&&◌, List, [], ◌∷◌, ◌++◌, filter, Option, Some, refl, sym, ap, ◌∙◌}
 use Rattle.std.specs.List.{list_any}
 use Rattle.std.proofs.lemmas.List.{take_more}
 use Rattle.mpw_geom.specs.Names.{name_eq, contains_name}
 use Rattle.mpw_roles.specs.Hierarchy.{Name, Hierarchy}
 use Rattle.mpw_separation.specs.Set.{SeparationSet}
 use Rattle.mpw_separation.specs.Least.{least_name, lesser, IsLeast}
-use Rattle.mpw_separation.specs.Separation.{breaks, is_broken, names_of, broken_names, least_broken, is_reached}
+use Rattle.mpw_separation.specs.Separation.{breaks, is_broken, names_of, broken_names, least_broken}
 use Rattle.mpw_separation.proofs.LeastLemmas.{least-is, least-only, least-both, least-push}
 
 -- the sets so far, and one more

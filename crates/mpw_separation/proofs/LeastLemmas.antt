@@ -1,5 +1,5 @@
 -- `least_name` is the least name, and the only one.
-use Rattle.std.proofs.Common.{◌≡◌, ℕ, Bool, true, false, cond, ◌||◌, ◌⊎◌, inl, inr, List, [], ◌∷◌, ◌++◌, map, Option, None, Some, refl, sym, ap, subst, ◌∙◌, true≢false}
+use Rattle.std.proofs.Common.{◌≡◌, Bool, true, false, cond, ◌||◌, inl, inr, List, [], ◌∷◌, ◌++◌, map, Option, None, Some, refl, sym, ap, subst, ◌∙◌, true≢false}
 use Rattle.std.specs.Ordering.{is_lt, ordering_reverse}
 use Rattle.std.specs.declared.cmp.Ordering.{Ordering}
 use Rattle.std.specs.declared.cmp.Ordering.TheVariants.{Less, Equal, Greater}
@@ -8,7 +8,7 @@ use Rattle.std.specs.Cmp.Lexicographic.{nat_list_cmp_total}
 use Rattle.std.specs.FinMap.{slice_cmp-IsAntisymmetric, nat_cmp-IsAntisymmetric}
 use Rattle.std.specs.FinMap.Entries.{by_order, put}
 use Rattle.std.proofs.lemmas.List.MinMax.{ranks_by}
-use Rattle.mpw_geom.specs.Names.{name_eq, name_cmp, contains_name, placed_by_name, by_name}
+use Rattle.mpw_geom.specs.Names.{name_eq, name_cmp, contains_name, placed_by_name}
 use Rattle.mpw_roles.specs.Hierarchy.{Name}
 use Rattle.mpw_roles.proofs.CallerLemmas.{same_name, name_eq-refl, or_right, or_cases, contains-append}
 use Rattle.mpw_separation.specs.Least.{first_name, least_name, lesser, IsLeast}
@@ -28,9 +28,6 @@ not_both b is other = true≢false (sym is ∙ other)
 
 not_itself : (a : Name) → less a a ≡ false
 not_itself a = refuted (less a a) (λ is. not_both (less a a) is (order.one_way a a is))
-
-is_less : (o : Ordering) → o ≡ Less → is_lt o ≡ true
-is_less o e = ap is_lt e
 
 -- a name before the least of the others
 abbrev earlier : Name → Option Name → Option Name

@@ -1,6 +1,6 @@
 -- Separation of duty (ANSI INCITS 359-2004, 6.3 and 6.4): a set of roles of which nobody may have as many as its
 -- cardinality.
-use Rattle.std.specs.Prelude.{ℕ, Bool, not, List, [], ◌∷◌, nat_le, count_by, map, filter, Option}
+use Rattle.std.specs.Prelude.{ℕ, Bool, not, List, nat_le, count_by, map, filter, Option}
 use Rattle.std.specs.List.{list_any}
 use Rattle.mpw_geom.specs.Names.{name_eq, contains_name}
 use Rattle.mpw_roles.specs.Hierarchy.{Name, Hierarchy}

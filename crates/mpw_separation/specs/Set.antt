@@ -1,5 +1,5 @@
 -- A set of roles of which nobody may have as many as its cardinality (ANSI INCITS 359-2004, 6.3 and 6.4).
-use Rattle.std.specs.Prelude.{◌≡◌, ℕ, Bool, true, ◌&&◌, ◌==◌, nat_le, List, length, Option, Some, None, if◌then◌else◌}
+use Rattle.std.specs.Prelude.{ℕ, Bool, ◌&&◌, ◌==◌, nat_le, List, length, Option, Some, None, if◌then◌else◌}
 use Rattle.mpw_geom.specs.Names.{by_name}
 use Rattle.mpw_roles.specs.Hierarchy.{Name}
 

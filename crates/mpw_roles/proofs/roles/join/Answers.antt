@@ -1,8 +1,7 @@
 -- The places of both roles are found.
-use Rattle.std.proofs.Common.{◌≡◌, ◌∙◌, sym, ap, subst, true, false, true≢false, None, Some, is_some, arith}
+use Rattle.std.proofs.Common.{◌∙◌, sym, ap, true≢false}
 use Rattle.std.specs.Prelude.{position}
 use Rattle.mpw_geom.specs.Names.{name_eq}
-use Rattle.mpw_roles.specs.Hierarchy.{Name, Hierarchy, role_names, is_role}
 use Rattle.mpw_roles.proofs.TableLemmas.{is_role-lookup}
 use Rattle.mpw_roles.proofs.PlacesLemmas.{IsMasked-with_pair, same-role}
 use Rattle.mpw_roles.proofs.roles.join.Goals as goal

@@ -1,6 +1,5 @@
 -- Each turn adds the places below one senior.
-use Rattle.std.proofs.Common.{◌≡◌, ◌∙◌, ◌+◌, ◌||◌, sym, ap, arith, drop, ◌∷◌, drop-cons, Some, false}
-use Rattle.mpw_roles.specs.Hierarchy.{is_role}
+use Rattle.std.proofs.Common.{◌≡◌, ◌∙◌, ◌+◌, ◌||◌, sym, ap, drop, ◌∷◌}
 use Rattle.mpw_roles.specs.Mask.{has}
 use Rattle.mpw_roles.specs.Places.{is_place_below}
 use Rattle.mpw_roles.proofs.TableLemmas.{is_role-lookup}

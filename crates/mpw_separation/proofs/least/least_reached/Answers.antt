@@ -1,9 +1,8 @@
 -- Each turn adds one set.
-use Rattle.std.proofs.Common.{◌≡◌, ◌+◌, ◌∙◌, sym, ap, subst, cond, filter, take, Option, Some}
+use Rattle.std.proofs.Common.{◌≡◌, ◌+◌, ◌∙◌, sym, ap, subst, cond, filter, take, Some}
 use Rattle.std.specs.Option.{option_copied}
 use Rattle.std.proofs.lemmas.List.{take_all}
-use Rattle.mpw_roles.specs.Hierarchy.{Name}
-use Rattle.mpw_separation.specs.Least.{least_name, lesser, IsLeast}
+use Rattle.mpw_separation.specs.Least.{lesser, IsLeast}
 use Rattle.mpw_separation.specs.Separation.{is_reached, names_of}
 use Rattle.mpw_separation.proofs.BrokenLemmas.{least-turn, least-end}
 use Rattle.mpw_separation.proofs.least.least_reached.Goals as goal

@@ -1,4 +1,3 @@
-use Rattle.std.proofs.Common.{arith}
 use Rattle.mpw_roles.proofs.MaskLemmas.{has-bit, has-past}
 use Rattle.mpw_roles.proofs.mask.Mask.contains.Goals as goal
 

@@ -1,9 +1,7 @@
 -- Two places, and the bit of the mask at the one.
-use Rattle.std.proofs.Common.{◌≡◌, ◌∙◌, sym, ap, subst, false, arith, is_some}
-use Rattle.mpw_roles.specs.Hierarchy.{is_role}
+use Rattle.std.proofs.Common.{◌∙◌, sym, ap, arith, is_some}
 use Rattle.mpw_roles.specs.Mask.{has}
-use Rattle.mpw_roles.specs.Order.{at_least, IsHierarchy}
-use Rattle.mpw_roles.specs.Places.{mask_at}
+use Rattle.mpw_roles.specs.Order.{at_least}
 use Rattle.mpw_roles.proofs.PlacesLemmas.{bit-at_least, stranger-above, stranger-below, mask-there}
 use Rattle.mpw_roles.proofs.TableLemmas.{is_role-lookup}
 use Rattle.mpw_roles.proofs.roles.Roles.at_least.Goals as goal

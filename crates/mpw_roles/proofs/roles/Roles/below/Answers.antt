@@ -1,5 +1,5 @@
 -- The roles whose places the joined masks have.
-use Rattle.std.proofs.Common.{◌≡◌, ◌∙◌, sym, ap, subst}
+use Rattle.std.proofs.Common.{◌∙◌, sym, ap}
 use Rattle.mpw_roles.specs.Order.{roles_below}
 use Rattle.mpw_roles.specs.Places.{is_place_below}
 use Rattle.mpw_roles.proofs.PlacesLemmas.{below-places}

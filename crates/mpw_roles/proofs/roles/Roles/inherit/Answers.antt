@@ -3,7 +3,7 @@ use Rattle.std.proofs.Common.{◌≡◌, ◌∙◌, sym, ap, arith, length, subs
 use Rattle.indexmap.specs.IndexMap.{insert_entry}
 use Rattle.mpw_geom.specs.Names.{name_eq}
 use Rattle.mpw_roles.specs.Hierarchy.{role_names, with_pair, is_role, is_immediate, immediate_juniors}
-use Rattle.mpw_roles.specs.Order.{at_least, IsHierarchy}
+use Rattle.mpw_roles.specs.Order.{at_least}
 use Rattle.mpw_roles.specs.Places.{IsRoles, IsMasked}
 use Rattle.mpw_roles.proofs.HierarchyLemmas.{IsHierarchy-with_pair, names-with_juniors, length-with_juniors}
 use Rattle.mpw_roles.proofs.PlacesLemmas.{written-back}

@@ -1,5 +1,5 @@
 -- The mask at the place of the role.
-use Rattle.std.proofs.Common.{◌≡◌, ◌∙◌, sym, ap, arith}
+use Rattle.std.proofs.Common.{◌∙◌, sym, ap, arith}
 use Rattle.mpw_roles.specs.Mask.{has}
 use Rattle.mpw_roles.specs.Places.{is_place_under}
 use Rattle.mpw_roles.proofs.PlacesLemmas.{mask-found, mask-none, mask-there}

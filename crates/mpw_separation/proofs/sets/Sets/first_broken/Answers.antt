@@ -1,5 +1,4 @@
-use Rattle.std.proofs.Common.{◌≡◌, ◌∙◌, sym, ap, filter}
-use Rattle.mpw_roles.specs.Order.{roles_below}
+use Rattle.std.proofs.Common.{◌∙◌, sym, ap, filter}
 use Rattle.mpw_separation.specs.Least.{least_name}
 use Rattle.mpw_separation.specs.Separation.{is_reached, names_of, sets_of}
 use Rattle.mpw_separation.proofs.BrokenLemmas.{broken-one}
