@@ -1,5 +1,5 @@
 -- What a core finds is what its halves find, each in its window.
-use Rattle.std.proofs.Common.{◌≡◌, ℕ, ◌+◌, ◌≤◌, ℤ, ◌≤ℤ◌, ◌<ℤ◌, List, [], ◌++◌, ◌⊎◌, inl, inr, subst, sym, ap, pos, neg_ℤ, ◌^◌, arith}
+use Rattle.std.proofs.Common.{◌≡◌, ℕ, ◌≤◌, ℤ, ◌≤ℤ◌, ◌<ℤ◌, List, [], ◌++◌, ◌⊎◌, inl, inr, subst, sym, ap, pos, neg_ℤ, ◌^◌, arith}
 use Rattle.std.specs.Prelude.{◌↔◌, All}
 use Rattle.std.proofs.lemmas.Int.{ints, by_lt_z}
 use Rattle.std.proofs.lemmas.List.Elements.{All-append, Contains-append_left, Contains-append_right, Contains-append_cases}
@@ -8,15 +8,14 @@ use Rattle.mpw_geom.specs.declared.plane.Point.{Point}
 use Rattle.mpw_geom.specs.Plane.{IsBoxInPlane, IsCoordinate}
 use Rattle.mpw_region.specs.declared.runs.Line.{Line}
 use Rattle.mpw_region.specs.declared.runs.Run.{Run}
-use Rattle.mpw_region.specs.Runs.{CoversPlace, HoldsPlace, IsFilled, Adds}
+use Rattle.mpw_region.specs.Runs.{CoversPlace, IsFilled, Adds}
 use Rattle.mpw_region.specs.Squares.{covers}
 use Rattle.mpw_region.proofs.Adding.{Adds-both, Adds-same}
 use Rattle.mpw_deck.specs.declared.rule.Rule.{Rule}
 use Rattle.mpw_edges.specs.declared.run.Axis.{Axis}
 use Rattle.mpw_edges.specs.declared.run.Axis.TheVariants.{V, H}
 use Rattle.mpw_edges.specs.Edges.{Squares}
-use Rattle.mpw_edges.specs.Pieces.{IsInCore, HasStep}
-use Rattle.mpw_edges.specs.Laws.{AreSameIn}
+use Rattle.mpw_edges.specs.Pieces.{HasStep}
 use Rattle.mpw_edges.proofs.Window.{step_same, back}
 use Rattle.mpw_checks.specs.Cells.{StepsIn, window_of, AreAlikeIn, AreHalves, IsMiddle, left_of, right_of}
 

@@ -1,5 +1,5 @@
 -- A core in two halves, left and right, and what is found in each.
-use Rattle.std.specs.Prelude.{◌≡◌, ℕ, ◌+◌, ℤ, ◌≤ℤ◌, List, ◌⊎◌, ◌↔◌}
+use Rattle.std.specs.Prelude.{◌+◌, ℤ, ◌≤ℤ◌, List, ◌⊎◌, ◌↔◌}
 use Rattle.std.specs.Int.{int_min, int_max}
 use Rattle.mpw_geom.specs.declared.plane.Point.{Point}
 use Rattle.mpw_geom.specs.declared.plane.Box2.{Box2}

@@ -1,6 +1,5 @@
 use Rattle.std.proofs.Common.{◌≡◌, ◌∙◌, ◌++◌, List, ap}
 use mathlib.Core.Path.{fun_ext}
-use Rattle.mpw_geom.specs.declared.plane.Box2.{Box2}
 use Rattle.mpw_region.specs.declared.runs.Run.{Run}
 use Rattle.mpw_region.specs.Squares.{covers}
 use Rattle.mpw_edges.specs.declared.run.Axis.TheVariants.{V}

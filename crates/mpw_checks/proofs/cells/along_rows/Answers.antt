@@ -1,4 +1,4 @@
-use Rattle.std.proofs.Common.{[], List, subst}
+use Rattle.std.proofs.Common.{List, subst}
 use Rattle.std.proofs.lemmas.Result.{IfOk-weaker}
 use Rattle.mpw_region.specs.declared.runs.Run.{Run}
 use Rattle.mpw_region.specs.Runs.{Adds}

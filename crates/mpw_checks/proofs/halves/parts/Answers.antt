@@ -1,6 +1,4 @@
-use Rattle.std.proofs.Common.{◌≡◌, [], get_or}
-use Rattle.std.proofs.lemmas.Bool.Decides.{when_true, when_false}
-use Rattle.mpw_geom.proofs.Squares.{no_box}
+use Rattle.std.proofs.lemmas.Bool.Decides.{when_false}
 use Rattle.mpw_checks.proofs.Parts.{ArePartsOf-none, ArePartsOf-push, ArePartsOf-skip, same_in_window, part_is}
 use Rattle.mpw_checks.proofs.halves.parts.Goals as goal
 use Rattle.mpw_checks.proofs.halves.parts.Goals.{then-has_area+in_ok-push, else-has_area}
