@@ -65,13 +65,3 @@ kept-err far_found ss s hier.NoCell why = absurd why
 pub last_get : {A : Type 0} (xs : List A) (x : A) → slice_get (xs ++ x ∷ []) (length xs) ≡ Some x
 last_get [] x = refl
 last_get (y ∷ ys) x = last_get ys x
-
--- ---- cells that are used
-
--- one cell more may be used
-pub usable_more : (policy : Policy) (conn : ℕ) (cells : List (List ℕ)) (i : ℕ) (d : List ℕ) → i < length cells → permits policy conn Use (objects.Cell (get_or cells i d)) ≡ true → usable policy conn (drop i cells) ≡ usable policy conn (drop (i + 1) cells)
-usable_more policy conn cells i d h may = at_drop_more (usable policy conn) cells i d h ∙ rw may refl
-
--- one that may not is told
-pub usable_not : (policy : Policy) (conn : ℕ) (cells : List (List ℕ)) (i : ℕ) (d : List ℕ) → i < length cells → permits policy conn Use (objects.Cell (get_or cells i d)) ≡ false → usable policy conn (drop i cells) ≡ Err (denied Use (get_or cells i d))
-usable_not policy conn cells i d h may = at_drop_more (usable policy conn) cells i d h ∙ rw may refl

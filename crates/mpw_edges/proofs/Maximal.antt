@@ -182,9 +182,6 @@ before : (axis : Axis) (r s : Run) → IsFilled r → StandsBefore r s → Comes
 before V r s f h = thens (nat_cmp r.line.side s.line.side) (int_cmp r.line.first s.line.first) (int_cmp r.line.second s.line.second) (int_cmp r.from s.from) ∙ line_and_place r s f h
 before H r s f h = thens (nat_cmp r.line.side s.line.side) (int_cmp r.line.first s.line.first) (int_cmp r.line.second s.line.second) (int_cmp r.from s.from) ∙ line_and_place r s f h
 
-abbrev no_piece : Axis → Piece
-no_piece axis = piece_of axis no_run
-
 on_axis : (axis : Axis) (runs : List Run) → AreApart runs → AllPairs ComesBefore (map (piece_of axis) runs)
 on_axis axis runs h i j d l b =
     let inside : j < length runs = omega (arith, b, length-map runs (piece_of axis)) in

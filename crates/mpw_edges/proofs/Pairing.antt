@@ -48,24 +48,6 @@ all_taken P xs n h k d l = subst P (sym (get_or-take n xs k d (omega (arith, l, 
 all_dropped : {X : Type 0} (P : X → Type 0) (xs : List X) (n : ℕ) → AllWithin P xs n (length xs) → All P (drop n xs)
 all_dropped P xs n h k d l = subst P (sym (get_or-drop n xs k d)) (h (n + k) d (omega arith) (omega (arith, l, length-drop n xs)))
 
-pairs_taken : {X : Type 0} (R : X → X → Type 0) (xs : List X) (n : ℕ) → AllPairs R xs → AllPairs R (take n xs)
-pairs_taken R xs n h i j d l b =
-    let g = length-take n xs in
-    subst (λ x. R x (get_or (take n xs) j d)) (sym (get_or-take n xs i d (omega (arith, l, b, g))))
-    (subst (λ x. R (get_or xs i d) x) (sym (get_or-take n xs j d (omega (arith, b, g)))) (h i j d l (omega (arith, b, g))))
-
-pairs_dropped : {X : Type 0} (R : X → X → Type 0) (xs : List X) (n : ℕ) → AllPairs R xs → AllPairs R (drop n xs)
-pairs_dropped R xs n h i j d l b =
-    let g = length-drop n xs in
-    subst (λ x. R x (get_or (drop n xs) j d)) (sym (get_or-drop n xs i d))
-    (subst (λ x. R (get_or xs (n + i) d) x) (sym (get_or-drop n xs j d)) (h (n + i) (n + j) d (omega (arith, l)) (omega (arith, b, g))))
-
-pub AreEdges-drop : (edges : List Edge) (n : ℕ) → AreEdges edges → AreEdges (drop n edges)
-AreEdges-drop edges n h = record {
-  filled = λ k d l. subst (λ (e : Edge). e.y0 <ℤ e.y1) (sym (get_or-drop n edges k d)) (h.filled (n + k) d (omega (arith, l, length-drop n edges)));
-  ordered = pairs_dropped IsEdgeBefore edges n h.ordered;
-}
-
 -- ---- edges of bands
 
 pairs_map : {X Y : Type 0} (R : Y → Y → Type 0) (f : X → Y) (xs : List X) (e : X) → AllPairs (λ a b. R (f a) (f b)) xs → AllPairs R (map f xs)

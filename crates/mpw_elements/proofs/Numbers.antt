@@ -84,14 +84,6 @@ is_name_decides bytes =
     regroup (leb 1 (length bytes)) (leb (length bytes) 255) (list_all is_visible bytes) (1 ≤ length bytes) (length bytes ≤ 255) (All IsVisible bytes)
     (Decides-leb 1 (length bytes)) (Decides-leb (length bytes) 255) (Decides-by_and is_visible IsVisible (list_all is_visible) visible refl (λ _ _. refl) bytes)
 
-as_false : (b : Bool) → (b ≡ true → ⊥) → b ≡ false
-as_false true h = absurd (h refl)
-as_false false h = refl
-
 pub named : (r : RawRecord) → IsName (without_nuls r.bytes) → name_of r ≡ Ok (without_nuls r.bytes)
 unfolding name_of
 named r h = rw ((is_name_decides (without_nuls r.bytes)).1 h) refl
-
-pub unnamed : (r : RawRecord) → (IsName (without_nuls r.bytes) → ⊥) → name_of r ≡ Err (fault_at BadName r)
-unfolding name_of
-unnamed r h = rw (as_false (is_name (without_nuls r.bytes)) (λ e. h ((is_name_decides (without_nuls r.bytes)).0 e))) refl

@@ -189,14 +189,6 @@ no_width = record { half = 0; value = refl; within_reach = zero_reach }
 half_reach : (half : ℕ) (w : ℤ) → w ≡ pos (2 * half) → IsWithinReach w → IsWithinReach (int_div w (pos 2))
 half_reach half w e h = rw e (let b = rw e at h.below in record { above = omega (arith, ints); below = omega (arith, ints, b) })
 
-pub lengthening_reach : (t : ℕ) (w g : ℤ) → IsWidth w → IsWithinReach g → IsWithinReach (lengthening t w g)
-lengthening_reach t w g iw ig = go (eqb t 4) (eqb t 2)
-  where
-    go : (a b : Bool) → IsWithinReach (cond a g (cond b (int_div w (pos 2)) (pos 0)))
-    go true b = ig
-    go false true = half_reach iw.half w iw.value iw.within_reach
-    go false false = zero_reach
-
 -- a value within reach is the same in the code
 pub kept : (P : ℤ → Type 0) (z : ℤ) → IsWithinReach z → P z → P (to_z w64 (of_z w64 z))
 kept P z h p =
@@ -212,21 +204,3 @@ count_is n e =
   where
     leb-true : {a b : ℕ} → leb a b ≡ true → a ≤ b
     leb-true {a} {b} e = elim (leb_tells a b) [ inl p ↦ p.1 | inr p ↦ absurd (let q = sym p.0 ∙ e in cc) ]
-
-pub counts_are : (r : RawRecord) (n : ℕ × ℕ) → counts_of r ≡ Ok n → IsCount n.0 × IsCount n.1
-unfolding counts_of
-counts_are r n e =
-    let x = big_number 2 r.bytes in
-    let y = big_number 2 (drop 2 r.bytes) in
-    let c = chosen (is_count x && is_count y) (x, y) n (fault_at Columns r) e in
-    let b = and_both (is_count x) (is_count y) c.0 in
-    subst (λ (n : ℕ × ℕ). IsCount n.0 × IsCount n.1) c.1 (count_is x b.0, count_is y b.1)
-
-minus_reach : (k : ℕ) → k < 2 ^ 47 → IsWithinReach (neg_ℤ (pos k))
-minus_reach zero h = zero_reach
-minus_reach (suc k) h = near_reach (negsuc k) (omega (arith, h))
-
--- a part of a length is no longer than it
-pub part_reach : (n : ℕ) (z : ℤ) → 1 ≤ n → unsigned_abs z < 2 ^ 43 → IsWithinReach (int_div z (pos n))
-part_reach n (pos z) some h = near_reach (pos (z / n)) (omega (arith, div_below z n (2 ^ 43) some (omega arith)))
-part_reach n (negsuc z) some h = minus_reach (suc z / n) (omega (arith, div_below (suc z) n (2 ^ 43) some (omega arith)))

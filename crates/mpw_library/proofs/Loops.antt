@@ -50,9 +50,6 @@ pub record ElementsTo (unit : ℕ) (es : List Element) (rs : List Outcome) (tota
   pub enough : length rs ≤ most
   pub same : elements_behind most unit es rs ≡ total
 
-pub elements_start : (unit : ℕ) (rs : List Outcome) → ElementsTo unit [] rs (elements_behind (length rs) unit [] rs)
-elements_start unit rs = record { most = length rs; enough = omega arith; same = refl }
-
 abbrev failed : {A : Type 0} → ReadFault → Result A ReadFault
 failed f = Err f
 
@@ -106,9 +103,6 @@ pub record StructuresTo (unit : ℕ) (ss : List Structure) (rs : List Outcome) (
   pub most : ℕ
   pub enough : length rs ≤ most
   pub same : structures_behind most unit ss rs ≡ total
-
-pub structures_start : (unit : ℕ) (rs : List Outcome) → StructuresTo unit [] rs (structures_behind (length rs) unit [] rs)
-structures_start unit rs = record { most = length rs; enough = omega arith; same = refl }
 
 structure_gone : (unit : ℕ) (ss : List Structure) → next_structure unit ss [] ≡ Err gone
 unfolding next_structure

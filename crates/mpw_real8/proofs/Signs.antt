@@ -10,24 +10,12 @@ use Rattle.std.proofs.lemmas.Bool.{le-ltb}
 use Rattle.std.proofs.lemmas.Bool.Decides.{Decides-int_eq}
 use Rattle.mpw_real8.specs.Real.{signed, nanometres}
 
-abs_signed : (s : Bool) (m : ℕ) → unsigned_abs (signed s m) ≡ m
-abs_signed true zero = refl
-abs_signed true (suc m) = refl
-abs_signed false m = refl
-
 when_false : (b : Bool) → (b ≡ true → ⊥) → false ≡ b
 when_false true h = absurd (h refl)
 when_false false h = refl
 
 when_true : (x y : ℤ) → x ≡ y → true ≡ int_eq x y
 when_true x y e = sym ((Decides-int_eq x y).1 e)
-
--- another magnitude is another number
-pub other_size : (s : Bool) (m : ℕ) (n : ℤ) (c : ℕ) → (m ≡ unsigned_abs n * c → ⊥) → false ≡ int_eq (signed s m) (n *ℤ pos c)
-other_size s m n c h =
-    when_false (int_eq (signed s m) (n *ℤ pos c)) (λ e.
-    let same : signed s m ≡ n *ℤ pos c = (Decides-int_eq (signed s m) (n *ℤ pos c)).0 e in
-    h (sym (abs_signed s m) ∙ ap unsigned_abs same ∙ unsigned_abs-mul n (pos c)))
 
 differ : (m x : ℕ) → 0 < x → neg_ℤ (pos x) ≡ pos m → ⊥
 differ m zero h e = omega arith

@@ -47,11 +47,6 @@ merged_holds : (last run : Run) (line : Line) (at : ℤ) → last.line ≡ run.l
 merged_holds last run line at e f (inl h) = (h.0, h.1, omega (arith, ints, clamps, h.2))
 merged_holds last run line at e f (inr h) = (e ∙ h.0, omega (arith, ints, clamps, h.1, f), omega (arith, ints, clamps, h.2))
 
-assoc_left : {A B C : Type 0} → A ⊎ (B ⊎ C) → (A ⊎ B) ⊎ C
-assoc_left (inl a) = inl (inl a)
-assoc_left (inr (inl b)) = inl (inr b)
-assoc_left (inr (inr c)) = inr c
-
 -- a run that is reached is merged with the last one
 pub Joins-merge : (joined : List Run) (last run : Run) (done : List Run) → Joins joined last done → last.line ≡ run.line → last.from ≤ℤ run.from → run.from ≤ℤ last.to → IsFilled run → Joins joined (merged last run) (done ++ run ∷ [])
 Joins-merge joined last run done h e f g k = record {

@@ -165,9 +165,6 @@ listed_more rs i d layer origin s h = (
   λ l. Held-push_cases (λ (r : Rectangle). HasSquareOf r layer origin s) (take i rs) (get_or rs i d) (subst (λ (xs : List Rectangle). IsListed xs layer origin s) (take_more rs i d h) l),
 )
 
-pub adds_none : (plan : Tiling) (old : Tiles) → AddsSquares plan old old (IsListed [])
-adds_none plan old = record { count = refl; squares = λ tile s layer origin u w. (λ l. inl l, λ p. elim p [ inl l ↦ l | inr q ↦ absurd (Held-nil (λ (r : Rectangle). HasSquareOf r layer origin s) q) ]) }
-
 pub adds_more : (plan : Tiling) (a b c : Tiles) (rs : List Rectangle) (i : ℕ) (d : Rectangle) → i < length rs → AddsSquares plan a b (IsListed (take i rs)) → AddsSquares plan b c (HasSquareOf (get_or rs i d)) → AddsSquares plan a c (IsListed (take (i + 1) rs))
 adds_more plan a b c rs i d h f g = record {
   count = g.count ∙ f.count;

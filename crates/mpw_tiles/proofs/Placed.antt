@@ -11,10 +11,6 @@ use Rattle.mpw_geom.proofs.Tests.{SquareIn, same_squares}
 use Rattle.mpw_geom.proofs.Turns.{placed_squares_at}
 use Rattle.mpw_tiles.specs.Placed.{nearest, nearest_point, IsSquareInPlane}
 
-pub nearest_saturated : (z : ℤ) → nearest (saturate_signed w64 z) ≡ nearest z
-nearest_saturated (pos n) = omega (arith, ints, clamps)
-nearest_saturated (negsuc n) = omega (arith, ints, clamps)
-
 abbrev far : ℤ
 far = pos (2 ^ 48)
 
