@@ -13,6 +13,6 @@ pub restart-ends : (s : State) (kept : Bool) (conn : ℕ) → session_of (after 
 unfolding step wanted
 restart-ends s kept conn = refl
 
-pub restart-rest : (s : State) (kept : Bool) → record (after s event.Restart kept) { policy = s.policy } ≡ s
+pub restart-rest : (s : State) (kept : Bool) → record (after s event.Restart kept) { policy = record (after s event.Restart kept).policy { sessions = s.policy.sessions } } ≡ s
 unfolding step wanted
 restart-rest s kept = refl

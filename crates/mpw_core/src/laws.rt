@@ -50,11 +50,11 @@ pub fn changes_count_once_they_are_kept()
     ensures unkept { (state : State) (event : Event) → (wanted state event).changes ≡ true → step state event false ≡ left (unkept event) (record state { closed = true }) }
 {}
 
-/// A restart ends every session, and changes nothing else of the policy, the shelf, and whether the desk is closed.
+/// A restart ends every session, and changes nothing else: with the sessions of before put back all is as before.
 pub fn a_restart_ends_every_session()
     ensures told { (state : State) (kept : Bool) → reply_of state event.Restart kept ≡ Reply.Restarted }
     ensures ended { (state : State) (kept : Bool) (conn : ℕ) → session_of (after state event.Restart kept).policy conn ≡ None }
-    ensures rest { (state : State) (kept : Bool) → record (after state event.Restart kept) { policy = state.policy } ≡ state }
+    ensures rest { (state : State) (kept : Bool) → record (after state event.Restart kept) { policy = record (after state event.Restart kept).policy { sessions = state.policy.sessions } } ≡ state }
 {}
 
 /// A desk goes on by calls, and a keeper whose list is known has just their changes behind those before, in order: where an

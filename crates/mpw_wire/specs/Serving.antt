@@ -28,8 +28,8 @@ pub data Turn : Type 0 where
   asked : List ℕ → Request → Answer → Turn
   malformed : List ℕ → Turn
 
--- what ended the connection: the end of the input, a line that is too long or asks to submit too much, an input that
--- ends before what is to follow a line, no room for a request, a source that failed,
+-- what ended the connection: the end of the input (`closed`, which says nothing of the desk), a line that is too long or
+-- asks to submit too much, an input that ends before what is to follow a line, no room for a request, a source that failed,
 -- as many lines as one connection may have, or a sink that failed at the text of a line
 pub data Stop : Type 0 where
   closed : Stop
@@ -140,7 +140,7 @@ pub record ServesLines (conn : ℕ) (input input' output output' : Option (List 
   pub told : Tells stop result
   pub written : Written output output' (fault_of result) (flat_map turn_text turns) (stop_text stop)
 
--- the end of the connection is handed to the desk, which leaves it only where memory is wanting
+-- the end of the connection is handed to the desk; or the desk is left, as where memory is wanting
 abbrev pub IsGone : ℕ → KeptDesk → KeptDesk → Type 0
 IsGone conn desk desk' = ((reply : Reply) × IsHandled desk (event.Gone conn) reply desk') ⊎ (desk' ≡ desk)
 

@@ -1,4 +1,4 @@
-use Rattle.std.proofs.Common.{◌≡◌, ◌∙◌, sym, ap, refl, codes, inr, option_map, Some, None}
+use Rattle.std.proofs.Common.{◌∙◌, sym, ap, refl, codes, inr, option_map, Some}
 use Rattle.std.proofs.lemmas.Result.{err_from_is_err_and}
 use Rattle.clap.specs.Words.{found_of, rows_of}
 use Rattle.mpw_wire.proofs.DigestLemmas.{spelt-sized, unspelt}
