@@ -25,6 +25,7 @@ mod size_array;
 mod size_box;
 mod size_shape;
 mod submission;
+mod table;
 
 pub use bindings::{Binding, Bindings};
 pub use fault::HierFault;
@@ -33,7 +34,7 @@ pub use laws::{
     shelves_have_their_numbers,
 };
 pub use node::{Child, Node, Nodes, Target};
-pub use outline::{Outline, externals};
+pub use outline::Outline;
 pub use shelf::Shelf;
 pub use size::Size;
 pub use size_box::is_box_near;

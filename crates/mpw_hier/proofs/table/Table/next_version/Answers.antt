@@ -6,7 +6,7 @@ use Rattle.mpw_hier.specs.declared.submission.Submission.{Submission}
 use Rattle.mpw_hier.specs.Shelf.{present, versions}
 use Rattle.mpw_hier.proofs.Shelving.{shelf_few}
 use Rattle.mpw_hier.proofs.Versions.{first_version, present_is, next_version}
-use Rattle.mpw_hier.proofs.shelf.Shelf.next_version.Goals as goal
+use Rattle.mpw_hier.proofs.table.Table.next_version.Goals as goal
 
 pub index-requires : goal.index-requires
 index-requires c =

@@ -1,7 +1,7 @@
 use Rattle.std.proofs.Common.{◌-◌, ◌<◌, length, arith}
 use Rattle.std.proofs.lemmas.Option.{slice_get-get_or}
 use Rattle.mpw_hier.proofs.Tops.{shelf_size}
-use Rattle.mpw_hier.proofs.shelf.Shelf.size.Goals as goal
+use Rattle.mpw_hier.proofs.table.Table.size.Goals as goal
 
 pub returns-clause-some : goal.returns-clause-some
 returns-clause-some c =

@@ -1,6 +1,6 @@
 use Rattle.std.proofs.Common.{◌<◌, length, take, sym, ap, ◌∙◌, arith}
 use Rattle.mpw_hier.proofs.Shelving.{shelved_at}
-use Rattle.mpw_hier.proofs.shelf.Shelf.copy.Goals as goal
+use Rattle.mpw_hier.proofs.table.Table.copy.Goals as goal
 
 pub append-requires-clause-nodes : goal.append-requires-clause-nodes
 append-requires-clause-nodes c =

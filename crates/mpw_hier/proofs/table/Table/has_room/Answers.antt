@@ -2,7 +2,7 @@ use Rattle.std.proofs.Common.{◌≡◌, Bool, true, false, ◌&&◌, ◌||◌, 
 use Rattle.mpw_hier.specs.Shelf.{present}
 use Rattle.mpw_hier.specs.Limits.{has_room_for}
 use Rattle.mpw_hier.proofs.Versions.{cells_of}
-use Rattle.mpw_hier.proofs.shelf.Shelf.has_room.Goals as goal
+use Rattle.mpw_hier.proofs.table.Table.has_room.Goals as goal
 
 else_room : (a b t : Bool) → a ≡ true → b ≡ false → t ≡ (a && (b || t))
 else_room true false t h k = refl

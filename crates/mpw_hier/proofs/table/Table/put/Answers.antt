@@ -3,7 +3,7 @@ use Rattle.mpw_hier.specs.declared.fault.HierFault.{HierFault}
 use Rattle.mpw_hier.specs.declared.submission.Submission.{Submission}
 use Rattle.mpw_hier.proofs.Outlining.{outlined}
 use Rattle.mpw_hier.proofs.Pushing.{far_as, bound_as, measured, large, small, deep, low, nodes_kept, refused_nodes}
-use Rattle.mpw_hier.proofs.shelf.Shelf.put.Goals as goal
+use Rattle.mpw_hier.proofs.table.Table.put.Goals as goal
 
 pub returns-in_err-nodes-clause-faults : goal.returns-in_err-nodes-clause-faults
 returns-in_err-nodes-clause-faults c =

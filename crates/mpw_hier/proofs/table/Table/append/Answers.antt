@@ -7,7 +7,7 @@ use Rattle.mpw_hier.specs.Nodes.{AreNodesOf}
 use Rattle.mpw_hier.specs.Limits.{IsSubmitted}
 use Rattle.mpw_hier.specs.Values.{flats, heights}
 use Rattle.mpw_hier.proofs.Shelving.{shelved_more, shelved_same}
-use Rattle.mpw_hier.proofs.shelf.Shelf.append.Goals as goal
+use Rattle.mpw_hier.proofs.table.Table.append.Goals as goal
 
 pub invariant_of-self-in_err-insert : goal.invariant_of-self-in_err-insert
 invariant_of-self-in_err-insert c =
