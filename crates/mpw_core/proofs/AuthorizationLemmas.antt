@@ -14,12 +14,12 @@ use Rattle.mpw_core.specs.declared.event.Request.TheVariants as ask
 use Rattle.mpw_core.specs.declared.policy.PolicyRequest.{PolicyRequest}
 use Rattle.mpw_core.specs.declared.policy.PolicyRequest.TheVariants.{Open, Close, Activate, DropRole, AddUser, DelUser, AddRole, DelRole, Assign, Deassign, Grant, Revoke, Inherit, Uninherit, Ssd, Dsd, UnSsd, UnDsd}
 use Rattle.mpw_core.specs.declared.layouts.LayoutRequest.{LayoutRequest}
-use Rattle.mpw_core.specs.declared.layouts.LayoutRequest.TheVariants.{Submit, Cells}
+use Rattle.mpw_core.specs.declared.layouts.LayoutRequest.TheVariants.{Submit, Cells, Shapes}
 use Rattle.mpw_core.specs.PolicyRows.{row_of}
 use Rattle.mpw_core.specs.declared.event.Call.{Call}
 use Rattle.mpw_core.specs.History.{state_after}
 use Rattle.mpw_hier.specs.declared.submission.Submission.{Submission}
-use Rattle.mpw_core.specs.declared.reply.Line.{Line}
+use Rattle.mpw_core.specs.Listing.{Listed}
 use Rattle.mpw_core.specs.declared.reply.Reply.{Reply}
 use Rattle.mpw_core.specs.Layouts as layouts
 use Rattle.mpw_core.specs.Step.{State, Outcome, new_state, left, changed, asked, shelved, listed, identity_lines, layout_outcome, outcome_of, wanted, unkept, settled, step, after}
@@ -29,7 +29,7 @@ policy-shelved : (s : State) (row : Result Submission Reply) → (shelved s row)
 policy-shelved s (Ok q) = refl
 policy-shelved s (Err r) = refl
 
-policy-listed : (s : State) (row : Result (List Line) Reply) → (listed s row).state.policy ≡ s.policy
+policy-listed : (s : State) (row : Result (List Listed) Reply) → (listed s row).state.policy ≡ s.policy
 policy-listed s (Ok q) = refl
 policy-listed s (Err r) = refl
 
@@ -65,6 +65,7 @@ keeps-row p conn (UnDsd name) q is sound = law.keeps-undsd conn name p q is soun
 keeps-layout : (s : State) (conn : ℕ) (request : LayoutRequest) → active_authorized s.policy ≡ true → active_authorized (layout_outcome s conn request).state.policy ≡ true
 keeps-layout s conn (Submit cell top text) sound = rw (policy-shelved s (layouts.submitted s.policy s.shelf conn cell top text)) sound
 keeps-layout s conn Cells sound = rw (policy-listed s (layouts.cells s.policy s.shelf conn)) sound
+keeps-layout s conn (Shapes cell) sound = rw (policy-listed s (layouts.shapes s.policy s.shelf conn cell)) sound
 
 keeps-request : (s : State) (conn : ℕ) (request : Request) → active_authorized s.policy ≡ true → active_authorized (outcome_of s conn request).state.policy ≡ true
 keeps-request s conn (ask.Policy request) sound = keeps-changed s (row_of s.policy conn request) (λ q is. keeps-row s.policy conn request q is sound) sound
@@ -124,6 +125,7 @@ sound-row p conn (UnDsd name) q is sound = law.sound-undsd conn name p q is soun
 sound-layout : (s : State) (conn : ℕ) (request : LayoutRequest) → Sound s.policy → Sound (layout_outcome s conn request).state.policy
 sound-layout s conn (Submit cell top text) sound = rw (policy-shelved s (layouts.submitted s.policy s.shelf conn cell top text)) sound
 sound-layout s conn Cells sound = rw (policy-listed s (layouts.cells s.policy s.shelf conn)) sound
+sound-layout s conn (Shapes cell) sound = rw (policy-listed s (layouts.shapes s.policy s.shelf conn cell)) sound
 
 sound-request : (s : State) (conn : ℕ) (request : Request) → Sound s.policy → Sound (outcome_of s conn request).state.policy
 sound-request s conn (ask.Policy request) sound = sound-changed s (row_of s.policy conn request) (λ q is. sound-row s.policy conn request q is sound) sound

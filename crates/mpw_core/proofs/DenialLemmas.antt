@@ -15,16 +15,16 @@ use Rattle.mpw_core.specs.declared.event.Request.TheVariants as ask
 use Rattle.mpw_core.specs.declared.policy.PolicyRequest.{PolicyRequest}
 use Rattle.mpw_core.specs.declared.policy.PolicyRequest.TheVariants.{Open, Close, Activate, DropRole, AddUser, DelUser, AddRole, DelRole, Assign, Deassign, Grant, Revoke, Inherit, Uninherit, Ssd, Dsd, UnSsd, UnDsd}
 use Rattle.mpw_core.specs.declared.layouts.LayoutRequest.{LayoutRequest}
-use Rattle.mpw_core.specs.declared.layouts.LayoutRequest.TheVariants.{Submit, Cells}
+use Rattle.mpw_core.specs.declared.layouts.LayoutRequest.TheVariants.{Submit, Cells, Shapes}
 use Rattle.mpw_core.specs.PolicyRows.{row_of}
 use Rattle.mpw_core.specs.declared.reply.Denial.TheVariants as denial
 use Rattle.mpw_core.specs.declared.reply.Reply.TheVariants as reply
 use Rattle.mpw_hier.specs.declared.submission.Submission.{Submission}
-use Rattle.mpw_core.specs.declared.reply.Line.{Line}
+use Rattle.mpw_core.specs.Listing.{Listed}
 use Rattle.mpw_core.specs.declared.reply.Reply.{Reply}
 use Rattle.mpw_core.specs.Layouts as layouts
 use Rattle.mpw_core.specs.Step.{State, Outcome, told, changed, asked, shelved, listed, identity_lines, layout_outcome, outcome_of, wanted, step, reply_of}
-use Rattle.mpw_core.proofs.LayoutDenials.{denies-submitted, denies-cells}
+use Rattle.mpw_core.proofs.LayoutDenials.{denies-submitted, denies-cells, denies-shapes}
 use Rattle.mpw_core.proofs.RefusalLemmas.{settled-denied}
 
 permission-told : (r : Refusal) (operation : Operation) (object : Object) → told r ≡ reply.Denied (denial.Permission operation object) → r ≡ refusal.NotPermitted operation object
@@ -67,7 +67,7 @@ permission-shelved : (s : State) (row : Result Submission Reply) (operation : Op
 permission-shelved s (Ok q) operation object e = cc
 permission-shelved s (Err r) operation object e = ap (λ x. Err x) e
 
-permission-listed : (s : State) (row : Result (List Line) Reply) (operation : Operation) (object : Object) → (listed s row).reply ≡ reply.Denied (denial.Permission operation object) → row ≡ Err (reply.Denied (denial.Permission operation object))
+permission-listed : (s : State) (row : Result (List Listed) Reply) (operation : Operation) (object : Object) → (listed s row).reply ≡ reply.Denied (denial.Permission operation object) → row ≡ Err (reply.Denied (denial.Permission operation object))
 permission-listed s (Ok q) operation object e = cc
 permission-listed s (Err r) operation object e = ap (λ x. Err x) e
 
@@ -98,6 +98,7 @@ lacks-row p conn (UnDsd name) operation object e = law.denies-undsd conn name p 
 lacks-layout : (s : State) (conn : ℕ) (request : LayoutRequest) (operation : Operation) (object : Object) → (layout_outcome s conn request).reply ≡ reply.Denied (denial.Permission operation object) → permits s.policy conn operation object ≡ false
 lacks-layout s conn (Submit cell top text) operation object e = denies-submitted s.policy s.shelf conn cell top text operation object (permission-shelved s (layouts.submitted s.policy s.shelf conn cell top text) operation object e)
 lacks-layout s conn Cells operation object e = absurd (denies-cells s.policy s.shelf conn operation object (permission-listed s (layouts.cells s.policy s.shelf conn) operation object e))
+lacks-layout s conn (Shapes cell) operation object e = denies-shapes s.policy s.shelf conn cell operation object (permission-listed s (layouts.shapes s.policy s.shelf conn cell) operation object e)
 
 lacks-request : (s : State) (conn : ℕ) (request : Request) (operation : Operation) (object : Object) → (outcome_of s conn request).reply ≡ reply.Denied (denial.Permission operation object) → permits s.policy conn operation object ≡ false
 lacks-request s conn (ask.Policy request) operation object e = lacks-row s.policy conn request operation object (permission-changed s (row_of s.policy conn request) operation object e)

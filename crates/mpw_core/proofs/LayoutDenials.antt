@@ -1,12 +1,12 @@
 -- A denial of a request over the shelf names what the session lacks.
-use Rattle.std.proofs.Common.{◌≡◌, ℕ, Bool, true, false, cond, List, [], ◌∷◌, Option, Some, None, Result, Ok, Err, ◌⊎◌, inl, inr, refl, ap, is_some}
+use Rattle.std.proofs.Common.{◌≡◌, ℕ, Bool, true, false, cond, List, [], ◌∷◌, map, Option, Some, None, Result, Ok, Err, ◌⊎◌, inl, inr, refl, ap, is_some}
 use Rattle.std.specs.Prelude.{not}
 use Rattle.std.specs.List.{flat_map}
 use Rattle.mpw_records.specs.declared.fault.ReadFault.{ReadFault}
 use Rattle.mpw_rbac.specs.declared.permission.Object.{Object}
 use Rattle.mpw_rbac.specs.declared.permission.Object.TheVariants as objects
 use Rattle.mpw_rbac.specs.declared.permission.Operation.{Operation}
-use Rattle.mpw_rbac.specs.declared.permission.Operation.TheVariants.{Submit, Use}
+use Rattle.mpw_rbac.specs.declared.permission.Operation.TheVariants.{Submit, Use, Read}
 use Rattle.mpw_rbac.specs.Policy.{Policy, session_of, permits}
 use Rattle.mpw_rbac.specs.Rows.{user_of}
 use Rattle.mpw_library.specs.declared.structures.Structure.{Structure}
@@ -14,14 +14,16 @@ use Rattle.mpw_library.specs.Grammar.{library_of}
 use Rattle.mpw_library.specs.Places.{place_of}
 use Rattle.mpw_hier.specs.declared.bindings.Binding.{Binding}
 use Rattle.mpw_hier.specs.declared.submission.Submission.{Submission}
-use Rattle.mpw_hier.specs.Shelf.{bound_to}
+use Rattle.mpw_hier.specs.Shelf.{present, bound_to}
+use Rattle.mpw_hier.specs.Values.{flat}
+use Rattle.mpw_core.specs.Listing.{Listed, stored}
 use Rattle.mpw_hier.specs.Limits.{is_too_large, is_too_deep, has_room_for, numbered}
 use Rattle.mpw_hier.specs.Reach.{is_cyclic, is_far, external_names}
 use Rattle.mpw_core.specs.declared.reply.Denial.TheVariants as denial
 use Rattle.mpw_core.specs.declared.reply.Code.TheVariants as code
 use Rattle.mpw_core.specs.declared.reply.Reply.{Reply}
 use Rattle.mpw_core.specs.declared.reply.Reply.TheVariants as reply
-use Rattle.mpw_core.specs.Layouts.{◌>>=◌, denied, permitted, read, outside, usable, bound, kept, unnumbered, submitted_library, submitted, cells, cells_of, readable_line}
+use Rattle.mpw_core.specs.Layouts.{◌>>=◌, denied, permitted, read, outside, usable, bound, kept, unnumbered, submitted_library, submitted, cells, cells_of, readable_line, shown, readable_shape, shapes}
 
 -- a row ends in its first part, or behind it
 parts : {A B : Type 0} (x : Result A Reply) (f : A → Result B Reply) (r : Reply) → (x >>= f) ≡ Err r → (x ≡ Err r) ⊎ ((a : A) × (x ≡ Ok a) × (f a ≡ Err r))
@@ -102,8 +104,25 @@ denies-submitted policy shelf conn cell top text operation object e = elim (part
 ]
 
 pub denies-cells : (policy : Policy) (shelf : List Submission) (conn : ℕ) (operation : Operation) (object : Object) → cells policy shelf conn ≡ Err (reply.Denied (denial.Permission operation object)) → ⊥
-denies-cells policy shelf conn operation object e = go (flat_map (readable_line policy shelf conn) (cells_of shelf)) (is_some (session_of policy conn)) e
+denies-cells policy shelf conn operation object e = go (map stored (flat_map (readable_line policy shelf conn) (cells_of shelf))) (is_some (session_of policy conn)) e
   where
     go : {A : Type 0} (value : A) (a : Bool) → cond a (Ok value) (Err (reply.Denied denial.Session)) ≡ Err (reply.Denied (denial.Permission operation object)) → ⊥
     go value true e = cc
     go value false e = cc
+
+denies-shown : (found : Option ℕ) (operation : Operation) (object : Object) → shown found ≡ Err (reply.Denied (denial.Permission operation object)) → ⊥
+denies-shown None operation object e = cc
+denies-shown (Some number) operation object e = cc
+
+denies-listed : (lines : List Listed) (told : Reply) → Ok lines ≡ Err told → ⊥
+denies-listed lines told e = cc
+
+pub denies-shapes : (policy : Policy) (shelf : List Submission) (conn : ℕ) (cell : List ℕ) (operation : Operation) (object : Object) → shapes policy shelf conn cell ≡ Err (reply.Denied (denial.Permission operation object)) → permits policy conn operation object ≡ false
+unfolding shapes
+denies-shapes policy shelf conn cell operation object e = elim (parts (permitted policy conn Read cell) _ _ e) [
+  | inl first ↦ denies-permitted policy conn operation object Read cell first
+  | inr rest ↦ elim (parts (shown (present shelf cell)) _ _ rest.2) [
+    | inl second ↦ absurd (denies-shown (present shelf cell) operation object second)
+    | inr more ↦ absurd (denies-listed (flat_map (readable_shape policy shelf conn) (flat shelf more.0)) (reply.Denied (denial.Permission operation object)) more.2)
+  ]
+]

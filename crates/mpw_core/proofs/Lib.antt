@@ -8,3 +8,5 @@ mod LayoutLemmas
 mod KeepingLemmas
 mod RestartLemmas
 pub mod GoingOnLemmas
+mod ListingLemmas
+mod ReadableLemmas

@@ -9,6 +9,7 @@ use Rattle.mpw_rbac.specs.declared.permission.Operation.{Operation}
 use Rattle.mpw_rbac.specs.declared.permission.Operation.TheVariants.{Submit, Use, Read}
 use Rattle.mpw_rbac.specs.declared.permission.Object.TheVariants as object
 use Rattle.mpw_rbac.specs.Policy.{Policy, session_of, permits}
+use Rattle.mpw_rbac.specs.Access.{Access}
 use Rattle.mpw_rbac.specs.Rows.{user_of}
 use Rattle.mpw_library.specs.declared.structures.Structure.{Structure}
 use Rattle.mpw_library.specs.Grammar.{library_of}
@@ -18,6 +19,9 @@ use Rattle.mpw_hier.specs.declared.submission.Submission.{Submission}
 use Rattle.mpw_hier.specs.Shelf.{present, bound_to}
 use Rattle.mpw_hier.specs.Limits.{is_too_large, is_too_deep, has_room_for, numbered}
 use Rattle.mpw_hier.specs.Reach.{is_cyclic, external_names, is_far}
+use Rattle.mpw_hier.specs.Items.{Item}
+use Rattle.mpw_hier.specs.Values.{flat}
+use Rattle.mpw_core.specs.Listing.{Listed, stored, line_if}
 use Rattle.mpw_core.specs.declared.reply.Line.{Line}
 use Rattle.mpw_core.specs.declared.reply.Line.TheVariants as line
 use Rattle.mpw_core.specs.declared.reply.Denial.TheVariants as denial
@@ -124,5 +128,31 @@ abbrev pub readable_line : Policy → List Submission → ℕ → Name → List 
 readable_line policy shelf conn cell =
     if permits policy conn Read (object.Cell cell) then cell_line (present_submission shelf cell) else []
 
-abbrev pub cells : Policy → List Submission → ℕ → Result (List Line) Reply
-cells policy shelf conn = decided (in_session policy conn ∷ []) (flat_map (readable_line policy shelf conn) (cells_of shelf))
+abbrev pub cells : Policy → List Submission → ℕ → Result (List Listed) Reply
+cells policy shelf conn = decided (in_session policy conn ∷ []) (map stored (flat_map (readable_line policy shelf conn) (cells_of shelf)))
+
+-- ---- shapes
+
+-- the number of a cell's present submission
+abbrev pub shown : Option ℕ → Result ℕ Reply
+shown None = Err (reply.Refused code.NoCell)
+shown (Some number) = Ok number
+
+-- the session may read the cell that the submission is of
+abbrev pub may_read : Policy → ℕ → Submission → Bool
+may_read policy conn s = permits policy conn Read (object.Cell s.cell)
+
+-- the access of a session lets it read that cell
+abbrev pub may_read_by : Access → Submission → Bool
+may_read_by access s = permits access.policy access.conn access.operation (object.Cell s.cell)
+
+-- the line of a shape, if the session may read the cell that the shape comes from
+abbrev pub readable_shape : Policy → List Submission → ℕ → Item → List Listed
+readable_shape policy shelf conn item = line_if (may_read policy conn) (slice_get shelf item.origin) item
+
+-- the shapes of the cell's present submission that come from cells that the session may read
+unfoldable pub shapes : Policy → List Submission → ℕ → Name → Result (List Listed) Reply
+shapes policy shelf conn cell = do
+  entered ← permitted policy conn Read cell
+  number ← shown (present shelf cell)
+  Ok (flat_map (readable_shape policy shelf conn) (flat shelf number))

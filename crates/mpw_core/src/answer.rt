@@ -12,9 +12,9 @@ ghost use Rattle.mpw_core.specs.Step.{State, told, changed, asked, shelved, list
 ghost use Rattle.mpw_rbac.specs.Rows as rows;
 ghost use Rattle.mpw_core.specs.declared.answer.Fault.TheVariants.{Memory};
 ghost use Rattle.mpw_core.specs.declared.reply.Reply.{Reply as ReplyTold};
-ghost use Rattle.mpw_core.specs.declared.reply.Line.{Line as LineTold};
+ghost use Rattle.mpw_core.specs.Listing.{Listed, stored};
 
-use crate::layouts::{LayoutRequest, Shelved, cells, submit};
+use crate::layouts::{LayoutRequest, Shelved, cells, shapes, submit};
 use crate::policy::{PolicyRequest, make};
 use crate::{Code, Denial, Event, Line, Lines, Reply, Request};
 use mpw_geom::Names;
@@ -105,7 +105,7 @@ fn changed(next: Policy, made: Result<(), PolicyFault>) -> Result<Answer, AllocE
 
 /// The lines of `whoami`.
 fn identity_lines(alloc: Global, identity: Identity) -> Result<Lines, AllocError>
-    ensures { IfOk result (λ lines. lines ≡ identity_lines identity) }
+    ensures { IfOk result (λ lines. lines ≡ map stored (identity_lines identity)) }
 {
     let mut lines = Vec::new(alloc);
     lines.push(Line::User(identity.user))?;
@@ -155,6 +155,7 @@ fn layout(
             submission(alloc, submit(alloc, policy, shelf, conn, cell, top, text))
         }
         LayoutRequest::Cells => listing(cells(alloc, policy, shelf, conn)),
+        LayoutRequest::Shapes { cell } => listing(shapes(alloc, policy, shelf, conn, cell)),
     }
 }
 
@@ -177,7 +178,7 @@ fn ask(
 
 /// The line of a version.
 fn version_line(alloc: Global, version: u32) -> Result<Lines, AllocError>
-    ensures { IfOk result (λ lines. lines ≡ Line.Version version ∷ []) }
+    ensures { IfOk result (λ lines. lines ≡ stored (Line.Version version) ∷ []) }
 {
     let mut lines = Vec::new(alloc);
     lines.push(Line::Version(version))?;
@@ -201,7 +202,7 @@ fn submission(alloc: Global, made: Result<Shelved, Fault>) -> Result<Answer, All
 
 /// The answer to what lists.
 fn listing(made: Result<Lines, Fault>) -> Result<Answer, AllocError>
-    ensures { (state : State) (row : Result (List LineTold) ReplyTold) → Answers (λ lines. lines) made row → IfOk result (λ answer. Gives state (listed state row) answer.reply answer.next) }
+    ensures { (state : State) (row : Result (List Listed) ReplyTold) → Answers (λ lines. lines) made row → IfOk result (λ answer. Gives state (listed state row) answer.reply answer.next) }
 {
     match made {
         Ok(lines) => Ok(Answer {
@@ -244,7 +245,7 @@ fn gone(policy: &Policy, conn: u32) -> Result<Answer, AllocError>
 }
 
 /// The answer to an event. It takes the policy's size at most, and its own; a submission takes its library's size, and
-/// the number of submissions on the shelf, and `cells` the policy's size for each cell.
+/// the number of submissions on the shelf, and so does `cells`; `shapes` takes the turns of a walk too.
 ///
 /// # Errors
 /// Where there is no room for it.

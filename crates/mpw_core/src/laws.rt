@@ -1,11 +1,13 @@
-//! Laws of the definitions alone. Each function has an empty body: its contract is the law.
-ghost use Rattle.std.specs.Prelude.{◌≡◌, ◌≢◌, ℕ, Bool, List, true, false, None};
+//! Laws of the definitions alone. Each function calls at most the laws that its own rests on: its contract is the law.
+ghost use Rattle.std.specs.Prelude.{◌≡◌, ◌≢◌, ℕ, Bool, List, All, true, false, None};
 ghost use Rattle.mpw_geom.specs.Names.{contains_name};
 ghost use Rattle.mpw_rbac.specs.Policy.{authorized, is_user, permits, session_of};
 ghost use Rattle.mpw_rbac.specs.Rows.{is_login, user_of};
 ghost use Rattle.mpw_rbac.specs.Sound.{active_authorized, Sound};
 ghost use Rattle.mpw_core.specs.History.{state_after, KeptDesk, IsHandled, GoesOnTo};
 ghost use Rattle.mpw_core.specs.declared.reply.Reply.{Reply as AnyReply};
+ghost use Rattle.mpw_core.specs.Listing.{Listed};
+ghost use Rattle.mpw_core.specs.Readable.{IsOfReadable};
 ghost use Rattle.mpw_core.specs.Step.{State, new_state, outcome_of, wanted, unkept, left, step, reply_of, after};
 ghost use Rattle.mpw_core.specs.declared.event.Event.{Event};
 ghost use Rattle.mpw_core.specs.declared.event.Event.TheVariants as event;
@@ -20,6 +22,8 @@ ghost use Rattle.mpw_core.specs.declared.reply.Reply.TheVariants as Reply;
 ghost use Rattle.mpw_core.specs.declared.event.Call.{Call};
 ghost use Rattle.mpw_rbac.specs.declared.permission.Object.{Object};
 ghost use Rattle.mpw_rbac.specs.declared.permission.Operation.{Operation};
+
+use mpw_hier::shelves_have_their_numbers;
 
 /// In every state that calls lead to, each session is of a user who is authorized for each of its active roles.
 pub fn every_state_keeps_authorization()
@@ -64,6 +68,14 @@ pub fn keepers_have_the_changes_in_order()
     ensures stays { (d : KeptDesk) → GoesOnTo d d }
     ensures on { (a b c : KeptDesk) → GoesOnTo a b → GoesOnTo b c → GoesOnTo a c }
 {}
+
+/// Whatever the request, a line of its reply that tells of a cell, or shows a shape of one, is of a cell that the connection's
+/// session may read.
+pub fn lines_are_of_readable_cells()
+    ensures { (state : State) (conn : ℕ) (request : AnyRequest) (kept : Bool) (lines : List Listed) → reply_of state (event.Ask conn request) kept ≡ Reply.Ok lines → All (IsOfReadable state.policy conn) lines }
+{
+    shelves_have_their_numbers();
+}
 
 /// A denial of a permission, whatever the request, names one that the connection's session lacks. A denial of an
 /// activation names the role that was asked for, and the session's user is not authorized for it.

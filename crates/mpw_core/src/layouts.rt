@@ -1,7 +1,7 @@
-//! The requests over the shelf: `submit` and `cells`.
+//! The requests over the shelf: `submit`, `cells` and `shapes`.
 //!
 //! Each part of a row is a function that gives its value, or the reply that ends the row, or tells want of memory.
-ghost use Rattle.std.specs.Prelude.{◌≡◌, ◌++◌, slice_get, IfOk, IfErr, OnOk, Some};
+ghost use Rattle.std.specs.Prelude.{◌≡◌, ◌<◌, ◌++◌, slice_get, length, map, IfOk, IfErr, OnOk, Some};
 ghost use Rattle.std.specs.List.{flat_map};
 ghost use Rattle.mpw_library.specs.Grammar.{library_of};
 ghost use Rattle.mpw_library.specs.Library.{IsLibrary};
@@ -10,14 +10,21 @@ ghost use Rattle.mpw_hier.specs.Shelf.{bound_to};
 ghost use Rattle.mpw_hier.specs.declared.submission.Submission.{Submission as SubmissionTold};
 ghost use Rattle.mpw_core.specs.Answer.{Answers, Told, IsShelved, fault_of};
 ghost use Rattle.mpw_core.specs.Layouts as row;
+ghost use Rattle.mpw_core.specs.Listing.{stored};
+ghost use Rattle.mpw_hier.specs.Shelf.{present};
 ghost use Rattle.mpw_rbac.specs.Rows.{user_of};
+ghost use Rattle.mpw_rbac.specs.declared.permission.Operation.TheVariants.{Read};
 
 use crate::answer::Fault;
+use crate::listing::shapes_of;
 use crate::{Code, Denial, Line, Lines, Reply};
 use mpw_geom::{Name, Names};
-use mpw_hier::{Bindings, HierFault, Outline, Shelf, Submission, reaching_is_decided};
+use mpw_hier::{
+    Bindings, HierFault, Outline, Shelf, Submission, reaching_is_decided,
+    shelves_have_their_numbers,
+};
 use mpw_library::{Library, LibraryText};
-use mpw_rbac::{Object, Operation, Policy};
+use mpw_rbac::{Access, Object, Operation, Policy};
 use std::alloc::{AllocError, Global};
 
 /// A request over the shelf of submissions.
@@ -31,6 +38,10 @@ pub enum LayoutRequest {
     },
     /// Which cells may be read.
     Cells,
+    /// The shapes of a cell's present submission, as far as their cells may be read.
+    Shapes {
+        cell: Name,
+    },
 }
 
 /// A fault of the shelf as the reply that tells it.
@@ -91,9 +102,10 @@ fn outside(alloc: Global, library: &Library, top: &Name) -> Result<Outline, Faul
 fn usable(policy: &Policy, conn: u32, cells: &[Name]) -> Result<(), Fault>
     ensures { Answers (λ x. x) result (row.usable policy.now conn cells.now) }
 {
+    let access = policy.access(conn, Operation::Use);
     for cell in cells {
         let object = Object::Cell(cell.copy()?);
-        if !policy.permits(conn, Operation::Use, &object) {
+        if !access.permits(&object) {
             return Err(Fault::Told(Reply::Denied(Denial::Permission(Operation::Use, object))));
         }
     }
@@ -232,15 +244,15 @@ pub(crate) fn submit(
 /// Adds the line of a cell, if the session may read it and it has a submission.
 fn push_cell(
     lines: &mut Vec<Line>,
-    policy: &Policy,
+    access: &Access<'_>,
     shelf: &Shelf,
-    conn: u32,
     cell: &Name,
 ) -> Result<(), AllocError>
-    ensures { OnOk result (lines.new.items ≡ lines.old.items ++ row.readable_line policy.now shelf.now conn cell.now) }
+    requires { access.now.operation ≡ Read }
+    ensures { OnOk result (lines.new.items ≡ lines.old.items ++ row.readable_line access.now.policy shelf.now access.now.conn cell.now) }
 {
     let object = Object::Cell(cell.copy()?);
-    if !policy.permits(conn, Operation::Read, &object) {
+    if !access.permits(&object) {
         return Ok(());
     }
     let Some(number) = shelf.present(cell) else {
@@ -264,16 +276,17 @@ fn cell_lines(
     conn: u32,
     cells: &[Name],
 ) -> Result<Lines, AllocError>
-    ensures { IfOk result (λ lines. lines ≡ flat_map (row.readable_line policy.now shelf.now conn) cells.now) }
+    ensures { IfOk result (λ lines. lines ≡ map stored (flat_map (row.readable_line policy.now shelf.now conn) cells.now)) }
 {
     let mut lines = Vec::new(alloc);
+    let access = policy.access(conn, Operation::Read);
     for cell in cells {
-        push_cell(&mut lines, policy, shelf, conn, cell)?;
+        push_cell(&mut lines, &access, shelf, cell)?;
     }
     Lines::from_vec(alloc, lines)
 }
 
-/// The lines of `cells`. For each cell it takes a search of the hierarchy and a pass over the grants.
+/// The lines of `cells`: a sort of the submissions' cells, and a look-up for each.
 pub(crate) fn cells(
     alloc: Global,
     policy: &Policy,
@@ -287,4 +300,33 @@ pub(crate) fn cells(
     }
     let cells = shelf.cells(alloc)?;
     Ok(cell_lines(alloc, policy, shelf, conn, cells.as_slice())?)
+}
+
+/// The number of the present submission of a cell.
+fn shown(shelf: &Shelf, cell: &Name) -> Result<u32, Fault>
+    ensures shown { Answers (λ number. number) result (row.shown (present shelf.now cell.now)) }
+    ensures within { IfOk result (λ number. number < length shelf.now) }
+{
+    shelves_have_their_numbers();
+    match shelf.present(cell) {
+        Some(number) => Ok(number),
+        None => Err(Fault::Told(Reply::Refused(Code::NoCell))),
+    }
+}
+
+/// The lines of `shapes`: a look-up for each submission on the shelf, and the turns of a walk over the submission's shapes.
+#[tactic(auto, unfolding(crate::specs::Layouts::shapes))]
+pub(crate) fn shapes(
+    alloc: Global,
+    policy: &Policy,
+    shelf: &Shelf,
+    conn: u32,
+    cell: &Name,
+) -> Result<Lines, Fault>
+    ensures { Answers (λ lines. lines) result (row.shapes policy.now shelf.now conn cell.now) }
+{
+    enter(policy, conn, Operation::Read, cell)?;
+    let number = shown(shelf, cell)?;
+    let listing = shapes_of(alloc, policy, shelf, conn, number)?;
+    Ok(Lines::of_shapes(alloc, listing)?)
 }

@@ -12,6 +12,8 @@ mod event;
 mod keeper;
 mod laws;
 mod layouts;
+mod lines;
+mod listing;
 mod policy;
 mod reply;
 
@@ -22,8 +24,11 @@ pub use laws::{
     a_restart_ends_every_session, changes_count_once_they_are_kept,
     denials_and_refusals_change_nothing, denials_name_what_the_session_lacks,
     every_state_keeps_authorization, every_state_keeps_separation,
-    keepers_have_the_changes_in_order, unknown_users_are_denied_like_wrong_tokens,
+    keepers_have_the_changes_in_order, lines_are_of_readable_cells,
+    unknown_users_are_denied_like_wrong_tokens,
 };
 pub use layouts::LayoutRequest;
+pub use lines::{Kept, Lines};
+pub use listing::{ShapeListing, ShapeView, ShapeViews};
 pub use policy::PolicyRequest;
-pub use reply::{Code, Denial, Line, Lines, Reply};
+pub use reply::{Code, Denial, Line, Reply};

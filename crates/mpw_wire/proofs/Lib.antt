@@ -6,3 +6,4 @@ pub mod ServingLemmas
 pub mod StoredLemmas
 pub mod AskedLemmas
 mod ReplyLemmas
+mod ShapeLemmas

@@ -78,3 +78,7 @@ pub Writes_first : (old new : Option (List ℕ)) (failed failed' : ℕ) (fault :
     → WritesKnown old new failed failed' told a → WritesKnown old new failed failed' told' (a ++ b)
 Writes_first old new failed failed' fault told told' a b e e' w =
     subst (λ x. WritesKnown old new failed failed' x (a ++ b)) (sym e') (Writes-stop old new failed failed' fault a b (subst (λ x. WritesKnown old new failed failed' x a) e w))
+
+-- a text that is the same
+pub Writes_same : (old new : Option (List ℕ)) (failed failed' : ℕ) (told : Option WireFault) (a b : List ℕ) → a ≡ b → WritesKnown old new failed failed' told a → WritesKnown old new failed failed' told b
+Writes_same old new failed failed' told a b same w = subst (WritesKnown old new failed failed' told) same w

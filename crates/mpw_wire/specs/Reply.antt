@@ -1,7 +1,16 @@
 -- The text of a reply: `OK`, the number of lines and the lines, or one line that denies or refuses.
 use Rattle.std.specs.Prelude.{ℕ, List, [], ◌∷◌, ◌++◌, length, codes}
 use Rattle.std.specs.List.{concat, flat_map}
-use Rattle.std.specs.Fmt.{decimal}
+use Rattle.std.specs.Fmt.{decimal, signed_decimal}
+use Rattle.mpw_geom.specs.declared.plane.Layer.{Layer}
+use Rattle.mpw_geom.specs.declared.plane.Point.{Point}
+use Rattle.mpw_geom.specs.declared.placing.Placing.{Placing}
+use Rattle.mpw_geom.specs.Placing.{placed_point}
+use Rattle.mpw_elements.specs.declared.element.Boundary.{Boundary}
+use Rattle.mpw_elements.specs.declared.element.Path.{Path}
+use Rattle.mpw_elements.specs.declared.element.Element.{Element}
+use Rattle.mpw_elements.specs.declared.element.Element.TheVariants as elements
+use Rattle.mpw_core.specs.Listing.{Listed, stored, shape}
 use Rattle.mpw_rbac.specs.declared.permission.Operation.{Operation}
 use Rattle.mpw_rbac.specs.declared.permission.Operation.TheVariants.{Submit, Use, Place, Admin, Deck, Run, Waive, Sign, Verdict, Audit}
 use Rattle.mpw_rbac.specs.declared.permission.Object.{Object}
@@ -45,6 +54,54 @@ line_text (Active name) = named_text (codes "active ") name
 line_text (Authorized name) = named_text (codes "authorized ") name
 line_text (Version version) = version_text version
 line_text (line.Cell cell version submitter) = cell_text cell version submitter
+
+-- a point, behind a space: its coordinates in nm
+abbrev pub point_text : Point → List ℕ
+point_text p = concat (codes " " ∷ signed_decimal p.x ∷ codes " " ∷ signed_decimal p.y ∷ [])
+
+-- points where a placing takes them
+unfoldable pub points_text : Placing → List Point → List ℕ
+points_text placing points = flat_map (λ p. point_text (placed_point placing p)) points
+
+-- the points of a shape, and the end of its line
+unfoldable pub shape_end : Placing → List Point → List ℕ
+shape_end placing points = points_text placing points ++ line_feed
+
+-- how the line of a boundary begins: the cell and the version that it comes from, and its layer and datatype
+abbrev pub boundary_head : List ℕ → ℕ → Layer → List ℕ
+boundary_head cell version layer =
+    concat (cell ∷ codes " " ∷ decimal version ∷ codes " " ∷ decimal layer.layer ∷ codes "/" ∷ decimal layer.datatype ∷ codes " boundary" ∷ [])
+
+-- that of a path, with its width, and how far it is lengthened at its begin and its end, in nm
+abbrev pub path_head : List ℕ → ℕ → Path → List ℕ
+path_head cell version p =
+    concat
+    (cell
+    ∷ codes " "
+    ∷ decimal version
+    ∷ codes " "
+    ∷ decimal p.layer.layer
+    ∷ codes "/"
+    ∷ decimal p.layer.datatype
+    ∷ codes " path "
+    ∷ signed_decimal p.width
+    ∷ codes " "
+    ∷ signed_decimal p.begin
+    ∷ codes " "
+    ∷ signed_decimal p.end
+    ∷ [])
+
+-- the line of a shape: a boundary with its corners in file order, without the closing point, or a path with the points of its centre
+-- line, each point where the placing takes it. A reference is no shape
+unfoldable pub shape_text : List ℕ → ℕ → Placing → Element → List ℕ
+shape_text cell version placing (elements.Boundary b) = boundary_head cell version b.layer ++ shape_end placing b.points
+shape_text cell version placing (elements.Path p) = path_head cell version p ++ shape_end placing p.points
+shape_text cell version placing (elements.Reference r) = []
+
+-- a line, as it is kept
+abbrev pub listed_text : Listed → List ℕ
+listed_text (stored line) = line_text line
+listed_text (shape cell version placing element) = shape_text cell version placing element
 
 -- the word of an operation
 unfoldable pub operation_text : Operation → List ℕ
@@ -159,12 +216,12 @@ unfoldable pub refusal_text : Refusal → List ℕ
 refusal_text refusal = refusal_line (refusal_words refusal)
 
 -- the number of lines
-abbrev pub count_text : List Line → List ℕ
-count_text lines = concat (codes "OK " ∷ decimal (length lines) ∷ line_feed ∷ [])
+abbrev pub count_text : ℕ → List ℕ
+count_text count = concat (codes "OK " ∷ decimal count ∷ line_feed ∷ [])
 
 -- the number of lines, and the lines
-unfoldable pub accepted_text : List Line → List ℕ
-accepted_text lines = count_text lines ++ flat_map line_text lines
+unfoldable pub accepted_text : List Listed → List ℕ
+accepted_text lines = count_text (length lines) ++ flat_map listed_text lines
 
 -- the end of a connection is told nobody, so it has no text
 unfoldable pub reply_text : Reply → List ℕ

@@ -16,7 +16,7 @@ use Rattle.mpw_core.specs.declared.event.Request.{Request}
 use Rattle.mpw_core.specs.declared.event.Request.TheVariants.{Policy, Whoami, Layout}
 use Rattle.mpw_core.specs.declared.policy.PolicyRequest.{PolicyRequest}
 use Rattle.mpw_core.specs.declared.policy.PolicyRequest.TheVariants.{Open, Close, Activate, DropRole, AddUser, DelUser, AddRole, DelRole, Assign, Deassign, Grant, Revoke, Inherit, Uninherit, Ssd, Dsd, UnSsd, UnDsd}
-use Rattle.mpw_core.specs.declared.layouts.LayoutRequest.TheVariants.{Cells}
+use Rattle.mpw_core.specs.declared.layouts.LayoutRequest.TheVariants.{Cells, Shapes}
 use Rattle.mpw_wire.specs.declared.operand.Origin.{Origin}
 use Rattle.mpw_wire.specs.declared.operand.Origin.TheVariants.{Connection, Store}
 use Rattle.mpw_wire.specs.declared.request.LineAsk.{LineAsk}
@@ -209,11 +209,16 @@ unfoldable pub ask_of_three : Origin → List ℕ → List ℕ → List ℕ → 
 ask_of_three origin verb first second third =
     if name_eq verb (codes "submit") then submission_of origin first second third else asked_policy (request_of_three origin verb first second third)
 
+-- what a verb and one word ask
+unfoldable pub ask_of_one : Origin → List ℕ → List ℕ → LineAsk
+ask_of_one origin verb word =
+    if name_eq verb (codes "shapes") then asked (option_map (λ cell. Layout (Shapes cell)) (name_of origin word)) else asked_policy (request_of_one origin verb word)
+
 -- what the words of a line ask
 abbrev pub ask_by : Origin → List (List ℕ) → LineAsk
 ask_by origin [] = ask.Form
 ask_by origin (verb ∷ []) = asked (bare_request verb)
-ask_by origin (verb ∷ a ∷ []) = asked_policy (request_of_one origin verb a)
+ask_by origin (verb ∷ a ∷ []) = ask_of_one origin verb a
 ask_by origin (verb ∷ a ∷ b ∷ []) = asked_policy (request_of_two origin verb a b)
 ask_by origin (verb ∷ a ∷ b ∷ c ∷ []) = ask_of_three origin verb a b c
 ask_by origin (verb ∷ a ∷ b ∷ c ∷ d ∷ more) = asked_policy (request_of_more origin verb a b (c ∷ d ∷ more))

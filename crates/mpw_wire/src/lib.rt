@@ -14,6 +14,7 @@ mod read;
 mod reply;
 mod request;
 mod serve;
+mod shape;
 mod stored;
 mod words;
 mod write;

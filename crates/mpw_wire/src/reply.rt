@@ -1,13 +1,14 @@
 //! The text of replies.
 ghost use Rattle.std.specs.Prelude.{◌≡◌};
 ghost use Rattle.mpw_wire.specs.Writing.{Writes};
-ghost use Rattle.mpw_wire.specs.Reply.{named_text, version_text, cell_text, line_text, denial_word, operation_text, object_text, denial_text, fault_text, fault_line, code_text, refused_text, count_text, accepted_text, refusal_words, refusal_text, reply_text};
+ghost use Rattle.mpw_wire.specs.Reply.{named_text, version_text, cell_text, line_text, listed_text, denial_word, operation_text, object_text, denial_text, fault_text, fault_line, code_text, refused_text, count_text, accepted_text, refusal_words, refusal_text, reply_text};
 ghost use Rattle.std.specs.List.{flat_map};
 
+use crate::shape::write_shapes;
 use crate::write::{flush, write_parts};
 use crate::{Sink, WireFault};
 use itoa::Buffer;
-use mpw_core::{Code, Denial, Line, Reply};
+use mpw_core::{Code, Denial, Kept, Line, Lines, Reply};
 use mpw_geom::Name;
 use mpw_rbac::{Object, Operation};
 use mpw_records::{Code as TextFault, ReadFault};
@@ -68,8 +69,8 @@ fn write_line<W: Sink>(writer: &mut W, line: &Line) -> Result<(), WireFault>
     }
 }
 
-/// Writes the lines of an accepted request's reply.
-fn write_lines<W: Sink>(writer: &mut W, lines: &[Line]) -> Result<(), WireFault>
+/// Writes lines that are kept.
+fn write_stored<W: Sink>(writer: &mut W, lines: &[Line]) -> Result<(), WireFault>
     ensures { Writes W.contents W.failures writer.old writer.new result (flat_map line_text lines.now) }
 {
     for line in lines {
@@ -78,20 +79,30 @@ fn write_lines<W: Sink>(writer: &mut W, lines: &[Line]) -> Result<(), WireFault>
     Ok(())
 }
 
+/// Writes the lines of an accepted request's reply.
+fn write_lines<W: Sink>(writer: &mut W, lines: &Lines) -> Result<(), WireFault>
+    ensures { Writes W.contents W.failures writer.old writer.new result (flat_map listed_text lines.now) }
+{
+    match lines.kept() {
+        Kept::Stored(lines) => write_stored(writer, lines),
+        Kept::Shapes(listing) => write_shapes(writer, listing),
+    }
+}
+
 /// Writes how many lines follow.
-fn write_count<W: Sink>(writer: &mut W, lines: &[Line]) -> Result<(), WireFault>
-    ensures { Writes W.contents W.failures writer.old writer.new result (count_text lines.now) }
+fn write_count<W: Sink>(writer: &mut W, count: usize) -> Result<(), WireFault>
+    ensures { Writes W.contents W.failures writer.old writer.new result (count_text count) }
 {
     let mut digits = Buffer::new();
-    write_parts(writer, &["OK ", digits.format(lines.len()), "\n"])
+    write_parts(writer, &["OK ", digits.format(count), "\n"])
 }
 
 /// Writes the reply of an accepted request.
 #[tactic(auto, unfolding(crate::specs::Reply::accepted_text))]
-fn write_accepted<W: Sink>(writer: &mut W, lines: &[Line]) -> Result<(), WireFault>
+fn write_accepted<W: Sink>(writer: &mut W, lines: &Lines) -> Result<(), WireFault>
     ensures { Writes W.contents W.failures writer.old writer.new result (accepted_text lines.now) }
 {
-    write_count(writer, lines)?;
+    write_count(writer, lines.len())?;
     write_lines(writer, lines)
 }
 
@@ -283,7 +294,7 @@ fn write_text<W: Sink>(reply: &Reply, writer: &mut W) -> Result<(), WireFault>
     ensures { Writes W.contents W.failures writer.old writer.new result (reply_text reply.now) }
 {
     match reply {
-        Reply::Ok(lines) => write_accepted(writer, lines.as_slice()),
+        Reply::Ok(lines) => write_accepted(writer, lines),
         Reply::Denied(denial) => write_denial(writer, denial),
         Reply::Refused(code) => write_code(writer, *code),
         Reply::Gone | Reply::Restarted | Reply::Ended => Ok(()),

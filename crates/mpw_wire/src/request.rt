@@ -1,13 +1,15 @@
 //! Request lines.
 ghost use Rattle.std.specs.Prelude.{◌≡◌, IfOk};
-ghost use Rattle.mpw_wire.specs.Request.{asked, asked_policy, longest, submission_of, ask_of_three, ask_by, ask_of};
+ghost use Rattle.mpw_wire.specs.Request.{asked, asked_policy, longest, submission_of, ask_of_one, ask_of_three, ask_by, ask_of};
+ghost use Rattle.mpw_core.specs.declared.event.Request.TheVariants.{Layout};
+ghost use Rattle.mpw_core.specs.declared.layouts.LayoutRequest.TheVariants.{Shapes};
 ghost use Rattle.mpw_text.specs.Text.{number_of};
 ghost use Rattle.mpw_wire.specs.Words.{words};
 
 use crate::form::{bare, of_more, of_one, of_three, of_two};
 use crate::operand::{Origin, is, name};
 use crate::words::{Arguments, cut, read_arguments};
-use mpw_core::{PolicyRequest, Request, SharedRequest};
+use mpw_core::{LayoutRequest, PolicyRequest, Request, SharedRequest};
 use mpw_geom::Name;
 use mpw_text::{is_decimal, read_count};
 use std::alloc::{AllocError, Global};
@@ -89,6 +91,24 @@ fn submission(
     }
 }
 
+/// What a verb and one word ask.
+#[tactic(auto, unfolding(crate::specs::Request::ask_of_one))]
+fn ask_one(alloc: Global, origin: Origin, verb: &[u8], word: &[u8]) -> Result<LineAsk, AllocError>
+    ensures { IfOk result (λ ask. ask ≡ ask_of_one origin verb.now word.now) }
+{
+    if is(verb, "shapes") {
+        return ask(alloc, name(alloc, origin, word)?.map(shapes));
+    }
+    ask_policy(alloc, of_one(alloc, origin, verb, word)?)
+}
+
+/// The request for the shapes of a cell.
+fn shapes(cell: Name) -> Request
+    ensures { result ≡ Layout (Shapes cell) }
+{
+    Request::Layout(LayoutRequest::Shapes { cell })
+}
+
 /// What a verb and three words ask.
 #[tactic(auto, unfolding(crate::specs::Request::ask_of_three))]
 fn ask_three(
@@ -114,7 +134,7 @@ pub(crate) fn parse(alloc: Global, origin: Origin, line: &[u8]) -> Result<LineAs
     let (verb, rest) = cut(line);
     match read_arguments(rest) {
         Arguments::Zero => ask(alloc, bare(verb)),
-        Arguments::One(first) => ask_policy(alloc, of_one(alloc, origin, verb, first)?),
+        Arguments::One(first) => ask_one(alloc, origin, verb, first),
         Arguments::Two(first, second) => ask_policy(
             alloc,
             of_two(alloc, origin, verb, first, second)?,

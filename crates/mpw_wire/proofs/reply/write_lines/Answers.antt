@@ -1,12 +1,13 @@
-use Rattle.std.proofs.Common.{rules, ap}
-use Rattle.mpw_wire.specs.Reply.{line_text}
-use Rattle.mpw_wire.specs.Writing.{fault_of}
-use Rattle.mpw_wire.proofs.WritingLemmas.{Writes-stop_at, handed_on}
+use Rattle.std.proofs.Common.{sym, ap, ◌∙◌}
+use Rattle.std.specs.List.{flat_map}
+use Rattle.mpw_core.specs.Told.{kept_lines}
+use Rattle.mpw_wire.specs.Reply.{line_text, listed_text}
+use Rattle.mpw_wire.proofs.ShapeLemmas.{stored_text}
+use Rattle.mpw_wire.proofs.WritingLemmas.{Writes_same}
 use Rattle.mpw_wire.proofs.reply.write_lines.Goals as goal
 
-pub returns-in_err-write_line : goal.returns-in_err-write_line
-returns-in_err-write_line g c =
-    let fault = c.in_err-write_line.field-0.0 in
-    Writes-stop_at line_text c.args.lines.now c.loop-line.line-index _ (search rules)
-    _ _ _ _ _ _ fault _ _ (ap fault_of c.in_err-write_line.was) (handed_on c.from_residual.result fault c.from_residual.ensures.1)
-    c.loop-line.invariant.0 c.loop-line.invariant.1 (line_text c.line-item.result) (ap line_text c.line-item.is) c.write_line.ensures
+pub returns-in-Stored : goal.returns-in-Stored
+returns-in-Stored g c =
+    let lines = c.in-Stored.lines.now in
+    Writes_same _ _ _ _ _ (flat_map line_text lines) _
+    (sym (stored_text lines) ∙ ap (flat_map listed_text) (ap kept_lines (sym c.in-Stored.is) ∙ c.kept.ensures)) c.write_stored.ensures

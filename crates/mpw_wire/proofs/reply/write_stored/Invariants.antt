@@ -2,7 +2,7 @@ use Rattle.std.proofs.Common.{◌≡◌, take}
 use Rattle.std.specs.List.{flat_map}
 use Rattle.std.specs.Io.KnownBytes.{Appends}
 use Rattle.mpw_wire.specs.Reply.{line_text}
-use Rattle.mpw_wire.proofs.reply.write_lines.Given as goal
+use Rattle.mpw_wire.proofs.reply.write_stored.Given as goal
 
 abbrev pub invariant-loop-line : goal.invariant-loop-line
 invariant-loop-line g l =
