@@ -1,7 +1,7 @@
 //! The shelf of submissions: a table that copies share. A change makes a new one.
 
 ghost use Rattle.mpw_geom.specs.Names.{by_name};
-ghost use Rattle.std.specs.Prelude.{◌≡◌, ◌<◌, ◌≤◌, ◌^◌, ◌++◌, true, ◌∷◌, [], length, map, Err, OnOk, OnErr, IfOk, IfErr, IfSome, IfNone, Some, None, option_copied, slice_get};
+ghost use Rattle.std.specs.Prelude.{◌≡◌, ◌<◌, ◌≤◌, ◌^◌, ◌++◌, ◌↔◌, IsTrue, true, ◌∷◌, [], length, map, Err, OnOk, OnErr, IfOk, IfErr, IfSome, IfNone, Some, None, option_copied, slice_get};
 ghost use Rattle.mpw_hier.specs.Shelf.{present, bound_to, IsOfBinding};
 ghost use Rattle.mpw_hier.specs.Limits.{KeepsLimits, IsRefused, IsShelf, numbered};
 ghost use Rattle.mpw_library.specs.Library.{IsLibrary};
@@ -82,6 +82,14 @@ impl Shelf {
             Some(table) => table.submissions(),
             None => &[],
         }
+    }
+
+    /// Whether the shelves have the same submissions, in order, by value. Linear in what the submissions hold, each with its
+    /// library, up to the first difference; it takes no memory.
+    pub fn is_same(&self, other: &Shelf) -> bool
+        ensures { IsTrue result ↔ (self.now ≡ other.now) }
+    {
+        are_same(self.submissions(), other.submissions())
     }
 
     /// The number of the present submission of a cell, in logarithmic time. Takes no memory.
@@ -242,4 +250,19 @@ fn cells_of(alloc: Global, submissions: &[Submission]) -> Result<Names, AllocErr
         cells.push(submission.cell.copy()?)?;
     }
     Ok(cells)
+}
+
+/// Whether the submissions are the same, in order.
+fn are_same(first: &[Submission], second: &[Submission]) -> bool
+    ensures { IsTrue result ↔ (first.now ≡ second.now) }
+{
+    if first.len() != second.len() {
+        return false;
+    }
+    for i in 0..first.len() {
+        if !first[i].is_same(&second[i]) {
+            return false;
+        }
+    }
+    true
 }
