@@ -3,3 +3,5 @@ pub mod Lists
 pub mod Placed
 pub mod Showing
 pub mod Looking
+pub mod Bounds
+pub mod Told

@@ -15,7 +15,10 @@ mod shapes;
 mod snapshot;
 
 pub use fill::windows_of;
-pub use laws::{each_step_has_one_tile, each_window_decides};
+pub use laws::{
+    each_step_has_one_tile, each_window_decides, each_window_tells_met, squares_lie_in_boxes,
+    windows_show_layers,
+};
 pub use listing::{Rectangle, Window, Windows};
 pub use place::placed_area;
 pub use plan::{MAX_TILES, Plan, TooManyTiles};
