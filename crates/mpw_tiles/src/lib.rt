@@ -22,4 +22,4 @@ pub use laws::{
 pub use listing::{Rectangle, Window, Windows};
 pub use place::placed_area;
 pub use plan::{MAX_TILES, Plan, TooManyTiles};
-pub use snapshot::{MAX_ROOTS, Snapshot, cut};
+pub use snapshot::{MAX_ROOTS, MAX_SHAPES, Snapshot, are_roots, cut};

@@ -2,9 +2,10 @@
 //!
 //! [`cut`] makes of it the windows of its tiles, from which the tiles are checked.
 
-ghost use Rattle.std.specs.Prelude.{◌≡◌, ◌↔◌, [], IfOk, IfSome, IsTrue, All, true, length};
+ghost use Rattle.std.specs.Prelude.{◌≡◌, ◌≤◌, ◌↔◌, [], IfOk, IfSome, IsTrue, All, true, length};
 ghost use Rattle.mpw_hier.specs.Boxes.{is_box_near};
 ghost use Rattle.mpw_geom.specs.Plane.{IsOrdered};
+ghost use Rattle.mpw_walk.specs.Roots.{roots_count};
 ghost use Rattle.mpw_tiles.specs.Placed.{WindowsLieInPlane};
 ghost use Rattle.mpw_tiles.specs.Snapshots.{AreRoots, IsSnapshot, shown_extent, plan_for, StandFor};
 
@@ -17,13 +18,42 @@ use mpw_deck::Deck;
 use mpw_geom::Box2;
 use mpw_grid::windows_reach_no_further;
 use mpw_hier::{Shelf, extents_are_least_boxes};
-use mpw_walk::{Root, Walk, roots_show_what_their_submissions_do};
+use mpw_walk::{Root, Walk, all_fit, roots_show_what_their_submissions_do};
 use std::alloc::{AllocError, Global};
 use std::marker::Model;
 use std::sync::Arc;
 
 /// The most roots of a snapshot.
 pub const MAX_ROOTS: usize = 4096;
+
+/// The most shapes of all roots of a snapshot together.
+pub const MAX_SHAPES: u64 = 1 << 20;
+
+/// How many shapes the roots show.
+fn shape_count(shelf: &Shelf, roots: &[Root]) -> u64
+    requires { length roots.now ≤ 4096 }
+    ensures { result ≡ roots_count shelf.now roots.now }
+{
+    let mut count = 0u64;
+    for root in roots {
+        count += u64::from(shelf.count(root.submission));
+    }
+    count
+}
+
+/// Whether the roots can be those of a snapshot: at most 4096, each fits the shelf, and together they show at most 2^20
+/// shapes. Linear in the roots; takes no memory.
+pub fn are_roots(shelf: &Shelf, roots: &[Root]) -> bool
+    ensures { IsTrue result ↔ AreRoots shelf.now roots.now }
+{
+    if roots.len() > MAX_ROOTS {
+        return false;
+    }
+    if !all_fit(shelf, roots) {
+        return false;
+    }
+    shape_count(shelf, roots) <= MAX_SHAPES
+}
 
 /// A deck, roots in order, and a shelf: contracts see the three values. There are at most 4096 roots, each fits the shelf,
 /// and together they show at most 2^20 shapes. Copies share all three.
