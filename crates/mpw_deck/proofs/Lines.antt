@@ -2,7 +2,7 @@ use Rattle.std.proofs.Common.{◌≡◌, ℕ, ◌+◌, ◌<◌, ◌≤◌, List,
 use Rattle.std.proofs.lemmas.List.{at_drop_more, take_all, get_or-map, length-map}
 use Rattle.mpw_deck.specs.declared.deck.DeckKind.{DeckKind}
 use Rattle.mpw_deck.specs.declared.deck.DeckFault.{DeckFault}
-use Rattle.mpw_deck.specs.declared.deck.Deck.{Deck}
+use Rattle.mpw_deck.specs.Decks.{Deck}
 use Rattle.mpw_deck.specs.declared.rule.Rule.{Rule}
 use Rattle.mpw_deck.specs.declared.deck.DeckKind.TheVariants.{Word, Number, Layer, SameLayer, DoubleRule, Tile, Rules, Memory}
 use Rattle.mpw_deck.specs.Reads.{Refuses}

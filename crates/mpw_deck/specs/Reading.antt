@@ -7,7 +7,7 @@ use Rattle.mpw_geom.specs.Names.{name_eq}
 use Rattle.mpw_deck.specs.declared.deck.DeckKind.{DeckKind}
 use Rattle.mpw_deck.specs.declared.deck.DeckKind.TheVariants as kinds
 use Rattle.mpw_deck.specs.declared.deck.DeckFault.{DeckFault}
-use Rattle.mpw_deck.specs.declared.deck.Deck.{Deck}
+use Rattle.mpw_deck.specs.Decks.{Deck}
 use Rattle.mpw_deck.specs.declared.rule.Rule.{Rule}
 use Rattle.mpw_deck.specs.declared.rule.Check.{Check}
 use Rattle.mpw_deck.specs.declared.rule.Check.TheVariants as checks

@@ -1,6 +1,7 @@
 //! Decks, and what may be wrong with one's text.
 
 ghost use Rattle.std.specs.Prelude.{◌≡◌, ◌↔◌, IfOk, IsTrue};
+ghost use Rattle.mpw_deck.specs.Decks.{IsDeck};
 ghost use Rattle.mpw_deck.specs.declared.deck.DeckKind.TheVariants.{Memory};
 
 use crate::rule::Rule;
@@ -8,14 +9,15 @@ use std::alloc::{AllocError, Global};
 use std::error::Error;
 use std::fmt;
 use std::marker::Model;
+use std::sync::Arc;
 
 /// The greatest number of rules of a deck.
 pub const MAX_RULES: usize = 256;
 
-/// Rules in order. In contracts they are the list of them.
+/// Rules in order, which contracts see as that list. Copies share them.
 #[derive(Drop)]
 pub struct Rules {
-    items: Vec<Rule>,
+    items: Arc<Vec<Rule>>,
 }
 
 impl Model for Rules {
@@ -24,22 +26,20 @@ impl Model for Rules {
 
     ghost Value = { List Rule };
 
-    ghost view = { λ r. r.items.items };
+    ghost view = { λ r. r.items.value.items };
 }
 
 impl Rules {
-    /// The rules of a vector, in its order.
-    pub fn from_vec(items: Vec<Rule>) -> Rules
-        ensures { result ≡ items.items }
+    /// The rules of a vector, in its order. Constant time.
+    ///
+    /// # Errors
+    /// Where there is no memory for the count of their copies.
+    pub fn from_vec(alloc: Global, items: Vec<Rule>) -> Result<Rules, AllocError>
+        ensures { IfOk result (λ rules. rules ≡ items.items) }
     {
-        Rules { items }
-    }
-
-    /// The vector of the rules, in their order.
-    pub fn into_vec(self) -> Vec<Rule>
-        ensures { result.items ≡ self }
-    {
-        self.items
+        Ok(Rules {
+            items: Arc::new(alloc, items)?,
+        })
     }
 
     /// The rules, in order.
@@ -48,32 +48,25 @@ impl Rules {
     {
         self.items.as_slice()
     }
-}
 
-impl Rules {
-    /// The same rules. Memory for one list.
+    /// The same rules, in constant time and without further memory.
     ///
     /// # Errors
-    /// Where there is no memory.
+    /// Where no more copies can be counted.
     pub fn copy(&self) -> Result<Rules, AllocError>
         ensures { IfOk result (λ rules. rules ≡ self.now) }
     {
-        let alloc = *self.items.allocator();
         Ok(Rules {
-            items: copied(alloc, self.items.as_slice())?,
+            items: self.items.clone()?,
         })
     }
-}
 
-/// The same rules, in order.
-fn copied(alloc: Global, rules: &[Rule]) -> Result<Vec<Rule>, AllocError>
-    ensures { IfOk result (λ v. v.items ≡ rules.now) }
-{
-    let mut copies = Vec::new(alloc);
-    for rule in rules {
-        copies.push(rule.copy()?)?;
+    /// Whether these are the same rules, in order. It stops at the first difference, and takes no memory.
+    pub fn is_same(&self, other: &Rules) -> bool
+        ensures { IsTrue result ↔ (self.now ≡ other.now) }
+    {
+        are_same(self.as_slice(), other.as_slice())
     }
-    Ok(copies)
 }
 
 /// Whether the lists have the same rules, in order.
@@ -91,19 +84,58 @@ fn are_same(first: &[Rule], second: &[Rule]) -> bool
     true
 }
 
-/// A deck: the side of the tiles in nm, 256 to 2^30, and the rules, at most 256, with names of
-/// their own.
+/// A deck: the side of the tiles in nm, 256 to 2^30, and at most 256 rules, each with a distance of 1 to 65535 nm.
+/// Copies share the rules.
 #[derive(Drop)]
 pub struct Deck {
-    pub tile: u32,
-    pub rules: Rules,
+    tile: u32,
+    rules: Rules,
+}
+
+impl Model for Deck {
+    ghost use Rattle.mpw_deck.specs.Decks.{Deck, IsDeck};
+
+    ghost Value = { Deck };
+
+    ghost view = { λ d. record { tile = d.tile; rules = d.rules } };
+
+    ghost invariant = { λ d. IsDeck (record { tile = d.tile; rules = d.rules }) };
 }
 
 impl Deck {
-    /// The same deck. Memory for the list of rules.
+    /// The deck of these parts. Takes no memory.
+    pub fn new(tile: u32, rules: Rules) -> Deck
+        requires { IsDeck (record { tile = tile; rules = rules }) }
+        ensures { result ≡ record { tile = tile; rules = rules } }
+    {
+        Deck { tile, rules }
+    }
+
+    /// The side of the tiles, in nm.
+    pub fn tile(&self) -> u32
+        ensures { result ≡ self.now.tile }
+    {
+        self.tile
+    }
+
+    /// The rules, in order.
+    pub fn rules(&self) -> &Rules
+        ensures { result.now ≡ self.now.rules }
+    {
+        &self.rules
+    }
+
+    /// Each deck keeps the limits. A law: the function does nothing.
+    pub fn is_deck(&self)
+        ensures { IsDeck self.now }
+    {
+        let _tile = self.tile;
+    }
+
+    /// The same deck, in constant time and without further memory.
     ///
     /// # Errors
-    /// Where there is no memory.
+    /// Where no more copies can be counted.
     pub fn copy(&self) -> Result<Deck, AllocError>
         ensures { IfOk result (λ deck. deck ≡ self.now) }
     {
@@ -114,11 +146,12 @@ impl Deck {
         })
     }
 
-    /// Whether the decks have equal sides of tiles and equal rules, in order.
+    /// Whether the decks have equal sides of tiles and equal rules, in order. It stops at the first difference, and takes
+    /// no memory.
     pub fn is_same(&self, other: &Deck) -> bool
         ensures { IsTrue result ↔ (self.now ≡ other.now) }
     {
-        self.tile == other.tile && are_same(self.rules.as_slice(), other.rules.as_slice())
+        self.tile == other.tile && self.rules.is_same(&other.rules)
     }
 }
 

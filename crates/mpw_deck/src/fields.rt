@@ -1,6 +1,6 @@
 //! The words of a rule's line: its name, its layers and its distance.
 
-ghost use Rattle.std.specs.Prelude.{◌≡◌, ◌==◌, ◌&&◌, not, nat_le, map};
+ghost use Rattle.std.specs.Prelude.{◌≡◌, ◌≤◌, IfOk, ◌==◌, ◌&&◌, not, nat_le, map};
 ghost use Rattle.std.specs.List.{list_all};
 ghost use Rattle.mpw_deck.specs.Reading.{is_rule_name, layer_from, layer_of, rule_name, distance_of};
 ghost use Rattle.mpw_deck.specs.Reads.{Reads};
@@ -69,7 +69,9 @@ pub(crate) fn layer(alloc: Global, word: &[u8]) -> Result<Layer, DeckKind>
 /// The distance that a word spells, in nm.
 #[tactic(auto, unfolding(crate::specs::Reading::distance_of))]
 pub(crate) fn distance(word: &[u8]) -> Result<u32, DeckKind>
-    ensures { result ≡ distance_of word.now }
+    ensures value { result ≡ distance_of word.now }
+    ensures least { IfOk result (λ n. 1 ≤ n) }
+    ensures most { IfOk result (λ n. n ≤ 65535) }
 {
     match read_number(word, 1, 65535) {
         Some(distance) => Ok(distance),

@@ -1,6 +1,7 @@
 //! The lines of a deck's text: the tile line and the rules' lines, by their words.
 
-ghost use Rattle.std.specs.Prelude.{◌≡◌, map};
+ghost use Rattle.std.specs.Prelude.{◌≡◌, ◌≤◌, ◌<◌, ◌^◌, map, length, IfOk};
+ghost use Rattle.mpw_deck.specs.Decks.{IsRule};
 ghost use Rattle.mpw_deck.specs.Reading.{
   one_layer_key,
   two_layer_key,
@@ -92,7 +93,8 @@ fn one_layer(
     on: &[u8],
     apart: &[u8],
 ) -> Result<Rule, DeckKind>
-    ensures { Reads result (one_layer (one_check key) name.now on.now apart.now) }
+    ensures reads { Reads result (one_layer (one_check key) name.now on.now apart.now) }
+    ensures rule { IfOk result IsRule }
 {
     let name = rule_name(alloc, name)?;
     let check = key.check(layer(alloc, on)?);
@@ -114,7 +116,8 @@ fn two_layers(
     other: &[u8],
     apart: &[u8],
 ) -> Result<Rule, DeckKind>
-    ensures { Reads result (two_layers (two_check key) name.now on.now other.now apart.now) }
+    ensures reads { Reads result (two_layers (two_check key) name.now on.now other.now apart.now) }
+    ensures rule { IfOk result IsRule }
 {
     let name = rule_name(alloc, name)?;
     let first = layer(alloc, on)?;
@@ -134,7 +137,8 @@ fn two_layers(
 /// The rule that the words of a line spell.
 #[tactic(auto, unfolding(crate::specs::Reading::rule_of))]
 fn rule(alloc: Global, words: &[&[u8]]) -> Result<Rule, DeckKind>
-    ensures { Reads result (rule_of (map (λ x. x.now) words.now)) }
+    ensures reads { Reads result (rule_of (map (λ x. x.now) words.now)) }
+    ensures rule { IfOk result IsRule }
 {
     match words {
         [key, name, on, apart] => match OneLayer::of(key) {
@@ -169,7 +173,9 @@ fn is_tile_line(words: &[&[u8]]) -> bool
 /// The side of the tiles, in nm, of the words of the first line.
 #[tactic(auto, unfolding(crate::specs::Reading::tile_of))]
 pub(crate) fn tile(words: &[&[u8]]) -> Result<u32, DeckKind>
-    ensures { result ≡ tile_of (map (λ x. x.now) words.now) }
+    ensures value { result ≡ tile_of (map (λ x. x.now) words.now) }
+    ensures short { IfOk result (λ side. 256 ≤ side) }
+    ensures long { IfOk result (λ side. side ≤ 2 ^ 30) }
 {
     if !is_tile_line(words) {
         return Err(DeckKind::Tile);
@@ -186,7 +192,9 @@ pub(crate) fn tile(words: &[&[u8]]) -> Result<u32, DeckKind>
 /// The rule that a later line spells, behind the rules before it.
 #[tactic(auto, unfolding(crate::specs::Reading::next_rule))]
 pub(crate) fn next_rule(alloc: Global, rules: &[Rule], line: &[u8]) -> Result<Rule, DeckKind>
-    ensures { Reads result (next_rule rules.now line.now) }
+    ensures reads { Reads result (next_rule rules.now line.now) }
+    ensures rule { IfOk result IsRule }
+    ensures room { IfOk result (λ _. length rules.now < 256) }
 {
     let words = parts(alloc, line, b' ')?;
     if is_tile_line(words.as_slice()) {

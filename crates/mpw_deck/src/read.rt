@@ -1,6 +1,7 @@
 //! The whole text of a deck.
 
-ghost use Rattle.std.specs.Prelude.{◌≡◌, ◌≢◌, [], map, IfOk, IfErr, Ok, Err};
+ghost use Rattle.std.specs.Prelude.{◌≡◌, ◌≢◌, ◌≤◌, ◌^◌, [], map, length, All, IfOk, IfErr, Ok, Err};
+ghost use Rattle.mpw_deck.specs.Decks.{IsRule};
 ghost use Rattle.mpw_deck.specs.declared.deck.DeckKind.TheVariants.{Memory};
 ghost use Rattle.mpw_deck.specs.Reading.{rules_of, tile_of, deck_of};
 ghost use Rattle.mpw_text.specs.Text.{words_of};
@@ -26,6 +27,8 @@ fn rules(alloc: Global, lines: &[&[u8]]) -> Result<Vec<Rule>, DeckFault>
     ensures ok { IfOk result (λ v. rules_of 2 [] (map (λ x. x.now) lines.now) ≡ Ok v.items) }
     ensures fault { IfErr result (λ f.
         f.kind ≢ Memory → rules_of 2 [] (map (λ x. x.now) lines.now) ≡ Err f) }
+    ensures few { IfOk result (λ v. length v.items ≤ 256) }
+    ensures rules { IfOk result (λ v. All IsRule v.items) }
 {
     let mut rules = Vec::new(alloc);
     for (i, line) in lines.iter().enumerate() {
@@ -52,6 +55,8 @@ fn side(alloc: Global, line: &[u8]) -> Result<u32, DeckFault>
     ensures ok { IfOk result (λ n. tile_of (words_of line.now) ≡ Ok n) }
     ensures fault { IfErr result (λ f.
         f.kind ≢ Memory → (tile_of (words_of line.now) ≡ Err f.kind) × (f.line ≡ 1)) }
+    ensures short { IfOk result (λ n. 256 ≤ n) }
+    ensures long { IfOk result (λ n. n ≤ 2 ^ 30) }
 {
     let Ok(words) = parts(alloc, line, b' ') else {
         return Err(no_memory(1));
@@ -89,6 +94,9 @@ pub fn read_deck(alloc: Global, text: &[u8]) -> Result<Deck, DeckFault>
         });
     };
     let tile = side(alloc, first)?;
-    let rules = Rules::from_vec(rules(alloc, rest)?);
-    Ok(Deck { tile, rules })
+    let rules = rules(alloc, rest)?;
+    match Rules::from_vec(alloc, rules) {
+        Ok(rules) => Ok(Deck::new(tile, rules)),
+        Err(_) => Err(no_memory(lines.len())),
+    }
 }

@@ -2,3 +2,4 @@ pub mod Intervals
 pub mod Cells
 pub mod Cores
 pub mod Windows
+pub mod Reach

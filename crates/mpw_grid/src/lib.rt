@@ -11,4 +11,4 @@ mod laws;
 mod span;
 
 pub use grid::{Block, Grid};
-pub use laws::each_point_has_one_core;
+pub use laws::{each_point_has_one_core, windows_reach_no_further};

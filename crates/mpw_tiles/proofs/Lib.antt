@@ -1,3 +1,7 @@
 pub mod Tiles
 pub mod Lists
 pub mod Placed
+pub mod Showing
+pub mod Looking
+pub mod Bounds
+pub mod Told

@@ -1,13 +1,13 @@
 -- Placed rectangles, as far as they lie in the plane.
-use Rattle.std.proofs.Common.{◌≡◌, ◌^◌, ℕ, ℤ, pos, negsuc, neg_ℤ, ◌+ℤ◌, ◌≤ℤ◌, ◌<ℤ◌, ◌∙◌, w64, arith}
-use Rattle.std.specs.Int.{int_min, int_max, saturate_signed}
+use Rattle.std.proofs.Common.{◌≡◌, ◌^◌, ℤ, pos, neg_ℤ, ◌≤ℤ◌, ◌<ℤ◌, ◌∙◌, arith}
+use Rattle.std.specs.Int.{int_min, int_max}
 use Rattle.std.proofs.lemmas.Int.{ints, clamps}
 use Rattle.mpw_geom.specs.declared.plane.Box2.{Box2}
 use Rattle.mpw_geom.specs.declared.plane.Point.{Point}
 use Rattle.mpw_geom.specs.declared.placing.Placing.{Placing}
 use Rattle.mpw_geom.specs.Plane.{Square, IsOrdered, IsBoxInPlane, has_square, box_between}
 use Rattle.mpw_geom.specs.Placing.{placed_point, placed_square}
-use Rattle.mpw_geom.proofs.Tests.{SquareIn, same_squares}
+use Rattle.mpw_geom.proofs.Tests.{same_squares}
 use Rattle.mpw_geom.proofs.Turns.{placed_squares_at}
 use Rattle.mpw_tiles.specs.Placed.{nearest, nearest_point, IsSquareInPlane}
 

@@ -1,27 +1,27 @@
 -- Pair steps belong to one tile, and windows decide.
-use Rattle.std.proofs.Common.{◌≡◌, ℕ, ◌+◌, ◌≤◌, ◌<◌, ℤ, pos, ◌-ℤ◌, ◌≤ℤ◌, ◌<ℤ◌, true, List, [], ◌∷◌, map, max, inl, inr, ◌⊎◌, arith}
+use Rattle.std.proofs.Common.{◌≡◌, ℕ, ◌≤◌, ℤ, pos, ◌-ℤ◌, true, List, [], ◌∷◌, max, inl, inr, ◌⊎◌, arith}
 use Rattle.std.specs.Prelude.{Contains, All, ◌↔◌, fold}
 use Rattle.std.proofs.lemmas.Int.{ints}
 use Rattle.std.proofs.lemmas.List.Elements.{All-nil, All-cons, All-contains}
 use Rattle.mpw_geom.specs.declared.plane.Box2.{Box2}
 use Rattle.mpw_geom.specs.declared.plane.Point.{Point}
 use Rattle.mpw_geom.specs.Plane.{has_point, has_square}
-use Rattle.mpw_geom.proofs.Tests.{SquareIn, SquareIn-from_test, test_from_SquareIn, test_from_PointIn}
+use Rattle.mpw_geom.proofs.Tests.{SquareIn-from_test, test_from_SquareIn, test_from_PointIn}
 use Rattle.mpw_deck.specs.declared.rule.Rule.{Rule}
 use Rattle.mpw_deck.specs.declared.rule.Check.{Check}
 use Rattle.mpw_deck.specs.declared.rule.Check.TheVariants.{Width, Space, Separation, Enclosing}
-use Rattle.mpw_deck.specs.declared.deck.Deck.{Deck}
+use Rattle.mpw_deck.specs.Decks.{Deck}
 use Rattle.mpw_edges.specs.declared.run.Axis.{Axis}
 use Rattle.mpw_edges.specs.declared.run.Axis.TheVariants.{V, H}
 use Rattle.mpw_edges.specs.declared.run.Piece.{Piece}
-use Rattle.mpw_edges.specs.Edges.{Squares, exchanged, IsRise, IsFall}
-use Rattle.mpw_edges.specs.Steps.{IsPair, IsPairStep}
-use Rattle.mpw_edges.specs.Pieces.{IsInCore, HasStep, IsPiece}
+use Rattle.mpw_edges.specs.Edges.{Squares, exchanged}
+use Rattle.mpw_edges.specs.Steps.{IsPair}
+use Rattle.mpw_edges.specs.Pieces.{IsInCore, IsPiece}
 use Rattle.mpw_edges.specs.Laws.{AreSameIn}
 use Rattle.mpw_edges.proofs.Window.{window}
-use Rattle.mpw_grid.specs.Grid.{cells, core_of, found_cell, IsOnlyCell}
+use Rattle.mpw_grid.specs.Grid.{core_of, found_cell}
 use Rattle.mpw_grid.proofs.Cells.{only_cell}
-use Rattle.mpw_tiles.specs.Plan.{Tiling, greatest_distance, plan_of, tiles, tile_core, tile_window}
+use Rattle.mpw_tiles.specs.Plan.{Tiling, greatest_distance, plan_of, tile_core, tile_window}
 use Rattle.mpw_tiles.specs.Laws.{LieIn, IsStepOn, IsOnlyTile}
 
 -- ---- where a pair step stands

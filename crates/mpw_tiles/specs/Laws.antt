@@ -1,9 +1,11 @@
 -- Laws of tiles.
-use Rattle.std.specs.Prelude.{◌≡◌, ◌≤◌, ◌<◌, ℕ, ℤ, true, Contains, ◌↔◌}
+use Rattle.std.specs.Prelude.{◌≡◌, ◌≤◌, ◌<◌, ℕ, ℤ, true, IsTrue, List, [], slice_index_or, Option, Some, All, Contains, ◌↔◌}
+use Rattle.mpw_geom.specs.declared.plane.Layer.{Layer}
+use Rattle.mpw_geom.specs.declared.plane.Point.{Point}
 use Rattle.mpw_geom.specs.declared.plane.Box2.{Box2}
-use Rattle.mpw_geom.specs.Plane.{has_square}
+use Rattle.mpw_geom.specs.Plane.{Square, has_point, has_square, closed_square}
 use Rattle.mpw_deck.specs.declared.rule.Rule.{Rule}
-use Rattle.mpw_deck.specs.declared.deck.Deck.{Deck}
+use Rattle.mpw_deck.specs.Decks.{Deck}
 use Rattle.mpw_edges.specs.declared.run.Axis.{Axis}
 use Rattle.mpw_edges.specs.declared.run.Axis.TheVariants.{V, H}
 use Rattle.mpw_edges.specs.declared.run.Piece.{Piece}
@@ -11,6 +13,17 @@ use Rattle.mpw_edges.specs.Edges.{Squares, exchanged}
 use Rattle.mpw_edges.specs.Steps.{IsPairStep}
 use Rattle.mpw_edges.specs.Pieces.{HasStep, IsPiece}
 use Rattle.mpw_edges.specs.Laws.{AreSameIn}
+use Rattle.mpw_hier.specs.declared.submission.Submission.{Submission}
+use Rattle.mpw_hier.specs.Items.{Item}
+use Rattle.mpw_hier.specs.Boxes.{item_box, extent_of}
+use Rattle.mpw_walk.specs.declared.root.Root.{Root}
+use Rattle.mpw_walk.specs.Turns.{flat_roots}
+use Rattle.mpw_walk.specs.Walk.{IsRoot}
+use Rattle.mpw_tiles.specs.declared.listing.Rectangle.{Rectangle}
+use Rattle.mpw_tiles.specs.Listing.{IsListed}
+use Rattle.mpw_tiles.specs.Placed.{IsSquareInPlane}
+use Rattle.mpw_tiles.specs.Shown.{ShowsSquare, IsShown}
+use Rattle.mpw_tiles.specs.Snapshots.{Snapshot, shown, plan_for, StandFor}
 use Rattle.mpw_tiles.specs.Plan.{Tiling, plan_of, tiles, tile_core, tile_window}
 
 -- The squares lie in the box.
@@ -41,3 +54,84 @@ EachWindowDecides =
     (extent : Box2) (deck : Deck) (rule : Rule) (tile : ℕ) (a b a' b' : Squares) → Contains deck.rules rule
     → AreSameIn (tile_window (plan_of extent deck) tile) a a' → AreSameIn (tile_window (plan_of extent deck) tile) b b'
     → (p : Piece) → IsPiece rule a b (tile_core (plan_of extent deck) tile) p ↔ IsPiece rule a' b' (tile_core (plan_of extent deck) tile) p
+
+-- The squares are those that shapes of the list have on the layer.
+pub record AreShownOn (items : List Item) (layer : Layer) (a : Squares) : Type 0 where
+  pub shown : (i j : ℤ) → a i j ≡ true → (origin : ℕ) × IsShown items layer origin (record { column = i; row = j })
+  pub all : (i j : ℤ) (origin : ℕ) → IsShown items layer origin (record { column = i; row = j }) → a i j ≡ true
+
+-- The squares are those that the listed rectangles have on the layer.
+pub record AreListedOn (listed : List Rectangle) (layer : Layer) (a : Squares) : Type 0 where
+  pub listed_at : (i j : ℤ) → a i j ≡ true → (origin : ℕ) × IsListed listed layer origin (record { column = i; row = j })
+  pub all : (i j : ℤ) (origin : ℕ) → IsListed listed layer origin (record { column = i; row = j }) → a i j ≡ true
+
+-- The unit square lies in a box, and this is it.
+pub record IsInBox (box : Option Box2) (s : Square) : Type 0 where
+  pub corners : Box2
+  pub is : box ≡ Some corners
+  pub has : has_square corners s ≡ true
+
+-- A shape's squares, where it is placed, lie in its placed box; those of a list lie in the least box that holds the boxes of the list.
+abbrev pub SquaresLieInBoxes : Type 0
+SquaresLieInBoxes = (item : Item) (layer : Layer) (origin : ℕ) (s : Square) → ShowsSquare item layer origin s → IsInBox (item_box item) s
+
+abbrev pub SquaresLieInExtents : Type 0
+SquaresLieInExtents = (items : List Item) (layer : Layer) (origin : ℕ) (s : Square) → IsShown items layer origin s → IsInBox (extent_of items) s
+
+-- So do the squares of a layer.
+abbrev pub LayersLieInExtents : Type 0
+LayersLieInExtents =
+    (items : List Item) (extent : Box2) (layer : Layer) (a : Squares) → extent_of items ≡ Some extent → AreShownOn items layer a → LieIn extent a
+
+-- The squares that roots show lie in the plane.
+abbrev pub SquaresLieInPlane : Type 0
+SquaresLieInPlane =
+    (ss : List Submission) (roots : List Root) (layer : Layer) (origin : ℕ) (s : Square) → All (IsRoot ss) roots
+    → IsShown (flat_roots ss roots) layer origin s → IsSquareInPlane s
+
+-- In the window of a tile, the rectangles that are listed for it have the squares of the shapes on each layer.
+abbrev pub WindowsShowLayers : Type 0
+WindowsShowLayers =
+    (snapshot : Snapshot) (plan : Tiling) (windows : List (List Rectangle)) (tile : ℕ) (layer : Layer) (a listed : Squares)
+    → plan_for snapshot ≡ Some plan → StandFor snapshot windows → tile < tiles plan → AreShownOn (shown snapshot) layer a
+    → AreListedOn (slice_index_or windows tile []) layer listed → AreSameIn (tile_window plan tile) a listed
+
+-- The closed box of a run: on the axis V from x1 to x2 over its rows, on H with the coordinates exchanged.
+abbrev pub box_on : Axis → (x1 x2 y0 y1 : ℤ) → Box2
+box_on V x1 x2 y0 y1 = record { x0 = x1; y0 = y0; x1 = x2; y1 = y1 }
+box_on H x1 x2 y0 y1 = record { x0 = y0; y0 = x1; x1 = y1; y1 = x2 }
+
+abbrev pub piece_box : Piece → Box2
+piece_box p = box_on p.axis p.x1 p.x2 p.y0 p.y1
+
+-- The closed boxes share a point.
+abbrev pub Meet : Box2 → Box2 → Type 0
+Meet a b = (p : Point) × IsTrue (has_point a p) × IsTrue (has_point b p)
+
+-- A closed unit square that meets the closed box of a run inside a tile's core lies in the tile's window.
+abbrev pub MetSquaresLieInWindows : Type 0
+MetSquaresLieInWindows =
+    (extent : Box2) (deck : Deck) (rule : Rule) (tile : ℕ) (a b : Squares) (p : Piece) (s : Square) → Contains deck.rules rule
+    → IsPiece rule a b (tile_core (plan_of extent deck) tile) p → Meet (closed_square s) (piece_box p)
+    → has_square (tile_window (plan_of extent deck) tile) s ≡ true
+
+-- On some layer, a closed unit square of that origin meets the closed box: one of a shape of the list, and one of a listed rectangle.
+pub record IsMet (items : List Item) (box : Box2) (origin : ℕ) : Type 0 where
+  pub layer : Layer
+  pub square : Square
+  pub shown : IsShown items layer origin square
+  pub meets : Meet (closed_square square) box
+
+pub record IsListedMet (listed : List Rectangle) (box : Box2) (origin : ℕ) : Type 0 where
+  pub layer : Layer
+  pub square : Square
+  pub is_listed : IsListed listed layer origin square
+  pub meets : Meet (closed_square square) box
+
+-- Which origins meet the box of a run that a tile's core finds, its window alone tells.
+abbrev pub WindowsTellMet : Type 0
+WindowsTellMet =
+    (snapshot : Snapshot) (plan : Tiling) (windows : List (List Rectangle)) (rule : Rule) (tile : ℕ) (a b : Squares) (p : Piece) (origin : ℕ)
+    → plan_for snapshot ≡ Some plan → StandFor snapshot windows → tile < tiles plan → Contains snapshot.deck.rules rule
+    → IsPiece rule a b (tile_core plan tile) p
+    → IsMet (shown snapshot) (piece_box p) origin ↔ IsListedMet (slice_index_or windows tile []) (piece_box p) origin

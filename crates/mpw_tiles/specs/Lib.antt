@@ -2,3 +2,5 @@ pub mod Plan
 pub mod Laws
 pub mod Listing
 pub mod Placed
+pub mod Shown
+pub mod Snapshots

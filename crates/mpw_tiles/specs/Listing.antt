@@ -1,7 +1,10 @@
 -- Rectangles that windows list.
 use Rattle.std.specs.Prelude.{◌≡◌, ◌≤◌, ◌<◌, ℕ, true, List, [], length, slice_index_or, Contains, ◌⊎◌, ◌↔◌}
 use Rattle.mpw_geom.specs.declared.plane.Layer.{Layer}
-use Rattle.mpw_geom.specs.Plane.{Square, has_square}
+use Rattle.mpw_geom.specs.declared.placing.Placing.{Placing}
+use Rattle.mpw_geom.specs.declared.plane.Box2.{Box2}
+use Rattle.mpw_geom.specs.Plane.{Square, has_square, any_has_square}
+use Rattle.mpw_geom.specs.Placing.{placed_square}
 use Rattle.mpw_grid.specs.declared.grid.Block.{Block}
 use Rattle.mpw_grid.specs.Grid.{Cells, column_of, row_of}
 use Rattle.mpw_tiles.specs.declared.listing.Rectangle.{Rectangle}
@@ -34,6 +37,14 @@ pub record AddsSquares (plan : Tiling) (old new : List (List Rectangle)) (P : La
   pub count : length new ≡ length old
   pub squares : (tile : ℕ) (s : Square) (layer : Layer) (origin : ℕ) → tile < tiles plan → has_square (tile_window plan tile) s ≡ true
       → IsListed (slice_index_or new tile []) layer origin s ↔ (IsListed (slice_index_or old tile []) layer origin s ⊎ P layer origin s)
+
+-- A box of the list, placed, has the unit square, and these are its layer and origin.
+pub record HasPlacedSquare (boxes : List Box2) (placing : Placing) (own : Layer) (number : ℕ) (layer : Layer) (origin : ℕ) (s : Square) : Type 0 where
+  pub on_layer : own ≡ layer
+  pub of_origin : number ≡ origin
+  pub square : Square
+  pub has : any_has_square boxes square ≡ true
+  pub placed : placed_square placing square ≡ s
 
 -- One list a tile, with just the squares of the rectangles in the tile's window: by layer and origin, a listed rectangle has a
 -- square of the window exactly where one of the rectangles has it.

@@ -8,14 +8,14 @@ ghost use Rattle.mpw_grid.specs.Grid.{columns, rows, column_of, row_of, IsInBloc
 ghost use Rattle.mpw_tiles.specs.Plan.{tiles};
 ghost use Rattle.mpw_tiles.specs.Listing.{Lists, IsInRow, HasSquareOf, IsListed, AddsSquares, AreWindowsOf};
 
-use crate::listing::{Rectangle, Window, list_at};
+use crate::listing::{Listed, Rectangle, Windows, list_at, windows_from};
 use crate::plan::Plan;
 use mpw_grid::Block;
 use std::alloc::{AllocError, Global};
 
 /// Adds the rectangle to the lists of a row's tiles, from one column up to before another.
 fn list_in_row(
-    lists: &mut Vec<Window>,
+    lists: &mut Vec<Listed>,
     plan: &Plan,
     block: &Block,
     row: u32,
@@ -36,7 +36,7 @@ fn list_in_row(
 
 /// Adds the rectangle to the lists of a block of tiles.
 fn list_in_block(
-    lists: &mut Vec<Window>,
+    lists: &mut Vec<Listed>,
     plan: &Plan,
     block: &Block,
     rectangle: &Rectangle,
@@ -56,7 +56,7 @@ fn list_in_block(
 /// Adds the rectangle to the lists of the tiles whose windows share a square with it. An error is want of
 /// memory.
 pub(crate) fn list_rectangle(
-    lists: &mut Vec<Window>,
+    lists: &mut Vec<Listed>,
     plan: &Plan,
     rectangle: &Rectangle,
 ) -> Result<(), AllocError>
@@ -73,21 +73,21 @@ pub(crate) fn list_rectangle(
     Ok(())
 }
 
-/// So many empty windows. An error is want of memory.
-fn empty_windows(alloc: Global, count: u32) -> Result<Vec<Window>, AllocError>
+/// So many empty lists. An error is want of memory.
+pub(crate) fn empty_lists(alloc: Global, count: u32) -> Result<Vec<Listed>, AllocError>
     ensures count { IfOk result (λ v. length v.items ≡ count) }
     ensures empty { IfOk result (λ v. All (λ w. w ≡ []) v.items) }
 {
-    let mut windows = Vec::new(alloc);
+    let mut lists = Vec::new(alloc);
     for tile in 0..count {
-        windows.push(Window::new(alloc))?;
+        lists.push(Listed::new(alloc))?;
     }
-    Ok(windows)
+    Ok(lists)
 }
 
-/// Adds the rectangles to the windows that they share squares with. An error is want of memory.
+/// Adds the rectangles to the lists of the windows that they share squares with. An error is want of memory.
 fn list_all(
-    lists: &mut Vec<Window>,
+    lists: &mut Vec<Listed>,
     plan: &Plan,
     rectangles: &[Rectangle],
 ) -> Result<(), AllocError>
@@ -111,11 +111,11 @@ pub fn windows_of(
     alloc: Global,
     plan: &Plan,
     rectangles: &[Rectangle],
-) -> Result<Vec<Window>, AllocError>
+) -> Result<Windows, AllocError>
     requires plane { All (λ r. IsBoxInPlane r.area) rectangles.now }
-    ensures { IfOk result (λ v. AreWindowsOf plan.now rectangles.now v.items) }
+    ensures { IfOk result (AreWindowsOf plan.now rectangles.now) }
 {
-    let mut windows = empty_windows(alloc, plan.tiles())?;
-    list_all(&mut windows, plan, rectangles)?;
-    Ok(windows)
+    let mut lists = empty_lists(alloc, plan.tiles())?;
+    list_all(&mut lists, plan, rectangles)?;
+    windows_from(alloc, lists)
 }

@@ -1,6 +1,19 @@
 //! Laws of the definitions alone. Each function has an empty body: its contract is the law.
 
-ghost use Rattle.mpw_tiles.specs.Laws.{EachStepHasOneTile, EachWindowDecides};
+ghost use Rattle.mpw_tiles.specs.Laws.{
+  EachStepHasOneTile,
+  EachWindowDecides,
+  SquaresLieInBoxes,
+  SquaresLieInExtents,
+  LayersLieInExtents,
+  SquaresLieInPlane,
+  WindowsShowLayers,
+  MetSquaresLieInWindows,
+  WindowsTellMet,
+};
+
+use mpw_hier::extents_are_least_boxes;
+use mpw_walk::roots_show_what_their_submissions_do;
 
 /// Each pair step of a layout, on either axis, belongs to the core of exactly one tile of a plan over the
 /// layout's extent.
@@ -11,4 +24,29 @@ pub fn each_step_has_one_tile()
 /// What a tile's core finds of a rule of the deck depends on the squares of its window alone.
 pub fn each_window_decides()
     ensures { EachWindowDecides }
+{}
+
+/// The squares of a shape lie in its placed box, those of a flat list in its extent, by layer too, and those of roots in the
+/// plane: so no placed rectangle that has squares of them is cut short.
+pub fn squares_lie_in_boxes()
+    ensures boxes { SquaresLieInBoxes }
+    ensures extents { SquaresLieInExtents }
+    ensures layers { LayersLieInExtents }
+    ensures plane { SquaresLieInPlane }
+{
+    extents_are_least_boxes();
+    roots_show_what_their_submissions_do();
+}
+
+/// Of windows that stand for a snapshot: in its window, what is listed for a tile has the squares of the shapes on each
+/// layer.
+pub fn windows_show_layers()
+    ensures { WindowsShowLayers }
+{}
+
+/// Which origins have a closed square that meets the closed box of a run that a tile's core finds depends on the squares of
+/// its window alone: each such square lies in the window, and so the rectangles that are listed for the tile tell it.
+pub fn each_window_tells_met()
+    ensures squares { MetSquaresLieInWindows }
+    ensures origins { WindowsTellMet }
 {}

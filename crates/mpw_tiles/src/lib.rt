@@ -5,14 +5,21 @@
 //! distance plus 1 on each side. [`windows_of`] sorts placed rectangles into the windows that they meet.
 #![tactic(auto)]
 
+mod extent;
 mod fill;
 mod laws;
 mod listing;
 mod place;
 mod plan;
+mod shapes;
+mod snapshot;
 
 pub use fill::windows_of;
-pub use laws::{each_step_has_one_tile, each_window_decides};
-pub use listing::{Rectangle, Window};
+pub use laws::{
+    each_step_has_one_tile, each_window_decides, each_window_tells_met, squares_lie_in_boxes,
+    windows_show_layers,
+};
+pub use listing::{Rectangle, Window, Windows};
 pub use place::placed_area;
 pub use plan::{MAX_TILES, Plan, TooManyTiles};
+pub use snapshot::{MAX_ROOTS, MAX_SHAPES, Snapshot, are_roots, cut};

@@ -1,11 +1,15 @@
-//! Rectangles, and the lists of them that windows become.
+//! Rectangles, and the lists of them that windows are.
+//!
+//! While rectangles are sorted into tiles each tile has a [`Listed`], which grows. When all are listed each becomes a
+//! [`Window`], which is shared by its copies.
 
-ghost use Rattle.std.specs.Prelude.{◌≡◌, ◌<◌, [], ◌∷◌, ◌++◌, length, OnOk};
+ghost use Rattle.std.specs.Prelude.{◌≡◌, ◌↔◌, ◌<◌, [], ◌∷◌, ◌++◌, length, IfOk, OnOk, IsTrue};
 ghost use Rattle.mpw_tiles.specs.Listing.{Lists};
 
 use mpw_geom::{Box2, Layer};
 use std::alloc::{AllocError, Global};
 use std::marker::Model;
+use std::sync::Arc;
 
 /// A rectangle of a shape where it is placed: its squares in nm, its layer, and the number of the submission
 /// from which the shape comes.
@@ -16,13 +20,38 @@ pub struct Rectangle {
     pub origin: u32,
 }
 
-/// The rectangles of a tile's window, which contracts see as a list.
+/// Whether the boxes have equal corners.
+fn is_same_area(a: &Box2, b: &Box2) -> bool
+    ensures { IsTrue result ↔ (a.now ≡ b.now) }
+{
+    a == b
+}
+
+/// Whether the layers are equal.
+fn is_same_layer(a: Layer, b: Layer) -> bool
+    ensures { IsTrue result ↔ (a ≡ b) }
+{
+    a == b
+}
+
+impl Rectangle {
+    /// Whether the rectangles have equal areas, layers and origins.
+    fn is_same(&self, other: &Rectangle) -> bool
+        ensures { IsTrue result ↔ (self.now ≡ other.now) }
+    {
+        is_same_area(&self.area, &other.area)
+            & is_same_layer(self.layer, other.layer)
+            & (self.origin == other.origin)
+    }
+}
+
+/// The rectangles of a tile so far, which contracts see as a list.
 #[derive(Drop)]
-pub struct Window {
+pub(crate) struct Listed {
     items: Vec<Rectangle>,
 }
 
-impl Model for Window {
+impl Model for Listed {
     ghost use Rattle.std.specs.Prelude.{List};
     ghost use Rattle.mpw_tiles.specs.declared.listing.Rectangle.{Rectangle};
 
@@ -31,14 +60,86 @@ impl Model for Window {
     ghost view = { λ l. l.items.items };
 }
 
-impl Window {
+impl Listed {
     /// The list without rectangles. It takes no memory.
-    pub(crate) fn new(alloc: Global) -> Window
+    pub(crate) fn new(alloc: Global) -> Listed
         ensures { result ≡ [] }
     {
-        Window {
+        Listed {
             items: Vec::new(alloc),
         }
+    }
+
+    /// Adds a rectangle at the end. An error is want of memory.
+    fn push(&mut self, rectangle: Rectangle) -> Result<(), AllocError>
+        ensures ok { OnOk result (self.new ≡ self.old ++ rectangle ∷ []) }
+    {
+        self.items.push(rectangle)?;
+        Ok(())
+    }
+
+    /// The window of these rectangles.
+    fn into_window(self, alloc: Global) -> Result<Window, AllocError>
+        ensures { IfOk result (λ window. window ≡ self) }
+    {
+        Window::from_vec(alloc, self.items)
+    }
+}
+
+/// Adds a rectangle to the list of a tile. An error is want of memory.
+pub(crate) fn list_at(
+    lists: &mut Vec<Listed>,
+    tile: usize,
+    rectangle: Rectangle,
+) -> Result<(), AllocError>
+    requires { tile < length lists.old.items }
+    ensures ok { OnOk result (Lists lists.old.items lists.new.items rectangle (λ t. t ≡ tile)) }
+{
+    lists[tile].push(rectangle)?;
+    Ok(())
+}
+
+/// The rectangles of a tile's window, which contracts see as a list. Copies share them.
+#[derive(Drop)]
+pub struct Window {
+    items: Arc<Vec<Rectangle>>,
+}
+
+impl Model for Window {
+    ghost use Rattle.std.specs.Prelude.{List};
+    ghost use Rattle.mpw_tiles.specs.declared.listing.Rectangle.{Rectangle};
+
+    ghost Value = { List Rectangle };
+
+    ghost view = { λ w. w.items.value.items };
+}
+
+/// Whether the lists have equal rectangles, in order.
+fn are_same_rectangles(first: &[Rectangle], second: &[Rectangle]) -> bool
+    ensures { IsTrue result ↔ (first.now ≡ second.now) }
+{
+    if first.len() != second.len() {
+        return false;
+    }
+    for i in 0..first.len() {
+        if !first[i].is_same(&second[i]) {
+            return false;
+        }
+    }
+    true
+}
+
+impl Window {
+    /// The window that lists the rectangles of a vector, in its order. Constant time.
+    ///
+    /// # Errors
+    /// Where there is no memory for the count of its copies.
+    pub fn from_vec(alloc: Global, items: Vec<Rectangle>) -> Result<Window, AllocError>
+        ensures { IfOk result (λ window. window ≡ items.items) }
+    {
+        Ok(Window {
+            items: Arc::new(alloc, items)?,
+        })
     }
 
     /// The rectangles.
@@ -48,24 +149,103 @@ impl Window {
         self.items.as_slice()
     }
 
-    /// Adds a rectangle at the end. An error is want of memory.
-    pub(crate) fn push(&mut self, rectangle: Rectangle) -> Result<(), AllocError>
-        ensures ok { OnOk result (self.new ≡ self.old ++ rectangle ∷ []) }
+    /// The same window, in constant time and without further memory.
+    ///
+    /// # Errors
+    /// Where no more copies can be counted.
+    pub fn copy(&self) -> Result<Window, AllocError>
+        ensures { IfOk result (λ window. window ≡ self.now) }
     {
-        self.items.push(rectangle)?;
-        Ok(())
+        Ok(Window {
+            items: self.items.clone()?,
+        })
+    }
+
+    /// Whether the windows list equal rectangles, in order. It stops at the first difference, and takes no memory.
+    pub fn is_same(&self, other: &Window) -> bool
+        ensures { IsTrue result ↔ (self.now ≡ other.now) }
+    {
+        are_same_rectangles(self.as_slice(), other.as_slice())
     }
 }
 
-/// Adds a rectangle to the list of a tile. An error is want of memory.
-pub(crate) fn list_at(
-    lists: &mut Vec<Window>,
-    tile: usize,
-    rectangle: Rectangle,
-) -> Result<(), AllocError>
-    requires { tile < length lists.old.items }
-    ensures ok { OnOk result (Lists lists.old.items lists.new.items rectangle (λ t. t ≡ tile)) }
+/// Windows by tile, which contracts see as the list of their lists. Copies share them.
+#[derive(Drop)]
+pub struct Windows {
+    items: Arc<Vec<Window>>,
+}
+
+impl Model for Windows {
+    ghost use Rattle.std.specs.Prelude.{List};
+    ghost use Rattle.mpw_tiles.specs.declared.listing.Rectangle.{Rectangle};
+
+    ghost Value = { List (List Rectangle) };
+
+    ghost view = { λ w. w.items.value.items };
+}
+
+/// Whether the lists have equal windows, in order.
+fn are_same_windows(first: &[Window], second: &[Window]) -> bool
+    ensures { IsTrue result ↔ (first.now ≡ second.now) }
 {
-    lists[tile].push(rectangle)?;
-    Ok(())
+    if first.len() != second.len() {
+        return false;
+    }
+    for i in 0..first.len() {
+        if !first[i].is_same(&second[i]) {
+            return false;
+        }
+    }
+    true
+}
+
+impl Windows {
+    /// The windows of a vector, in its order. Constant time.
+    ///
+    /// # Errors
+    /// Where there is no memory for the count of their copies.
+    pub fn from_vec(alloc: Global, items: Vec<Window>) -> Result<Windows, AllocError>
+        ensures { IfOk result (λ windows. windows ≡ items.items) }
+    {
+        Ok(Windows {
+            items: Arc::new(alloc, items)?,
+        })
+    }
+
+    /// The windows, by tile.
+    pub fn as_slice(&self) -> &[Window]
+        ensures { result.now ≡ self.now }
+    {
+        self.items.as_slice()
+    }
+
+    /// The same windows, in constant time and without further memory.
+    ///
+    /// # Errors
+    /// Where no more copies can be counted.
+    pub fn copy(&self) -> Result<Windows, AllocError>
+        ensures { IfOk result (λ windows. windows ≡ self.now) }
+    {
+        Ok(Windows {
+            items: self.items.clone()?,
+        })
+    }
+
+    /// Whether the windows are equal, tile by tile. It stops at the first difference, and takes no memory.
+    pub fn is_same(&self, other: &Windows) -> bool
+        ensures { IsTrue result ↔ (self.now ≡ other.now) }
+    {
+        are_same_windows(self.as_slice(), other.as_slice())
+    }
+}
+
+/// The windows of these lists, in their order. An error is want of memory.
+pub(crate) fn windows_from(alloc: Global, lists: Vec<Listed>) -> Result<Windows, AllocError>
+    ensures { IfOk result (λ windows. windows ≡ lists.items) }
+{
+    let mut items = Vec::new(alloc);
+    for list in lists {
+        items.push(list.into_window(alloc)?)?;
+    }
+    Windows::from_vec(alloc, items)
 }

@@ -1,6 +1,7 @@
 //! Rectangles where they are placed.
 
-ghost use Rattle.std.specs.Prelude.{◌≡◌, ◌+ℤ◌, neg_ℤ};
+ghost use Rattle.mpw_hier.specs.Boxes.{placed_box, is_box_near};
+ghost use Rattle.std.specs.Prelude.{◌≡◌, true, ◌+ℤ◌, neg_ℤ};
 ghost use Rattle.mpw_geom.specs.Plane.{Square, IsBoxInPlane, IsOrdered, has_square};
 ghost use Rattle.mpw_geom.specs.Placing.{placed_point, placed_square};
 ghost use Rattle.mpw_tiles.specs.Placed.{nearest, nearest_point, IsSquareInPlane};
@@ -66,11 +67,13 @@ fn placed(placing: &Placing, p: &Point) -> Point
     }
 }
 
-/// Where the placing takes the rectangle, as far as it lies within -2^48 to 2^48 nm. Takes no memory.
+/// Where the placing takes the rectangle, as far as it lies within -2^48 to 2^48 nm: just there, where that is within -2^30 to
+/// 2^30. Takes no memory.
 pub fn placed_area(placing: &Placing, b: &Box2) -> Box2
     requires { IsOrdered b.now }
     ensures squares { (s : Square) → IsSquareInPlane (placed_square placing.now s) →
         has_square result (placed_square placing.now s) ≡ has_square b.now s }
+    ensures near { is_box_near (placed_box placing.now b.now) ≡ true → result ≡ placed_box placing.now b.now }
     ensures plane { IsBoxInPlane result }
 {
     let p = placed(placing, &Point { x: b.x0, y: b.y0 });

@@ -11,7 +11,7 @@ use mpw_grid::{Block, Grid};
 use std::marker::Model;
 use thiserror::Error;
 
-/// The greatest number of tiles.
+/// The most tiles of a plan.
 pub const MAX_TILES: u32 = 4096;
 
 /// A plan would have more than 4096 tiles.
@@ -57,13 +57,13 @@ impl Plan {
     pub fn of(extent: Box2, deck: &Deck) -> Result<Plan, TooManyTiles>
         requires plane { IsBoxInPlane extent }
         requires ordered { IsOrdered extent }
-        requires side { 1 ≤ deck.now.tile }
         ensures ok { IfOk result (λ plan. plan ≡ plan_of extent deck.now) }
         ensures few { IfOk result (λ plan. tiles plan ≤ 4096) }
         ensures refused { IfErr result (λ _. 4096 < tiles (plan_of extent deck.now)) }
     {
-        let margin = u64::from(greatest_distance(deck.rules.as_slice())) + 1;
-        match Grid::of(extent, deck.tile, MAX_TILES) {
+        deck.is_deck();
+        let margin = u64::from(greatest_distance(deck.rules().as_slice())) + 1;
+        match Grid::of(extent, deck.tile(), MAX_TILES) {
             Some(grid) => Ok(Plan { grid, margin }),
             None => Err(TooManyTiles),
         }

@@ -65,7 +65,7 @@ fn print_rule(rt: &impl Print, rule: &Rule) -> Result<()> {
 /// Prints the tile, the number of rules, and each rule if they are few. A copy must be the same deck, and
 /// a deck with the same tile and no rules another one, unless there are none.
 fn print_deck(rt: &(impl Print + AllocGlobal), deck: &Deck) -> Result<()> {
-    let (tile, rules) = (deck.tile, deck.rules.as_slice());
+    let (tile, rules) = (deck.tile(), deck.rules().as_slice());
     let count = rules.len();
     println!(rt; "    tile {tile}, {count} rules")?;
     if count < 10 {

@@ -47,7 +47,7 @@ pub fn plan(rt: &(impl Print + AllocGlobal), words: &[&str]) -> Result<()> {
         y1: number(y1)?,
     };
     let deck = deck(rt.alloc(), side, distance)?;
-    if !is_near(&extent) || !is_ordered(&extent) || deck.tile == 0 {
+    if !is_near(&extent) || !is_ordered(&extent) {
         bail!("an extent");
     }
     match Plan::of(extent, &deck) {

@@ -74,7 +74,7 @@ fn compare(alloc: Global, random: &mut Random) -> Result<bool> {
     let distance = format!(in alloc; "{distance}")?;
     let deck = deck(alloc, side.as_str(), distance.as_str())?;
     let all = rectangles(alloc, random)?;
-    if !is_near(&extent) || !is_ordered(&extent) || deck.tile == 0 || !all_near(all.as_slice()) {
+    if !is_near(&extent) || !is_ordered(&extent) || !all_near(all.as_slice()) {
         bail!("an extent");
     }
     let plan = Plan::of(extent, &deck)?;

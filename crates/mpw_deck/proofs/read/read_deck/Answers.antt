@@ -27,7 +27,7 @@ returns-in_err-rules-clause-fault c =
     let lines = sym c.in-Ok.ensures ∙ ap bytes_of (sym c.as_slice.ensures.value) ∙ first_and_rest c.as_slice.result.now no_line c.in-len1-up.len_at_least in
     rw (p.1, p.2) (λ n. deck_rules_fault _ _ _ c.in_ok-tile.tile c.in_err-rules.field-0.0 lines c.in_ok-tile.ensures.ok (c.in_err-rules.ensures.fault n))
 
-pub returns-clause-ok : goal.returns-clause-ok
-returns-clause-ok c =
+pub returns-in-Ok-from_vec-clause-ok : goal.returns-in-Ok-from_vec-clause-ok
+returns-in-Ok-from_vec-clause-ok c =
     let lines = sym c.in-Ok.ensures ∙ ap bytes_of (sym c.as_slice.ensures.value) ∙ first_and_rest c.as_slice.result.now no_line c.in-len1-up.len_at_least in
-    rw c.from_vec-rules.ensures (deck_read _ _ _ c.in_ok-tile.tile c.in_ok-rules.field-0.items lines c.in_ok-tile.ensures.ok c.in_ok-rules.ensures.ok)
+    rw (c.new.ensures, c.in-Ok-from_vec.ensures) (deck_read _ _ _ c.in_ok-tile.tile c.in_ok-rules.rules.items lines c.in_ok-tile.ensures.ok c.in_ok-rules.ensures.ok)

@@ -1,4 +1,4 @@
-use Rattle.std.proofs.Common.{◌≡◌, ℕ, ◌+◌, ◌*◌, ◌≤◌, ◌<◌, ◌⊎◌, max, subst, arith}
+use Rattle.std.proofs.Common.{◌≡◌, ℕ, ◌+◌, ◌*◌, ◌<◌, ◌⊎◌, subst, arith}
 use Rattle.mpw_grid.specs.Grid.{columns}
 use Rattle.mpw_tiles.specs.Listing.{Lists, IsInRow}
 use Rattle.mpw_tiles.proofs.Lists.{Lists-none, Lists-then, Lists-same, row_more, row_end, no_column}

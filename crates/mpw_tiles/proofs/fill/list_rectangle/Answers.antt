@@ -1,4 +1,4 @@
-use Rattle.std.proofs.Common.{◌≡◌, arith}
+use Rattle.std.proofs.Common.{arith}
 use Rattle.std.proofs.lemmas.Int.{ints}
 use Rattle.mpw_tiles.proofs.Lists.{adds_rectangle, adds_nothing, no_width, no_height}
 use Rattle.mpw_tiles.proofs.fill.list_rectangle.Goals as goal

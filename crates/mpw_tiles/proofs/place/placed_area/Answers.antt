@@ -2,6 +2,7 @@ use Rattle.std.proofs.Common.{rules, w64, to_z, of_z}
 use Rattle.std.proofs.lemmas.Int.{to_z-of_z}
 use Rattle.mpw_geom.specs.declared.plane.Point.{Point}
 use Rattle.mpw_geom.specs.Placing.{placed_point}
+use Rattle.mpw_tiles.proofs.Looking.{area_is_box}
 use Rattle.mpw_tiles.proofs.Placed.{area_squares, is_in_plane}
 use Rattle.mpw_tiles.proofs.place.placed_area.Goals as goal
 
@@ -16,3 +17,8 @@ returns-clause-plane c =
     let p : Point = record { x = to_z w64 (of_z w64 b.x0); y = to_z w64 (of_z w64 b.y0) } in
     let q : Point = record { x = to_z w64 (of_z w64 b.x1); y = to_z w64 (of_z w64 b.y1) } in
     is_in_plane c.between.result (placed_point c.args.placing.now p) (placed_point c.args.placing.now q) c.placed-p.result c.placed-q.result c.between.ensures c.placed-p.ensures c.placed-q.ensures
+
+pub returns-clause-near : goal.returns-clause-near
+returns-clause-near c =
+    let b = c.args.b.now in
+    λ n. rw (c.between.ensures, c.placed-p.ensures, c.placed-q.ensures) (area_is_box c.args.placing.now b _ _ _ _ (to_z-of_z w64 b.x0 (search rules)) (to_z-of_z w64 b.y0 (search rules)) (to_z-of_z w64 b.x1 (search rules)) (to_z-of_z w64 b.y1 (search rules)) n)

@@ -1,4 +1,4 @@
-use Rattle.std.proofs.Common.{◌≡◌, ℕ, ◌<◌, sym, subst}
+use Rattle.std.proofs.Common.{◌<◌, sym, subst}
 use Rattle.std.specs.Prelude.{◌↔◌}
 use Rattle.mpw_grid.specs.Grid.{column_of, row_of, IsInBlock, ShareSquare}
 use Rattle.mpw_grid.proofs.Cells.{column_within, row_within}

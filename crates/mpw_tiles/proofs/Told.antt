@@ -1,0 +1,113 @@
+-- What the window of a tile tells of the layout.
+use Rattle.std.proofs.Common.{◌≡◌, ℕ, ◌+◌, ◌≤◌, Bool, true, false, List, Option, Some, None, sym, subst, arith}
+use Rattle.std.specs.Prelude.{ℤ, pos, ◌-ℤ◌, ◌≤ℤ◌, if◌then◌else◌, nat_le}
+use Rattle.std.proofs.lemmas.Int.{ints}
+use Rattle.mpw_geom.specs.declared.plane.Box2.{Box2}
+use Rattle.mpw_geom.specs.Plane.{Square, has_square, closed_square}
+use Rattle.mpw_geom.proofs.Tests.{PointIn-from_test, SquareIn, test_from_SquareIn, same_tests}
+use Rattle.mpw_deck.specs.declared.rule.Rule.{Rule}
+use Rattle.mpw_deck.specs.Decks.{Deck}
+use Rattle.mpw_edges.specs.declared.run.Axis.{Axis}
+use Rattle.mpw_edges.specs.declared.run.Axis.TheVariants.{V, H}
+use Rattle.mpw_edges.specs.Edges.{Squares}
+use Rattle.mpw_edges.specs.Pieces.{HasStep, IsPiece}
+use Rattle.mpw_grid.specs.Grid.{widened}
+use Rattle.mpw_tiles.specs.declared.listing.Rectangle.{Rectangle}
+use Rattle.mpw_tiles.specs.Plan.{Tiling, greatest_distance, plan_of, tiles, tile_core, tile_window}
+use Rattle.mpw_tiles.specs.Snapshots.{Snapshot, shown, shown_extent, plan_over, plan_for, ShowItems, AreWindowsFor, StandFor}
+use Rattle.mpw_tiles.specs.Laws.{Meet, box_on, piece_box, WindowsShowLayers, MetSquaresLieInWindows, WindowsTellMet}
+use Rattle.mpw_tiles.proofs.Tiles.{no_greater}
+
+windows_show : (s : Snapshot) (plan : Tiling) (windows : List (List Rectangle)) → plan_for s ≡ Some plan → StandFor s windows → ShowItems plan (shown s) windows
+windows_show s plan windows e f = subst (λ (o : Option Tiling). AreWindowsFor o (shown s) windows) e f
+
+-- ---- squares
+
+pub show_layers : WindowsShowLayers
+show_layers s plan windows tile layer a listed e stand u shows lists i j l r d t =
+    let q : Square = record { column = i; row = j } in
+    let w = test_from_SquareIn (tile_window plan tile) q (record { left = l; right = r; bottom = d; top = t }) in
+    let f = windows_show s plan windows e stand in
+    same_tests (a i j) (listed i j)
+    (λ k. let p = shows.shown i j k in lists.all i j p.0 ((f.squares tile q layer p.0 u w).1 p.1))
+    (λ k. let p = lists.listed_at i j k in shows.all i j p.0 ((f.squares tile q layer p.0 u w).0 p.1))
+
+-- ---- squares that meet the box of a run
+
+-- the square is at most one nm from the box
+record IsNext (b : Box2) (s : Square) : Type 0 where
+  left : (b.x0 -ℤ pos 1) ≤ℤ s.column
+  right : s.column ≤ℤ b.x1
+  bottom : (b.y0 -ℤ pos 1) ≤ℤ s.row
+  top : s.row ≤ℤ b.y1
+
+next_to : (b : Box2) (s : Square) → Meet (closed_square s) b → IsNext b s
+unfolding closed_square
+next_to b s m =
+    let i = PointIn-from_test (closed_square s) m.0 m.1 in
+    let k = PointIn-from_test b m.0 m.2 in
+    let i0 = i.left in
+    let i1 = i.right in
+    let i2 = i.bottom in
+    let i3 = i.top in
+    let k0 = k.left in
+    let k1 = k.right in
+    let k2 = k.bottom in
+    let k3 = k.top in
+    record { left = omega (arith, ints); right = omega (arith, ints); bottom = omega (arith, ints); top = omega (arith, ints) }
+
+near_run : (rule : Rule) (a b : Squares) (core : Box2) (greatest : ℕ) (axis : Axis) (side : ℕ) (x1 x2 y0 y1 : ℤ) (s : Square) → rule.distance ≤ greatest → HasStep rule a b core axis side x1 x2 y0 → HasStep rule a b core axis side x1 x2 (y1 -ℤ pos 1) → IsNext (box_on axis x1 x2 y0 y1) s → SquareIn (widened core (greatest + 1)) s
+near_run rule a b core greatest V side x1 x2 y0 y1 s h first last n =
+    let d = first.0.1 in
+    let p0 = first.1.0 in
+    let p1 = first.1.1 in
+    let p2 = first.1.2 in
+    let q3 = last.1.3 in
+    let n0 = n.left in
+    let n1 = n.right in
+    let n2 = n.bottom in
+    let n3 = n.top in
+    record { left = omega (arith, ints); right = omega (arith, ints); bottom = omega (arith, ints); top = omega (arith, ints) }
+near_run rule a b core greatest H side x1 x2 y0 y1 s h first last n =
+    let d = first.0.1 in
+    let p0 = first.1.0 in
+    let p1 = first.1.1 in
+    let p2 = first.1.2 in
+    let q3 = last.1.3 in
+    let n0 = n.left in
+    let n1 = n.right in
+    let n2 = n.bottom in
+    let n3 = n.top in
+    record { left = omega (arith, ints); right = omega (arith, ints); bottom = omega (arith, ints); top = omega (arith, ints) }
+
+pub met_in_window : MetSquaresLieInWindows
+met_in_window extent deck rule tile a b p s c piece m =
+    let core = tile_core (plan_of extent deck) tile in
+    let f = piece.filled in
+    let first = piece.steps p.y0 (omega (arith, ints)) f in
+    let last = piece.steps (p.y1 -ℤ pos 1) (omega (arith, ints)) (omega (arith, ints)) in
+    test_from_SquareIn (tile_window (plan_of extent deck) tile) s (near_run rule a b core (greatest_distance deck.rules) p.axis p.side p.x1 p.x2 p.y0 p.y1 s (no_greater deck.rules rule c) first last (next_to (piece_box p) s m))
+
+-- ---- origins
+
+small : (t : Bool) (q plan : Tiling) → (if t then Some q else None) ≡ Some plan → plan ≡ q
+small true q plan e = sym cc
+small false q plan e = cc
+
+record IsOver (deck : Deck) (plan : Tiling) : Type 0 where
+  extent : Box2
+  is : plan ≡ plan_of extent deck
+
+plan_is : (deck : Deck) (o : Option Box2) (plan : Tiling) → plan_over deck o ≡ Some plan → IsOver deck plan
+plan_is deck None plan e = cc
+plan_is deck (Some extent) plan e = record { extent = extent; is = small (nat_le (tiles (plan_of extent deck)) 4096) (plan_of extent deck) plan e }
+
+pub tell_met : WindowsTellMet
+tell_met s plan windows rule tile a b p origin e stand u c piece =
+    let f = windows_show s plan windows e stand in
+    let over = plan_is s.deck (shown_extent s) plan e in
+    let within : (q : Square) → Meet (closed_square q) (piece_box p) → has_square (tile_window plan tile) q ≡ true =
+    λ q m. subst (λ (x : Tiling). has_square (tile_window x tile) q ≡ true) (sym over.is) (met_in_window over.extent s.deck rule tile a b p q c (subst (λ (x : Tiling). IsPiece rule a b (tile_core x tile) p) over.is piece) m) in (
+      λ h. record { layer = h.layer; square = h.square; is_listed = (f.squares tile h.square h.layer origin u (within h.square h.meets)).1 h.shown; meets = h.meets },
+      λ h. record { layer = h.layer; square = h.square; shown = (f.squares tile h.square h.layer origin u (within h.square h.meets)).0 h.is_listed; meets = h.meets },
+    )

@@ -1,6 +1,0 @@
-use Rattle.std.proofs.Common.{◌≡◌, [], length}
-use Rattle.std.specs.Prelude.{All}
-use Rattle.mpw_tiles.proofs.fill.empty_windows.Given as goal
-
-abbrev pub invariant-loop-tile : goal.invariant-loop-tile
-invariant-loop-tile l = (length l.windows.items ≡ l.tile) × (All (λ w. w ≡ []) l.windows.items)

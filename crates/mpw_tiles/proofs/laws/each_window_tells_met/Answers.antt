@@ -1,0 +1,5 @@
+use Rattle.mpw_tiles.proofs.Told.{met_in_window, tell_met}
+use Rattle.mpw_tiles.proofs.laws.each_window_tells_met.Goals as goal
+
+pub returns : goal.returns
+returns c = record { squares = met_in_window; origins = tell_met }

@@ -1,0 +1,5 @@
+use Rattle.mpw_tiles.proofs.Looking.{same_area}
+use Rattle.mpw_tiles.proofs.listing.is_same_area.Goals as goal
+
+pub returns : goal.returns
+returns c = same_area c.args.a.now c.args.b.now c.eq.result c.eq.ensures

@@ -1,0 +1,16 @@
+use Rattle.std.proofs.Common.{[], ◌∷◌, ◌++◌, sym, ap, ◌∙◌}
+use Rattle.std.proofs.lemmas.List.{append_assoc}
+use Rattle.mpw_walk.specs.Turns.{given}
+use Rattle.mpw_walk.specs.Way.{item_of}
+use Rattle.mpw_tiles.specs.Shown.{ShowsSquare, IsShown}
+use Rattle.mpw_tiles.proofs.Showing.{adds_next, shown_more}
+use Rattle.mpw_tiles.proofs.shapes.list_shapes.Goals as goal
+
+pub loop-placed-preserved : goal.loop-placed-preserved
+loop-placed-preserved c =
+    let done = c.loop-placed.invariant.0 in
+    let item = item_of c.in-Some.placed in (
+      done ++ item ∷ [],
+      append_assoc done (item ∷ []) (given c.next.new.self.left) ∙ ap (λ rest. done ++ rest) (sym c.in-Some.ensures.some) ∙ c.loop-placed.invariant.1,
+      adds_next c.args.plan.now c.args.lists.now.items c.loop-placed.lists.items c.list_shape.new.lists.items (IsShown done) (ShowsSquare item) (IsShown (done ++ item ∷ [])) (shown_more c.args.plan.now done item) c.loop-placed.invariant.2 c.in_ok-list_shape.ensures.ok,
+    )

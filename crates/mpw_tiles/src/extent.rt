@@ -1,0 +1,59 @@
+//! The extent of placed submissions: the least box that holds the boxes of all shapes that they show.
+
+ghost use Rattle.std.specs.Prelude.{◌≡◌, true, All, IfSome};
+ghost use Rattle.mpw_geom.specs.Plane.{IsOrdered};
+ghost use Rattle.mpw_hier.specs.Boxes.{joined, hull, placed_box, is_box_near};
+ghost use Rattle.mpw_walk.specs.Roots.{root_extent, roots_extent};
+ghost use Rattle.mpw_walk.specs.Walk.{IsRoot};
+
+use crate::place::placed_area;
+use mpw_geom::Box2;
+use mpw_hier::{Shelf, extents_are_least_boxes};
+use mpw_walk::Root;
+
+/// The least box that holds both.
+fn joined(a: &Box2, b: &Box2) -> Box2
+    ensures { result ≡ joined a.now b.now }
+{
+    Box2 {
+        x0: a.x0.min(b.x0),
+        y0: a.y0.min(b.y0),
+        x1: a.x1.max(b.x1),
+        y1: a.y1.max(b.y1),
+    }
+}
+
+/// The least box that holds both, if there are any.
+fn hull(a: Option<Box2>, b: Option<Box2>) -> Option<Box2>
+    ensures { result ≡ hull a b }
+{
+    match (a, b) {
+        (Some(a), Some(b)) => Some(joined(&a, &b)),
+        (Some(a), None) => Some(a),
+        (None, b) => b,
+    }
+}
+
+/// The extent of a submission where it is placed; none where it shows nothing.
+fn root_extent(shelf: &Shelf, root: &Root) -> Option<Box2>
+    requires { IsRoot shelf.now root.now }
+    ensures extent { result ≡ root_extent shelf.now root.now }
+    ensures near { IfSome result (λ b. is_box_near b ≡ true) }
+{
+    extents_are_least_boxes();
+    let extent = shelf.extent(root.submission)?;
+    Some(placed_area(&root.placing, &extent))
+}
+
+/// The extent of placed submissions, in nm; none where they show nothing. Linear in their number; takes no memory.
+pub(crate) fn roots_extent(shelf: &Shelf, roots: &[Root]) -> Option<Box2>
+    requires { All (IsRoot shelf.now) roots.now }
+    ensures extent { result ≡ roots_extent shelf.now roots.now }
+    ensures near { IfSome result (λ b. is_box_near b ≡ true) }
+{
+    let mut extent = None;
+    for root in roots {
+        extent = hull(extent, root_extent(shelf, root));
+    }
+    extent
+}

@@ -1,0 +1,183 @@
+//! What a run looks at: a deck, placed submissions and the shelf that they are on, as they stood when it began.
+//!
+//! [`cut`] makes of it the windows of its tiles, from which the tiles are checked.
+
+ghost use Rattle.std.specs.Prelude.{◌≡◌, ◌≤◌, ◌↔◌, [], IfOk, IfSome, IsTrue, All, true, length};
+ghost use Rattle.mpw_hier.specs.Boxes.{is_box_near};
+ghost use Rattle.mpw_geom.specs.Plane.{IsOrdered};
+ghost use Rattle.mpw_walk.specs.Roots.{roots_count};
+ghost use Rattle.mpw_tiles.specs.Placed.{WindowsLieInPlane};
+ghost use Rattle.mpw_tiles.specs.Snapshots.{AreRoots, IsSnapshot, shown_extent, plan_for, StandFor};
+
+use crate::extent::roots_extent;
+use crate::fill::empty_lists;
+use crate::listing::{Windows, windows_from};
+use crate::plan::Plan;
+use crate::shapes::list_shapes;
+use mpw_deck::Deck;
+use mpw_geom::Box2;
+use mpw_grid::windows_reach_no_further;
+use mpw_hier::{Shelf, extents_are_least_boxes};
+use mpw_walk::{Root, Walk, all_fit, roots_show_what_their_submissions_do};
+use std::alloc::{AllocError, Global};
+use std::marker::Model;
+use std::sync::Arc;
+
+/// The most roots of a snapshot.
+pub const MAX_ROOTS: usize = 4096;
+
+/// The most shapes of all roots of a snapshot together.
+pub const MAX_SHAPES: u64 = 1 << 20;
+
+/// How many shapes the roots show.
+fn shape_count(shelf: &Shelf, roots: &[Root]) -> u64
+    requires { length roots.now ≤ 4096 }
+    ensures { result ≡ roots_count shelf.now roots.now }
+{
+    let mut count = 0u64;
+    for root in roots {
+        count += u64::from(shelf.count(root.submission));
+    }
+    count
+}
+
+/// Whether the roots can be those of a snapshot: at most 4096, each fits the shelf, and together they show at most 2^20
+/// shapes. Linear in the roots; takes no memory.
+pub fn are_roots(shelf: &Shelf, roots: &[Root]) -> bool
+    ensures { IsTrue result ↔ AreRoots shelf.now roots.now }
+{
+    if roots.len() > MAX_ROOTS {
+        return false;
+    }
+    if !all_fit(shelf, roots) {
+        return false;
+    }
+    shape_count(shelf, roots) <= MAX_SHAPES
+}
+
+/// A deck, roots in order, and a shelf: contracts see the three values. There are at most 4096 roots, each fits the shelf,
+/// and together they show at most 2^20 shapes. Copies share all three.
+#[derive(Drop)]
+pub struct Snapshot {
+    deck: Deck,
+    roots: Arc<Vec<Root>>,
+    shelf: Shelf,
+}
+
+impl Model for Snapshot {
+    ghost use Rattle.mpw_tiles.specs.Snapshots.{Snapshot, IsSnapshot};
+
+    ghost Value = { Snapshot };
+
+    ghost view = { λ s. record { deck = s.deck; roots = s.roots.value.items; shelf = s.shelf } };
+
+    ghost invariant = { λ s. IsSnapshot (record { deck = s.deck; roots = s.roots.value.items; shelf = s.shelf }) };
+}
+
+impl Snapshot {
+    /// The snapshot of these. Constant time.
+    ///
+    /// # Errors
+    /// Where there is no memory for the count of its copies.
+    pub fn new(
+        alloc: Global,
+        deck: Deck,
+        roots: Vec<Root>,
+        shelf: Shelf,
+    ) -> Result<Snapshot, AllocError>
+        requires { AreRoots shelf roots.items }
+        ensures { IfOk result (λ s. s ≡ record { deck = deck; roots = roots.items; shelf = shelf }) }
+    {
+        deck.is_deck();
+        shelf.is_shelf();
+        let roots = Arc::new(alloc, roots)?;
+        Ok(Snapshot { deck, roots, shelf })
+    }
+
+    /// The deck.
+    pub fn deck(&self) -> &Deck
+        ensures { result.now ≡ self.now.deck }
+    {
+        &self.deck
+    }
+
+    /// The placed submissions, in order.
+    pub fn roots(&self) -> &[Root]
+        ensures { result.now ≡ self.now.roots }
+    {
+        self.roots.as_slice()
+    }
+
+    /// The shelf.
+    pub fn shelf(&self) -> &Shelf
+        ensures { result.now ≡ self.now.shelf }
+    {
+        &self.shelf
+    }
+
+    /// Each snapshot keeps the limits. A law: the function does nothing.
+    pub fn is_snapshot(&self)
+        ensures { IsSnapshot self.now }
+    {
+        let _deck = &self.deck;
+    }
+
+    /// The same snapshot, which shares its parts. It costs what a copy of the shelf does.
+    ///
+    /// # Errors
+    /// Where no more copies can be counted, or there is no memory for a copy of the shelf.
+    pub fn copy(&self, alloc: Global) -> Result<Snapshot, AllocError>
+        ensures { IfOk result (λ s. s ≡ self.now) }
+    {
+        let deck = self.deck.copy()?;
+        let roots = self.roots.clone()?;
+        let shelf = self.shelf.copy(alloc)?;
+        Ok(Snapshot { deck, roots, shelf })
+    }
+
+    /// The least box that holds the boxes of all shapes that the roots show, in nm, within -2^30 to 2^30; none without
+    /// shapes. Linear in the roots; takes no memory.
+    pub fn extent(&self) -> Option<Box2>
+        ensures extent { result ≡ shown_extent self.now }
+        ensures near { IfSome result (λ b. is_box_near b ≡ true) }
+        ensures ordered { IfSome result IsOrdered }
+    {
+        roots_show_what_their_submissions_do();
+        extents_are_least_boxes();
+        roots_extent(&self.shelf, self.roots.as_slice())
+    }
+
+    /// The plan of the tiles over that extent; none without shapes, or where there would be more than 4096 tiles. Linear in
+    /// the roots and the rules; takes no memory.
+    pub fn plan(&self) -> Option<Plan>
+        ensures plan { result ≡ plan_for self.now }
+        ensures plane { IfSome result WindowsLieInPlane }
+    {
+        windows_reach_no_further();
+        self.is_snapshot();
+        let extent = self.extent()?;
+        Plan::of(extent, &self.deck).ok()
+    }
+}
+
+/// The windows of the snapshot's tiles, one a tile, in order; none where it shows no shape, or where there would be more
+/// than 4096 tiles. They stand for the snapshot: by layer and origin, a listed rectangle has a unit square of the tile's
+/// window exactly where a shape that the roots show has it, where it is placed.
+///
+/// The shapes are gone over once. Each one's rectangles are placed and listed in the windows with which they share a square,
+/// found by division: what the walk, the rectangles and the entries of the lists cost, and memory for the entries.
+///
+/// # Errors
+/// Where there is no memory.
+pub fn cut(alloc: Global, snapshot: &Snapshot) -> Result<Windows, AllocError>
+    ensures { IfOk result (StandFor snapshot.now) }
+{
+    let Some(plan) = snapshot.plan() else {
+        return Windows::from_vec(alloc, Vec::new(alloc));
+    };
+    snapshot.is_snapshot();
+    let mut lists = empty_lists(alloc, plan.tiles())?;
+    let mut walk = Walk::new(snapshot.shelf(), snapshot.roots());
+    list_shapes(alloc, &mut lists, &plan, &mut walk)?;
+    windows_from(alloc, lists)
+}

@@ -1,0 +1,84 @@
+//! What a cut lists for each tile.
+
+use crate::plans::deck;
+use crate::shelves::roots;
+use anyhow::{Result, bail};
+use mpw_deck::Deck;
+use mpw_geom::{Box2, Layer};
+use mpw_hier::Shelf;
+use mpw_tiles::{Rectangle, Snapshot, Window, Windows, are_roots, cut};
+use mpw_walk::Root;
+use std::alloc::Global;
+
+/// The most tiles whose lists are printed.
+const FEW: usize = 12;
+
+/// The snapshot of these.
+pub fn snapshot(alloc: Global, deck: Deck, roots: Vec<Root>, shelf: &Shelf) -> Result<Snapshot> {
+    let shelf = shelf.copy(alloc)?;
+    if !are_roots(&shelf, &roots) {
+        bail!("roots that fit");
+    }
+    Ok(Snapshot::new(alloc, deck, roots, shelf)?)
+}
+
+fn print_rectangle(rt: &impl Print, rectangle: &Rectangle) -> Result<()> {
+    let Layer { layer, datatype } = rectangle.layer;
+    let origin = rectangle.origin;
+    let Box2 { x0, y0, x1, y1 } = rectangle.area;
+    Ok(print!(rt; " [{layer}/{datatype} of {origin}: {x0} {y0} {x1} {y1}]")?)
+}
+
+fn print_window(rt: &impl Print, tile: usize, window: &Window) -> Result<()> {
+    print!(rt; "    {tile}:")?;
+    for rectangle in window.as_slice() {
+        print_rectangle(rt, rectangle)?;
+    }
+    Ok(println!(rt; "")?)
+}
+
+/// How many rectangles are listed in all windows together.
+fn entries(windows: &[Window]) -> usize {
+    let mut count = 0usize;
+    for window in windows {
+        count = count.saturating_add(window.as_slice().len());
+    }
+    count
+}
+
+fn print_windows(rt: &impl Print, windows: &[Window]) -> Result<()> {
+    let tiles = windows.len();
+    if tiles > FEW {
+        let count = entries(windows);
+        return Ok(println!(rt; "    {tiles} windows, {count} entries")?);
+    }
+    println!(rt; "    {tiles} windows")?;
+    for (tile, window) in windows.iter().enumerate() {
+        print_window(rt, tile, window)?;
+    }
+    Ok(())
+}
+
+/// Whether the same snapshot gives the same windows, and whether their copies are the same.
+fn is_told_again(alloc: Global, snapshot: &Snapshot, windows: &Windows) -> Result<bool> {
+    let again = cut(alloc, &snapshot.copy(alloc)?)?;
+    Ok(again.is_same(windows) && windows.copy()?.is_same(&again))
+}
+
+/// Prints what the windows of a cut list.
+pub fn print_cut(
+    rt: &(impl Print + AllocGlobal),
+    shelf: &Shelf,
+    side: &str,
+    distance: &str,
+    placed: &str,
+) -> Result<()> {
+    let alloc = rt.alloc();
+    let deck = deck(alloc, side, distance)?;
+    let snapshot = snapshot(alloc, deck, roots(alloc, placed)?, shelf)?;
+    let windows = cut(alloc, &snapshot)?;
+    if !is_told_again(alloc, &snapshot, &windows)? {
+        bail!("the same windows again");
+    }
+    print_windows(rt, windows.as_slice())
+}

@@ -1,0 +1,212 @@
+//! Windows compared square by square with a plain flattening.
+
+use crate::cuts::snapshot;
+use crate::flat::{Cell, Shown, flat_list, has};
+use crate::layouts::{layout, roots};
+use crate::plans::deck;
+use crate::random::Random;
+use anyhow::{Context, Result, bail};
+use mpw_elements::Element;
+use mpw_geom::{Box2, Layer};
+use mpw_hier::Shelf;
+use mpw_tiles::{Plan, Rectangle, Window, cut};
+use mpw_walk::Root;
+use std::alloc::Global;
+
+/// The sides of tiles, with a rule's distance each.
+const SIDES: [(&str, &str); 5] = [
+    ("256", "1"),
+    ("300", "17"),
+    ("421", "300"),
+    ("777", "40"),
+    ("5000", "5"),
+];
+
+/// No coordinate of a random shape is farther from its origin, with half a wire's width.
+const REACH: i64 = 90;
+
+fn layer(element: &Element) -> Option<Layer> {
+    match element {
+        Element::Boundary(boundary) => Some(boundary.layer),
+        Element::Path(path) => Some(path.layer),
+        Element::Reference(_) => None,
+    }
+}
+
+fn is_in(area: &Box2, cell: Cell) -> bool {
+    area.x0 <= cell.x && cell.x < area.x1 && area.y0 <= cell.y && cell.y < area.y1
+}
+
+fn is_listed(window: &Window, shown: &Shown<'_>, cell: Cell) -> bool {
+    window.as_slice().iter().any(|rectangle| {
+        rectangle.origin == shown.origin
+            && Some(rectangle.layer) == layer(shown.element)
+            && is_in(&rectangle.area, cell)
+    })
+}
+
+/// Whether each window that has the square lists it.
+fn is_listed_everywhere(
+    plan: &Plan,
+    windows: &[Window],
+    shown: &Shown<'_>,
+    cell: Cell,
+) -> Result<bool> {
+    for tile in 0..plan.tiles() {
+        let window = windows.get(tile as usize).context("a window")?;
+        if is_in(&plan.window(tile), cell) && !is_listed(window, shown, cell) {
+            return Ok(false);
+        }
+    }
+    Ok(true)
+}
+
+/// The squares of a shape where they come.
+fn squares_of(alloc: Global, shown: &Shown<'_>) -> Result<Vec<Cell>> {
+    let mut squares = Vec::new(alloc);
+    for x in -REACH..REACH {
+        for y in -REACH..REACH {
+            let cell = Cell { x, y };
+            if has(shown.element, cell) {
+                squares.push(shown.placed(cell))?;
+            }
+        }
+    }
+    Ok(squares)
+}
+
+/// A shape's layer and origin, with its squares and a box that has them.
+#[derive(Drop)]
+struct Painted {
+    layer: Layer,
+    origin: u32,
+    squares: Vec<Cell>,
+    reach: Box2,
+}
+
+/// A box that has the squares.
+fn reach(squares: &[Cell]) -> Box2 {
+    let mut reach = Box2 {
+        x0: i64::MAX,
+        y0: i64::MAX,
+        x1: i64::MIN,
+        y1: i64::MIN,
+    };
+    for cell in squares {
+        reach = Box2 {
+            x0: reach.x0.min(cell.x),
+            y0: reach.y0.min(cell.y),
+            x1: reach.x1.max(cell.x.saturating_add(1)),
+            y1: reach.y1.max(cell.y.saturating_add(1)),
+        };
+    }
+    reach
+}
+
+/// Whether all squares of all shapes are listed; the squares go into the list.
+fn are_listed(
+    painted: &mut Vec<Painted>,
+    plan: &Plan,
+    windows: &[Window],
+    list: &[Shown<'_>],
+) -> Result<bool> {
+    let alloc = *painted.allocator();
+    for shown in list {
+        let squares = squares_of(alloc, shown)?;
+        for cell in &squares {
+            if !is_listed_everywhere(plan, windows, shown, *cell)? {
+                return Ok(false);
+            }
+        }
+        painted.push(Painted {
+            layer: layer(shown.element).context("a shape")?,
+            origin: shown.origin,
+            reach: reach(&squares),
+            squares,
+        })?;
+    }
+    Ok(true)
+}
+
+/// Whether some shape of the rectangle's layer and origin has the square.
+fn is_painted(painted: &[Painted], rectangle: &Rectangle, cell: Cell) -> bool {
+    painted.iter().any(|shape| {
+        shape.layer == rectangle.layer
+            && shape.origin == rectangle.origin
+            && is_in(&shape.reach, cell)
+            && shape.squares.iter().any(|square| *square == cell)
+    })
+}
+
+/// Whether each square of a listed rectangle in the window is a shape's.
+fn is_shown(painted: &[Painted], window: &Box2, rectangle: &Rectangle) -> bool {
+    let area = &rectangle.area;
+    for x in area.x0.max(window.x0)..area.x1.min(window.x1) {
+        for y in area.y0.max(window.y0)..area.y1.min(window.y1) {
+            if !is_painted(painted, rectangle, Cell { x, y }) {
+                return false;
+            }
+        }
+    }
+    true
+}
+
+fn are_shown(painted: &[Painted], plan: &Plan, windows: &[Window]) -> Result<bool> {
+    for tile in 0..plan.tiles() {
+        let listed = windows.get(tile as usize).context("a window")?;
+        let window = plan.window(tile);
+        for rectangle in listed.as_slice() {
+            if !is_shown(painted, &window, rectangle) {
+                return Ok(false);
+            }
+        }
+    }
+    Ok(windows.len() == plan.tiles() as usize)
+}
+
+/// Whether the windows of a layout under a side are right.
+fn is_right(
+    alloc: Global,
+    shelf: &Shelf,
+    placed: Vec<Root>,
+    side: &str,
+    distance: &str,
+) -> Result<bool> {
+    let list = flat_list(alloc, shelf, &placed)?;
+    let snapshot = snapshot(alloc, deck(alloc, side, distance)?, placed, shelf)?;
+    let plan = snapshot.plan().context("a plan")?;
+    let windows = cut(alloc, &snapshot)?;
+    let mut painted = Vec::new(alloc);
+    Ok(
+        are_listed(&mut painted, &plan, windows.as_slice(), &list)?
+            && are_shown(&painted, &plan, windows.as_slice())?,
+    )
+}
+
+fn same_roots(alloc: Global, roots: &[Root]) -> Result<Vec<Root>> {
+    let mut all = Vec::new(alloc);
+    for root in roots {
+        all.push(*root)?;
+    }
+    Ok(all)
+}
+
+/// Cuts so many random layouts by each side, and prints how many differ.
+pub fn compared(rt: &(impl Print + AllocGlobal), word: &str) -> Result<()> {
+    let Ok(count) = word.parse::<u32>() else {
+        bail!("a number");
+    };
+    let alloc = rt.alloc();
+    let mut random = Random::new(11);
+    let mut different = 0u32;
+    for _ in 0..count {
+        let shelf = layout(alloc, &mut random)?;
+        let placed = roots(alloc, &mut random)?;
+        for (side, distance) in SIDES {
+            if !is_right(alloc, &shelf, same_roots(alloc, &placed)?, side, distance)? {
+                different = different.saturating_add(1);
+            }
+        }
+    }
+    Ok(println!(rt; "    {count} layouts by 5 sides, {different} differ")?)
+}
