@@ -18,6 +18,7 @@ ghost use Rattle.mpw_rbac.specs.declared.permission.Operation.TheVariants.{Read}
 use crate::answer::Fault;
 use crate::listing::shapes_of;
 use crate::{Code, Denial, Line, Lines, Reply};
+use mpw_elements::ReadError;
 use mpw_geom::{Name, Names};
 use mpw_hier::{
     Bindings, HierFault, Outline, Shelf, Submission, reaching_is_decided,
@@ -76,13 +77,14 @@ fn enter(policy: &Policy, conn: u32, operation: Operation, cell: &Name) -> Resul
 }
 
 /// The library that a text is of.
-fn read(text: &LibraryText) -> Result<Library, Fault>
+fn read(alloc: Global, text: &LibraryText) -> Result<Library, Fault>
     ensures read { Answers (λ library. library) result (row.read (library_of text.now)) }
     ensures shape { IfOk result IsLibrary }
 {
-    match text.library() {
-        Ok(library) => Ok(library.copy()?),
-        Err(fault) => Err(Fault::Told(Reply::Refused(Code::Read(fault)))),
+    match text.library(alloc) {
+        Ok(library) => Ok(library),
+        Err(ReadError::Fault(fault)) => Err(Fault::Told(Reply::Refused(Code::Read(fault)))),
+        Err(ReadError::Memory) => Err(Fault::Memory),
     }
 }
 
@@ -224,7 +226,7 @@ pub(crate) fn submit(
     ensures err { IfErr result (λ fault. Told fault (row.submitted policy.now shelf.now conn cell.now top.now text.now)) }
 {
     let submitter = enter(policy, conn, Operation::Submit, cell)?;
-    let library = read(text)?;
+    let library = read(alloc, text)?;
     let cell = cell.copy()?;
     let top = top.copy()?;
     submit_library(

@@ -1,6 +1,7 @@
 //! A GDSII text that was read.
 
-ghost use Rattle.std.specs.Prelude.{◌≡◌, Ok, Err, IfOk, IfErr};
+ghost use Rattle.std.specs.Prelude.{◌≡◌, IfOk};
+ghost use Rattle.mpw_elements.specs.Reading.{GivesValue};
 ghost use Rattle.mpw_library.specs.Grammar.{library_of};
 ghost use Rattle.mpw_library.specs.Library.{IsLibrary};
 
@@ -12,23 +13,23 @@ use std::alloc::{AllocError, Global};
 use std::marker::Model;
 use std::sync::Arc;
 
-/// The bytes of a text with what reading them gives: a library, or the first fault. Contracts see the
-/// bytes. Copies share both.
+/// The bytes of a text, with what reading them gave: a library, or the first fault. Contracts see the
+/// bytes. Copies share both; [`LibraryText::alone`] has the bytes alone.
 #[derive(Drop)]
 pub struct LibraryText {
     bytes: Arc<Vec<u8>>,
-    outcome: Result<Library, ReadFault>,
+    outcome: Option<Result<Library, ReadFault>>,
 }
 
 impl Model for LibraryText {
-    ghost use Rattle.std.specs.Prelude.{ℕ, List};
+    ghost use Rattle.std.specs.Prelude.{ℕ, List, IfSome};
     ghost use Rattle.mpw_library.specs.Text.{IsRead};
 
     ghost Value = { List ℕ };
 
     ghost view = { λ t. t.bytes.value.items };
 
-    ghost invariant = { λ t. IsRead t.bytes.value.items t.outcome };
+    ghost invariant = { λ t. IfSome t.outcome (IsRead t.bytes.value.items) };
 }
 
 impl LibraryText {
@@ -45,7 +46,10 @@ impl LibraryText {
             Err(ReadError::Memory) => return Err(AllocError),
         };
         let bytes = Arc::new(alloc, bytes)?;
-        Ok(LibraryText { bytes, outcome })
+        Ok(LibraryText {
+            bytes,
+            outcome: Some(outcome),
+        })
     }
 
     /// The bytes.
@@ -55,19 +59,31 @@ impl LibraryText {
         self.bytes.as_slice()
     }
 
-    /// The library that the text is of, in constant time.
+    /// The library that the text is of: in constant time, or read again where the bytes stand alone.
     ///
     /// # Errors
-    /// The first fault by offset.
-    pub fn library(&self) -> Result<&Library, ReadFault>
-        ensures library { IfOk result (λ library. library_of self.now ≡ Ok library.now) }
-        ensures shape { IfOk result (λ library. IsLibrary library.now) }
-        ensures fault { IfErr result (λ fault. library_of self.now ≡ Err fault) }
+    /// The first fault by offset, or want of memory.
+    pub fn library(&self, alloc: Global) -> Result<Library, ReadError>
+        ensures library { GivesValue (λ library. library) result (library_of self.now) }
+        ensures shape { IfOk result IsLibrary }
     {
         match &self.outcome {
-            Ok(found) => Ok(found),
-            Err(fault) => Err(*fault),
+            Some(outcome) => found(outcome),
+            None => read_library(alloc, self.bytes.as_slice()),
         }
+    }
+
+    /// The same text, in constant time and without further memory, with its bytes alone: what reading them gave can go.
+    ///
+    /// # Errors
+    /// Where no more copies can be counted.
+    pub fn alone(&self) -> Result<LibraryText, AllocError>
+        ensures { IfOk result (λ text. text ≡ self.now) }
+    {
+        Ok(LibraryText {
+            bytes: self.bytes.clone()?,
+            outcome: None,
+        })
     }
 
     /// The same text, in constant time and without further memory.
@@ -77,14 +93,33 @@ impl LibraryText {
     pub fn copy(&self) -> Result<LibraryText, AllocError>
         ensures { IfOk result (λ text. text ≡ self.now) }
     {
-        let outcome = match &self.outcome {
-            Ok(library) => Ok(library.copy()?),
-            Err(fault) => Err(*fault),
-        };
         Ok(LibraryText {
             bytes: self.bytes.clone()?,
-            outcome,
+            outcome: copied(&self.outcome)?,
         })
+    }
+}
+
+/// What reading gave.
+fn found(outcome: &Result<Library, ReadFault>) -> Result<Library, ReadError>
+    ensures { GivesValue (λ library. library) result outcome.now }
+{
+    match outcome {
+        Ok(library) => Ok(library.copy()?),
+        Err(fault) => Err(ReadError::Fault(*fault)),
+    }
+}
+
+/// What reading gave, shared.
+fn copied(
+    outcome: &Option<Result<Library, ReadFault>>,
+) -> Result<Option<Result<Library, ReadFault>>, AllocError>
+    ensures { IfOk result (λ copy. copy ≡ outcome.now) }
+{
+    match outcome {
+        Some(Ok(library)) => Ok(Some(Ok(library.copy()?))),
+        Some(Err(fault)) => Ok(Some(Err(*fault))),
+        None => Ok(None),
     }
 }
 
