@@ -50,3 +50,10 @@ area_in_plane p q = record {
 
 pub is_in_plane : (b : Box2) (p q p' q' : Point) → b ≡ box_between p' q' → p' ≡ nearest_point p → q' ≡ nearest_point q → IsBoxInPlane b
 is_in_plane b p q p' q' e f g = rw (e, f, g) (area_in_plane p q)
+
+between_ordered : (p q : Point) → IsOrdered (box_between p q)
+unfolding box_between
+between_ordered p q = record { x = omega (arith, ints, clamps); y = omega (arith, ints, clamps) }
+
+pub is_ordered : (b : Box2) (p q : Point) → b ≡ box_between p q → IsOrdered b
+is_ordered b p q e = rw e (between_ordered p q)

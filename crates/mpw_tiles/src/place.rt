@@ -74,6 +74,7 @@ pub fn placed_area(placing: &Placing, b: &Box2) -> Box2
     ensures squares { (s : Square) → IsSquareInPlane (placed_square placing.now s) →
         has_square result (placed_square placing.now s) ≡ has_square b.now s }
     ensures near { is_box_near (placed_box placing.now b.now) ≡ true → result ≡ placed_box placing.now b.now }
+    ensures ordered { IsOrdered result }
     ensures plane { IsBoxInPlane result }
 {
     let p = placed(placing, &Point { x: b.x0, y: b.y0 });

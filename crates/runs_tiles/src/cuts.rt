@@ -59,13 +59,28 @@ fn print_windows(rt: &impl Print, windows: &[Window]) -> Result<()> {
     Ok(())
 }
 
-/// Whether the same snapshot gives the same windows, and whether their copies are the same.
+/// Whether a copy of the snapshot gives the same windows.
 fn is_told_again(alloc: Global, snapshot: &Snapshot, windows: &Windows) -> Result<bool> {
-    let again = cut(alloc, &snapshot.copy(alloc)?)?;
-    Ok(again.is_same(windows) && windows.copy()?.is_same(&again))
+    let copy = snapshot.copy(alloc)?;
+    is_told_by(alloc, &copy, windows)
 }
 
-/// Prints what the windows of a cut list.
+/// Whether the snapshot gives these windows.
+fn is_told_by(alloc: Global, snapshot: &Snapshot, windows: &Windows) -> Result<bool> {
+    let again = cut(alloc, snapshot)?;
+    Ok(again.is_same(windows))
+}
+
+/// Prints what the windows of the snapshot list.
+fn print_snapshot(rt: &(impl Print + AllocGlobal), snapshot: &Snapshot) -> Result<()> {
+    let windows = cut(rt.alloc(), snapshot)?;
+    if !is_told_again(rt.alloc(), snapshot, &windows)? {
+        bail!("the same windows again");
+    }
+    print_windows(rt, windows.as_slice())
+}
+
+/// Prints what the windows of placed submissions list.
 pub fn print_cut(
     rt: &(impl Print + AllocGlobal),
     shelf: &Shelf,
@@ -76,9 +91,5 @@ pub fn print_cut(
     let alloc = rt.alloc();
     let deck = deck(alloc, side, distance)?;
     let snapshot = snapshot(alloc, deck, roots(alloc, placed)?, shelf)?;
-    let windows = cut(alloc, &snapshot)?;
-    if !is_told_again(alloc, &snapshot, &windows)? {
-        bail!("the same windows again");
-    }
-    print_windows(rt, windows.as_slice())
+    print_snapshot(rt, &snapshot)
 }

@@ -70,23 +70,38 @@ fn array(alloc: Global, random: &mut Random, name: &str) -> Result<String, Alloc
     format!(in alloc; "; a {name} 2 3 {x} {y} {a} {b} {c} {d} {turn}")
 }
 
+/// A pad that places an arm.
+fn pad(alloc: Global, random: &mut Random) -> Result<String, AllocError> {
+    let mut text = format!(in alloc; "PAD:")?;
+    text.push_str(shape(alloc, random)?.as_str())?;
+    text.push_str(single(alloc, random, "ARM")?.as_str())?;
+    text.push_str("; ARM:")?;
+    text.push_str(shape(alloc, random)?.as_str())?;
+    Ok(text)
+}
+
+/// A chip that places pads and a structure of its own.
+fn chip(alloc: Global, random: &mut Random) -> Result<String, AllocError> {
+    let mut text = format!(in alloc; "CHIP:")?;
+    text.push_str(shape(alloc, random)?.as_str())?;
+    text.push_str(single(alloc, random, "pad")?.as_str())?;
+    text.push_str(array(alloc, random, "pad")?.as_str())?;
+    text.push_str(array(alloc, random, "OWN")?.as_str())?;
+    text.push_str("; OWN:")?;
+    text.push_str(shape(alloc, random)?.as_str())?;
+    Ok(text)
+}
+
 /// Submits a pad and a chip.
+fn fill(alloc: Global, random: &mut Random, shelf: &mut Shelf) -> Result<()> {
+    submit(alloc, shelf, "pad", "PAD", pad(alloc, random)?.as_str())?;
+    submit(alloc, shelf, "chip", "CHIP", chip(alloc, random)?.as_str())
+}
+
+/// A shelf with a pad and a chip.
 pub fn layout(alloc: Global, random: &mut Random) -> Result<Shelf> {
     let mut shelf = Shelf::new(alloc);
-    let mut pad = format!(in alloc; "PAD:")?;
-    pad.push_str(shape(alloc, random)?.as_str())?;
-    pad.push_str(single(alloc, random, "ARM")?.as_str())?;
-    pad.push_str("; ARM:")?;
-    pad.push_str(shape(alloc, random)?.as_str())?;
-    submit(alloc, &mut shelf, "pad", "PAD", pad.as_str())?;
-    let mut chip = format!(in alloc; "CHIP:")?;
-    chip.push_str(shape(alloc, random)?.as_str())?;
-    chip.push_str(single(alloc, random, "pad")?.as_str())?;
-    chip.push_str(array(alloc, random, "pad")?.as_str())?;
-    chip.push_str(array(alloc, random, "OWN")?.as_str())?;
-    chip.push_str("; OWN:")?;
-    chip.push_str(shape(alloc, random)?.as_str())?;
-    submit(alloc, &mut shelf, "chip", "CHIP", chip.as_str())?;
+    fill(alloc, random, &mut shelf)?;
     Ok(shelf)
 }
 

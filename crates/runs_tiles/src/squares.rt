@@ -9,7 +9,7 @@ use anyhow::{Context, Result, bail};
 use mpw_elements::Element;
 use mpw_geom::{Box2, Layer};
 use mpw_hier::Shelf;
-use mpw_tiles::{Plan, Rectangle, Window, cut};
+use mpw_tiles::{Plan, Rectangle, Snapshot, Window, cut};
 use mpw_walk::Root;
 use std::alloc::Global;
 
@@ -164,23 +164,19 @@ fn are_shown(painted: &[Painted], plan: &Plan, windows: &[Window]) -> Result<boo
     Ok(windows.len() == plan.tiles() as usize)
 }
 
-/// Whether the windows of a layout under a side are right.
-fn is_right(
-    alloc: Global,
-    shelf: &Shelf,
-    placed: Vec<Root>,
-    side: &str,
-    distance: &str,
-) -> Result<bool> {
-    let list = flat_list(alloc, shelf, &placed)?;
-    let snapshot = snapshot(alloc, deck(alloc, side, distance)?, placed, shelf)?;
-    let plan = snapshot.plan().context("a plan")?;
-    let windows = cut(alloc, &snapshot)?;
+/// Whether the windows show just the squares of the list.
+fn are_right(alloc: Global, plan: &Plan, windows: &[Window], list: &[Shown<'_>]) -> Result<bool> {
     let mut painted = Vec::new(alloc);
-    Ok(
-        are_listed(&mut painted, &plan, windows.as_slice(), &list)?
-            && are_shown(&painted, &plan, windows.as_slice())?,
-    )
+    Ok(are_listed(&mut painted, plan, windows, list)? && are_shown(&painted, plan, windows)?)
+}
+
+/// Whether the windows that the snapshot is cut into show just the squares of the list.
+fn is_cut_right(alloc: Global, snapshot: &Snapshot, list: &[Shown<'_>]) -> Result<bool> {
+    let Some(plan) = snapshot.plan() else {
+        return Ok(false);
+    };
+    let windows = cut(alloc, snapshot)?;
+    are_right(alloc, &plan, windows.as_slice(), list)
 }
 
 fn same_roots(alloc: Global, roots: &[Root]) -> Result<Vec<Root>> {
@@ -191,22 +187,57 @@ fn same_roots(alloc: Global, roots: &[Root]) -> Result<Vec<Root>> {
     Ok(all)
 }
 
+/// The snapshot of placed submissions under a side.
+fn snapshot_of(
+    alloc: Global,
+    shelf: &Shelf,
+    placed: &[Root],
+    side: &str,
+    distance: &str,
+) -> Result<Snapshot> {
+    let deck = deck(alloc, side, distance)?;
+    snapshot(alloc, deck, same_roots(alloc, placed)?, shelf)
+}
+
+/// By how many sides the windows of a layout differ from the list.
+fn differing_sides(
+    alloc: Global,
+    shelf: &Shelf,
+    placed: &[Root],
+    list: &[Shown<'_>],
+) -> Result<u32> {
+    let mut different = 0u32;
+    for (side, distance) in SIDES {
+        let snapshot = snapshot_of(alloc, shelf, placed, side, distance)?;
+        if !is_cut_right(alloc, &snapshot, list)? {
+            different = different.saturating_add(1);
+        }
+    }
+    Ok(different)
+}
+
+/// By how many sides the windows of placed submissions differ from their flat list.
+fn differing(alloc: Global, shelf: &Shelf, placed: &[Root]) -> Result<u32> {
+    let list = flat_list(alloc, shelf, placed)?;
+    differing_sides(alloc, shelf, placed, &list)
+}
+
+/// By how many sides the windows of a random layout differ from its flat list.
+fn compare(alloc: Global, random: &mut Random) -> Result<u32> {
+    let placed = roots(alloc, random)?;
+    let shelf = layout(alloc, random)?;
+    differing(alloc, &shelf, &placed)
+}
+
 /// Cuts so many random layouts by each side, and prints how many differ.
 pub fn compared(rt: &(impl Print + AllocGlobal), word: &str) -> Result<()> {
     let Ok(count) = word.parse::<u32>() else {
         bail!("a number");
     };
-    let alloc = rt.alloc();
     let mut random = Random::new(11);
     let mut different = 0u32;
     for _ in 0..count {
-        let shelf = layout(alloc, &mut random)?;
-        let placed = roots(alloc, &mut random)?;
-        for (side, distance) in SIDES {
-            if !is_right(alloc, &shelf, same_roots(alloc, &placed)?, side, distance)? {
-                different = different.saturating_add(1);
-            }
-        }
+        different = different.saturating_add(compare(rt.alloc(), &mut random)?);
     }
     Ok(println!(rt; "    {count} layouts by 5 sides, {different} differ")?)
 }

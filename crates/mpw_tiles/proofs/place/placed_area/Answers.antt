@@ -3,7 +3,7 @@ use Rattle.std.proofs.lemmas.Int.{to_z-of_z}
 use Rattle.mpw_geom.specs.declared.plane.Point.{Point}
 use Rattle.mpw_geom.specs.Placing.{placed_point}
 use Rattle.mpw_tiles.proofs.Looking.{area_is_box}
-use Rattle.mpw_tiles.proofs.Placed.{area_squares, is_in_plane}
+use Rattle.mpw_tiles.proofs.Placed.{area_squares, is_in_plane, is_ordered}
 use Rattle.mpw_tiles.proofs.place.placed_area.Goals as goal
 
 pub returns-clause-squares : goal.returns-clause-squares
@@ -22,3 +22,6 @@ pub returns-clause-near : goal.returns-clause-near
 returns-clause-near c =
     let b = c.args.b.now in
     λ n. rw (c.between.ensures, c.placed-p.ensures, c.placed-q.ensures) (area_is_box c.args.placing.now b _ _ _ _ (to_z-of_z w64 b.x0 (search rules)) (to_z-of_z w64 b.y0 (search rules)) (to_z-of_z w64 b.x1 (search rules)) (to_z-of_z w64 b.y1 (search rules)) n)
+
+pub returns-clause-ordered : goal.returns-clause-ordered
+returns-clause-ordered c = is_ordered c.between.result _ _ c.between.ensures
