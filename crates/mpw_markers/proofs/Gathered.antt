@@ -1,6 +1,6 @@
 -- Lists of lists.
-use Rattle.std.proofs.Common.{◌≡◌, ℕ, List, [], ◌∷◌, inl, inr, sym, subst, arith}
-use Rattle.std.specs.Prelude.{Contains, ◌↔◌}
+use Rattle.std.proofs.Common.{◌≡◌, ℕ, Ok, Err, Result, List, [], ◌∷◌, inl, inr, sym, subst, arith}
+use Rattle.std.specs.Prelude.{Contains, IfOk, ◌↔◌}
 use Rattle.std.specs.List.{flat_map}
 use Rattle.std.proofs.lemmas.List.Elements.{Contains-append_left, Contains-append_right, Contains-append_cases}
 use Rattle.mpw_markers.specs.declared.marker.Marker.{Marker}
@@ -45,3 +45,7 @@ met_from markers all numbers e a same = record {
     λ p. (same n).1 (subst (λ (ns : List ℕ). Contains ns n) (sym e) (from_part (λ (m : Marker). m.met) markers p.0 n p.1 p.2)),
   );
 }
+
+pub met_from_result : {E : Type 0} (markers : List Marker) (all : List ℕ) (r : Result (List ℕ) E) → all ≡ flat_map (λ (m : Marker). m.met) markers → IfOk r (λ met. IsAscending met) → IfOk r (λ met. (n : ℕ) → Contains met n ↔ Contains all n) → IfOk r (λ met. AreMetBy markers met)
+met_from_result markers all (Ok met) e a same = met_from markers all met e a same
+met_from_result markers all (Err x) e a same = tt

@@ -1,6 +1,6 @@
 //! The numbers of the submissions that a marker meets.
 
-ghost use Rattle.std.specs.Prelude.{◌≡◌, [], IfOk};
+ghost use Rattle.std.specs.Prelude.{◌≡◌, ◌↔◌, ℕ, [], IfOk, Contains};
 ghost use Rattle.mpw_markers.specs.Met.{IsAscending};
 
 use std::alloc::{AllocError, Global};
@@ -35,6 +35,15 @@ impl Model for Met {
     ghost invariant = { λ m. IsAscending (numbers_of m.numbers) };
 }
 
+/// Puts the numbers in order, each once.
+fn sort_each_once(numbers: &mut Vec<u32>)
+    ensures ascending { IsAscending numbers.new.items }
+    ensures same { (n : ℕ) → Contains numbers.new.items n ↔ Contains numbers.old.items n }
+{
+    numbers.sort_unstable();
+    numbers.dedup();
+}
+
 impl Met {
     /// No number. It takes no memory.
     pub fn none() -> Met
@@ -60,6 +69,19 @@ impl Met {
             _ => Numbers::Shared(Arc::new(alloc, Vec::from_slice(alloc, numbers)?)?),
         };
         Ok(Met { numbers })
+    }
+
+    /// These numbers, put in order and each once. A sort of them, and what [`Met::of`] takes.
+    ///
+    /// # Errors
+    /// Where there is no room for it.
+    pub fn from_vec(alloc: Global, numbers: Vec<u32>) -> Result<Met, AllocError>
+        ensures ascending { IfOk result (λ met. IsAscending met) }
+        ensures same { IfOk result (λ met. (n : ℕ) → Contains met n ↔ Contains numbers.items n) }
+    {
+        let mut numbers = numbers;
+        sort_each_once(&mut numbers);
+        Met::of(alloc, numbers.as_slice())
     }
 
     /// The numbers, ascending and each once.

@@ -3,10 +3,9 @@
 //! All markers are put in order by line and then by row, so that those of a run stand together. One pass then cuts
 //! the list into runs; each is one marker, whose submissions are those of the markers in it, sorted, each once.
 
-ghost use Rattle.std.specs.Prelude.{◌≡◌, ◌≤◌, ◌++◌, ◌<ℤ◌, ◌≤ℤ◌, ◌↔◌, ℕ, length, IfOk, OnOk, All, Contains, IsTrue, MatchBool};
+ghost use Rattle.std.specs.Prelude.{◌≡◌, ◌≤◌, ◌++◌, ◌<ℤ◌, ◌≤ℤ◌, ◌↔◌, length, IfOk, OnOk, All, Contains, IsTrue, MatchBool};
 ghost use Rattle.std.specs.List.{flat_map};
 ghost use Rattle.std.specs.List.Sorted.{IsPermutation};
-ghost use Rattle.mpw_markers.specs.Met.{IsAscending};
 ghost use Rattle.mpw_markers.specs.Markers.{line_of, line_of_key, key_of, IsFilled};
 ghost use Rattle.mpw_markers.specs.Order.{AreInOrder};
 ghost use Rattle.mpw_markers.specs.Stitched.{IsJoined, IsStitched};
@@ -129,15 +128,6 @@ fn all_numbers(alloc: Global, markers: &[Marker]) -> Result<Vec<u32>, AllocError
     Ok(numbers)
 }
 
-/// Puts the numbers in order, each once.
-fn sort_each_once(numbers: &mut Vec<u32>)
-    ensures ascending { IsAscending numbers.new.items }
-    ensures same { (n : ℕ) → Contains numbers.new.items n ↔ Contains numbers.old.items n }
-{
-    numbers.sort_unstable();
-    numbers.dedup();
-}
-
 /// The submissions that some of the markers meets.
 fn met_by(alloc: Global, markers: &[Marker]) -> Result<Met, AllocError>
     ensures { IfOk result (λ met. AreMetBy markers.now met) }
@@ -145,9 +135,8 @@ fn met_by(alloc: Global, markers: &[Marker]) -> Result<Met, AllocError>
     if let [only] = markers {
         return only.met.copy();
     }
-    let mut numbers = all_numbers(alloc, markers)?;
-    sort_each_once(&mut numbers);
-    Met::of(alloc, numbers.as_slice())
+    let numbers = all_numbers(alloc, markers)?;
+    Met::from_vec(alloc, numbers)
 }
 
 /// Adds the marker of the first run, and tells how many markers make it.

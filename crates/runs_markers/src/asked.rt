@@ -1,11 +1,14 @@
-//! What lists of markers and of numbers ask, as tests.
+//! What lists of markers, numbers, rectangles and boxes ask, as tests.
 
 ghost use Rattle.std.specs.Prelude.{◌≡◌, true, All};
+ghost use Rattle.mpw_geom.specs.Plane.{HasArea, IsOrdered};
 ghost use Rattle.mpw_markers.specs.Met.{IsAscending};
 ghost use Rattle.mpw_markers.specs.Markers.{IsFilled};
 
 use anyhow::{Result, bail};
+use mpw_geom::Box2;
 use mpw_markers::{Marker, Met, TileMarkers};
+use mpw_origins::{Rectangle, met_origins};
 use std::alloc::Global;
 
 /// Whether each number is less than the next.
@@ -53,4 +56,48 @@ pub fn tile(alloc: Global, markers: Vec<Marker>) -> Result<TileMarkers> {
         bail!("markers with rows");
     }
     Ok(TileMarkers::from_vec(alloc, markers)?)
+}
+
+/// Whether the rectangle has a unit square.
+fn has_area(rectangle: &Rectangle) -> bool
+    ensures { result ≡ true → HasArea rectangle.now.area }
+{
+    rectangle.area.x0 < rectangle.area.x1 && rectangle.area.y0 < rectangle.area.y1
+}
+
+fn all_have_area(rectangles: &[Rectangle]) -> bool
+    ensures { result ≡ true → All (λ r. HasArea r.area) rectangles.now }
+{
+    for rectangle in rectangles {
+        if !has_area(rectangle) {
+            return false;
+        }
+    }
+    true
+}
+
+/// Whether the box's first corner is its lower left one.
+fn is_ordered(b: &Box2) -> bool
+    ensures { result ≡ true → IsOrdered b.now }
+{
+    b.x0 <= b.x1 && b.y0 <= b.y1
+}
+
+fn all_ordered(boxes: &[Box2]) -> bool
+    ensures { result ≡ true → All IsOrdered boxes.now }
+{
+    for b in boxes {
+        if !is_ordered(b) {
+            return false;
+        }
+    }
+    true
+}
+
+/// The origins that the boxes meet; the rectangles are to have area, and the boxes to be ordered.
+pub fn origins(alloc: Global, rectangles: &[Rectangle], boxes: &[Box2]) -> Result<Vec<Met>> {
+    if !all_have_area(rectangles) || !all_ordered(boxes) {
+        bail!("rectangles with area, and ordered boxes");
+    }
+    Ok(met_origins(alloc, rectangles, boxes)?)
 }

@@ -5,6 +5,8 @@
 //! - `marker RULE AXIS SIDE X1 X2 Y0 Y1 SUBMISSION ..` adds a marker to the tile's list;
 //! - `book` stitches the lists and prints the book, a marker a line;
 //! - `find RULE AXIS SIDE X1 X2 Y0 Y1` looks the key up in the last book;
+//! - `rectangle SUBMISSION X0 Y0 X1 Y1` and `box X0 Y0 X1 Y1` add to the shapes and to the boxes, `origins` prints which
+//!   submissions each box meets, and `scattered N` compares those of N random sets with a search square by square;
 //! - `random N` compares the books of N random sets of lists, and what is found in them, with the plain body.
 #![tactic(auto)]
 
@@ -12,13 +14,21 @@ mod asked;
 mod compare;
 mod plain;
 mod random;
+mod scattered;
+mod shapes;
 mod tiles;
 mod words;
 
 use anyhow::{Result, bail};
+use shapes::Shapes;
 use tiles::Tiles;
 
-fn answer(rt: &(impl Print + AllocGlobal), tiles: &mut Tiles, line: &str) -> Result<()> {
+fn answer(
+    rt: &(impl Print + AllocGlobal),
+    tiles: &mut Tiles,
+    shapes: &mut Shapes,
+    line: &str,
+) -> Result<()> {
     if line.is_empty() || line.starts_with('#') {
         return Ok(());
     }
@@ -29,6 +39,10 @@ fn answer(rt: &(impl Print + AllocGlobal), tiles: &mut Tiles, line: &str) -> Res
         ["marker", rest @ ..] => tiles.add(rt.alloc(), rest),
         ["book"] => tiles.print_book(rt),
         ["find", rest @ ..] => tiles.find(rt, rest),
+        ["rectangle", rest @ ..] => shapes.add_rectangle(rest),
+        ["box", rest @ ..] => shapes.add_box(rest),
+        ["origins"] => shapes.print_origins(rt),
+        ["scattered", count] => scattered::compared(rt, count),
         ["random", count] => compare::compared(rt, count),
         _ => bail!("a command"),
     }
@@ -36,10 +50,11 @@ fn answer(rt: &(impl Print + AllocGlobal), tiles: &mut Tiles, line: &str) -> Res
 
 fn main(rt: HostRuntime) -> Result<()> {
     let mut tiles = Tiles::new(rt.alloc());
+    let mut shapes = Shapes::new(rt.alloc());
     for line in rt.lines(rt.alloc()) {
         let line = line?;
         println!(rt; "{line}")?;
-        answer(&rt, &mut tiles, line.as_str())?;
+        answer(&rt, &mut tiles, &mut shapes, line.as_str())?;
     }
     Ok(())
 }

@@ -1,7 +1,8 @@
-//! Keys and numbers as words, and back.
+//! Keys, boxes and numbers as words, and back.
 
 use anyhow::{Result, bail};
 use mpw_edges::Axis;
+use mpw_geom::Box2;
 use mpw_markers::{Key, Marker};
 use std::alloc::Global;
 
@@ -25,6 +26,19 @@ pub fn numbers(alloc: Global, words: &[&str]) -> Result<Vec<u32>> {
         numbers.push(number(word)?)?;
     }
     Ok(numbers)
+}
+
+/// The box of four words.
+pub fn coordinates(words: &[&str]) -> Result<Box2> {
+    let [x0, y0, x1, y1] = words else {
+        bail!("four coordinates");
+    };
+    Ok(Box2 {
+        x0: coordinate(x0)?,
+        y0: coordinate(y0)?,
+        x1: coordinate(x1)?,
+        y1: coordinate(y1)?,
+    })
 }
 
 fn axis(word: &str) -> Result<Axis> {
