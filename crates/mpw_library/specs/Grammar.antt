@@ -2,7 +2,7 @@
 use Rattle.std.specs.Prelude.{ℕ, zero, suc, ◌||◌, ◌==◌, Bool, true, false, drop, List, [], ◌∷◌, ◌++◌, length, is_some, Option, Some, None, Result, Ok, Err, if◌then◌else◌}
 use Rattle.mpw_records.specs.declared.fault.Code.TheVariants.{Short, Unexpected, DoubleName, Unit as BadUnit}
 use Rattle.mpw_records.specs.declared.fault.ReadFault.{ReadFault}
-use Rattle.mpw_records.specs.declared.kind.TheConstants.{HEADER, BGNLIB, LIBNAME, UNITS, ENDLIB, BGNSTR, STRNAME, ENDSTR, PROPATTR, PROPVALUE, ELKEY}
+use Rattle.mpw_records.specs.declared.kind.TheConstants.{HEADER, BGNLIB, LIBNAME, UNITS, ENDLIB, BGNSTR, STRNAME, ENDSTR, PROPATTR, PROPVALUE, STRCLASS}
 use Rattle.mpw_records.specs.Records.{RawRecord, Outcome, outcomes_of}
 use Rattle.mpw_real8.specs.Real.{real_value, nanometres}
 use Rattle.mpw_elements.specs.declared.element.Element.{Element}
@@ -66,7 +66,7 @@ head rs = do
 
 -- PROPATTR, PROPVALUE and type 34 hex may stand between elements, and say nothing.
 abbrev pub is_between : ℕ → Bool
-is_between kind = (kind == PROPATTR) || (kind == PROPVALUE) || (kind == ELKEY)
+is_between kind = (kind == PROPATTR) || (kind == PROPVALUE) || (kind == STRCLASS)
 
 abbrev pub item_of : Option Element → Item
 item_of (Some e) = items.Placed e

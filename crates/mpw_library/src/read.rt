@@ -117,7 +117,7 @@ fn read_head(records: &mut Records<'_>) -> Result<u16, ReadError>
 fn is_between(kind: u8) -> bool
     ensures { result ≡ is_between kind }
 {
-    matches!(kind, kind::PROPATTR | kind::PROPVALUE | kind::ELKEY)
+    matches!(kind, kind::PROPATTR | kind::PROPVALUE | kind::STRCLASS)
 }
 
 /// What stands next in a structure.

@@ -66,4 +66,4 @@ pub const BGNEXTN: u8 = 0x30;
 
 pub const ENDEXTN: u8 = 0x31;
 /// A record between elements that some writers leave there and that says nothing of the layout.
-pub const ELKEY: u8 = 0x34;
+pub const STRCLASS: u8 = 0x34;

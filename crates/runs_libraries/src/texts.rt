@@ -2,6 +2,7 @@
 
 use crate::print;
 use anyhow::{Result, bail};
+use mpw_elements::ReadError;
 use mpw_library::{Library, LibraryText};
 use mpw_records::{ReadFault, Record, Records};
 use mpw_samples::text_of_library;
@@ -9,12 +10,15 @@ use std::alloc::{AllocError, Global};
 
 type Outcome<'a> = std::result::Result<Record<'a>, ReadFault>;
 
-/// The fault of a text as it is printed, or `read`.
+/// The fault of a text as it is printed, or `read`, where its bytes are read again.
 fn outcome(alloc: Global, bytes: &[u8]) -> Result<String, AllocError> {
     let text = LibraryText::read(alloc, Vec::from_slice(alloc, bytes)?)?;
-    match text.library() {
+    match text.alone()?.library(alloc) {
         Ok(_) => String::from_str(alloc, "read"),
-        Err(ReadFault { code, offset }) => format!(in alloc; "{code} at {offset}"),
+        Err(ReadError::Fault(ReadFault { code, offset })) => {
+            format!(in alloc; "{code} at {offset}")
+        }
+        Err(ReadError::Memory) => Err(AllocError),
     }
 }
 
@@ -37,9 +41,9 @@ fn read(rt: &(impl Print + AllocGlobal), bytes: Vec<u8>, words: &[&str]) -> Resu
     if text.as_bytes().len() != size {
         bail!("a copy of the same size");
     }
-    match text.library() {
-        Ok(library) => print::library(rt, &library.copy()?),
-        Err(ReadFault { code, offset }) => Ok(println!(rt; "    {code} at {offset}")?),
+    match text.library(rt.alloc()) {
+        Ok(library) => print::library(rt, &library),
+        Err(fault) => tell_fault(rt, fault),
     }
 }
 
@@ -56,14 +60,24 @@ fn size(rt: &(impl Print + AllocGlobal), bytes: Vec<u8>, words: &[&str]) -> Resu
     let bytes = padded(bytes, words)?;
     let size = bytes.len();
     let text = LibraryText::read(rt.alloc(), bytes)?.copy()?;
-    match text.library() {
+    match text.library(rt.alloc()) {
         Ok(library) => {
             let structures = library.structures().len();
-            let elements = elements_of(library);
+            let elements = elements_of(&library);
             println!(rt; "    {size} bytes, {structures} structures, {elements} elements")?;
             Ok(())
         }
-        Err(ReadFault { code, offset }) => Ok(println!(rt; "    {code} at {offset}")?),
+        Err(fault) => tell_fault(rt, fault),
+    }
+}
+
+/// Prints the fault of a text.
+fn tell_fault(rt: &impl Print, fault: ReadError) -> Result<()> {
+    match fault {
+        ReadError::Fault(ReadFault { code, offset }) => {
+            Ok(println!(rt; "    {code} at {offset}")?)
+        }
+        ReadError::Memory => bail!("out of memory"),
     }
 }
 
