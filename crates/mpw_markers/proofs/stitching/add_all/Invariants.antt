@@ -1,0 +1,5 @@
+use Rattle.std.proofs.Common.{◌≡◌, ◌++◌, take}
+use Rattle.mpw_markers.proofs.stitching.add_all.Given as goal
+
+abbrev pub invariant-loop-marker : goal.invariant-loop-marker
+invariant-loop-marker l = l.all.items ≡ l.initial.all.items ++ take l.marker-index l.markers

@@ -1,0 +1,9 @@
+use Rattle.std.proofs.Common.{◌-◌, length}
+use Rattle.mpw_markers.proofs.Joins.{Joins}
+use Rattle.mpw_markers.proofs.stitching.joined.Given as goal
+
+abbrev pub invariant-loop-start : goal.invariant-loop-start
+invariant-loop-start l = Joins l.markers l.start l.book.items
+
+abbrev pub decreases-loop-start : goal.decreases-loop-start
+decreases-loop-start l = length l.markers - l.start

@@ -1,0 +1,43 @@
+-- Markers, their lines, rows and boxes.
+use Rattle.std.specs.Prelude.{◌≡◌, ℤ, ◌≤ℤ◌, ◌<ℤ◌, List, Contains}
+use Rattle.mpw_geom.specs.declared.plane.Box2.{Box2}
+use Rattle.mpw_edges.specs.declared.run.Axis.{Axis}
+use Rattle.mpw_edges.specs.declared.run.Axis.TheVariants.{V, H}
+use Rattle.mpw_markers.specs.declared.marker.Line.{Line}
+use Rattle.mpw_markers.specs.declared.marker.Key.{Key}
+use Rattle.mpw_markers.specs.declared.marker.Marker.{Marker}
+
+-- the line on which a marker lies
+abbrev pub line_of : Marker → Line
+line_of m = record { rule = m.rule; axis = m.axis; side = m.side; x1 = m.x1; x2 = m.x2 }
+
+-- the marker without the submissions that it meets
+abbrev pub key_of : Marker → Key
+key_of m = record { rule = m.rule; axis = m.axis; side = m.side; x1 = m.x1; x2 = m.x2; y0 = m.y0; y1 = m.y1 }
+
+abbrev pub line_of_key : Key → Line
+line_of_key k = record { rule = k.rule; axis = k.axis; side = k.side; x1 = k.x1; x2 = k.x2 }
+
+-- the marker has a row at all
+abbrev pub IsFilled : Marker → Type 0
+IsFilled m = m.y0 <ℤ m.y1
+
+-- the marker has the row: it lies on that line, and the row from y0 to before y1
+abbrev pub HasRow : Marker → Line → ℤ → Type 0
+HasRow m line j = (line_of m ≡ line) × (m.y0 ≤ℤ j) × (j <ℤ m.y1)
+
+-- some marker of the list has the row
+abbrev pub CoversRow : List Marker → Line → ℤ → Type 0
+CoversRow markers line j = (m : Marker) × Contains markers m × HasRow m line j
+
+-- the markers lie on one line, and the rows of the first within those of the second
+abbrev pub LiesIn : Marker → Marker → Type 0
+LiesIn m n = (line_of m ≡ line_of n) × (n.y0 ≤ℤ m.y0) × (m.y1 ≤ℤ n.y1)
+
+-- the box from (x1, y0) to (x2, y1); on axis H the coordinates are exchanged
+abbrev pub box_on : Axis → (x1 x2 y0 y1 : ℤ) → Box2
+box_on V x1 x2 y0 y1 = record { x0 = x1; y0 = y0; x1 = x2; y1 = y1 }
+box_on H x1 x2 y0 y1 = record { x0 = y0; y0 = x1; x1 = y1; y1 = x2 }
+
+abbrev pub box_of : Marker → Box2
+box_of m = box_on m.axis m.x1 m.x2 m.y0 m.y1

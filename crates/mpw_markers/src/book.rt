@@ -1,0 +1,106 @@
+//! The book of a run's markers.
+
+ghost use Rattle.std.specs.Prelude.{◌≡◌, ◌↔◌, ◌==◌, [], Some, length, IfOk, Contains};
+ghost use Rattle.std.specs.Option.{option_copied};
+ghost use Rattle.mpw_markers.specs.declared.marker.Marker.{Marker as MarkerValue};
+ghost use Rattle.mpw_markers.specs.Markers.{key_of};
+ghost use Rattle.mpw_markers.specs.Book.{IsBook};
+
+use crate::marker::{Key, Marker};
+use std::alloc::{AllocError, Global};
+use std::marker::Model;
+use std::sync::Arc;
+
+/// The markers of a run, which contracts see as a list in order: by the rule's place in the deck, axis `V` before
+/// `H`, side, `x1`, `x2` and `y0`. On a line no two overlap or touch. Copies share them.
+#[derive(Drop)]
+pub struct Book {
+    items: Option<Arc<Vec<Marker>>>,
+}
+
+impl Model for Book {
+    ghost use Rattle.std.specs.Prelude.{List, []};
+    ghost use Rattle.std.specs.Option.{option_map_or};
+    ghost use Rattle.mpw_markers.specs.declared.marker.Marker.{Marker};
+    ghost use Rattle.mpw_markers.specs.Book.{IsBook};
+
+    ghost Value = { List Marker };
+
+    ghost view = { λ b. option_map_or (λ items. items.value.items) b.items [] };
+
+    ghost invariant = { λ b. IsBook (option_map_or (λ items. items.value.items) b.items []) };
+}
+
+impl Book {
+    /// The book without markers. It takes no memory.
+    pub fn new() -> Book
+        ensures { result ≡ [] }
+    {
+        Book { items: None }
+    }
+
+    /// The book of these markers. One allocation.
+    ///
+    /// # Errors
+    /// Where there is no room for it.
+    pub(crate) fn from_vec(alloc: Global, markers: Vec<Marker>) -> Result<Book, AllocError>
+        requires { IsBook markers.items }
+        ensures { IfOk result (λ book. book ≡ markers.items) }
+    {
+        let items = Arc::new(alloc, markers)?;
+        Ok(Book { items: Some(items) })
+    }
+
+    /// The markers in order.
+    pub fn as_slice(&self) -> &[Marker]
+        ensures markers { result.now ≡ self.now }
+        ensures book { IsBook self.now }
+    {
+        match &self.items {
+            Some(items) => items.as_slice(),
+            None => &[],
+        }
+    }
+
+    /// How many markers there are.
+    pub fn len(&self) -> usize
+        ensures { result ≡ length self.now }
+    {
+        self.as_slice().len()
+    }
+
+    /// Whether there is no marker.
+    pub fn is_empty(&self) -> bool
+        ensures { result ≡ (length self.now == 0) }
+    {
+        self.as_slice().is_empty()
+    }
+
+    /// The marker of this key, where there is one. A binary search, which takes no memory.
+    pub fn find(&self, key: &Key) -> Option<&Marker>
+        ensures { (m : MarkerValue) →
+            (option_copied result ≡ Some m) ↔ (Contains self.now m × (key_of m ≡ key.now)) }
+    {
+        let markers = self.as_slice();
+        let place = key.place();
+        match markers.binary_search_by_key(&place, |marker| marker.key().place()) {
+            Ok(i) => Some(&markers[i]),
+            Err(_) => None,
+        }
+    }
+
+    /// The same book, in constant time and without further memory.
+    ///
+    /// # Errors
+    /// Where no more copies can be counted.
+    pub fn copy(&self) -> Result<Book, AllocError>
+        ensures { IfOk result (λ book. book ≡ self.now) }
+    {
+        match &self.items {
+            Some(items) => Ok(Book {
+                items: Some(items.clone()?),
+            }),
+            None => Ok(Book::new()),
+        }
+    }
+}

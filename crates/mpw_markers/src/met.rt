@@ -1,0 +1,94 @@
+//! The numbers of the submissions that a marker meets.
+
+ghost use Rattle.std.specs.Prelude.{◌≡◌, [], IfOk};
+ghost use Rattle.mpw_markers.specs.Met.{IsAscending};
+
+use std::alloc::{AllocError, Global};
+use std::marker::Model;
+use std::sync::Arc;
+
+/// Up to two numbers in the value; more are shared.
+#[derive(Drop)]
+enum Numbers {
+    Empty,
+    One([u32; 1]),
+    Two([u32; 2]),
+    Shared(Arc<Vec<u32>>),
+}
+
+/// Numbers of submissions, ascending and each once, which contracts see as that list. Copies share them; up to two
+/// take no memory at all.
+#[derive(Drop)]
+pub struct Met {
+    numbers: Numbers,
+}
+
+impl Model for Met {
+    ghost use Rattle.std.specs.Prelude.{List, ℕ};
+
+    ghost Value = { List ℕ };
+
+    ghost use Rattle.mpw_markers.specs.Met.{numbers_of, IsAscending};
+
+    ghost view = { λ m. numbers_of m.numbers };
+
+    ghost invariant = { λ m. IsAscending (numbers_of m.numbers) };
+}
+
+impl Met {
+    /// No number. It takes no memory.
+    pub fn none() -> Met
+        ensures { result ≡ [] }
+    {
+        Met {
+            numbers: Numbers::Empty,
+        }
+    }
+
+    /// These numbers: a copy of them, and one allocation more, where there are more than two.
+    ///
+    /// # Errors
+    /// Where there is no room for it.
+    pub fn of(alloc: Global, numbers: &[u32]) -> Result<Met, AllocError>
+        requires { IsAscending numbers.now }
+        ensures { IfOk result (λ met. met ≡ numbers.now) }
+    {
+        let numbers = match numbers {
+            [] => Numbers::Empty,
+            [a] => Numbers::One([*a]),
+            [a, b] => Numbers::Two([*a, *b]),
+            _ => Numbers::Shared(Arc::new(alloc, Vec::from_slice(alloc, numbers)?)?),
+        };
+        Ok(Met { numbers })
+    }
+
+    /// The numbers, ascending and each once.
+    pub fn as_slice(&self) -> &[u32]
+        ensures numbers { result.now ≡ self.now }
+        ensures ascending { IsAscending self.now }
+    {
+        match &self.numbers {
+            Numbers::Empty => &[],
+            Numbers::One(numbers) => numbers,
+            Numbers::Two(numbers) => numbers,
+            Numbers::Shared(numbers) => numbers.as_slice(),
+        }
+    }
+
+    /// The same numbers, in constant time and without further memory.
+    ///
+    /// # Errors
+    /// Where no more copies can be counted.
+    pub fn copy(&self) -> Result<Met, AllocError>
+        ensures same { IfOk result (λ met. met ≡ self.now) }
+        ensures ascending { IsAscending self.now }
+    {
+        let numbers = match &self.numbers {
+            Numbers::Empty => Numbers::Empty,
+            Numbers::One(numbers) => Numbers::One(*numbers),
+            Numbers::Two(numbers) => Numbers::Two(*numbers),
+            Numbers::Shared(numbers) => Numbers::Shared(numbers.clone()?),
+        };
+        Ok(Met { numbers })
+    }
+}

@@ -1,0 +1,54 @@
+//! Where markers stand in a book, by numbers that are in a book's order.
+
+ghost use Rattle.std.specs.Prelude.{◌≡◌};
+ghost use Rattle.mpw_markers.specs.Places.{axis_place, place_of};
+
+use crate::marker::Key;
+use mpw_edges::Axis;
+
+/// A line by numbers that are in the order of lines: axis 0 is `V`, and 1 is `H`.
+#[derive(Clone, Copy, Debug, PartialEq, Eq, PartialOrd, Ord)]
+pub(crate) struct LinePlace {
+    pub rule: u32,
+    pub axis: u8,
+    pub side: u8,
+    pub x1: i64,
+    pub x2: i64,
+}
+
+/// Where a marker stands in a book: its line and its rows.
+#[derive(Clone, Copy, Debug, PartialEq, Eq, PartialOrd, Ord)]
+pub(crate) struct Place {
+    pub line: LinePlace,
+    pub y0: i64,
+    pub y1: i64,
+}
+
+/// The axis' number in the order of lines.
+fn axis_place(axis: Axis) -> u8
+    ensures { result ≡ axis_place axis }
+{
+    match axis {
+        Axis::V => 0,
+        Axis::H => 1,
+    }
+}
+
+impl Key {
+    /// Where a marker of this key stands in a book.
+    pub(crate) fn place(&self) -> Place
+        ensures { result ≡ place_of self.now }
+    {
+        Place {
+            line: LinePlace {
+                rule: self.rule,
+                axis: axis_place(self.axis),
+                side: self.side,
+                x1: self.x1,
+                x2: self.x2,
+            },
+            y0: self.y0,
+            y1: self.y1,
+        }
+    }
+}

@@ -1,0 +1,196 @@
+//! The stitching of tiles' markers into one book.
+//!
+//! All markers are put in order by line and then by row, so that those of a run stand together. One pass then cuts
+//! the list into runs; each is one marker, whose submissions are those of the markers in it, sorted, each once.
+
+ghost use Rattle.std.specs.Prelude.{◌≡◌, ◌≤◌, ◌++◌, ◌<ℤ◌, ◌≤ℤ◌, ◌↔◌, ℕ, length, IfOk, OnOk, All, Contains, IsTrue, MatchBool};
+ghost use Rattle.std.specs.List.{flat_map};
+ghost use Rattle.std.specs.List.Sorted.{IsPermutation};
+ghost use Rattle.mpw_markers.specs.Met.{IsAscending};
+ghost use Rattle.mpw_markers.specs.Markers.{line_of, line_of_key, key_of, IsFilled};
+ghost use Rattle.mpw_markers.specs.Order.{AreInOrder};
+ghost use Rattle.mpw_markers.specs.Stitched.{IsJoined, IsStitched};
+ghost use Rattle.mpw_markers.specs.Runs.{lengthened, AreMetBy, IsFirstRun, AddsRun};
+
+use crate::book::Book;
+use crate::marker::{Key, Marker, TileMarkers};
+use crate::met::Met;
+use std::alloc::{AllocError, Global};
+
+impl Key {
+    /// Whether the marker lies on the line of this key.
+    fn is_on_line_of(&self, marker: &Marker) -> bool
+        ensures { IsTrue result ↔ (line_of_key self.now ≡ line_of marker.now) }
+    {
+        self.line() == marker.line()
+    }
+
+    /// Whether the marker goes on with the run of this key: it lies on the run's line, and begins at the run's end or
+    /// before.
+    fn reaches(&self, next: &Marker) -> bool
+        ensures { MatchBool result
+            ((line_of_key self.now ≡ line_of next.now) × (next.now.y0 ≤ℤ self.now.y1))
+            ((line_of_key self.now ≡ line_of next.now) → self.now.y1 <ℤ next.now.y0) }
+    {
+        self.is_on_line_of(next) && next.y0 <= self.y1
+    }
+
+    /// This run, lengthened to the end of the marker.
+    fn lengthened(&self, next: &Marker) -> Key
+        ensures { result ≡ lengthened self.now next.now }
+    {
+        Key {
+            rule: self.rule,
+            axis: self.axis,
+            side: self.side,
+            x1: self.x1,
+            x2: self.x2,
+            y0: self.y0,
+            y1: self.y1.max(next.y1),
+        }
+    }
+
+    /// The marker of this key that meets these submissions.
+    fn with(&self, met: Met) -> Marker
+        ensures key { key_of result ≡ self.now }
+        ensures met { result.met ≡ met }
+    {
+        Marker {
+            rule: self.rule,
+            axis: self.axis,
+            side: self.side,
+            x1: self.x1,
+            x2: self.x2,
+            y0: self.y0,
+            y1: self.y1,
+            met,
+        }
+    }
+}
+
+/// Adds copies of the markers.
+fn add_all(all: &mut Vec<Marker>, markers: &[Marker]) -> Result<(), AllocError>
+    ensures { OnOk result (all.new.items ≡ all.old.items ++ markers.now) }
+{
+    for marker in markers {
+        all.push(marker.copy()?)?;
+    }
+    Ok(())
+}
+
+/// The markers of all lists, one list after another.
+fn gathered(alloc: Global, lists: &[TileMarkers]) -> Result<Vec<Marker>, AllocError>
+    ensures markers { IfOk result (λ v. v.items ≡ flat_map (λ list. list) lists.now) }
+    ensures filled { IfOk result (λ v. All IsFilled v.items) }
+{
+    let mut all = Vec::new(alloc);
+    for list in lists {
+        add_all(&mut all, list.as_slice())?;
+    }
+    Ok(all)
+}
+
+/// The markers by line, and on a line by where they begin.
+fn in_order(markers: Vec<Marker>) -> Result<Vec<Marker>, AllocError>
+    ensures moved { IfOk result (λ v. IsPermutation markers.items v.items) }
+    ensures ordered { IfOk result (λ v. AreInOrder v.items) }
+{
+    let mut markers = markers;
+    markers.sort_by_key(|marker| marker.key().place())?;
+    Ok(markers)
+}
+
+/// How many markers make the run of the first one, and the run.
+fn first_run(markers: &[Marker]) -> (usize, Key)
+    requires some { 1 ≤ length markers.now }
+    requires filled { All IsFilled markers.now }
+    requires ordered { AreInOrder markers.now }
+    ensures { IsFirstRun markers.now result.0 result.1 }
+{
+    let mut run = markers[0].key();
+    for count in 1..markers.len() {
+        let marker = &markers[count];
+        if !run.reaches(marker) {
+            return (count, run);
+        }
+        run = run.lengthened(marker);
+    }
+    (markers.len(), run)
+}
+
+/// The numbers of all markers, one marker after another.
+fn all_numbers(alloc: Global, markers: &[Marker]) -> Result<Vec<u32>, AllocError>
+    ensures { IfOk result (λ v. v.items ≡ flat_map (λ marker. marker.met) markers.now) }
+{
+    let mut numbers = Vec::new(alloc);
+    for marker in markers {
+        numbers.extend_from_slice(marker.met.as_slice())?;
+    }
+    Ok(numbers)
+}
+
+/// Puts the numbers in order, each once.
+fn sort_each_once(numbers: &mut Vec<u32>)
+    ensures ascending { IsAscending numbers.new.items }
+    ensures same { (n : ℕ) → Contains numbers.new.items n ↔ Contains numbers.old.items n }
+{
+    numbers.sort_unstable();
+    numbers.dedup();
+}
+
+/// The submissions that some of the markers meets.
+fn met_by(alloc: Global, markers: &[Marker]) -> Result<Met, AllocError>
+    ensures { IfOk result (λ met. AreMetBy markers.now met) }
+{
+    if let [only] = markers {
+        return only.met.copy();
+    }
+    let mut numbers = all_numbers(alloc, markers)?;
+    sort_each_once(&mut numbers);
+    Met::of(alloc, numbers.as_slice())
+}
+
+/// Adds the marker of the first run, and tells how many markers make it.
+fn add_run(alloc: Global, book: &mut Vec<Marker>, markers: &[Marker]) -> Result<usize, AllocError>
+    requires some { 1 ≤ length markers.now }
+    requires filled { All IsFilled markers.now }
+    requires ordered { AreInOrder markers.now }
+    ensures { IfOk result (λ count. AddsRun markers.now count book.old.items book.new.items) }
+{
+    let (count, run) = first_run(markers);
+    let met = met_by(alloc, &markers[..count])?;
+    book.push(run.with(met))?;
+    Ok(count)
+}
+
+/// The markers of all runs, in order.
+fn joined(alloc: Global, markers: &[Marker]) -> Result<Vec<Marker>, AllocError>
+    requires filled { All IsFilled markers.now }
+    requires ordered { AreInOrder markers.now }
+    ensures { IfOk result (λ v. IsJoined (Contains markers.now) v.items) }
+{
+    let mut book = Vec::new(alloc);
+    let mut start = 0;
+    while start < markers.len() {
+        start += add_run(alloc, &mut book, &markers[start..])?;
+    }
+    Ok(book)
+}
+
+/// The book of the lists' markers: each maximal run of rows on a line that some list has is one marker, which
+/// meets the submissions of the markers within it. The lists may be in any order, and their markers may overlap.
+///
+/// For `n` markers and `k` numbers of submissions in all the cost is that of a sort of the markers and sorts of
+/// at most `k` numbers: `n log n + k log k`. The markers stand in memory three times, 64 bytes each, while they are
+/// sorted; the book takes what its runs take, and lists of more than two submissions.
+///
+/// # Errors
+/// Where there is no room.
+pub fn stitch(alloc: Global, lists: &[TileMarkers]) -> Result<Book, AllocError>
+    ensures { IfOk result (λ book. IsStitched lists.now book) }
+{
+    let all = gathered(alloc, lists)?;
+    let all = in_order(all)?;
+    let markers = joined(alloc, all.as_slice())?;
+    Book::from_vec(alloc, markers)
+}
