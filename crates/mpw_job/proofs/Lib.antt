@@ -1,0 +1,9 @@
+pub mod Tests
+pub mod Shapes
+pub mod Cores
+pub mod Made
+pub mod Same
+pub mod Areas
+pub mod Meeting
+pub mod Adding
+pub mod Edges

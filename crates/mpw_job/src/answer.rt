@@ -1,0 +1,148 @@
+//! Answers, each with its job.
+
+ghost use Rattle.std.specs.Prelude.{◌≡◌, IfOk, map};
+ghost use Rattle.mpw_job.specs.Jobs.{IsCutAnswer, IsTileAnswer};
+ghost use Rattle.mpw_job.specs.Carried.{job_of};
+
+use crate::find::found;
+use crate::job::{CutJob, Job, TileJob};
+use mpw_markers::TileMarkers;
+use mpw_tiles::{Windows, cut};
+use std::alloc::{AllocError, Global};
+use std::marker::Model;
+
+/// The windows of a snapshot, with the job of cutting it: contracts see both. The windows stand for the snapshot.
+#[derive(Drop)]
+pub struct CutAnswer {
+    job: CutJob,
+    windows: Windows,
+}
+
+impl Model for CutAnswer {
+    ghost use Rattle.mpw_job.specs.Jobs.{CutWindows, IsCutAnswer};
+
+    ghost Value = { CutWindows };
+
+    ghost view = { λ a. record { job = a.job; windows = a.windows } };
+
+    ghost invariant = { λ a. IsCutAnswer (record { job = a.job; windows = a.windows }) };
+}
+
+impl CutAnswer {
+    /// The job.
+    pub fn job(&self) -> &CutJob
+        ensures { result.now ≡ self.now.job }
+    {
+        &self.job
+    }
+
+    /// The windows, by tile.
+    pub fn windows(&self) -> &Windows
+        ensures { result.now ≡ self.now.windows }
+    {
+        &self.windows
+    }
+
+    /// The windows stand for the job's snapshot. A law: the function does nothing.
+    pub fn is_answer(&self)
+        ensures { IsCutAnswer self.now }
+    {
+        let _run = self.job.run;
+    }
+}
+
+/// The markers of a tile, with the job of finding them: contracts see both. The markers answer the job.
+#[derive(Drop)]
+pub struct TileAnswer {
+    job: TileJob,
+    markers: TileMarkers,
+}
+
+impl Model for TileAnswer {
+    ghost use Rattle.mpw_job.specs.Jobs.{FoundMarkers, IsTileAnswer};
+
+    ghost Value = { FoundMarkers };
+
+    ghost view = { λ a. record { job = a.job; markers = a.markers } };
+
+    ghost invariant = { λ a. IsTileAnswer (record { job = a.job; markers = a.markers }) };
+}
+
+impl TileAnswer {
+    /// The job.
+    pub fn job(&self) -> &TileJob
+        ensures { result.now ≡ self.now.job }
+    {
+        &self.job
+    }
+
+    /// The markers, in order.
+    pub fn markers(&self) -> &TileMarkers
+        ensures { result.now ≡ self.now.markers }
+    {
+        &self.markers
+    }
+
+    /// The markers answer the job. A law: the function does nothing.
+    pub fn is_answer(&self)
+        ensures { IsTileAnswer self.now }
+    {
+        let _job = &self.job;
+    }
+}
+
+/// What was done, with the job.
+#[derive(Drop)]
+pub enum Answer {
+    Cut(CutAnswer),
+    Tile(TileAnswer),
+}
+
+/// The answer of cutting a snapshot.
+fn cut_answer(alloc: Global, job: &CutJob) -> Result<CutAnswer, AllocError>
+    ensures { IfOk result (λ a. a.job ≡ job.now) }
+{
+    let windows = cut(alloc, &job.snapshot)?;
+    let job = job.copy(alloc)?;
+    Ok(CutAnswer { job, windows })
+}
+
+/// The answer of a tile.
+fn tile_answer(alloc: Global, job: &TileJob) -> Result<TileAnswer, AllocError>
+    ensures { IfOk result (λ a. a.job ≡ job.now) }
+{
+    let markers = found(alloc, job)?;
+    let markers = TileMarkers::from_vec(alloc, markers)?;
+    let job = job.copy()?;
+    Ok(TileAnswer { job, markers })
+}
+
+/// Does the job. The answer carries it, and its type keeps that it is right.
+///
+/// A cut costs what [`cut`] does. A tile costs for each rule two passes over the window and what [`mpw_checks::pieces`]
+/// takes for the rectangles of its layers, and for each run found a pass over the window.
+///
+/// # Errors
+/// Where there is no memory.
+pub fn do_job(alloc: Global, job: &Job) -> Result<Answer, AllocError>
+    ensures { IfOk result (λ a. job_of a ≡ job.now) }
+{
+    match job {
+        Job::Cut(job) => Ok(Answer::Cut(cut_answer(alloc, job)?)),
+        Job::Tile(job) => Ok(Answer::Tile(tile_answer(alloc, job)?)),
+    }
+}
+
+/// Does the jobs, one after another. The answers stand in the order of the jobs, and each carries its job.
+///
+/// # Errors
+/// Where there is no memory.
+pub fn work_all(alloc: Global, jobs: &[Job]) -> Result<Vec<Answer>, AllocError>
+    ensures { IfOk result (λ v. map job_of v.items ≡ jobs.now) }
+{
+    let mut answers = Vec::new(alloc);
+    for job in jobs {
+        answers.push(do_job(alloc, job)?)?;
+    }
+    Ok(answers)
+}

@@ -1,0 +1,21 @@
+//! Jobs of a run: cutting a snapshot into windows, and finding the markers of a tile.
+//!
+//! A job carries all that it needs, so anybody may work it, anywhere. An answer carries its job, and its type keeps
+//! that the answer is right: the windows of a [`CutAnswer`] stand for its snapshot, and the markers of a
+//! [`TileAnswer`] are those of its core. [`answers_make_the_layout`] says what comes of it: the book stitched from the
+//! answers of all tiles has just the markers of the flat layout.
+#![tactic(auto)]
+
+mod answer;
+mod find;
+mod job;
+mod laws;
+mod layers;
+mod met;
+
+pub use answer::{Answer, CutAnswer, TileAnswer, do_job, work_all};
+pub use job::{CutJob, Gate, Job, TileJob};
+pub use laws::{
+    answers_make_the_layout, cores_lie_in_plane, each_marker_meets_some, no_shapes_no_markers,
+    tests_tell_shown,
+};
