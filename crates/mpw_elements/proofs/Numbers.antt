@@ -8,14 +8,12 @@ use Rattle.std.proofs.lemmas.Int.{ints, unsigned_abs-mul}
 use Rattle.std.proofs.lemmas.List.{take_more}
 use Rattle.std.proofs.lemmas.Bool.Decides.{eqb_tells, nat_tests}
 use Rattle.byteorder.specs.Endian.{big_number}
-use Rattle.std.proofs.Common.{leb, Ok, Err, All}
+use Rattle.std.proofs.Common.{leb, Ok, All}
 use Rattle.std.specs.Bool.{Decides}
 use Rattle.std.specs.List.{list_all}
 use Rattle.std.proofs.lemmas.Bool.Decides.{leb_tells, Decides-and, Decides-by_and}
 use Rattle.mpw_geom.specs.Name.{IsName, IsVisible}
-use Rattle.mpw_records.specs.declared.fault.Code.TheVariants.{BadName}
 use Rattle.mpw_records.specs.Records.{RawRecord}
-use Rattle.mpw_elements.specs.Reading.{fault_at}
 use Rattle.mpw_elements.specs.Values.{scaled, without_nuls, is_visible, is_name, name_of}
 
 narrow : (n : ℕ) → unsigned_abs (cast_signed w32 n) ≤ 2 ^ 31

@@ -1,25 +1,23 @@
 -- What is read satisfies what elements do.
-use Rattle.std.proofs.Common.{◌≡◌, ℕ, zero, suc, ◌+◌, ◌-◌, ◌*◌, ◌/◌, ◌%◌, ◌^◌, ◌<◌, ◌≤◌, Bool, true, false, cond, not, ◌&&◌, ltb, leb, eqb, ℤ, pos, negsuc, neg_ℤ, List, [], ◌∷◌, length, take, drop, map, Ok, Err, refl, sym, ap, subst, ◌∙◌, inl, inr, arith, length-take}
+use Rattle.std.proofs.Common.{◌≡◌, ℕ, zero, suc, ◌+◌, ◌-◌, ◌*◌, ◌/◌, ◌%◌, ◌^◌, ◌<◌, ◌≤◌, Bool, true, false, cond, not, ◌&&◌, ltb, leb, eqb, ℤ, pos, negsuc, List, [], ◌∷◌, length, take, drop, map, Ok, Err, refl, sym, ap, subst, ◌∙◌, inl, inr, arith, length-take}
 use Rattle.std.specs.Prelude.{unsigned_abs, int_div}
 use Rattle.std.specs.List.{dedup, dedup_from, range_with_len, AllByRecursion}
 use Rattle.std.specs.Ordering.{int_eq}
 use Rattle.std.proofs.lemmas.Cmp.{int_eq_equiv}
-use Rattle.byteorder.specs.Endian.{big_number}
 use Rattle.std.proofs.lemmas.Bool.{ltb-false, eqb-true}
 use Rattle.std.proofs.lemmas.Bool.Decides.{leb_tells}
 use mir.Syntax.{w64}
 use mir.Val.{SFits, of_z, to_z}
 use Rattle.std.proofs.lemmas.Int.{ints, to_z-of_z, fits_signed_from_abs}
-use Rattle.std.proofs.lemmas.Nat.{div_below}
 use Rattle.std.proofs.lemmas.List.Elements.{All-from_recursion}
 use Rattle.std.proofs.lemmas.List.FromFn.{length-map-range_with_len}
 use Rattle.mpw_geom.specs.declared.plane.Point.{Point}
-use Rattle.mpw_records.specs.declared.fault.Code.TheVariants.{NotManhattan, PointPath, OddWidth, Columns}
+use Rattle.mpw_records.specs.declared.fault.Code.TheVariants.{NotManhattan, PointPath, OddWidth}
 use Rattle.mpw_records.specs.declared.fault.ReadFault.{ReadFault}
 use Rattle.mpw_records.specs.Records.{RawRecord}
 use Rattle.mpw_elements.specs.Element.{IsWithinReach, IsPointWithinReach, same_point, is_manhattan_step, is_segment, each_step, closed, IsRing, IsLine, IsWidth, IsCount}
 use Rattle.mpw_elements.specs.Reading.{fault_at}
-use Rattle.mpw_elements.specs.Values.{scaled, IsNear, point_at, points_of, is_closing, without_closing, corners_of, centre_of, width_of, lengthening, no_point, is_count, counts_of}
+use Rattle.mpw_elements.specs.Values.{scaled, IsNear, point_at, points_of, is_closing, without_closing, corners_of, centre_of, width_of, no_point, is_count}
 use Rattle.mpw_elements.proofs.Numbers.{scaled_bound}
 
 pub near_reach : (z : ℤ) → unsigned_abs z < 2 ^ 47 → IsWithinReach z

@@ -1,6 +1,6 @@
 //! The elements that have a shape or place one.
 
-ghost use Rattle.std.specs.Prelude.{◌≡◌, IfOk};
+ghost use Rattle.std.specs.Prelude.{◌≡◌, ◌↔◌, IfOk, IsTrue};
 
 use crate::points::Points;
 use mpw_geom::{Layer, Name, Orient, Point};
@@ -62,6 +62,14 @@ impl Boundary {
         let points = self.points.copy()?;
         Ok(Boundary { layer, points })
     }
+
+    /// Whether the boundaries have the same layer and the same points, in order. Linear in the points, up to the first
+    /// difference; it takes no memory.
+    pub fn is_same(&self, other: &Boundary) -> bool
+        ensures { IsTrue result ↔ (self.now ≡ other.now) }
+    {
+        self.layer == other.layer && self.points.is_same(&other.points)
+    }
 }
 
 impl Path {
@@ -76,6 +84,18 @@ impl Path {
             end: self.end,
             points: self.points.copy()?,
         })
+    }
+
+    /// Whether the paths have the same layer, width, ends and points, in order. Linear in the points, up to the first
+    /// difference; it takes no memory.
+    pub fn is_same(&self, other: &Path) -> bool
+        ensures { IsTrue result ↔ (self.now ≡ other.now) }
+    {
+        self.layer == other.layer
+            && self.width == other.width
+            && self.begin == other.begin
+            && self.end == other.end
+            && self.points.is_same(&other.points)
     }
 }
 
@@ -94,6 +114,30 @@ impl Reference {
             row_step: self.row_step,
         })
     }
+
+    /// Whether the references place the structure of the same name, turned alike and to the same origin.
+    fn is_placed_alike(&self, other: &Reference) -> bool
+        ensures { IsTrue result ↔ ((self.now.name ≡ other.now.name) × (self.now.orient ≡ other.now.orient) × (self.now.origin ≡ other.now.origin)) }
+    {
+        self.name == other.name && self.orient == other.orient && self.origin == other.origin
+    }
+
+    /// Whether the references have as many columns and rows, with the same steps.
+    fn has_same_array(&self, other: &Reference) -> bool
+        ensures { IsTrue result ↔ ((self.now.columns ≡ other.now.columns) × (self.now.rows ≡ other.now.rows) × (self.now.column_step ≡ other.now.column_step) × (self.now.row_step ≡ other.now.row_step)) }
+    {
+        self.columns == other.columns
+            && self.rows == other.rows
+            && self.column_step == other.column_step
+            && self.row_step == other.row_step
+    }
+
+    /// Whether the references place the structure of the same name in the same way. It takes no memory.
+    pub fn is_same(&self, other: &Reference) -> bool
+        ensures { IsTrue result ↔ (self.now ≡ other.now) }
+    {
+        self.is_placed_alike(other) & self.has_same_array(other)
+    }
 }
 
 impl Element {
@@ -105,6 +149,18 @@ impl Element {
             Element::Boundary(boundary) => Ok(Element::Boundary(boundary.copy()?)),
             Element::Path(path) => Ok(Element::Path(path.copy()?)),
             Element::Reference(reference) => Ok(Element::Reference(reference.copy()?)),
+        }
+    }
+
+    /// Whether the elements are the same. Linear in the points, up to the first difference; it takes no memory.
+    pub fn is_same(&self, other: &Element) -> bool
+        ensures { IsTrue result ↔ (self.now ≡ other.now) }
+    {
+        match (self, other) {
+            (Element::Boundary(a), Element::Boundary(b)) => a.is_same(b),
+            (Element::Path(a), Element::Path(b)) => a.is_same(b),
+            (Element::Reference(a), Element::Reference(b)) => a.is_same(b),
+            _ => false,
         }
     }
 }

@@ -1,6 +1,6 @@
 //! A list of points, which contracts see as a list.
 
-ghost use Rattle.std.specs.Prelude.{◌≡◌, IfOk};
+ghost use Rattle.std.specs.Prelude.{◌≡◌, ◌↔◌, IfOk, IsTrue};
 
 use mpw_geom::Point;
 use std::alloc::AllocError;
@@ -51,4 +51,26 @@ impl Points {
             items: self.items.clone()?,
         })
     }
+
+    /// Whether the lists have the same points, in order. It stops at the first difference, and takes no memory.
+    pub fn is_same(&self, other: &Points) -> bool
+        ensures { IsTrue result ↔ (self.now ≡ other.now) }
+    {
+        are_same(&self.items, &other.items)
+    }
+}
+
+/// Whether the points are the same, in order.
+fn are_same(first: &[Point], second: &[Point]) -> bool
+    ensures { IsTrue result ↔ (first.now ≡ second.now) }
+{
+    if first.len() != second.len() {
+        return false;
+    }
+    for i in 0..first.len() {
+        if first[i] != second[i] {
+            return false;
+        }
+    }
+    true
 }

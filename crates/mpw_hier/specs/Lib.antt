@@ -17,3 +17,4 @@ pub mod SizeParts
 pub mod Reach
 pub mod Shelved
 pub mod Holding
+pub mod Named

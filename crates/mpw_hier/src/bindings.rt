@@ -1,6 +1,6 @@
 //! Names outside a library, and the submissions to which they are bound.
 
-ghost use Rattle.std.specs.Prelude.{◌≡◌, IfOk};
+ghost use Rattle.std.specs.Prelude.{◌≡◌, ◌↔◌, IfOk, IsTrue};
 
 use mpw_geom::Name;
 use std::alloc::{AllocError, Global};
@@ -12,6 +12,15 @@ use std::sync::Arc;
 pub struct Binding {
     pub name: Name,
     pub submission: u32,
+}
+
+impl Binding {
+    /// Whether the bindings are of the same name, and to the same submission.
+    pub fn is_same(&self, other: &Binding) -> bool
+        ensures { IsTrue result ↔ (self.now ≡ other.now) }
+    {
+        self.submission == other.submission && self.name == other.name
+    }
 }
 
 /// Bindings in order, which contracts see as that list. Copies share them.
@@ -57,4 +66,26 @@ impl Bindings {
             items: self.items.clone()?,
         })
     }
+
+    /// Whether the lists have the same bindings, in order, by value. It stops at the first difference, and takes no memory.
+    pub fn is_same(&self, other: &Bindings) -> bool
+        ensures { IsTrue result ↔ (self.now ≡ other.now) }
+    {
+        are_same(self.as_slice(), other.as_slice())
+    }
+}
+
+/// Whether the bindings are the same, in order.
+fn are_same(first: &[Binding], second: &[Binding]) -> bool
+    ensures { IsTrue result ↔ (first.now ≡ second.now) }
+{
+    if first.len() != second.len() {
+        return false;
+    }
+    for i in 0..first.len() {
+        if !first[i].is_same(&second[i]) {
+            return false;
+        }
+    }
+    true
 }

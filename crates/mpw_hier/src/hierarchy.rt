@@ -18,9 +18,9 @@ use crate::bindings::Binding;
 use crate::fault::HierFault;
 use crate::node::{Child, Node, Target};
 use crate::outline::Outline;
-use crate::shelf::Shelf;
 use crate::size::{Size, size_of};
 use crate::submission::Submission;
+use crate::table::Table;
 use mpw_elements::Element;
 use mpw_geom::Name;
 use std::alloc::{AllocError, Global};
@@ -72,7 +72,7 @@ struct Parts {
 /// The nodes of a submission so far.
 #[derive(Drop)]
 struct Hierarchy<'a> {
-    shelf: &'a Shelf,
+    shelf: &'a Table,
     submission: &'a Submission,
     bound: BTreeMap<Name, u32>,
     /// The number of the node of each structure of the library.
@@ -84,7 +84,7 @@ impl<'a> Hierarchy<'a> {
     /// The submission without nodes.
     fn new(
         alloc: Global,
-        shelf: &'a Shelf,
+        shelf: &'a Table,
         submission: &'a Submission,
     ) -> Result<Hierarchy<'a>, AllocError>
         requires library { IsLibrary submission.now.library }
@@ -228,7 +228,7 @@ fn nodes_upto(
 /// `Extent` where a structure reaches beyond 2^30 nm in its own coordinates, or want of memory.
 pub fn nodes_of(
     alloc: Global,
-    shelf: &Shelf,
+    shelf: &Table,
     submission: &Submission,
     outline: &Outline,
 ) -> Result<Vec<Node>, HierFault>

@@ -1,6 +1,12 @@
 //! Laws of the definitions alone. Each function has an empty body: its contract is the law.
 
 ghost use Rattle.mpw_hier.specs.Reach.{CyclesAreFound, NamesOutsideAreFound, ExternalsAreOne, FarExtentsAreFound};
+ghost use Rattle.std.specs.Prelude.{◌≡◌, ℕ, List, length};
+ghost use Rattle.mpw_elements.specs.declared.element.Reference.{Reference};
+ghost use Rattle.mpw_library.specs.declared.structures.Structure.{Structure};
+ghost use Rattle.mpw_hier.specs.declared.submission.Submission.{Submission};
+ghost use Rattle.mpw_hier.specs.Values.{flats};
+ghost use Rattle.mpw_hier.specs.Named.{OwnNamesAreShown, OuterNamesAreShown, LastNodesAreTops, OwnNamesAreListed, OuterNamesAreListed, TopsAreListed};
 ghost use Rattle.mpw_hier.specs.Holding.{ExtentsAreOrdered, ExtentsHoldItems, ExtentsAreLeast, ExtentsAreJoined, ExtentsArePlaced};
 ghost use Rattle.mpw_hier.specs.Shelved.{PresentAreOfTheirCell, LastIsPresent, ShapesAreOfEarlier, ShelvesAreLimited, EarlierStay};
 
@@ -35,4 +41,21 @@ pub fn extents_are_least_boxes()
     ensures least { ExtentsAreLeast }
     ensures joined { ExtentsAreJoined }
     ensures placed { ExtentsArePlaced }
+{}
+
+/// A name of a submission's library shows what its structure does from the names to which it refers, and its node has the size
+/// of that; a name outside shows what the top of its submission does. The last node is that of the top. There is a flat list for
+/// each submission.
+pub fn names_show_their_targets()
+    ensures own { OwnNamesAreShown }
+    ensures outer { OuterNamesAreShown }
+    ensures last { LastNodesAreTops }
+    ensures many { (ss : List Submission) → length (flats ss) ≡ length ss }
+{}
+
+/// The same of lists of any kind, to which each structure adds its own, and each reference what it makes of its target's list.
+pub fn names_list_their_targets<W>()
+    ensures own { (own : ℕ → Structure → List W) (placed : Reference → List W → List W) → OwnNamesAreListed own placed }
+    ensures outer { (own : ℕ → Structure → List W) (placed : Reference → List W → List W) → OuterNamesAreListed own placed }
+    ensures tops { (own : ℕ → Structure → List W) (placed : Reference → List W → List W) → TopsAreListed own placed }
 {}

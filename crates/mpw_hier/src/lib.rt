@@ -25,15 +25,16 @@ mod size_array;
 mod size_box;
 mod size_shape;
 mod submission;
+mod table;
 
 pub use bindings::{Binding, Bindings};
 pub use fault::HierFault;
 pub use laws::{
-    earlier_submissions_stay, extents_are_least_boxes, reaching_is_decided,
-    shelves_have_their_numbers,
+    earlier_submissions_stay, extents_are_least_boxes, names_list_their_targets,
+    names_show_their_targets, reaching_is_decided, shelves_have_their_numbers,
 };
 pub use node::{Child, Node, Nodes, Target};
-pub use outline::{Outline, externals};
+pub use outline::Outline;
 pub use shelf::Shelf;
 pub use size::Size;
 pub use size_box::is_box_near;

@@ -2,7 +2,7 @@
 
 ghost use Rattle.std.specs.Prelude.{◌≡◌, ◌↔◌, None, Err, IfOk, IfErr};
 ghost use Rattle.mpw_library.specs.Places.{place_of};
-ghost use Rattle.mpw_hier.specs.Outside.{AreExternals, IsOfExternals};
+ghost use Rattle.mpw_hier.specs.Outside.{IsOfExternals};
 ghost use Rattle.mpw_hier.specs.Outline.{IsOutline};
 
 use crate::fault::HierFault;
@@ -51,17 +51,4 @@ impl Outline {
             order,
         })
     }
-}
-
-/// The names outside the library that the top shows, in order of name, each once.
-///
-/// # Errors
-/// As those of [`Outline::new`].
-pub fn externals(alloc: Global, library: &Library, top: &Name) -> Result<Names, HierFault>
-    ensures ok { IfOk result (AreExternals library.now top.now) }
-    ensures no_top { (result ≡ Err HierFault.NoTop) ↔ (place_of library.now top.now ≡ None) }
-    ensures faults { IfErr result (IsOfExternals library.now top.now) }
-{
-    let outline = Outline::new(alloc, library, top)?;
-    Ok(outline.names)
 }

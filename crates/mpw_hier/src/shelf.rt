@@ -1,73 +1,52 @@
-//! The shelf of submissions.
+//! The shelf of submissions: a table that copies share. A change makes a new one.
 
 ghost use Rattle.mpw_geom.specs.Names.{by_name};
-ghost use Rattle.std.specs.Prelude.{◌≡◌, ◌+◌, ◌<◌, ◌≤◌, ◌^◌, ◌++◌, true, ◌∷◌, ℕ, [], length, map, Err, OnOk, OnErr, IfOk, IfErr, IfSome, IfNone, Some, None, option_copied, slice_get};
-ghost use Rattle.mpw_hier.specs.Shelf.{present, versions, bound_to, IsOfBinding};
-ghost use Rattle.mpw_hier.specs.Limits.{IsBound, KeepsLimits, IsRefused, IsSubmitted, IsShelf, numbered, has_room_for};
+ghost use Rattle.std.specs.Prelude.{◌≡◌, ◌<◌, ◌≤◌, ◌^◌, ◌++◌, ◌↔◌, IsTrue, true, ◌∷◌, [], length, map, Err, OnOk, OnErr, IfOk, IfErr, IfSome, IfNone, Some, None, option_copied, slice_get};
+ghost use Rattle.mpw_hier.specs.Shelf.{present, bound_to, IsOfBinding};
+ghost use Rattle.mpw_hier.specs.Limits.{KeepsLimits, IsRefused, IsShelf, numbered};
 ghost use Rattle.mpw_library.specs.Library.{IsLibrary};
-ghost use Rattle.mpw_hier.specs.Nodes.{AreNodes, AreNodesOf};
+ghost use Rattle.mpw_hier.specs.Nodes.{AreNodes};
 ghost use Rattle.mpw_hier.specs.Outline.{IsOutline};
 ghost use Rattle.mpw_hier.specs.Sizes.{IsSizeOf};
 ghost use Rattle.mpw_hier.specs.Boxes.{is_box_near};
-ghost use Rattle.mpw_hier.specs.Values.{flat, flats, count, height, heights, extent};
+ghost use Rattle.mpw_hier.specs.Values.{flat, count, height, extent};
 
 use crate::bindings::{Binding, Bindings};
 use crate::fault::HierFault;
-use crate::hierarchy::nodes_of;
-use crate::node::{Node, Nodes};
+use crate::node::Node;
 use crate::outline::Outline;
 use crate::size::Size;
 use crate::submission::Submission;
+use crate::table::Table;
 use mpw_geom::{Box2, Name, Names};
 use std::alloc::{AllocError, Global};
-use std::collections::BTreeMap;
 use std::marker::Model;
-
-/// The most flat shapes of a submission.
-const MOST_SHAPES: u32 = 1 << 20;
-
-/// The most levels of a submission.
-const MOST_LEVELS: u32 = 64;
-
-/// The most submissions.
-const MOST_SUBMISSIONS: usize = 4096;
-
-/// The most cells that have a submission.
-const MOST_CELLS: usize = 1024;
+use std::sync::Arc;
 
 /// Submissions by number, counted from 0, which contracts see as their list. The present one of a
-/// cell is found in logarithmic time.
+/// cell is found in logarithmic time. Copies share them.
 #[derive(Drop)]
 pub struct Shelf {
-    submissions: Vec<Submission>,
-    nodes: Vec<Nodes>,
-    present: BTreeMap<Name, u32>,
+    /// None without submissions.
+    table: Option<Arc<Table>>,
 }
 
 impl Model for Shelf {
-    ghost use Rattle.std.specs.Prelude.{List};
+    ghost use Rattle.std.specs.Prelude.{List, []};
+    ghost use Rattle.std.specs.Option.{option_map_or};
     ghost use Rattle.mpw_hier.specs.declared.submission.Submission.{Submission};
 
     ghost Value = { List Submission };
 
-    ghost use Rattle.mpw_hier.specs.Indexed.{IsShelved};
-
-    ghost view = { λ s. s.submissions.items };
-
-    ghost invariant = { λ s. IsShelved s.present s.nodes.items s.submissions.items };
+    ghost view = { λ s. option_map_or (λ table. table.value) s.table [] };
 }
 
 impl Shelf {
     /// The shelf without submissions. Takes no memory.
-    #[tactic(auto, unfolding(crate::specs::Shelf::present))]
-    pub fn new(alloc: Global) -> Shelf
+    pub fn new(_alloc: Global) -> Shelf
         ensures { result ≡ [] }
     {
-        Shelf {
-            submissions: Vec::new(alloc),
-            nodes: Vec::new(alloc),
-            present: BTreeMap::new(alloc),
-        }
+        Shelf { table: None }
     }
 
     /// Every submission was read, is bound to the present ones of its time, keeps the limits and has
@@ -75,37 +54,60 @@ impl Shelf {
     pub fn is_shelf(&self)
         ensures { IsShelf self.now }
     {
-        let _submissions = &self.submissions;
+        if let Some(table) = &self.table {
+            table.is_shelf();
+        }
     }
 
-    /// The same shelf. Linear in the number of submissions, which share what they hold.
+    /// The same shelf, in constant time and without further memory.
     ///
     /// # Errors
-    /// Want of memory.
-    pub fn copy(&self, alloc: Global) -> Result<Shelf, AllocError>
+    /// Where no more copies can be counted.
+    pub fn copy(&self, _alloc: Global) -> Result<Shelf, AllocError>
         ensures { IfOk result (λ shelf. shelf ≡ self.now) }
     {
-        let mut shelf = Shelf::new(alloc);
-        for number in 0..self.submissions.len() {
-            let submission = self.submissions[number].copy()?;
-            let nodes = self.nodes[number].copy()?;
-            shelf.append(submission, nodes)?;
+        match &self.table {
+            Some(table) => Ok(Shelf {
+                table: Some(table.clone()?),
+            }),
+            None => Ok(Shelf { table: None }),
         }
-        Ok(shelf)
+    }
+
+    /// The submissions by number, counted from 0. Takes no memory.
+    pub fn submissions(&self) -> &[Submission]
+        ensures { result.now ≡ self.now }
+    {
+        match &self.table {
+            Some(table) => table.submissions(),
+            None => &[],
+        }
+    }
+
+    /// Whether the shelves have the same submissions, in order, by value. Linear in what the submissions hold, each with its
+    /// library, up to the first difference; it takes no memory.
+    pub fn is_same(&self, other: &Shelf) -> bool
+        ensures { IsTrue result ↔ (self.now ≡ other.now) }
+    {
+        are_same(self.submissions(), other.submissions())
     }
 
     /// The number of the present submission of a cell, in logarithmic time. Takes no memory.
+    #[tactic(auto, unfolding(crate::specs::Shelf::present))]
     pub fn present(&self, cell: &Name) -> Option<u32>
         ensures { result ≡ present self.now cell.now }
     {
-        self.present.get(cell).copied()
+        match &self.table {
+            Some(table) => table.present(cell),
+            None => None,
+        }
     }
 
     /// The submission of a number. Takes no memory.
     pub fn get(&self, number: u32) -> Option<&Submission>
         ensures { option_copied result ≡ slice_get self.now number }
     {
-        self.submissions.get(number as usize)
+        self.submissions().get(number as usize)
     }
 
     /// The cells that have a submission, in the order of the bytes of their names. A sort of the
@@ -116,7 +118,7 @@ impl Shelf {
     pub fn cells(&self, alloc: Global) -> Result<Names, AllocError>
         ensures { IfOk result (λ cells. cells ≡ by_name (map (λ s. s.cell) self.now)) }
     {
-        let mut cells = cells_of(alloc, &self.submissions)?;
+        let mut cells = cells_of(alloc, self.submissions())?;
         cells.sort()?;
         Ok(cells)
     }
@@ -127,19 +129,23 @@ impl Shelf {
         ensures some { IfSome result (λ nodes. AreNodes self.now number nodes.now) }
         ensures none { IfNone result (slice_get self.now number ≡ None) }
     {
-        let nodes = self.nodes.get(number as usize)?;
-        Some(nodes.as_slice())
+        match &self.table {
+            Some(table) => table.nodes(number),
+            None => None,
+        }
     }
 
     /// How much the submission of a number shows. Takes no memory.
-    pub(crate) fn size(&self, number: u32) -> Option<Size>
+    fn size(&self, number: u32) -> Option<Size>
         ensures some { IfSome result (IsSizeOf (flat self.now number) (height self.now number)) }
         ensures few { IfSome result (λ size. count self.now number ≤ 2 ^ 20) }
         ensures low { IfSome result (λ size. height self.now number ≤ 64) }
         ensures none { IfNone result (slice_get self.now number ≡ None) }
     {
-        let nodes = self.nodes(number)?;
-        Some(nodes[nodes.len() - 1].size)
+        match &self.table {
+            Some(table) => table.size(number),
+            None => None,
+        }
     }
 
     /// The number of flat shapes of a submission, 0 to 2^20; 0 where there is none of that number.
@@ -192,46 +198,21 @@ impl Shelf {
         Ok(Bindings::from_vec(alloc, bindings)?)
     }
 
-    /// The version that the next submission of a cell gets, counted from 1.
-    fn next_version(&self, cell: &Name) -> u32
-        ensures { result ≡ versions self.now cell.now + 1 }
+    /// A table of the same submissions.
+    fn table(&self, alloc: Global) -> Result<Table, AllocError>
+        ensures { IfOk result (λ table. table ≡ self.now) }
     {
-        match self.present(cell) {
-            Some(number) => self.submissions[number as usize].version + 1,
-            None => 1,
+        match &self.table {
+            Some(table) => table.copy(alloc),
+            None => Ok(Table::new(alloc)),
         }
     }
 
-    /// Whether a submission of that cell may come: at most 4096 submissions and 1024 cells.
-    fn has_room(&self, cell: &Name) -> bool
-        ensures { result ≡ has_room_for self.now cell.now }
-    {
-        self.submissions.len() < MOST_SUBMISSIONS
-            && (self.present(cell).is_some() || self.present.len() < MOST_CELLS)
-    }
-
-    /// Adds a submission with its nodes and its version.
-    fn append(&mut self, submission: Submission, nodes: Nodes) -> Result<u32, AllocError>
-        requires nodes { AreNodesOf (flats self.old) (heights self.old) submission nodes }
-        requires submitted { IsSubmitted self.old submission }
-        ensures ok { OnOk result (self.new ≡ self.old ++ submission ∷ []) }
-        ensures number { IfOk result (λ number. number ≡ length self.old) }
-        ensures err { OnErr result (self.new ≡ self.old) }
-    {
-        self.submissions.reserve(1)?;
-        self.nodes.reserve(1)?;
-        let cell = submission.cell.copy()?;
-        let number = self.submissions.len() as u32;
-        self.present.insert(cell, number)?;
-        self.submissions.push(submission)?;
-        self.nodes.push(nodes)?;
-        Ok(number)
-    }
-
     /// Puts a submission on the shelf, with the next version of its cell. The result is its number. The outline is that of
-    /// its library and top, and its bindings are those of the outline's names.
+    /// its library and top, and its bindings are those of the outline's names. Copies of the shelf stay as they were.
     ///
-    /// Linear in the library, with a search for each name, however deep its structures are.
+    /// Linear in the number of submissions, which share what they hold, and in the library, with a search for each name,
+    /// however deep its structures are.
     ///
     /// # Errors
     /// In this order: `Extent` where a structure that the top reaches has an extent beyond -2^30 to
@@ -253,38 +234,10 @@ impl Shelf {
         ensures err { OnErr result (self.new ≡ self.old) }
         ensures faults { IfErr result (IsRefused self.old submission) }
     {
-        let mut submission = submission;
-        submission.version = self.next_version(&submission.cell);
-        let nodes = nodes_of(alloc, self, &submission, outline)?;
-        let size = nodes[nodes.len() - 1].size;
-        if size.count > MOST_SHAPES {
-            return Err(HierFault::Shapes);
-        }
-        if size.height > MOST_LEVELS {
-            return Err(HierFault::Deep);
-        }
-        if !self.has_room(&submission.cell) {
-            return Err(HierFault::Full);
-        }
-        let nodes = Nodes::from_vec(alloc, nodes)?;
-        Ok(self.append(submission, nodes)?)
-    }
-
-    /// As [`Shelf::put`], with the outline found again.
-    ///
-    /// # Errors
-    /// As those of [`Shelf::put`].
-    pub fn push(&mut self, alloc: Global, submission: Submission) -> Result<u32, HierFault>
-        requires library { IsLibrary submission.library }
-        requires bound { IsBound self.old submission }
-        ensures ok { OnOk result (self.new ≡ self.old ++ numbered self.old submission ∷ []) }
-        ensures number { IfOk result (λ number. number ≡ length self.old) }
-        ensures kept { OnOk result (KeepsLimits self.old submission) }
-        ensures err { OnErr result (self.new ≡ self.old) }
-        ensures faults { IfErr result (IsRefused self.old submission) }
-    {
-        let outline = Outline::new(alloc, &submission.library, &submission.top)?;
-        self.put(alloc, submission, &outline)
+        let mut table = self.table(alloc)?;
+        let number = table.put(alloc, submission, outline)?;
+        self.table = Some(Arc::new(alloc, table)?);
+        Ok(number)
     }
 }
 
@@ -297,4 +250,19 @@ fn cells_of(alloc: Global, submissions: &[Submission]) -> Result<Names, AllocErr
         cells.push(submission.cell.copy()?)?;
     }
     Ok(cells)
+}
+
+/// Whether the submissions are the same, in order.
+fn are_same(first: &[Submission], second: &[Submission]) -> bool
+    ensures { IsTrue result ↔ (first.now ≡ second.now) }
+{
+    if first.len() != second.len() {
+        return false;
+    }
+    for i in 0..first.len() {
+        if !first[i].is_same(&second[i]) {
+            return false;
+        }
+    }
+    true
 }

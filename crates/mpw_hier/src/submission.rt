@@ -1,6 +1,6 @@
 //! A submission: a version of a cell.
 
-ghost use Rattle.std.specs.Prelude.{◌≡◌, IfOk};
+ghost use Rattle.std.specs.Prelude.{◌≡◌, ◌↔◌, IfOk, IsTrue};
 
 use crate::bindings::Bindings;
 use mpw_geom::Name;
@@ -38,5 +38,17 @@ impl Submission {
             top: self.top.copy()?,
             bound: self.bound.copy()?,
         })
+    }
+
+    /// Whether the submissions are the same in each part, by value. Linear in their libraries, up to the first difference; it
+    /// takes no memory.
+    pub fn is_same(&self, other: &Submission) -> bool
+        ensures { IsTrue result ↔ (self.now ≡ other.now) }
+    {
+        let same_cell = (self.cell == other.cell)
+            & (self.version == other.version)
+            & (self.submitter == other.submitter)
+            & (self.top == other.top);
+        same_cell && self.bound.is_same(&other.bound) && self.library.is_same(&other.library)
     }
 }

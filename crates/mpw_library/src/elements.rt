@@ -1,6 +1,6 @@
 //! A list of elements, which contracts see as a list.
 
-ghost use Rattle.std.specs.Prelude.{◌≡◌};
+ghost use Rattle.std.specs.Prelude.{◌≡◌, ◌↔◌, IsTrue};
 
 use mpw_elements::Element;
 use std::marker::Model;
@@ -41,4 +41,26 @@ impl Elements {
     {
         &self.items
     }
+
+    /// Whether the lists have the same elements, in order. It stops at the first difference, and takes no memory.
+    pub fn is_same(&self, other: &Elements) -> bool
+        ensures { IsTrue result ↔ (self.now ≡ other.now) }
+    {
+        are_same(&self.items, &other.items)
+    }
+}
+
+/// Whether the elements are the same, in order.
+fn are_same(first: &[Element], second: &[Element]) -> bool
+    ensures { IsTrue result ↔ (first.now ≡ second.now) }
+{
+    if first.len() != second.len() {
+        return false;
+    }
+    for i in 0..first.len() {
+        if !first[i].is_same(&second[i]) {
+            return false;
+        }
+    }
+    true
 }

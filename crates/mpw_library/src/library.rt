@@ -1,6 +1,6 @@
 //! A library that was read.
 
-ghost use Rattle.std.specs.Prelude.{◌≡◌, IfOk};
+ghost use Rattle.std.specs.Prelude.{◌≡◌, ◌↔◌, IfOk, IsTrue};
 ghost use Rattle.mpw_library.specs.Places.{place_of};
 
 use crate::structures::{Structure, Structures};
@@ -58,5 +58,13 @@ impl Library {
         Ok(Library {
             structures: self.structures.clone()?,
         })
+    }
+
+    /// Whether the libraries have the same structures, in order, by value. Linear in what the libraries hold, up to the first
+    /// difference; it takes no memory.
+    pub fn is_same(&self, other: &Library) -> bool
+        ensures { IsTrue result ↔ (self.now ≡ other.now) }
+    {
+        self.structures.is_same(&other.structures)
     }
 }

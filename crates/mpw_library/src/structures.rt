@@ -1,6 +1,6 @@
 //! The structures of a library, in file order, and found by their names.
 
-ghost use Rattle.std.specs.Prelude.{◌≡◌, [], ◌∷◌, ◌++◌, None, OnOk, OnErr, is_some};
+ghost use Rattle.std.specs.Prelude.{◌≡◌, ◌↔◌, IsTrue, [], ◌∷◌, ◌++◌, None, OnOk, OnErr, is_some};
 ghost use Rattle.mpw_library.specs.Places.{place_of};
 
 use crate::elements::Elements;
@@ -14,6 +14,16 @@ use std::marker::Model;
 pub struct Structure {
     pub name: Name,
     pub elements: Elements,
+}
+
+impl Structure {
+    /// Whether the structures have the same name and the same elements, in order. Linear in the elements' points, up to the
+    /// first difference; it takes no memory.
+    pub fn is_same(&self, other: &Structure) -> bool
+        ensures { IsTrue result ↔ (self.now ≡ other.now) }
+    {
+        self.name == other.name && self.elements.is_same(&other.elements)
+    }
 }
 
 /// Structures in file order, each with a name of its own. A name is found in logarithmic time.
@@ -74,4 +84,26 @@ impl Structures {
         self.items.push(structure)?;
         Ok(())
     }
+
+    /// Whether the lists have the same structures, in order. It stops at the first difference, and takes no memory.
+    pub fn is_same(&self, other: &Structures) -> bool
+        ensures { IsTrue result ↔ (self.now ≡ other.now) }
+    {
+        are_same(&self.items, &other.items)
+    }
+}
+
+/// Whether the structures are the same, in order.
+fn are_same(first: &[Structure], second: &[Structure]) -> bool
+    ensures { IsTrue result ↔ (first.now ≡ second.now) }
+{
+    if first.len() != second.len() {
+        return false;
+    }
+    for i in 0..first.len() {
+        if !first[i].is_same(&second[i]) {
+            return false;
+        }
+    }
+    true
 }

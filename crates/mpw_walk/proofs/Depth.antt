@@ -12,6 +12,7 @@ use Rattle.mpw_hier.specs.Structures.{names_of}
 use Rattle.mpw_hier.specs.Nodes.{structure_levels}
 use Rattle.mpw_hier.specs.Values.{heights, greatest}
 use Rattle.mpw_walk.specs.declared.frame.Frame.{Frame}
+use Rattle.mpw_walk.specs.Named.{NamesAreWalked}
 use Rattle.mpw_walk.specs.Frames.{IsFrame, IsNext, Shows}
 use Rattle.mpw_walk.proofs.Given.{grows}
 use Rattle.mpw_walk.proofs.Entered.{own_levels}
@@ -31,19 +32,19 @@ abbrev frame_levels : (ss : List Submission) (f : Frame) → IsFrame ss f → Li
 frame_levels ss f q = structure_levels (heights (take f.submission ss)) q.submission
 
 -- the levels of a frame's node
-node_levels : (ss : List Submission) (f : Frame) (q : IsFrame ss f) → f.node.now.size.height ≡ min 65 (suc (greatest (map (frame_levels ss f q) (names_of q.structure.elements))))
-node_levels ss f q =
+node_levels : (law : NamesAreWalked) (ss : List Submission) (f : Frame) (q : IsFrame ss f) → f.node.now.size.height ≡ min 65 (suc (greatest (map (frame_levels ss f q) (names_of q.structure.elements))))
+node_levels law ss f q =
     let m = q.nodes.each q.place f.node.now q.at in
-    m.size.height ∙ ap (min 65) (own_levels ss f.submission q.submission q.is f.nodes.now q.place f.node.now q.structure m.structure.name q.nodes q.at q.named m.named)
+    m.size.height ∙ ap (min 65) (own_levels ss f.submission q.submission q.is law f.nodes.now q.place f.node.now q.structure m.structure.name q.nodes q.at q.named m.named)
 
-pub frame_high : (ss : List Submission) (f : Frame) → IsFrame ss f → 1 ≤ f.node.now.size.height
-frame_high ss f q = omega (arith, node_levels ss f q)
+pub frame_high : (law : NamesAreWalked) (ss : List Submission) (f : Frame) → IsFrame ss f → 1 ≤ f.node.now.size.height
+frame_high law ss f q = omega (arith, node_levels law ss f q)
 
-pub less_high : (ss : List Submission) (f : Frame) (q : IsFrame ss f) (target : Target) (r : Reference) → IsNext f target r → (g : Frame) → Shows ss f.submission q.submission r.name g → f.node.now.size.height ≤ 64 → g.node.now.size.height < f.node.now.size.height
-less_high ss f q target r x g shown few =
+pub less_high : (law : NamesAreWalked) (ss : List Submission) (f : Frame) (q : IsFrame ss f) (target : Target) (r : Reference) → IsNext f target r → (g : Frame) → Shows ss f.submission q.submission r.name g → f.node.now.size.height ≤ 64 → g.node.now.size.height < f.node.now.size.height
+less_high law ss f q target r x g shown few =
     let levels = frame_levels ss f q in
     let es : slice_get q.structure.elements x.child.element ≡ Some (elements.Reference r) = subst (λ es. slice_get es x.child.element ≡ Some (elements.Reference r)) q.elements_are x.reference_is in
     let below : levels r.name ≤ greatest (map levels (names_of q.structure.elements)) = name_level levels q.structure.elements 0 x.child.element r es in
-    let up = node_levels ss f q in
+    let up = node_levels law ss f q in
     let down : g.node.now.size.height ≡ min 65 (levels r.name) = shown.size.height in
     omega (arith, below, up, down, few)

@@ -14,16 +14,15 @@ use Rattle.mpw_hier.specs.declared.node.Child.{Child}
 use Rattle.mpw_hier.specs.declared.submission.Submission.{Submission}
 use Rattle.mpw_hier.specs.Structures.{references}
 use Rattle.mpw_hier.specs.Items.{Item, own_items, shown_items}
+use Rattle.mpw_hier.specs.Named.{IsOwnName}
 use Rattle.mpw_hier.specs.Nodes.{shape_places, AreNodesOf, structure_levels}
 use Rattle.mpw_hier.specs.Sizes.{IsSizeOf}
 use Rattle.mpw_hier.specs.Values.{structure_items, flats, shown_height, heights}
-use Rattle.mpw_hier.proofs.Unfolding.{items_by_targets, heights_by_targets}
-use Rattle.mpw_hier.proofs.Tops.{same_place}
+use Rattle.mpw_walk.specs.Named.{NamesAreWalked}
 use Rattle.mpw_walk.specs.Turns.{Turn, entered, give, placed_turns, shown_turns, structure_turns, all_turns}
 use Rattle.mpw_walk.specs.Frames.{turns_at, named_turns, turns_of_shapes, reference_turns, instance_turns, turns_of_children}
 use Rattle.mpw_walk.proofs.Fronts.{one, element_read}
 use Rattle.mpw_walk.proofs.Given.{Gives, named_gives, all_give}
-use Rattle.mpw_walk.proofs.Named.{turns_by_targets, own_shown}
 use Rattle.mpw_walk.proofs.Shapes.{shapes_all, children_all, instances_front}
 
 module _ (ss : List Submission) (n : ℕ) (s : Submission) (is : slice_get ss n ≡ Some s) where
@@ -49,32 +48,35 @@ module _ (ss : List Submission) (n : ℕ) (s : Submission) (is : slice_get ss n 
       nil_from_length _ (omega (arith, few, zero))
 
   -- a structure of its own
-  pub own_turns : (nodes : List Node) (k : ℕ) (node : Node) (structure : Structure) (name : List ℕ) → AreNodesOf before levels s nodes → slice_get nodes k ≡ Some node
+  own_name : (nodes : List Node) (k : ℕ) (node : Node) (structure : Structure) (name : List ℕ) → AreNodesOf before levels s nodes → slice_get nodes k ≡ Some node
+      → slice_get s.library node.structure ≡ Some structure → place_of s.library name ≡ Some node.structure → IsOwnName ss n s structure node name
+  own_name nodes k node structure name w at here place =
+      record { is = is; nodes = nodes; nodes_are = w; place = k; at = at; structure_is = here; named = place }
+
+  pub own_turns : NamesAreWalked → (nodes : List Node) (k : ℕ) (node : Node) (structure : Structure) (name : List ℕ) → AreNodesOf before levels s nodes → slice_get nodes k ≡ Some node
       → slice_get s.library node.structure ≡ Some structure → place_of s.library name ≡ Some node.structure
       → named_turns ss n name ≡ shown_turns n structure (named_turns ss n)
   unfolding named_turns all_turns
-  own_turns nodes k node structure name w at here place =
-      subst (λ o. turns_at ss n o name ≡ shown_turns n structure (λ target. turns_at ss n o target)) (sym is) (own_shown shown_turns [] turns_by_targets ss n s nodes k node structure name is w at here place)
+  own_turns law nodes k node structure name w at here place =
+      subst (λ o. turns_at ss n o name ≡ shown_turns n structure (λ target. turns_at ss n o target)) (sym is) (law.own_turns_are ss n s structure node name (own_name nodes k node structure name w at here place))
 
-  pub own_levels : (nodes : List Node) (k : ℕ) (node : Node) (structure : Structure) (name : List ℕ) → AreNodesOf before levels s nodes → slice_get nodes k ≡ Some node
+  pub own_levels : NamesAreWalked → (nodes : List Node) (k : ℕ) (node : Node) (structure : Structure) (name : List ℕ) → AreNodesOf before levels s nodes → slice_get nodes k ≡ Some node
       → slice_get s.library node.structure ≡ Some structure → place_of s.library name ≡ Some node.structure
       → structure_levels levels s name ≡ shown_height structure (structure_levels levels s)
-  unfolding heights
-  own_levels nodes k node structure name w at here place =
-      own_shown (λ _. shown_height) 0 (λ _. heights_by_targets) ss n s nodes k node structure name is w at here place
+  own_levels law nodes k node structure name w at here place =
+      (law.own ss n s structure node name (own_name nodes k node structure name w at here place)).levels
 
-  pub own_items_shown : (nodes : List Node) (k : ℕ) (node : Node) (structure : Structure) (name : List ℕ) → AreNodesOf before levels s nodes
+  pub own_items_shown : NamesAreWalked → (nodes : List Node) (k : ℕ) (node : Node) (structure : Structure) (name : List ℕ) → AreNodesOf before levels s nodes
       → slice_get nodes k ≡ Some node → slice_get s.library node.structure ≡ Some structure → place_of s.library name ≡ Some node.structure
       → structure_items before s name ≡ shown_items n structure (structure_items before s)
-  unfolding flats
-  own_items_shown nodes k node structure name w at here place =
-      own_shown shown_items [] items_by_targets ss n s nodes k node structure name is w at here place
+  own_items_shown law nodes k node structure name w at here place =
+      (law.own ss n s structure node name (own_name nodes k node structure name w at here place)).items
 
   -- its size, by any name of its place
-  pub own_size : (nodes : List Node) (k : ℕ) (node : Node) (name : List ℕ) → AreNodesOf before levels s nodes → slice_get nodes k ≡ Some node → place_of s.library name ≡ Some node.structure → IsSizeOf (structure_items before s name) (structure_levels levels s name) node.size
-  own_size nodes k node name w at place =
+  pub own_size : NamesAreWalked → (nodes : List Node) (k : ℕ) (node : Node) (name : List ℕ) → AreNodesOf before levels s nodes → slice_get nodes k ≡ Some node → place_of s.library name ≡ Some node.structure → IsSizeOf (structure_items before s name) (structure_levels levels s name) node.size
+  own_size law nodes k node name w at place =
       let m = w.each k node at in
-      subst (λ name. IsSizeOf (structure_items before s name) (structure_levels levels s name) node.size) (same_place s.library m.structure.name name node.structure m.named place) m.size
+      (law.own ss n s m.structure node name (own_name nodes k node m.structure name w at m.is place)).size
 
   -- its turns by its node
   pub children_front : (below : List ℕ → List Turn) (es : List Element) → ((i : ℕ) (r : Reference) → slice_get es i ≡ Some (elements.Reference r) → 0 < r.rows) → (cs : List Child) → turns_of_children below es 0 0 cs ≡ flat_map (λ (c : Child). reference_turns below (slice_get es c.element)) cs

@@ -5,7 +5,6 @@ pub mod Given
 pub mod Roots
 pub mod Arrays
 pub mod Fronts
-pub mod Named
 pub mod Shapes
 pub mod Close
 pub mod Drawn

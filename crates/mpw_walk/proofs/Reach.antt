@@ -20,6 +20,7 @@ use Rattle.mpw_hier.specs.Sizes.{IsSizeOf}
 use Rattle.mpw_hier.specs.Values.{structure_items, flats}
 use Rattle.mpw_walk.specs.declared.frame.Frame.{Frame}
 use Rattle.mpw_walk.specs.Frames.{IsFrame, IsNext, IsWithin, IsNearArray, Shows}
+use Rattle.mpw_walk.specs.Named.{NamesAreWalked}
 use Rattle.mpw_walk.specs.Near.{IsCloseItem}
 use Rattle.mpw_walk.specs.Way.{AreRead}
 use Rattle.mpw_walk.proofs.Fronts.{at_all}
@@ -84,10 +85,10 @@ pub shows_close : (ss : List Submission) (n : ℕ) (s : Submission) → AreRead 
 shows_close ss n s read is name g shown =
     size_close _ _ g.node.now.size shown.size (drawn_names ss n s read is name)
 
-pub frame_close : (ss : List Submission) (f : Frame) (q : IsFrame ss f) → AreRead ss → All IsCloseItem (shown_items f.submission q.structure (structure_items (flats (take f.submission ss)) q.submission))
-frame_close ss f q read =
+pub frame_close : (law : NamesAreWalked) (ss : List Submission) (f : Frame) (q : IsFrame ss f) → AreRead ss → All IsCloseItem (shown_items f.submission q.structure (structure_items (flats (take f.submission ss)) q.submission))
+frame_close law ss f q read =
     let m = q.nodes.each q.place f.node.now q.at in
-    subst (All IsCloseItem) (own_items_shown ss f.submission q.submission q.is f.nodes.now q.place f.node.now q.structure m.structure.name q.nodes q.at q.named m.named) (size_close _ _ f.node.now.size m.size (drawn_names ss f.submission q.submission read q.is m.structure.name))
+    subst (All IsCloseItem) (own_items_shown ss f.submission q.submission q.is law f.nodes.now q.place f.node.now q.structure m.structure.name q.nodes q.at q.named m.named) (size_close _ _ f.node.now.size m.size (drawn_names ss f.submission q.submission read q.is m.structure.name))
 
 -- a placing of close shapes to close places
 pub first_short : (t : Placing) (items : List Item) → 0 < length items → All IsCloseItem items → All IsCloseItem (map (placed_item t) items) → IsWithin t.by
@@ -95,11 +96,11 @@ first_short t [] some own there = absurd (omega (arith, some))
 first_short t (i ∷ items) some own there =
     short_placing t i (All-head IsCloseItem i items own) (All-head IsCloseItem (placed_item t i) (map (placed_item t) items) there)
 
-pub near_array : (ss : List Submission) (f : Frame) (q : IsFrame ss f) (target : Target) (r : Reference) → AreRead ss → IsNext f target r → 0 < length (structure_items (flats (take f.submission ss)) q.submission r.name) → All IsCloseItem (structure_items (flats (take f.submission ss)) q.submission r.name) → IsNearArray r
-near_array ss f q target r read x some own = λ row column h l.
+pub near_array : (law : NamesAreWalked) (ss : List Submission) (f : Frame) (q : IsFrame ss f) (target : Target) (r : Reference) → AreRead ss → IsNext f target r → 0 < length (structure_items (flats (take f.submission ss)) q.submission r.name) → All IsCloseItem (structure_items (flats (take f.submission ss)) q.submission r.name) → IsNearArray r
+near_array law ss f q target r read x some own = λ row column h l.
     let below = structure_items (flats (take f.submission ss)) q.submission in
     let of : Reference → List Item = λ r. placed_items r (below r.name) in
     let es : slice_get q.structure.elements x.child.element ≡ Some (elements.Reference r) = subst (λ es. slice_get es x.child.element ≡ Some (elements.Reference r)) q.elements_are x.reference_is in
-    let all = all_right IsCloseItem (own_items f.submission q.structure.elements) (flat_map of (references q.structure.elements)) (frame_close ss f q read) in
+    let all = all_right IsCloseItem (own_items f.submission q.structure.elements) (flat_map of (references q.structure.elements)) (frame_close law ss f q read) in
     let here = reference_part IsCloseItem of q.structure.elements x.child.element r es all in
     first_short (instance r row column) (below r.name) some own (instance_part IsCloseItem (λ t. map (placed_item t) (below r.name)) r row column h l here)

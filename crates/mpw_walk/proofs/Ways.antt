@@ -22,6 +22,7 @@ use Rattle.mpw_walk.specs.declared.root.Root.{Root}
 use Rattle.mpw_walk.specs.declared.root.Placed.{Placed}
 use Rattle.mpw_walk.specs.Turns.{Turn, enter, give, given, entered, placed_turn, turns_of, root_turns, roots_turns, first_given, behind_first}
 use Rattle.mpw_walk.specs.Frames.{named_turns, turns_to_come, turns_within, IsFrame, IsNext, IsShape, IsWithin, IsNearArray, Shows, ShowsName, behind_instance}
+use Rattle.mpw_walk.specs.Named.{NamesAreWalked}
 use Rattle.mpw_walk.specs.Near.{IsCloseItem}
 use Rattle.mpw_walk.specs.Way.{left_of, work_left, IsOnWay, GoesOn, GivesFirst, IsPlaceable, item_of}
 use Rattle.mpw_walk.proofs.Fronts.{at_all}
@@ -76,12 +77,12 @@ in_plane p h = record {
 
 -- ---- a shape is given
 
-module _ (ss : List Submission) (roots : List Root) (root turns : ℕ) (frames : List Frame) (f : Frame) (w : IsOnWay ss roots root turns (frames ++ f ∷ [])) where
+module _ (law : NamesAreWalked) (ss : List Submission) (roots : List Root) (root turns : ℕ) (frames : List Frame) (f : Frame) (w : IsOnWay ss roots root turns (frames ++ f ∷ [])) where
   abbrev last : IsFrame ss f × (length frames + f.node.now.size.height ≤ 64)
   last = each_last ss frames f w.each
 
   pub few_frames : length frames < 64
-  few_frames = omega (arith, last.1, frame_high ss f last.0)
+  few_frames = omega (arith, last.1, frame_high law ss f last.0)
 
   pub shape_is_within : f.shape < length f.node.now.shapes.items → slice_index f.node.now.shapes.items f.shape < length f.elements.now
   shape_is_within h = shape_within ss f last.0 h
@@ -151,7 +152,7 @@ module _ (ss : List Submission) (roots : List Root) (root turns : ℕ) (frames :
 
     pub array_near : (g : Frame) → ShowsName ss f.submission (λ _. r.name) g → IsNearArray r
     array_near g shown =
-        near_array ss f last.0 target r w.read x (next_shows ss f last.0 target r x) (own_close g shown)
+        near_array law ss f last.0 target r w.read x (next_shows ss f last.0 target r x) (own_close g shown)
 
     below_given : given (named_turns ss f.submission r.name) ≡ below
     below_given = (named_give ss f.submission last.0.submission last.0.is r.name).items_given
@@ -204,7 +205,7 @@ module _ (ss : List Submission) (roots : List Root) (root turns : ℕ) (frames :
 
       pub lower : length (frames ++ behind ∷ []) + g.node.now.size.height ≤ 64
       lower =
-          let less = less_high ss f last.0 target r x g (shown last.0.submission last.0.is) (omega (arith, last.1)) in
+          let less = less_high law ss f last.0 target r x g (shown last.0.submission last.0.is) (omega (arith, last.1)) in
           omega (arith, less, last.1, length-append frames (behind ∷ []))
 
       behind_low : length frames + behind.node.now.size.height ≤ 64
@@ -231,7 +232,7 @@ module _ (ss : List Submission) (roots : List Root) (root turns : ℕ) (frames :
 
       pub frames_room : length frames + 1 < 64
       frames_room =
-          omega (arith, lower, length-append frames (behind ∷ []), frame_high ss g (shown last.0.submission last.0.is).frame)
+          omega (arith, lower, length-append frames (behind ∷ []), frame_high law ss g (shown last.0.submission last.0.is).frame)
 
   -- ---- a frame is left behind its last turn
 
@@ -266,7 +267,7 @@ pub no_root : (ss : List Submission) (roots : List Root) (root : ℕ) → length
 unfolding left_of roots_turns
 no_root ss roots root h = rw (drop_all root roots h) refl
 
-module _ (ss : List Submission) (roots : List Root) (root turns : ℕ) (w : IsOnWay ss roots root turns []) (r : Root) (r_is : slice_get roots root ≡ Some r) where
+module _ (law : NamesAreWalked) (ss : List Submission) (roots : List Root) (root turns : ℕ) (w : IsOnWay ss roots root turns []) (r : Root) (r_is : slice_get roots root ≡ Some r) where
   pub root_present : r.submission < length ss
   root_present = at_all (λ (r : Root). r.submission < length ss) roots root r w.present r_is
 
@@ -288,7 +289,7 @@ module _ (ss : List Submission) (roots : List Root) (root turns : ℕ) (w : IsOn
     here = shown of.0 of.1
 
     turns_are : turns_of ss r.submission ≡ named_turns ss r.submission of.0.top
-    turns_are = top_turns ss r.submission of.0 of.1
+    turns_are = top_turns law ss r.submission of.0 of.1
 
     given_are : given (turns_of ss r.submission) ≡ top_list
     given_are = ap given turns_are ∙ (named_give ss r.submission of.0 of.1 of.0.top).items_given

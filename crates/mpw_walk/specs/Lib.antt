@@ -5,3 +5,4 @@ pub mod Near
 pub mod Way
 pub mod Walk
 pub mod Roots
+pub mod Named

@@ -5,6 +5,7 @@ ghost use Rattle.mpw_hier.specs.Items.{instance, stepped};
 ghost use Rattle.mpw_hier.specs.Nodes.{AreNodes};
 ghost use Rattle.mpw_walk.specs.Frames.{IsFront, IsFrame, IsWithin, ShowsName, IsNext, IsShape, HasReference, IsNearArray, behind_instance};
 
+use crate::laws::names_are_walked;
 use crate::root::Placed;
 use mpw_elements::{Element, Reference};
 use mpw_geom::{Orient, Placing, Point};
@@ -91,6 +92,7 @@ impl<'a> Frame<'a> {
         ensures shows { ShowsName shelf.now submission (λ s. s.top) result }
         ensures low { result.node.now.size.height ≤ 64 }
     {
+        names_are_walked();
         let nodes = shelf.nodes(submission).unwrap();
         Frame::front(shelf, submission, nodes, nodes.len() - 1)
     }
@@ -101,6 +103,7 @@ impl<'a> Frame<'a> {
         requires next { IsNext self.now target reference.now }
         ensures { ShowsName shelf.now self.now.submission (λ _. reference.now.name) result }
     {
+        names_are_walked();
         match target {
             Target::Own(place) => Frame::front(shelf, self.submission, self.nodes, place),
             Target::Outer(number) => Frame::top(shelf, number),

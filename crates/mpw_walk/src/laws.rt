@@ -7,12 +7,17 @@ ghost use Rattle.mpw_hier.specs.Items.{Item, placed_item};
 ghost use Rattle.mpw_hier.specs.Limits.{IsShelf};
 ghost use Rattle.mpw_hier.specs.Values.{flat, height};
 ghost use Rattle.mpw_hier.specs.declared.submission.Submission.{Submission};
+ghost use Rattle.mpw_walk.specs.Named.{NamesAreWalked};
 ghost use Rattle.mpw_walk.specs.Roots.{unmoved_root, roots_extent, roots_count};
 ghost use Rattle.mpw_walk.specs.Turns.{given, flat_root, flat_roots, placed_root, root_turns, roots_turns};
 ghost use Rattle.mpw_walk.specs.Walk.{IsRoot};
 ghost use Rattle.mpw_walk.specs.declared.root.Root.{Root};
 
-use mpw_hier::{earlier_submissions_stay, extents_are_least_boxes, shelves_have_their_numbers};
+use mpw_hier::{
+    earlier_submissions_stay, extents_are_least_boxes, names_list_their_targets,
+    names_show_their_targets, shelves_have_their_numbers,
+};
+use std::marker::Model;
 
 /// The turns of roots give their flat lists in order. A root has at most as many turns as it has
 /// shapes times one more than its levels.
@@ -59,4 +64,25 @@ pub fn roots_show_what_their_submissions_do()
     ensures count { (ss : List Submission) (roots : List Root) → length (flat_roots ss roots) ≡ roots_count ss roots }
 {
     extents_are_least_boxes();
+}
+
+/// A turn, which laws of lists of any kind are called with. There is no value of it.
+#[derive(Drop)]
+struct Turning;
+
+impl Model for Turning {
+    ghost use Rattle.mpw_walk.specs.Turns.{Turn, enter};
+
+    ghost Value = { Turn };
+
+    ghost view = { λ _. enter };
+}
+
+/// What a name shows to a submission, and the turns of that, is what its structure does, or the top of the submission to which it
+/// is bound.
+pub fn names_are_walked()
+    ensures { NamesAreWalked }
+{
+    names_show_their_targets();
+    names_list_their_targets::<Turning>();
 }

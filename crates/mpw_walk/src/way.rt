@@ -12,6 +12,7 @@ ghost use Rattle.mpw_walk.specs.declared.way.Step.TheVariants as steps;
 
 use crate::frame::{Frame, instance};
 use crate::frames::Frames;
+use crate::laws::names_are_walked;
 use crate::root::{Placed, Root};
 use mpw_elements::Reference;
 use mpw_hier::{Shelf, Target};
@@ -46,6 +47,7 @@ impl<'a> Way<'a> {
         ensures way { IsWay self.new self.new.frames.items }
         ensures does { Does steps.On self.old (self.old.frames.items ++ frame.now ∷ []) self.new }
     {
+        names_are_walked();
         let entered = frame.target(self.shelf, target, reference);
         let placing = instance(reference, frame.row, frame.column).then(frame.placing);
         self.frames.push(frame.behind_instance(reference));
@@ -59,6 +61,7 @@ impl<'a> Way<'a> {
         ensures way { IsWay self.new self.new.frames.items }
         ensures does { Does result self.old (self.old.frames.items ++ frame.now ∷ []) self.new }
     {
+        names_are_walked();
         if frame.shape < frame.node.shapes.len() {
             let placed = frame.placed();
             let next = Frame {
@@ -82,6 +85,7 @@ impl<'a> Way<'a> {
         ensures way { IsWay self.new self.new.frames.items }
         ensures does { Does result self.old [] self.new }
     {
+        names_are_walked();
         let Some(root) = self.roots.get(self.root) else {
             return Step::Ended;
         };

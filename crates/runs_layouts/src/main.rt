@@ -6,6 +6,8 @@
 //! - `new` begins with an empty shelf, `copy` goes on with a copy, `cells` prints the cells;
 //! - `submit CELL TOP | ..` puts a library on the shelf, and prints what it shows;
 //! - `fill C N | ..` submits the library's `TOP` to the cells C0 to C(N-1), and `again CELL N | ..` N times to one;
+//! - `same N N` compares two submissions and their libraries by value, `apart CELL TOP | ..` a copy of the shelf before
+//!   and behind a submission to the copy alone;
 //! - `walk N R90 x y, ..` prints each shape of placed submissions, `count N R90 x y, ..` their number;
 //! - `walks N` compares walks over random shelves with a plain flattening.
 #![tactic(auto)]
@@ -31,6 +33,8 @@ fn answer_shelf(
         ["submit", cell, top] => shelves::submit(rt, shelf, cell, top, &bytes),
         ["fill", cell, count] => shelves::fill(rt, shelf, cell, count, &bytes),
         ["again", cell, count] => shelves::again(rt, shelf, cell, count, &bytes),
+        ["same", first, second] => shelves::same(rt, shelf, first, second),
+        ["apart", cell, top] => shelves::apart(rt, shelf, cell, top, &bytes),
         ["cells"] => shelves::cells(rt, shelf),
         ["new"] => {
             *shelf = Shelf::new(rt.alloc());

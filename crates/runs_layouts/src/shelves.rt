@@ -108,6 +108,36 @@ pub fn again(
     print_shown(rt, shelf, last)
 }
 
+fn told(same: bool) -> &'static str {
+    if same { "the same" } else { "different" }
+}
+
+/// Prints whether two submissions, and their libraries, are the same by value.
+pub fn same(rt: &impl Print, shelf: &Shelf, first: &str, second: &str) -> Result<()> {
+    let (Some(a), Some(b)) = (shelf.get(number(first)?), shelf.get(number(second)?)) else {
+        bail!("two submissions");
+    };
+    let libraries = told(a.library.is_same(&b.library));
+    let submissions = told(a.is_same(b));
+    Ok(println!(rt; "    libraries {libraries}, submissions {submissions}")?)
+}
+
+/// Submits to a copy of the shelf, and prints whether it is the same as the shelf before and behind that.
+pub fn apart(
+    rt: &(impl Print + AllocGlobal),
+    shelf: &Shelf,
+    cell: &str,
+    top: &str,
+    bytes: &[u8],
+) -> Result<()> {
+    let mut copy = shelf.copy(rt.alloc())?;
+    let before = told(copy.is_same(shelf));
+    put_text(rt.alloc(), &mut copy, cell, top, bytes)??;
+    let behind = told(copy.is_same(shelf));
+    let (ours, theirs) = (shelf.submissions().len(), copy.submissions().len());
+    Ok(println!(rt; "    {before}, then {behind}: {ours} submissions and {theirs}")?)
+}
+
 /// Prints how many names there are, and each if they are few.
 fn print_names(rt: &impl Print, names: &[Name]) -> Result<()> {
     let count = names.len();

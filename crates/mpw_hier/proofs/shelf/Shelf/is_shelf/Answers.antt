@@ -1,6 +1,8 @@
-use Rattle.std.proofs.Common.{subst}
+use Rattle.std.proofs.Common.{◌≡◌, subst, rules}
 use Rattle.mpw_hier.specs.Limits.{IsShelf}
 use Rattle.mpw_hier.proofs.shelf.Shelf.is_shelf.Goals as goal
 
-pub returns : goal.returns
-returns c = subst IsShelf c.self.view_is c.self.invariant.submitted
+pub returns-in-Some : goal.returns-in-Some
+returns-in-Some c =
+    let same : c.deref.result.now ≡ c.args.self.now = search rules in
+    subst IsShelf same c.is_shelf.ensures

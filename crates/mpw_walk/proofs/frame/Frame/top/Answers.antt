@@ -6,9 +6,9 @@ use Rattle.mpw_walk.proofs.frame.Frame.top.Goals as goal
 pub returns-clause-shows : goal.returns-clause-shows
 returns-clause-shows c =
     let w : IsFront c.args.shelf.now c.args.submission c.unwrap-nodes.result.now (length c.unwrap-nodes.result.now - 1) c.front.result = c.front.ensures in
-    top_target c.args.shelf.now c.args.submission c.unwrap-nodes.result.now c.front.result w
+    top_target c.names_are_walked.ensures c.args.shelf.now c.args.submission c.unwrap-nodes.result.now c.front.result w
 
 pub returns-clause-low : goal.returns-clause-low
 returns-clause-low c =
     let w : IsFront c.args.shelf.now c.args.submission c.unwrap-nodes.result.now (length c.unwrap-nodes.result.now - 1) c.front.result = c.front.ensures in
-    top_low c.args.shelf.now c.args.submission c.nodes.result c.unwrap-nodes.result c.front.result c.unwrap-nodes.ensures c.nodes.ensures.some w
+    top_low c.names_are_walked.ensures c.args.shelf.now c.args.submission c.nodes.result c.unwrap-nodes.result c.front.result c.unwrap-nodes.ensures c.nodes.ensures.some w

@@ -21,14 +21,14 @@ top-top-requires c =
     let v = c.args.self.now in
     let within = some_within c.get.result c.in-Some.root v.root (length v.roots.now) c.in-Some.is c.get.ensures.lookup.0 in
     let r_is = got v.roots.now v.root c.get.result c.in-Some.root c.in-Some.is c.get.ensures.lookup.1 within in
-    root_present v.shelf.now v.roots.now v.root v.turns c.requires.way c.in-Some.root.now r_is
+    root_present c.names_are_walked.ensures v.shelf.now v.roots.now v.root v.turns c.requires.way c.in-Some.root.now r_is
 
 pub overflow_add-self-then-top-gt0 : goal.overflow_add-self-then-top-gt0
 overflow_add-self-then-top-gt0 c =
     let v = c.args.self.now in
     let within = some_within c.get.result c.in-Some.root v.root (length v.roots.now) c.in-Some.is c.get.ensures.lookup.0 in
     let r_is = got v.roots.now v.root c.get.result c.in-Some.root c.in-Some.is c.get.ensures.lookup.1 within in
-    let w = begun_way v.shelf.now v.roots.now v.root v.turns c.requires.way c.in-Some.root.now r_is c.top-top.result c.top-top.ensures.shows c.top-top.ensures.low c.if-top-gt0.true in
+    let w = begun_way c.names_are_walked.ensures v.shelf.now v.roots.now v.root v.turns c.requires.way c.in-Some.root.now r_is c.top-top.result c.top-top.ensures.shows c.top-top.ensures.low c.if-top-gt0.true in
     omega (arith, w.few)
 
 pub returns-clause-way : goal.returns-clause-way
@@ -37,10 +37,10 @@ returns-clause-way c =
     let within = some_within c.get.result c.in-Some.root v.root (length v.roots.now) c.in-Some.is c.get.ensures.lookup.0 in
     let r_is = got v.roots.now v.root c.get.result c.in-Some.root c.in-Some.is c.get.ensures.lookup.1 within in
     elim c.if-top-gt0.branch [
-      | then-top-gt0 w ↦ let way = begun_way v.shelf.now v.roots.now v.root v.turns c.requires.way c.in-Some.root.now r_is c.top-top.result c.top-top.ensures.shows c.top-top.ensures.low w.if-top-gt0.true in
+      | then-top-gt0 w ↦ let way = begun_way c.names_are_walked.ensures v.shelf.now v.roots.now v.root v.turns c.requires.way c.in-Some.root.now r_is c.top-top.result c.top-top.ensures.shows c.top-top.ensures.low w.if-top-gt0.true in
           let items = alone w.push.new.self.items v.frames.items _ w.push.ensures c.requires.empty in
           rw w.self-is (subst (λ (fs : List Frame). IsOnWay v.shelf.now v.roots.now (v.root + 1) (v.turns + 1) fs) (sym items) way)
-      | else-top-gt0 w ↦ let way = passed_way v.shelf.now v.roots.now v.root v.turns c.requires.way c.in-Some.root.now r_is c.top-top.result c.top-top.ensures.shows c.top-top.ensures.low (omega (arith, w.if-top-gt0.false)) in
+      | else-top-gt0 w ↦ let way = passed_way c.names_are_walked.ensures v.shelf.now v.roots.now v.root v.turns c.requires.way c.in-Some.root.now r_is c.top-top.result c.top-top.ensures.shows c.top-top.ensures.low (omega (arith, w.if-top-gt0.false)) in
           rw w.self-is (subst (λ (fs : List Frame). IsOnWay v.shelf.now v.roots.now (v.root + 1) v.turns fs) (sym c.requires.empty) way)
     ]
 
@@ -50,9 +50,9 @@ returns-clause-does c =
     let within = some_within c.get.result c.in-Some.root v.root (length v.roots.now) c.in-Some.is c.get.ensures.lookup.0 in
     let r_is = got v.roots.now v.root c.get.result c.in-Some.root c.in-Some.is c.get.ensures.lookup.1 within in
     elim c.if-top-gt0.branch [
-      | then-top-gt0 w ↦ let does = begun_does v.shelf.now v.roots.now v.root v.turns c.requires.way c.in-Some.root.now r_is c.top-top.result c.top-top.ensures.shows c.top-top.ensures.low w.if-top-gt0.true in
+      | then-top-gt0 w ↦ let does = begun_does c.names_are_walked.ensures v.shelf.now v.roots.now v.root v.turns c.requires.way c.in-Some.root.now r_is c.top-top.result c.top-top.ensures.shows c.top-top.ensures.low w.if-top-gt0.true in
           let items = alone w.push.new.self.items v.frames.items _ w.push.ensures c.requires.empty in
           rw w.self-is (subst (λ (fs : List Frame). GoesOn (record { turns = v.turns; left = left_of v.shelf.now v.roots.now v.root [] }) (record { turns = v.turns + 1; left = left_of v.shelf.now v.roots.now (v.root + 1) fs }) × (work_left v.shelf.now v.roots.now (v.root + 1) fs < work_left v.shelf.now v.roots.now v.root [])) (sym items) does)
-      | else-top-gt0 w ↦ let does = passed_does v.shelf.now v.roots.now v.root v.turns c.requires.way c.in-Some.root.now r_is c.top-top.result c.top-top.ensures.shows c.top-top.ensures.low (omega (arith, w.if-top-gt0.false)) in
+      | else-top-gt0 w ↦ let does = passed_does c.names_are_walked.ensures v.shelf.now v.roots.now v.root v.turns c.requires.way c.in-Some.root.now r_is c.top-top.result c.top-top.ensures.shows c.top-top.ensures.low (omega (arith, w.if-top-gt0.false)) in
           rw w.self-is (subst (λ (fs : List Frame). GoesOn (record { turns = v.turns; left = left_of v.shelf.now v.roots.now v.root [] }) (record { turns = v.turns; left = left_of v.shelf.now v.roots.now (v.root + 1) fs }) × (work_left v.shelf.now v.roots.now (v.root + 1) fs < work_left v.shelf.now v.roots.now v.root [])) (sym c.requires.empty) does)
     ]

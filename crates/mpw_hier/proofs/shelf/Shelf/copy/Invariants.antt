@@ -1,6 +1,0 @@
-use Rattle.std.proofs.Common.{◌≡◌, take}
-use Rattle.mpw_hier.proofs.shelf.Shelf.copy.Given as goal
-
--- the submissions so far
-abbrev pub invariant-loop-number : goal.invariant-loop-number
-invariant-loop-number l = l.shelf ≡ take l.number l.self

@@ -1,0 +1,6 @@
+use Rattle.std.proofs.Common.{subst}
+use Rattle.mpw_hier.specs.Limits.{IsShelf}
+use Rattle.mpw_hier.proofs.table.Table.is_shelf.Goals as goal
+
+pub returns : goal.returns
+returns c = subst IsShelf c.self.view_is c.self.invariant.submitted

@@ -1,0 +1,206 @@
+//! The submissions of a shelf with what stands beside them. A [`crate::shelf::Shelf`] shares one.
+
+ghost use Rattle.std.specs.Prelude.{◌≡◌, ◌+◌, ◌<◌, ◌≤◌, ◌^◌, ◌++◌, ◌∷◌, [], length, Err, OnOk, OnErr, IfOk, IfErr, IfSome, IfNone, Some, None, slice_get};
+ghost use Rattle.mpw_hier.specs.Shelf.{present, versions, bound_to};
+ghost use Rattle.mpw_hier.specs.Limits.{KeepsLimits, IsRefused, IsSubmitted, IsShelf, numbered, has_room_for};
+ghost use Rattle.mpw_library.specs.Library.{IsLibrary};
+ghost use Rattle.mpw_hier.specs.Nodes.{AreNodes, AreNodesOf};
+ghost use Rattle.mpw_hier.specs.Outline.{IsOutline};
+ghost use Rattle.mpw_hier.specs.Sizes.{IsSizeOf};
+ghost use Rattle.mpw_hier.specs.Values.{flat, flats, count, height, heights};
+
+use crate::fault::HierFault;
+use crate::hierarchy::nodes_of;
+use crate::node::{Node, Nodes};
+use crate::outline::Outline;
+use crate::size::Size;
+use crate::submission::Submission;
+use mpw_geom::Name;
+use std::alloc::{AllocError, Global};
+use std::collections::BTreeMap;
+use std::marker::Model;
+
+/// The most flat shapes of a submission.
+const MOST_SHAPES: u32 = 1 << 20;
+
+/// The most levels of a submission.
+const MOST_LEVELS: u32 = 64;
+
+/// The most submissions.
+const MOST_SUBMISSIONS: usize = 4096;
+
+/// The most cells that have a submission.
+const MOST_CELLS: usize = 1024;
+
+/// Submissions by number, counted from 0, which contracts see as their list, with the table of the present ones and the nodes
+/// of each.
+#[derive(Drop)]
+pub struct Table {
+    submissions: Vec<Submission>,
+    nodes: Vec<Nodes>,
+    present: BTreeMap<Name, u32>,
+}
+
+impl Model for Table {
+    ghost use Rattle.std.specs.Prelude.{List};
+    ghost use Rattle.mpw_hier.specs.declared.submission.Submission.{Submission};
+
+    ghost Value = { List Submission };
+
+    ghost use Rattle.mpw_hier.specs.Indexed.{IsShelved};
+
+    ghost view = { λ s. s.submissions.items };
+
+    ghost invariant = { λ s. IsShelved s.present s.nodes.items s.submissions.items };
+}
+
+impl Table {
+    /// The shelf without submissions. Takes no memory.
+    #[tactic(auto, unfolding(crate::specs::Shelf::present))]
+    pub fn new(alloc: Global) -> Table
+        ensures { result ≡ [] }
+    {
+        Table {
+            submissions: Vec::new(alloc),
+            nodes: Vec::new(alloc),
+            present: BTreeMap::new(alloc),
+        }
+    }
+
+    /// Every submission was read, is bound to the present ones of its time, keeps the limits and has
+    /// its version. A law: the function does nothing.
+    pub fn is_shelf(&self)
+        ensures { IsShelf self.now }
+    {
+        let _submissions = &self.submissions;
+    }
+
+    /// The same shelf. Linear in the number of submissions, which share what they hold.
+    ///
+    /// # Errors
+    /// Want of memory.
+    pub fn copy(&self, alloc: Global) -> Result<Table, AllocError>
+        ensures { IfOk result (λ table. table ≡ self.now) }
+    {
+        let mut table = Table::new(alloc);
+        for number in 0..self.submissions.len() {
+            let submission = self.submissions[number].copy()?;
+            let nodes = self.nodes[number].copy()?;
+            table.append(submission, nodes)?;
+        }
+        Ok(table)
+    }
+
+    /// The submissions by number. Takes no memory.
+    pub fn submissions(&self) -> &[Submission]
+        ensures { result.now ≡ self.now }
+    {
+        self.submissions.as_slice()
+    }
+
+    /// The number of the present submission of a cell, in logarithmic time. Takes no memory.
+    pub fn present(&self, cell: &Name) -> Option<u32>
+        ensures { result ≡ present self.now cell.now }
+    {
+        self.present.get(cell).copied()
+    }
+
+    /// The nodes of the submission of a number: those of the structures that its top reaches, each behind
+    /// those that it places, the top last. Takes no memory.
+    pub fn nodes(&self, number: u32) -> Option<&[Node]>
+        ensures some { IfSome result (λ nodes. AreNodes self.now number nodes.now) }
+        ensures none { IfNone result (slice_get self.now number ≡ None) }
+    {
+        let nodes = self.nodes.get(number as usize)?;
+        Some(nodes.as_slice())
+    }
+
+    /// How much the submission of a number shows. Takes no memory.
+    pub fn size(&self, number: u32) -> Option<Size>
+        ensures some { IfSome result (IsSizeOf (flat self.now number) (height self.now number)) }
+        ensures few { IfSome result (λ size. count self.now number ≤ 2 ^ 20) }
+        ensures low { IfSome result (λ size. height self.now number ≤ 64) }
+        ensures none { IfNone result (slice_get self.now number ≡ None) }
+    {
+        let nodes = self.nodes(number)?;
+        Some(nodes[nodes.len() - 1].size)
+    }
+
+    /// The version that the next submission of a cell gets, counted from 1.
+    fn next_version(&self, cell: &Name) -> u32
+        ensures { result ≡ versions self.now cell.now + 1 }
+    {
+        match self.present(cell) {
+            Some(number) => self.submissions[number as usize].version + 1,
+            None => 1,
+        }
+    }
+
+    /// Whether a submission of that cell may come: at most 4096 submissions and 1024 cells.
+    fn has_room(&self, cell: &Name) -> bool
+        ensures { result ≡ has_room_for self.now cell.now }
+    {
+        self.submissions.len() < MOST_SUBMISSIONS
+            && (self.present(cell).is_some() || self.present.len() < MOST_CELLS)
+    }
+
+    /// Adds a submission with its nodes and its version.
+    fn append(&mut self, submission: Submission, nodes: Nodes) -> Result<u32, AllocError>
+        requires nodes { AreNodesOf (flats self.old) (heights self.old) submission nodes }
+        requires submitted { IsSubmitted self.old submission }
+        ensures ok { OnOk result (self.new ≡ self.old ++ submission ∷ []) }
+        ensures number { IfOk result (λ number. number ≡ length self.old) }
+        ensures err { OnErr result (self.new ≡ self.old) }
+    {
+        self.submissions.reserve(1)?;
+        self.nodes.reserve(1)?;
+        let cell = submission.cell.copy()?;
+        let number = self.submissions.len() as u32;
+        self.present.insert(cell, number)?;
+        self.submissions.push(submission)?;
+        self.nodes.push(nodes)?;
+        Ok(number)
+    }
+
+    /// Puts a submission on the shelf, with the next version of its cell. The result is its number. The outline is that of
+    /// its library and top, and its bindings are those of the outline's names.
+    ///
+    /// Linear in the library, with a search for each name, however deep its structures are.
+    ///
+    /// # Errors
+    /// In this order: `Extent` where a structure that the top reaches has an extent beyond -2^30 to
+    /// 2^30 nm in its own coordinates, `Shapes` above 2^20 flat shapes, `Deep` above 64 levels, `Full`
+    /// where there are 4096 submissions, or 1024 cells and this would be another; or want of memory.
+    /// The shelf is then as before.
+    pub fn put(
+        &mut self,
+        alloc: Global,
+        submission: Submission,
+        outline: &Outline,
+    ) -> Result<u32, HierFault>
+        requires library { IsLibrary submission.library }
+        requires outline { IsOutline submission.library submission.top outline.now }
+        requires bound { bound_to self.old outline.now.names ≡ Some submission.bound }
+        ensures ok { OnOk result (self.new ≡ self.old ++ numbered self.old submission ∷ []) }
+        ensures number { IfOk result (λ number. number ≡ length self.old) }
+        ensures kept { OnOk result (KeepsLimits self.old submission) }
+        ensures err { OnErr result (self.new ≡ self.old) }
+        ensures faults { IfErr result (IsRefused self.old submission) }
+    {
+        let mut submission = submission;
+        submission.version = self.next_version(&submission.cell);
+        let nodes = nodes_of(alloc, self, &submission, outline)?;
+        let size = nodes[nodes.len() - 1].size;
+        if size.count > MOST_SHAPES {
+            return Err(HierFault::Shapes);
+        }
+        if size.height > MOST_LEVELS {
+            return Err(HierFault::Deep);
+        }
+        if !self.has_room(&submission.cell) {
+            return Err(HierFault::Full);
+        }
+        let nodes = Nodes::from_vec(alloc, nodes)?;
+        Ok(self.append(submission, nodes)?)
+    }
+}
