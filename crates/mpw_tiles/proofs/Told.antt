@@ -56,8 +56,14 @@ next_to b s m =
     let k3 = k.top in
     record { left = omega (arith, ints); right = omega (arith, ints); bottom = omega (arith, ints); top = omega (arith, ints) }
 
-near_run : (rule : Rule) (a b : Squares) (core : Box2) (greatest : ℕ) (axis : Axis) (side : ℕ) (x1 x2 y0 y1 : ℤ) (s : Square) → rule.distance ≤ greatest → HasStep rule a b core axis side x1 x2 y0 → HasStep rule a b core axis side x1 x2 (y1 -ℤ pos 1) → IsNext (box_on axis x1 x2 y0 y1) s → SquareIn (widened core (greatest + 1)) s
-near_run rule a b core greatest V side x1 x2 y0 y1 s h first last n =
+-- the first and the last row of a run have the pair step
+abbrev HasEnds : Rule → Squares → Squares → Box2 → Axis → ℕ → (x1 x2 y0 y1 : ℤ) → Type 0
+HasEnds rule a b core axis side x1 x2 y0 y1 = HasStep rule a b core axis side x1 x2 y0 × HasStep rule a b core axis side x1 x2 (y1 -ℤ pos 1)
+
+near_run : (rule : Rule) (a b : Squares) (core : Box2) (greatest : ℕ) (axis : Axis) (side : ℕ) (x1 x2 y0 y1 : ℤ) (s : Square) → rule.distance ≤ greatest → HasEnds rule a b core axis side x1 x2 y0 y1 → IsNext (box_on axis x1 x2 y0 y1) s → SquareIn (widened core (greatest + 1)) s
+near_run rule a b core greatest V side x1 x2 y0 y1 s h ends n =
+    let first = ends.0 in
+    let last = ends.1 in
     let d = first.0.1 in
     let p0 = first.1.0 in
     let p1 = first.1.1 in
@@ -68,7 +74,9 @@ near_run rule a b core greatest V side x1 x2 y0 y1 s h first last n =
     let n2 = n.bottom in
     let n3 = n.top in
     record { left = omega (arith, ints); right = omega (arith, ints); bottom = omega (arith, ints); top = omega (arith, ints) }
-near_run rule a b core greatest H side x1 x2 y0 y1 s h first last n =
+near_run rule a b core greatest H side x1 x2 y0 y1 s h ends n =
+    let first = ends.0 in
+    let last = ends.1 in
     let d = first.0.1 in
     let p0 = first.1.0 in
     let p1 = first.1.1 in
@@ -86,7 +94,7 @@ met_in_window extent deck rule tile a b p s c piece m =
     let f = piece.filled in
     let first = piece.steps p.y0 (omega (arith, ints)) f in
     let last = piece.steps (p.y1 -ℤ pos 1) (omega (arith, ints)) (omega (arith, ints)) in
-    test_from_SquareIn (tile_window (plan_of extent deck) tile) s (near_run rule a b core (greatest_distance deck.rules) p.axis p.side p.x1 p.x2 p.y0 p.y1 s (no_greater deck.rules rule c) first last (next_to (piece_box p) s m))
+    test_from_SquareIn (tile_window (plan_of extent deck) tile) s (near_run rule a b core (greatest_distance deck.rules) p.axis p.side p.x1 p.x2 p.y0 p.y1 s (no_greater deck.rules rule c) (first, last) (next_to (piece_box p) s m))
 
 -- ---- origins
 

@@ -15,7 +15,7 @@ use crate::listing::{Windows, windows_from};
 use crate::plan::Plan;
 use crate::shapes::list_shapes;
 use mpw_deck::Deck;
-use mpw_geom::Box2;
+use mpw_geom::{Box2, Placing, Point};
 use mpw_grid::windows_reach_no_further;
 use mpw_hier::{Shelf, extents_are_least_boxes};
 use mpw_walk::{Root, Walk, all_fit, roots_show_what_their_submissions_do};
@@ -74,6 +74,42 @@ impl Model for Snapshot {
     ghost invariant = { λ s. IsSnapshot (record { deck = s.deck; roots = s.roots.value.items; shelf = s.shelf }) };
 }
 
+/// Whether the points have equal coordinates.
+fn is_same_point(first: &Point, second: &Point) -> bool
+    ensures { IsTrue result ↔ (first.now ≡ second.now) }
+{
+    first == second
+}
+
+/// Whether the placings have equal orientations and displacements.
+fn is_same_placing(first: &Placing, second: &Placing) -> bool
+    ensures { IsTrue result ↔ (first.now ≡ second.now) }
+{
+    (first.orient == second.orient) & is_same_point(&first.by, &second.by)
+}
+
+/// Whether the roots have equal submissions, by number, and placings.
+fn is_same_root(first: &Root, second: &Root) -> bool
+    ensures { IsTrue result ↔ (first.now ≡ second.now) }
+{
+    (first.submission == second.submission) & is_same_placing(&first.placing, &second.placing)
+}
+
+/// Whether the lists have equal roots, in order.
+fn are_same_roots(first: &[Root], second: &[Root]) -> bool
+    ensures { IsTrue result ↔ (first.now ≡ second.now) }
+{
+    if first.len() != second.len() {
+        return false;
+    }
+    for i in 0..first.len() {
+        if !is_same_root(&first[i], &second[i]) {
+            return false;
+        }
+    }
+    true
+}
+
 impl Snapshot {
     /// The snapshot of these. Constant time.
     ///
@@ -122,10 +158,10 @@ impl Snapshot {
         let _deck = &self.deck;
     }
 
-    /// The same snapshot, which shares its parts. It costs what a copy of the shelf does.
+    /// The same snapshot, in constant time and without further memory: its parts are shared.
     ///
     /// # Errors
-    /// Where no more copies can be counted, or there is no memory for a copy of the shelf.
+    /// Where no more copies can be counted.
     pub fn copy(&self, alloc: Global) -> Result<Snapshot, AllocError>
         ensures { IfOk result (λ s. s ≡ self.now) }
     {
@@ -133,6 +169,16 @@ impl Snapshot {
         let roots = self.roots.clone()?;
         let shelf = self.shelf.copy(alloc)?;
         Ok(Snapshot { deck, roots, shelf })
+    }
+
+    /// Whether the snapshots have equal decks, roots and shelves. It stops at the first difference, costs at most what they
+    /// hold, and takes no memory.
+    pub fn is_same(&self, other: &Snapshot) -> bool
+        ensures { IsTrue result ↔ (self.now ≡ other.now) }
+    {
+        self.deck.is_same(&other.deck)
+            && are_same_roots(self.roots(), other.roots())
+            && self.shelf.is_same(&other.shelf)
     }
 
     /// The least box that holds the boxes of all shapes that the roots show, in nm, within -2^30 to 2^30; none without
