@@ -11,7 +11,8 @@ use Rattle.mpw_markers.specs.Markers.{line_of}
 -- lines by the rule's place in the deck, V before H, side, x1 and x2
 abbrev pub line_cmp : Line → Line → Ordering
 line_cmp a b =
-    ordering_then (nat_cmp a.rule b.rule) (ordering_then (axis_cmp a.axis b.axis) (ordering_then (nat_cmp a.side b.side) (ordering_then (int_cmp a.x1 b.x1) (int_cmp a.x2 b.x2))))
+    ordering_then (nat_cmp a.rule b.rule)
+    (ordering_then (axis_cmp a.axis b.axis) (ordering_then (nat_cmp a.side b.side) (ordering_then (int_cmp a.x1 b.x1) (int_cmp a.x2 b.x2))))
 
 -- the first marker's line comes first, or on one line it ends before the second begins, with a gap
 abbrev pub StandsBefore : Marker → Marker → Type 0

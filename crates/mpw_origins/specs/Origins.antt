@@ -14,4 +14,5 @@ HasSquareOf rectangles origin s = (r : Rectangle) × Contains rectangles r × (r
 pub record AreMetOrigins (rectangles : List Rectangle) (boxes : List Box2) (mets : List (List ℕ)) : Type 0 where
   pub count : length mets ≡ length boxes
   pub ascending : All IsAscending mets
-  pub met : (k origin : ℕ) (d : Box2) → k < length boxes → Contains (slice_index_or mets k []) origin ↔ IsMet (HasSquareOf rectangles) (slice_index_or boxes k d) origin
+  pub met : (k origin : ℕ) (d : Box2) → k < length boxes
+      → Contains (slice_index_or mets k []) origin ↔ IsMet (HasSquareOf rectangles) (slice_index_or boxes k d) origin

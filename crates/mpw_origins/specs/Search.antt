@@ -43,8 +43,10 @@ CanBeFilled count items = (i : Item) → Contains items i → (i.place < count) 
 -- the answers of the items stand in their places, and nothing else was changed
 pub record Fills (common : List ℕ) (rectangles : List Rectangle) (items : List Item) (old new : List (List ℕ)) : Type 0 where
   pub count : length new ≡ length old
-  pub changed : (k : ℕ) → (slice_index_or new k [] ≡ slice_index_or old k []) ⊎ ((i : Item) × Contains items i × (i.place ≡ k) × Answers common rectangles i.area (slice_index_or new k []))
-  pub filled : (i : Item) → Contains items i → (j : Item) × Contains items j × (j.place ≡ i.place) × Answers common rectangles j.area (slice_index_or new i.place [])
+  pub changed : (k : ℕ)
+      → (slice_index_or new k [] ≡ slice_index_or old k []) ⊎ ((i : Item) × Contains items i × (i.place ≡ k) × Answers common rectangles i.area (slice_index_or new k []))
+  pub filled : (i : Item) → Contains items i
+      → (j : Item) × Contains items j × (j.place ≡ i.place) × Answers common rectangles j.area (slice_index_or new i.place [])
 
 -- each box with its place, and no others
 pub record AreItemsOf (boxes : List Box2) (items : List Item) : Type 0 where
