@@ -142,9 +142,9 @@ shown (Some number) = Ok number
 abbrev pub may_read : Policy → ℕ → Submission → Bool
 may_read policy conn s = permits policy conn Read (object.Cell s.cell)
 
--- the access of a session lets it read that cell
-abbrev pub may_read_by : Access → Submission → Bool
-may_read_by access s = permits access.policy access.conn access.operation (object.Cell s.cell)
+-- the access permits its operation on that cell
+abbrev pub access_permits : Access → Submission → Bool
+access_permits access s = permits access.policy access.conn access.operation (object.Cell s.cell)
 
 -- the line of a shape, if the session may read the cell that the shape comes from
 abbrev pub readable_shape : Policy → List Submission → ℕ → Item → List Listed

@@ -7,7 +7,7 @@ use Rattle.mpw_core.specs.declared.reply.Line.TheVariants.{User, Active, Authori
 use Rattle.mpw_core.specs.declared.reply.Line.TheVariants as line
 use Rattle.mpw_core.specs.Listing.{Listed, stored, shape}
 
--- The line of a cell or of a shape is of a cell that the session may read; the other lines tell of none.
+-- The line of a cell or of a shape is of a cell that the session may read; the other lines name none.
 abbrev pub IsOfReadable : Policy → ℕ → Listed → Type 0
 IsOfReadable policy conn (stored (line.Cell cell version submitter)) = permits policy conn Read (object.Cell cell) ≡ true
 IsOfReadable policy conn (shape cell version placing element) = permits policy conn Read (object.Cell cell) ≡ true

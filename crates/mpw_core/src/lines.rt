@@ -12,7 +12,7 @@ use std::alloc::{AllocError, Global};
 use std::marker::Model;
 use std::sync::Arc;
 
-/// What is kept of lines: the lines themselves, or the shapes that they list.
+/// What a reply holds of its lines: the lines themselves, or the shapes that they list.
 #[derive(Drop)]
 enum Told {
     Stored(Vec<Line>),
@@ -36,7 +36,7 @@ impl Model for Lines {
     ghost view = { λ lines. option_map_or (λ told. told_lines told.value) lines.told [] };
 }
 
-/// What is kept of a reply's lines, to be looked at.
+/// A look at what a reply holds of its lines.
 pub enum Kept<'a> {
     /// The lines themselves.
     Stored(&'a [Line]),

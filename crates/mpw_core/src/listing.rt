@@ -8,7 +8,7 @@ ghost use Rattle.mpw_hier.specs.Values.{flat};
 ghost use Rattle.mpw_walk.specs.Turns.{given, flat_roots};
 ghost use Rattle.mpw_walk.specs.Walk.{IsRoot};
 ghost use Rattle.mpw_walk.specs.Way.{IsPlaceable, item_of};
-ghost use Rattle.mpw_core.specs.Layouts.{may_read_by, readable_shape};
+ghost use Rattle.mpw_core.specs.Layouts.{access_permits, readable_shape};
 ghost use Rattle.mpw_core.specs.Listing.{is_seen, seen_line, seen_lines};
 ghost use Rattle.mpw_core.specs.Shapes.{IsPlaceableView, line_of, lines_of};
 
@@ -189,7 +189,7 @@ fn seen_by(
     access: &Access<'_>,
     submissions: &[Submission],
 ) -> Result<Vec<bool>, AllocError>
-    ensures { IfOk result (λ seen. seen.items ≡ map (may_read_by access.now) submissions.now) }
+    ensures { IfOk result (λ seen. seen.items ≡ map (access_permits access.now) submissions.now) }
 {
     let mut seen = Vec::new(alloc);
     for submission in submissions {

@@ -223,7 +223,7 @@ count_text count = concat (codes "OK " ∷ decimal count ∷ line_feed ∷ [])
 unfoldable pub accepted_text : List Listed → List ℕ
 accepted_text lines = count_text (length lines) ++ flat_map listed_text lines
 
--- the end of a connection is told nobody, so it has no text
+-- the end of a connection, a restart and what is ended are told nobody, so they have no text
 unfoldable pub reply_text : Reply → List ℕ
 reply_text (reply.Ok lines) = accepted_text lines
 reply_text (reply.Denied denial) = denial_text denial

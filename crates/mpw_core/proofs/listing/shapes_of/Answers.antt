@@ -1,6 +1,6 @@
 use Rattle.std.proofs.Common.{◌≡◌, map, ap, ◌∙◌}
 use Rattle.mpw_hier.specs.Values.{flat}
-use Rattle.mpw_core.specs.Layouts.{may_read, may_read_by}
+use Rattle.mpw_core.specs.Layouts.{may_read, access_permits}
 use Rattle.mpw_core.specs.Listing.{seen_lines}
 use Rattle.mpw_core.proofs.ListingLemmas.{all_readable}
 use Rattle.mpw_core.proofs.listing.shapes_of.Goals as goal
@@ -10,6 +10,6 @@ returns c =
     let ss = c.args.shelf.now in
     let policy = c.args.policy.now in
     let seen : c.in_ok-seen.seen.items ≡ map (may_read policy c.args.conn) ss =
-    c.in_ok-seen.ensures ∙ ap (λ access. map (may_read_by access) c.submissions.result.now) c.access-access.ensures ∙ ap (map (may_read policy c.args.conn)) c.submissions.ensures in
+    c.in_ok-seen.ensures ∙ ap (λ access. map (access_permits access) c.submissions.result.now) c.access-access.ensures ∙ ap (map (may_read policy c.args.conn)) c.submissions.ensures in
     c.new.ensures ∙ ap (λ shelf. seen_lines shelf c.in_ok-seen.seen.items (flat shelf c.args.number)) c.in_ok-copy.ensures
     ∙ all_readable policy ss c.args.conn c.in_ok-seen.seen.items (flat ss c.args.number) seen
