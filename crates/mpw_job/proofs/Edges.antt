@@ -88,7 +88,8 @@ some_met rule items V side x1 x2 y0 y1 lt h =
     let ahead = k.ahead in
     (k.held.0, (s, k.held.1, (p, in_square s p high low (omega (arith, ints)) (omega (arith, ints)), in_box (box_on V x1 x2 y0 y1) p (omega (arith, ints)) ahead (omega (arith, ints)) (omega (arith, ints)))))
 some_met rule items H side x1 x2 y0 y1 lt h =
-    let k = beside (λ i j. IsSeen items (record { column = j; row = i })) rule.check rule.distance (exchanged (first_squares rule.check (shown_on items))) (exchanged (second_squares rule.check (shown_on items))) side x1 x2 y0 (λ i j e. seen_first rule.check items j i e) (λ i j e. seen_second rule.check items j i e) h in
+    let k = beside (λ i j. IsSeen items (record { column = j; row = i })) rule.check rule.distance (exchanged (first_squares rule.check (shown_on items))) (exchanged (second_squares rule.check (shown_on items))) side x1 x2 y0
+    (λ i j e. seen_first rule.check items j i e) (λ i j e. seen_second rule.check items j i e) h in
     let p : Point = record { x = y0; y = x1 } in
     let s : Square = record { column = y0; row = k.at } in
     let low = k.low in

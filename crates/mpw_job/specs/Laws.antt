@@ -23,7 +23,9 @@ task_of s plan windows run tile = record { run = run; tile = tile; core = tile_c
 
 -- Each core of a plan lies in the plane, as a task's core has to.
 abbrev pub CoresLieInPlane : Type 0
-CoresLieInPlane = (s : Snapshot) (plan : Tiling) (tile : ℕ) → IsSnapshot s → plan_for s ≡ Some plan → WindowsLieInPlane plan → tile < tiles plan → IsBoxInPlane (tile_core plan tile)
+CoresLieInPlane =
+    (s : Snapshot) (plan : Tiling) (tile : ℕ) → IsSnapshot s → plan_for s ≡ Some plan → WindowsLieInPlane plan → tile < tiles plan
+    → IsBoxInPlane (tile_core plan tile)
 
 -- There is a list for each tile, and each answers its tile's task.
 pub record AnswerTiles (s : Snapshot) (plan : Tiling) (windows : List (List Rectangle)) (run : ℕ) (lists : List (List Marker)) : Type 0 where
@@ -40,7 +42,8 @@ AnswersMakeTheLayout =
 
 -- A marker of the layout meets at least one submission.
 abbrev pub EachMarkerMeetsSome : Type 0
-EachMarkerMeetsSome = (s : Snapshot) (markers : List Marker) (m : Marker) → AreLayoutMarkers s markers → Contains markers m → (origin : ℕ) × Contains m.met origin
+EachMarkerMeetsSome =
+    (s : Snapshot) (markers : List Marker) (m : Marker) → AreLayoutMarkers s markers → Contains markers m → (origin : ℕ) × Contains m.met origin
 
 -- A layout without shapes has no markers.
 abbrev pub NoShapesNoMarkers : Type 0

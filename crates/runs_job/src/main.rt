@@ -1,0 +1,36 @@
+//! Jobs of all tiles over listed rectangles, stitched into a book.
+//!
+//! Each line is repeated, with the answer below. A line that begins with `#`, and an empty one, says nothing. Rules are
+//! a deck's lines parted by `;`, and rectangles are `ORIGIN LAYER X0 Y0 X1 Y1`, parted by `,`.
+//! - `find SIDE | RULES | RECTANGLES` tells the number of tiles and the markers, each with the origins that it meets;
+//! - `sides | RULES | RECTANGLES` tells for five sides of the tiles whether the book is that of a single core.
+#![tactic(auto)]
+
+mod book;
+mod near;
+mod words;
+
+use anyhow::{Result, bail};
+
+fn answer(rt: &(impl Print + AllocGlobal), line: &str) -> Result<()> {
+    if line.is_empty() || line.starts_with('#') {
+        return Ok(());
+    }
+    let (command, rest) = line.split_once('|').unwrap_or((line, ""));
+    let (rules, shapes) = rest.split_once('|').unwrap_or((rest, ""));
+    let words: Vec<&str> = command.split_whitespace().collect(rt.alloc())?;
+    match words.as_slice() {
+        ["find", side] => book::print_found(rt, side, rules, shapes),
+        ["sides"] => book::print_sides(rt, rules, shapes),
+        _ => bail!("a command"),
+    }
+}
+
+fn main(rt: HostRuntime) -> Result<()> {
+    for line in rt.lines(rt.alloc()) {
+        let line = line?;
+        println!(rt; "{line}")?;
+        answer(&rt, line.as_str())?;
+    }
+    Ok(())
+}
