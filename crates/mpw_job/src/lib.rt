@@ -12,6 +12,7 @@ mod job;
 mod laws;
 mod layers;
 mod met;
+mod tiles;
 
 pub use answer::{Answer, CutAnswer, TileAnswer, do_job, work_all};
 pub use job::{CutJob, Gate, Job, TileJob};
@@ -19,3 +20,4 @@ pub use laws::{
     answers_make_the_layout, cores_lie_in_plane, each_marker_meets_some, no_shapes_no_markers,
     tests_tell_shown,
 };
+pub use tiles::tile_job;
