@@ -1,5 +1,5 @@
 -- Each pair step has a square beside its first edge.
-use Rattle.std.proofs.Common.{◌≡◌, ℕ, true, List, Option, Some, None, inl, inr, arith}
+use Rattle.std.proofs.Common.{◌≡◌, ℕ, true, List, [], Option, Some, None, inl, inr, arith, rules}
 use Rattle.std.specs.Prelude.{ℤ, pos, ◌-ℤ◌, ◌≤ℤ◌, ◌<ℤ◌}
 use Rattle.std.proofs.lemmas.Bool.{false≢true}
 use Rattle.std.proofs.lemmas.Int.{ints}
@@ -21,6 +21,7 @@ use Rattle.mpw_tiles.specs.Laws.{IsStepOn, SquaresLieInExtents}
 use Rattle.mpw_tiles.specs.Snapshots.{shown, shown_extent}
 use Rattle.mpw_markers.specs.declared.marker.Key.{Key}
 use Rattle.mpw_markers.specs.Markers.{key_of, line_of_key, box_on}
+use Rattle.mpw_markers.specs.Book.{IsBook}
 use Rattle.mpw_markers.specs.Whole.{IsMet, IsMaximal}
 use Rattle.mpw_job.specs.Layers.{first_squares, second_squares, steps_of}
 use Rattle.mpw_job.specs.Layout.{shown_on, HasShown}
@@ -104,18 +105,24 @@ key_met law rules items k m =
 
 pub each_meets : TestDecidesPairSteps → EachMarkerMeetsSome
 each_meets law s markers m h c =
-    let k = h.sound m c in
+    let k = h.1.sound m c in
     let p = key_met law s.deck.rules (shown s) (key_of m) k.run in
     (p.0, (k.met p.0).1 p.1)
 
+empty_book : IsBook []
+empty_book = record { filled = λ k d lt. absurd (omega (arith, lt)); ordered = search rules; ascending = λ k d lt. absurd (omega (arith, lt)) }
+
 pub none_without : TestDecidesPairSteps → SquaresLieInExtents → NoShapesNoMarkers
-none_without law lie s e = record {
-  sound = λ m c. absurd (omega (arith, c.1));
-  complete = λ k m.
-      let p = key_met law s.deck.rules (shown s) k m in
-      let b = lie (shown s) p.1.1.0 p.0 p.1.0 p.1.1.1 in
-      absurd (not_both (shown_extent s) b.corners e b.is);
-}
+none_without law lie s e = (
+  empty_book,
+  record {
+    sound = λ m c. absurd (omega (arith, c.1));
+    complete = λ k m.
+        let p = key_met law s.deck.rules (shown s) k m in
+        let b = lie (shown s) p.1.1.0 p.0 p.1.0 p.1.1.1 in
+        absurd (not_both (shown_extent s) b.corners e b.is);
+  },
+)
   where
     not_both : (o : Option Box2) (b : Box2) → o ≡ None → o ≡ Some b → ⊥
     not_both o b e f = cc

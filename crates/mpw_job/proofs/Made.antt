@@ -104,7 +104,9 @@ pub made : All → AnswersMakeTheLayout
 made laws s plan windows run lists book h e stand answers stitched =
     let over = plan_is s.deck (shown_extent s) plan e in
     let e' : plan_for s ≡ Some (plan_of over.extent s.deck) = e ∙ ap Some over.is in
-    let answers' = subst (λ (q : Tiling). AnswerTiles s q windows run lists) over.is answers in
-    as_shown (shown s) (steps_of s.deck.rules (shown_on (shown s))) book
-    (laws.whole (steps_of s.deck.rules (shown_on (shown s))) (λ k. is_in_core (tile_core (plan_of over.extent s.deck) k)) (shown_by (shown s)) lists book
-    (listed laws s over.extent windows run lists h over.found e' stand answers') stitched)
+    let answers' = subst (λ (q : Tiling). AnswerTiles s q windows run lists) over.is answers in (
+      stitched.markers,
+      as_shown (shown s) (steps_of s.deck.rules (shown_on (shown s))) book
+          (laws.whole (steps_of s.deck.rules (shown_on (shown s))) (λ k. is_in_core (tile_core (plan_of over.extent s.deck) k)) (shown_by (shown s)) lists book
+          (listed laws s over.extent windows run lists h over.found e' stand answers') stitched),
+    )

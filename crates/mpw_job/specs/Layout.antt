@@ -1,6 +1,7 @@
 -- The markers of a flat layout. No tile and no window is mentioned.
 use Rattle.std.specs.Prelude.{ℕ, ◌-ℤ◌, Bool, false, ◌&&◌, List, Option, Some, None}
 use Rattle.std.specs.List.{list_any}
+use Rattle.mpw_deck.specs.declared.rule.Rule.{Rule}
 use Rattle.mpw_geom.specs.declared.plane.Layer.{Layer}
 use Rattle.mpw_geom.specs.declared.plane.Orient.{Orient}
 use Rattle.mpw_geom.specs.declared.plane.Orient.TheVariants.{R0, R90, R180, R270, M0, M90, M180, M270}
@@ -12,6 +13,7 @@ use Rattle.mpw_hier.specs.Items.{Item}
 use Rattle.mpw_tiles.specs.Shown.{layer_of, IsShown}
 use Rattle.mpw_tiles.specs.Snapshots.{Snapshot, shown}
 use Rattle.mpw_markers.specs.declared.marker.Marker.{Marker}
+use Rattle.mpw_markers.specs.Book.{IsBook}
 use Rattle.mpw_markers.specs.Whole.{AreMarkersOf}
 use Rattle.mpw_job.specs.Layers.{same_layer, Coverage, steps_of}
 
@@ -47,8 +49,12 @@ shown_on items layer i j = list_any (λ (item : Item). is_layer (layer_of item.e
 abbrev pub HasShown : List Item → ℕ → Square → Type 0
 HasShown items origin s = (layer : Layer) × IsShown items layer origin s
 
--- The markers are those of the flat layout of the snapshot's roots: one for each maximal run of rows, over the whole plane and on both
--- axes, with a pair step of a rule of its deck, and each meets the origins of the shapes of which a closed unit square, on any layer,
--- meets its closed box.
+-- The markers are those of a flat layout under these rules: a book with one for each maximal run of rows, over the whole plane and on
+-- both axes, with a pair step of a rule, and each meets the origins of the shapes of which a closed unit square, on any layer, meets its
+-- closed box.
+abbrev pub AreFlatMarkers : List Rule → List Item → List Marker → Type 0
+AreFlatMarkers rules items markers = IsBook markers × AreMarkersOf (steps_of rules (shown_on items)) (HasShown items) markers
+
+-- The markers of the flat layout of the snapshot's roots under its deck.
 abbrev pub AreLayoutMarkers : Snapshot → List Marker → Type 0
-AreLayoutMarkers s markers = AreMarkersOf (steps_of s.deck.rules (shown_on (shown s))) (HasShown (shown s)) markers
+AreLayoutMarkers s markers = AreFlatMarkers s.deck.rules (shown s) markers

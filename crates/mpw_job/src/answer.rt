@@ -43,6 +43,19 @@ impl CutAnswer {
         &self.windows
     }
 
+    /// The same answer, which shares the snapshot's parts and the windows.
+    ///
+    /// # Errors
+    /// Where no more copies can be counted, or there is no memory for them.
+    pub fn copy(&self, alloc: Global) -> Result<CutAnswer, AllocError>
+        ensures { IfOk result (λ answer. answer ≡ self.now) }
+    {
+        Ok(CutAnswer {
+            job: self.job.copy(alloc)?,
+            windows: self.windows.copy()?,
+        })
+    }
+
     /// The windows stand for the job's snapshot. A law: the function does nothing.
     pub fn is_answer(&self)
         ensures { IsCutAnswer self.now }
@@ -81,6 +94,19 @@ impl TileAnswer {
         ensures { result.now ≡ self.now.markers }
     {
         &self.markers
+    }
+
+    /// The same answer, in constant time and without further memory.
+    ///
+    /// # Errors
+    /// Where no more copies can be counted.
+    pub fn copy(&self) -> Result<TileAnswer, AllocError>
+        ensures { IfOk result (λ answer. answer ≡ self.now) }
+    {
+        Ok(TileAnswer {
+            job: self.job.copy()?,
+            markers: self.markers.copy()?,
+        })
     }
 
     /// The markers answer the job. A law: the function does nothing.

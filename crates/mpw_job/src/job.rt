@@ -29,6 +29,13 @@ impl CutJob {
             snapshot: self.snapshot.copy(alloc)?,
         })
     }
+
+    /// Whether the two are equal by value. It stops at the first difference, and costs at most the snapshot's size.
+    pub fn is_same(&self, other: &CutJob) -> bool
+        ensures { IsTrue result ↔ (self.now ≡ other.now) }
+    {
+        (self.run == other.run) && self.snapshot.is_same(&other.snapshot)
+    }
 }
 
 /// The job of finding the markers of a tile of a run: contracts see its numbers, its core, the rectangles of its window
