@@ -56,9 +56,6 @@ adds_one listed place runs n d old new m lt a e t = record {
   met = All-append (TellsMet listed) a.added (m ∷ []) a.met (All-cons (TellsMet listed) m [] t (All-nil (TellsMet listed)));
 }
 
-pub adds_all : (listed : List Rectangle) (place : ℕ) (runs : List Piece) (n : ℕ) (old new : List Marker) → length runs ≤ n → AddsMarkers listed place (take n runs) old new → AddsMarkers listed place runs old new
-adds_all listed place runs n old new le a = subst (λ (ps : List Piece). AddsMarkers listed place ps old new) (take_all n runs le) a
-
 -- ---- the runs of a rule
 
 pub same_runs : (rule : Rule) (on : Coverage) (core : Box2) (first second : List Box2) (runs : List Piece)
@@ -77,13 +74,6 @@ pub record AnswersFirst (task : Task) (n : ℕ) (markers : List Marker) : Type 0
   pub sound : (m : Marker) → Contains markers m → (m.rule < n) × IsAnswer task m
   pub complete : (place : ℕ) (rule : Rule) (p : Piece) → place < n → slice_get task.rules place ≡ Some rule → IsFoundIn task.core (listed_on task.window) rule p → (m : Marker) × Contains markers m × (key_of m ≡ key_at place p)
   pub ordered : AllPairs ComesBefore markers
-
-pub answers_none : (task : Task) → AnswersFirst task 0 []
-answers_none task = record {
-  sound = λ m c. absurd (omega (arith, c.1));
-  complete = λ place rule p lt at f. absurd (omega (arith, lt));
-  ordered = λ i j d lt within. absurd (omega (arith, within));
-}
 
 pub answers_all : (task : Task) (n : ℕ) (markers : List Marker) → length task.rules ≤ n → AnswersFirst task n markers → Answers task markers
 answers_all task n markers le h = record {

@@ -93,15 +93,6 @@ IsFirstRun-stop markers count key d h s l o u = record {
     stands (inl p) = inl p
     stands (inr p) = inr (p.0, u p.0)
 
--- all markers go on with it
-pub IsFirstRun-all : (markers : List Marker) (count : ℕ) (key : Key) → Reaches markers count key → 1 ≤ count → count ≡ length markers → IsFirstRun markers count key
-IsFirstRun-all markers count key h s e = record {
-  some = s;
-  within = omega arith;
-  run = h.run;
-  others = λ m c. let n = subst (λ (ys : List Marker). Contains ys m) (drop_all count markers (omega arith)) c in absurd (omega (arith, n.1));
-}
-
 -- the same where the code's element is equal to the list's
 pub started : (markers : List Marker) (first : Marker) (key : Key) → first ≡ get_or markers 0 first → key ≡ key_of first → 1 ≤ length markers → All IsFilled markers → AreInOrder markers → Reaches markers 1 key
 started markers first key is e l f o =

@@ -30,15 +30,6 @@ alike book m n h p q e =
       | inr (inr behind) ↦ inr (inr (apart n m behind (sym e)))
     ]
 
--- two markers of a book with a row in common are one
-pub one_by_row : (book : List Marker) (m n : Marker) (line : Line) (j : ℤ) → IsBook book → Contains book m → Contains book n → HasRow m line j → HasRow n line j → m ≡ n
-one_by_row book m n line j h p q r s =
-    elim (alike book m n h p q (r.0 ∙ sym s.0)) [
-      | inl same ↦ same
-      | inr (inl before) ↦ absurd (omega (arith, ints, before, r.2, s.1))
-      | inr (inr behind) ↦ absurd (omega (arith, ints, behind, s.2, r.1))
-    ]
-
 -- the row before a marker of a book, and the row behind it, are in no marker of it
 pub none_below : (book : List Marker) (m : Marker) → IsBook book → Contains book m → CoversRow book (line_of m) (m.y0 -ℤ pos 1) → ⊥
 none_below book m h p c =

@@ -194,11 +194,6 @@ behind xs i d m h c =
     at zero e l = subst (λ (n : Marker). BeginsFirst (get_or xs i d) n) (let f : get_or xs i d ≡ m = rw add-zero at e in f) (begins_itself (get_or xs i d))
     at (suc k) e l = subst (λ (n : Marker). BeginsFirst (get_or xs i d) n) e (h i (i + suc k) d (omega arith) l)
 
-pub AreInOrder-drop : (xs : List Marker) (n : ℕ) → AreInOrder xs → AreInOrder (drop n xs)
-AreInOrder-drop xs n h i j d l b =
-    let inside : n + j < length xs = omega (arith, b, length-drop n xs) in
-    rw (get_or-drop n xs i d, get_or-drop n xs j d) (h (n + i) (n + j) d (omega arith) inside)
-
 same_int : (x y : ℤ) → int_eq x y ≡ true → x ≡ y
 same_int x y h = grind (arith, ints)
 

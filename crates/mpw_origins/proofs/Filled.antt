@@ -20,10 +20,6 @@ use Rattle.mpw_origins.proofs.Shared.{met_is}
 abbrev Lists : Type 0
 Lists = List (List ℕ)
 
--- no item, no change
-pub Fills-none : (common : List ℕ) (rectangles : List Rectangle) (old : Lists) → Fills common rectangles [] old old
-Fills-none common rectangles old = record { count = refl; changed = λ k. inl refl; filled = λ i c. absurd (omega (arith, c.1)) }
-
 only : (i j : Item) → Contains (i ∷ []) j → i ≡ j
 only i j c = elim (Contains-push_cases [] i j c) [ inl n ↦ absurd (omega (arith, n.1)) | inr e ↦ e ]
 
@@ -120,9 +116,6 @@ all_answers rectangles boxes items old new h are count f = record {
 pub record AreItemsBefore (boxes : List Box2) (n : ℕ) (items : List Item) : Type 0 where
   pub complete : (k : ℕ) → k < n → (i : Item) × Contains items i × (i.place ≡ k)
   pub sound : (i : Item) → Contains items i → (i.place < n) × ((d : Box2) → get_or boxes i.place d ≡ i.area)
-
-pub AreItemsBefore-none : (boxes : List Box2) → AreItemsBefore boxes 0 []
-AreItemsBefore-none boxes = record { complete = λ k l. absurd (omega arith); sound = λ i c. absurd (omega (arith, c.1)) }
 
 pub AreItemsBefore-more : (boxes : List Box2) (n : ℕ) (items : List Item) (i : Item) → AreItemsBefore boxes n items → i.place ≡ n → ((d : Box2) → get_or boxes n d ≡ i.area) → AreItemsBefore boxes (n + 1) (items ++ i ∷ [])
 AreItemsBefore-more boxes n items i h e f = record {

@@ -169,22 +169,11 @@ alike_none hull common found done some r h apart b origin o i = (to, from)
     from (inl c) = (h b origin o i).1 (inl c)
     from (inr m) = elim (met_cases done r b origin m) [ inl l ↦ (h b origin o i).1 (inr l) | inr n ↦ absurd (apart (meets_hull r.area hull b i n.1)) ]
 
--- before the first
-pub alike_start : (hull : Box2) (common : List ℕ) → AreAlikeIn hull common common [] []
-alike_start hull common b origin o i = (λ a. a, λ a. a)
-
 -- ---- the numbers of one box
 
 -- the numbers so far are those of the rectangles so far
 pub record Collects (common : List ℕ) (done : List Rectangle) (b : Box2) (numbers : List ℕ) : Type 0 where
   pub exact : (origin : ℕ) → Contains numbers origin ↔ IsAnswer common done b origin
-
-pub Collects-start : (common : List ℕ) (b : Box2) → Collects common [] b common
-Collects-start common b = record { exact = λ origin. (λ c. inl c, back origin) }
-  where
-    back : (origin : ℕ) → IsAnswer common [] b origin → Contains common origin
-    back origin (inl c) = c
-    back origin (inr m) = absurd (omega (arith, m.1.1))
 
 pub Collects-met : (common : List ℕ) (done : List Rectangle) (b : Box2) (numbers : List ℕ) (r : Rectangle) → Collects common done b numbers → SharePoint r.area b → Collects common (done ++ r ∷ []) b (numbers ++ r.origin ∷ [])
 Collects-met common done b numbers r h s = record { exact = λ origin. (to origin, from origin) }

@@ -94,10 +94,6 @@ hull_none : (a : Option Box2) → hull a None ≡ a
 hull_none None = refl
 hull_none (Some a) = refl
 
--- the hull so far with what is to come
-pub hull_first : (ss : List Submission) (roots : List Root) → hull None (roots_extent ss (drop 0 roots)) ≡ roots_extent ss roots
-hull_first ss roots = refl
-
 pub hull_more : (ss : List Submission) (roots : List Root) (i : ℕ) (d : Root) (so_far : Option Box2) → i < length roots → hull so_far (roots_extent ss (drop i roots)) ≡ roots_extent ss roots
     → hull (hull so_far (root_extent ss (get_or roots i d))) (roots_extent ss (drop (i + 1) roots)) ≡ roots_extent ss roots
 unfolding roots_extent

@@ -148,10 +148,6 @@ boxes_more plan boxes i d area t own number plane h exact tile s layer origin u 
 no_layer : (layer : Layer) → (let none : Option Layer = None in none) ≡ Some layer → ⊥
 no_layer layer e = cc
 
--- what has no layer shows nothing
-pub shows_nothing : (item : Item) → layer_of item.element ≡ None → (layer : Layer) (origin : ℕ) (s : Square) → ShowsSquare item layer origin s → ⊥
-shows_nothing item e layer origin s h = no_layer layer (sym e ∙ h.on_layer)
-
 same_layer : (a b : Layer) → (let some : Option Layer = Some a in some) ≡ Some b → a ≡ b
 same_layer a b e = cc
 
@@ -163,9 +159,6 @@ boxes_show plan item boxes own e same tile s layer origin u w = (
 )
 
 -- ---- lists of shapes
-
-pub nothing_shown : (layer : Layer) (origin : ℕ) (s : Square) → IsShown [] layer origin s → ⊥
-nothing_shown layer origin s h = Held-nil (λ (i : Item). ShowsSquare i layer origin s) h
 
 pub shown_more : (plan : Tiling) (done : List Item) (item : Item) → AgreeInWindows plan (either (IsShown done) (ShowsSquare item)) (IsShown (done ++ item ∷ []))
 shown_more plan done item tile s layer origin u w = (

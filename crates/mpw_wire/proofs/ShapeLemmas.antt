@@ -43,12 +43,6 @@ written_stop old mid new failed mid' failed' lines left rest line fault told tol
     sym (flat_map-append listed_text so_far.written (line ∷ rest)) ∙ ap (λ ls. flat_map listed_text (so_far.written ++ ls)) (sym is) ∙ ap (flat_map listed_text) (sym so_far.parts) in
     subst (λ x. WritesKnown old new failed failed' x (flat_map listed_text lines)) (sym e') (subst (WritesKnown old new failed failed' (Some fault)) parts all)
 
--- all lines are written
-pub written_all : (old new : Option (List ℕ)) (failed failed' : ℕ) (lines left : List Listed) → IsWritten old new failed failed' lines left → left ≡ [] → WritesKnown old new failed failed' None (flat_map listed_text lines)
-written_all old new failed failed' lines left so_far none =
-    let whole : so_far.written ≡ lines = sym (append-nil so_far.written) ∙ ap (λ ls. so_far.written ++ ls) (sym none) ∙ sym so_far.parts in
-    (subst (λ ls. Appends old new (flat_map listed_text ls)) whole so_far.text, so_far.failures)
-
 -- lines that are kept are written as they are
 pub stored_text : (lines : List Line) → flat_map listed_text (map stored lines) ≡ flat_map line_text lines
 stored_text [] = refl
