@@ -60,9 +60,35 @@ def script(may_submit, payload, times=1, then=()):
     return body + b"".join(line + b"\n" for line in then)
 
 
-def run(program, body):
+def full():
+    return library(structure(b"TOP", *(boundary(1, 20 * i, 0, 20 * i + 10, 100) for i in range(262141))))
+
+
+def grid():
+    return library(structure(b"TOP", array(b"E", 1024, 1024, 10)), structure(b"E", boundary(1, 0, 0, 4, 4)))
+
+
+def small():
+    return library(structure(b"TOP", boundary(1, 0, 0, 10, 100)))
+
+
+def chain():
+    return library(
+        structure(b"TOP", reference(b"S0", 0, 0)),
+        *(structure(b"S%d" % i, reference(b"S%d" % (i + 1), 0, 0)) for i in range(199998)),
+        structure(b"S199998", boundary(1, 0, 0, 1, 1)),
+    )
+
+
+def run(program, make):
     with tempfile.TemporaryFile() as source, tempfile.TemporaryFile() as sink:
-        source.write(body)
+        # Made in a process of its own: a child's greatest size begins with its parent's.
+        maker = os.fork()
+        if maker == 0:
+            with os.fdopen(os.dup(source.fileno()), "wb") as file:
+                file.write(make())
+            os._exit(0)
+        os.waitpid(maker, 0)
         source.seek(0)
         began = time.monotonic()
         process = subprocess.Popen([program, "script", "--officer", "root", "--digest", DIGEST], stdin=source, stdout=sink)
@@ -76,29 +102,21 @@ def run(program, body):
 
 def main(words):
     program = words[0] if words else f"{TOP}/crates/mpw_main/out/mpw_main"
-    full = library(structure(b"TOP", *(boundary(1, 20 * i, 0, 20 * i + 10, 100) for i in range(262141))))
-    grid = library(structure(b"TOP", array(b"E", 1024, 1024, 10)), structure(b"E", boundary(1, 0, 0, 4, 4)))
-    small = library(structure(b"TOP", boundary(1, 0, 0, 10, 100)))
-    chain = library(
-        structure(b"TOP", reference(b"S0", 0, 0)),
-        *(structure(b"S%d" % i, reference(b"S%d" % (i + 1), 0, 0)) for i in range(199998)),
-        structure(b"S199998", boundary(1, 0, 0, 1, 1)),
-    )
     rows = [
-        (f"reading a library of {len(full)} bytes", script(False, full)),
-        ("submitting it", script(True, full)),
-        ("submitting it, and listing its 262,141 shapes", script(True, full, 1, [b"shapes chip"])),
-        ("submitting 2^20 shapes of an array", script(True, grid)),
-        ("submitting them, and listing them", script(True, grid, 1, [b"shapes chip"])),
-        ("submitting them, and listing them ten times", script(True, grid, 1, [b"shapes chip"] * 10)),
-        ("4092 submissions of 168 bytes", script(True, small, 4092)),
-        (f"a chain of 200,000 structures, {len(chain)} bytes", script(True, chain)),
-        ("three times refused for it", script(True, chain, 3)),
+        ("reading a library of 2^24 bytes", lambda: script(False, full())),
+        ("submitting it", lambda: script(True, full())),
+        ("submitting it, and listing its 262,141 shapes", lambda: script(True, full(), 1, [b"shapes chip"])),
+        ("submitting 2^20 shapes of an array", lambda: script(True, grid())),
+        ("submitting them, and listing them", lambda: script(True, grid(), 1, [b"shapes chip"])),
+        ("submitting them, and listing them ten times", lambda: script(True, grid(), 1, [b"shapes chip"] * 10)),
+        ("4092 submissions of 168 bytes", lambda: script(True, small(), 4092)),
+        ("a chain of 200,000 structures, 14,796,052 bytes", lambda: script(True, chain())),
+        ("three times refused for it", lambda: script(True, chain(), 3)),
     ]
     print("| Script | Seconds | MB resident | Bytes of replies | Last line |")
     print("|-|-|-|-|-|")
-    for name, body in rows:
-        took, memory, size, last = run(program, body)
+    for name, make in rows:
+        took, memory, size, last = run(program, make)
         print(f"| {name} | {took:.2f} | {memory:.0f} | {size} | `{last[:60]}` |", flush=True)
 
 
