@@ -145,9 +145,6 @@ boxes_more plan boxes i d area t own number plane h exact tile s layer origin u 
 
 -- ---- shapes
 
-no_layer : (layer : Layer) → (let none : Option Layer = None in none) ≡ Some layer → ⊥
-no_layer layer e = cc
-
 same_layer : (a b : Layer) → (let some : Option Layer = Some a in some) ≡ Some b → a ≡ b
 same_layer a b e = cc
 

@@ -1,4 +1,4 @@
-//! Laws of the definitions alone. Each function has an empty body: its contract is the law.
+//! Laws of the definitions alone. Each function calls at most the laws that its own rests on: its contract is the law.
 
 ghost use Rattle.mpw_tiles.specs.Laws.{
   EachStepHasOneTile,
