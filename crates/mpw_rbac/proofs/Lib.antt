@@ -12,3 +12,5 @@ pub mod SeparationLemmas
 pub mod SoundLemmas
 pub mod TableLemmas
 pub mod TrimLemmas
+mod ExistingLemmas
+mod KeptTables

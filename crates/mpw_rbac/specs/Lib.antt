@@ -1,4 +1,5 @@
 pub mod Access
+pub mod Existing
 pub mod Fault
 pub mod Grant
 pub mod Holders

@@ -17,6 +17,7 @@ mod refusal;
 mod separation;
 mod session;
 mod sessions;
+mod tables;
 mod trim;
 mod users;
 
@@ -31,3 +32,4 @@ pub use permission::{Grant, Object, Operation};
 pub use policy::{MAX_GRANTS, MAX_USERS, Policy};
 pub use refusal::{PolicyFault, Refusal};
 pub use session::{Digest, Identity, Session, User};
+pub use tables::each_request_keeps_the_tables;
