@@ -14,3 +14,4 @@ pub mod TableLemmas
 pub mod TrimLemmas
 mod ExistingLemmas
 mod KeptTables
+mod AcceptedLemmas

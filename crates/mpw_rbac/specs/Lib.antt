@@ -1,3 +1,4 @@
+pub mod Accepted
 pub mod Access
 pub mod Existing
 pub mod Fault

@@ -5,6 +5,7 @@
 //! refused request changes nothing.
 #![tactic(auto)]
 
+mod accepted;
 mod access;
 mod admin;
 mod hierarchy;
@@ -21,6 +22,7 @@ mod tables;
 mod trim;
 mod users;
 
+pub use accepted::{administration_needs_its_permission, sets_are_told_where_they_are_tested};
 pub use access::Access;
 pub use laws::{
     denied_only_for_the_least_broken_set, denied_only_without_the_permission,
