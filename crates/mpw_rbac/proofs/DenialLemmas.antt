@@ -48,18 +48,18 @@ permits-more policy user few many operation object more is =
     (λ was. roles_below-grows policy.roles policy.roles few many (λ a b p. p) (λ r p. p) more g.role was))
     policy.granted is
 
-abbrev refused : Refusal → Result Policy Refusal
+abbrev pub refused : Refusal → Result Policy Refusal
 refused r = Err r
 
 refusal-same : (a b : Refusal) → refused a ≡ refused b → a ≡ b
 refusal-same a b e = cc
 
 -- none of the tests denies this
-abbrev NoneDenies : Refusal → List rows.Test → Type 0
+abbrev pub NoneDenies : Refusal → List rows.Test → Type 0
 NoneDenies denial [] = Unit {0}
 NoneDenies denial (t ∷ ts) = (t.1 ≡ denial → ⊥) × NoneDenies denial ts
 
-none-denied : (denial : Refusal) (tests : List rows.Test) (next : Policy) → NoneDenies denial tests → decided tests next ≡ refused denial → ⊥
+pub none-denied : (denial : Refusal) (tests : List rows.Test) (next : Policy) → NoneDenies denial tests → decided tests next ≡ refused denial → ⊥
 none-denied denial [] next none is = cc
 none-denied denial (t ∷ ts) next none is =
     elim t.0 as (λ b. cond b (decided ts next) (Err t.1) ≡ refused denial → ⊥) [
@@ -77,7 +77,7 @@ admin-denied p conn operation object tests next none is = by (rows.in_session p 
     by false b e f = cc
 
 -- refusals of other kinds
-abbrev IsPlain : Refusal → Type 0
+abbrev pub IsPlain : Refusal → Type 0
 IsPlain denial = (Known ≡ denial → ⊥) × (Unknown ≡ denial → ⊥) × (Full ≡ denial → ⊥) × (Used ≡ denial → ⊥) × (Loop ≡ denial → ⊥) × (NoSession ≡ denial → ⊥)
 
 permission-plain : (operation : Operation) (object : Object) → IsPlain (NotPermitted operation object)
@@ -86,10 +86,10 @@ permission-plain operation object = (λ e. cc, λ e. cc, λ e. cc, λ e. cc, λ 
 activation-plain : (role : Name) → IsPlain (NotAuthorized role)
 activation-plain role = (λ e. cc, λ e. cc, λ e. cc, λ e. cc, λ e. cc, λ e. cc)
 
-ssd-plain : (name : Name) → IsPlain (Ssd name)
+pub ssd-plain : (name : Name) → IsPlain (Ssd name)
 ssd-plain name = (λ e. cc, λ e. cc, λ e. cc, λ e. cc, λ e. cc, λ e. cc)
 
-dsd-plain : (name : Name) → IsPlain (Dsd name)
+pub dsd-plain : (name : Name) → IsPlain (Dsd name)
 dsd-plain name = (λ e. cc, λ e. cc, λ e. cc, λ e. cc, λ e. cc, λ e. cc)
 
 ssd-permission : (operation : Operation) (object : Object) (o : Option Name) → (rows.none_broken Ssd o).1 ≡ NotPermitted operation object → ⊥
@@ -104,21 +104,21 @@ dsd-activation : (role : Name) (o : Option Name) → (rows.none_broken Dsd o).1 
 dsd-activation role None e = cc
 dsd-activation role (Some n) e = cc
 
-dsd-static : (name : Name) (o : Option Name) → (rows.none_broken Dsd o).1 ≡ Ssd name → ⊥
+pub dsd-static : (name : Name) (o : Option Name) → (rows.none_broken Dsd o).1 ≡ Ssd name → ⊥
 dsd-static name None e = cc
 dsd-static name (Some n) e = cc
 
-ssd-dynamic : (name : Name) (o : Option Name) → (rows.none_broken Ssd o).1 ≡ Dsd name → ⊥
+pub ssd-dynamic : (name : Name) (o : Option Name) → (rows.none_broken Ssd o).1 ≡ Dsd name → ⊥
 ssd-dynamic name None e = cc
 ssd-dynamic name (Some n) e = cc
 
-admin-static : (name : Name) → NotPermitted Admin Desk ≡ Ssd name → ⊥
+pub admin-static : (name : Name) → NotPermitted Admin Desk ≡ Ssd name → ⊥
 admin-static name e = cc
 
-admin-dynamic : (name : Name) → NotPermitted Admin Desk ≡ Dsd name → ⊥
+pub admin-dynamic : (name : Name) → NotPermitted Admin Desk ≡ Dsd name → ⊥
 admin-dynamic name e = cc
 
-activation-dynamic : (role name : Name) → NotAuthorized role ≡ Dsd name → ⊥
+pub activation-dynamic : (role name : Name) → NotAuthorized role ≡ Dsd name → ⊥
 activation-dynamic role name e = cc
 
 pub denies-adduser : (conn : ℕ) (user digest : List ℕ) → DeniesRightly conn (λ p. rows.adduser p conn user digest)

@@ -12,3 +12,6 @@ pub mod SeparationLemmas
 pub mod SoundLemmas
 pub mod TableLemmas
 pub mod TrimLemmas
+mod ExistingLemmas
+mod KeptTables
+mod AcceptedLemmas

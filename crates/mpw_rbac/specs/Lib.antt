@@ -1,4 +1,6 @@
+pub mod Accepted
 pub mod Access
+pub mod Existing
 pub mod Fault
 pub mod Grant
 pub mod Holders

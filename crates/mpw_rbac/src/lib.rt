@@ -5,6 +5,7 @@
 //! refused request changes nothing.
 #![tactic(auto)]
 
+mod accepted;
 mod access;
 mod admin;
 mod hierarchy;
@@ -17,9 +18,11 @@ mod refusal;
 mod separation;
 mod session;
 mod sessions;
+mod tables;
 mod trim;
 mod users;
 
+pub use accepted::{administration_needs_its_permission, sets_are_told_where_they_are_tested};
 pub use access::Access;
 pub use laws::{
     denied_only_for_the_least_broken_set, denied_only_without_the_permission,
@@ -31,3 +34,4 @@ pub use permission::{Grant, Object, Operation};
 pub use policy::{MAX_GRANTS, MAX_USERS, Policy};
 pub use refusal::{PolicyFault, Refusal};
 pub use session::{Digest, Identity, Session, User};
+pub use tables::each_request_keeps_the_tables;
