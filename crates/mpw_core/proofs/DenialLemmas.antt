@@ -49,7 +49,7 @@ activation-told refusal.Known other e = cc
 activation-told refusal.Used other e = cc
 activation-told refusal.Full other e = cc
 
-permission-changed : (s : State) (row : Result Policy Refusal) (operation : Operation) (object : Object) → (changed s row).reply ≡ reply.Denied (denial.Permission operation object) → row ≡ Err (refusal.NotPermitted operation object)
+pub permission-changed : (s : State) (row : Result Policy Refusal) (operation : Operation) (object : Object) → (changed s row).reply ≡ reply.Denied (denial.Permission operation object) → row ≡ Err (refusal.NotPermitted operation object)
 permission-changed s (Ok q) operation object e = cc
 permission-changed s (Err r) operation object e = ap (λ x. Err x) (permission-told r operation object e)
 

@@ -7,3 +7,5 @@ mod KeepingLemmas
 mod RestartLemmas
 pub mod GoingOnLemmas
 mod ReadableLemmas
+mod KeptLemmas
+mod PolicyReplies

@@ -25,7 +25,7 @@ use Rattle.mpw_core.specs.Step.{State, Outcome, told, changed, asked, identity_l
 
 -- ---- what ends a row is a denial or a refusal
 
-never_ok : (r : Reply) → IsNegative r → (lines : List Listed) → r ≡ reply.Ok lines → ⊥
+pub never_ok : (r : Reply) → IsNegative r → (lines : List Listed) → r ≡ reply.Ok lines → ⊥
 never_ok (reply.Ok found) tells lines e = tells
 never_ok (reply.Denied why) tells lines e = cc
 never_ok (reply.Refused why) tells lines e = cc
@@ -33,7 +33,7 @@ never_ok reply.Gone tells lines e = tells
 never_ok reply.Restarted tells lines e = tells
 never_ok reply.Ended tells lines e = tells
 
-told_refusal : (r : Refusal) → IsNegative (told r)
+pub told_refusal : (r : Refusal) → IsNegative (told r)
 told_refusal refusal.Opened = tt
 told_refusal refusal.Login = tt
 told_refusal refusal.NoSession = tt
@@ -81,7 +81,7 @@ of_request layouts_are s conn (ask.Policy request) lines e = of_changed s.policy
 of_request layouts_are s conn ask.Whoami lines e = of_identity s.policy conn s (rows.whoami s.policy conn) lines e
 of_request layouts_are s conn (ask.Layout request) lines e = layouts_are s.policy s.shelf conn request lines e
 
-settled-ok : (s : State) (conn : ℕ) (request : Request) (kept : Bool) (o : Outcome) (lines : List Listed) → (settled s (event.Ask conn request) kept o).reply ≡ reply.Ok lines → o.reply ≡ reply.Ok lines
+pub settled-ok : (s : State) (conn : ℕ) (request : Request) (kept : Bool) (o : Outcome) (lines : List Listed) → (settled s (event.Ask conn request) kept o).reply ≡ reply.Ok lines → o.reply ≡ reply.Ok lines
 settled-ok s conn request kept o lines = go (o.changes && not kept)
   where
     go : (b : Bool) → (cond b (left (unkept (event.Ask conn request)) (record s { closed = true })) o).reply ≡ reply.Ok lines → o.reply ≡ reply.Ok lines

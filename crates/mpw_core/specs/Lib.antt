@@ -2,4 +2,5 @@ pub mod Answer
 pub mod History
 pub mod Keeping
 pub mod PolicyRows
+pub mod Requested
 pub mod Step

@@ -3,7 +3,13 @@ ghost use Rattle.std.specs.Prelude.{◌≡◌, ◌≢◌, ℕ, Bool, List, All, 
 ghost use Rattle.mpw_geom.specs.Names.{contains_name};
 ghost use Rattle.mpw_rbac.specs.Policy.{authorized, is_user, permits, session_of};
 ghost use Rattle.mpw_rbac.specs.Rows.{is_login, user_of};
+ghost use Rattle.mpw_rbac.specs.Existing.{IsKept};
+ghost use Rattle.mpw_rbac.specs.Laws.{IsLeastDynamic, IsLeastStatic};
 ghost use Rattle.mpw_rbac.specs.Sound.{active_authorized, Sound};
+ghost use Rattle.mpw_rbac.specs.declared.permission.Object.TheVariants.{Desk};
+ghost use Rattle.mpw_rbac.specs.declared.permission.Operation.TheVariants.{Admin};
+ghost use Rattle.mpw_requests.specs.declared.policy.PolicyRequest.{PolicyRequest as AnyPolicyRequest};
+ghost use Rattle.mpw_core.specs.Requested.{is_administration, requested};
 ghost use Rattle.mpw_core.specs.History.{state_after, KeptDesk, IsHandled, GoesOnTo};
 ghost use Rattle.mpw_replies.specs.declared.reply.Reply.{Reply as AnyReply};
 ghost use Rattle.mpw_replies.specs.Listing.{Listed};
@@ -26,6 +32,11 @@ ghost use Rattle.mpw_rbac.specs.declared.permission.Operation.{Operation};
 use mpw_layouts::{
     denials_of_layouts_name_what_is_lacked, layouts_are_left_unless_a_request_is_accepted,
     lines_of_layouts_are_of_readable_cells,
+};
+use mpw_rbac::{
+    administration_needs_its_permission, denied_only_for_the_least_broken_set,
+    each_request_keeps_the_tables, own_requests_need_no_permission,
+    sets_are_told_where_they_are_tested,
 };
 
 /// In every state that calls lead to, each session is of a user who is authorized for each of its active roles.
@@ -89,4 +100,35 @@ pub fn denials_name_what_the_session_lacks()
     ensures activation { (state : State) (conn : ℕ) (role other : List ℕ) (kept : Bool) → reply_of state (event.Ask conn (ask.Policy (Request.Activate role))) kept ≡ Reply.Denied (denial.Activation other) → (other ≡ role) × (contains_name (authorized state.policy (user_of state.policy conn)) role ≡ false) }
 {
     denials_of_layouts_name_what_is_lacked();
+}
+
+/// In every state that calls lead to, the policy's tables name users and roles that are there, and hold no more than their
+/// limits.
+pub fn every_state_keeps_its_tables()
+    ensures { (officer digest : List ℕ) (calls : List Call) → IsKept (state_after (new_state officer digest) calls).policy }
+{
+    each_request_keeps_the_tables();
+}
+
+/// A request that administers the desk is accepted only of a session that had the permission `admin desk`.
+pub fn accepted_administration_had_its_permission()
+    ensures { (state : State) (conn : ℕ) (request : AnyPolicyRequest) (kept : Bool) (lines : List Listed) → is_administration request ≡ true → reply_of state (event.Ask conn (ask.Policy request)) kept ≡ Reply.Ok lines → permits state.policy conn Admin Desk ≡ true }
+{
+    administration_needs_its_permission();
+}
+
+/// A denial for a set of separation of duty names the least set of its kind that the policy that was asked for would break.
+pub fn sets_are_denied_for_what_was_asked()
+    ensures static { (state : State) (conn : ℕ) (request : AnyPolicyRequest) (kept : Bool) (name : List ℕ) → reply_of state (event.Ask conn (ask.Policy request)) kept ≡ Reply.Denied (denial.Ssd name) → IsLeastStatic (requested state.policy conn request) name }
+    ensures dynamic { (state : State) (conn : ℕ) (request : AnyPolicyRequest) (kept : Bool) (name : List ℕ) → reply_of state (event.Ask conn (ask.Policy request)) kept ≡ Reply.Denied (denial.Dsd name) → IsLeastDynamic (requested state.policy conn request) name }
+{
+    denied_only_for_the_least_broken_set();
+    sets_are_told_where_they_are_tested();
+}
+
+/// `open`, `close`, `activate` and `drop` are never denied for want of a permission.
+pub fn own_requests_are_never_denied_a_permission()
+    ensures { (state : State) (conn : ℕ) (request : AnyPolicyRequest) (kept : Bool) (operation : Operation) (object : Object) → is_administration request ≡ false → reply_of state (event.Ask conn (ask.Policy request)) kept ≡ Reply.Denied (denial.Permission operation object) → ⊥ }
+{
+    own_requests_need_no_permission();
 }
