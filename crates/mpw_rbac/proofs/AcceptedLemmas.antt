@@ -3,15 +3,17 @@ use Rattle.std.proofs.Common.{◌≡◌, ℕ, true, List, [], ◌∷◌, Ok, Err
 use Rattle.mpw_roles.specs.Decided.{decided}
 use Rattle.mpw_roles.specs.Hierarchy.{Name}
 use Rattle.mpw_separation.specs.Set.{SeparationSet}
-use Rattle.mpw_rbac.specs.Accepted.{NeedsAdministration, TellsNoStatic, TellsNoDynamic}
+use Rattle.mpw_rbac.specs.Accepted.{NeedsAdministration, NeedsNoPermission, TellsNoStatic, TellsNoDynamic}
 use Rattle.mpw_rbac.specs.declared.permission.Grant.{Grant}
+use Rattle.mpw_rbac.specs.declared.permission.Object.{Object}
 use Rattle.mpw_rbac.specs.declared.permission.Object.TheVariants.{Desk}
+use Rattle.mpw_rbac.specs.declared.permission.Operation.{Operation}
 use Rattle.mpw_rbac.specs.declared.permission.Operation.TheVariants.{Admin}
 use Rattle.mpw_rbac.specs.declared.refusal.Refusal.{Refusal}
 use Rattle.mpw_rbac.specs.declared.refusal.Refusal.TheVariants.{Opened, Login, NotPermitted, NotAuthorized, Ssd, Dsd}
 use Rattle.mpw_rbac.specs.Policy.{Policy, permits, trim}
 use Rattle.mpw_rbac.specs.Rows as rows
-use Rattle.mpw_rbac.proofs.DenialLemmas.{none-denied, ssd-plain, dsd-plain, dsd-static, ssd-dynamic, admin-static, admin-dynamic, activation-dynamic}
+use Rattle.mpw_rbac.proofs.DenialLemmas.{none-denied, permission-plain, dsd-permission, ssd-plain, dsd-plain, dsd-static, ssd-dynamic, admin-static, admin-dynamic, activation-dynamic}
 use Rattle.mpw_rbac.proofs.RowLemmas.{all-pass}
 use Rattle.mpw_rbac.proofs.RowTests as row
 
@@ -218,3 +220,32 @@ pub no_dynamic-undsd : (conn : ℕ) (name : List ℕ) → TellsNoDynamic (λ p. 
 no_dynamic-undsd conn name p told is =
     let f = dsd-plain told in
     none-denied (Dsd told) (row.administer-tests p conn (row.undsd-tests p name)) (row.dsd_removed p name) (f.5, (admin-dynamic told, (f.1, tt))) is
+
+-- ---- requests of a session's own roles
+
+open-permission : (operation : Operation) (object : Object) → (Opened ≡ NotPermitted operation object → ⊥) × (Login ≡ NotPermitted operation object → ⊥)
+open-permission operation object = (λ e. cc, λ e. cc)
+
+pub no_permission-open_session : (conn : ℕ) (user digest : List ℕ) → NeedsNoPermission (λ p. rows.open_session p conn user digest)
+no_permission-open_session conn user digest p operation object is =
+    let other = open-permission operation object in
+    none-denied (NotPermitted operation object) (row.open-tests p conn user digest) (row.opened p conn user) (other.0, (other.1, tt)) is
+
+pub no_permission-close_session : (conn : ℕ) → NeedsNoPermission (λ p. rows.close_session p conn)
+no_permission-close_session conn p operation object is =
+    let f = permission-plain operation object in
+    none-denied (NotPermitted operation object) (rows.in_session p conn ∷ []) (rows.end_session p conn) (f.5, tt) is
+
+activation-permission : (role : Name) (operation : Operation) (object : Object) → NotAuthorized role ≡ NotPermitted operation object → ⊥
+activation-permission role operation object e = cc
+
+pub no_permission-activate : (conn : ℕ) (role : List ℕ) → NeedsNoPermission (λ p. rows.activate p conn role)
+no_permission-activate conn role p operation object is =
+    let f = permission-plain operation object in
+    none-denied (NotPermitted operation object) (row.activate-tests p conn role) (row.activated p conn role)
+    (f.5, (activation-permission role operation object, (f.0, (dsd-permission operation object _, tt)))) is
+
+pub no_permission-drop_role : (conn : ℕ) (role : List ℕ) → NeedsNoPermission (λ p. rows.drop_role p conn role)
+no_permission-drop_role conn role p operation object is =
+    let f = permission-plain operation object in
+    none-denied (NotPermitted operation object) (row.drop-tests p conn role) (row.dropped p conn role) (f.5, (f.1, tt)) is

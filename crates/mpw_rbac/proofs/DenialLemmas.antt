@@ -80,7 +80,7 @@ admin-denied p conn operation object tests next none is = by (rows.in_session p 
 abbrev pub IsPlain : Refusal → Type 0
 IsPlain denial = (Known ≡ denial → ⊥) × (Unknown ≡ denial → ⊥) × (Full ≡ denial → ⊥) × (Used ≡ denial → ⊥) × (Loop ≡ denial → ⊥) × (NoSession ≡ denial → ⊥)
 
-permission-plain : (operation : Operation) (object : Object) → IsPlain (NotPermitted operation object)
+pub permission-plain : (operation : Operation) (object : Object) → IsPlain (NotPermitted operation object)
 permission-plain operation object = (λ e. cc, λ e. cc, λ e. cc, λ e. cc, λ e. cc, λ e. cc)
 
 activation-plain : (role : Name) → IsPlain (NotAuthorized role)
@@ -96,7 +96,7 @@ ssd-permission : (operation : Operation) (object : Object) (o : Option Name) →
 ssd-permission operation object None e = cc
 ssd-permission operation object (Some n) e = cc
 
-dsd-permission : (operation : Operation) (object : Object) (o : Option Name) → (rows.none_broken Dsd o).1 ≡ NotPermitted operation object → ⊥
+pub dsd-permission : (operation : Operation) (object : Object) (o : Option Name) → (rows.none_broken Dsd o).1 ≡ NotPermitted operation object → ⊥
 dsd-permission operation object None e = cc
 dsd-permission operation object (Some n) e = cc
 

@@ -1,15 +1,21 @@
 -- What a row that accepts needed, and which rows tell no set of separation of duty.
 use Rattle.std.specs.Prelude.{◌≡◌, ℕ, true, Result, Ok, Err}
 use Rattle.mpw_roles.specs.Hierarchy.{Name}
+use Rattle.mpw_rbac.specs.declared.permission.Operation.{Operation}
 use Rattle.mpw_rbac.specs.declared.permission.Operation.TheVariants.{Admin}
+use Rattle.mpw_rbac.specs.declared.permission.Object.{Object}
 use Rattle.mpw_rbac.specs.declared.permission.Object.TheVariants.{Desk}
 use Rattle.mpw_rbac.specs.declared.refusal.Refusal.{Refusal}
-use Rattle.mpw_rbac.specs.declared.refusal.Refusal.TheVariants.{Ssd, Dsd}
+use Rattle.mpw_rbac.specs.declared.refusal.Refusal.TheVariants.{NotPermitted, Ssd, Dsd}
 use Rattle.mpw_rbac.specs.Policy.{Policy, permits}
 
 -- where the row accepts, the connection's session may administer the desk
 abbrev pub NeedsAdministration : ℕ → (Policy → Result Policy Refusal) → Type 0
 NeedsAdministration conn row = (p q : Policy) → row p ≡ Ok q → permits p conn Admin Desk ≡ true
+
+-- the row denies no permission
+abbrev pub NeedsNoPermission : (Policy → Result Policy Refusal) → Type 0
+NeedsNoPermission row = (p : Policy) (operation : Operation) (object : Object) → row p ≡ Err (NotPermitted operation object) → ⊥
 
 -- the row tells no static set, and no dynamic one
 abbrev pub TellsNoStatic : (Policy → Result Policy Refusal) → Type 0

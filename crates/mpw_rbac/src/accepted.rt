@@ -2,7 +2,7 @@
 //! empty body: its contract is the law.
 ghost use Rattle.std.specs.Prelude.{ℕ, List};
 ghost use Rattle.mpw_separation.specs.Set.{SeparationSet};
-ghost use Rattle.mpw_rbac.specs.Accepted.{NeedsAdministration, TellsNoDynamic, TellsNoStatic};
+ghost use Rattle.mpw_rbac.specs.Accepted.{NeedsAdministration, NeedsNoPermission, TellsNoDynamic, TellsNoStatic};
 ghost use Rattle.mpw_rbac.specs.Rows as rows;
 ghost use Rattle.mpw_rbac.specs.declared.permission.Grant.{Grant};
 
@@ -57,4 +57,12 @@ pub fn sets_are_told_where_they_are_tested()
     ensures unssd_dynamic { (conn : ℕ) (name : List ℕ) → TellsNoDynamic (λ p. rows.unssd p conn name) }
     ensures undsd_static { (conn : ℕ) (name : List ℕ) → TellsNoStatic (λ p. rows.undsd p conn name) }
     ensures undsd_dynamic { (conn : ℕ) (name : List ℕ) → TellsNoDynamic (λ p. rows.undsd p conn name) }
+{}
+
+/// `open`, `close`, `activate` and `drop` are never denied for want of a permission.
+pub fn own_requests_need_no_permission()
+    ensures open_session { (conn : ℕ) (user digest : List ℕ) → NeedsNoPermission (λ p. rows.open_session p conn user digest) }
+    ensures close_session { (conn : ℕ) → NeedsNoPermission (λ p. rows.close_session p conn) }
+    ensures activate { (conn : ℕ) (role : List ℕ) → NeedsNoPermission (λ p. rows.activate p conn role) }
+    ensures drop_role { (conn : ℕ) (role : List ℕ) → NeedsNoPermission (λ p. rows.drop_role p conn role) }
 {}

@@ -22,7 +22,10 @@ mod tables;
 mod trim;
 mod users;
 
-pub use accepted::{administration_needs_its_permission, sets_are_told_where_they_are_tested};
+pub use accepted::{
+    administration_needs_its_permission, own_requests_need_no_permission,
+    sets_are_told_where_they_are_tested,
+};
 pub use access::Access;
 pub use laws::{
     denied_only_for_the_least_broken_set, denied_only_without_the_permission,
