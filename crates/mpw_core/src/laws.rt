@@ -119,8 +119,8 @@ pub fn accepted_administration_had_its_permission()
 
 /// A denial for a set of separation of duty names the least set of its kind that the policy that was asked for would break.
 pub fn sets_are_denied_for_what_was_asked()
-    ensures static { (state : State) (conn : ℕ) (request : AnyPolicyRequest) (kept : Bool) (name : List ℕ) → reply_of state (event.Ask conn (ask.Policy request)) kept ≡ Reply.Denied (denial.Ssd name) → IsLeastStatic (requested state.policy conn request) name }
-    ensures dynamic { (state : State) (conn : ℕ) (request : AnyPolicyRequest) (kept : Bool) (name : List ℕ) → reply_of state (event.Ask conn (ask.Policy request)) kept ≡ Reply.Denied (denial.Dsd name) → IsLeastDynamic (requested state.policy conn request) name }
+    ensures ssd { (state : State) (conn : ℕ) (request : AnyPolicyRequest) (kept : Bool) (name : List ℕ) → reply_of state (event.Ask conn (ask.Policy request)) kept ≡ Reply.Denied (denial.Ssd name) → IsLeastStatic (requested state.policy conn request) name }
+    ensures dsd { (state : State) (conn : ℕ) (request : AnyPolicyRequest) (kept : Bool) (name : List ℕ) → reply_of state (event.Ask conn (ask.Policy request)) kept ≡ Reply.Denied (denial.Dsd name) → IsLeastDynamic (requested state.policy conn request) name }
 {
     denied_only_for_the_least_broken_set();
     sets_are_told_where_they_are_tested();

@@ -10,7 +10,7 @@ use Rattle.mpw_core.proofs.PolicyReplies.{ssd-row, dsd-row}
 use Rattle.mpw_core.proofs.laws.sets_are_denied_for_what_was_asked.Goals as goal
 
 pub returns : goal.returns
-returns c = record { static = λ s conn request kept name e. static conn request s.policy name (ssd-row s conn request kept name e); dynamic = λ s conn request kept name e. dynamic conn request s.policy name (dsd-row s conn request kept name e) }
+returns c = record { ssd = λ s conn request kept name e. static conn request s.policy name (ssd-row s conn request kept name e); dsd = λ s conn request kept name e. dynamic conn request s.policy name (dsd-row s conn request kept name e) }
   where
     static : (conn : ℕ) (request : PolicyRequest) (p : Policy) (told : List ℕ) → row_of p conn request ≡ Err (refusal.Ssd told) → IsLeastStatic (requested p conn request) told
     static conn (Open user digest) p told is = absurd (c.sets_are_told_where_they_are_tested.ensures.open_session_static conn user digest p told is)
