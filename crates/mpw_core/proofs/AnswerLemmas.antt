@@ -10,9 +10,9 @@ use Rattle.mpw_core.specs.declared.answer.Answer.{Answer}
 use Rattle.mpw_core.specs.Answer.{IsRefusal, Gives, Told, state_with, is_change}
 use Rattle.mpw_core.specs.Step.{State, Outcome, changed, left}
 use Rattle.mpw_core.specs.declared.answer.Next.TheVariants.{Nothing}
-use Rattle.mpw_core.specs.declared.answer.Fault.{Fault}
-use Rattle.mpw_core.specs.declared.answer.Fault.TheVariants as fault
-use Rattle.mpw_core.specs.declared.reply.Reply.{Reply}
+use Rattle.mpw_replies.specs.declared.row.Fault.{Fault}
+use Rattle.mpw_replies.specs.declared.row.Fault.TheVariants as fault
+use Rattle.mpw_replies.specs.declared.reply.Reply.{Reply}
 
 pub refused-gives : (state : State) (row : Result Policy Refusal) (fault : PolicyFault) (result : Result Answer AllocError) → IsFaultOf row fault → IfOk result (λ a. IsRefusal fault a.reply a.next)
     → IfOk result (λ a. Gives state (changed state row) a.reply a.next)

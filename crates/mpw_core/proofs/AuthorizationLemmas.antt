@@ -9,29 +9,15 @@ use Rattle.mpw_rbac.specs.declared.session.Identity.{Identity}
 use Rattle.mpw_rbac.proofs.LawLemmas as law
 use Rattle.mpw_core.specs.declared.event.Event.{Event}
 use Rattle.mpw_core.specs.declared.event.Event.TheVariants as event
-use Rattle.mpw_core.specs.declared.event.Request.{Request}
-use Rattle.mpw_core.specs.declared.event.Request.TheVariants as ask
-use Rattle.mpw_core.specs.declared.policy.PolicyRequest.{PolicyRequest}
-use Rattle.mpw_core.specs.declared.policy.PolicyRequest.TheVariants.{Open, Close, Activate, DropRole, AddUser, DelUser, AddRole, DelRole, Assign, Deassign, Grant, Revoke, Inherit, Uninherit, Ssd, Dsd, UnSsd, UnDsd}
-use Rattle.mpw_core.specs.declared.layouts.LayoutRequest.{LayoutRequest}
-use Rattle.mpw_core.specs.declared.layouts.LayoutRequest.TheVariants.{Submit, Cells, Shapes}
+use Rattle.mpw_requests.specs.declared.request.Request.{Request}
+use Rattle.mpw_requests.specs.declared.request.Request.TheVariants as ask
+use Rattle.mpw_requests.specs.declared.policy.PolicyRequest.{PolicyRequest}
+use Rattle.mpw_requests.specs.declared.policy.PolicyRequest.TheVariants.{Open, Close, Activate, DropRole, AddUser, DelUser, AddRole, DelRole, Assign, Deassign, Grant, Revoke, Inherit, Uninherit, Ssd, Dsd, UnSsd, UnDsd}
 use Rattle.mpw_core.specs.PolicyRows.{row_of}
 use Rattle.mpw_core.specs.declared.event.Call.{Call}
 use Rattle.mpw_core.specs.History.{state_after}
-use Rattle.mpw_hier.specs.declared.submission.Submission.{Submission}
-use Rattle.mpw_core.specs.Listing.{Listed}
-use Rattle.mpw_core.specs.declared.reply.Reply.{Reply}
-use Rattle.mpw_core.specs.Layouts as layouts
-use Rattle.mpw_core.specs.Step.{State, Outcome, new_state, left, changed, asked, shelved, listed, identity_lines, layout_outcome, outcome_of, wanted, unkept, settled, step, after}
-
--- the requests over the shelf leave the policy
-policy-shelved : (s : State) (row : Result Submission Reply) → (shelved s row).state.policy ≡ s.policy
-policy-shelved s (Ok q) = refl
-policy-shelved s (Err r) = refl
-
-policy-listed : (s : State) (row : Result (List Listed) Reply) → (listed s row).state.policy ≡ s.policy
-policy-listed s (Ok q) = refl
-policy-listed s (Err r) = refl
+use Rattle.mpw_replies.specs.declared.reply.Reply.{Reply}
+use Rattle.mpw_core.specs.Step.{State, Outcome, new_state, left, changed, asked, identity_lines, outcome_of, wanted, unkept, settled, step, after}
 
 -- every active role is authorized
 keeps-changed : (s : State) (row : Result Policy Refusal) → ((q : Policy) → row ≡ Ok q → active_authorized q ≡ true) → active_authorized s.policy ≡ true → active_authorized (changed s row).state.policy ≡ true
@@ -62,15 +48,10 @@ keeps-row p conn (Dsd set) q is sound = law.keeps-dsd conn set p q is sound
 keeps-row p conn (UnSsd name) q is sound = law.keeps-unssd conn name p q is sound
 keeps-row p conn (UnDsd name) q is sound = law.keeps-undsd conn name p q is sound
 
-keeps-layout : (s : State) (conn : ℕ) (request : LayoutRequest) → active_authorized s.policy ≡ true → active_authorized (layout_outcome s conn request).state.policy ≡ true
-keeps-layout s conn (Submit cell top text) sound = rw (policy-shelved s (layouts.submitted s.policy s.shelf conn cell top text)) sound
-keeps-layout s conn Cells sound = rw (policy-listed s (layouts.cells s.policy s.shelf conn)) sound
-keeps-layout s conn (Shapes cell) sound = rw (policy-listed s (layouts.shapes s.policy s.shelf conn cell)) sound
-
 keeps-request : (s : State) (conn : ℕ) (request : Request) → active_authorized s.policy ≡ true → active_authorized (outcome_of s conn request).state.policy ≡ true
 keeps-request s conn (ask.Policy request) sound = keeps-changed s (row_of s.policy conn request) (λ q is. keeps-row s.policy conn request q is sound) sound
 keeps-request s conn ask.Whoami sound = keeps-asked s (rows.whoami s.policy conn) sound
-keeps-request s conn (ask.Layout request) sound = keeps-layout s conn request sound
+keeps-request s conn (ask.Layout request) sound = sound
 
 keeps-wanted : (s : State) (event : Event) → active_authorized s.policy ≡ true → active_authorized (wanted s event).state.policy ≡ true
 unfolding wanted
@@ -122,15 +103,10 @@ sound-row p conn (Dsd set) q is sound = law.sound-dsd conn set p q is sound
 sound-row p conn (UnSsd name) q is sound = law.sound-unssd conn name p q is sound
 sound-row p conn (UnDsd name) q is sound = law.sound-undsd conn name p q is sound
 
-sound-layout : (s : State) (conn : ℕ) (request : LayoutRequest) → Sound s.policy → Sound (layout_outcome s conn request).state.policy
-sound-layout s conn (Submit cell top text) sound = rw (policy-shelved s (layouts.submitted s.policy s.shelf conn cell top text)) sound
-sound-layout s conn Cells sound = rw (policy-listed s (layouts.cells s.policy s.shelf conn)) sound
-sound-layout s conn (Shapes cell) sound = rw (policy-listed s (layouts.shapes s.policy s.shelf conn cell)) sound
-
 sound-request : (s : State) (conn : ℕ) (request : Request) → Sound s.policy → Sound (outcome_of s conn request).state.policy
 sound-request s conn (ask.Policy request) sound = sound-changed s (row_of s.policy conn request) (λ q is. sound-row s.policy conn request q is sound) sound
 sound-request s conn ask.Whoami sound = sound-asked s (rows.whoami s.policy conn) sound
-sound-request s conn (ask.Layout request) sound = sound-layout s conn request sound
+sound-request s conn (ask.Layout request) sound = sound
 
 sound-wanted : (s : State) (event : Event) → Sound s.policy → Sound (wanted s event).state.policy
 unfolding wanted

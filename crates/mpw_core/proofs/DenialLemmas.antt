@@ -10,21 +10,15 @@ use Rattle.mpw_rbac.specs.Policy.{Policy, authorized, permits}
 use Rattle.mpw_rbac.specs.Rows as rows
 use Rattle.mpw_rbac.proofs.DenialLemmas as law
 use Rattle.mpw_core.specs.declared.event.Event.TheVariants as event
-use Rattle.mpw_core.specs.declared.event.Request.{Request}
-use Rattle.mpw_core.specs.declared.event.Request.TheVariants as ask
-use Rattle.mpw_core.specs.declared.policy.PolicyRequest.{PolicyRequest}
-use Rattle.mpw_core.specs.declared.policy.PolicyRequest.TheVariants.{Open, Close, Activate, DropRole, AddUser, DelUser, AddRole, DelRole, Assign, Deassign, Grant, Revoke, Inherit, Uninherit, Ssd, Dsd, UnSsd, UnDsd}
-use Rattle.mpw_core.specs.declared.layouts.LayoutRequest.{LayoutRequest}
-use Rattle.mpw_core.specs.declared.layouts.LayoutRequest.TheVariants.{Submit, Cells, Shapes}
+use Rattle.mpw_requests.specs.declared.request.Request.{Request}
+use Rattle.mpw_requests.specs.declared.request.Request.TheVariants as ask
+use Rattle.mpw_requests.specs.declared.policy.PolicyRequest.{PolicyRequest}
+use Rattle.mpw_requests.specs.declared.policy.PolicyRequest.TheVariants.{Open, Close, Activate, DropRole, AddUser, DelUser, AddRole, DelRole, Assign, Deassign, Grant, Revoke, Inherit, Uninherit, Ssd, Dsd, UnSsd, UnDsd}
 use Rattle.mpw_core.specs.PolicyRows.{row_of}
-use Rattle.mpw_core.specs.declared.reply.Denial.TheVariants as denial
-use Rattle.mpw_core.specs.declared.reply.Reply.TheVariants as reply
-use Rattle.mpw_hier.specs.declared.submission.Submission.{Submission}
-use Rattle.mpw_core.specs.Listing.{Listed}
-use Rattle.mpw_core.specs.declared.reply.Reply.{Reply}
-use Rattle.mpw_core.specs.Layouts as layouts
-use Rattle.mpw_core.specs.Step.{State, Outcome, told, changed, asked, shelved, listed, identity_lines, layout_outcome, outcome_of, wanted, step, reply_of}
-use Rattle.mpw_core.proofs.LayoutDenials.{denies-submitted, denies-cells, denies-shapes}
+use Rattle.mpw_replies.specs.declared.reply.Denial.TheVariants as denial
+use Rattle.mpw_replies.specs.declared.reply.Reply.TheVariants as reply
+use Rattle.mpw_layouts.specs.Laws.{LayoutsDenyWhatIsLacked}
+use Rattle.mpw_core.specs.Step.{State, Outcome, told, changed, asked, identity_lines, outcome_of, wanted, step, reply_of}
 use Rattle.mpw_core.proofs.RefusalLemmas.{settled-denied}
 
 permission-told : (r : Refusal) (operation : Operation) (object : Object) → told r ≡ reply.Denied (denial.Permission operation object) → r ≡ refusal.NotPermitted operation object
@@ -63,14 +57,6 @@ permission-asked : (s : State) (row : Result Identity Refusal) (operation : Oper
 permission-asked s (Ok q) operation object e = cc
 permission-asked s (Err r) operation object e = ap (λ x. Err x) (permission-told r operation object e)
 
-permission-shelved : (s : State) (row : Result Submission Reply) (operation : Operation) (object : Object) → (shelved s row).reply ≡ reply.Denied (denial.Permission operation object) → row ≡ Err (reply.Denied (denial.Permission operation object))
-permission-shelved s (Ok q) operation object e = cc
-permission-shelved s (Err r) operation object e = ap (λ x. Err x) e
-
-permission-listed : (s : State) (row : Result (List Listed) Reply) (operation : Operation) (object : Object) → (listed s row).reply ≡ reply.Denied (denial.Permission operation object) → row ≡ Err (reply.Denied (denial.Permission operation object))
-permission-listed s (Ok q) operation object e = cc
-permission-listed s (Err r) operation object e = ap (λ x. Err x) e
-
 activation-changed : (s : State) (row : Result Policy Refusal) (other : List ℕ) → (changed s row).reply ≡ reply.Denied (denial.Activation other) → row ≡ Err (refusal.NotAuthorized other)
 activation-changed s (Ok q) other e = cc
 activation-changed s (Err r) other e = ap (λ x. Err x) (activation-told r other e)
@@ -95,21 +81,16 @@ lacks-row p conn (Dsd set) operation object e = law.denies-dsd conn set p operat
 lacks-row p conn (UnSsd name) operation object e = law.denies-unssd conn name p operation object e
 lacks-row p conn (UnDsd name) operation object e = law.denies-undsd conn name p operation object e
 
-lacks-layout : (s : State) (conn : ℕ) (request : LayoutRequest) (operation : Operation) (object : Object) → (layout_outcome s conn request).reply ≡ reply.Denied (denial.Permission operation object) → permits s.policy conn operation object ≡ false
-lacks-layout s conn (Submit cell top text) operation object e = denies-submitted s.policy s.shelf conn cell top text operation object (permission-shelved s (layouts.submitted s.policy s.shelf conn cell top text) operation object e)
-lacks-layout s conn Cells operation object e = absurd (denies-cells s.policy s.shelf conn operation object (permission-listed s (layouts.cells s.policy s.shelf conn) operation object e))
-lacks-layout s conn (Shapes cell) operation object e = denies-shapes s.policy s.shelf conn cell operation object (permission-listed s (layouts.shapes s.policy s.shelf conn cell) operation object e)
+lacks-request : LayoutsDenyWhatIsLacked → (s : State) (conn : ℕ) (request : Request) (operation : Operation) (object : Object) → (outcome_of s conn request).reply ≡ reply.Denied (denial.Permission operation object) → permits s.policy conn operation object ≡ false
+lacks-request lacks s conn (ask.Policy request) operation object e = lacks-row s.policy conn request operation object (permission-changed s (row_of s.policy conn request) operation object e)
+lacks-request lacks s conn ask.Whoami operation object e = absurd (law.denies-whoami s.policy conn operation object (permission-asked s (rows.whoami s.policy conn) operation object e))
+lacks-request lacks s conn (ask.Layout request) operation object e = lacks s.policy s.shelf conn request operation object e
 
-lacks-request : (s : State) (conn : ℕ) (request : Request) (operation : Operation) (object : Object) → (outcome_of s conn request).reply ≡ reply.Denied (denial.Permission operation object) → permits s.policy conn operation object ≡ false
-lacks-request s conn (ask.Policy request) operation object e = lacks-row s.policy conn request operation object (permission-changed s (row_of s.policy conn request) operation object e)
-lacks-request s conn ask.Whoami operation object e = absurd (law.denies-whoami s.policy conn operation object (permission-asked s (rows.whoami s.policy conn) operation object e))
-lacks-request s conn (ask.Layout request) operation object e = lacks-layout s conn request operation object e
-
-pub lacks-permission : (s : State) (conn : ℕ) (request : Request) (kept : Bool) (operation : Operation) (object : Object) → reply_of s (event.Ask conn request) kept ≡ reply.Denied (denial.Permission operation object) → permits s.policy conn operation object ≡ false
+pub lacks-permission : LayoutsDenyWhatIsLacked → (s : State) (conn : ℕ) (request : Request) (kept : Bool) (operation : Operation) (object : Object) → reply_of s (event.Ask conn request) kept ≡ reply.Denied (denial.Permission operation object) → permits s.policy conn operation object ≡ false
 unfolding step wanted
-lacks-permission s conn request kept operation object e =
+lacks-permission lacks s conn request kept operation object e =
     let same = settled-denied s (event.Ask conn request) kept (outcome_of s conn request) (denial.Permission operation object) e in
-    lacks-request s conn request operation object (ap (λ (o : Outcome). o.reply) (sym same) ∙ e)
+    lacks-request lacks s conn request operation object (ap (λ (o : Outcome). o.reply) (sym same) ∙ e)
 
 pub lacks-role : (s : State) (conn : ℕ) (role other : List ℕ) (kept : Bool) → reply_of s (event.Ask conn (ask.Policy (Activate role))) kept ≡ reply.Denied (denial.Activation other) → (other ≡ role) × (contains_name (authorized s.policy (rows.user_of s.policy conn)) role ≡ false)
 unfolding step wanted

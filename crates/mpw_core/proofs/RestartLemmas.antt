@@ -2,7 +2,7 @@
 use Rattle.std.proofs.Common.{◌≡◌, ℕ, Bool, None, refl}
 use Rattle.mpw_rbac.specs.Policy.{session_of}
 use Rattle.mpw_core.specs.declared.event.Event.TheVariants as event
-use Rattle.mpw_core.specs.declared.reply.Reply.TheVariants as reply
+use Rattle.mpw_replies.specs.declared.reply.Reply.TheVariants as reply
 use Rattle.mpw_core.specs.Step.{State, wanted, step, reply_of, after}
 
 pub restart-told : (s : State) (kept : Bool) → reply_of s event.Restart kept ≡ reply.Restarted

@@ -1,10 +1,5 @@
 pub mod Answer
 pub mod History
 pub mod Keeping
-pub mod Layouts
-pub mod Listing
 pub mod PolicyRows
-pub mod Readable
-pub mod Shapes
 pub mod Step
-pub mod Told

@@ -3,8 +3,8 @@ use Rattle.std.specs.Prelude.{ℕ, Result}
 use Rattle.mpw_rbac.specs.declared.refusal.Refusal.{Refusal}
 use Rattle.mpw_rbac.specs.Policy.{Policy}
 use Rattle.mpw_rbac.specs.Rows as rows
-use Rattle.mpw_core.specs.declared.policy.PolicyRequest.{PolicyRequest}
-use Rattle.mpw_core.specs.declared.policy.PolicyRequest.TheVariants.{Open, Close, Activate, DropRole, AddUser, DelUser, AddRole, DelRole, Assign, Deassign, Grant, Revoke, Inherit, Uninherit, Ssd, Dsd, UnSsd, UnDsd}
+use Rattle.mpw_requests.specs.declared.policy.PolicyRequest.{PolicyRequest}
+use Rattle.mpw_requests.specs.declared.policy.PolicyRequest.TheVariants.{Open, Close, Activate, DropRole, AddUser, DelUser, AddRole, DelRole, Assign, Deassign, Grant, Revoke, Inherit, Uninherit, Ssd, Dsd, UnSsd, UnDsd}
 
 -- the row of a request that changes the policy: the policy that it leaves, or the refusal of its first failing test
 abbrev pub row_of : Policy → ℕ → PolicyRequest → Result Policy Refusal

@@ -1,25 +1,23 @@
 //! *Prepare*: the reply to an event and what it changes, made aside from the desk's own.
-ghost use Rattle.std.specs.Prelude.{◌≡◌, IfOk, IfErr, OnOk, Ok, [], ◌∷◌, ◌++◌, map};
-ghost use Rattle.std.specs.Option.{unwrap_or};
-ghost use Rattle.std.specs.Prelude.{List, Result, length};
+ghost use Rattle.std.specs.Prelude.{◌≡◌, IfErr, IfOk, OnOk, Ok, Result, map};
 ghost use Rattle.mpw_rbac.specs.Policy.{Policy as PolicyState};
+ghost use Rattle.mpw_rbac.specs.Rows as rows;
 ghost use Rattle.mpw_rbac.specs.Rows.{IsFaultOf};
 ghost use Rattle.mpw_rbac.specs.declared.refusal.Refusal.{Refusal as PolicyRefusal};
-ghost use Rattle.mpw_hier.specs.declared.submission.Submission.{Submission};
-ghost use Rattle.mpw_core.specs.Answer.{IsRefusal, Gives, Told, Answers, IsShelved, open_state};
+ghost use Rattle.mpw_layouts.specs.Layouts as layouts;
+ghost use Rattle.mpw_replies.specs.Listing.{stored};
+ghost use Rattle.mpw_core.specs.Answer.{IsRefusal, Gives, open_state};
 ghost use Rattle.mpw_core.specs.PolicyRows.{row_of};
-ghost use Rattle.mpw_core.specs.Step.{State, told, changed, asked, shelved, listed, layout_outcome, wanted, parted, outcome_of, identity_lines};
-ghost use Rattle.mpw_rbac.specs.Rows as rows;
-ghost use Rattle.mpw_core.specs.declared.answer.Fault.TheVariants.{Memory};
-ghost use Rattle.mpw_core.specs.declared.reply.Reply.{Reply as ReplyTold};
-ghost use Rattle.mpw_core.specs.Listing.{Listed, stored};
+ghost use Rattle.mpw_core.specs.Step.{State, told, changed, asked, over_shelf, wanted, parted, outcome_of, identity_lines};
 
-use crate::layouts::{LayoutRequest, Shelved, cells, shapes, submit};
-use crate::policy::{PolicyRequest, make};
-use crate::{Code, Denial, Event, Line, Lines, Reply, Request};
+use crate::Event;
+use crate::policy::make;
 use mpw_geom::Names;
 use mpw_hier::Shelf;
+use mpw_layouts::{LayoutAnswer, answer_request};
 use mpw_rbac::{Identity, Policy, PolicyFault, Refusal};
+use mpw_replies::{Code, Denial, Line, Lines, Reply};
+use mpw_requests::{LayoutRequest, PolicyRequest, Request};
 use std::alloc::{AllocError, Global};
 
 /// What moves in where an event is answered.
@@ -37,22 +35,6 @@ pub(crate) enum Next {
 pub(crate) struct Answer {
     pub(crate) reply: Reply,
     pub(crate) next: Next,
-}
-
-/// Why a row gives no value.
-#[derive(Drop)]
-pub(crate) enum Fault {
-    /// The reply that says so.
-    Told(Reply),
-    Memory,
-}
-
-impl From<AllocError> for Fault {
-    ghost from_gives = { λ _ fault. fault ≡ Memory };
-
-    fn from(_error: AllocError) -> Fault {
-        Fault::Memory
-    }
 }
 
 /// What a refusal is told as.
@@ -148,14 +130,18 @@ fn layout(
     conn: u32,
     request: &LayoutRequest,
 ) -> Result<Answer, AllocError>
-    ensures { IfOk result (λ answer. Gives (open_state policy.now shelf.now) (layout_outcome (open_state policy.now shelf.now) conn request.now) answer.reply answer.next) }
+    ensures { IfOk result (λ answer. Gives (open_state policy.now shelf.now) (over_shelf (open_state policy.now shelf.now) (layouts.outcome_of policy.now shelf.now conn request.now)) answer.reply answer.next) }
 {
-    match request {
-        LayoutRequest::Submit { cell, top, text } => {
-            submission(alloc, submit(alloc, policy, shelf, conn, cell, top, text))
-        }
-        LayoutRequest::Cells => listing(cells(alloc, policy, shelf, conn)),
-        LayoutRequest::Shapes { cell } => listing(shapes(alloc, policy, shelf, conn, cell)),
+    let LayoutAnswer { reply, next } = answer_request(alloc, policy, shelf, conn, request)?;
+    match next {
+        Some(next) => Ok(Answer {
+            reply,
+            next: Next::NextShelf(next),
+        }),
+        None => Ok(Answer {
+            reply,
+            next: Next::Nothing,
+        }),
     }
 }
 
@@ -173,56 +159,6 @@ fn ask(
         Request::Policy(request) => revised(policy, conn, request),
         Request::Whoami => whoami(alloc, policy, conn),
         Request::Layout(request) => layout(alloc, policy, shelf, conn, request),
-    }
-}
-
-/// The line of a version.
-fn version_line(alloc: Global, version: u32) -> Result<Lines, AllocError>
-    ensures { IfOk result (λ lines. lines ≡ stored (Line.Version version) ∷ []) }
-{
-    let mut lines = Vec::new(alloc);
-    lines.push(Line::Version(version))?;
-    Lines::from_vec(alloc, lines)
-}
-
-/// The answer to what submits.
-fn submission(alloc: Global, made: Result<Shelved, Fault>) -> Result<Answer, AllocError>
-    ensures { (state : State) (row : Result Submission ReplyTold) → IfOk made (λ next. IsShelved state.shelf row next.shelf next.version) → IfErr made (λ fault. Told fault row) → IfOk result (λ answer. Gives state (shelved state row) answer.reply answer.next) }
-{
-    match made {
-        Ok(next) => {
-            Ok(Answer {
-                reply: Reply::Ok(version_line(alloc, next.version)?),
-                next: Next::NextShelf(next.shelf),
-            })
-        }
-        Err(fault) => told_fault(fault),
-    }
-}
-
-/// The answer to what lists.
-fn listing(made: Result<Lines, Fault>) -> Result<Answer, AllocError>
-    ensures { (state : State) (row : Result (List Listed) ReplyTold) → Answers (λ lines. lines) made row → IfOk result (λ answer. Gives state (listed state row) answer.reply answer.next) }
-{
-    match made {
-        Ok(lines) => Ok(Answer {
-            reply: Reply::Ok(lines),
-            next: Next::Nothing,
-        }),
-        Err(fault) => told_fault(fault),
-    }
-}
-
-/// A reply that ends a row changes nothing; want of memory gives no answer.
-fn told_fault(fault: Fault) -> Result<Answer, AllocError>
-    ensures { IfOk result (λ answer. (fault ≡ Fault.Told answer.reply) × (answer.next ≡ Next.Nothing)) }
-{
-    match fault {
-        Fault::Told(reply) => Ok(Answer {
-            reply,
-            next: Next::Nothing,
-        }),
-        Fault::Memory => Err(AllocError),
     }
 }
 

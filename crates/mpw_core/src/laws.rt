@@ -5,25 +5,28 @@ ghost use Rattle.mpw_rbac.specs.Policy.{authorized, is_user, permits, session_of
 ghost use Rattle.mpw_rbac.specs.Rows.{is_login, user_of};
 ghost use Rattle.mpw_rbac.specs.Sound.{active_authorized, Sound};
 ghost use Rattle.mpw_core.specs.History.{state_after, KeptDesk, IsHandled, GoesOnTo};
-ghost use Rattle.mpw_core.specs.declared.reply.Reply.{Reply as AnyReply};
-ghost use Rattle.mpw_core.specs.Listing.{Listed};
-ghost use Rattle.mpw_core.specs.Readable.{IsOfReadable};
+ghost use Rattle.mpw_replies.specs.declared.reply.Reply.{Reply as AnyReply};
+ghost use Rattle.mpw_replies.specs.Listing.{Listed};
+ghost use Rattle.mpw_replies.specs.Readable.{IsOfReadable};
 ghost use Rattle.mpw_core.specs.Step.{State, new_state, outcome_of, wanted, unkept, left, step, reply_of, after};
 ghost use Rattle.mpw_core.specs.declared.event.Event.{Event};
 ghost use Rattle.mpw_core.specs.declared.event.Event.TheVariants as event;
-ghost use Rattle.mpw_core.specs.declared.event.Request.{Request as AnyRequest};
-ghost use Rattle.mpw_core.specs.declared.event.Request.TheVariants as ask;
-ghost use Rattle.mpw_core.specs.declared.policy.PolicyRequest.TheVariants as Request;
-ghost use Rattle.mpw_core.specs.declared.reply.Code.{Code};
-ghost use Rattle.mpw_core.specs.declared.reply.Code.TheVariants as code;
-ghost use Rattle.mpw_core.specs.declared.reply.Denial.{Denial};
-ghost use Rattle.mpw_core.specs.declared.reply.Denial.TheVariants as denial;
-ghost use Rattle.mpw_core.specs.declared.reply.Reply.TheVariants as Reply;
+ghost use Rattle.mpw_requests.specs.declared.request.Request.{Request as AnyRequest};
+ghost use Rattle.mpw_requests.specs.declared.request.Request.TheVariants as ask;
+ghost use Rattle.mpw_requests.specs.declared.policy.PolicyRequest.TheVariants as Request;
+ghost use Rattle.mpw_replies.specs.declared.reply.Code.{Code};
+ghost use Rattle.mpw_replies.specs.declared.reply.Code.TheVariants as code;
+ghost use Rattle.mpw_replies.specs.declared.reply.Denial.{Denial};
+ghost use Rattle.mpw_replies.specs.declared.reply.Denial.TheVariants as denial;
+ghost use Rattle.mpw_replies.specs.declared.reply.Reply.TheVariants as Reply;
 ghost use Rattle.mpw_core.specs.declared.event.Call.{Call};
 ghost use Rattle.mpw_rbac.specs.declared.permission.Object.{Object};
 ghost use Rattle.mpw_rbac.specs.declared.permission.Operation.{Operation};
 
-use mpw_hier::shelves_have_their_numbers;
+use mpw_layouts::{
+    denials_of_layouts_name_what_is_lacked, layouts_are_left_unless_a_request_is_accepted,
+    lines_of_layouts_are_of_readable_cells,
+};
 
 /// In every state that calls lead to, each session is of a user who is authorized for each of its active roles.
 pub fn every_state_keeps_authorization()
@@ -46,7 +49,9 @@ pub fn unknown_users_are_denied_like_wrong_tokens()
 pub fn denials_and_refusals_change_nothing()
     ensures denied { (state : State) (event : Event) (kept : Bool) (why : Denial) → reply_of state event kept ≡ Reply.Denied why → after state event kept ≡ state }
     ensures refused { (state : State) (event : Event) (kept : Bool) (why : Code) → why ≢ code.Store → reply_of state event kept ≡ Reply.Refused why → after state event kept ≡ state }
-{}
+{
+    layouts_are_left_unless_a_request_is_accepted();
+}
 
 /// A change that is kept counts as it was wanted; one that could not be kept closes the desk and changes nothing else.
 pub fn changes_count_once_they_are_kept()
@@ -74,7 +79,7 @@ pub fn keepers_have_the_changes_in_order()
 pub fn lines_are_of_readable_cells()
     ensures { (state : State) (conn : ℕ) (request : AnyRequest) (kept : Bool) (lines : List Listed) → reply_of state (event.Ask conn request) kept ≡ Reply.Ok lines → All (IsOfReadable state.policy conn) lines }
 {
-    shelves_have_their_numbers();
+    lines_of_layouts_are_of_readable_cells();
 }
 
 /// A denial of a permission, whatever the request, names one that the connection's session lacks. A denial of an
@@ -82,4 +87,6 @@ pub fn lines_are_of_readable_cells()
 pub fn denials_name_what_the_session_lacks()
     ensures permission { (state : State) (conn : ℕ) (request : AnyRequest) (kept : Bool) (operation : Operation) (object : Object) → reply_of state (event.Ask conn request) kept ≡ Reply.Denied (denial.Permission operation object) → permits state.policy conn operation object ≡ false }
     ensures activation { (state : State) (conn : ℕ) (role other : List ℕ) (kept : Bool) → reply_of state (event.Ask conn (ask.Policy (Request.Activate role))) kept ≡ Reply.Denied (denial.Activation other) → (other ≡ role) × (contains_name (authorized state.policy (user_of state.policy conn)) role ≡ false) }
-{}
+{
+    denials_of_layouts_name_what_is_lacked();
+}

@@ -11,14 +11,10 @@ mod desk;
 mod event;
 mod keeper;
 mod laws;
-mod layouts;
-mod lines;
-mod listing;
 mod policy;
-mod reply;
 
 pub use desk::{Core, MAX_EVENTS, replay};
-pub use event::{Call, Event, Request, SharedRequest};
+pub use event::{Call, Event};
 pub use keeper::{Change, Keeper, KeptChange, NoKeeper, NotKept};
 pub use laws::{
     a_restart_ends_every_session, changes_count_once_they_are_kept,
@@ -27,8 +23,3 @@ pub use laws::{
     keepers_have_the_changes_in_order, lines_are_of_readable_cells,
     unknown_users_are_denied_like_wrong_tokens,
 };
-pub use layouts::LayoutRequest;
-pub use lines::{Kept, Lines};
-pub use listing::{ShapeListing, ShapeView, ShapeViews};
-pub use policy::PolicyRequest;
-pub use reply::{Code, Denial, Line, Reply};

@@ -5,32 +5,8 @@ ghost use Rattle.std.specs.Prelude.{◌≡◌, IfErr, OnOk, Ok};
 ghost use Rattle.mpw_rbac.specs.Rows.{IsFaultOf};
 ghost use Rattle.mpw_core.specs.PolicyRows.{row_of};
 
-use mpw_geom::Name;
-use mpw_rbac::{Digest, Grant, Policy, PolicyFault};
-use mpw_separation::SeparationSet;
-
-/// A request that changes the policy (ANSI INCITS 359-2004, 6).
-#[derive(Drop)]
-pub enum PolicyRequest {
-    Open { user: Name, digest: Digest },
-    Close,
-    Activate { role: Name },
-    DropRole { role: Name },
-    AddUser { user: Name, digest: Digest },
-    DelUser { user: Name },
-    AddRole { role: Name },
-    DelRole { role: Name },
-    Assign { user: Name, role: Name },
-    Deassign { user: Name, role: Name },
-    Grant { grant: Grant },
-    Revoke { grant: Grant },
-    Inherit { senior: Name, junior: Name },
-    Uninherit { senior: Name, junior: Name },
-    Ssd { set: SeparationSet },
-    Dsd { set: SeparationSet },
-    UnSsd { name: Name },
-    UnDsd { name: Name },
-}
+use mpw_rbac::{Policy, PolicyFault};
+use mpw_requests::PolicyRequest;
 
 /// Makes a request of the policy, which changes only where the request is accepted.
 pub(crate) fn make(

@@ -3,8 +3,8 @@ use Rattle.std.specs.Prelude.{◌≡◌, ◌⊎◌, ℕ, List, Option, None, Res
 use Rattle.mpw_core.specs.History.{KeptDesk, new_desk, kept_desk}
 use Rattle.mpw_wire.specs.declared.fault.WireFault.{WireFault}
 use Rattle.mpw_wire.specs.declared.fault.WireFault.TheVariants as wire
-use Rattle.mpw_wire.specs.declared.serve.End.{End}
-use Rattle.mpw_wire.specs.Serving.{Serves}
+use Rattle.mpw_serve.specs.declared.serve.End.{End}
+use Rattle.mpw_serve.specs.Serving.{Serves}
 use Rattle.mpw_main.specs.declared.settings.Settings.{Settings}
 use Rattle.mpw_main.specs.declared.settings.Settings.TheVariants.{Script}
 

@@ -2,12 +2,13 @@
 ghost use Rattle.std.specs.Prelude.{◌≡◌};
 ghost use Rattle.mpw_main.specs.Script.{ServesScript};
 ghost use Rattle.mpw_wire.specs.Reading.{read_failures};
-ghost use Rattle.mpw_wire.specs.Serving.{write_failures};
+ghost use Rattle.mpw_serve.specs.Serving.{write_failures};
 ghost use Rattle.mpw_wire.specs.Writing.{fault_of};
 
 use crate::settings::Settings;
 use mpw_core::{Core, NoKeeper};
-use mpw_wire::{End, Sink, Source, WireFault, serve_core};
+use mpw_serve::{End, serve_core};
+use mpw_wire::{Sink, Source, WireFault};
 use std::alloc::Global;
 
 /// The connection of a script.

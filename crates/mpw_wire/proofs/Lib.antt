@@ -2,7 +2,6 @@ pub mod DigestLemmas
 pub mod WordLemmas
 pub mod WritingLemmas
 pub mod ReadingLemmas
-pub mod ServingLemmas
 pub mod StoredLemmas
 pub mod AskedLemmas
 mod ReplyLemmas

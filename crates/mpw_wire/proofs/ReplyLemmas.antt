@@ -1,8 +1,8 @@
 -- The line of a refusal.
 use Rattle.std.proofs.Common.{◌≡◌, refl}
 use Rattle.mpw_records.specs.declared.fault.ReadFault.{ReadFault}
-use Rattle.mpw_core.specs.declared.reply.Code.{Code}
-use Rattle.mpw_core.specs.declared.reply.Code.TheVariants.{Read, NoTop, Cycle, NoCell, Extent, Shapes, Deep, Full, Opened, Unknown, Known, Used, Loop, Ended, Store, Closed}
+use Rattle.mpw_replies.specs.declared.reply.Code.{Code}
+use Rattle.mpw_replies.specs.declared.reply.Code.TheVariants.{Read, NoTop, Cycle, NoCell, Extent, Shapes, Deep, Full, Opened, Unknown, Known, Used, Loop, Ended, Store, Closed}
 use Rattle.mpw_wire.specs.Reply.{code_text, refused_text, refusal_line}
 
 -- that of any but a text's fault has no offset

@@ -4,8 +4,8 @@ use Rattle.std.specs.List.{flat_map}
 use Rattle.std.specs.Io.KnownBytes.{Appends}
 use Rattle.std.proofs.KnownBytes.{Appends-trans}
 use Rattle.std.proofs.lemmas.Grind.{flat_map-append}
-use Rattle.mpw_core.specs.Listing.{Listed, stored}
-use Rattle.mpw_core.specs.declared.reply.Line.{Line}
+use Rattle.mpw_replies.specs.Listing.{Listed, stored}
+use Rattle.mpw_replies.specs.declared.reply.Line.{Line}
 use Rattle.mpw_wire.specs.declared.fault.WireFault.{WireFault}
 use Rattle.mpw_wire.specs.Reply.{line_text, listed_text}
 use Rattle.mpw_wire.specs.Writing.{WritesKnown}

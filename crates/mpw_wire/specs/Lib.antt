@@ -3,7 +3,6 @@ pub mod Digest
 pub mod Reading
 pub mod Reply
 pub mod Request
-pub mod Serving
 pub mod Stored
 pub mod Words
 pub mod Writing

@@ -8,9 +8,9 @@ use Rattle.mpw_wire.specs.declared.read.Asked.{Asked}
 use Rattle.mpw_wire.specs.declared.read.Asked.TheVariants as asked
 use Rattle.mpw_wire.specs.declared.line.Taken.{Taken}
 use Rattle.mpw_wire.specs.declared.line.Taken.TheVariants as taken
-use Rattle.mpw_core.specs.declared.event.Request.{Request}
-use Rattle.mpw_core.specs.declared.event.Request.TheVariants.{Layout}
-use Rattle.mpw_core.specs.declared.layouts.LayoutRequest.TheVariants.{Submit}
+use Rattle.mpw_requests.specs.declared.request.Request.{Request}
+use Rattle.mpw_requests.specs.declared.request.Request.TheVariants.{Layout}
+use Rattle.mpw_requests.specs.declared.layouts.LayoutRequest.TheVariants.{Submit}
 use Rattle.mpw_wire.specs.declared.request.LineAsk.TheVariants as ask
 use Rattle.mpw_wire.specs.Request.{ask_of}
 

@@ -10,26 +10,26 @@ use Rattle.mpw_elements.specs.declared.element.Boundary.{Boundary}
 use Rattle.mpw_elements.specs.declared.element.Path.{Path}
 use Rattle.mpw_elements.specs.declared.element.Element.{Element}
 use Rattle.mpw_elements.specs.declared.element.Element.TheVariants as elements
-use Rattle.mpw_core.specs.Listing.{Listed, stored, shape}
+use Rattle.mpw_replies.specs.Listing.{Listed, stored, shape}
 use Rattle.mpw_rbac.specs.declared.permission.Operation.{Operation}
 use Rattle.mpw_rbac.specs.declared.permission.Operation.TheVariants.{Submit, Use, Place, Admin, Deck, Run, Waive, Sign, Verdict, Audit}
 use Rattle.mpw_rbac.specs.declared.permission.Object.{Object}
 use Rattle.mpw_rbac.specs.declared.permission.Object.TheVariants.{Cell, Desk}
-use Rattle.mpw_core.specs.declared.reply.Line.{Line}
-use Rattle.mpw_core.specs.declared.reply.Line.TheVariants.{User, Active, Authorized, Version}
-use Rattle.mpw_core.specs.declared.reply.Line.TheVariants as line
+use Rattle.mpw_replies.specs.declared.reply.Line.{Line}
+use Rattle.mpw_replies.specs.declared.reply.Line.TheVariants.{User, Active, Authorized, Version}
+use Rattle.mpw_replies.specs.declared.reply.Line.TheVariants as line
 use Rattle.mpw_rbac.specs.declared.permission.Operation.TheVariants as operation
 use Rattle.mpw_records.specs.declared.fault.ReadFault.{ReadFault}
 use Rattle.mpw_records.specs.declared.fault.Code.{Code as TextFault}
 use Rattle.mpw_records.specs.declared.fault.Code.TheVariants as fault
-use Rattle.mpw_core.specs.declared.reply.Denial.{Denial}
-use Rattle.mpw_core.specs.declared.reply.Denial.TheVariants.{Session, Login, Permission, Activation, Ssd, Dsd}
-use Rattle.mpw_core.specs.declared.reply.Code.{Code}
-use Rattle.mpw_core.specs.declared.reply.Code.TheVariants.{Read, NoTop, Cycle, NoCell, Extent, Shapes, Deep, Full, Opened, Unknown, Known, Used, Loop, Ended, Store, Closed}
-use Rattle.mpw_core.specs.declared.reply.Reply.{Reply}
+use Rattle.mpw_replies.specs.declared.reply.Denial.{Denial}
+use Rattle.mpw_replies.specs.declared.reply.Denial.TheVariants.{Session, Login, Permission, Activation, Ssd, Dsd}
+use Rattle.mpw_replies.specs.declared.reply.Code.{Code}
+use Rattle.mpw_replies.specs.declared.reply.Code.TheVariants.{Read, NoTop, Cycle, NoCell, Extent, Shapes, Deep, Full, Opened, Unknown, Known, Used, Loop, Ended, Store, Closed}
+use Rattle.mpw_replies.specs.declared.reply.Reply.{Reply}
 use Rattle.mpw_wire.specs.declared.reply.Refusal.{Refusal}
 use Rattle.mpw_wire.specs.declared.reply.Refusal.TheVariants as refusal
-use Rattle.mpw_core.specs.declared.reply.Reply.TheVariants as reply
+use Rattle.mpw_replies.specs.declared.reply.Reply.TheVariants as reply
 
 -- a line feed
 abbrev pub line_feed : List ℕ

@@ -12,11 +12,11 @@ use Rattle.mpw_rbac.specs.declared.permission.Operation.{Operation}
 use Rattle.mpw_rbac.specs.declared.permission.Operation.TheVariants.{Submit, Use, Read, Place, Admin, Deck, Run, Waive, Sign, Verdict, Audit}
 use Rattle.mpw_rbac.specs.declared.permission.Object.{Object}
 use Rattle.mpw_rbac.specs.declared.permission.Object.TheVariants.{Cell, Desk}
-use Rattle.mpw_core.specs.declared.event.Request.{Request}
-use Rattle.mpw_core.specs.declared.event.Request.TheVariants.{Policy, Whoami, Layout}
-use Rattle.mpw_core.specs.declared.policy.PolicyRequest.{PolicyRequest}
-use Rattle.mpw_core.specs.declared.policy.PolicyRequest.TheVariants.{Open, Close, Activate, DropRole, AddUser, DelUser, AddRole, DelRole, Assign, Deassign, Grant, Revoke, Inherit, Uninherit, Ssd, Dsd, UnSsd, UnDsd}
-use Rattle.mpw_core.specs.declared.layouts.LayoutRequest.TheVariants.{Cells, Shapes}
+use Rattle.mpw_requests.specs.declared.request.Request.{Request}
+use Rattle.mpw_requests.specs.declared.request.Request.TheVariants.{Policy, Whoami, Layout}
+use Rattle.mpw_requests.specs.declared.policy.PolicyRequest.{PolicyRequest}
+use Rattle.mpw_requests.specs.declared.policy.PolicyRequest.TheVariants.{Open, Close, Activate, DropRole, AddUser, DelUser, AddRole, DelRole, Assign, Deassign, Grant, Revoke, Inherit, Uninherit, Ssd, Dsd, UnSsd, UnDsd}
+use Rattle.mpw_requests.specs.declared.layouts.LayoutRequest.TheVariants.{Cells, Shapes}
 use Rattle.mpw_wire.specs.declared.operand.Origin.{Origin}
 use Rattle.mpw_wire.specs.declared.operand.Origin.TheVariants.{Connection, Store}
 use Rattle.mpw_wire.specs.declared.request.LineAsk.{LineAsk}

@@ -4,7 +4,7 @@ ghost use Rattle.mpw_wire.specs.Request.{bare_request, request_of_one, request_o
 ghost use Rattle.mpw_wire.specs.Words.{words};
 
 use crate::operand::{Origin, grant, is, login, name, pair, set};
-use mpw_core::{LayoutRequest, PolicyRequest, Request};
+use mpw_requests::{LayoutRequest, PolicyRequest, Request};
 use std::alloc::{AllocError, Global};
 
 /// The requests of a verb alone.

@@ -9,9 +9,6 @@ use std::alloc::Global;
 /// The greatest number of bytes before a line feed.
 pub const MAX_LINE: usize = 4096;
 
-/// The greatest number of answered lines of one connection.
-pub const MAX_LINES: usize = 4096;
-
 /// What is taken off the front of the input.
 #[derive(Drop)]
 pub(crate) enum Taken {

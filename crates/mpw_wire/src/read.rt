@@ -6,7 +6,7 @@ ghost use Rattle.mpw_wire.specs.Writing.{fault_of};
 use crate::line::{Taken, take_bytes, take_line};
 use crate::request::{LineAsk, parse_line};
 use crate::{Source, WireFault};
-use mpw_core::{LayoutRequest, Request, SharedRequest};
+use mpw_requests::{LayoutRequest, Request, SharedRequest};
 use mpw_geom::Name;
 use mpw_library::LibraryText;
 use std::alloc::Global;

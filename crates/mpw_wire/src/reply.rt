@@ -8,10 +8,10 @@ use crate::shape::write_shapes;
 use crate::write::{flush, write_parts};
 use crate::{Sink, WireFault};
 use itoa::Buffer;
-use mpw_core::{Code, Denial, Kept, Line, Lines, Reply};
 use mpw_geom::Name;
 use mpw_rbac::{Object, Operation};
 use mpw_records::{Code as TextFault, ReadFault};
+use mpw_replies::{Code, Denial, Kept, Line, Lines, Reply};
 
 /// Writes a line of a version.
 fn write_version<W: Sink>(writer: &mut W, version: u32) -> Result<(), WireFault>
@@ -255,7 +255,7 @@ fn write_code<W: Sink>(writer: &mut W, code: Code) -> Result<(), WireFault>
 
 /// What is refused before the desk is asked.
 #[derive(Clone, Copy)]
-pub(crate) enum Refusal {
+pub enum Refusal {
     /// There is no room.
     Memory,
     /// The line is no request's text.
@@ -281,7 +281,7 @@ fn refusal_words(refusal: Refusal) -> &'static str
 
 /// Writes a refusal, and has the sink hand it on.
 #[tactic(auto, unfolding(crate::specs::Reply::refusal_text))]
-pub(crate) fn write_refusal<W: Sink>(refusal: Refusal, writer: &mut W) -> Result<(), WireFault>
+pub fn write_refusal<W: Sink>(refusal: Refusal, writer: &mut W) -> Result<(), WireFault>
     ensures { Writes W.contents W.failures writer.old writer.new result (refusal_text refusal) }
 {
     write_parts(writer, &["REFUSED ", refusal_words(refusal), "\n"])?;

@@ -1,15 +1,15 @@
 //! Request lines.
 ghost use Rattle.std.specs.Prelude.{◌≡◌, IfOk};
 ghost use Rattle.mpw_wire.specs.Request.{asked, asked_policy, longest, submission_of, ask_of_one, ask_of_three, ask_by, ask_of};
-ghost use Rattle.mpw_core.specs.declared.event.Request.TheVariants.{Layout};
-ghost use Rattle.mpw_core.specs.declared.layouts.LayoutRequest.TheVariants.{Shapes};
+ghost use Rattle.mpw_requests.specs.declared.request.Request.TheVariants.{Layout};
+ghost use Rattle.mpw_requests.specs.declared.layouts.LayoutRequest.TheVariants.{Shapes};
 ghost use Rattle.mpw_text.specs.Text.{number_of};
 ghost use Rattle.mpw_wire.specs.Words.{words};
 
 use crate::form::{bare, of_more, of_one, of_three, of_two};
 use crate::operand::{Origin, is, name};
 use crate::words::{Arguments, cut, read_arguments};
-use mpw_core::{LayoutRequest, PolicyRequest, Request, SharedRequest};
+use mpw_requests::{LayoutRequest, PolicyRequest, Request, SharedRequest};
 use mpw_geom::Name;
 use mpw_text::{is_decimal, read_count};
 use std::alloc::{AllocError, Global};

@@ -4,7 +4,8 @@ use crate::devices::Paper;
 use crate::restart::tell_restart;
 use crate::serving::new_desk;
 use anyhow::Result;
-use mpw_core::{Core, Event, MAX_EVENTS, NoKeeper, Request, SharedRequest};
+use mpw_core::{Core, Event, MAX_EVENTS, NoKeeper};
+use mpw_requests::{Request, SharedRequest};
 use mpw_wire::write_reply;
 use std::alloc::{AllocError, Global};
 

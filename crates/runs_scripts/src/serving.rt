@@ -5,7 +5,8 @@ use crate::keeper::{Fails, MemoryKeeper};
 use crate::transcript::Transcript;
 use mpw_core::Core;
 use mpw_geom::Name;
-use mpw_wire::{End, WireFault, digest_of, serve_core};
+use mpw_serve::{End, serve_core};
+use mpw_wire::{WireFault, digest_of};
 use std::alloc::{AllocError, Global};
 
 /// The places at which the devices and the keeper fail.

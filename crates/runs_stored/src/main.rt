@@ -8,7 +8,7 @@
 #![tactic(auto)]
 
 use anyhow::{Result, bail};
-use mpw_core::{LayoutRequest, PolicyRequest, Request, SharedRequest};
+use mpw_requests::{LayoutRequest, PolicyRequest, Request, SharedRequest};
 use mpw_geom::Name;
 use mpw_library::LibraryText;
 use mpw_rbac::{Grant, Object, Operation};

@@ -1,6 +1,6 @@
 use Rattle.std.proofs.Common.{sym, ap, ◌∙◌}
 use Rattle.std.specs.List.{flat_map}
-use Rattle.mpw_core.specs.Told.{kept_lines}
+use Rattle.mpw_replies.specs.Told.{kept_lines}
 use Rattle.mpw_wire.specs.Reply.{line_text, listed_text}
 use Rattle.mpw_wire.proofs.ShapeLemmas.{stored_text}
 use Rattle.mpw_wire.proofs.WritingLemmas.{Writes_same}

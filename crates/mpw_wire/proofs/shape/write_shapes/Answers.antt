@@ -1,6 +1,6 @@
 use Rattle.std.proofs.Common.{ap, subst}
 use Rattle.std.specs.List.{flat_map}
-use Rattle.mpw_core.specs.Shapes.{line_of}
+use Rattle.mpw_replies.specs.Shapes.{line_of}
 use Rattle.mpw_wire.specs.Reply.{listed_text}
 use Rattle.mpw_wire.specs.Writing.{WritesKnown, fault_of}
 use Rattle.mpw_wire.proofs.ShapeLemmas.{written_more, written_stop}

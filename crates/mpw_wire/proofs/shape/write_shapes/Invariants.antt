@@ -1,5 +1,5 @@
 use Rattle.std.proofs.Common.{◌≡◌, ◌++◌, List, length}
-use Rattle.mpw_core.specs.Listing.{Listed}
+use Rattle.mpw_replies.specs.Listing.{Listed}
 use Rattle.mpw_wire.proofs.ShapeLemmas.{IsWritten}
 use Rattle.mpw_wire.proofs.shape.write_shapes.Given as goal
 

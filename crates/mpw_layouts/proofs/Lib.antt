@@ -1,0 +1,5 @@
+mod LayoutDenials
+mod LayoutLemmas
+mod LeftLemmas
+mod ReadableLines
+mod SightLemmas

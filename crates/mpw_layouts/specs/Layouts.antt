@@ -1,0 +1,169 @@
+-- The requests over the shelf: each with its tests in order, and what it gives where all pass.
+use Rattle.std.specs.Prelude.{ℕ, Bool, true, false, not, List, [], ◌∷◌, ◌++◌, map, is_some, slice_get, Option, None, Some, Result, Ok, Err, if◌then◌else◌}
+use Rattle.std.specs.List.{flat_map}
+use Rattle.mpw_geom.specs.Names.{by_name}
+use Rattle.mpw_records.specs.declared.fault.ReadFault.{ReadFault}
+use Rattle.mpw_roles.specs.Decided.{decided}
+use Rattle.mpw_roles.specs.Hierarchy.{Name}
+use Rattle.mpw_rbac.specs.declared.permission.Operation.TheVariants.{Submit, Use, Read}
+use Rattle.mpw_rbac.specs.declared.permission.Object.TheVariants as object
+use Rattle.mpw_rbac.specs.Policy.{Policy, permits}
+use Rattle.mpw_rbac.specs.Access.{Access}
+use Rattle.mpw_rbac.specs.Rows.{user_of}
+use Rattle.mpw_library.specs.declared.structures.Structure.{Structure}
+use Rattle.mpw_library.specs.Grammar.{library_of}
+use Rattle.mpw_library.specs.Places.{place_of}
+use Rattle.mpw_hier.specs.declared.bindings.Binding.{Binding}
+use Rattle.mpw_hier.specs.declared.submission.Submission.{Submission}
+use Rattle.mpw_hier.specs.Shelf.{present, bound_to}
+use Rattle.mpw_hier.specs.Limits.{is_too_large, is_too_deep, has_room_for, numbered}
+use Rattle.mpw_hier.specs.Reach.{is_cyclic, external_names, is_far}
+use Rattle.mpw_hier.specs.Items.{Item}
+use Rattle.mpw_hier.specs.Values.{flat}
+use Rattle.mpw_requests.specs.declared.layouts.LayoutRequest.{LayoutRequest}
+use Rattle.mpw_requests.specs.declared.layouts.LayoutRequest.TheVariants as ask
+use Rattle.mpw_replies.specs.Listing.{Listed, stored, line_if}
+use Rattle.mpw_replies.specs.Rows.{◌>>=◌, denied, in_session, permitted, ended_by}
+use Rattle.mpw_replies.specs.declared.reply.Line.{Line}
+use Rattle.mpw_replies.specs.declared.reply.Line.TheVariants as line
+use Rattle.mpw_replies.specs.declared.reply.Code.TheVariants as code
+use Rattle.mpw_replies.specs.declared.reply.Reply.{Reply}
+use Rattle.mpw_replies.specs.declared.reply.Reply.TheVariants as reply
+use Rattle.mpw_replies.specs.declared.row.Ending.{Ending}
+use Rattle.mpw_replies.specs.declared.row.Ending.TheVariants as ending
+
+-- ---- tests
+
+-- the library that a text is of
+abbrev pub read : Result (List Structure) ReadFault → Result (List Structure) Ending
+read (Ok library) = Ok library
+read (Err fault) = Err (ending.Refused (code.Read fault))
+
+-- the names outside the library that the top shows
+abbrev pub outside : List Structure → Name → Result (List Name) Ending
+outside library top =
+    decided
+    ((is_some (place_of library top), ending.Refused code.NoTop) ∷ (not (is_cyclic library top), ending.Refused code.Cycle) ∷ [])
+    (external_names library top)
+
+-- each cell may be used
+abbrev pub usable : Policy → ℕ → List Name → Result (Unit {0}) Ending
+usable policy conn [] = Ok tt
+usable policy conn (cell ∷ cells) =
+    if permits policy conn Use (object.Cell cell) then usable policy conn cells else Err (denied Use (object.Cell cell))
+
+-- each name has a present submission
+abbrev pub bound : Option (List Binding) → Result (List Binding) Ending
+bound None = Err (ending.Refused code.NoCell)
+bound (Some bindings) = Ok bindings
+
+-- the limits, and then the submission with its version
+unfoldable pub kept : List Submission → Submission → Result Submission Ending
+kept shelf s =
+    decided
+    ((not (is_far shelf s), ending.Refused code.Extent)
+    ∷ (not (is_too_large shelf s), ending.Refused code.Shapes)
+    ∷ (not (is_too_deep shelf s), ending.Refused code.Deep)
+    ∷ (has_room_for shelf s.cell, ending.Refused code.Full)
+    ∷ [])
+    (numbered shelf s)
+
+-- ---- submit
+
+-- a submission that has no version yet
+abbrev pub unnumbered : Name → Name → List Structure → Name → List Binding → Submission
+unnumbered cell submitter library top bindings =
+    record { cell = cell; version = 0; submitter = submitter; library = library; top = top; bound = bindings }
+
+-- the submission of a library that was read
+unfoldable pub submitted_library : Policy → List Submission → ℕ → Name → Name → List Structure → Result Submission Ending
+submitted_library policy shelf conn cell top library = do
+  names ← outside library top
+  used ← usable policy conn names
+  bindings ← bound (bound_to shelf names)
+  kept shelf (unnumbered cell (user_of policy conn) library top bindings)
+
+-- the submission that a text makes
+unfoldable pub submitted : Policy → List Submission → ℕ → Name → Name → List ℕ → Result Submission Ending
+submitted policy shelf conn cell top text = do
+  entered ← permitted policy conn Submit (object.Cell cell)
+  library ← read (library_of text)
+  submitted_library policy shelf conn cell top library
+
+-- ---- cells
+
+-- the cells that have a submission, by name
+abbrev pub cells_of : List Submission → List Name
+cells_of shelf = by_name (map (λ s. s.cell) shelf)
+
+abbrev pub numbered_at : List Submission → Option ℕ → Option Submission
+numbered_at shelf None = None
+numbered_at shelf (Some number) = slice_get shelf number
+
+abbrev pub cell_line : Option Submission → List Line
+cell_line None = []
+cell_line (Some s) = line.Cell s.cell s.version s.submitter ∷ []
+
+-- the present submission of a cell
+abbrev pub present_submission : List Submission → Name → Option Submission
+present_submission shelf cell = numbered_at shelf (present shelf cell)
+
+-- the line of a cell that the session may read
+abbrev pub readable_line : Policy → List Submission → ℕ → Name → List Line
+readable_line policy shelf conn cell =
+    if permits policy conn Read (object.Cell cell) then cell_line (present_submission shelf cell) else []
+
+abbrev pub cells : Policy → List Submission → ℕ → Result (List Listed) Ending
+cells policy shelf conn = decided (in_session policy conn ∷ []) (map stored (flat_map (readable_line policy shelf conn) (cells_of shelf)))
+
+-- ---- shapes
+
+-- the number of a cell's present submission
+abbrev pub shown : Option ℕ → Result ℕ Ending
+shown None = Err (ending.Refused code.NoCell)
+shown (Some number) = Ok number
+
+-- the session may read the cell that the submission is of
+abbrev pub may_read : Policy → ℕ → Submission → Bool
+may_read policy conn s = permits policy conn Read (object.Cell s.cell)
+
+-- the access permits its operation on that cell
+abbrev pub access_permits : Access → Submission → Bool
+access_permits access s = permits access.policy access.conn access.operation (object.Cell s.cell)
+
+-- the line of a shape, if the session may read the cell that the shape comes from
+abbrev pub readable_shape : Policy → List Submission → ℕ → Item → List Listed
+readable_shape policy shelf conn item = line_if (may_read policy conn) (slice_get shelf item.origin) item
+
+-- the shapes of the cell's present submission that come from cells that the session may read
+unfoldable pub shapes : Policy → List Submission → ℕ → Name → Result (List Listed) Ending
+shapes policy shelf conn cell = do
+  entered ← permitted policy conn Read (object.Cell cell)
+  number ← shown (present shelf cell)
+  Ok (flat_map (readable_shape policy shelf conn) (flat shelf number))
+
+-- ---- what comes of a request
+
+-- A reply with the shelf that it leaves, and whether that is a change, which has to be kept.
+pub record Outcome : Type 0 where
+  pub reply : Reply
+  pub shelf : List Submission
+  pub changes : Bool
+
+abbrev pub left : Reply → List Submission → Outcome
+left told shelf = record { reply = told; shelf = shelf; changes = false }
+
+-- What is submitted goes last on the shelf, and its version is told.
+abbrev pub shelved : List Submission → Result Submission Ending → Outcome
+shelved shelf (Ok s) = record { reply = reply.Ok (stored (line.Version s.version) ∷ []); shelf = shelf ++ s ∷ []; changes = true }
+shelved shelf (Err ending) = left (ended_by ending) shelf
+
+abbrev pub listed : List Submission → Result (List Listed) Ending → Outcome
+listed shelf (Ok lines) = left (reply.Ok lines) shelf
+listed shelf (Err ending) = left (ended_by ending) shelf
+
+-- Each request by its row.
+abbrev pub outcome_of : Policy → List Submission → ℕ → LayoutRequest → Outcome
+outcome_of policy shelf conn (ask.Submit cell top text) = shelved shelf (submitted policy shelf conn cell top text)
+outcome_of policy shelf conn ask.Cells = listed shelf (cells policy shelf conn)
+outcome_of policy shelf conn (ask.Shapes cell) = listed shelf (shapes policy shelf conn cell)

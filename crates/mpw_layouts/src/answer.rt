@@ -1,0 +1,95 @@
+//! The answers to requests over the shelf.
+ghost use Rattle.std.specs.Prelude.{◌≡◌, ◌∷◌, [], List, Result, IfOk, IfErr};
+ghost use Rattle.mpw_hier.specs.declared.submission.Submission.{Submission};
+ghost use Rattle.mpw_layouts.specs.Answers.{Gives, IsEnd, IsShelved};
+ghost use Rattle.mpw_layouts.specs.Layouts.{outcome_of, listed, shelved};
+ghost use Rattle.mpw_replies.specs.Listing.{Listed, stored};
+ghost use Rattle.mpw_replies.specs.Rows.{Answers, Told};
+ghost use Rattle.mpw_replies.specs.declared.row.Ending.{Ending as AnyEnding};
+
+use crate::rows::{Shelved, cells, shapes, submit};
+use mpw_hier::Shelf;
+use mpw_rbac::Policy;
+use mpw_replies::{Fault, Line, Lines, Reply};
+use mpw_requests::LayoutRequest;
+use std::alloc::{AllocError, Global};
+
+/// The reply to a request over the shelf, and the shelf that it leaves where that is another.
+#[derive(Drop)]
+pub struct LayoutAnswer {
+    pub reply: Reply,
+    pub next: Option<Shelf>,
+}
+
+/// The line of a version.
+fn version_line(alloc: Global, version: u32) -> Result<Lines, AllocError>
+    ensures { IfOk result (λ lines. lines ≡ stored (Line.Version version) ∷ []) }
+{
+    let mut lines = Vec::new(alloc);
+    lines.push(Line::Version(version))?;
+    Lines::from_vec(alloc, lines)
+}
+
+/// The answer to what submits.
+fn submission(alloc: Global, made: Result<Shelved, Fault>) -> Result<LayoutAnswer, AllocError>
+    ensures { (shelf : List Submission) (row : Result Submission AnyEnding) → IfOk made (λ next. IsShelved shelf row next.shelf next.version) → IfErr made (λ fault. Told fault row) → IfOk result (λ answer. Gives shelf (shelved shelf row) answer) }
+{
+    match made {
+        Ok(next) => {
+            Ok(LayoutAnswer {
+                reply: Reply::Ok(version_line(alloc, next.version)?),
+                next: Some(next.shelf),
+            })
+        }
+        Err(fault) => told(fault),
+    }
+}
+
+/// The answer to what lists.
+fn listing(made: Result<Lines, Fault>) -> Result<LayoutAnswer, AllocError>
+    ensures { (shelf : List Submission) (row : Result (List Listed) AnyEnding) → Answers (λ lines. lines) made row → IfOk result (λ answer. Gives shelf (listed shelf row) answer) }
+{
+    match made {
+        Ok(lines) => Ok(LayoutAnswer {
+            reply: Reply::Ok(lines),
+            next: None,
+        }),
+        Err(fault) => told(fault),
+    }
+}
+
+/// What ends a row is told, and leaves the shelf; want of memory gives no answer.
+fn told(fault: Fault) -> Result<LayoutAnswer, AllocError>
+    ensures { IfOk result (IsEnd fault) }
+{
+    match fault {
+        Fault::Told(ending) => Ok(LayoutAnswer {
+            reply: ending.reply(),
+            next: None,
+        }),
+        Fault::Memory => Err(AllocError),
+    }
+}
+
+/// The answer to a request over the shelf. A submission takes its library's size, with a search for each name, and the
+/// number of submissions on the shelf, and so does `cells`; `shapes` takes the turns of a walk too.
+///
+/// # Errors
+/// Where there is no room for it.
+pub fn answer_request(
+    alloc: Global,
+    policy: &Policy,
+    shelf: &Shelf,
+    conn: u32,
+    request: &LayoutRequest,
+) -> Result<LayoutAnswer, AllocError>
+    ensures { IfOk result (λ answer. Gives shelf.now (outcome_of policy.now shelf.now conn request.now) answer) }
+{
+    match request {
+        LayoutRequest::Submit { cell, top, text } => {
+            submission(alloc, submit(alloc, policy, shelf, conn, cell, top, text))
+        }
+        LayoutRequest::Cells => listing(cells(alloc, policy, shelf, conn)),
+        LayoutRequest::Shapes { cell } => listing(shapes(alloc, policy, shelf, conn, cell)),
+    }
+}

@@ -1,0 +1,24 @@
+//! Laws of the definitions alone. Each function calls at most the laws that its own rests on: its contract is the law.
+ghost use Rattle.mpw_layouts.specs.Laws.{LayoutsAreOfReadable, LayoutsDenyWhatIsLacked, NegativesLeaveTheShelf};
+
+use mpw_hier::shelves_have_their_numbers;
+use mpw_replies::entering_denies_what_is_lacked;
+
+/// A denial of a permission names one that the connection's session lacks.
+pub fn denials_of_layouts_name_what_is_lacked()
+    ensures { LayoutsDenyWhatIsLacked }
+{
+    entering_denies_what_is_lacked();
+}
+
+/// A line of a reply that tells of a cell, or shows a shape of one, is of a cell that the connection's session may read.
+pub fn lines_of_layouts_are_of_readable_cells()
+    ensures { LayoutsAreOfReadable }
+{
+    shelves_have_their_numbers();
+}
+
+/// A request that is denied or refused leaves the shelf as it was.
+pub fn layouts_are_left_unless_a_request_is_accepted()
+    ensures { NegativesLeaveTheShelf }
+{}

@@ -1,0 +1,302 @@
+//! The rows of `submit`, `cells` and `shapes`.
+//!
+//! Each part of a row is a function that gives its value, or what ends the row, or tells want of memory.
+ghost use Rattle.std.specs.Prelude.{◌≡◌, ◌<◌, ◌++◌, slice_get, length, map, IfOk, IfErr, OnOk, Some};
+ghost use Rattle.std.specs.List.{flat_map};
+ghost use Rattle.mpw_library.specs.Grammar.{library_of};
+ghost use Rattle.mpw_library.specs.Library.{IsLibrary};
+ghost use Rattle.mpw_hier.specs.Outline.{IsOutline};
+ghost use Rattle.mpw_hier.specs.Shelf.{bound_to};
+ghost use Rattle.mpw_hier.specs.declared.submission.Submission.{Submission as SubmissionTold};
+ghost use Rattle.mpw_layouts.specs.Answers.{IsShelved, fault_of};
+ghost use Rattle.mpw_replies.specs.Rows.{Answers, Told};
+ghost use Rattle.mpw_layouts.specs.Layouts as row;
+ghost use Rattle.mpw_replies.specs.Listing.{stored};
+ghost use Rattle.mpw_hier.specs.Shelf.{present};
+ghost use Rattle.mpw_rbac.specs.Rows.{user_of};
+ghost use Rattle.mpw_rbac.specs.declared.permission.Operation.TheVariants.{Read};
+
+use crate::sight::shapes_of;
+use mpw_elements::ReadError;
+use mpw_geom::{Name, Names};
+use mpw_hier::{
+    Bindings, HierFault, Outline, Shelf, Submission, reaching_is_decided,
+    shelves_have_their_numbers,
+};
+use mpw_library::{Library, LibraryText};
+use mpw_rbac::{Access, Object, Operation, Policy};
+use mpw_replies::{Code, Denial, Ending, Fault, Line, Lines, enter};
+use std::alloc::{AllocError, Global};
+
+/// A fault of the shelf as what ends a row.
+fn fault_of(fault: HierFault) -> Fault
+    ensures { result ≡ fault_of fault }
+{
+    match fault {
+        HierFault::Memory => Fault::Memory,
+        HierFault::NoTop => Fault::refused(Code::NoTop),
+        HierFault::Cycle => Fault::refused(Code::Cycle),
+        HierFault::NoCell => Fault::refused(Code::NoCell),
+        HierFault::Extent => Fault::refused(Code::Extent),
+        HierFault::Shapes => Fault::refused(Code::Shapes),
+        HierFault::Deep => Fault::refused(Code::Deep),
+        HierFault::Full => Fault::refused(Code::Full),
+    }
+}
+
+/// The library that a text is of.
+fn read(alloc: Global, text: &LibraryText) -> Result<Library, Fault>
+    ensures read { Answers (λ library. library) result (row.read (library_of text.now)) }
+    ensures shape { IfOk result IsLibrary }
+{
+    match text.library(alloc) {
+        Ok(library) => Ok(library),
+        Err(ReadError::Fault(fault)) => Err(Fault::refused(Code::Read(fault))),
+        Err(ReadError::Memory) => Err(Fault::Memory),
+    }
+}
+
+/// What the top of the library reaches, with the names outside the library.
+fn outside(alloc: Global, library: &Library, top: &Name) -> Result<Outline, Fault>
+    ensures outside { Answers (λ outline. outline.names) result (row.outside library.now top.now) }
+    ensures outline { IfOk result (IsOutline library.now top.now) }
+{
+    reaching_is_decided();
+    match Outline::new(alloc, library, top) {
+        Ok(outline) => Ok(outline),
+        Err(fault) => Err(fault_of(fault)),
+    }
+}
+
+/// Whether each cell may be used, the first that may not told.
+fn usable(policy: &Policy, conn: u32, cells: &[Name]) -> Result<(), Fault>
+    ensures { Answers (λ x. x) result (row.usable policy.now conn cells.now) }
+{
+    let access = policy.access(conn, Operation::Use);
+    for cell in cells {
+        let object = Object::Cell(cell.copy()?);
+        if !access.permits(&object) {
+            return Err(Fault::Told(Ending::Denied(Denial::Permission(Operation::Use, object))));
+        }
+    }
+    Ok(())
+}
+
+/// The present submission of each name.
+fn bind(alloc: Global, shelf: &Shelf, names: &[Name]) -> Result<Bindings, Fault>
+    ensures bound { Answers (λ bindings. bindings) result (row.bound (bound_to shelf.now names.now)) }
+    ensures is { IfOk result (λ bindings. bound_to shelf.now names.now ≡ Some bindings) }
+{
+    match shelf.bind(alloc, names) {
+        Ok(bindings) => Ok(bindings),
+        Err(fault) => Err(fault_of(fault)),
+    }
+}
+
+/// A shelf with the version of the submission that came last.
+#[derive(Drop)]
+pub(crate) struct Shelved {
+    pub(crate) shelf: Shelf,
+    pub(crate) version: u32,
+}
+
+/// The shelf with one more submission, if that keeps the limits.
+#[tactic(auto, unfolding(crate::specs::Layouts::kept))]
+fn keep(
+    alloc: Global,
+    shelf: &Shelf,
+    submission: Submission,
+    outline: &Outline,
+) -> Result<Shelved, Fault>
+    requires library { IsLibrary submission.library }
+    requires outline { IsOutline submission.library submission.top outline.now }
+    requires bound { bound_to shelf.now outline.now.names ≡ Some submission.bound }
+    ensures ok { IfOk result (λ next. IsShelved shelf.now (row.kept shelf.now submission) next.shelf next.version) }
+    ensures err { IfErr result (λ fault. Told fault (row.kept shelf.now submission)) }
+{
+    reaching_is_decided();
+    let mut shelf = shelf.copy(alloc)?;
+    match shelf.put(alloc, submission, outline) {
+        Ok(number) => {
+            let version = version_of(&shelf, number);
+            Ok(Shelved { shelf, version })
+        }
+        Err(fault) => Err(fault_of(fault)),
+    }
+}
+
+/// The version of a submission; 0 where there is none of that number.
+fn version_of(shelf: &Shelf, number: u32) -> u32
+    ensures { (s : SubmissionTold) → slice_get shelf.now number ≡ Some s → result ≡ s.version }
+{
+    match shelf.get(number) {
+        Some(submission) => submission.version,
+        None => 0,
+    }
+}
+
+/// What a submitter offers: a library, with the structure of it that the cell shows.
+#[derive(Drop)]
+struct Offer {
+    cell: Name,
+    submitter: Name,
+    library: Library,
+    top: Name,
+}
+
+/// The shelf with what is offered, bound to the present submissions of the cells that it uses.
+#[tactic(auto, unfolding(crate::specs::Layouts::submitted_library))]
+fn submit_library(
+    alloc: Global,
+    policy: &Policy,
+    shelf: &Shelf,
+    conn: u32,
+    offer: Offer,
+) -> Result<Shelved, Fault>
+    requires library { IsLibrary offer.library }
+    requires submitter { offer.submitter ≡ user_of policy.now conn }
+    ensures ok { IfOk result (λ next. IsShelved shelf.now (row.submitted_library policy.now shelf.now conn offer.cell offer.top offer.library) next.shelf next.version) }
+    ensures err { IfErr result (λ fault. Told fault (row.submitted_library policy.now shelf.now conn offer.cell offer.top offer.library)) }
+{
+    let outline = outside(alloc, &offer.library, &offer.top)?;
+    usable(policy, conn, outline.names.as_slice())?;
+    let bound = bind(alloc, shelf, outline.names.as_slice())?;
+    let Offer {
+        cell,
+        submitter,
+        library,
+        top,
+    } = offer;
+    let submission = Submission {
+        cell,
+        version: 0,
+        submitter,
+        library,
+        top,
+        bound,
+    };
+    keep(alloc, shelf, submission, &outline)
+}
+
+/// The shelf with the submission that a text makes. It takes the library's size, with a search for each name, and
+/// the number of submissions, which are shared.
+#[tactic(auto, unfolding(crate::specs::Layouts::submitted))]
+pub(crate) fn submit(
+    alloc: Global,
+    policy: &Policy,
+    shelf: &Shelf,
+    conn: u32,
+    cell: &Name,
+    top: &Name,
+    text: &LibraryText,
+) -> Result<Shelved, Fault>
+    ensures ok { IfOk result (λ next. IsShelved shelf.now (row.submitted policy.now shelf.now conn cell.now top.now text.now) next.shelf next.version) }
+    ensures err { IfErr result (λ fault. Told fault (row.submitted policy.now shelf.now conn cell.now top.now text.now)) }
+{
+    let submitter = enter(policy, conn, Operation::Submit, Object::Cell(cell.copy()?))?;
+    let library = read(alloc, text)?;
+    let cell = cell.copy()?;
+    let top = top.copy()?;
+    submit_library(
+        alloc,
+        policy,
+        shelf,
+        conn,
+        Offer {
+            cell,
+            submitter,
+            library,
+            top,
+        },
+    )
+}
+
+/// Adds the line of a cell, if the session may read it and it has a submission.
+fn push_cell(
+    lines: &mut Vec<Line>,
+    access: &Access<'_>,
+    shelf: &Shelf,
+    cell: &Name,
+) -> Result<(), AllocError>
+    requires { access.now.operation ≡ Read }
+    ensures { OnOk result (lines.new.items ≡ lines.old.items ++ row.readable_line access.now.policy shelf.now access.now.conn cell.now) }
+{
+    let object = Object::Cell(cell.copy()?);
+    if !access.permits(&object) {
+        return Ok(());
+    }
+    let Some(number) = shelf.present(cell) else {
+        return Ok(());
+    };
+    if let Some(submission) = shelf.get(number) {
+        lines.push(Line::Cell {
+            cell: submission.cell.copy()?,
+            version: submission.version,
+            submitter: submission.submitter.copy()?,
+        })?;
+    }
+    Ok(())
+}
+
+/// The lines of the cells that the session may read.
+fn cell_lines(
+    alloc: Global,
+    policy: &Policy,
+    shelf: &Shelf,
+    conn: u32,
+    cells: &[Name],
+) -> Result<Lines, AllocError>
+    ensures { IfOk result (λ lines. lines ≡ map stored (flat_map (row.readable_line policy.now shelf.now conn) cells.now)) }
+{
+    let mut lines = Vec::new(alloc);
+    let access = policy.access(conn, Operation::Read);
+    for cell in cells {
+        push_cell(&mut lines, &access, shelf, cell)?;
+    }
+    Lines::from_vec(alloc, lines)
+}
+
+/// The lines of `cells`: a sort of the submissions' cells, and a look-up for each.
+pub(crate) fn cells(
+    alloc: Global,
+    policy: &Policy,
+    shelf: &Shelf,
+    conn: u32,
+) -> Result<Lines, Fault>
+    ensures { Answers (λ lines. lines) result (row.cells policy.now shelf.now conn) }
+{
+    if !policy.has_session(conn) {
+        return Err(Fault::Told(Ending::Denied(Denial::Session)));
+    }
+    let cells = shelf.cells(alloc)?;
+    Ok(cell_lines(alloc, policy, shelf, conn, cells.as_slice())?)
+}
+
+/// The number of the present submission of a cell.
+fn shown(shelf: &Shelf, cell: &Name) -> Result<u32, Fault>
+    ensures shown { Answers (λ number. number) result (row.shown (present shelf.now cell.now)) }
+    ensures within { IfOk result (λ number. number < length shelf.now) }
+{
+    shelves_have_their_numbers();
+    match shelf.present(cell) {
+        Some(number) => Ok(number),
+        None => Err(Fault::refused(Code::NoCell)),
+    }
+}
+
+/// The lines of `shapes`: a look-up for each submission on the shelf, and the turns of a walk over the submission's shapes.
+#[tactic(auto, unfolding(crate::specs::Layouts::shapes))]
+pub(crate) fn shapes(
+    alloc: Global,
+    policy: &Policy,
+    shelf: &Shelf,
+    conn: u32,
+    cell: &Name,
+) -> Result<Lines, Fault>
+    ensures { Answers (λ lines. lines) result (row.shapes policy.now shelf.now conn cell.now) }
+{
+    enter(policy, conn, Operation::Read, Object::Cell(cell.copy()?))?;
+    let number = shown(shelf, cell)?;
+    let listing = shapes_of(alloc, policy, shelf, conn, number)?;
+    Ok(Lines::of_shapes(alloc, listing)?)
+}

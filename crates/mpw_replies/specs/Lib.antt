@@ -1,0 +1,6 @@
+pub mod Laws
+pub mod Listing
+pub mod Readable
+pub mod Rows
+pub mod Shapes
+pub mod Told

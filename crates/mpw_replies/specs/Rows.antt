@@ -1,0 +1,54 @@
+-- The rows of requests: the tests of a row in order, of which the first that fails ends it.
+use Rattle.std.specs.Prelude.{◌≡◌, ℕ, Bool, List, [], ◌∷◌, is_some, Result, Ok, Err}
+use Rattle.mpw_roles.specs.Decided.{decided}
+use Rattle.mpw_rbac.specs.declared.permission.Operation.{Operation}
+use Rattle.mpw_rbac.specs.declared.permission.Object.{Object}
+use Rattle.mpw_rbac.specs.Policy.{Policy, session_of, permits}
+use Rattle.mpw_replies.specs.declared.reply.Denial.TheVariants as denial
+use Rattle.mpw_replies.specs.declared.reply.Reply.{Reply}
+use Rattle.mpw_replies.specs.declared.reply.Reply.TheVariants as reply
+use Rattle.mpw_replies.specs.declared.row.Ending.{Ending}
+use Rattle.mpw_replies.specs.declared.row.Ending.TheVariants as ending
+use Rattle.mpw_replies.specs.declared.row.Fault.{Fault}
+use Rattle.mpw_replies.specs.declared.row.Fault.TheVariants as fault
+
+-- One part of a row behind another: what ends the row in place of a value.
+infixl 10 ◌>>=◌
+abbrev pub ◌>>=◌ : {A B : Type 0} → Result A Ending → (A → Result B Ending) → Result B Ending
+(Ok x) >>= f = f x
+(Err ending) >>= f = Err ending
+
+-- What ends a row, as the reply that tells it.
+abbrev pub ended_by : Ending → Reply
+ended_by (ending.Denied why) = reply.Denied why
+ended_by (ending.Refused why) = reply.Refused why
+
+abbrev pub denied : Operation → Object → Ending
+denied operation object = ending.Denied (denial.Permission operation object)
+
+-- The connection has a session.
+abbrev pub in_session : Policy → ℕ → Bool × Ending
+in_session policy conn = (is_some (session_of policy conn), ending.Denied denial.Session)
+
+-- The connection's session may do the operation on the object.
+abbrev pub permitted : Policy → ℕ → Operation → Object → Result (Unit {0}) Ending
+permitted policy conn operation object =
+    decided (in_session policy conn ∷ (permits policy conn operation object, denied operation object) ∷ []) tt
+
+-- What a function of a row answers: its value, seen by view, or what ends the row, or want of memory.
+abbrev pub Told : {B : Type 0} → Fault → Result B Ending → Type 0
+Told fault.Memory row = Unit {0}
+Told (fault.Told ending) row = row ≡ Err ending
+
+abbrev pub Answers : {A B : Type 0} → (A → B) → Result A Fault → Result B Ending → Type 0
+Answers view (Ok x) row = row ≡ Ok (view x)
+Answers view (Err e) row = Told e row
+
+-- A reply that denies or refuses.
+abbrev pub IsNegative : Reply → Type 0
+IsNegative (reply.Ok lines) = ⊥
+IsNegative (reply.Denied why) = Unit {0}
+IsNegative (reply.Refused why) = Unit {0}
+IsNegative reply.Gone = ⊥
+IsNegative reply.Restarted = ⊥
+IsNegative reply.Ended = ⊥

@@ -1,0 +1,15 @@
+-- The lines that are told, of what is kept of them.
+use Rattle.std.specs.Prelude.{List, map}
+use Rattle.mpw_replies.specs.declared.lines.Told.{Told}
+use Rattle.mpw_replies.specs.declared.lines.Told.TheVariants as told
+use Rattle.mpw_replies.specs.declared.lines.Kept.{Kept}
+use Rattle.mpw_replies.specs.declared.lines.Kept.TheVariants as kept
+use Rattle.mpw_replies.specs.Listing.{Listed, stored}
+
+abbrev pub told_lines : Told → List Listed
+told_lines (told.Stored lines) = map stored lines.items
+told_lines (told.Shapes listing) = listing
+
+abbrev pub kept_lines : Kept → List Listed
+kept_lines (kept.Stored lines) = map stored lines.now
+kept_lines (kept.Shapes listing) = listing.now

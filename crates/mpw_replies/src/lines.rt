@@ -1,0 +1,129 @@
+//! The lines of an accepted request's reply.
+//!
+//! A copy of a reply shares its lines, and the history keeps each reply. So a listing of shapes is kept as what it lists
+//! ([`ShapeListing`]), and its lines are made one by one where they are written.
+ghost use Rattle.std.specs.Prelude.{◌≡◌, [], IfOk, length, map};
+ghost use Rattle.mpw_replies.specs.Listing.{stored};
+ghost use Rattle.mpw_replies.specs.Told.{kept_lines, told_lines};
+
+use crate::listing::ShapeListing;
+use crate::reply::Line;
+use std::alloc::{AllocError, Global};
+use std::marker::Model;
+use std::sync::Arc;
+
+/// What a reply holds of its lines: the lines themselves, or the shapes that they list.
+#[derive(Drop)]
+enum Told {
+    Stored(Vec<Line>),
+    Shapes(ShapeListing),
+}
+
+/// The lines of a reply, which contracts see as that list. Copies share them.
+#[derive(Drop)]
+pub struct Lines {
+    told: Option<Arc<Told>>,
+}
+
+impl Model for Lines {
+    ghost use Rattle.std.specs.Prelude.{List, []};
+    ghost use Rattle.std.specs.Option.{option_map_or};
+    ghost use Rattle.mpw_replies.specs.Listing.{Listed};
+    ghost use Rattle.mpw_replies.specs.Told.{told_lines};
+
+    ghost Value = { List Listed };
+
+    ghost view = { λ lines. option_map_or (λ told. told_lines told.value) lines.told [] };
+}
+
+/// A look at what a reply holds of its lines.
+pub enum Kept<'a> {
+    /// The lines themselves.
+    Stored(&'a [Line]),
+    /// The shapes that they list.
+    Shapes(&'a ShapeListing),
+}
+
+impl Lines {
+    /// No line. It takes no memory.
+    pub fn none() -> Lines
+        ensures { result ≡ [] }
+    {
+        Lines { told: None }
+    }
+
+    /// These lines. One allocation.
+    ///
+    /// # Errors
+    /// Where there is no room for it.
+    pub fn from_vec(alloc: Global, lines: Vec<Line>) -> Result<Lines, AllocError>
+        ensures { IfOk result (λ made. made ≡ map stored lines.items) }
+    {
+        let told = Arc::new(alloc, Told::Stored(lines))?;
+        Ok(Lines { told: Some(told) })
+    }
+
+    /// The lines of a listing. One allocation.
+    ///
+    /// # Errors
+    /// Where there is no room for it.
+    pub fn of_shapes(alloc: Global, listing: ShapeListing) -> Result<Lines, AllocError>
+        ensures { IfOk result (λ made. made ≡ listing) }
+    {
+        let told = Arc::new(alloc, Told::Shapes(listing))?;
+        Ok(Lines { told: Some(told) })
+    }
+
+    /// What is kept of the lines. It takes no memory.
+    pub fn kept(&self) -> Kept<'_>
+        ensures { kept_lines result ≡ self.now }
+    {
+        match &self.told {
+            Some(told) => kept_of(told),
+            None => Kept::Stored(&[]),
+        }
+    }
+
+    /// The number of lines. It takes no memory, and constant time.
+    pub fn len(&self) -> usize
+        ensures { result ≡ length self.now }
+    {
+        match self.kept() {
+            Kept::Stored(lines) => lines.len(),
+            Kept::Shapes(listing) => listing.len(),
+        }
+    }
+
+    /// The same lines, in constant time and without further memory.
+    ///
+    /// # Errors
+    /// Where no more copies can be counted.
+    pub fn copy(&self) -> Result<Lines, AllocError>
+        ensures { IfOk result (λ lines. lines ≡ self.now) }
+    {
+        match &self.told {
+            Some(told) => Ok(Lines {
+                told: Some(told.clone()?),
+            }),
+            None => Ok(Lines::none()),
+        }
+    }
+}
+
+impl Clone for Lines {
+    ghost is_clone = { λ lines copy. copy ≡ lines };
+
+    fn clone(&self) -> Result<Lines, AllocError> {
+        self.copy()
+    }
+}
+
+/// What is kept of lines, to be looked at.
+fn kept_of(told: &Told) -> Kept<'_>
+    ensures { kept_lines result ≡ told_lines told.now }
+{
+    match told {
+        Told::Stored(lines) => Kept::Stored(lines.as_slice()),
+        Told::Shapes(listing) => Kept::Shapes(listing),
+    }
+}

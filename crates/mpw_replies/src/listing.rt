@@ -1,0 +1,180 @@
+//! Listings of shapes: the flat list of a cell's present submission, as far as it may be seen.
+//!
+//! A listing holds the shelf, which submission it lists, and which submissions may be seen; copies of a reply share it. Its
+//! lines are made one by one by a walk, which takes no memory.
+ghost use Rattle.std.specs.Prelude.{◌≡◌, ◌<◌, ◌≤◌, ◌^◌, ◌∷◌, ◌++◌, [], length, slice_get, All, IfSome, IfNone};
+ghost use Rattle.mpw_hier.specs.Values.{flat};
+ghost use Rattle.mpw_walk.specs.Turns.{given, flat_roots};
+ghost use Rattle.mpw_walk.specs.Walk.{IsRoot};
+ghost use Rattle.mpw_walk.specs.Way.{IsPlaceable, item_of};
+ghost use Rattle.mpw_replies.specs.Listing.{is_seen, seen_line, seen_lines};
+ghost use Rattle.mpw_replies.specs.Shapes.{IsPlaceableView, line_of, lines_of};
+
+use mpw_elements::Element;
+use mpw_geom::{Name, Placing};
+use mpw_hier::{Shelf, shelves_have_their_numbers};
+use mpw_walk::{Placed, Root, Walk};
+use std::marker::Model;
+use std::slice;
+
+/// The shapes of a submission that come from submissions that may be seen. Contracts see its lines.
+#[derive(Drop)]
+pub struct ShapeListing {
+    shelf: Shelf,
+    root: Root,
+    seen: Vec<bool>,
+    count: usize,
+}
+
+impl Model for ShapeListing {
+    ghost use Rattle.std.specs.Prelude.{List, [], ◌∷◌};
+    ghost use Rattle.mpw_walk.specs.Turns.{flat_roots};
+    ghost use Rattle.mpw_replies.specs.Listing.{Listed, IsListing, seen_lines};
+
+    ghost Value = { List Listed };
+
+    ghost view = { λ l. seen_lines l.shelf l.seen.items (flat_roots l.shelf (l.root ∷ [])) };
+
+    ghost invariant = { λ l. IsListing l.shelf l.root l.seen.items l.count };
+}
+
+/// A shape that a listing shows: the cell and the version that it comes from, and how it is placed.
+#[derive(Clone, Copy)]
+pub struct ShapeView<'a> {
+    pub cell: &'a Name,
+    pub version: u32,
+    pub placing: Placing,
+    pub element: &'a Element,
+}
+
+/// The shapes of a listing that are still to come. Contracts see their lines. It takes no memory.
+#[derive(Drop)]
+pub struct ShapeViews<'a> {
+    shelf: &'a Shelf,
+    seen: &'a [bool],
+    walk: Walk<'a>,
+}
+
+impl<'a> Model for ShapeViews<'a> {
+    ghost use Rattle.std.specs.Prelude.{List};
+    ghost use Rattle.mpw_walk.specs.Turns.{given};
+    ghost use Rattle.mpw_replies.specs.Listing.{Listed, seen_lines};
+
+    ghost Value = { List Listed };
+
+    ghost view = { λ v. seen_lines v.shelf.now v.seen.now (given v.walk.left) };
+}
+
+impl ShapeListing {
+    /// The listing of a submission's shapes, as far as they may be seen. It goes over the flat list once.
+    pub fn new(shelf: Shelf, number: u32, seen: Vec<bool>) -> ShapeListing
+        requires { number < length shelf }
+        ensures { result ≡ seen_lines shelf seen.items (flat shelf number) }
+    {
+        shelf.is_shelf();
+        shelves_have_their_numbers();
+        let root = Root::unmoved(&shelf, number);
+        let count = count_lines(&shelf, slice::from_ref(&root), &seen);
+        ShapeListing {
+            shelf,
+            root,
+            seen,
+            count,
+        }
+    }
+
+    /// The number of lines, at most 2^20.
+    pub fn len(&self) -> usize
+        ensures { result ≡ length self.now }
+    {
+        self.count
+    }
+
+    /// The shapes, one by one, in the order of the flat list. It takes no memory.
+    pub fn views(&self) -> ShapeViews<'_>
+        ensures { result ≡ self.now }
+    {
+        views_of(&self.shelf, slice::from_ref(&self.root), &self.seen)
+    }
+}
+
+impl<'a> ShapeViews<'a> {
+    /// The next shape; none behind the last. It takes no memory, and a walk's turns: at most 65 for each shape that the
+    /// submission has, seen or not.
+    pub fn next(&mut self) -> Option<ShapeView<'a>>
+        ensures some { IfSome result (λ shape. self.old ≡ line_of shape ∷ self.new) }
+        ensures placeable { IfSome result IsPlaceableView }
+        ensures none { IfNone result (self.old ≡ []) }
+    {
+        next_view(&mut self.walk, self.shelf, self.seen)
+    }
+}
+
+/// The shapes of roots, as far as they may be seen.
+fn views_of<'a>(shelf: &'a Shelf, roots: &'a [Root], seen: &'a [bool]) -> ShapeViews<'a>
+    requires roots { All (IsRoot shelf.now) roots.now }
+    requires few { length roots.now ≤ 1 }
+    ensures { result ≡ seen_lines shelf.now seen.now (flat_roots shelf.now roots.now) }
+{
+    ShapeViews {
+        shelf,
+        seen,
+        walk: Walk::new(shelf, roots),
+    }
+}
+
+/// The next shape of a walk that may be seen.
+fn next_view<'a>(walk: &mut Walk<'a>, shelf: &'a Shelf, seen: &[bool]) -> Option<ShapeView<'a>>
+    ensures some { IfSome result (λ shape. seen_lines shelf.now seen.now (given walk.old.left) ≡ line_of shape ∷ seen_lines shelf.now seen.now (given walk.new.left)) }
+    ensures placeable { IfSome result IsPlaceableView }
+    ensures none { IfNone result (seen_lines shelf.now seen.now (given walk.old.left) ≡ []) }
+{
+    while let Some(placed) = walk.next() {
+        if let Some(view) = view_of(shelf, seen, &placed) {
+            return Some(view);
+        }
+    }
+    None
+}
+
+/// A placed shape, if the submission that it comes from may be seen.
+fn view_of<'a>(shelf: &'a Shelf, seen: &[bool], placed: &Placed<'a>) -> Option<ShapeView<'a>>
+    ensures lines { lines_of result ≡ seen_line shelf.now seen.now (item_of placed.now) }
+    ensures placeable { IsPlaceable placed.now → IfSome result IsPlaceableView }
+{
+    let submission = shelf.get(placed.origin)?;
+    if !is_seen(seen, placed.origin) {
+        return None;
+    }
+    Some(ShapeView {
+        cell: &submission.cell,
+        version: submission.version,
+        placing: placed.placing,
+        element: placed.element,
+    })
+}
+
+/// Whether the submission of a number may be seen.
+fn is_seen(seen: &[bool], number: u32) -> bool
+    ensures { result ≡ is_seen (slice_get seen.now number) }
+{
+    match seen.get(number as usize) {
+        Some(seen) => *seen,
+        None => false,
+    }
+}
+
+/// The number of lines of roots that show at most 2^20 shapes.
+fn count_lines(shelf: &Shelf, roots: &[Root], seen: &[bool]) -> usize
+    requires roots { All (IsRoot shelf.now) roots.now }
+    requires few { length roots.now ≤ 1 }
+    requires shapes { length (flat_roots shelf.now roots.now) ≤ 2 ^ 20 }
+    ensures { result ≡ length (seen_lines shelf.now seen.now (flat_roots shelf.now roots.now)) }
+{
+    let mut views = views_of(shelf, roots, seen);
+    let mut count = 0usize;
+    while let Some(_) = views.next() {
+        count += 1;
+    }
+    count
+}

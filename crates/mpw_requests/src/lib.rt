@@ -1,0 +1,10 @@
+//! What connections ask of the desk, in groups: each group has its own enum, and is answered by its own rows.
+#![tactic(auto)]
+
+mod layouts;
+mod policy;
+mod request;
+
+pub use layouts::LayoutRequest;
+pub use policy::PolicyRequest;
+pub use request::{Request, SharedRequest};

@@ -1,0 +1,175 @@
+-- Serving line by line.
+use Rattle.std.proofs.Common.{◌≡◌, ◌∙◌, ◌<◌, ℕ, ◌+◌, List, [], ◌∷◌, ◌++◌, length, Option, Some, None, Result, Ok, Err, refl, sym, ap, subst, append_assoc, append-nil, length-append, arith, inl, inr}
+use Rattle.std.specs.Prelude.{⊤, IfOk, OnErr}
+use Rattle.std.specs.List.{flat_map}
+use Rattle.std.proofs.KnownBytes.{Appends-trans, Appends-nil}
+use Rattle.std.specs.Io.KnownBytes.{Appends}
+use Rattle.mpw_core.specs.declared.event.Event.TheVariants as event
+use Rattle.mpw_replies.specs.declared.reply.Reply.{Reply}
+use Rattle.mpw_core.specs.declared.event.Event.{Event}
+use Rattle.mpw_core.specs.History.{KeptDesk, IsHandled, GoesOnTo}
+use Rattle.mpw_wire.specs.declared.fault.WireFault.{WireFault}
+use Rattle.mpw_wire.specs.declared.fault.WireFault.TheVariants.{Read, Write, Memory}
+use Rattle.mpw_serve.specs.declared.serve.End.{End}
+use Rattle.mpw_serve.specs.declared.serve.End.TheVariants as end
+use Rattle.mpw_wire.specs.Writing.{WritesKnown, fault_of}
+use Rattle.mpw_serve.specs.Serving.{Answer, Turn, Stop, IsTrace, IsTurn, IsStop, Written, HasText, ServesLine, ServesLines, IsGone, Serves, max_lines, turn_text, stop_text, end_of, told}
+
+flat_map-push : (f : Turn → List ℕ) (turns : List Turn) (turn : Turn) → flat_map f (turns ++ turn ∷ []) ≡ flat_map f turns ++ f turn
+flat_map-push f [] turn = append-nil (f turn)
+flat_map-push f (t ∷ turns) turn = ap (λ l. f t ++ l) (flat_map-push f turns turn) ∙ sym (append_assoc (f t) (flat_map f turns) (f turn))
+
+-- a line whose text was written, or at which the sink failed
+pub serves_turn : (conn : ℕ) (input input' output output' : Option (List ℕ)) (desk desk' : KeptDesk) (failed failed' : ℕ) (t : Turn) (written : Result ⊤ WireFault) (result : Result (Option End) WireFault)
+    → result ≡ told None written → IsTurn conn input desk t input' desk' → WritesKnown output output' failed failed' (fault_of written) (turn_text t)
+    → ServesLine conn input input' output output' desk desk' result
+serves_turn conn input input' output output' desk desk' failed failed' t (Ok u) result e h w =
+    subst (ServesLine conn input input' output output' desk desk') (sym e) (t, h, w.0)
+serves_turn conn input input' output output' desk desk' failed failed' t (Err Read) result e h w = absurd w
+serves_turn conn input input' output output' desk desk' failed failed' t (Err Write) result e h w =
+    subst (ServesLine conn input input' output output' desk desk') (sym e) (record { stop = Stop.unwritten t; stopped = (omega arith, h); told = tt; written = w.0 })
+serves_turn conn input input' output output' desk desk' failed failed' t (Err Memory) result e h w = absurd w
+
+-- the end of the connection whose text was written, or at which the sink failed
+pub serves_stop : (conn : ℕ) (input input' output output' : Option (List ℕ)) (desk : KeptDesk) (failed failed' : ℕ) (s : Stop) (end : End) (written : Result ⊤ WireFault) (result : Result (Option End) WireFault)
+    → result ≡ told (Some end) written → IsStop conn 0 input desk s input' desk → end_of s ≡ Some end → HasText s → WritesKnown output output' failed failed' (fault_of written) (stop_text s)
+    → ServesLine conn input input' output output' desk desk result
+serves_stop conn input input' output output' desk failed failed' s end (Ok u) result e h is has w =
+    subst (ServesLine conn input input' output output' desk desk) (sym e) (record { stop = s; stopped = h; told = is; written = w.0 })
+serves_stop conn input input' output output' desk failed failed' s end (Err Read) result e h is has w = absurd w
+serves_stop conn input input' output output' desk failed failed' s end (Err Write) result e h is has w =
+    subst (ServesLine conn input input' output output' desk desk) (sym e) (record { stop = s; stopped = h; told = has; written = w.0 })
+serves_stop conn input input' output output' desk failed failed' s end (Err Memory) result e h is has w = absurd w
+
+-- what the last line's result is told as
+abbrev pub TellsLast : Result (Option End) WireFault → Result End WireFault → Type 0
+TellsLast (Ok None) told = ⊥
+TellsLast (Ok (Some e)) (Ok e') = e' ≡ e
+TellsLast (Ok (Some e)) (Err f) = ⊥
+TellsLast (Err f) (Ok e) = ⊥
+TellsLast (Err f) (Err f') = f' ≡ f
+
+-- the connection so far, after some lines that were answered
+pub record Progress (conn : ℕ) (input input' output output' : Option (List ℕ)) (desk desk' : KeptDesk) (count : ℕ) : Type 0 where
+  pub turns : List Turn
+  pub answered : IsTrace conn input desk turns input' desk'
+  pub counted : length turns ≡ count
+  pub written : Appends output output' (flat_map turn_text turns)
+
+pub start : (conn : ℕ) (input output : Option (List ℕ)) (desk : KeptDesk) → Progress conn input input output output desk desk 0
+start conn input output desk = record { turns = []; answered = IsTrace.none; counted = refl; written = Appends-nil output }
+
+-- a line was answered, and the connection goes on
+pub advance : (conn : ℕ) (input mid input' output between output' : Option (List ℕ)) (desk middle desk' : KeptDesk) (count : ℕ)
+    → Progress conn input mid output between desk middle count → (result : Result (Option End) WireFault) → result ≡ Ok None
+    → ServesLine conn mid input' between output' middle desk' result
+    → Progress conn input input' output output' desk desk' (count + 1)
+advance conn input mid input' output between output' desk middle desk' count p result e s =
+    go (subst (ServesLine conn mid input' between output' middle desk') e s)
+  where
+    go : ServesLine conn mid input' between output' middle desk' (Ok None) → Progress conn input input' output output' desk desk' (count + 1)
+    go (t, h, w) = record {
+      turns = p.turns ++ t ∷ [];
+      answered = IsTrace.then p.turns t mid input' middle desk' p.answered h;
+      counted = length-append p.turns (t ∷ []) ∙ ap (λ n. n + 1) p.counted;
+      written = subst (Appends output output') (sym (flat_map-push turn_text p.turns t)) (Appends-trans output between output' (flat_map turn_text p.turns) (turn_text t) p.written w);
+    }
+
+-- what ended the connection on its first line ends it on a later one
+stop_at : (conn lines : ℕ) (input input' : Option (List ℕ)) (desk desk' : KeptDesk) (s : Stop) → lines < max_lines → IsStop conn 0 input desk s input' desk' → IsStop conn lines input desk s input' desk'
+stop_at conn lines input input' desk desk' Stop.closed lt h = (lt, h.1, h.2)
+stop_at conn lines input input' desk desk' Stop.long lt h = (lt, h.1, h.2)
+stop_at conn lines input input' desk desk' Stop.cut lt h = (lt, h.1, h.2)
+stop_at conn lines input input' desk desk' Stop.starving lt h = (lt, h.1, h.2)
+stop_at conn lines input input' desk desk' Stop.unreadable lt h = (lt, h.1, h.2)
+stop_at conn lines input input' desk desk' Stop.spent lt h = let no : 0 ≡ 4096 = h.0 in absurd (omega (arith, no))
+stop_at conn lines input input' desk desk' (Stop.unwritten turn) lt h = (lt, h.1)
+
+-- what was written before a line, and then for it
+written_after : (output mid output' : Option (List ℕ)) (fault : Option WireFault) (before last : List ℕ) → Appends output mid before → Written mid output' fault [] last → Written output output' fault before last
+written_after output mid output' None before last p w = Appends-trans output mid output' before last p w
+written_after output mid output' (Some Read) before last p w = Appends-trans output mid output' before last p w
+written_after output mid output' (Some Write) before last p (front, rest, e, q) = (front, rest, e, Appends-trans output mid output' before front p q)
+written_after output mid output' (Some Memory) before last p w = absurd w
+
+-- the last line of the connection, or the one at which a device failed
+pub finish : (conn : ℕ) (input mid input' output between output' : Option (List ℕ)) (desk middle desk' : KeptDesk) (count : ℕ)
+    → Progress conn input mid output between desk middle count → count < max_lines
+    → (result : Result (Option End) WireFault) (told : Result End WireFault) → TellsLast result told
+    → ServesLine conn mid input' between output' middle desk' result
+    → ServesLines conn input input' output output' desk desk' told
+finish conn input mid input' output between output' desk middle desk' count p lt (Ok None) told last s = absurd last
+finish conn input mid input' output between output' desk middle desk' count p lt (Ok (Some e)) (Ok e') last s = subst (λ x. ServesLines conn input input' output output' desk desk' (Ok x)) (sym last) (record {
+  turns = p.turns;
+  left = mid;
+  reached = middle;
+  stop = s.stop;
+  answered = p.answered;
+  stopped = stop_at conn (length p.turns) mid input' middle desk' s.stop (omega (arith, lt, p.counted)) s.stopped;
+  told = s.told;
+  written = written_after output between output' None (flat_map turn_text p.turns) (stop_text s.stop) p.written s.written;
+})
+finish conn input mid input' output between output' desk middle desk' count p lt (Ok (Some e)) (Err f) last s = absurd last
+finish conn input mid input' output between output' desk middle desk' count p lt (Err f) (Ok e) last s = absurd last
+finish conn input mid input' output between output' desk middle desk' count p lt (Err f) (Err f') last s = subst (λ x. ServesLines conn input input' output output' desk desk' (Err x)) (sym last) (record {
+  turns = p.turns;
+  left = mid;
+  reached = middle;
+  stop = s.stop;
+  answered = p.answered;
+  stopped = stop_at conn (length p.turns) mid input' middle desk' s.stop (omega (arith, lt, p.counted)) s.stopped;
+  told = s.told;
+  written = written_after output between output' (Some f) (flat_map turn_text p.turns) (stop_text s.stop) p.written s.written;
+})
+
+-- as many lines as one connection may have were answered
+pub spent : (conn : ℕ) (input input' output output' : Option (List ℕ)) (desk desk' : KeptDesk) (count : ℕ)
+    → Progress conn input input' output output' desk desk' count → count ≡ max_lines
+    → ServesLines conn input input' output output' desk desk' (Ok end.Spent)
+spent conn input input' output output' desk desk' count p e = record {
+  turns = p.turns;
+  left = input';
+  reached = desk';
+  stop = Stop.spent;
+  answered = p.answered;
+  stopped = (p.counted ∙ e, refl, refl);
+  told = refl;
+  written = subst (Appends output output') (sym (append-nil (flat_map turn_text p.turns))) p.written;
+}
+
+-- the end of a connection was handled, or memory was wanting
+pub gone_cases : {E : Type 0} (conn : ℕ) (d d' : KeptDesk) (result : Result Reply E) → IfOk result (λ reply. IsHandled d (event.Gone conn) reply d') → OnErr result (d' ≡ d) → IsGone conn d d'
+gone_cases conn d d' (Ok reply) ok err = inl (reply, ok)
+gone_cases conn d d' (Err e) ok err = inr err
+
+-- ---- what the keeper has of it
+
+module _ (goes : (d left : KeptDesk) (event : Event) (reply : Reply) → IsHandled d event reply left → GoesOnTo d left) (stays : (d : KeptDesk) → GoesOnTo d d) (on : (a b c : KeptDesk) → GoesOnTo a b → GoesOnTo b c → GoesOnTo a c) where
+  unmoved : (d d' : KeptDesk) → d' ≡ d → GoesOnTo d d'
+  unmoved d d' same = subst (GoesOnTo d) (sym same) (stays d)
+
+  turn_on : (conn : ℕ) (input input' : Option (List ℕ)) (d d' : KeptDesk) (turn : Turn) → IsTurn conn input d turn input' d' → GoesOnTo d d'
+  turn_on conn input input' d d' (Turn.asked line request (Answer.replied reply)) is = goes d d' (event.Ask conn request) reply is.1
+  turn_on conn input input' d d' (Turn.asked line request Answer.starved) is = unmoved d d' is.1
+  turn_on conn input input' d d' (Turn.malformed line) is = unmoved d d' is.2
+
+  trace_on : (conn : ℕ) (input : Option (List ℕ)) (d : KeptDesk) (turns : List Turn) (input' : Option (List ℕ)) (d' : KeptDesk) → IsTrace conn input d turns input' d' → GoesOnTo d d'
+  trace_on conn input d turns input' d' IsTrace.none = stays d
+  trace_on conn input d turns input' d' (IsTrace.then before turn middle last near far trace is) = on d near far (trace_on conn input d before middle near trace) (turn_on conn middle last near far turn is)
+
+  stop_on : (conn lines : ℕ) (input input' : Option (List ℕ)) (d d' : KeptDesk) (s : Stop) → IsStop conn lines input d s input' d' → GoesOnTo d d'
+  stop_on conn lines input input' d d' Stop.closed is = unmoved d d' is.2
+  stop_on conn lines input input' d d' Stop.long is = unmoved d d' is.2
+  stop_on conn lines input input' d d' Stop.cut is = unmoved d d' is.2
+  stop_on conn lines input input' d d' Stop.starving is = unmoved d d' is.2
+  stop_on conn lines input input' d d' Stop.unreadable is = unmoved d d' is.2
+  stop_on conn lines input input' d d' Stop.spent is = unmoved d d' is.2
+  stop_on conn lines input input' d d' (Stop.unwritten turn) is = turn_on conn input input' d d' turn is.1
+
+  gone_on : (conn : ℕ) (d d' : KeptDesk) → IsGone conn d d' → GoesOnTo d d'
+  gone_on conn d d' (inl is) = goes d d' (event.Gone conn) is.0 is.1
+  gone_on conn d d' (inr same) = unmoved d d' same
+
+  pub served_on : (conn : ℕ) (input left output written : Option (List ℕ)) (d d' : KeptDesk) (result : Result End WireFault) → Serves conn input left output written d d' result → GoesOnTo d d'
+  served_on conn input left output written d d' result (reached, lines, gone) =
+      on d reached d' (on d lines.reached reached (trace_on conn input d lines.turns lines.left lines.reached lines.answered) (stop_on conn (length lines.turns) lines.left left lines.reached reached lines.stop lines.stopped)) (gone_on conn reached d' gone)

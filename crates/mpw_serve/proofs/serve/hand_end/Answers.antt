@@ -1,0 +1,5 @@
+use Rattle.mpw_serve.proofs.ServingLemmas.{gone_cases}
+use Rattle.mpw_serve.proofs.serve.hand_end.Goals as goal
+
+pub returns : goal.returns
+returns g c = gone_cases _ _ _ c.handle.result c.handle.ensures.ok c.handle.ensures.err

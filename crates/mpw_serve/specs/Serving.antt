@@ -1,0 +1,169 @@
+-- What serving a connection does: the lines that were answered, one by one, and what ended it.
+use Rattle.std.specs.Prelude.{◌≡◌, ◌<◌, ◌⊎◌, ⊤, ℕ, ◌+◌, List, [], ◌∷◌, ◌++◌, length, Option, None, Some, Result, Ok, Err}
+use Rattle.std.specs.List.{flat_map}
+use Rattle.std.specs.Io.KnownBytes.{Appends}
+use Rattle.std.specs.Io.Iter.{u64_saturate}
+use Rattle.mpw_requests.specs.declared.request.Request.{Request}
+use Rattle.mpw_core.specs.declared.event.Event.TheVariants as event
+use Rattle.mpw_replies.specs.declared.reply.Reply.{Reply}
+use Rattle.mpw_core.specs.History.{KeptDesk, IsHandled}
+use Rattle.mpw_wire.specs.declared.fault.WireFault.{WireFault}
+use Rattle.mpw_wire.specs.declared.fault.WireFault.TheVariants.{Read, Write, Memory}
+use Rattle.mpw_serve.specs.declared.serve.End.{End}
+use Rattle.mpw_serve.specs.declared.serve.End.TheVariants as end
+use Rattle.mpw_wire.specs.declared.reply.Refusal.TheVariants as refusal
+use Rattle.mpw_wire.specs.Reading.{TakesLine, TakesTooLong, TakesCut, TakesNothing, BreaksRead, BreaksMemory, IsText}
+use Rattle.mpw_wire.specs.Reply.{reply_text, refusal_text}
+use Rattle.mpw_wire.specs.declared.request.LineAsk.TheVariants as ask
+use Rattle.mpw_wire.specs.Request.{ask_of}
+use Rattle.mpw_wire.specs.Writing.{fault_of}
+
+-- what a request got: the desk's reply, or the word that memory was wanting
+pub data Answer : Type 0 where
+  replied : Reply → Answer
+  starved : Answer
+
+-- an answered line: one that asks something, and one that is no request's text
+pub data Turn : Type 0 where
+  asked : List ℕ → Request → Answer → Turn
+  malformed : List ℕ → Turn
+
+-- what ended the connection: the end of the input (`closed`, which says nothing of the desk), a line that is too long or
+-- asks to submit too much, an input that ends before what is to follow a line, no room for a request, a source that failed,
+-- as many lines as one connection may have, or a sink that failed at the text of a line
+pub data Stop : Type 0 where
+  closed : Stop
+  long : Stop
+  cut : Stop
+  starving : Stop
+  unreadable : Stop
+  spent : Stop
+  unwritten : Turn → Stop
+
+abbrev pub answer_text : Answer → List ℕ
+answer_text (replied reply) = reply_text reply
+answer_text starved = refusal_text refusal.Memory
+
+abbrev pub turn_text : Turn → List ℕ
+turn_text (asked line request answer) = answer_text answer
+turn_text (malformed line) = refusal_text refusal.Form
+
+abbrev pub stop_text : Stop → List ℕ
+stop_text closed = []
+stop_text long = refusal_text refusal.Long
+stop_text cut = refusal_text refusal.Cut
+stop_text starving = refusal_text refusal.Memory
+stop_text unreadable = []
+stop_text spent = []
+stop_text (unwritten turn) = turn_text turn
+
+-- the desk's reply is its own, and the desk goes on with it, its keeper too; want of memory leaves both
+abbrev pub IsAnswer : ℕ → Request → KeptDesk → Answer → KeptDesk → Type 0
+IsAnswer conn request desk (replied reply) desk' = IsHandled desk (event.Ask conn request) reply desk'
+IsAnswer conn request desk starved desk' = desk' ≡ desk
+
+-- the text is taken off the input, and it gets what it asks; a line that is no request's text leaves the desk
+abbrev pub IsTurn : ℕ → Option (List ℕ) → KeptDesk → Turn → Option (List ℕ) → KeptDesk → Type 0
+IsTurn conn input desk (asked line request answer) input' desk' =
+    IsText input input' line request × IsAnswer conn request desk answer desk'
+IsTurn conn input desk (malformed line) input' desk' = TakesLine input input' line × (ask_of line ≡ ask.Form) × (desk' ≡ desk)
+
+-- the lines were answered one after the other
+pub data IsTrace (conn : ℕ) (input : Option (List ℕ)) (desk : KeptDesk) : List Turn → Option (List ℕ) → KeptDesk → Type 0 where
+  none : IsTrace conn input desk [] input desk
+  then : (turns : List Turn) (turn : Turn) (input' input'' : Option (List ℕ)) (desk' desk'' : KeptDesk)
+      → IsTrace conn input desk turns input' desk' → IsTurn conn input' desk' turn input'' desk'' → IsTrace conn input desk (turns ++ turn ∷ []) input'' desk''
+
+-- the greatest number of lines of one connection
+abbrev pub max_lines : ℕ
+max_lines = 4096
+
+-- what ended the connection did so, after that many lines
+abbrev pub IsStop : ℕ → ℕ → Option (List ℕ) → KeptDesk → Stop → Option (List ℕ) → KeptDesk → Type 0
+IsStop conn lines input desk closed input' desk' = (lines < max_lines) × TakesNothing input input' × (desk' ≡ desk)
+IsStop conn lines input desk long input' desk' = (lines < max_lines) × TakesTooLong input input' × (desk' ≡ desk)
+IsStop conn lines input desk cut input' desk' = (lines < max_lines) × TakesCut input input' × (desk' ≡ desk)
+IsStop conn lines input desk starving input' desk' = (lines < max_lines) × BreaksMemory input input' × (desk' ≡ desk)
+IsStop conn lines input desk unreadable input' desk' = (lines < max_lines) × BreaksRead input input' × (desk' ≡ desk)
+IsStop conn lines input desk spent input' desk' = (lines ≡ max_lines) × (input' ≡ input) × (desk' ≡ desk)
+IsStop conn lines input desk (unwritten turn) input' desk' = (lines < max_lines) × IsTurn conn input desk turn input' desk'
+
+-- the end that is told where no device failed
+abbrev pub end_of : Stop → Option End
+end_of closed = Some end.Closed
+end_of long = Some end.Long
+end_of cut = Some end.Cut
+end_of starving = Some end.Memory
+end_of unreadable = None
+end_of spent = Some end.Spent
+end_of (unwritten turn) = None
+
+-- whether a text is written at the end
+abbrev pub HasText : Stop → Type 0
+HasText closed = ⊥
+HasText long = ⊤
+HasText cut = ⊤
+HasText starving = ⊤
+HasText unreadable = ⊥
+HasText spent = ⊥
+HasText (unwritten turn) = ⊤
+
+-- a source or a sink that failed is told as such, and else the end
+abbrev pub Tells : Stop → Result End WireFault → Type 0
+Tells stop (Ok end) = end_of stop ≡ Some end
+Tells stop (Err Read) = stop ≡ unreadable
+Tells stop (Err Write) = HasText stop
+Tells stop (Err Memory) = ⊥
+
+-- the sink has the text before and the last text; where it failed it has the text before, and a front of the last
+abbrev pub Written : Option (List ℕ) → Option (List ℕ) → Option WireFault → List ℕ → List ℕ → Type 0
+Written output output' None before last = Appends output output' (before ++ last)
+Written output output' (Some Read) before last = Appends output output' (before ++ last)
+Written output output' (Some Write) before last = (front : List ℕ) × (rest : List ℕ) × (front ++ rest ≡ last) × Appends output output' (before ++ front)
+Written output output' (Some Memory) before last = ⊥
+
+-- how often the sink has failed after a call with this fault: a fault of writing is a failure
+abbrev pub write_failures : Option WireFault → ℕ → ℕ
+write_failures None failures = failures
+write_failures (Some Read) failures = failures
+write_failures (Some Write) failures = u64_saturate (failures + 1)
+write_failures (Some Memory) failures = failures
+
+-- the lines of a connection: those that were answered, what ended it, and the text of all that
+pub record ServesLines (conn : ℕ) (input input' output output' : Option (List ℕ)) (desk desk' : KeptDesk) (result : Result End WireFault) : Type 0 where
+  pub turns : List Turn
+  pub left : Option (List ℕ)
+  pub reached : KeptDesk
+  pub stop : Stop
+  pub answered : IsTrace conn input desk turns left reached
+  pub stopped : IsStop conn (length turns) left reached stop input' desk'
+  pub told : Tells stop result
+  pub written : Written output output' (fault_of result) (flat_map turn_text turns) (stop_text stop)
+
+-- the end of the connection is handed to the desk; or the desk is left, as where memory is wanting
+abbrev pub IsGone : ℕ → KeptDesk → KeptDesk → Type 0
+IsGone conn desk desk' = ((reply : Reply) × IsHandled desk (event.Gone conn) reply desk') ⊎ (desk' ≡ desk)
+
+-- a connection: its lines, and its end
+abbrev pub Serves : ℕ → Option (List ℕ) → Option (List ℕ) → Option (List ℕ) → Option (List ℕ) → KeptDesk → KeptDesk → Result End WireFault → Type 0
+Serves conn input input' output output' desk desk' result =
+    (reached : KeptDesk) × ServesLines conn input input' output output' desk reached result × IsGone conn reached desk'
+
+-- the end, where what is written for it was written
+abbrev pub told : {A : Type 0} → Option End → Result A WireFault → Result (Option End) WireFault
+told end (Ok answer) = Ok end
+told end (Err fault) = Err fault
+
+-- one line ends the connection
+pub record StopsLine (conn : ℕ) (input input' output output' : Option (List ℕ)) (desk desk' : KeptDesk) (result : Result End WireFault) : Type 0 where
+  pub stop : Stop
+  pub stopped : IsStop conn 0 input desk stop input' desk'
+  pub told : Tells stop result
+  pub written : Written output output' (fault_of result) [] (stop_text stop)
+
+-- one line is answered, or it ends the connection
+abbrev pub ServesLine : ℕ → Option (List ℕ) → Option (List ℕ) → Option (List ℕ) → Option (List ℕ) → KeptDesk → KeptDesk → Result (Option End) WireFault → Type 0
+ServesLine conn input input' output output' desk desk' (Ok None) =
+    (turn : Turn) × IsTurn conn input desk turn input' desk' × Appends output output' (turn_text turn)
+ServesLine conn input input' output output' desk desk' (Ok (Some end)) = StopsLine conn input input' output output' desk desk' (Ok end)
+ServesLine conn input input' output output' desk desk' (Err fault) = StopsLine conn input input' output output' desk desk' (Err fault)

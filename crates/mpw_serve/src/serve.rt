@@ -1,0 +1,148 @@
+//! Serving a connection: each line gets its reply, in order, until the connection ends.
+ghost use Rattle.std.specs.Prelude.{◌≡◌, ℕ, List, Option, Result};
+ghost use Rattle.mpw_core.specs.History.{KeptDesk, GoesOnTo, kept_desk};
+ghost use Rattle.mpw_wire.specs.Reading.{read_failures};
+ghost use Rattle.mpw_wire.specs.Writing.{Writes, fault_of};
+ghost use Rattle.mpw_serve.specs.Serving.{Answer, told, IsAnswer, answer_text, ServesLine, ServesLines, IsGone, Serves, write_failures};
+
+use mpw_core::{Core, Event, Keeper, keepers_have_the_changes_in_order};
+use mpw_requests::SharedRequest;
+use mpw_wire::{
+    Asked, Refusal, Sink, Source, WireFault, read_request, write_refusal, write_reply,
+};
+use std::alloc::Global;
+
+
+/// The greatest number of answered lines of one connection.
+pub const MAX_LINES: usize = 4096;
+
+/// How a connection ended.
+#[derive(Clone, Copy, Debug, PartialEq, Eq)]
+pub enum End {
+    /// The input was read to its end.
+    Closed,
+    /// A line was longer than 4096 bytes, or asked to submit more than 2^24.
+    Long,
+    /// The input ended before the bytes that a line asked to submit.
+    Cut,
+    /// There was no room to read a line.
+    Memory,
+    /// 4096 lines were answered.
+    Spent,
+}
+
+/// Answers a request.
+fn answer<K: Keeper, W: Sink>(
+    core: &mut Core,
+    keeper: &mut K,
+    conn: u32,
+    request: SharedRequest,
+    writer: &mut W,
+) -> Result<(), WireFault>
+    ensures { (answer : Answer) × IsAnswer conn request (kept_desk core.old (K.kept keeper.old) (K.failures keeper.old)) answer (kept_desk core.new (K.kept keeper.new) (K.failures keeper.new)) × Writes W.contents W.failures writer.old writer.new result (answer_text answer) }
+{
+    match core.handle(keeper, Event::Ask { conn, request }) {
+        Ok(reply) => write_reply(&reply, writer),
+        Err(_) => write_refusal(Refusal::Memory, writer),
+    }
+}
+
+/// The end, where what is written for it was written.
+fn told(end: Option<End>, written: Result<(), WireFault>) -> Result<Option<End>, WireFault>
+    ensures { result ≡ told end written }
+{
+    match written {
+        Ok(()) => Ok(end),
+        Err(fault) => Err(fault),
+    }
+}
+
+/// Serves one line. It answers `None` where the connection goes on.
+fn serve_line<K: Keeper, R: Source, W: Sink>(
+    alloc: Global,
+    core: &mut Core,
+    keeper: &mut K,
+    conn: u32,
+    reader: &mut R,
+    writer: &mut W,
+) -> Result<Option<End>, WireFault>
+    ensures line { ServesLine conn (R.remaining reader.old) (R.remaining reader.new) (W.contents writer.old) (W.contents writer.new) (kept_desk core.old (K.kept keeper.old) (K.failures keeper.old)) (kept_desk core.new (K.kept keeper.new) (K.failures keeper.new)) result }
+    ensures reader { R.failures reader.new ≡ read_failures (fault_of result) (R.failures reader.old) }
+    ensures writer { W.failures writer.new ≡ write_failures (fault_of result) (W.failures writer.old) }
+{
+    match read_request(alloc, reader) {
+        Ok(Asked::Request(request)) => told(None, answer(core, keeper, conn, request, writer)),
+        Ok(Asked::Form) => told(None, write_refusal(Refusal::Form, writer)),
+        Ok(Asked::Long) => told(Some(End::Long), write_refusal(Refusal::Long, writer)),
+        Ok(Asked::Cut) => told(Some(End::Cut), write_refusal(Refusal::Cut, writer)),
+        Ok(Asked::End) => Ok(Some(End::Closed)),
+        Err(WireFault::Memory) => {
+            told(Some(End::Memory), write_refusal(Refusal::Memory, writer))
+        }
+        Err(WireFault::Read) => Err(WireFault::Read),
+        Err(WireFault::Write) => Err(WireFault::Write),
+    }
+}
+
+/// Serves lines until the connection ends.
+fn serve_lines<K: Keeper, R: Source, W: Sink>(
+    alloc: Global,
+    core: &mut Core,
+    keeper: &mut K,
+    conn: u32,
+    reader: &mut R,
+    writer: &mut W,
+) -> Result<End, WireFault>
+    ensures lines { ServesLines conn (R.remaining reader.old) (R.remaining reader.new) (W.contents writer.old) (W.contents writer.new) (kept_desk core.old (K.kept keeper.old) (K.failures keeper.old)) (kept_desk core.new (K.kept keeper.new) (K.failures keeper.new)) result }
+    ensures reader { R.failures reader.new ≡ read_failures (fault_of result) (R.failures reader.old) }
+    ensures writer { W.failures writer.new ≡ write_failures (fault_of result) (W.failures writer.old) }
+{
+    for _ in 0..MAX_LINES {
+        match serve_line(alloc, core, keeper, conn, reader, writer) {
+            Ok(None) => {}
+            Ok(Some(end)) => return Ok(end),
+            Err(fault) => return Err(fault),
+        }
+    }
+    Ok(End::Spent)
+}
+
+/// Hands the desk the connection's end, which leaves it only where memory is wanting.
+fn hand_end<K: Keeper>(core: &mut Core, keeper: &mut K, conn: u32)
+    ensures { IsGone conn (kept_desk core.old (K.kept keeper.old) (K.failures keeper.old)) (kept_desk core.new (K.kept keeper.new) (K.failures keeper.new)) }
+{
+    let _ = core.handle(keeper, Event::Gone { conn });
+}
+
+/// Serves a connection: the lines of the reader get their replies on the writer, in order, until the input ends, a
+/// line is too long, the bytes that it asks to submit are too many or cut off, there is no room for a request, or 4096
+/// lines were answered. Then the desk is handed the
+/// connection's end. What is accepted is handed to the keeper first. It costs the lines, and for each request what the
+/// core's step costs.
+///
+/// # Errors
+/// `Read` where the source failed and `Write` where the sink failed; what was accepted before stays accepted.
+pub fn serve_core<K: Keeper, R: Source, W: Sink>(
+    alloc: Global,
+    core: &mut Core,
+    keeper: &mut K,
+    conn: u32,
+    reader: &mut R,
+    writer: &mut W,
+) -> Result<End, WireFault>
+    ensures served { Serves conn (R.remaining reader.old) (R.remaining reader.new) (W.contents writer.old) (W.contents writer.new) (kept_desk core.old (K.kept keeper.old) (K.failures keeper.old)) (kept_desk core.new (K.kept keeper.new) (K.failures keeper.new)) result }
+    ensures reader { R.failures reader.new ≡ read_failures (fault_of result) (R.failures reader.old) }
+    ensures writer { W.failures writer.new ≡ write_failures (fault_of result) (W.failures writer.old) }
+{
+    let end = serve_lines(alloc, core, keeper, conn, reader, writer);
+    hand_end(core, keeper, conn);
+    end
+}
+
+/// A connection that was served leads the desk on by calls, and a keeper whose list is known has just their changes behind
+/// those before, in order.
+pub fn served_changes_are_kept_in_order()
+    ensures { (conn : ℕ) (input left output written : Option (List ℕ)) (desk reached : KeptDesk) (result : Result End WireFault) → Serves conn input left output written desk reached result → GoesOnTo desk reached }
+{
+    keepers_have_the_changes_in_order();
+}

@@ -1,6 +1,0 @@
-use Rattle.std.proofs.Common.{rules}
-use Rattle.mpw_wire.specs.Serving.{Answer}
-use Rattle.mpw_wire.proofs.serve.answer.Goals as goal
-
-pub returns-in-Ok : goal.returns-in-Ok
-returns-in-Ok g c = (Answer.replied c.in-Ok.reply, search rules, search rules)

@@ -1,5 +1,0 @@
-use Rattle.mpw_wire.proofs.ServingLemmas.{gone_cases}
-use Rattle.mpw_wire.proofs.serve.hand_end.Goals as goal
-
-pub returns : goal.returns
-returns g c = gone_cases _ _ _ c.handle.result c.handle.ensures.ok c.handle.ensures.err
