@@ -1,3 +1,5 @@
 pub mod Decks
-pub mod Reads
+pub mod Named
 pub mod Reading
+pub mod Reads
+pub mod Text

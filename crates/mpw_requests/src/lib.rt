@@ -4,7 +4,9 @@
 mod layouts;
 mod policy;
 mod request;
+mod wafer;
 
 pub use layouts::LayoutRequest;
 pub use policy::PolicyRequest;
 pub use request::{Request, SharedRequest};
+pub use wafer::WaferRequest;

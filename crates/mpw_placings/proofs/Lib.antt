@@ -1,0 +1,4 @@
+pub mod Inverted
+pub mod Keeping
+pub mod Tests
+pub mod Undoing

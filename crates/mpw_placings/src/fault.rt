@@ -1,0 +1,48 @@
+//! Why a submission can't be placed, or a placing not be taken away.
+
+ghost use Rattle.std.specs.Prelude.{◌≡◌};
+ghost use Rattle.mpw_placings.specs.declared.fault.PlacingFault.TheVariants.{Memory};
+
+use std::alloc::{AllocError, AllocFailed};
+use thiserror::Error;
+
+/// Why a submission can't be placed, in the order of the tests, or a placing not be taken away.
+#[derive(Clone, Copy, Debug, PartialEq, Eq, Error)]
+pub enum PlacingFault {
+    /// The cell has no submission.
+    #[error("the cell has no submission")]
+    NoCell,
+    /// There is a placing of that cell and label.
+    #[error("the cell is placed under that label already")]
+    Known,
+    /// What the submission shows would reach beyond 2^30 nm.
+    #[error("a shape would lie beyond 2^30 nm")]
+    Extent,
+    /// All placings together would show more than 2^20 flat shapes.
+    #[error("more than 2^20 shapes")]
+    Shapes,
+    /// There are 4096 placings.
+    #[error("there are 4096 placings already")]
+    Full,
+    /// There is no placing of that cell and label.
+    #[error("the cell is not placed under that label")]
+    Unknown,
+    #[error("out of memory")]
+    Memory,
+}
+
+impl From<AllocError> for PlacingFault {
+    ghost from_gives = { λ _ fault. fault ≡ Memory };
+
+    fn from(_error: AllocError) -> PlacingFault {
+        PlacingFault::Memory
+    }
+}
+
+impl<T: Drop> From<AllocFailed<T>> for PlacingFault {
+    ghost from_gives = { λ _ fault. fault ≡ Memory };
+
+    fn from(_error: AllocFailed<T>) -> PlacingFault {
+        PlacingFault::Memory
+    }
+}

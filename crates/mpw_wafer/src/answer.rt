@@ -1,0 +1,143 @@
+//! The answers to requests over the wafer.
+ghost use Rattle.std.specs.Prelude.{◌≡◌, List, Result, Option, IfOk, map};
+ghost use Rattle.mpw_deck.specs.Decks.{Deck as DeckTold};
+ghost use Rattle.mpw_placings.specs.declared.placement.Placement.{Placement};
+ghost use Rattle.mpw_wafer.specs.Answers.{Gives, IsEnd};
+ghost use Rattle.mpw_wafer.specs.Wafers.{outcome_of, placed_outcome, unplaced_outcome, decked_outcome, version_lines};
+ghost use Rattle.mpw_replies.specs.Listing.{stored};
+ghost use Rattle.mpw_replies.specs.Rows.{Answers};
+ghost use Rattle.mpw_replies.specs.declared.row.Ending.{Ending as AnyEnding};
+
+use crate::rows::{deck, place, unplace};
+use crate::wafer::{Wafer, deck_copy};
+use mpw_deck::Deck;
+use mpw_geom::Name;
+use mpw_hier::Shelf;
+use mpw_placings::Placings;
+use mpw_rbac::Policy;
+use mpw_replies::{Fault, Line, Lines, Reply};
+use mpw_requests::WaferRequest;
+use std::alloc::{AllocError, Global};
+
+/// The reply to a request over the wafer, and the wafer that it leaves where that is another.
+#[derive(Drop)]
+pub struct WaferAnswer {
+    pub reply: Reply,
+    pub next: Option<Wafer>,
+}
+
+/// The line of a version, where there is one.
+fn version_line(alloc: Global, version: Option<u32>) -> Result<Lines, AllocError>
+    ensures { IfOk result (λ lines. lines ≡ map stored (version_lines version)) }
+{
+    let Some(version) = version else {
+        return Ok(Lines::none());
+    };
+    let mut lines = Vec::new(alloc);
+    lines.push(Line::Version(version))?;
+    Lines::from_vec(alloc, lines)
+}
+
+/// What ends a row is told, and leaves the wafer; want of memory gives no answer.
+fn told(fault: Fault) -> Result<WaferAnswer, AllocError>
+    ensures { IfOk result (IsEnd fault) }
+{
+    match fault {
+        Fault::Told(ending) => Ok(WaferAnswer {
+            reply: ending.reply(),
+            next: None,
+        }),
+        Fault::Memory => Err(AllocError),
+    }
+}
+
+/// The answer to what places.
+fn placing(
+    alloc: Global,
+    shelf: &Shelf,
+    wafer: &Wafer,
+    cell: &Name,
+    label: &Name,
+    made: Result<Placings, Fault>,
+) -> Result<WaferAnswer, AllocError>
+    ensures { (row : Result (List Placement) AnyEnding) → Answers (λ placings. placings) made row → IfOk result (λ answer. Gives wafer.now (placed_outcome shelf.now wafer.now cell.now label.now row) answer) }
+{
+    match made {
+        Ok(placings) => {
+            let version = placings.version(shelf, cell, label);
+            let lines = version_line(alloc, version)?;
+            let deck = deck_copy(&wafer.deck)?;
+            Ok(WaferAnswer {
+                reply: Reply::Ok(lines),
+                next: Some(Wafer { placings, deck }),
+            })
+        }
+        Err(fault) => told(fault),
+    }
+}
+
+/// The answer to what takes a placing away.
+fn removal(wafer: &Wafer, made: Result<Placings, Fault>) -> Result<WaferAnswer, AllocError>
+    ensures { (row : Result (List Placement) AnyEnding) → Answers (λ placings. placings) made row → IfOk result (λ answer. Gives wafer.now (unplaced_outcome wafer.now row) answer) }
+{
+    match made {
+        Ok(placings) => {
+            let deck = deck_copy(&wafer.deck)?;
+            Ok(WaferAnswer {
+                reply: Reply::Ok(Lines::none()),
+                next: Some(Wafer { placings, deck }),
+            })
+        }
+        Err(fault) => told(fault),
+    }
+}
+
+/// The answer to what brings a deck.
+fn checking(wafer: &Wafer, made: Result<Deck, Fault>) -> Result<WaferAnswer, AllocError>
+    ensures { (row : Result DeckTold AnyEnding) → Answers (λ deck. deck) made row → IfOk result (λ answer. Gives wafer.now (decked_outcome wafer.now row) answer) }
+{
+    match made {
+        Ok(deck) => {
+            let placings = wafer.placings.copy()?;
+            Ok(WaferAnswer {
+                reply: Reply::Ok(Lines::none()),
+                next: Some(Wafer {
+                    placings,
+                    deck: Some(deck),
+                }),
+            })
+        }
+        Err(fault) => told(fault),
+    }
+}
+
+/// The answer to a request over the wafer: linear in the placings, or constant time for a deck that was read.
+///
+/// # Errors
+/// Where there is no room for it.
+pub fn answer_request(
+    alloc: Global,
+    policy: &Policy,
+    shelf: &Shelf,
+    wafer: &Wafer,
+    conn: u32,
+    request: &WaferRequest,
+) -> Result<WaferAnswer, AllocError>
+    ensures { IfOk result (λ answer. Gives wafer.now (outcome_of policy.now shelf.now wafer.now conn request.now) answer) }
+{
+    let placings = &wafer.placings;
+    match request {
+        WaferRequest::Place {
+            cell,
+            label,
+            placing: by,
+        } => {
+            let made = place(alloc, policy, shelf, placings, conn, cell, label, *by);
+            placing(alloc, shelf, wafer, cell, label, made)
+        }
+        WaferRequest::Unplace { cell, label } => {
+            removal(wafer, unplace(alloc, policy, placings, conn, cell, label))
+        }
+        WaferRequest::Deck { text } => checking(wafer, deck(alloc, policy, conn, text)),
+    }
+}

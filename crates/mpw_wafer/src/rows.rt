@@ -1,0 +1,88 @@
+//! The rows of `place`, `unplace` and `deck`.
+//!
+//! Each is a function that gives its value, or what ends the row, or tells want of memory.
+ghost use Rattle.std.specs.Prelude.{◌≡◌};
+ghost use Rattle.mpw_wafer.specs.Answers.{fault_of};
+ghost use Rattle.mpw_wafer.specs.Wafers as row;
+ghost use Rattle.mpw_replies.specs.Rows.{Answers};
+
+use mpw_deck::{Deck, DeckError, DeckText};
+use mpw_geom::{Name, Placing};
+use mpw_hier::Shelf;
+use mpw_placings::{PlacingFault, Placings};
+use mpw_rbac::{Object, Operation, Policy};
+use mpw_replies::{Code, Fault, enter};
+use std::alloc::Global;
+
+/// Why a placing is refused, as what ends a row.
+fn fault_of(fault: PlacingFault) -> Fault
+    ensures { result ≡ fault_of fault }
+{
+    match fault {
+        PlacingFault::NoCell => Fault::refused(Code::NoCell),
+        PlacingFault::Known => Fault::refused(Code::Known),
+        PlacingFault::Extent => Fault::refused(Code::Extent),
+        PlacingFault::Shapes => Fault::refused(Code::Shapes),
+        PlacingFault::Full => Fault::refused(Code::Full),
+        PlacingFault::Unknown => Fault::refused(Code::Unknown),
+        PlacingFault::Memory => Fault::Memory,
+    }
+}
+
+/// The placings with the cell's present submission under that label. Linear in the placings.
+#[tactic(auto, unfolding(crate::specs::Wafers::placed))]
+pub(crate) fn place(
+    alloc: Global,
+    policy: &Policy,
+    shelf: &Shelf,
+    placings: &Placings,
+    conn: u32,
+    cell: &Name,
+    label: &Name,
+    placing: Placing,
+) -> Result<Placings, Fault>
+    ensures { Answers (λ placings. placings) result (row.placed policy.now shelf.now placings.now conn cell.now label.now placing) }
+{
+    enter(policy, conn, Operation::Place, Object::Cell(cell.copy()?))?;
+    match placings.place(alloc, shelf, cell, label, placing) {
+        Ok(placings) => Ok(placings),
+        Err(fault) => Err(fault_of(fault)),
+    }
+}
+
+/// The placings without that of the cell under that label. Linear in the placings.
+#[tactic(auto, unfolding(crate::specs::Wafers::unplaced))]
+pub(crate) fn unplace(
+    alloc: Global,
+    policy: &Policy,
+    placings: &Placings,
+    conn: u32,
+    cell: &Name,
+    label: &Name,
+) -> Result<Placings, Fault>
+    ensures { Answers (λ placings. placings) result (row.unplaced policy.now placings.now conn cell.now label.now) }
+{
+    enter(policy, conn, Operation::Place, Object::Cell(cell.copy()?))?;
+    match placings.unplace(alloc, cell, label) {
+        Ok(placings) => Ok(placings),
+        Err(fault) => Err(fault_of(fault)),
+    }
+}
+
+/// The deck that a text spells: in constant time, where it was read already.
+#[tactic(auto, unfolding(crate::specs::Wafers::decked))]
+pub(crate) fn deck(
+    alloc: Global,
+    policy: &Policy,
+    conn: u32,
+    text: &DeckText,
+) -> Result<Deck, Fault>
+    ensures { Answers (λ deck. deck) result (row.decked policy.now conn text.now) }
+{
+    enter(policy, conn, Operation::Deck, Object::Desk)?;
+    match text.deck(alloc) {
+        Ok(deck) => Ok(deck),
+        Err(DeckError::Fault(fault)) => Err(Fault::refused(Code::Deck(fault))),
+        Err(DeckError::Memory) => Err(Fault::Memory),
+    }
+}

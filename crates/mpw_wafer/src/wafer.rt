@@ -1,0 +1,49 @@
+//! The wafer: what is placed on it, and the deck by which it is checked.
+
+ghost use Rattle.std.specs.Prelude.{◌≡◌, [], IfOk, None};
+
+use mpw_deck::Deck;
+use mpw_placings::Placings;
+use std::alloc::{AllocError, Global};
+
+/// The placings of the assembled top, and the deck of its checks, where there is one. Copies share both.
+#[derive(Drop)]
+pub struct Wafer {
+    pub placings: Placings,
+    pub deck: Option<Deck>,
+}
+
+/// The same deck, if there is one.
+pub(crate) fn deck_copy(deck: &Option<Deck>) -> Result<Option<Deck>, AllocError>
+    ensures { IfOk result (λ copy. copy ≡ deck.now) }
+{
+    match deck {
+        Some(deck) => Ok(Some(deck.copy()?)),
+        None => Ok(None),
+    }
+}
+
+impl Wafer {
+    /// The wafer without placings and without a deck. Takes no memory.
+    pub fn new(alloc: Global) -> Wafer
+        ensures placings { result.placings ≡ [] }
+        ensures deck { result.deck ≡ None }
+    {
+        Wafer {
+            placings: Placings::new(alloc),
+            deck: None,
+        }
+    }
+
+    /// The same wafer, in constant time and without further memory.
+    ///
+    /// # Errors
+    /// Where no more copies can be counted.
+    pub fn copy(&self) -> Result<Wafer, AllocError>
+        ensures { IfOk result (λ wafer. wafer ≡ self.now) }
+    {
+        let placings = self.placings.copy()?;
+        let deck = deck_copy(&self.deck)?;
+        Ok(Wafer { placings, deck })
+    }
+}
