@@ -19,12 +19,14 @@ use Rattle.mpw_replies.specs.declared.reply.Line.{Line}
 use Rattle.mpw_replies.specs.declared.reply.Line.TheVariants.{User, Active, Authorized, Version}
 use Rattle.mpw_replies.specs.declared.reply.Line.TheVariants as line
 use Rattle.mpw_rbac.specs.declared.permission.Operation.TheVariants as operation
-use Rattle.mpw_records.specs.declared.fault.ReadFault.{ReadFault}
+use Rattle.mpw_deck.specs.declared.deck.DeckKind.{DeckKind}
+use Rattle.mpw_deck.specs.declared.deck.DeckKind.TheVariants as deck
 use Rattle.mpw_records.specs.declared.fault.Code.{Code as TextFault}
 use Rattle.mpw_records.specs.declared.fault.Code.TheVariants as fault
 use Rattle.mpw_replies.specs.declared.reply.Denial.{Denial}
 use Rattle.mpw_replies.specs.declared.reply.Denial.TheVariants.{Session, Login, Permission, Activation, Ssd, Dsd}
 use Rattle.mpw_replies.specs.declared.reply.Code.{Code}
+use Rattle.mpw_replies.specs.declared.reply.Code.TheVariants as refused
 use Rattle.mpw_replies.specs.declared.reply.Code.TheVariants.{Read, NoTop, Cycle, NoCell, Extent, Shapes, Deep, Full, Opened, Unknown, Known, Used, Loop, Ended, Store, Closed}
 use Rattle.mpw_replies.specs.declared.reply.Reply.{Reply}
 use Rattle.mpw_wire.specs.declared.reply.Refusal.{Refusal}
@@ -160,9 +162,21 @@ fault_text fault.Pitch = codes "15 pitch"
 fault_text fault.DoubleName = codes "16 doublename"
 fault_text fault.Absolute = codes "18 absolute"
 
+-- the number and the word of a deck's fault
+unfoldable pub deck_text : DeckKind → List ℕ
+deck_text deck.Word = codes "51 word"
+deck_text deck.Number = codes "52 number"
+deck_text deck.Layer = codes "53 layer"
+deck_text deck.SameLayer = codes "54 samelayer"
+deck_text deck.DoubleRule = codes "55 doublerule"
+deck_text deck.Tile = codes "56 tile"
+deck_text deck.Rules = codes "57 rules"
+deck_text deck.Memory = codes "17 memory"
+
 -- the number and the word of a refusal
 unfoldable pub code_text : Code → List ℕ
 code_text (Read f) = fault_text f.code
+code_text (refused.Deck f) = deck_text f.kind
 code_text NoTop = codes "20 notop"
 code_text Cycle = codes "21 cycle"
 code_text NoCell = codes "23 nocell"
@@ -179,16 +193,17 @@ code_text Ended = codes "46 ended"
 code_text Store = codes "60 store"
 code_text Closed = codes "61 closed"
 
--- the line of a text's fault, with the offset of its record
-abbrev pub fault_line : ReadFault → List ℕ
-fault_line f = concat (codes "REFUSED " ∷ fault_text f.code ∷ codes " " ∷ decimal f.offset ∷ line_feed ∷ [])
+-- the line of a fault, with where it is
+abbrev pub fault_line : List ℕ → ℕ → List ℕ
+fault_line words place = concat (codes "REFUSED " ∷ words ∷ codes " " ∷ decimal place ∷ line_feed ∷ [])
 
 abbrev pub refusal_line : List ℕ → List ℕ
 refusal_line words = concat (codes "REFUSED " ∷ words ∷ line_feed ∷ [])
 
--- the line of a refusal
+-- the line of a refusal: that of a library's fault has the offset of its record, that of a deck's the number of its line
 abbrev pub refused_text : Code → List ℕ
-refused_text (Read f) = fault_line f
+refused_text (Read f) = fault_line (fault_text f.code) f.offset
+refused_text (refused.Deck f) = fault_line (deck_text f.kind) f.line
 refused_text NoTop = refusal_line (code_text NoTop)
 refused_text Cycle = refusal_line (code_text Cycle)
 refused_text NoCell = refusal_line (code_text NoCell)

@@ -1,16 +1,17 @@
 //! The text of replies.
 ghost use Rattle.std.specs.Prelude.{◌≡◌};
 ghost use Rattle.mpw_wire.specs.Writing.{Writes};
-ghost use Rattle.mpw_wire.specs.Reply.{named_text, version_text, cell_text, line_text, listed_text, denial_word, operation_text, object_text, denial_text, fault_text, fault_line, code_text, refused_text, count_text, accepted_text, refusal_words, refusal_text, reply_text};
+ghost use Rattle.mpw_wire.specs.Reply.{named_text, version_text, cell_text, line_text, listed_text, denial_word, operation_text, object_text, denial_text, fault_text, fault_line, deck_text, code_text, refused_text, count_text, accepted_text, refusal_words, refusal_text, reply_text};
 ghost use Rattle.std.specs.List.{flat_map};
 
 use crate::shape::write_shapes;
 use crate::write::{flush, write_parts};
 use crate::{Sink, WireFault};
 use itoa::Buffer;
+use mpw_deck::DeckKind;
 use mpw_geom::Name;
 use mpw_rbac::{Object, Operation};
-use mpw_records::{Code as TextFault, ReadFault};
+use mpw_records::Code as TextFault;
 use mpw_replies::{Code, Denial, Kept, Line, Lines, Reply};
 
 /// Writes a line of a version.
@@ -201,6 +202,23 @@ fn fault_words(code: TextFault) -> &'static str
     }
 }
 
+/// The number and the word of a deck's fault.
+#[tactic(auto, unfolding(crate::specs::Reply::deck_text))]
+fn deck_words(kind: DeckKind) -> &'static str
+    ensures { result.now ≡ deck_text kind }
+{
+    match kind {
+        DeckKind::Word => "51 word",
+        DeckKind::Number => "52 number",
+        DeckKind::Layer => "53 layer",
+        DeckKind::SameLayer => "54 samelayer",
+        DeckKind::DoubleRule => "55 doublerule",
+        DeckKind::Tile => "56 tile",
+        DeckKind::Rules => "57 rules",
+        DeckKind::Memory => "17 memory",
+    }
+}
+
 /// The number and the word of a refusal.
 #[tactic(auto, unfolding(crate::specs::Reply::code_text))]
 fn code_words(code: Code) -> &'static str
@@ -208,6 +226,7 @@ fn code_words(code: Code) -> &'static str
 {
     match code {
         Code::Read(fault) => fault_words(fault.code),
+        Code::Deck(fault) => deck_words(fault.kind),
         Code::NoTop => "20 notop",
         Code::Cycle => "21 cycle",
         Code::NoCell => "23 nocell",
@@ -226,20 +245,14 @@ fn code_words(code: Code) -> &'static str
     }
 }
 
-/// Writes the line of a text's fault, with the offset of its record.
-fn write_fault<W: Sink>(writer: &mut W, fault: ReadFault) -> Result<(), WireFault>
-    ensures { Writes W.contents W.failures writer.old writer.new result (fault_line fault) }
+/// Writes the line of a fault, with where it is.
+fn write_fault<W: Sink>(writer: &mut W, words: &str, place: usize) -> Result<(), WireFault>
+    ensures { Writes W.contents W.failures writer.old writer.new result (fault_line words.now place) }
 {
     let mut digits = Buffer::new();
     write_parts(
         writer,
-        &[
-            "REFUSED ",
-            fault_words(fault.code),
-            " ",
-            digits.format(fault.offset),
-            "\n",
-        ],
+        &["REFUSED ", words, " ", digits.format(place), "\n"],
     )
 }
 
@@ -248,7 +261,8 @@ fn write_code<W: Sink>(writer: &mut W, code: Code) -> Result<(), WireFault>
     ensures { Writes W.contents W.failures writer.old writer.new result (refused_text code) }
 {
     match code {
-        Code::Read(fault) => write_fault(writer, fault),
+        Code::Read(fault) => write_fault(writer, fault_words(fault.code), fault.offset),
+        Code::Deck(fault) => write_fault(writer, deck_words(fault.kind), fault.line),
         _ => write_parts(writer, &["REFUSED ", code_words(code), "\n"]),
     }
 }
