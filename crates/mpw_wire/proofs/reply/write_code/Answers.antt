@@ -4,10 +4,10 @@ use Rattle.mpw_wire.proofs.ReplyLemmas.{refused_alone}
 use Rattle.mpw_wire.proofs.reply.write_code.Goals as goal
 
 pub returns-in-Read : goal.returns-in-Read
-returns-in-Read g c = rw c.in-Read.is c.write_fault.ensures
+returns-in-Read g c = rw (c.in-Read.is, ← c.fault_words.ensures) c.write_fault.ensures
 
 pub returns-in-Deck : goal.returns-in-Deck
-returns-in-Deck g c = rw c.in-Deck.is c.write_fault.ensures
+returns-in-Deck g c = rw (c.in-Deck.is, ← c.deck_words.ensures) c.write_fault-in-Deck.ensures
 
 pub returns-in_default : goal.returns-in_default
 returns-in_default g c = subst (WritesKnown _ _ _ _ _) (sym (refused_alone c.args.code c.in_default.not-Read c.in_default.not-Deck)) (search rules)
