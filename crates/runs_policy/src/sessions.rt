@@ -26,12 +26,17 @@ fn fault_word(fault: &PolicyFault) -> &'static str {
     }
 }
 
-/// What a call answered.
-fn told(made: Result<(), PolicyFault>) -> &'static str {
-    match &made {
+/// The word of an answer.
+fn word(made: &Result<(), PolicyFault>) -> &'static str {
+    match made {
         Ok(()) => "ok",
         Err(fault) => fault_word(fault),
     }
+}
+
+/// What a call answered. It is let go here, at one place.
+fn told(made: Result<(), PolicyFault>) -> &'static str {
+    word(&made)
 }
 
 /// A new desk.
