@@ -1,8 +1,8 @@
 //! The calls that are timed.
 
-use crate::desk::grant_of;
+use crate::desk::{grant_of, is_accepted};
 use mpw_geom::Name;
-use mpw_rbac::{Object, Operation, Policy};
+use mpw_rbac::{Identity, Object, Operation, Policy, PolicyFault};
 use std::alloc::{AllocError, Global};
 
 /// Asks for so many permissions, of the objects in turn; how many there are.
@@ -44,11 +44,16 @@ pub fn accessible(policy: &Policy, objects: &[Object], calls: u32) -> u32 {
     permitted
 }
 
+/// Whether `whoami` told something.
+fn is_told(identity: Result<Identity, PolicyFault>) -> bool {
+    identity.is_ok()
+}
+
 /// Asks `whoami` so often; how often it is told.
 pub fn told(policy: &Policy, calls: u32) -> u32 {
     let mut told: u32 = 0;
     for _ in 0..calls {
-        if policy.whoami(2).is_ok() {
+        if is_told(policy.whoami(2)) {
             told = told.saturating_add(1);
         }
     }
@@ -59,8 +64,8 @@ pub fn told(policy: &Policy, calls: u32) -> u32 {
 pub fn activated(policy: &mut Policy, role: &Name, calls: u32) -> u32 {
     let mut accepted: u32 = 0;
     for _ in 0..calls {
-        let active = policy.activate(2, role).is_ok();
-        let dropped = policy.drop_role(2, role).is_ok();
+        let active = is_accepted(policy.activate(2, role));
+        let dropped = is_accepted(policy.drop_role(2, role));
         if active && dropped {
             accepted = accepted.saturating_add(1);
         }
@@ -68,19 +73,36 @@ pub fn activated(policy: &mut Policy, role: &Name, calls: u32) -> u32 {
     accepted
 }
 
-/// Revokes a grant and makes it again, in a policy of which a copy is held.
-fn change(alloc: Global, policy: &mut Policy) -> Result<bool, AllocError> {
-    let held = policy.copy()?;
-    let revoked = policy.revoke(1, &grant_of(alloc, 0, 0)?).is_ok();
-    let granted = policy.grant(1, grant_of(alloc, 0, 0)?).is_ok();
-    Ok(revoked && granted && held.has_session(2))
+/// The cell of the grants that are made.
+const NEW_CELL: u32 = 1_000_000;
+
+/// Grants reading a new cell; whether that was accepted.
+fn grant(alloc: Global, policy: &mut Policy) -> Result<bool, AllocError> {
+    let grant = grant_of(alloc, NEW_CELL, 0)?;
+    Ok(is_accepted(policy.grant(1, grant)))
 }
 
-/// So many of these changes; how many were accepted.
-pub fn granted(alloc: Global, policy: &mut Policy, calls: u32) -> Result<u32, AllocError> {
+/// Takes the first grant back; whether that was accepted.
+fn revoke(alloc: Global, policy: &mut Policy) -> Result<bool, AllocError> {
+    let grant = grant_of(alloc, 0, 0)?;
+    Ok(is_accepted(policy.revoke(1, &grant)))
+}
+
+/// Makes a grant in a copy of the policy, or takes one back; whether that was accepted.
+fn change(alloc: Global, policy: &Policy, more: bool) -> Result<bool, AllocError> {
+    let mut next = policy.copy()?;
+    if more {
+        grant(alloc, &mut next)
+    } else {
+        revoke(alloc, &mut next)
+    }
+}
+
+/// So many of these changes, each in a copy of the policy; how many were accepted.
+pub fn changed(alloc: Global, policy: &Policy, more: bool, calls: u32) -> Result<u32, AllocError> {
     let mut accepted: u32 = 0;
     for _ in 0..calls {
-        if change(alloc, policy)? {
+        if change(alloc, policy, more)? {
             accepted = accepted.saturating_add(1);
         }
     }

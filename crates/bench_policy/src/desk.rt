@@ -1,7 +1,7 @@
 //! A desk of so many roles and grants, with a session at the top of the hierarchy.
 
 use mpw_geom::Name;
-use mpw_rbac::{Digest, Grant, Object, Operation, Policy};
+use mpw_rbac::{Digest, Grant, Object, Operation, Policy, PolicyFault};
 use std::alloc::{AllocError, Global};
 
 /// The digest of each user here.
@@ -29,6 +29,11 @@ pub fn new_desk(alloc: Global) -> Result<Policy, AllocError> {
     }
 }
 
+/// Whether a request was accepted.
+pub fn is_accepted(made: Result<(), PolicyFault>) -> bool {
+    made.is_ok()
+}
+
 /// Opens a session of a user with an active role; whether it was.
 fn log_in(
     alloc: Global,
@@ -37,9 +42,8 @@ fn log_in(
     user: &str,
     role: &str,
 ) -> Result<bool, AllocError> {
-    let user = name(alloc, user)?;
-    let opened = policy.open(conn, &user, &DIGEST).is_ok();
-    let active = policy.activate(conn, &name(alloc, role)?).is_ok();
+    let opened = is_accepted(policy.open(conn, &name(alloc, user)?, &DIGEST));
+    let active = is_accepted(policy.activate(conn, &name(alloc, role)?));
     Ok(opened && active)
 }
 
@@ -48,7 +52,7 @@ fn add_roles(alloc: Global, policy: &mut Policy, roles: u32) -> Result<u32, Allo
     let mut refused: u32 = 0;
     for number in 1..roles {
         let role = numbered(alloc, "r", number.saturating_sub(1))?;
-        if policy.addrole(1, role).is_err() {
+        if !is_accepted(policy.addrole(1, role)) {
             refused = refused.saturating_add(1);
         }
     }
@@ -63,7 +67,7 @@ fn add_pairs(alloc: Global, policy: &mut Policy, roles: u32) -> Result<u32, Allo
         let senior = junior.saturating_sub(1) / 2;
         let senior = numbered(alloc, "r", senior)?;
         let junior = numbered(alloc, "r", junior)?;
-        if policy.inherit(1, &senior, &junior).is_err() {
+        if !is_accepted(policy.inherit(1, &senior, &junior)) {
             refused = refused.saturating_add(1);
         }
     }
@@ -72,11 +76,11 @@ fn add_pairs(alloc: Global, policy: &mut Policy, roles: u32) -> Result<u32, Allo
 
 /// The grant of reading a cell to a role, both by their numbers.
 pub fn grant_of(alloc: Global, cell: u32, role: u32) -> Result<Grant, AllocError> {
-    let object = Object::Cell(numbered(alloc, "c", cell)?);
+    let cell = numbered(alloc, "c", cell)?;
     let role = numbered(alloc, "r", role)?;
     Ok(Grant {
         operation: Operation::Read,
-        object,
+        object: Object::Cell(cell),
         role,
     })
 }
@@ -92,7 +96,7 @@ fn add_grants(
     let count = roles.saturating_sub(1);
     for cell in 0..grants {
         let role = if count == 0 { 0 } else { cell % count };
-        if policy.grant(1, grant_of(alloc, cell, role)?).is_err() {
+        if !is_accepted(policy.grant(1, grant_of(alloc, cell, role)?)) {
             refused = refused.saturating_add(1);
         }
     }
@@ -101,9 +105,9 @@ fn add_grants(
 
 /// Adds the user at the top of the hierarchy; whether that was refused.
 fn add_user(alloc: Global, policy: &mut Policy) -> Result<bool, AllocError> {
-    let added = policy.adduser(1, name(alloc, "ann")?, DIGEST).is_ok();
-    let ann = name(alloc, "ann")?;
-    let assigned = policy.assign(1, &ann, &name(alloc, "r0")?).is_ok();
+    let added = is_accepted(policy.adduser(1, name(alloc, "ann")?, DIGEST));
+    let top = name(alloc, "r0")?;
+    let assigned = is_accepted(policy.assign(1, &name(alloc, "ann")?, &top));
     Ok(!(added && assigned))
 }
 

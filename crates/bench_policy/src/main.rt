@@ -18,7 +18,7 @@ const CALLS: u32 = 1_000_000;
 /// How often a session is told of itself, and a role made active and dropped.
 const TURNS: u32 = 1_000;
 
-/// How often a grant is made and taken back.
+/// How often a grant is made, and how often one is taken back.
 const CHANGES: u32 = 100;
 
 /// The cells `c0`, `c1` and so on.
@@ -26,7 +26,8 @@ fn cells(alloc: Global, count: u32) -> Result<Vec<Object>, AllocError> {
     let mut cells = Vec::new(alloc);
     for index in 0..count {
         let text = format!(in alloc; "c{index}")?;
-        cells.push(Object::Cell(name(alloc, text.as_str())?))?;
+        let cell = name(alloc, text.as_str())?;
+        cells.push(Object::Cell(cell))?;
     }
     Ok(cells)
 }
@@ -88,21 +89,38 @@ fn time_sessions(rt: &HostRuntime, policy: &mut Policy, still: bool) -> io::Resu
     )
 }
 
-/// Tells how many grants a second are made and taken back, each with a copy of the policy.
-fn time_changes(rt: &HostRuntime, policy: &mut Policy, still: bool) -> io::Result<()> {
+/// Tells how many grants a second are made, and how many taken back, each in a copy of the policy.
+fn time_changes(rt: &HostRuntime, policy: &Policy, still: bool) -> io::Result<()> {
     let start = Instant::now(rt)?;
-    let made = calls::granted(rt.alloc(), policy, CHANGES)?;
-    let taken = start.elapsed(rt)?.as_nanos();
+    let granted = calls::changed(rt.alloc(), policy, true, CHANGES)?;
+    let grant = start.elapsed(rt)?.as_nanos();
+    let start = Instant::now(rt)?;
+    let revoked = calls::changed(rt.alloc(), policy, false, CHANGES)?;
+    let revoke = start.elapsed(rt)?.as_nanos();
     if still {
-        return println!(rt; "  {made} granted and revoked");
+        return println!(rt; "  {granted} granted, {revoked} revoked");
     }
     println!(rt;
-        "  copy, revoke and grant {} a second",
-        rate(CHANGES, taken)
+        "  copy and grant {} a second, copy and revoke {} a second",
+        rate(CHANGES, grant),
+        rate(CHANGES, revoke)
     )
 }
 
-/// Times a policy.
+/// Times the calls of a policy.
+fn time_calls(
+    rt: &HostRuntime,
+    policy: &mut Policy,
+    cells: &[Object],
+    still: bool,
+) -> io::Result<()> {
+    time_permits(rt, policy, cells, still)?;
+    time_access(rt, policy, cells, still)?;
+    time_sessions(rt, policy, still)?;
+    time_changes(rt, policy, still)
+}
+
+/// Fills a policy, and times its calls.
 fn time(
     rt: &HostRuntime,
     policy: &mut Policy,
@@ -113,10 +131,7 @@ fn time(
     let filled = desk::fill(rt.alloc(), policy, roles, grants)?;
     println!(rt; "{roles} roles, {grants} grants: {filled} refused")?;
     let cells = cells(rt.alloc(), grants.saturating_mul(2))?;
-    time_permits(rt, policy, cells.as_slice(), still)?;
-    time_access(rt, policy, cells.as_slice(), still)?;
-    time_sessions(rt, policy, still)?;
-    time_changes(rt, policy, still)
+    time_calls(rt, policy, cells.as_slice(), still)
 }
 
 /// Times a policy of so many roles and grants.
@@ -125,14 +140,15 @@ fn show(rt: &HostRuntime, roles: u32, grants: u32, still: bool) -> io::Result<()
     time(rt, &mut policy, roles, grants, still)
 }
 
-/// The sizes of the policies: the roles with the officer's, and the grants without the officer's.
+/// The sizes of the policies: the roles with the officer's, and the grants without the officer's. One more
+/// grant fits.
 const SIZES: [(u32, u32); 6] = [
     (10, 10),
-    (10, 4095),
+    (10, 4094),
     (100, 100),
-    (100, 4095),
+    (100, 4094),
     (512, 512),
-    (512, 4095),
+    (512, 4094),
 ];
 
 /// The sizes where no times are told.

@@ -15,8 +15,9 @@ use Rattle.mpw_roles.specs.Mask.{has}
 use Rattle.mpw_roles.specs.Order.{is_below, roles_below, are_distinct}
 use Rattle.mpw_roles.specs.Places.{name_at, is_place_below}
 use Rattle.mpw_roles.proofs.CallerLemmas.{same_name, name_eq-refl, or_right, or_cases, contains-roles_below}
-use Rattle.mpw_rbac.specs.Grant.{operation_index, operation_eq, object_eq}
-use Rattle.mpw_rbac.specs.Holders.{is_grant_of, is_place_granted, holds, IsHeld}
+use Rattle.indexmap.specs.IndexSet.{insert_key}
+use Rattle.mpw_rbac.specs.Grant.{operation_index, operation_eq, object_eq, grant_eq}
+use Rattle.mpw_rbac.specs.Holders.{is_grant_of, is_place_granted, holds, IsHeld, AreHeld, AreHeldMore}
 use Rattle.mpw_rbac.specs.Policy.{is_granted_to}
 use Rattle.mpw_rbac.specs.declared.permission.Grant.{Grant}
 use Rattle.mpw_rbac.specs.Table.{value_at}
@@ -165,6 +166,17 @@ held-place roles once done g operation old new i of found put held =
     (λ object place. put object place ∙ ap (λ b. holds old object place || b) (put_in (nat_lt place (length roles)) (eqb operation (operation_index g.operation)) (object_eq object g.object) (name_eq (get_or roles place []) g.role) (eqb place i) (eq-eqb operation (operation_index g.operation) (sym of)) (place-is roles once g.role i found place)))
     held
 
+-- grants that are equal are of the same operation and object, to the same role
+same-grant : (operation : ℕ) (object : Object) (role : Name) (a b : Grant) → grant_eq a b ≡ true → is_grant_of operation object role a ≡ is_grant_of operation object role b
+same-grant operation object role a b is =
+    let f = parts (operation_eq a.operation b.operation) (object_eq a.object b.object && name_eq a.role b.role) is in
+    let s = parts (object_eq a.object b.object) (name_eq a.role b.role) f.1 in
+    let index : operation_index a.operation ≡ operation_index b.operation = elim (cases_eq (operation_index a.operation) (operation_index b.operation)) [
+      | inl same ↦ same
+      | inr other ↦ absurd (true≢false (sym f.0 ∙ ne_eqb (operation_index a.operation) (operation_index b.operation) other))
+    ] in
+    λ i. eqb operation (index i) && (object_eq object (same_object a.object b.object s.0 i) && name_eq role (same_name a.role b.role s.1 i))
+
 -- the place of a role
 place_of : (names : List Name) (r : Name) → contains_name names r ≡ true → (i : ℕ) × (i < length names) × (get_or names i [] ≡ r)
 place_of [] r there = absurd (true≢false (sym there))
@@ -180,6 +192,30 @@ any-found p (x ∷ xs) is = elim (or_cases (p x) (list_any p xs) is) [
   | inl here ↦ (x, here, λ q t. ap (λ b. b || list_any q xs) t)
   | inr later ↦ let found = any-found p xs later in (found.0, found.1, λ q t. or_right (q x) (list_any q xs) (found.2 q t))
 ]
+
+absorbed : (a b : Bool) → (b ≡ true → a ≡ true) → (a || b) ≡ a
+absorbed true b more = refl
+absorbed false true more = sym (more refl)
+absorbed false false more = refl
+
+-- the masks of all operations with one grant more, which goes last where it is new
+pub held-insert : (roles : List Name) (granted : List Grant) (g : Grant) (old new : List (List (Object × Mask))) → AreHeld roles granted old → AreHeldMore roles g old new → AreHeld roles (insert_key grant_eq granted g) new
+held-insert roles granted g old new held grown =
+    elim (list_any (grant_eq g) granted) as (λ b. list_any (grant_eq g) granted ≡ b → AreHeld roles (cond b granted (granted ++ g ∷ [])) new) [
+      | false ↦ λ _. record { all = grown.all; exact = λ operation inside. (grown.more operation inside).more granted (held.exact operation inside) }
+      | true ↦ λ is. record {
+        all = grown.all;
+        exact = λ operation inside. record {
+          exact = λ object place.
+              let role = get_or roles place [] in
+              let test = is_grant_of operation object role in
+              let found = any-found (grant_eq g) granted is in
+              ((grown.more operation inside).more granted (held.exact operation inside)).exact object place
+              ∙ ap (λ b. nat_lt place (length roles) && b)
+              (any-last test granted g ∙ absorbed (list_any test granted) (test g) (λ t. found.2 test (sym (same-grant operation object role g found.0 found.1) ∙ t)));
+        };
+      }
+    ] refl
 
 length-names : (h : Hierarchy) → length (role_names h) ≡ length h
 length-names [] = refl

@@ -1,5 +1,5 @@
 -- The holders of a permission, by the places of their roles.
-use Rattle.std.specs.Prelude.{◌≡◌, ℕ, ◌<◌, Bool, false, ◌&&◌, ◌==◌, List, [], length, nat_lt, slice_index_or}
+use Rattle.std.specs.Prelude.{◌≡◌, ℕ, ◌<◌, Bool, false, ◌&&◌, ◌==◌, List, [], ◌∷◌, ◌++◌, length, nat_lt, slice_index_or}
 use Rattle.std.specs.List.{list_any}
 use Rattle.std.specs.Option.{option_map_or}
 use Rattle.mpw_geom.specs.Names.{name_eq}
@@ -33,6 +33,15 @@ pub record IsHeld (roles : List Name) (granted : List Grant) (operation : ℕ) (
 pub record AreHeld (roles : List Name) (granted : List Grant) (tables : List (List (Object × Mask))) : Type 0 where
   pub all : length tables ≡ 11
   pub exact : (operation : ℕ) → operation < 11 → IsHeld roles granted operation (slice_index_or tables operation [])
+
+-- whatever the grants were, the masks of one operation that were theirs are those with one grant more
+pub record IsHeldMore (roles : List Name) (grant : Grant) (operation : ℕ) (old new : List (Object × Mask)) : Type 0 where
+  pub more : (granted : List Grant) → IsHeld roles granted operation old → IsHeld roles (granted ++ grant ∷ []) operation new
+
+-- and so for each operation
+pub record AreHeldMore (roles : List Name) (grant : Grant) (old new : List (List (Object × Mask))) : Type 0 where
+  pub all : length new ≡ 11
+  pub more : (operation : ℕ) → operation < 11 → IsHeldMore roles grant operation (slice_index_or old operation []) (slice_index_or new operation [])
 
 -- the roles, and the grants to them
 pub record Permissions : Type 0 where

@@ -10,6 +10,7 @@ ghost use Rattle.mpw_rbac.specs.Rows as rows;
 ghost use Rattle.mpw_rbac.specs.Table.{without_key};
 
 use crate::hierarchy::{with_role, without_role};
+use crate::permissions::Permissions;
 use crate::trim::trim;
 use crate::{Digest, Grant, Policy, PolicyFault, Refusal, User};
 use mpw_geom::{Name, Names};
@@ -187,7 +188,8 @@ impl Policy {
         self.sets.uses(role)
     }
 
-    /// Grants an operation on an object to a role (GrantPermission).
+    /// Grants an operation on an object to a role (GrantPermission). It costs a copy of the grants, and of the masks of
+    /// the operation.
     ///
     /// # Errors
     /// `NoSession`, `NotPermitted`, `Unknown` role, `Known`, `Full`, tested in this order; or `Memory`. The policy is
@@ -197,19 +199,28 @@ impl Policy {
         ensures refused { IfErr result (IsFaultOf (rows.grant self.old conn grant)) }
         ensures err { OnErr result (self.new ≡ self.old) }
     {
+        let permissions = self.permissions_with(conn, &grant)?;
+        self.permissions = permissions;
+        Ok(())
+    }
+
+    /// The permissions after one more grant, where the session may make it.
+    fn permissions_with(&self, conn: u32, grant: &Grant) -> Result<Permissions, PolicyFault>
+        ensures ok { IfOk result (λ next. rows.grant self.now conn grant.now ≡ Ok (record self.now { granted = next.granted })) }
+        ensures same { IfOk result (λ next. next.roles ≡ self.now.roles) }
+        ensures refused { IfErr result (IsFaultOf (rows.grant self.now conn grant.now)) }
+    {
         self.administers(conn)?;
         if !self.is_role(&grant.role) {
             return Err(PolicyFault::Refused(Refusal::Unknown));
         }
-        if self.has_grant(&grant) {
+        if self.has_grant(grant) {
             return Err(PolicyFault::Refused(Refusal::Known));
         }
         if !self.has_room_for_grant() {
             return Err(PolicyFault::Refused(Refusal::Full));
         }
-        let permissions = self.permissions.with(grant)?;
-        self.permissions = permissions;
-        Ok(())
+        Ok(self.permissions.with(grant)?)
     }
 
     /// Takes a grant back (RevokePermission).

@@ -52,7 +52,7 @@ fn with_pair(
 {
     let mut roles = permissions.roles().copy()?;
     roles.inherit(senior, junior)?;
-    Ok(permissions.with_roles(roles)?)
+    Ok(permissions.with_pairs(roles)?)
 }
 
 /// With a pair less.
@@ -67,7 +67,7 @@ fn without_pair(
 {
     let mut roles = permissions.roles().copy()?;
     roles.uninherit(senior, junior)?;
-    Ok(permissions.with_roles(roles)?)
+    Ok(permissions.with_pairs(roles)?)
 }
 
 impl Policy {

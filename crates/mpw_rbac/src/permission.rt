@@ -2,7 +2,7 @@
 use mpw_geom::Name;
 
 /// What a session may do to an object (OPS).
-#[derive(Clone, Copy, Debug, PartialEq, Eq, Hash)]
+#[derive(Clone, Copy, PartialEq, Eq, Hash)]
 pub enum Operation {
     Submit,
     Use,
@@ -18,14 +18,14 @@ pub enum Operation {
 }
 
 /// What an operation is on (OBS): a cell, which need not exist, or the desk.
-#[derive(Clone, Debug, PartialEq, Eq, Hash, Drop)]
+#[derive(Clone, PartialEq, Eq, Hash, Drop)]
 pub enum Object {
     Cell(Name),
     Desk,
 }
 
 /// The permission for an operation on an object, granted to a role (PA).
-#[derive(Clone, Debug, PartialEq, Eq, Hash, Drop)]
+#[derive(Clone, PartialEq, Eq, Hash, Drop)]
 pub struct Grant {
     pub operation: Operation,
     pub object: Object,

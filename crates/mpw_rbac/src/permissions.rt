@@ -1,8 +1,9 @@
 //! Roles and the grants to them, which copies of the policy share.
 //!
 //! Beside the grants stand the masks of their roles, by operation and object. So whether one of some roles was granted
-//! something is a look-up and an `and` of eight words. A change of roles or grants makes the masks anew, in a pass over
-//! the grants for each operation.
+//! something is a look-up and an `and` of eight words. A grant more copies the grants and the masks of its operation. A
+//! change of pairs leaves both as they are, since masks hold places of roles. Other changes make the masks anew, in a pass
+//! over the grants for each operation.
 ghost use Rattle.std.specs.Prelude.{◌≡◌, ℕ, List, not, filter, length, map, IfOk, IfErr, Ok, Err};
 ghost use Rattle.std.specs.List.{list_any};
 ghost use Rattle.indexmap.specs.IndexSet.{insert_key};
@@ -12,11 +13,11 @@ ghost use Rattle.mpw_roles.specs.Mask.{has};
 ghost use Rattle.mpw_roles.specs.Order.{roles_below};
 ghost use Rattle.mpw_roles.specs.Places.{is_place_below};
 ghost use Rattle.mpw_rbac.specs.Grant.{grant_eq};
-ghost use Rattle.mpw_rbac.specs.Holders.{AreHeld};
+ghost use Rattle.mpw_rbac.specs.Holders.{AreHeld, AreHeldMore};
 ghost use Rattle.mpw_rbac.specs.Policy.{is_granted_to};
 ghost use Rattle.mpw_rbac.specs.Rows.{ungranted};
 
-use crate::holders::{Holders, all_holders, index};
+use crate::holders::{SharedHolders, all_holders, holders_with, index};
 use crate::{Grant, Object, Operation};
 use indexmap::IndexSet;
 use mpw_geom::Name;
@@ -30,7 +31,7 @@ use std::sync::Arc;
 pub(crate) struct Permissions {
     roles: Arc<Roles>,
     granted: Arc<IndexSet<Grant>>,
-    holders: Arc<Vec<Holders>>,
+    holders: Arc<Vec<SharedHolders>>,
 }
 
 impl Model for Permissions {
@@ -78,10 +79,48 @@ fn shared_holders(
     alloc: Global,
     roles: &Roles,
     granted: &[Grant],
-) -> Result<Arc<Vec<Holders>>, AllocError>
+) -> Result<Arc<Vec<SharedHolders>>, AllocError>
     ensures { IfOk result (λ all. AreHeld (role_names roles.now) granted.now all.value.items) }
 {
     Ok(Arc::new(alloc, all_holders(alloc, roles, granted)?)?)
+}
+
+/// The masks of each operation after one grant more.
+fn shared_holders_with(
+    roles: &Roles,
+    all: &[SharedHolders],
+    grant: &Grant,
+) -> Result<Arc<Vec<SharedHolders>>, AllocError>
+    requires { length all.now ≡ 11 }
+    ensures { IfOk result (λ next. AreHeldMore (role_names roles.now) grant.now all.now next.value.items) }
+{
+    Ok(Arc::new(roles.allocator(), holders_with(roles, all, grant)?)?)
+}
+
+/// The same grant.
+fn copied_grant(grant: &Grant) -> Result<Grant, AllocError>
+    ensures { IfOk result (λ copy. copy ≡ grant.now) }
+{
+    grant.clone()
+}
+
+/// The grants with one more.
+fn granted_with(granted: &IndexSet<Grant>, grant: &Grant) -> Result<IndexSet<Grant>, AllocError>
+    ensures { IfOk result (λ next. next.keys ≡ insert_key grant_eq granted.now.keys grant.now) }
+{
+    let mut table = copied(granted)?;
+    table.insert(copied_grant(grant)?)?;
+    Ok(table)
+}
+
+/// The grants with one more, shared.
+fn shared_granted_with(
+    granted: &IndexSet<Grant>,
+    grant: &Grant,
+) -> Result<Arc<IndexSet<Grant>>, AllocError>
+    ensures { IfOk result (λ next. next.value.keys ≡ insert_key grant_eq granted.now.keys grant.now) }
+{
+    Ok(Arc::new(*granted.allocator(), granted_with(granted, grant)?)?)
 }
 
 impl Permissions {
@@ -146,6 +185,22 @@ impl Permissions {
         Permissions::of(alloc, roles, self.granted.clone()?)
     }
 
+    /// The grants with the same roles in the same order, which have other pairs: the masks stay.
+    pub(crate) fn with_pairs(&self, roles: Roles) -> Result<Permissions, AllocError>
+        requires { role_names roles ≡ role_names self.now.roles }
+        ensures { IfOk result (λ next. next ≡ record self.now { roles = roles }) }
+    {
+        let alloc = roles.allocator();
+        let roles = Arc::new(alloc, roles)?;
+        let granted = self.granted.clone()?;
+        let holders = self.holders.clone()?;
+        Ok(Permissions {
+            roles,
+            granted,
+            holders,
+        })
+    }
+
     /// The roles with other grants.
     fn with_grants(&self, granted: IndexSet<Grant>) -> Result<Permissions, AllocError>
         ensures { IfOk result (λ next. next ≡ record self.now { granted = granted.keys }) }
@@ -155,13 +210,18 @@ impl Permissions {
         Permissions::of(alloc, self.roles.clone()?, granted)
     }
 
-    /// With one more grant.
-    pub(crate) fn with(&self, grant: Grant) -> Result<Permissions, AllocError>
-        ensures { IfOk result (λ next. next ≡ record self.now { granted = insert_key grant_eq self.now.granted grant }) }
+    /// With one more grant: a copy of the grants, and of the masks of its operation.
+    pub(crate) fn with(&self, grant: &Grant) -> Result<Permissions, AllocError>
+        ensures { IfOk result (λ next. next ≡ record self.now { granted = insert_key grant_eq self.now.granted grant.now }) }
     {
-        let mut table = copied(&self.granted)?;
-        table.insert(grant)?;
-        self.with_grants(table)
+        let holders = shared_holders_with(&self.roles, &self.holders, grant)?;
+        let granted = shared_granted_with(&self.granted, grant)?;
+        let roles = self.roles.clone()?;
+        Ok(Permissions {
+            roles,
+            granted,
+            holders,
+        })
     }
 
     /// Without a grant.

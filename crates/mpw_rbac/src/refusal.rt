@@ -8,10 +8,11 @@ use mpw_geom::Name;
 use mpw_roles::RolesFault;
 use mpw_separation::SetsFault;
 use std::alloc::{AllocError, AllocFailed};
+use std::fmt;
 use thiserror::Error;
 
 /// What the written policy answers in place of a change.
-#[derive(Debug, Drop, PartialEq, Eq)]
+#[derive(Drop)]
 pub enum Refusal {
     /// The connection has a session already.
     Opened,
@@ -40,12 +41,21 @@ pub enum Refusal {
 }
 
 /// Why a call changed nothing.
-#[derive(Debug, Drop, Error)]
+#[derive(Drop, Error)]
 pub enum PolicyFault {
     #[error("the policy refuses it")]
     Refused(Refusal),
     #[error("out of memory")]
     Memory,
+}
+
+impl fmt::Debug for PolicyFault {
+    fn fmt<W: fmt::Write>(&self, f: &mut fmt::Formatter<W>) -> fmt::Result {
+        match self {
+            PolicyFault::Refused(_) => f.write_str("Refused"),
+            PolicyFault::Memory => f.write_str("Memory"),
+        }
+    }
 }
 
 impl From<AllocError> for PolicyFault {

@@ -1,23 +1,42 @@
 //! Rows of requests: what a user is authorized for while the paths of a diamond go, and the limit of roles.
 use crate::name;
-use mpw_geom::Names;
-use mpw_rbac::{Digest, Object, Operation, Policy, PolicyFault, Refusal};
+use mpw_geom::{Name, Names};
+use mpw_rbac::{Digest, Identity, Object, Operation, Policy, PolicyFault, Refusal};
 use std::alloc::{AllocError, Global};
 use std::io;
 
 /// The digest of each user here.
 const DIGEST: Digest = [7; 32];
 
-/// What a call answered.
-fn told(made: Result<(), PolicyFault>) -> &'static str {
+/// A refusal's word.
+fn refusal_word(refusal: &Refusal) -> &'static str {
+    match refusal {
+        Refusal::Known => "known",
+        Refusal::Loop => "loop",
+        Refusal::Full => "full",
+        _ => "refused",
+    }
+}
+
+/// A fault's word.
+fn fault_word(fault: &PolicyFault) -> &'static str {
+    match fault {
+        PolicyFault::Refused(refusal) => refusal_word(refusal),
+        PolicyFault::Memory => "memory",
+    }
+}
+
+/// The word of an answer.
+fn word(made: &Result<(), PolicyFault>) -> &'static str {
     match made {
         Ok(()) => "ok",
-        Err(PolicyFault::Refused(Refusal::Known)) => "known",
-        Err(PolicyFault::Refused(Refusal::Loop)) => "loop",
-        Err(PolicyFault::Refused(Refusal::Full)) => "full",
-        Err(PolicyFault::Refused(_)) => "refused",
-        Err(PolicyFault::Memory) => "memory",
+        Err(fault) => fault_word(fault),
     }
+}
+
+/// What a call answered. It is let go here, at one place.
+fn told(made: Result<(), PolicyFault>) -> &'static str {
+    word(&made)
 }
 
 /// A new desk.
@@ -64,15 +83,22 @@ fn print_names(rt: &HostRuntime, names: &Names) -> io::Result<()> {
     println!(rt; "")
 }
 
+/// Prints a user's roles on a line, behind what they are to the user.
+fn print_roles(rt: &HostRuntime, user: &Name, what: &str, roles: &Names) -> io::Result<()> {
+    print!(rt; "{} {what}", user.as_str())?;
+    print_names(rt, roles)
+}
+
+/// Prints what a session is told of itself.
+fn print_told(rt: &HostRuntime, identity: &Identity) -> io::Result<()> {
+    print_roles(rt, &identity.user, "active", &identity.active)?;
+    print_roles(rt, &identity.user, "authorized", &identity.authorized)
+}
+
 /// Prints what `whoami` tells on connection 2.
 fn print_identity(rt: &HostRuntime, policy: &Policy) -> io::Result<()> {
     match policy.whoami(2) {
-        Ok(identity) => {
-            print!(rt; "{} active", identity.user.as_str())?;
-            print_names(rt, &identity.active)?;
-            print!(rt; "{} authorized", identity.user.as_str())?;
-            print_names(rt, &identity.authorized)
-        }
+        Ok(identity) => print_told(rt, &identity),
         Err(_) => println!(rt; "no session"),
     }
 }
@@ -80,7 +106,7 @@ fn print_identity(rt: &HostRuntime, policy: &Policy) -> io::Result<()> {
 /// The roles a, b, c, d, and the user ann.
 fn people(policy: &mut Policy, alloc: Global) -> Result<&'static str, AllocError> {
     for role in ["a", "b", "c", "d"] {
-        if policy.addrole(1, name(alloc, role)?).is_err() {
+        if told(policy.addrole(1, name(alloc, role)?)) != "ok" {
             return Ok("refused");
         }
     }
@@ -103,20 +129,33 @@ fn unlink(rt: &HostRuntime, policy: &mut Policy, senior: &str, junior: &str) -> 
 /// Prints the pairs of the diamond, and a pair too many of each kind.
 fn link_all(rt: &HostRuntime, policy: &mut Policy) -> io::Result<()> {
     println!(rt; "roles a b c d, user ann: {}", people(policy, rt.alloc())?)?;
-    link(rt, policy, "a", "b")?;
-    link(rt, policy, "a", "c")?;
-    link(rt, policy, "b", "d")?;
-    link(rt, policy, "c", "d")?;
-    link(rt, policy, "d", "a")?;
-    link(rt, policy, "a", "b")
+    for (senior, junior) in [
+        ("a", "b"),
+        ("a", "c"),
+        ("b", "d"),
+        ("c", "d"),
+        ("d", "a"),
+        ("a", "b"),
+    ] {
+        link(rt, policy, senior, junior)?;
+    }
+    Ok(())
+}
+
+/// Assigns ann the top of the diamond, and says what that is answered.
+fn assign(alloc: Global, policy: &mut Policy) -> Result<&'static str, AllocError> {
+    Ok(told(policy.assign(1, &name(alloc, "ann")?, &name(alloc, "a")?)))
+}
+
+/// Opens ann's session, and says what that is answered.
+fn open(alloc: Global, policy: &mut Policy) -> Result<&'static str, AllocError> {
+    Ok(told(policy.open(2, &name(alloc, "ann")?, &DIGEST)))
 }
 
 /// Assigns ann the top of the diamond, and opens her session.
 fn log_in(rt: &HostRuntime, policy: &mut Policy) -> io::Result<()> {
-    let ann = name(rt.alloc(), "ann")?;
-    let top = name(rt.alloc(), "a")?;
-    let assigned = told(policy.assign(1, &ann, &top));
-    let opened = told(policy.open(2, &ann, &DIGEST));
+    let assigned = assign(rt.alloc(), policy)?;
+    let opened = open(rt.alloc(), policy)?;
     println!(rt; "assign ann a: {assigned}; open: {opened}")?;
     print_identity(rt, policy)
 }
@@ -164,14 +203,24 @@ fn delete_role(alloc: Global, policy: &mut Policy, text: &str) -> Result<&'stati
     Ok(told(policy.delrole(1, &name(alloc, text)?)))
 }
 
+/// Adds a role past the limit, deletes one, and adds the role again; what these are answered.
+fn pass_limit(
+    alloc: Global,
+    policy: &mut Policy,
+) -> Result<(&'static str, &'static str, &'static str), AllocError> {
+    let full = add_role(alloc, policy, "last")?;
+    let deleted = delete_role(alloc, policy, "r7")?;
+    let added = add_role(alloc, policy, "last")?;
+    Ok((full, deleted, added))
+}
+
 /// Fills the roles up to their limit and past it.
 fn limit(rt: &HostRuntime, policy: &mut Policy) -> io::Result<()> {
-    let alloc = rt.alloc();
-    println!(rt; "officer: {}", log_in_officer(alloc, policy)?)?;
-    println!(rt; "roles added: {}", add_roles(alloc, policy, 512)?)?;
-    println!(rt; "one role more: {}", add_role(alloc, policy, "last")?)?;
-    println!(rt; "delete r7: {}", delete_role(alloc, policy, "r7")?)?;
-    println!(rt; "one role more: {}", add_role(alloc, policy, "last")?)
+    let officer = log_in_officer(rt.alloc(), policy)?;
+    let added = add_roles(rt.alloc(), policy, 512)?;
+    println!(rt; "officer: {officer}\nroles added: {added}")?;
+    let (full, deleted, again) = pass_limit(rt.alloc(), policy)?;
+    println!(rt; "one role more: {full}\ndelete r7: {deleted}\none role more: {again}")
 }
 
 /// 512 roles and no more, the officer's among them.

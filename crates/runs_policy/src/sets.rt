@@ -55,18 +55,46 @@ fn told<'a>(sets: &'a Sets, kind: Kind, roles: &Roles, seniors: &Names) -> &'a s
     }
 }
 
+/// Makes the set of two roles, and says whether it was made.
+fn make_pair(
+    alloc: Global,
+    sets: &mut Sets,
+    kind: Kind,
+    text: &str,
+    one: &str,
+    other: &str,
+) -> Result<bool, AllocError> {
+    let set = pair(alloc, text, one, other)?;
+    Ok(make(sets, kind, set))
+}
+
+/// The name that is told of seniors, or `none`.
+fn least_of<'a>(
+    alloc: Global,
+    sets: &'a Sets,
+    kind: Kind,
+    roles: &Roles,
+    seniors: &[&str],
+) -> Result<&'a str, AllocError> {
+    let seniors = names(alloc, seniors)?;
+    Ok(told(sets, kind, roles, &seniors))
+}
+
 /// A senior of one role of a pair, with the other, breaks both static pairs; the least name is told.
-fn print_least(rt: &HostRuntime, roles: &Roles, sets: &mut Sets) -> io::Result<()> {
-    let alloc = rt.alloc();
-    let second = make(sets, Kind::Static, pair(alloc, "s2", "pay", "chk")?);
-    let first = make(sets, Kind::Static, pair(alloc, "s1", "chk", "pay")?);
-    println!(rt; "sets made: s2 {second}, s1 {first}")?;
-    let seniors = names(alloc, &["pay", "boss"])?;
-    let fixed = told(sets, Kind::Static, roles, &seniors);
-    let varying = told(sets, Kind::Dynamic, roles, &seniors);
+fn print_told(rt: &HostRuntime, roles: &Roles, sets: &Sets) -> io::Result<()> {
+    let fixed = least_of(rt.alloc(), sets, Kind::Static, roles, &["pay", "boss"])?;
+    let varying = least_of(rt.alloc(), sets, Kind::Dynamic, roles, &["pay", "boss"])?;
     println!(rt; "pay, boss: static {fixed}, dynamic {varying}")?;
-    let alone = names(alloc, &["boss"])?;
-    println!(rt; "boss: static {}", told(sets, Kind::Static, roles, &alone))
+    let alone = least_of(rt.alloc(), sets, Kind::Static, roles, &["boss"])?;
+    println!(rt; "boss: static {alone}")
+}
+
+/// Two static pairs of the same roles, and what is told of seniors.
+fn print_least(rt: &HostRuntime, roles: &Roles, sets: &mut Sets) -> io::Result<()> {
+    let second = make_pair(rt.alloc(), sets, Kind::Static, "s2", "pay", "chk")?;
+    let first = make_pair(rt.alloc(), sets, Kind::Static, "s1", "chk", "pay")?;
+    println!(rt; "sets made: s2 {second}, s1 {first}")?;
+    print_told(rt, roles, sets)
 }
 
 fn show_least(rt: &HostRuntime) -> io::Result<()> {
@@ -93,9 +121,8 @@ fn print_copy(rt: &HostRuntime, sets: &mut Sets, copy: &Sets) -> io::Result<()> 
 
 /// Names of the two kinds are apart, and a set that is gone breaks nothing; a copy keeps it.
 fn print_kinds(rt: &HostRuntime, sets: &mut Sets) -> io::Result<()> {
-    let alloc = rt.alloc();
-    let made = make(sets, Kind::Dynamic, pair(alloc, "s1", "pay", "chk")?);
-    let again = make(sets, Kind::Dynamic, pair(alloc, "s1", "pay", "chk")?);
+    let made = make_pair(rt.alloc(), sets, Kind::Dynamic, "s1", "pay", "chk")?;
+    let again = make_pair(rt.alloc(), sets, Kind::Dynamic, "s1", "pay", "chk")?;
     println!(rt; "dynamic s1 made {made}, again {again}")?;
     let copy = sets.copy()?;
     print_copy(rt, sets, &copy)
@@ -106,12 +133,15 @@ fn show_kinds(rt: &HostRuntime) -> io::Result<()> {
     print_kinds(rt, &mut sets)
 }
 
-/// A set has two roles at least, each once.
-fn show_forms(rt: &HostRuntime) -> io::Result<()> {
-    let alloc = rt.alloc();
-    let twice = pair(alloc, "s1", "pay", "pay")?.is_some();
-    println!(rt; "set of pay and pay: {twice}")?;
-    match pair(alloc, "s1", "pay", "chk")? {
+/// Whether there is a set of these two roles.
+fn is_set(alloc: Global, one: &str, other: &str) -> Result<bool, AllocError> {
+    let set = pair(alloc, "s1", one, other)?;
+    Ok(set.is_some())
+}
+
+/// Prints a set's name, and how many roles it has.
+fn print_set(rt: &HostRuntime, set: &Option<SeparationSet>) -> io::Result<()> {
+    match set {
         Some(set) => println!(rt;
             "set {} of {} roles",
             set.name().as_str(),
@@ -119,6 +149,14 @@ fn show_forms(rt: &HostRuntime) -> io::Result<()> {
         ),
         None => println!(rt; "no set"),
     }
+}
+
+/// A set has two roles at least, each once.
+fn show_forms(rt: &HostRuntime) -> io::Result<()> {
+    let twice = is_set(rt.alloc(), "pay", "pay")?;
+    println!(rt; "set of pay and pay: {twice}")?;
+    let set = pair(rt.alloc(), "s1", "pay", "chk")?;
+    print_set(rt, &set)
 }
 
 /// Prints the part on separation sets.

@@ -1,19 +1,23 @@
--- A new grant goes last.
-use Rattle.std.proofs.Common.{rules, ◌≡◌, ◌∙◌, ap, subst, cond, IfOk, List, [], ◌∷◌, ◌++◌}
+-- A new grant goes last, and its place is in the masks of its operation.
+use Rattle.std.proofs.Common.{◌≡◌, ◌∙◌, sym, ap, subst}
 use Rattle.indexmap.specs.IndexSet.{insert_key}
+use Rattle.mpw_roles.specs.Hierarchy.{Hierarchy, role_names}
 use Rattle.mpw_rbac.specs.Grant.{grant_eq}
-use Rattle.mpw_rbac.specs.Holders.{Permissions}
-use Rattle.mpw_rbac.specs.declared.permission.Grant.{Grant}
-use Rattle.mpw_rbac.proofs.TableLemmas.{any-same}
+use Rattle.mpw_rbac.specs.Holders.{AreHeld, AreHeldMore}
+use Rattle.mpw_rbac.proofs.GrantedLemmas.{held-insert}
 use Rattle.mpw_rbac.proofs.permissions.Permissions.with.Goals as goal
 
-pub returns : goal.returns
-returns c =
-    let new = c.args.grant in
-    let old : List Grant = c.in_ok-table.table.keys in
-    let before : old ≡ c.args.self.now.granted = c.in_ok-table.ensures ∙ ap (λ t. t.keys) c.deref.ensures ∙ ap (λ (p : Permissions). p.granted) c.self.view_is in
-    let is : c.insert.new.self.keys ≡ insert_key grant_eq c.args.self.now.granted new =
-    c.in_ok-insert.ensures.keys
-    ∙ ap (λ b. cond b old (old ++ new ∷ [])) (any-same _ (grant_eq new) (λ g. search rules) old)
-    ∙ ap (λ l. insert_key grant_eq l new) before in
-    subst (λ l. IfOk c.with_grants.result (λ next. next ≡ record c.args.self.now { granted = l })) is c.with_grants.ensures
+pub invariant_of-result : goal.invariant_of-result
+invariant_of-result c =
+    let in' = c.self.inside in
+    let names = role_names in'.roles.value in
+    let old = in'.holders.value.items in
+    let new = c.in_ok-holders.holders.value.items in
+    let g = c.args.grant.now in
+    let all : c.deref-3.result.now ≡ old = c.deref-3.ensures.value ∙ ap (λ t. t.items) c.deref-2.ensures in
+    let grown : AreHeldMore names g old new =
+    subst (λ (h : Hierarchy). AreHeldMore (role_names h) g old new) c.deref.ensures
+    (subst (λ l. AreHeldMore (role_names c.deref.result.now) g l new) all c.in_ok-holders.ensures) in
+    let held = held-insert names in'.granted.value.keys g old new c.self.invariant grown in
+    subst (λ (h : Hierarchy). AreHeld (role_names h) c.in_ok-granted.granted.value.keys new) (sym c.in_ok-roles.ensures.cases)
+    (subst (λ l. AreHeld names l new) (sym (c.in_ok-granted.ensures ∙ ap (λ t. insert_key grant_eq t.keys g) c.deref-4.ensures)) held)

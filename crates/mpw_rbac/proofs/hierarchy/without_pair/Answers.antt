@@ -1,0 +1,17 @@
+-- A pair less leaves the roles in their order.
+use Rattle.std.proofs.Common.{◌∙◌, ap}
+use Rattle.mpw_geom.specs.Names.{without_name}
+use Rattle.mpw_roles.specs.Hierarchy.{role_names, immediate_juniors}
+use Rattle.mpw_roles.proofs.CallerLemmas.{names-with_juniors}
+use Rattle.mpw_rbac.proofs.RowLemmas.{uninherited-pair}
+use Rattle.mpw_rbac.proofs.hierarchy.without_pair.Goals as goal
+
+pub with_pairs-requires : goal.with_pairs-requires
+with_pairs-requires c =
+    let h = c.in_ok-roles.roles in
+    let senior = c.args.senior.now in
+    let junior = c.args.junior.now in
+    let pair = uninherited-pair h senior junior c.uninherit.new.self c.in_ok-uninherit.ensures.ok in
+    ap role_names pair.1
+    ∙ names-with_juniors h senior (without_name (immediate_juniors h senior) junior)
+    ∙ ap role_names (c.in_ok-roles.ensures ∙ c.roles.ensures)
