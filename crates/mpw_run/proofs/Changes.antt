@@ -1,5 +1,5 @@
 -- What changes keep.
-use Rattle.std.proofs.Common.{◌≡◌, ℕ, zero, suc, ◌+◌, ◌^◌, ◌<◌, ◌≤◌, Bool, true, false, List, [], ◌∷◌, length, get_or, Option, Some, None, refl, sym, subst, ap, ◌∙◌, inl, inr, arith, length-set}
+use Rattle.std.proofs.Common.{◌≡◌, ℕ, suc, ◌+◌, ◌^◌, ◌<◌, ◌≤◌, Bool, true, false, List, [], length, get_or, Option, Some, None, refl, sym, subst, ap, ◌∙◌, inl, inr, arith, length-set}
 use Rattle.std.specs.Prelude.{◌==◌, slice_get, slice_set, option_map, is_some, nat_lt, if◌then◌else◌}
 use Rattle.std.proofs.Math.ListN.{length-replicate}
 use Rattle.std.proofs.lemmas.Bool.{false≢true, cases_eq, eqb-true, eq-eqb}
@@ -21,14 +21,14 @@ use Rattle.mpw_job.specs.Layout.{AreLayoutMarkers}
 use Rattle.mpw_job.specs.declared.job.Job.TheVariants as job
 use Rattle.mpw_run.specs.declared.phase.Checked.{Checked as Finish}
 use Rattle.mpw_run.specs.declared.phase.Phase.{Phase}
-use Rattle.mpw_run.specs.declared.phase.Phase.TheVariants.{Idle, Cutting, Checking, Finished}
+use Rattle.mpw_run.specs.declared.phase.Phase.TheVariants.{Cutting, Checking, Finished}
 use Rattle.mpw_run.specs.declared.phase.RunReply.TheVariants as reply
 use Rattle.mpw_run.specs.declared.prepare.Change.TheVariants as change
 use Rattle.mpw_run.specs.declared.prepare.Prepared.{Prepared}
 use Rattle.mpw_run.specs.Run.{Planned, Tile, Checks, answers_of, answered, IsPlanned, IsChecks}
 use Rattle.mpw_run.specs.Same.{same_snapshot, same_task}
 use Rattle.mpw_run.specs.Step.{Run, Offer, Outcome, IsPhase, IsRun, tile_task, with_tiles, raised, answered_by, new_tiles, handed, taken_in, taken, begun, left_as, cut_in, cut_answered, kept, tile_compared, tile_checked, tile_in, tile_answered, next_from}
-use Rattle.mpw_run.specs.Prepared.{set_tile, answers_with, with_tile, next_phase, applied, IsFitting, IsPrepared}
+use Rattle.mpw_run.specs.Prepared.{set_tile, answers_with, next_phase, applied, IsPrepared}
 use Rattle.mpw_run.specs.Stitching.{stitched, AreFilled}
 use Rattle.mpw_run.specs.Laws.{StitchedComputes}
 use Rattle.mpw_run.proofs.Exactness.{tasks}

@@ -10,11 +10,10 @@ use Rattle.mpw_job.specs.Jobs.{CutWindows, FoundMarkers, IsCutAnswer, IsTileAnsw
 use Rattle.mpw_job.specs.Laws.{AnswersMakeTheLayout}
 use Rattle.mpw_run.specs.declared.phase.Phase.{Phase}
 use Rattle.mpw_run.specs.declared.phase.Phase.TheVariants.{Idle, Cutting, Checking, Finished}
-use Rattle.mpw_run.specs.declared.phase.RunReply.{RunReply}
 use Rattle.mpw_run.specs.Run.{Tile, Checks, answered, IsPlanned, IsChecks}
 use Rattle.mpw_run.specs.Step.{Run, Offer, Outcome, IsPhase, IsRun, tile_task, answered_by, next_from, handed, taken_in, cut_in, kept, tile_compared, tile_checked, tile_in}
 use Rattle.mpw_run.specs.Same.{same_snapshot, same_task}
-use Rattle.mpw_run.specs.Laws.{StitchedComputes, Event, step, IsRight, AreRight, run_after, EachRunKeeps}
+use Rattle.mpw_run.specs.Laws.{StitchedComputes, Event, step, IsRight, run_after, EachRunKeeps}
 use Rattle.mpw_run.proofs.Exactness.{snapshots, tasks}
 use Rattle.mpw_run.proofs.TileLists.{few_answered}
 use Rattle.mpw_run.proofs.Next.{next_is}

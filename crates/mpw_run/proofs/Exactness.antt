@@ -1,5 +1,5 @@
 -- The tests of equality are exact.
-use Rattle.std.proofs.Common.{◌≡◌, ℕ, zero, suc, Bool, true, false, ◌&&◌, ◌==◌, List, [], ◌∷◌, get_or, refl, sym, ap, ◌∙◌, Decides}
+use Rattle.std.proofs.Common.{◌≡◌, ℕ, Bool, false, ◌&&◌, ◌==◌, [], ◌∷◌, get_or, refl, sym, ap, ◌∙◌, Decides}
 use Rattle.std.specs.Ordering.{int_eq}
 use Rattle.std.specs.Cmp.Lexicographic.{pointwise, pointwise_decides}
 use Rattle.std.proofs.lemmas.Bool.{false≢true}
@@ -14,11 +14,9 @@ use Rattle.mpw_geom.specs.declared.placing.Placing.{Placing}
 use Rattle.mpw_elements.specs.declared.element.Boundary.{Boundary as BoundaryParts}
 use Rattle.mpw_elements.specs.declared.element.Path.{Path as PathParts}
 use Rattle.mpw_elements.specs.declared.element.Reference.{Reference as ReferenceParts}
-use Rattle.mpw_elements.specs.declared.element.Element.{Element}
 use Rattle.mpw_elements.specs.declared.element.Element.TheVariants.{Boundary, Path, Reference}
 use Rattle.mpw_library.specs.declared.structures.Structure.{Structure}
 use Rattle.mpw_deck.specs.Decks.{Deck}
-use Rattle.mpw_deck.specs.declared.rule.Check.{Check}
 use Rattle.mpw_deck.specs.declared.rule.Check.TheVariants.{Width, Space, Separation, Enclosing}
 use Rattle.mpw_deck.specs.declared.rule.Rule.{Rule}
 use Rattle.mpw_hier.specs.declared.bindings.Binding.{Binding}

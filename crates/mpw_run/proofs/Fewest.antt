@@ -6,7 +6,7 @@ use Rattle.std.proofs.lemmas.Option.{same_Some, none-some, slice_get_past}
 use Rattle.mpw_markers.specs.declared.marker.Marker.{Marker}
 use Rattle.mpw_run.specs.Run.{Tile}
 use Rattle.mpw_run.specs.Step.{Offer, first_of, offered, next_from}
-use Rattle.mpw_run.specs.Laws.{IsNext, NextIsFewest}
+use Rattle.mpw_run.specs.Laws.{NextIsFewest}
 use Rattle.mpw_run.proofs.Next.{next_is}
 
 -- ---- tests of counts

@@ -1,6 +1,6 @@
 -- Books that are put together marker by marker.
-use Rattle.std.proofs.Common.{◌≡◌, ℕ, zero, suc, ◌+◌, ◌<◌, ◌≤◌, ℤ, ◌≤ℤ◌, ◌<ℤ◌, Bool, true, false, List, [], ◌∷◌, length, get_or, ◌⊎◌, inl, inr, refl, sym, subst, ap, ◌∙◌, arith}
-use Rattle.std.specs.Prelude.{◌==◌, nat_le, int_lt, Contains, All, AllPairs, ◌↔◌, fold, if◌then◌else◌}
+use Rattle.std.proofs.Common.{◌≡◌, ℕ, zero, suc, ◌<◌, ℤ, ◌≤ℤ◌, Bool, true, false, List, [], ◌∷◌, get_or, ◌⊎◌, inl, inr, refl, sym, subst, ap, ◌∙◌, arith}
+use Rattle.std.specs.Prelude.{◌==◌, nat_le, int_lt, Contains, AllPairs, ◌↔◌, fold, if◌then◌else◌}
 use Rattle.std.specs.List.{flat_map}
 use Rattle.std.specs.Ordering.{ordering_reverse}
 use Rattle.std.specs.declared.cmp.Ordering.{Ordering}
@@ -16,9 +16,9 @@ use Rattle.mpw_markers.specs.Met.{IsAscending}
 use Rattle.mpw_markers.specs.Markers.{line_of, IsFilled, HasRow, CoversRow, LiesIn}
 use Rattle.mpw_markers.specs.Order.{line_cmp, StandsBefore}
 use Rattle.mpw_markers.specs.Book.{IsBook}
-use Rattle.mpw_markers.specs.Stitched.{IsJoined, IsListed, IsStitched}
+use Rattle.mpw_markers.specs.Stitched.{IsJoined, IsListed}
 use Rattle.mpw_run.proofs.Books.{line_total, line_tied, apart, StandsBefore-chain, StandsBefore-begins, All-from_contained, one_by_row, lies_in, cons_cases, Contains-head, Contains-tail, IsJoined-same}
-use Rattle.mpw_run.specs.Stitching.{met_with, joined, beside, placed, with_marker, stitched, AreFilled}
+use Rattle.mpw_run.specs.Stitching.{met_with, joined, beside, placed, with_marker, stitched}
 use Rattle.mpw_run.specs.Laws.{StitchedComputes}
 
 -- ---- lists

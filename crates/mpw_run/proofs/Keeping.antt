@@ -1,8 +1,8 @@
 -- A run is finished exactly once an answer of each of its tiles was kept.
-use Rattle.std.proofs.Common.{◌≡◌, ℕ, zero, suc, ◌+◌, ◌<◌, ◌≤◌, Bool, true, false, ◌&&◌, ◌||◌, List, [], ◌∷◌, length, get_or, Option, Some, None, refl, sym, subst, ap, ◌∙◌, inl, inr, arith, length-append, length-set}
-use Rattle.std.specs.Prelude.{◌==◌, ◌↔◌, slice_get, slice_set, is_some, if◌then◌else◌, nat_lt}
+use Rattle.std.proofs.Common.{◌≡◌, ℕ, suc, ◌<◌, Bool, true, false, ◌&&◌, ◌||◌, List, [], ◌∷◌, length, Option, Some, None, refl, sym, subst, ap, ◌∙◌, inl, inr, arith, length-append, length-set}
+use Rattle.std.specs.Prelude.{◌==◌, slice_get, slice_set, is_some, if◌then◌else◌, nat_lt}
 use Rattle.std.proofs.lemmas.Bool.{false≢true, cases_eq, eqb-true, eq-eqb}
-use Rattle.std.proofs.lemmas.Option.{slice_get-get_or, slice_get_within, same_Some, none-some}
+use Rattle.std.proofs.lemmas.Option.{slice_get_within, same_Some, none-some}
 use Rattle.mpw_tiles.specs.Plan.{tiles}
 use Rattle.mpw_markers.specs.declared.marker.Marker.{Marker}
 use Rattle.mpw_job.specs.Jobs.{CutWindows, FoundMarkers}
@@ -11,11 +11,11 @@ use Rattle.mpw_run.specs.declared.phase.Phase.{Phase}
 use Rattle.mpw_run.specs.declared.phase.Phase.TheVariants.{Idle, Cutting, Checking, Finished}
 use Rattle.mpw_run.specs.declared.phase.RunReply.{RunReply}
 use Rattle.mpw_run.specs.declared.phase.RunReply.TheVariants as reply
-use Rattle.mpw_run.specs.Run.{Planned, Tile, Checks, answers_of, answered, IsPlanned, IsChecks}
+use Rattle.mpw_run.specs.Run.{Planned, Tile, Checks, answers_of, answered}
 use Rattle.mpw_run.specs.Same.{same_snapshot, same_task}
-use Rattle.mpw_run.specs.Step.{Run, Offer, Outcome, IsPhase, IsRun, raised, answered_by, new_tiles, with_tiles, next_from, handed, taken_in, left_as, cut_in, kept, tile_task, tile_compared, tile_checked, tile_in}
-use Rattle.mpw_run.specs.Laws.{StitchedComputes, Event, step, AreRight, run_after, is_kept, looked_at, was_kept, is_finished, AllWereKept, FinishedOnceAllWereKept}
-use Rattle.mpw_run.proofs.TileLists.{own, own_some, few_answered, same_tile, other_tile, new_get, all_answered}
+use Rattle.mpw_run.specs.Step.{Run, Offer, Outcome, IsPhase, IsRun, raised, answered_by, next_from, handed, taken_in, left_as, cut_in, kept, tile_task, tile_compared, tile_checked, tile_in}
+use Rattle.mpw_run.specs.Laws.{StitchedComputes, Event, AreRight, run_after, is_kept, looked_at, was_kept, is_finished, AllWereKept, FinishedOnceAllWereKept}
+use Rattle.mpw_run.proofs.TileLists.{own, own_some, same_tile, other_tile, new_get, all_answered}
 use Rattle.mpw_run.proofs.Next.{next_is}
 use Rattle.mpw_run.proofs.Changes.{some_tile}
 use Rattle.mpw_run.proofs.Coming.{keeps}

@@ -9,7 +9,7 @@ use Rattle.mpw_job.specs.Jobs.{CutWindows, FoundMarkers}
 use Rattle.mpw_run.specs.declared.phase.Phase.{Phase}
 use Rattle.mpw_run.specs.declared.phase.Phase.TheVariants.{Idle, Cutting, Checking, Finished}
 use Rattle.mpw_run.specs.Run.{Tile, Checks, answered}
-use Rattle.mpw_run.specs.Step.{Run, Offer, Outcome, raised, answered_by, with_tiles, next_from, handed, taken_in, taken, cut_in, cut_answered, kept, tile_task, tile_compared, tile_checked, tile_in, tile_answered}
+use Rattle.mpw_run.specs.Step.{Run, Offer, Outcome, raised, answered_by, with_tiles, next_from, handed, taken_in, cut_in, kept, tile_task, tile_compared, tile_checked, tile_in}
 use Rattle.mpw_run.specs.Same.{same_snapshot, same_task}
 use Rattle.mpw_run.specs.Laws.{Event, step, leaves, UnkeptLeavesTheRun, uncounted, without_counts, TakingCountsAlone}
 use Rattle.mpw_run.proofs.Next.{next_is}

@@ -1,14 +1,13 @@
 -- What an event changes in a run, and what is true of the change.
-use Rattle.std.specs.Prelude.{◌≡◌, ◌<◌, ◌^◌, ⊤, ℕ, ◌+◌, Bool, true, List, Option, Some, None, slice_get, slice_set}
+use Rattle.std.specs.Prelude.{◌≡◌, ◌<◌, ◌^◌, ℕ, ◌+◌, List, Option, Some, None, slice_get, slice_set}
 use Rattle.mpw_markers.specs.declared.marker.Marker.{Marker}
 use Rattle.mpw_run.specs.declared.phase.Phase.{Phase}
 use Rattle.mpw_run.specs.declared.phase.Phase.TheVariants.{Idle, Cutting, Checking, Finished}
-use Rattle.mpw_run.specs.declared.phase.RunReply.{RunReply}
 use Rattle.mpw_run.specs.declared.prepare.Change.{Change}
 use Rattle.mpw_run.specs.declared.prepare.Change.TheVariants as change
 use Rattle.mpw_run.specs.declared.prepare.Prepared.{Prepared}
 use Rattle.mpw_run.specs.Run.{Tile, Checks, answers_of}
-use Rattle.mpw_run.specs.Step.{Run, Outcome, IsRun, started, raised, answered_by, with_tiles}
+use Rattle.mpw_run.specs.Step.{Run, Outcome, IsRun, raised, answered_by, with_tiles}
 
 -- A tile of the list is changed; where there is none, nothing is.
 abbrev pub set_tile : (Tile → Tile) → ℕ → List Tile → Option Tile → List Tile

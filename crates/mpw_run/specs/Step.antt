@@ -1,8 +1,7 @@
 -- What the events of a run are answered, and the state that each leaves.
-use Rattle.std.specs.Prelude.{◌==◌, ⊤, ℕ, ◌+◌, Bool, true, List, [], ◌∷◌, Option, Some, None, slice_get, slice_set, replicate, nat_le, nat_lt, if◌then◌else◌}
+use Rattle.std.specs.Prelude.{◌==◌, ⊤, ℕ, ◌+◌, List, [], ◌∷◌, Option, Some, None, slice_get, slice_set, replicate, nat_le, nat_lt, if◌then◌else◌}
 use Rattle.std.specs.Io.Iter.{u64_saturate}
 use Rattle.mpw_tiles.specs.Plan.{tiles}
-use Rattle.mpw_tiles.specs.Snapshots.{Snapshot}
 use Rattle.mpw_markers.specs.declared.marker.Marker.{Marker}
 use Rattle.mpw_job.specs.declared.job.CutJob.{CutJob}
 use Rattle.mpw_job.specs.declared.job.Job.TheVariants as job

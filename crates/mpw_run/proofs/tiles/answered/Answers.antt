@@ -1,4 +1,4 @@
-use Rattle.std.proofs.Common.{length, refl, ap, arith, length-append, length-take}
+use Rattle.std.proofs.Common.{length, refl, arith}
 use Rattle.std.proofs.lemmas.Option.{slice_get_read}
 use Rattle.mpw_run.proofs.TileLists.{count_more, count_within}
 use Rattle.mpw_run.proofs.tiles.answered.Goals as goal

@@ -1,4 +1,4 @@
-use Rattle.std.proofs.Common.{◌≡◌, ◌∙◌, sym, subst, ap, arith, List}
+use Rattle.std.proofs.Common.{◌∙◌, sym, subst, ap, arith, List}
 use Rattle.mpw_markers.specs.declared.marker.Marker.{Marker}
 use Rattle.mpw_run.specs.Prepared.{answers_with}
 use Rattle.mpw_run.specs.Stitching.{stitched, AreFilled}
