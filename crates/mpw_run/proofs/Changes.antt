@@ -1,14 +1,13 @@
 -- What changes keep.
-use Rattle.std.proofs.Common.{◌≡◌, ℕ, suc, ◌+◌, ◌^◌, ◌<◌, ◌≤◌, Bool, true, false, List, [], length, get_or, Option, Some, None, refl, sym, subst, ap, ◌∙◌, inl, inr, arith, length-set}
-use Rattle.std.specs.Prelude.{◌==◌, slice_get, slice_set, option_map, is_some, nat_lt, if◌then◌else◌}
+use Rattle.std.proofs.Common.{◌≡◌, ℕ, ◌+◌, ◌^◌, ◌<◌, ◌≤◌, Bool, true, false, List, [], length, get_or, Option, Some, None, refl, sym, subst, ap, ◌∙◌, inl, inr, arith, length-set}
+use Rattle.std.specs.Prelude.{◌==◌, slice_get, slice_set, option_map, is_some, if◌then◌else◌}
 use Rattle.std.proofs.Math.ListN.{length-replicate}
 use Rattle.std.proofs.lemmas.Bool.{false≢true, cases_eq, eqb-true, eq-eqb}
-use borrow.Author.Tests.{lt-ltb, lt-leb}
 use Rattle.std.proofs.lemmas.Option.{slice_get_within, slice_get-get_or, same_Some}
 use Rattle.mpw_grid.proofs.Cells.{some_columns, columns_few}
 use Rattle.mpw_tiles.specs.declared.listing.Rectangle.{Rectangle}
 use Rattle.mpw_tiles.specs.Plan.{Tiling, tiles}
-use Rattle.mpw_tiles.specs.Snapshots.{Snapshot, plan_for, AreWindowsFor, ShowItems, StandFor, shown}
+use Rattle.mpw_tiles.specs.Snapshots.{Snapshot, StandFor}
 use Rattle.mpw_markers.specs.declared.marker.Marker.{Marker}
 use Rattle.mpw_markers.specs.Markers.{IsFilled}
 use Rattle.std.proofs.lemmas.List.{get_or_default}
@@ -19,33 +18,26 @@ use Rattle.mpw_job.specs.Jobs.{CutWindows, FoundMarkers, IsCutAnswer, IsTileAnsw
 use Rattle.mpw_job.specs.Laws.{task_of, AnswerTiles, AnswersMakeTheLayout}
 use Rattle.mpw_job.specs.Layout.{AreLayoutMarkers}
 use Rattle.mpw_job.specs.declared.job.Job.TheVariants as job
-use Rattle.mpw_run.specs.declared.phase.Checked.{Checked as Finish}
 use Rattle.mpw_run.specs.declared.phase.Phase.{Phase}
 use Rattle.mpw_run.specs.declared.phase.Phase.TheVariants.{Cutting, Checking, Finished}
 use Rattle.mpw_run.specs.declared.phase.RunReply.TheVariants as reply
 use Rattle.mpw_run.specs.declared.prepare.Change.TheVariants as change
 use Rattle.mpw_run.specs.declared.prepare.Prepared.{Prepared}
 use Rattle.mpw_run.specs.Run.{Planned, Tile, Checks, answers_of, answered, IsPlanned, IsChecks}
-use Rattle.mpw_run.specs.Same.{same_snapshot, same_task}
-use Rattle.mpw_run.specs.Step.{Run, Offer, Outcome, IsPhase, IsRun, tile_task, with_tiles, raised, answered_by, new_tiles, handed, taken_in, taken, begun, left_as, cut_in, cut_answered, kept, tile_compared, tile_checked, tile_in, tile_answered, next_from}
+use Rattle.mpw_run.specs.Same.{same_task}
+use Rattle.mpw_run.specs.Step.{Run, Offer, Outcome, IsPhase, IsRun, tile_task, with_tiles, raised, answered_by, new_tiles, handed, begun, left_as, kept, tile_compared, tile_checked, next_from}
 use Rattle.mpw_run.specs.Prepared.{set_tile, answers_with, next_phase, applied, IsPrepared}
 use Rattle.mpw_run.specs.Stitching.{stitched, AreFilled}
 use Rattle.mpw_run.specs.Laws.{StitchedComputes}
 use Rattle.mpw_run.proofs.Exactness.{tasks}
 use Rattle.mpw_run.proofs.TileLists.{new_tile, same_tile, other_tile, raised_same, one_answered, new_answered, new_open, all_answered}
-use Rattle.mpw_run.proofs.Next.{next_is, offer_of_number, no_offer}
+use Rattle.mpw_run.proofs.Next.{next_is, offer_of_number}
 
 -- ---- what is true of checks
 
 -- a plan has a tile
 pub some_tile : (plan : Tiling) → 1 ≤ tiles plan
 some_tile plan = omega (arith, some_columns plan.grid, columns_few plan.grid)
-
--- there is a window for each tile
-pub windows_count : (s : Snapshot) (plan : Tiling) (windows : List (List Rectangle)) → plan_for s ≡ Some plan → StandFor s windows → length windows ≡ tiles plan
-windows_count s plan windows e h =
-    let shows : ShowItems plan (shown s) windows = subst (λ (p : Option Tiling). AreWindowsFor p (shown s) windows) e h in
-    shows.count
 
 -- a tile that is set keeps it, where its answer is right and a tile is left
 pub set_keeps : (run : ℕ) (c : Checks) (k : ℕ) (x y : Tile) → IsChecks run c → slice_get c.tiles k ≡ Some x
@@ -180,11 +172,6 @@ take_is run c tile task e few h o same =
     made : Task → ℕ → Prepared
     made t k = record { reply = reply.Taken (job.Tile t); change = change.Take k }
 
--- nothing is handed out where each tile is answered
-pub none_is : (run : Run) (c : Checks) (p : Prepared) → None ≡ option_map (λ (o : Offer). o.number) (next_from 0 c.tiles)
-    → IsPrepared p run (let o : Outcome = record { reply = reply.NoJob; run = run } in o) → IsPrepared p run (handed run c (next_from 0 c.tiles))
-none_is run c p e h = subst (IsPrepared p run) (sym (ap (handed run c) (no_offer (next_from 0 c.tiles) e))) h
-
 -- the check begins
 pub cut_prepared : (run : Run) (planned : Planned) (answer : CutWindows) → run.phase ≡ Cutting planned → run.number < 2 ^ 32 → IsRun run
     → answer.job.snapshot ≡ planned.snapshot → StandFor answer.job.snapshot answer.windows
@@ -290,81 +277,14 @@ Prepares p run o = IsPrepared p run o
 when : (p : Prepared) (run : Run) (b : Bool) (x y : Outcome) → b ≡ true → Prepares p run x → Prepares p run (if b then x else y)
 when p run b x y e h = subst (λ (t : Bool). Prepares p run (if t then x else y)) (sym e) h
 
-unless : (p : Prepared) (run : Run) (b : Bool) (x y : Outcome) → b ≡ false → Prepares p run y → Prepares p run (if b then x else y)
-unless p run b x y e h = subst (λ (t : Bool). Prepares p run (if t then x else y)) (sym e) h
-
-not_equal : (a b : ℕ) → (a ≡ b → ⊥) → (a == b) ≡ false
-not_equal a b ne = by (a == b) refl
-  where
-    by : (t : Bool) → (a == b) ≡ t → (a == b) ≡ false
-    by true e = absurd (ne (eqb-true a b e))
-    by false e = e
-
--- a call for a job, by the phase
-pub take_by : (p : Prepared) (run : Run) (phase : Phase) → run.phase ≡ phase → Prepares p run (taken_in run phase) → Prepares p run (taken run)
-take_by p run phase e h = subst (λ (q : Phase). Prepares p run (taken_in run q)) (sym e) h
-
--- windows, by the run's number and its phase
-pub cut_by : (p : Prepared) (run : Run) (answer : CutWindows) (phase : Phase) → run.number ≡ answer.job.run → run.phase ≡ phase → Prepares p run (cut_in run answer phase) → Prepares p run (cut_answered run answer)
-cut_by p run answer phase n e h =
-    when p run (run.number == answer.job.run) (cut_in run answer run.phase) _ (eq-eqb run.number answer.job.run n)
-    (subst (λ (q : Phase). Prepares p run (cut_in run answer q)) (sym e) h)
-
-pub old_cut : (p : Prepared) (run : Run) (answer : CutWindows) → (run.number ≡ answer.job.run → ⊥) → Prepares p run (left_as reply.OldRun run) → Prepares p run (cut_answered run answer)
-old_cut p run answer ne h = unless p run (run.number == answer.job.run) (cut_in run answer run.phase) _ (not_equal run.number answer.job.run ne) h
-
--- the windows of the run's snapshot, and of another
-pub own_cut : (p : Prepared) (run : Run) (answer : CutWindows) (planned : Planned) → same_snapshot answer.job.snapshot planned.snapshot ≡ true → Prepares p run (begun run planned answer)
-    → Prepares p run (cut_in run answer (Cutting planned))
-own_cut p run answer planned e h = when p run (same_snapshot answer.job.snapshot planned.snapshot) _ _ e h
-
-pub other_cut : (p : Prepared) (run : Run) (answer : CutWindows) (planned : Planned) → same_snapshot answer.job.snapshot planned.snapshot ≡ false → Prepares p run (left_as reply.Stranger run)
-    → Prepares p run (cut_in run answer (Cutting planned))
-other_cut p run answer planned e h = unless p run (same_snapshot answer.job.snapshot planned.snapshot) (begun run planned answer) _ e h
-
--- markers, by the run's number and its phase
-pub tile_by : (p : Prepared) (run : Run) (answer : FoundMarkers) (phase : Phase) → run.number ≡ answer.job.run → run.phase ≡ phase → Prepares p run (tile_in run answer phase) → Prepares p run (tile_answered run answer)
-tile_by p run answer phase n e h =
-    when p run (run.number == answer.job.run) (tile_in run answer run.phase) _ (eq-eqb run.number answer.job.run n)
-    (subst (λ (q : Phase). Prepares p run (tile_in run answer q)) (sym e) h)
-
-pub old_tile : (p : Prepared) (run : Run) (answer : FoundMarkers) → (run.number ≡ answer.job.run → ⊥) → Prepares p run (left_as reply.OldRun run) → Prepares p run (tile_answered run answer)
-old_tile p run answer ne h = unless p run (run.number == answer.job.run) (tile_in run answer run.phase) _ (not_equal run.number answer.job.run ne) h
-
--- markers for a tile of a run that is finished, and for none of its tiles
-pub late_tile : (p : Prepared) (run : Run) (answer : FoundMarkers) (f : Finish) → answer.job.tile < tiles f.planned.plan → Prepares p run (left_as reply.Double run) → Prepares p run (tile_in run answer (Finished f))
-late_tile p run answer f l h = when p run (nat_lt answer.job.tile (tiles f.planned.plan)) _ (left_as reply.Stranger run) (lt-ltb answer.job.tile (tiles f.planned.plan) l) h
-
-pub late_stranger : (p : Prepared) (run : Run) (answer : FoundMarkers) (f : Finish) → tiles f.planned.plan ≤ answer.job.tile → Prepares p run (left_as reply.Stranger run) → Prepares p run (tile_in run answer (Finished f))
-late_stranger p run answer f l h = unless p run (nat_lt answer.job.tile (tiles f.planned.plan)) (left_as reply.Double run) _ (lt-leb (suc answer.job.tile) (tiles f.planned.plan) (omega (arith, l))) h
-
--- markers while tiles are checked: of no tile, of one that is answered, of another task, and of the tile's own
-pub absent_tile : (p : Prepared) (run : Run) (c : Checks) (answer : FoundMarkers) → slice_get c.tiles answer.job.tile ≡ None → Prepares p run (left_as reply.Stranger run)
-    → Prepares p run (tile_checked run c answer (slice_get c.tiles answer.job.tile))
-absent_tile p run c answer e h = subst (λ (t : Option Tile). Prepares p run (tile_checked run c answer t)) (sym e) h
-
 compared : (p : Prepared) (run : Run) (c : Checks) (answer : FoundMarkers) (x : Tile) (a : Option (List Marker)) → slice_get c.tiles answer.job.tile ≡ Some x → x.answer ≡ a
     → Prepares p run (tile_compared run c answer x a) → Prepares p run (tile_checked run c answer (slice_get c.tiles answer.job.tile))
 compared p run c answer x a e w h =
     subst (λ (t : Option Tile). Prepares p run (tile_checked run c answer t)) (sym e) (subst (λ (b : Option (List Marker)). Prepares p run (tile_compared run c answer x b)) (sym w) h)
 
-pub double_tile : (p : Prepared) (run : Run) (c : Checks) (answer : FoundMarkers) (x : Tile) → slice_get c.tiles answer.job.tile ≡ Some x → is_some x.answer ≡ true → Prepares p run (left_as reply.Double run)
-    → Prepares p run (tile_checked run c answer (slice_get c.tiles answer.job.tile))
-double_tile p run c answer x e s h = by x.answer refl s
-  where
-    by : (a : Option (List Marker)) → x.answer ≡ a → is_some a ≡ true → Prepares p run (tile_checked run c answer (slice_get c.tiles answer.job.tile))
-    by None w t = absurd (false≢true t)
-    by (Some m) w t = compared p run c answer x (Some m) e w h
-
 open_is : (a : Option (List Marker)) → is_some a ≡ false → a ≡ None
 open_is None e = refl
 open_is (Some m) e = absurd (false≢true (sym e))
-
-pub other_task : (p : Prepared) (run : Run) (c : Checks) (answer : FoundMarkers) (x : Tile) → slice_get c.tiles answer.job.tile ≡ Some x → is_some x.answer ≡ false
-    → same_task answer.job (tile_task run.number c answer.job.tile) ≡ false → Prepares p run (left_as reply.Stranger run)
-    → Prepares p run (tile_checked run c answer (slice_get c.tiles answer.job.tile))
-other_task p run c answer x e s t h =
-    compared p run c answer x None e (open_is x.answer s) (unless p run (same_task answer.job (tile_task run.number c answer.job.tile)) (kept run c (slice_set c.tiles answer.job.tile (answered_by answer.markers x))) _ t h)
 
 pub own_task : (p : Prepared) (run : Run) (c : Checks) (answer : FoundMarkers) (x : Tile) → slice_get c.tiles answer.job.tile ≡ Some x → is_some x.answer ≡ false
     → same_task answer.job (tile_task run.number c answer.job.tile) ≡ true
@@ -373,10 +293,6 @@ pub own_task : (p : Prepared) (run : Run) (c : Checks) (answer : FoundMarkers) (
 own_task p run c answer x e s t h =
     compared p run c answer x None e (open_is x.answer s) (when p run (same_task answer.job (tile_task run.number c answer.job.tile)) _ (left_as reply.Stranger run) t
     (subst (λ (y : Option Tile). Prepares p run (kept run c (set_tile (answered_by answer.markers) answer.job.tile c.tiles y))) e h))
-
--- an free tile stays the one that is read
-pub open_tile : (c : Checks) (k : ℕ) (x y : Tile) → slice_get c.tiles k ≡ Some x → is_some x.answer ≡ false → slice_get c.tiles k ≡ Some y → y.answer ≡ None
-open_tile c k x y e s f = ap (λ (t : Tile). t.answer) (same_Some y x (sym f ∙ e)) ∙ open_is x.answer s
 
 -- ---- what is prepared, by the code's values
 

@@ -68,20 +68,7 @@ next_step xs rest x best next some within e h step =
     step (next_from rest (drop rest xs)) h
     ∙ ap (option_map told) (ap (λ (n : ℕ). offered x.answer (record { number = rest - 1; tile = x }) (next_from n (drop n xs))) back ∙ sym (next_back xs (rest - 1) x (omega (arith, some, within)) e))
 
--- the number alone
-pub number_of : (best : Option Offer) (tile taken : ℕ) → (let t : Option (ℕ × ℕ) = Some (tile, taken) in t) ≡ option_map told best → Some tile ≡ option_map (λ (o : Offer). o.number) best
-number_of None tile taken e = absurd (none-some _ (sym e))
-number_of (Some o) tile taken e = ap (λ (p : ℕ × ℕ). Some p.0) (same_Some _ _ e)
-
-pub no_number : (best : Option Offer) → (let t : Option (ℕ × ℕ) = None in t) ≡ option_map told best → None ≡ option_map (λ (o : Offer). o.number) best
-no_number None e = refl
-no_number (Some o) e = absurd (none-some _ e)
-
 -- the offer of a number
 pub offer_of_number : (best : Option Offer) (tile : ℕ) → Some tile ≡ option_map (λ (o : Offer). o.number) best → (o : Offer) × (best ≡ Some o) × (o.number ≡ tile)
 offer_of_number None tile e = absurd (none-some _ (sym e))
 offer_of_number (Some o) tile e = (o, refl, sym (same_Some _ _ e))
-
-pub no_offer : (best : Option Offer) → None ≡ option_map (λ (o : Offer). o.number) best → best ≡ None
-no_offer None e = refl
-no_offer (Some o) e = absurd (none-some _ e)

@@ -52,9 +52,6 @@ own_some x m e = ap (λ (a : Option (List Marker)). length (option_to_list a)) e
 pub one_answered : (xs : List Tile) (k : ℕ) (x : Tile) (m : List Marker) → slice_get xs k ≡ Some x → x.answer ≡ None → answered (slice_set xs k (answered_by m x)) ≡ answered xs + 1
 one_answered xs k x m e n = omega (arith, set_answered xs k x (answered_by m x) e, own_none x n, own_some (answered_by m x) m refl)
 
-pub again_answered : (xs : List Tile) (k : ℕ) (x : Tile) (m old : List Marker) → slice_get xs k ≡ Some x → x.answer ≡ Some old → answered (slice_set xs k (answered_by m x)) ≡ answered xs
-again_answered xs k x m old e n = omega (arith, set_answered xs k x (answered_by m x) e, own_some x old n, own_some (answered_by m x) m refl)
-
 -- at most all are answered
 own_few : (a : Option (List Marker)) → length (option_to_list a) ≤ 1
 own_few None = omega arith
@@ -63,11 +60,6 @@ own_few (Some m) = omega arith
 pub few_answered : (xs : List Tile) → answered xs ≤ length xs
 few_answered [] = omega arith
 few_answered (t ∷ xs) = omega (arith, few_answered xs, length-append (own t) (answers_of xs), own_few t.answer)
-
--- there is room to count one more where a tile is not answered
-pub room : (xs : List Tile) (k : ℕ) (x : Tile) → slice_get xs k ≡ Some x → x.answer ≡ None → answered xs + 1 ≤ length xs
-room xs k x e n =
-    omega (arith, one_answered xs k x [] e n, few_answered (slice_set xs k (answered_by [] x)), length-set xs k (answered_by [] x))
 
 -- new tiles are not answered
 pub new_answered : (n : ℕ) → answered (new_tiles n) ≡ 0

@@ -180,3 +180,23 @@ pub enum RunReply {
     Double,
     OldRun,
 }
+
+impl RunReply {
+    /// The same reply, which shares the parts of a job that was handed out.
+    ///
+    /// # Errors
+    /// Where no more copies can be counted, or there is no memory for them.
+    pub fn copy(&self, alloc: Global) -> Result<RunReply, AllocError>
+        ensures { IfOk result (λ reply. reply ≡ self.now) }
+    {
+        match self {
+            RunReply::Taken(job) => Ok(RunReply::Taken(job.copy(alloc)?)),
+            RunReply::NoJob => Ok(RunReply::NoJob),
+            RunReply::Kept => Ok(RunReply::Kept),
+            RunReply::Finished => Ok(RunReply::Finished),
+            RunReply::Stranger => Ok(RunReply::Stranger),
+            RunReply::Double => Ok(RunReply::Double),
+            RunReply::OldRun => Ok(RunReply::OldRun),
+        }
+    }
+}
