@@ -1,0 +1,367 @@
+-- The tests of equality are exact.
+use Rattle.std.proofs.Common.{◌≡◌, ℕ, Bool, false, ◌&&◌, ◌==◌, [], ◌∷◌, get_or, refl, sym, ap, ◌∙◌, Decides}
+use Rattle.std.specs.Ordering.{int_eq}
+use Rattle.std.specs.Cmp.Lexicographic.{pointwise, pointwise_decides}
+use Rattle.std.proofs.lemmas.Bool.{false≢true}
+use Rattle.std.proofs.lemmas.Bool.Decides.{Decides-and, Decides-like, Decides-eqb, Decides-int_eq}
+use Rattle.mpw_geom.specs.Names.{name_eq}
+use Rattle.mpw_geom.specs.declared.plane.Box2.{Box2}
+use Rattle.mpw_geom.specs.declared.plane.Layer.{Layer}
+use Rattle.mpw_geom.specs.declared.plane.Orient.{Orient}
+use Rattle.mpw_geom.specs.declared.plane.Orient.TheVariants.{R0, R90, R180, R270, M0, M90, M180, M270}
+use Rattle.mpw_geom.specs.declared.plane.Point.{Point}
+use Rattle.mpw_geom.specs.declared.placing.Placing.{Placing}
+use Rattle.mpw_elements.specs.declared.element.Boundary.{Boundary as BoundaryParts}
+use Rattle.mpw_elements.specs.declared.element.Path.{Path as PathParts}
+use Rattle.mpw_elements.specs.declared.element.Reference.{Reference as ReferenceParts}
+use Rattle.mpw_elements.specs.declared.element.Element.TheVariants.{Boundary, Path, Reference}
+use Rattle.mpw_library.specs.declared.structures.Structure.{Structure}
+use Rattle.mpw_deck.specs.Decks.{Deck}
+use Rattle.mpw_deck.specs.declared.rule.Check.TheVariants.{Width, Space, Separation, Enclosing}
+use Rattle.mpw_deck.specs.declared.rule.Rule.{Rule}
+use Rattle.mpw_hier.specs.declared.bindings.Binding.{Binding}
+use Rattle.mpw_hier.specs.declared.submission.Submission.{Submission}
+use Rattle.mpw_walk.specs.declared.root.Root.{Root}
+use Rattle.mpw_tiles.specs.declared.listing.Rectangle.{Rectangle}
+use Rattle.mpw_tiles.specs.Snapshots.{Snapshot}
+use Rattle.mpw_job.specs.Answers.{Task}
+use Rattle.mpw_run.specs.Same.{same_point, same_box, same_layer, place_of, same_orient, same_placing, same_points, same_boundary, same_ends, same_path, same_array, same_reference, same_element, same_structure, same_library, same_binding, same_version, same_submission, same_root, same_check, same_rule, same_rules, same_deck, same_snapshot, same_rectangle, same_place, same_task}
+use Rattle.mpw_run.specs.Laws.{TestsAreExact}
+
+-- The test decides whether its two values are equal.
+abbrev Exact : {X : Type 0} → (X → X → Bool) → Type 0
+Exact {X = X} test = (a b : X) → Decides (test a b) (a ≡ b)
+
+names : Exact name_eq
+names = pointwise_decides Decides-eqb
+
+lists : {X : Type 0} (test : X → X → Bool) → Exact test → Exact (pointwise test)
+lists test exact = pointwise_decides exact
+
+-- a test that decides something else that is as good, and two parts, three, and four
+one : {P X : Type 0} (p : Bool) → Decides p P → (P → X) → (X → P) → Decides p X
+one p f to from = Decides-like p to from f
+
+two : {P Q X : Type 0} (p q : Bool) → Decides p P → Decides q Q → (P → Q → X) → (X → P × Q) → Decides (p && q) X
+two p q f g to from = one (p && q) (Decides-and p q f g) (λ h. to h.0 h.1) from
+
+three : {P Q R X : Type 0} (p q r : Bool) → Decides p P → Decides q Q → Decides r R → (P → Q → R → X) → (X → P × Q × R) → Decides (p && (q && r)) X
+three p q r f g h to from =
+    one (p && (q && r)) (Decides-and p (q && r) f (Decides-and q r g h)) (λ t. to t.0 t.1.0 t.1.1) (λ x. let t = from x in (t.0, (t.1, t.2)))
+
+four : {P Q R S X : Type 0} (p q r s : Bool) → Decides p P → Decides q Q → Decides r R → Decides s S → (P → Q → R → S → X) → (X → P × Q × R × S) → Decides ((p && q) && (r && s)) X
+four p q r s f g h k to from =
+    one ((p && q) && (r && s)) (Decides-and (p && q) (r && s) (Decides-and p q f g) (Decides-and r s h k)) (λ t. to t.0.0 t.0.1 t.1.0 t.1.1) (λ x. let t = from x in ((t.0, t.1), (t.2, t.3)))
+
+-- ---- the plane
+
+points : Exact same_point
+points a b =
+    two {X = a ≡ b} (int_eq a.x b.x) (int_eq a.y b.y)
+    (Decides-int_eq a.x b.x) (Decides-int_eq a.y b.y)
+    (λ e f. λ i. record { x = e i; y = f i })
+    (λ e. (ap (λ (p : Point). p.x) e, ap (λ (p : Point). p.y) e))
+
+boxes : Exact same_box
+boxes a b =
+    four {X = a ≡ b} (int_eq a.x0 b.x0) (int_eq a.y0 b.y0) (int_eq a.x1 b.x1) (int_eq a.y1 b.y1)
+    (Decides-int_eq a.x0 b.x0) (Decides-int_eq a.y0 b.y0) (Decides-int_eq a.x1 b.x1) (Decides-int_eq a.y1 b.y1)
+    (λ e f g h. λ i. record { x0 = e i; y0 = f i; x1 = g i; y1 = h i })
+    (λ e. (ap (λ (p : Box2). p.x0) e, ap (λ (p : Box2). p.y0) e, ap (λ (p : Box2). p.x1) e, ap (λ (p : Box2). p.y1) e))
+
+layers : Exact same_layer
+layers a b =
+    two {X = a ≡ b} (a.layer == b.layer) (a.datatype == b.datatype)
+    (Decides-eqb a.layer b.layer) (Decides-eqb a.datatype b.datatype)
+    (λ e f. λ i. record { layer = e i; datatype = f i })
+    (λ e. (ap (λ (l : Layer). l.layer) e, ap (λ (l : Layer). l.datatype) e))
+
+-- the orientation at a place
+orient_at : ℕ → Orient
+orient_at n = get_or (R0 ∷ R90 ∷ R180 ∷ R270 ∷ M0 ∷ M90 ∷ M180 ∷ M270 ∷ []) n R0
+
+at_place : (o : Orient) → orient_at (place_of o) ≡ o
+unfolding orient_at
+at_place R0 = refl
+at_place R90 = refl
+at_place R180 = refl
+at_place R270 = refl
+at_place M0 = refl
+at_place M90 = refl
+at_place M180 = refl
+at_place M270 = refl
+
+orients : Exact same_orient
+orients a b =
+    one {X = a ≡ b} (same_orient a b) (Decides-eqb (place_of a) (place_of b)) (λ e. sym (at_place a) ∙ ap orient_at e ∙ at_place b) (λ e. ap place_of e)
+
+placings : Exact same_placing
+placings a b =
+    two {X = a ≡ b} (same_orient a.orient b.orient) (same_point a.by b.by)
+    (orients a.orient b.orient) (points a.by b.by)
+    (λ e f. λ i. record { orient = e i; by = f i })
+    (λ e. (ap (λ (p : Placing). p.orient) e, ap (λ (p : Placing). p.by) e))
+
+-- ---- libraries
+
+boundaries : Exact same_boundary
+boundaries a b =
+    two {X = a ≡ b} (same_layer a.layer b.layer) (same_points a.points b.points)
+    (layers a.layer b.layer) (lists same_point points a.points b.points)
+    (λ e f. λ i. record { layer = e i; points = f i })
+    (λ e. (ap (λ (p : BoundaryParts). p.layer) e, ap (λ (p : BoundaryParts). p.points) e))
+
+-- the width and the ends of a path
+abbrev SameEnds : PathParts → PathParts → Type 0
+SameEnds a b = (a.width ≡ b.width) × (a.begin ≡ b.begin) × (a.end ≡ b.end)
+
+ends : (a b : PathParts) → Decides (same_ends a b) (SameEnds a b)
+ends a b =
+    three {X = SameEnds a b} (int_eq a.width b.width) (int_eq a.begin b.begin) (int_eq a.end b.end)
+    (Decides-int_eq a.width b.width) (Decides-int_eq a.begin b.begin) (Decides-int_eq a.end b.end)
+    (λ e f g. (e, f, g))
+    (λ h. h)
+
+paths : Exact same_path
+paths a b =
+    three {X = a ≡ b} (same_layer a.layer b.layer) (same_ends a b) (same_points a.points b.points)
+    (layers a.layer b.layer) (ends a b) (lists same_point points a.points b.points)
+    (λ e f g. λ i. record { layer = e i; width = f.0 i; begin = f.1 i; end = f.2 i; points = g i })
+    (λ e. (
+      ap (λ (p : PathParts). p.layer) e,
+      (ap (λ (p : PathParts). p.width) e, ap (λ (p : PathParts). p.begin) e, ap (λ (p : PathParts). p.end) e),
+      ap (λ (p : PathParts). p.points) e,
+    ))
+
+-- the columns and rows of a reference, and their steps
+abbrev SameArray : ReferenceParts → ReferenceParts → Type 0
+SameArray a b = (a.columns ≡ b.columns) × (a.rows ≡ b.rows) × (a.column_step ≡ b.column_step) × (a.row_step ≡ b.row_step)
+
+arrays : (a b : ReferenceParts) → Decides (same_array a b) (SameArray a b)
+arrays a b =
+    four {X = SameArray a b} (a.columns == b.columns) (a.rows == b.rows) (same_point a.column_step b.column_step) (same_point a.row_step b.row_step)
+    (Decides-eqb a.columns b.columns) (Decides-eqb a.rows b.rows) (points a.column_step b.column_step) (points a.row_step b.row_step)
+    (λ e f g h. (e, f, g, h))
+    (λ h. h)
+
+abbrev SameStart : ReferenceParts → ReferenceParts → Type 0
+SameStart a b = (a.name ≡ b.name) × (a.orient ≡ b.orient) × (a.origin ≡ b.origin)
+
+starts : (a b : ReferenceParts) → Decides (name_eq a.name b.name && (same_orient a.orient b.orient && same_point a.origin b.origin)) (SameStart a b)
+starts a b =
+    three {X = SameStart a b} (name_eq a.name b.name) (same_orient a.orient b.orient) (same_point a.origin b.origin)
+    (names a.name b.name) (orients a.orient b.orient) (points a.origin b.origin)
+    (λ e f g. (e, f, g))
+    (λ h. h)
+
+references : Exact same_reference
+references a b =
+    two {X = a ≡ b} (name_eq a.name b.name && (same_orient a.orient b.orient && same_point a.origin b.origin)) (same_array a b)
+    (starts a b) (arrays a b)
+    (λ e f. λ i. record {
+      name = e.0 i;
+      orient = e.1 i;
+      origin = e.2 i;
+      columns = f.0 i;
+      rows = f.1 i;
+      column_step = f.2 i;
+      row_step = f.3 i;
+    })
+    (λ e. (
+      (ap (λ (p : ReferenceParts). p.name) e, ap (λ (p : ReferenceParts). p.orient) e, ap (λ (p : ReferenceParts). p.origin) e),
+      (
+        ap (λ (p : ReferenceParts). p.columns) e,
+        ap (λ (p : ReferenceParts). p.rows) e,
+        ap (λ (p : ReferenceParts). p.column_step) e,
+        ap (λ (p : ReferenceParts). p.row_step) e,
+      ),
+    ))
+
+-- values of different cases
+apart : {X : Type 0} (a b : X) → (a ≡ b → ⊥) → Decides false (a ≡ b)
+apart a b ne = (λ e. absurd (false≢true e), λ e. absurd (ne e))
+
+boundary_parts : (a b : BoundaryParts) → Boundary a ≡ Boundary b → a ≡ b
+boundary_parts a b e = cc
+
+path_parts : (a b : PathParts) → Path a ≡ Path b → a ≡ b
+path_parts a b e = cc
+
+reference_parts : (a b : ReferenceParts) → Reference a ≡ Reference b → a ≡ b
+reference_parts a b e = cc
+
+elements : Exact same_element
+elements (Boundary a) (Boundary b) =
+    one {X = Boundary a ≡ Boundary b} (same_boundary a b)
+    (boundaries a b)
+    (λ e. ap Boundary e)
+    (boundary_parts a b)
+elements (Boundary a) (Path b) = apart (Boundary a) (Path b) (λ e. cc)
+elements (Boundary a) (Reference b) = apart (Boundary a) (Reference b) (λ e. cc)
+elements (Path a) (Boundary b) = apart (Path a) (Boundary b) (λ e. cc)
+elements (Path a) (Path b) =
+    one {X = Path a ≡ Path b} (same_path a b)
+    (paths a b)
+    (λ e. ap Path e)
+    (path_parts a b)
+elements (Path a) (Reference b) = apart (Path a) (Reference b) (λ e. cc)
+elements (Reference a) (Boundary b) = apart (Reference a) (Boundary b) (λ e. cc)
+elements (Reference a) (Path b) = apart (Reference a) (Path b) (λ e. cc)
+elements (Reference a) (Reference b) =
+    one {X = Reference a ≡ Reference b} (same_reference a b)
+    (references a b)
+    (λ e. ap Reference e)
+    (reference_parts a b)
+
+structures : Exact same_structure
+structures a b =
+    two {X = a ≡ b} (name_eq a.name b.name) (pointwise same_element a.elements b.elements)
+    (names a.name b.name) (lists same_element elements a.elements b.elements)
+    (λ e f. λ i. record { name = e i; elements = f i })
+    (λ e. (ap (λ (p : Structure). p.name) e, ap (λ (p : Structure). p.elements) e))
+
+-- ---- submissions, and where they are placed
+
+bindings : Exact same_binding
+bindings a b =
+    two {X = a ≡ b} (name_eq a.name b.name) (a.submission == b.submission)
+    (names a.name b.name) (Decides-eqb a.submission b.submission)
+    (λ e f. λ i. record { name = e i; submission = f i })
+    (λ e. (ap (λ (p : Binding). p.name) e, ap (λ (p : Binding). p.submission) e))
+
+abbrev SameVersion : Submission → Submission → Type 0
+SameVersion a b = (a.cell ≡ b.cell) × (a.version ≡ b.version) × (a.submitter ≡ b.submitter) × (a.top ≡ b.top)
+
+versions : (a b : Submission) → Decides (same_version a b) (SameVersion a b)
+versions a b =
+    four {X = SameVersion a b} (name_eq a.cell b.cell) (a.version == b.version) (name_eq a.submitter b.submitter) (name_eq a.top b.top)
+    (names a.cell b.cell) (Decides-eqb a.version b.version) (names a.submitter b.submitter) (names a.top b.top)
+    (λ e f g h. (e, f, g, h))
+    (λ h. h)
+
+submissions : Exact same_submission
+submissions a b =
+    three {X = a ≡ b} (same_version a b) (same_library a.library b.library) (pointwise same_binding a.bound b.bound)
+    (versions a b) (lists same_structure structures a.library b.library) (lists same_binding bindings a.bound b.bound)
+    (λ e f g. λ i. record { cell = e.0 i; version = e.1 i; submitter = e.2 i; library = f i; top = e.3 i; bound = g i })
+    (λ e. (
+      (
+        ap (λ (s : Submission). s.cell) e,
+        ap (λ (s : Submission). s.version) e,
+        ap (λ (s : Submission). s.submitter) e,
+        ap (λ (s : Submission). s.top) e,
+      ),
+      ap (λ (s : Submission). s.library) e,
+      ap (λ (s : Submission). s.bound) e,
+    ))
+
+roots : Exact same_root
+roots a b =
+    two {X = a ≡ b} (a.submission == b.submission) (same_placing a.placing b.placing)
+    (Decides-eqb a.submission b.submission) (placings a.placing b.placing)
+    (λ e f. λ i. record { submission = e i; placing = f i })
+    (λ e. (ap (λ (r : Root). r.submission) e, ap (λ (r : Root). r.placing) e))
+
+-- ---- decks
+
+width_parts : (a b : Layer) → Width a ≡ Width b → a ≡ b
+width_parts a b e = cc
+
+space_parts : (a b : Layer) → Space a ≡ Space b → a ≡ b
+space_parts a b e = cc
+
+separation_parts : (a b c d : Layer) → Separation a c ≡ Separation b d → (a ≡ b) × (c ≡ d)
+separation_parts a b c d e = ((cc), (cc))
+
+enclosing_parts : (a b c d : Layer) → Enclosing a c ≡ Enclosing b d → (a ≡ b) × (c ≡ d)
+enclosing_parts a b c d e = ((cc), (cc))
+
+checks : Exact same_check
+checks (Width a) (Width b) =
+    one {X = Width a ≡ Width b} (same_layer a b)
+    (layers a b)
+    (λ e. ap Width e)
+    (width_parts a b)
+checks (Width a) (Space b) = apart (Width a) (Space b) (λ e. cc)
+checks (Width a) (Separation b d) = apart (Width a) (Separation b d) (λ e. cc)
+checks (Width a) (Enclosing b d) = apart (Width a) (Enclosing b d) (λ e. cc)
+checks (Space a) (Width b) = apart (Space a) (Width b) (λ e. cc)
+checks (Space a) (Space b) =
+    one {X = Space a ≡ Space b} (same_layer a b)
+    (layers a b)
+    (λ e. ap Space e)
+    (space_parts a b)
+checks (Space a) (Separation b d) = apart (Space a) (Separation b d) (λ e. cc)
+checks (Space a) (Enclosing b d) = apart (Space a) (Enclosing b d) (λ e. cc)
+checks (Separation a c) (Width b) = apart (Separation a c) (Width b) (λ e. cc)
+checks (Separation a c) (Space b) = apart (Separation a c) (Space b) (λ e. cc)
+checks (Separation a c) (Separation b d) =
+    two {X = Separation a c ≡ Separation b d} (same_layer a b) (same_layer c d)
+    (layers a b) (layers c d)
+    (λ e f. λ i. Separation (e i) (f i))
+    (separation_parts a b c d)
+checks (Separation a c) (Enclosing b d) = apart (Separation a c) (Enclosing b d) (λ e. cc)
+checks (Enclosing a c) (Width b) = apart (Enclosing a c) (Width b) (λ e. cc)
+checks (Enclosing a c) (Space b) = apart (Enclosing a c) (Space b) (λ e. cc)
+checks (Enclosing a c) (Separation b d) = apart (Enclosing a c) (Separation b d) (λ e. cc)
+checks (Enclosing a c) (Enclosing b d) =
+    two {X = Enclosing a c ≡ Enclosing b d} (same_layer a b) (same_layer c d)
+    (layers a b) (layers c d)
+    (λ e f. λ i. Enclosing (e i) (f i))
+    (enclosing_parts a b c d)
+
+rules_of : Exact same_rule
+rules_of a b =
+    three {X = a ≡ b} (name_eq a.name b.name) (same_check a.check b.check) (a.distance == b.distance)
+    (names a.name b.name) (checks a.check b.check) (Decides-eqb a.distance b.distance)
+    (λ e f g. λ i. record { name = e i; check = f i; distance = g i })
+    (λ e. (ap (λ (r : Rule). r.name) e, ap (λ (r : Rule). r.check) e, ap (λ (r : Rule). r.distance) e))
+
+decks : Exact same_deck
+decks a b =
+    two {X = a ≡ b} (a.tile == b.tile) (same_rules a.rules b.rules)
+    (Decides-eqb a.tile b.tile) (lists same_rule rules_of a.rules b.rules)
+    (λ e f. λ i. record { tile = e i; rules = f i })
+    (λ e. (ap (λ (d : Deck). d.tile) e, ap (λ (d : Deck). d.rules) e))
+
+-- ---- what a run looks at, and the task of a tile
+
+pub snapshots : (a b : Snapshot) → Decides (same_snapshot a b) (a ≡ b)
+unfolding same_snapshot
+snapshots a b =
+    three {X = a ≡ b} (same_deck a.deck b.deck) (pointwise same_root a.roots b.roots) (pointwise same_submission a.shelf b.shelf)
+    (decks a.deck b.deck) (lists same_root roots a.roots b.roots) (lists same_submission submissions a.shelf b.shelf)
+    (λ e f g. λ i. record { deck = e i; roots = f i; shelf = g i })
+    (λ e. (ap (λ (s : Snapshot). s.deck) e, ap (λ (s : Snapshot). s.roots) e, ap (λ (s : Snapshot). s.shelf) e))
+
+rectangles : Exact same_rectangle
+rectangles a b =
+    three {X = a ≡ b} (same_box a.area b.area) (same_layer a.layer b.layer) (a.origin == b.origin)
+    (boxes a.area b.area) (layers a.layer b.layer) (Decides-eqb a.origin b.origin)
+    (λ e f g. λ i. record { area = e i; layer = f i; origin = g i })
+    (λ e. (ap (λ (r : Rectangle). r.area) e, ap (λ (r : Rectangle). r.layer) e, ap (λ (r : Rectangle). r.origin) e))
+
+abbrev SamePlace : Task → Task → Type 0
+SamePlace a b = (a.run ≡ b.run) × (a.tile ≡ b.tile) × (a.core ≡ b.core)
+
+places : (a b : Task) → Decides (same_place a b) (SamePlace a b)
+places a b =
+    three {X = SamePlace a b} (a.run == b.run) (a.tile == b.tile) (same_box a.core b.core)
+    (Decides-eqb a.run b.run) (Decides-eqb a.tile b.tile) (boxes a.core b.core)
+    (λ e f g. (e, f, g))
+    (λ h. h)
+
+pub tasks : (a b : Task) → Decides (same_task a b) (a ≡ b)
+unfolding same_task
+tasks a b =
+    three {X = a ≡ b} (same_place a b) (pointwise same_rectangle a.window b.window) (same_rules a.rules b.rules)
+    (places a b) (lists same_rectangle rectangles a.window b.window) (lists same_rule rules_of a.rules b.rules)
+    (λ e f g. λ i. record { run = e.0 i; tile = e.1 i; core = e.2 i; window = f i; rules = g i })
+    (λ e. (
+      (ap (λ (t : Task). t.run) e, ap (λ (t : Task). t.tile) e, ap (λ (t : Task). t.core) e),
+      ap (λ (t : Task). t.window) e,
+      ap (λ (t : Task). t.rules) e,
+    ))
+
+pub exact : TestsAreExact
+exact = record { snapshots = snapshots; tasks = tasks }

@@ -1,0 +1,10 @@
+pub mod Exactness
+pub mod TileLists
+pub mod Next
+pub mod Changes
+pub mod Coming
+pub mod Keeping
+pub mod Staying
+pub mod Fewest
+pub mod Books
+pub mod Joining

@@ -1,0 +1,5 @@
+use Rattle.mpw_run.proofs.Joining.{computes}
+use Rattle.mpw_run.proofs.laws.stitched_computes.Goals as goal
+
+pub returns : goal.returns
+returns c = computes

@@ -1,0 +1,5 @@
+use Rattle.mpw_run.proofs.Exactness.{exact}
+use Rattle.mpw_run.proofs.laws.tests_are_exact.Goals as goal
+
+pub returns : goal.returns
+returns c = exact

@@ -1,0 +1,6 @@
+pub mod Same
+pub mod Stitching
+pub mod Run
+pub mod Step
+pub mod Prepared
+pub mod Laws

@@ -1,0 +1,69 @@
+-- What an event changes in a run, and what is true of the change.
+use Rattle.std.specs.Prelude.{◌≡◌, ◌<◌, ◌^◌, ℕ, ◌+◌, List, Option, Some, None, slice_get, slice_set}
+use Rattle.mpw_markers.specs.declared.marker.Marker.{Marker}
+use Rattle.mpw_run.specs.declared.phase.Phase.{Phase}
+use Rattle.mpw_run.specs.declared.phase.Phase.TheVariants.{Idle, Cutting, Checking, Finished}
+use Rattle.mpw_run.specs.declared.prepare.Change.{Change}
+use Rattle.mpw_run.specs.declared.prepare.Change.TheVariants as change
+use Rattle.mpw_run.specs.declared.prepare.Prepared.{Prepared}
+use Rattle.mpw_run.specs.Run.{Tile, Checks, answers_of}
+use Rattle.mpw_run.specs.Step.{Run, Outcome, IsRun, raised, answered_by, with_tiles}
+
+-- A tile of the list is changed; where there is none, nothing is.
+abbrev pub set_tile : (Tile → Tile) → ℕ → List Tile → Option Tile → List Tile
+set_tile change number tiles None = tiles
+set_tile change number tiles (Some tile) = slice_set tiles number (change tile)
+
+-- The markers of all tiles that are answered, with these for one of them.
+abbrev pub answers_with : List Marker → ℕ → List Tile → List (List Marker)
+answers_with markers number tiles =
+    answers_of (set_tile (answered_by markers) number tiles (slice_get tiles number))
+
+-- A check with one of its tiles changed.
+abbrev pub with_tile : (Tile → Tile) → ℕ → Checks → Checks
+with_tile change number c = with_tiles c (set_tile change number c.tiles (slice_get c.tiles number))
+
+-- The phase that a change leaves. What does not fit a phase leaves it as it was.
+abbrev pub next_phase : Change → Phase → Phase
+next_phase change.Nothing phase = phase
+next_phase (change.Start planned) phase = Cutting planned
+next_phase (change.Check windows tiles) Idle = Idle
+next_phase (change.Check windows tiles) (Cutting planned) = Checking (record { planned = planned; windows = windows; tiles = tiles })
+next_phase (change.Check windows tiles) (Checking c) = Checking c
+next_phase (change.Check windows tiles) (Finished f) = Finished f
+next_phase (change.Take number) Idle = Idle
+next_phase (change.Take number) (Cutting planned) = Cutting planned
+next_phase (change.Take number) (Checking c) = Checking (with_tile raised number c)
+next_phase (change.Take number) (Finished f) = Finished f
+next_phase (change.Keep number markers) Idle = Idle
+next_phase (change.Keep number markers) (Cutting planned) = Cutting planned
+next_phase (change.Keep number markers) (Checking c) = Checking (with_tile (answered_by markers) number c)
+next_phase (change.Keep number markers) (Finished f) = Finished f
+next_phase (change.Finish book) Idle = Idle
+next_phase (change.Finish book) (Cutting planned) = Cutting planned
+next_phase (change.Finish book) (Checking c) = Finished (record { planned = c.planned; book = book })
+next_phase (change.Finish book) (Finished f) = Finished f
+
+-- The number that a change leaves: a new run has the next one.
+abbrev pub next_number : Change → ℕ → ℕ
+next_number change.Nothing number = number
+next_number (change.Start planned) number = number + 1
+next_number (change.Check windows tiles) number = number
+next_number (change.Take tile) number = number
+next_number (change.Keep tile markers) number = number
+next_number (change.Finish book) number = number
+
+-- The run that a change leaves.
+abbrev pub applied : Change → Run → Run
+applied change run = record { number = next_number change run.number; phase = next_phase change run.phase }
+
+-- The change may be made to the run: it leaves what is true of a run, and its number can be counted.
+pub record IsFitting (change : Change) (run : Run) : Type 0 where
+  pub left : IsRun (applied change run)
+  pub number : next_number change run.number < 2 ^ 32
+
+-- What was prepared for the run has that outcome.
+pub record IsPrepared (prepared : Prepared) (run : Run) (outcome : Outcome) : Type 0 where
+  pub reply : prepared.reply ≡ outcome.reply
+  pub leaves : applied prepared.change run ≡ outcome.run
+  pub fits : IsFitting prepared.change run

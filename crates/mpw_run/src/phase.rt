@@ -1,0 +1,202 @@
+//! How far a run is.
+
+ghost use Rattle.std.specs.Prelude.{◌≡◌, ◌<◌, ◌^◌, length, IfOk, IfSome, IfNone, None, option_map};
+ghost use Rattle.mpw_tiles.specs.Snapshots.{plan_for, StandFor};
+ghost use Rattle.mpw_tiles.specs.Plan.{tiles};
+ghost use Rattle.mpw_run.specs.Run.{answered, IsPlanned};
+ghost use Rattle.mpw_run.specs.Prepared.{answers_with};
+ghost use Rattle.mpw_run.specs.Step.{Offer, next_from, tile_task};
+ghost use Rattle.mpw_run.specs.Stitching.{stitched, AreFilled};
+
+use crate::tiles::Tiles;
+use mpw_job::{Job, TileJob, tile_job};
+use mpw_markers::{Book, TileMarkers};
+use mpw_tiles::{Plan, Snapshot, Windows};
+use std::alloc::{AllocError, Global};
+use std::marker::Model;
+
+/// A snapshot with the plan of its tiles: contracts see both.
+#[derive(Drop)]
+pub struct Planned {
+    pub(crate) snapshot: Snapshot,
+    pub(crate) plan: Plan,
+}
+
+impl Model for Planned {
+    ghost use Rattle.mpw_run.specs.Run.{Planned, IsPlanned};
+
+    ghost Value = { Planned };
+
+    ghost view = { λ p. record { snapshot = p.snapshot; plan = p.plan } };
+
+    ghost invariant = { λ p. IsPlanned (record { snapshot = p.snapshot; plan = p.plan }) };
+}
+
+impl Planned {
+    /// The snapshot with the plan of its tiles; none where it has no plan, for it shows no shape, or there would be more
+    /// than 4096 tiles. Linear in the roots and the rules; takes no memory.
+    pub fn of(snapshot: Snapshot) -> Option<Planned>
+        ensures some { IfSome result (λ p. p.snapshot ≡ snapshot) }
+        ensures none { IfNone result (plan_for snapshot ≡ None) }
+    {
+        snapshot.is_snapshot();
+        let plan = snapshot.plan()?;
+        Some(Planned { snapshot, plan })
+    }
+
+    /// The snapshot.
+    pub fn snapshot(&self) -> &Snapshot
+        ensures { result.now ≡ self.now.snapshot }
+    {
+        &self.snapshot
+    }
+
+    /// Its plan is the snapshot's. A law: the function does nothing.
+    pub fn is_planned(&self)
+        ensures { IsPlanned self.now }
+    {
+        let _plan = &self.plan;
+    }
+
+    /// The number of its tiles, 1 to 4096.
+    pub fn total(&self) -> u32
+        ensures { result ≡ tiles self.now.plan }
+    {
+        self.plan.tiles()
+    }
+}
+
+/// A run whose snapshot is cut: contracts see the snapshot with its plan, the windows, and the tiles in order.
+#[derive(Drop)]
+pub struct Checks {
+    pub(crate) planned: Planned,
+    pub(crate) windows: Windows,
+    pub(crate) tiles: Tiles,
+}
+
+impl Model for Checks {
+    ghost use Rattle.mpw_run.specs.Run.{Checks};
+
+    ghost Value = { Checks };
+
+    ghost view = { λ c. record { planned = c.planned; windows = c.windows; tiles = c.tiles } };
+}
+
+impl Checks {
+    /// The snapshot with its plan.
+    pub fn planned(&self) -> &Planned
+        ensures { result.now ≡ self.now.planned }
+    {
+        &self.planned
+    }
+
+    /// The windows, by tile.
+    pub fn windows(&self) -> &Windows
+        ensures { result.now ≡ self.now.windows }
+    {
+        &self.windows
+    }
+
+    /// The job of a tile, in constant time and without further memory.
+    ///
+    /// # Errors
+    /// Where no more copies of its parts can be counted.
+    pub(crate) fn task(&self, run: u32, tile: u32) -> Result<TileJob, AllocError>
+        requires tile { tile < tiles self.now.planned.plan }
+        requires windows { StandFor self.now.planned.snapshot self.now.windows }
+        ensures { IfOk result (λ job. job ≡ tile_task run self.now tile) }
+    {
+        self.planned.is_planned();
+        tile_job(
+            run,
+            tile,
+            &self.planned.snapshot,
+            &self.planned.plan,
+            &self.windows,
+        )
+    }
+
+    /// How many tiles are answered. Linear in the tiles.
+    pub fn done(&self) -> usize
+        ensures { result ≡ answered self.now.tiles }
+    {
+        self.tiles.done()
+    }
+
+    /// The number of the tiles, 1 to 4096.
+    pub fn total(&self) -> u32
+        ensures { result ≡ tiles self.now.planned.plan }
+    {
+        self.planned.total()
+    }
+
+    /// The unanswered tile that was handed out fewest times, the least number among these.
+    pub(crate) fn next(&self) -> Option<u32>
+        requires { length self.now.tiles < 2 ^ 32 }
+        ensures { result ≡ option_map (λ (o : Offer). o.number) (next_from 0 self.now.tiles) }
+    {
+        self.tiles.next()
+    }
+
+    /// The book of all tiles, with these markers for one of them.
+    pub(crate) fn book_with(
+        &self,
+        alloc: Global,
+        tile: u32,
+        markers: &TileMarkers,
+    ) -> Result<Book, AllocError>
+        requires tile { tile < length self.now.tiles }
+        requires filled { AreFilled (answers_with markers.now tile self.now.tiles) }
+        ensures { IfOk result (λ book. book ≡ stitched (answers_with markers.now tile self.now.tiles)) }
+    {
+        self.tiles.book_with(alloc, tile, markers)
+    }
+}
+
+/// A run whose tiles are all answered: its snapshot with the plan, and its book.
+#[derive(Drop)]
+pub struct Checked {
+    pub planned: Planned,
+    pub book: Book,
+}
+
+/// How far a run is.
+#[derive(Drop)]
+pub enum Phase {
+    Idle,
+    Cutting(Planned),
+    Checking(Checks),
+    Finished(Checked),
+}
+
+/// What an event is answered.
+#[derive(Drop)]
+pub enum RunReply {
+    Taken(Job),
+    NoJob,
+    Kept,
+    Finished,
+    Stranger,
+    Double,
+    OldRun,
+}
+
+impl RunReply {
+    /// The same reply, which shares the parts of a job that was handed out.
+    ///
+    /// # Errors
+    /// Where no more copies can be counted, or there is no memory for them.
+    pub fn copy(&self, alloc: Global) -> Result<RunReply, AllocError>
+        ensures { IfOk result (λ reply. reply ≡ self.now) }
+    {
+        match self {
+            RunReply::Taken(job) => Ok(RunReply::Taken(job.copy(alloc)?)),
+            RunReply::NoJob => Ok(RunReply::NoJob),
+            RunReply::Kept => Ok(RunReply::Kept),
+            RunReply::Finished => Ok(RunReply::Finished),
+            RunReply::Stranger => Ok(RunReply::Stranger),
+            RunReply::Double => Ok(RunReply::Double),
+            RunReply::OldRun => Ok(RunReply::OldRun),
+        }
+    }
+}

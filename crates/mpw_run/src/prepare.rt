@@ -1,0 +1,112 @@
+//! What an event changes in a run, made ready before anything is changed.
+
+ghost use Rattle.std.specs.Prelude.{◌≡◌, ◌<◌, ◌^◌};
+ghost use Rattle.mpw_run.specs.declared.prepare.Change.TheVariants as change;
+ghost use Rattle.mpw_run.specs.Prepared.{next_number, next_phase};
+
+use crate::phase::{Checked, Checks, Phase, Planned, RunReply};
+use crate::tiles::Tiles;
+use mpw_markers::{Book, TileMarkers};
+use mpw_tiles::Windows;
+
+/// A change of a run, with all that it moves in.
+#[derive(Drop)]
+pub(crate) enum Change {
+    Nothing,
+    Start(Planned),
+    Check(Windows, Tiles),
+    Take(u32),
+    Keep(u32, TileMarkers),
+    Finish(Book),
+}
+
+/// The reply to an event, and what it changes in the run that it was prepared for.
+#[derive(Drop)]
+pub struct Prepared {
+    pub reply: RunReply,
+    pub(crate) change: Change,
+}
+
+/// The number of the run that a change leaves.
+pub(crate) fn next_number(change: &Change, number: u32) -> u32
+    requires { next_number change.now number < 2 ^ 32 }
+    ensures { result ≡ next_number change.now number }
+{
+    match change {
+        Change::Start(_) => number + 1,
+        _ => number,
+    }
+}
+
+/// A check that begins: its windows and its tiles. A phase that is not cut is left.
+fn check(phase: Phase, windows: Windows, tiles: Tiles) -> Phase
+    ensures { result ≡ next_phase (change.Check windows tiles) phase }
+{
+    match phase {
+        Phase::Cutting(planned) => Phase::Checking(Checks {
+            planned,
+            windows,
+            tiles,
+        }),
+        other => other,
+    }
+}
+
+/// The check of which a tile was handed out. A phase that is not checked is left.
+fn take(phase: Phase, tile: u32) -> Phase
+    ensures { result ≡ next_phase (change.Take tile) phase }
+{
+    match phase {
+        Phase::Checking(c) => {
+            let mut c = c;
+            if (tile as usize) < c.tiles.as_slice().len() {
+                c.tiles.raise(tile);
+            }
+            Phase::Checking(c)
+        }
+        other => other,
+    }
+}
+
+/// The check of which a tile is answered. A phase that is not checked is left.
+fn keep(phase: Phase, tile: u32, markers: TileMarkers) -> Phase
+    ensures { result ≡ next_phase (change.Keep tile markers) phase }
+{
+    match phase {
+        Phase::Checking(c) => {
+            let mut c = c;
+            if (tile as usize) < c.tiles.as_slice().len() {
+                c.tiles.keep(tile, markers);
+            }
+            Phase::Checking(c)
+        }
+        other => other,
+    }
+}
+
+/// The run with its book. A phase that is not checked is left.
+fn finish(phase: Phase, book: Book) -> Phase
+    ensures { result ≡ next_phase (change.Finish book) phase }
+{
+    match phase {
+        Phase::Checking(c) => Phase::Finished(Checked {
+            planned: c.planned,
+            book,
+        }),
+        other => other,
+    }
+}
+
+/// The phase that a change leaves.
+pub(crate) fn next_phase(change: Change, phase: Phase) -> Phase
+    ensures { result ≡ next_phase change phase }
+{
+    match change {
+        Change::Nothing => phase,
+        Change::Start(planned) => Phase::Cutting(planned),
+        Change::Check(windows, tiles) => check(phase, windows, tiles),
+        Change::Take(tile) => take(phase, tile),
+        Change::Keep(tile, markers) => keep(phase, tile, markers),
+        Change::Finish(book) => finish(phase, book),
+    }
+}

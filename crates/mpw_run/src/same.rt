@@ -1,0 +1,26 @@
+//! Whether snapshots, and tasks, are equal by value: the definitions' tests.
+
+ghost use Rattle.std.specs.Prelude.{◌≡◌};
+ghost use Rattle.mpw_run.specs.Same.{same_snapshot, same_task};
+
+use crate::laws::tests_are_exact;
+use mpw_job::TileJob;
+use mpw_tiles::Snapshot;
+
+/// Whether the snapshots have equal decks, roots and submissions. It stops at the first difference,
+/// and takes no memory.
+pub(crate) fn is_same_snapshot(a: &Snapshot, b: &Snapshot) -> bool
+    ensures { result ≡ same_snapshot a.now b.now }
+{
+    tests_are_exact();
+    a.is_same(b)
+}
+
+/// Whether the tasks have equal numbers, cores, windows and rules. It stops at the first difference,
+/// and takes no memory.
+pub(crate) fn is_same_task(a: &TileJob, b: &TileJob) -> bool
+    ensures { result ≡ same_task a.now b.now }
+{
+    tests_are_exact();
+    a.is_same(b)
+}
