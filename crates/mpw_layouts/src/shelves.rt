@@ -46,6 +46,9 @@ fn put(
 }
 
 /// Submits the top of a library in the samples' notation as a cell.
+///
+/// # Errors
+/// Where the notation, the library or a name is refused, or there is no memory.
 pub fn submit(
     alloc: Global,
     shelf: &mut Shelf,
@@ -53,7 +56,21 @@ pub fn submit(
     top: &str,
     notation: &str,
 ) -> Result<()> {
-    let library = read_library(alloc, &text_of_library(alloc, notation)?)?;
+    submit_text(alloc, shelf, cell, top, &text_of_library(alloc, notation)?)
+}
+
+/// Submits the top of a library as a cell.
+///
+/// # Errors
+/// Where the library or a name is refused, or there is no memory.
+pub fn submit_text(
+    alloc: Global,
+    shelf: &mut Shelf,
+    cell: &str,
+    top: &str,
+    text: &[u8],
+) -> Result<()> {
+    let library = read_library(alloc, text)?;
     let cell = Name::read(alloc, cell.as_bytes())?;
     let top = Name::read(alloc, top.as_bytes())?;
     put(alloc, shelf, cell, top, library)?;
@@ -95,7 +112,7 @@ fn root(words: &[&str]) -> Result<Root> {
 }
 
 /// Roots with commas between them.
-pub fn roots(alloc: Global, text: &str) -> Result<Vec<Root>> {
+pub fn placed_roots(alloc: Global, text: &str) -> Result<Vec<Root>> {
     let mut roots = Vec::new(alloc);
     for part in text.split(',') {
         let words: Vec<&str> = part.split_whitespace().collect(alloc)?;

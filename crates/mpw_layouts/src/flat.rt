@@ -3,7 +3,7 @@
 
 use anyhow::{Context, Result, bail};
 use mpw_elements::{Boundary, Element, Path, Reference};
-use mpw_geom::{Name, Orient, Placing, Point};
+use mpw_geom::{Layer, Name, Orient, Placing, Point};
 use mpw_hier::{Shelf, Submission};
 use mpw_library::Structure;
 use mpw_walk::Root;
@@ -11,6 +11,9 @@ use std::alloc::Global;
 
 /// More levels than a random layout has.
 const LEVELS: u32 = 8;
+
+/// No coordinate of a random shape is farther from its origin, with half a wire's width.
+const REACH: i64 = 90;
 
 /// A unit square, by its lower left corner.
 #[derive(Clone, Copy, PartialEq, Eq)]
@@ -186,6 +189,10 @@ fn flatten<'a>(
     Ok(())
 }
 
+/// The shapes of placed submissions, each with its placings.
+///
+/// # Errors
+/// Where a submission or a bound name is not there, where there are more levels than a random layout has, or no memory.
 pub fn flat_list<'a>(alloc: Global, shelf: &'a Shelf, roots: &[Root]) -> Result<Vec<Shown<'a>>> {
     let mut list = Vec::new(alloc);
     for root in roots {
@@ -263,4 +270,30 @@ pub fn has(element: &Element, cell: Cell) -> bool {
         Element::Path(path) => path_has(path, cell),
         Element::Reference(_) => false,
     }
+}
+
+/// The layer of a shape; none of a reference.
+pub fn layer(element: &Element) -> Option<Layer> {
+    match element {
+        Element::Boundary(boundary) => Some(boundary.layer),
+        Element::Path(path) => Some(path.layer),
+        Element::Reference(_) => None,
+    }
+}
+
+/// The squares of a random layout's shape where they come.
+///
+/// # Errors
+/// Where there is no memory.
+pub fn squares_of(alloc: Global, shown: &Shown<'_>) -> Result<Vec<Cell>> {
+    let mut squares = Vec::new(alloc);
+    for x in -REACH..REACH {
+        for y in -REACH..REACH {
+            let cell = Cell { x, y };
+            if has(shown.element, cell) {
+                squares.push(shown.placed(cell))?;
+            }
+        }
+    }
+    Ok(squares)
 }
