@@ -5,7 +5,7 @@ use anyhow::{Result, bail};
 use mpw_deck::{Deck, Rule, read_deck};
 use mpw_edges::Axis;
 use mpw_hier::Shelf;
-use mpw_layouts::{Picture, PlainMarker, Random, flat_list, layout, plain_markers, roots};
+use mpw_plain::{Picture, PlainMarker, Random, flat_list, layout, plain_markers, roots};
 use mpw_markers::Marker;
 use mpw_tiles::{Snapshot, are_roots};
 use mpw_walk::Root;

@@ -5,7 +5,7 @@ use anyhow::{Result, bail};
 use mpw_deck::Deck;
 use mpw_geom::{Box2, Layer};
 use mpw_hier::Shelf;
-use mpw_layouts::placed_roots;
+use mpw_plain::placed_roots;
 use mpw_tiles::{Rectangle, Snapshot, Window, Windows, are_roots, cut};
 use mpw_walk::Root;
 use std::alloc::Global;

@@ -29,7 +29,7 @@ fn answer_shelf(
 ) -> Result<()> {
     match words {
         ["new"] => *shelf = Shelf::new(rt.alloc()),
-        ["submit", cell, top] => mpw_layouts::submit(rt.alloc(), shelf, cell, top, rest)?,
+        ["submit", cell, top] => mpw_plain::submit(rt.alloc(), shelf, cell, top, rest)?,
         ["cut", side, distance] => cuts::print_cut(rt, shelf, side, distance, rest)?,
         _ => bail!("a command"),
     }

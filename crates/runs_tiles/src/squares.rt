@@ -5,7 +5,7 @@ use crate::plans::deck;
 use anyhow::{Context, Result, bail};
 use mpw_geom::{Box2, Layer};
 use mpw_hier::Shelf;
-use mpw_layouts::{Cell, Random, Shown, flat_list, layer, layout, roots, squares_of};
+use mpw_plain::{Cell, Random, Shown, flat_list, layer, layout, roots, squares_of};
 use mpw_tiles::{Plan, Rectangle, Snapshot, Window, cut};
 use mpw_walk::Root;
 use std::alloc::Global;

@@ -4,7 +4,7 @@ use crate::near::{all_near, is_near, is_ordered};
 use crate::plans::deck;
 use anyhow::{Result, bail};
 use mpw_geom::{Box2, Layer};
-use mpw_layouts::Random;
+use mpw_plain::Random;
 use mpw_tiles::{Plan, Rectangle, Window, windows_of};
 use std::alloc::Global;
 
