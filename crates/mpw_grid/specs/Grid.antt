@@ -81,7 +81,8 @@ pub record IsInBlock (block : Block) (column row : ℕ) : Type 0 where
   pub bottom : block.row0 ≤ row
   pub top : row < block.row1
 
--- Both corners lie from -n to n.
+-- The box reaches no further left and down than -n, and no further right and up than n. Of an ordered box so both corners lie from -n
+-- to n.
 pub record IsBoxWithin (n : ℕ) (b : Box2) : Type 0 where
   pub left : neg_ℤ (pos n) ≤ℤ b.x0
   pub right : b.x1 ≤ℤ pos n

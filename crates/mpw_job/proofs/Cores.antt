@@ -26,11 +26,13 @@ use Rattle.mpw_markers.specs.Markers as marks
 use Rattle.mpw_markers.specs.Whole.{IsMet, IsMaximal, IsMarkerOf, AreMarkersOf}
 use Rattle.mpw_markers.specs.Laws.{steps_in}
 use Rattle.mpw_edges.specs.Computed.{TestDecidesPairSteps}
-use Rattle.mpw_job.specs.Layers.{first_squares, second_squares, steps_of, is_in_core}
+use Rattle.mpw_job.specs.Layers.{first_squares, second_squares, steps_of}
+use Rattle.mpw_job.specs.Cores.{is_in_core}
 use Rattle.mpw_job.specs.Answers.{HasListed, listed_on, IsFoundIn, run_of, Answers}
+use Rattle.mpw_job.specs.Found.{run_at}
 use Rattle.mpw_job.specs.Layout.{shown_on}
 use Rattle.mpw_job.specs.Laws.{task_of, CoresLieInPlane}
-use Rattle.mpw_job.proofs.Tests.{same_first, same_second, get_contains, run_at, maximal_from, run_from, rule_of}
+use Rattle.mpw_job.proofs.Tests.{same_first, same_second, get_contains, maximal_from, run_from, rule_of}
 use Rattle.mpw_job.proofs.Shapes.{tests_tell, tests_tell_listed, shown_by, by_from, by_as}
 
 -- ---- plans

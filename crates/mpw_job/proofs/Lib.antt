@@ -4,6 +4,9 @@ pub mod Cores
 pub mod Made
 pub mod Same
 pub mod Areas
+pub mod ByLayer
 pub mod Meeting
 pub mod Adding
 pub mod Edges
+pub mod Unique
+pub mod Worked

@@ -21,7 +21,8 @@ use Rattle.mpw_markers.specs.declared.marker.Line.{Line}
 use Rattle.mpw_markers.specs.declared.marker.Marker.{Marker}
 use Rattle.mpw_markers.specs.Whole.{AreMarkersOf}
 use Rattle.mpw_markers.specs.Laws.{AreListedByCores, StitchedIsWhole}
-use Rattle.mpw_job.specs.Layers.{Coverage, first_squares, second_squares, steps_of, square_on, is_in_core}
+use Rattle.mpw_job.specs.Layers.{Coverage, first_squares, second_squares, steps_of}
+use Rattle.mpw_job.specs.Cores.{square_on, is_in_core}
 use Rattle.mpw_job.specs.Layout.{HasShown, shown_on}
 use Rattle.mpw_job.specs.Laws.{AnswerTiles, AnswersMakeTheLayout}
 use Rattle.mpw_job.proofs.Tests.{step_on, step_test, rule_of}

@@ -1,120 +1,161 @@
--- The origins that a box meets.
-use Rattle.std.proofs.Common.{◌≡◌, ℕ, ◌<◌, ◌≤◌, ◌+◌, true, List, [], ◌∷◌, ◌++◌, length, get_or, take, ◌⊎◌, inl, inr, refl, sym, subst, ap, ◌∙◌, arith}
-use Rattle.std.specs.Prelude.{pos, ◌-ℤ◌, IsTrue, Contains, ◌↔◌}
-use Rattle.std.specs.Int.{int_min}
-use Rattle.std.proofs.lemmas.Int.{ints, clamps}
-use Rattle.std.proofs.lemmas.List.{take_more, take_all}
-use Rattle.std.proofs.lemmas.List.Elements.{Contains-append_left, Contains-append_right, Contains-push_cases}
+-- What the markers of keys meet.
+use Rattle.std.proofs.Common.{◌≡◌, ℕ, ◌<◌, ◌≤◌, ◌+◌, Bool, true, false, List, [], ◌∷◌, ◌++◌, length, get_or, take, map, ◌⊎◌, inl, inr, refl, sym, subst, ap, ◌∙◌, arith}
+use Rattle.std.specs.Prelude.{Contains, All, MatchBool, ◌↔◌}
+use Rattle.std.proofs.lemmas.Bool.{false≢true}
+use Rattle.std.proofs.lemmas.Int.{ints}
+use Rattle.std.proofs.lemmas.List.{take_more, take_all, length-map, get_or-map, map_push}
+use Rattle.std.proofs.lemmas.List.Elements.{All-nil, All-push, Contains-append_left, Contains-append_right, Contains-push_cases}
 use Rattle.mpw_geom.specs.declared.plane.Box2.{Box2}
-use Rattle.mpw_geom.specs.declared.plane.Point.{Point}
-use Rattle.mpw_geom.specs.Plane.{HasArea, Square, has_square, has_point, closed_square}
-use Rattle.mpw_geom.proofs.Tests.{PointIn-from_test, test_from_PointIn, SquareIn-from_test, test_from_SquareIn}
+use Rattle.mpw_geom.specs.Plane.{HasArea, Square, has_square}
+use Rattle.mpw_geom.proofs.Tests.{SquareIn-from_test}
 use Rattle.mpw_tiles.specs.declared.listing.Rectangle.{Rectangle}
+use Rattle.mpw_origins.specs.declared.search.Rectangle.{Rectangle as Located}
+use Rattle.mpw_origins.specs.Origins.{HasSquareOf, AreMetOrigins}
+use Rattle.mpw_markers.specs.declared.marker.Key.{Key}
+use Rattle.mpw_markers.specs.declared.marker.Marker.{Marker}
+use Rattle.mpw_markers.specs.Markers.{key_of}
+use Rattle.mpw_markers.specs.Met.{IsAscending}
 use Rattle.mpw_markers.specs.Whole.{IsMet}
-use Rattle.mpw_job.specs.Answers.{HasListed}
-use Rattle.mpw_job.specs.Found.{AreaMeets}
+use Rattle.mpw_job.specs.Answers.{HasListed, TellsMet}
+use Rattle.mpw_job.specs.Found.{key_box, met_of, TellMet, AreMarkersOfKeys}
 
--- ---- areas
+-- ---- rectangles with squares
 
-abbrev SharePoint : Box2 → Box2 → Type 0
-SharePoint a b = (p : Point) × IsTrue (has_point a p) × IsTrue (has_point b p)
+abbrev pub located : Rectangle → Located
+located r = record { area = r.area; origin = r.origin }
 
--- a unit square of the area with the point on its border or within
-square_at : (area : Box2) (p : Point) → Square
-square_at area p = record { column = int_min p.x (area.x1 -ℤ pos 1); row = int_min p.y (area.y1 -ℤ pos 1) }
+-- the rectangles have the squares of those listed, each of them some
+pub record AreThose (listed : List Rectangle) (found : List Located) : Type 0 where
+  pub areas : All (λ (r : Located). HasArea r.area) found
+  pub squares : (origin : ℕ) (s : Square) → HasSquareOf found origin s ↔ HasListed listed origin s
 
-pub meets_from : (area b : Box2) → HasArea area → SharePoint area b → AreaMeets area b
-unfolding square_at closed_square
-meets_from area b h m =
-    let p = m.0 in
-    let i = PointIn-from_test area p m.1 in
-    let w = h.width in
-    let t = h.height in
-    let i0 = i.left in
-    let i1 = i.right in
-    let i2 = i.bottom in
-    let i3 = i.top in (
-      square_at area p,
-      test_from_SquareIn area (square_at area p) (record { left = omega (arith, ints, clamps); right = omega (arith, ints, clamps); bottom = omega (arith, ints, clamps); top = omega (arith, ints, clamps) }),
-      (p, test_from_PointIn (closed_square (square_at area p)) p (record { left = omega (arith, ints, clamps); right = omega (arith, ints, clamps); bottom = omega (arith, ints, clamps); top = omega (arith, ints, clamps) }), m.2),
-    )
+-- what the test of an area answers
+pub yes_area : (answer : Bool) (b : Box2) → answer ≡ true → MatchBool answer (HasArea b) (HasArea b → ⊥) → HasArea b
+yes_area true b e h = h
+yes_area false b e h = absurd (false≢true e)
 
-pub share_from : (area b : Box2) → AreaMeets area b → SharePoint area b
-unfolding closed_square
-share_from area b m =
-    let s = m.0 in
-    let p = m.2.0 in
-    let i = SquareIn-from_test area s m.1 in
-    let k = PointIn-from_test (closed_square s) p m.2.1 in
-    let i0 = i.left in
-    let i1 = i.right in
-    let i2 = i.bottom in
-    let i3 = i.top in
-    let k0 = k.left in
-    let k1 = k.right in
-    let k2 = k.bottom in
-    let k3 = k.top in
-    (p, test_from_PointIn area p (record { left = omega (arith, ints); right = omega (arith, ints); bottom = omega (arith, ints); top = omega (arith, ints) }), m.2.2)
+pub no_area : (answer : Bool) (b : Box2) → answer ≡ false → MatchBool answer (HasArea b) (HasArea b → ⊥) → HasArea b → ⊥
+no_area true b e h = absurd (false≢true (sym e))
+no_area false b e h = h
 
-pub area_from : (area b : Box2) → AreaMeets area b → HasArea area
-area_from area b m =
-    let i = SquareIn-from_test area m.0 m.1 in
+area_from : (area : Box2) (s : Square) → has_square area s ≡ true → HasArea area
+area_from area s e =
+    let i = SquareIn-from_test area s e in
     let i0 = i.left in
     let i1 = i.right in
     let i2 = i.bottom in
     let i3 = i.top in
     record { width = omega (arith, ints); height = omega (arith, ints) }
 
--- ---- lists
-
--- the numbers are those of the first n rectangles that meet the box
-abbrev pub AreNumbers : List Rectangle → Box2 → ℕ → List ℕ → Type 0
-AreNumbers listed b n numbers = (origin : ℕ) → Contains numbers origin ↔ IsMet (HasListed (take n listed)) b origin
-
-was_there : (xs : List Rectangle) (n : ℕ) (d x : Rectangle) → n < length xs → Contains (take n xs) x → Contains (take (n + 1) xs) x
-was_there xs n d x lt c = subst (λ (ys : List Rectangle). Contains ys x) (sym (take_more xs n d lt)) (Contains-append_left (take n xs) (get_or xs n d ∷ []) x c)
+was_there : (xs : List Rectangle) (n : ℕ) (d : Rectangle) (origin : ℕ) (s : Square) → n < length xs
+    → HasListed (take n xs) origin s → HasListed (take (n + 1) xs) origin s
+was_there xs n d origin s lt h =
+    (h.0, subst (λ (ys : List Rectangle). Contains ys h.0) (sym (take_more xs n d lt)) (Contains-append_left (take n xs) (get_or xs n d ∷ []) h.0 h.1), h.2, h.3)
 
 is_there : (xs : List Rectangle) (n : ℕ) (d : Rectangle) → n < length xs → Contains (take (n + 1) xs) (get_or xs n d)
-is_there xs n d lt = subst (λ (ys : List Rectangle). Contains ys (get_or xs n d)) (sym (take_more xs n d lt)) (Contains-append_right (take n xs) (get_or xs n d ∷ []) (get_or xs n d) (0, omega arith, refl))
+is_there xs n d lt =
+    subst (λ (ys : List Rectangle). Contains ys (get_or xs n d)) (sym (take_more xs n d lt))
+    (Contains-append_right (take n xs) (get_or xs n d ∷ []) (get_or xs n d) (0, omega arith, refl))
 
 there : (xs : List Rectangle) (n : ℕ) (d x : Rectangle) → n < length xs → Contains (take (n + 1) xs) x → Contains (take n xs) x ⊎ (get_or xs n d ≡ x)
 there xs n d x lt c = Contains-push_cases (take n xs) (get_or xs n d) x (subst (λ (ys : List Rectangle). Contains ys x) (take_more xs n d lt) c)
 
-still_met : (xs : List Rectangle) (n : ℕ) (d : Rectangle) (b : Box2) (origin : ℕ) → n < length xs → IsMet (HasListed (take n xs)) b origin → IsMet (HasListed (take (n + 1) xs)) b origin
-still_met xs n d b origin lt k = (k.0, (k.1.0, was_there xs n d k.1.0 lt k.1.1, k.1.2, k.1.3), k.2)
+pub none_yet : (listed : List Rectangle) → AreThose (take 0 listed) []
+none_yet listed = record {
+  areas = All-nil (λ (r : Located). HasArea r.area);
+  squares = λ origin s. (λ h. absurd (omega (arith, h.1.1)), λ h. absurd (omega (arith, h.1.1)));
+}
 
-pub none_met : (listed : List Rectangle) (b : Box2) → AreNumbers listed b 0 []
-none_met listed b origin = (λ c. absurd (omega (arith, c.1)), λ k. absurd (omega (arith, k.1.1.1)))
-
-pub one_met : (listed : List Rectangle) (b : Box2) (n : ℕ) (d : Rectangle) (numbers : List ℕ) → n < length listed → AreNumbers listed b n numbers → AreaMeets (get_or listed n d).area b → AreNumbers listed b (n + 1) (numbers ++ (get_or listed n d).origin ∷ [])
-one_met listed b n d numbers lt h m origin = (to, from)
+pub one_more : (listed : List Rectangle) (n : ℕ) (d : Rectangle) (found : List Located) → n < length listed → AreThose (take n listed) found
+    → HasArea (get_or listed n d).area → AreThose (take (n + 1) listed) (found ++ located (get_or listed n d) ∷ [])
+one_more listed n d found lt h area = record {
+  areas = All-push (λ (r : Located). HasArea r.area) found (located (get_or listed n d)) h.areas area;
+  squares = λ origin s. (to origin s, from origin s);
+}
   where
-    to : Contains (numbers ++ (get_or listed n d).origin ∷ []) origin → IsMet (HasListed (take (n + 1) listed)) b origin
-    to c = elim (Contains-push_cases numbers (get_or listed n d).origin origin c) [
-      | inl k ↦ still_met listed n d b origin lt ((h origin).0 k)
-      | inr e ↦ (m.0, (get_or listed n d, is_there listed n d lt, e, m.1), m.2)
+    to : (origin : ℕ) (s : Square) → HasSquareOf (found ++ located (get_or listed n d) ∷ []) origin s → HasListed (take (n + 1) listed) origin s
+    to origin s k = elim (Contains-push_cases found (located (get_or listed n d)) k.0 k.1) [
+      | inl c ↦ was_there listed n d origin s lt ((h.squares origin s).0 (k.0, c, k.2, k.3))
+      | inr e ↦ (
+        get_or listed n d,
+        is_there listed n d lt,
+        ap (λ (r : Located). r.origin) e ∙ k.2,
+        ap (λ (r : Located). has_square r.area s) e ∙ k.3,
+      )
     ]
 
-    from : IsMet (HasListed (take (n + 1) listed)) b origin → Contains (numbers ++ (get_or listed n d).origin ∷ []) origin
-    from k = elim (there listed n d k.1.0 lt k.1.1) [
-      | inl c ↦ Contains-append_left numbers ((get_or listed n d).origin ∷ []) origin ((h origin).1 (k.0, (k.1.0, c, k.1.2, k.1.3), k.2))
-      | inr e ↦ Contains-append_right numbers ((get_or listed n d).origin ∷ []) origin (0, omega arith, ap (λ (r : Rectangle). r.origin) e ∙ k.1.2)
+    from : (origin : ℕ) (s : Square) → HasListed (take (n + 1) listed) origin s → HasSquareOf (found ++ located (get_or listed n d) ∷ []) origin s
+    from origin s k = elim (there listed n d k.0 lt k.1) [
+      | inl c ↦ let m = (h.squares origin s).1 (k.0, c, k.2, k.3) in (m.0, Contains-append_left found (located (get_or listed n d) ∷ []) m.0 m.1, m.2, m.3)
+      | inr e ↦ (
+        located (get_or listed n d),
+        Contains-append_right found (located (get_or listed n d) ∷ []) (located (get_or listed n d)) (0, omega arith, refl),
+        ap (λ (r : Rectangle). r.origin) e ∙ k.2,
+        ap (λ (r : Rectangle). has_square r.area s) e ∙ k.3,
+      )
     ]
 
-pub none_more : (listed : List Rectangle) (b : Box2) (n : ℕ) (d : Rectangle) (numbers : List ℕ) → n < length listed → AreNumbers listed b n numbers → (AreaMeets (get_or listed n d).area b → ⊥) → AreNumbers listed b (n + 1) numbers
-none_more listed b n d numbers lt h never origin = (λ c. still_met listed n d b origin lt ((h origin).0 c), from)
+pub passed_over : (listed : List Rectangle) (n : ℕ) (d : Rectangle) (found : List Located) → n < length listed → AreThose (take n listed) found
+    → (HasArea (get_or listed n d).area → ⊥) → AreThose (take (n + 1) listed) found
+passed_over listed n d found lt h never = record {
+  areas = h.areas;
+  squares = λ origin s. (λ k. was_there listed n d origin s lt ((h.squares origin s).0 k), from origin s);
+}
   where
-    from : IsMet (HasListed (take (n + 1) listed)) b origin → Contains numbers origin
-    from k = elim (there listed n d k.1.0 lt k.1.1) [
-      | inl c ↦ (h origin).1 (k.0, (k.1.0, c, k.1.2, k.1.3), k.2)
-      | inr e ↦ absurd (never (k.0, subst (λ (r : Rectangle). has_square r.area k.0 ≡ true) (sym e) k.1.3, k.2))
+    from : (origin : ℕ) (s : Square) → HasListed (take (n + 1) listed) origin s → HasSquareOf found origin s
+    from origin s k = elim (there listed n d k.0 lt k.1) [
+      | inl c ↦ (h.squares origin s).1 (k.0, c, k.2, k.3)
+      | inr e ↦ absurd (never (area_from (get_or listed n d).area s (ap (λ (r : Rectangle). has_square r.area s) e ∙ k.3)))
     ]
 
-pub all_met : (listed : List Rectangle) (b : Box2) (n : ℕ) (numbers : List ℕ) → length listed ≤ n → AreNumbers listed b n numbers → (origin : ℕ) → Contains numbers origin ↔ IsMet (HasListed listed) b origin
-all_met listed b n numbers le h = subst (λ (xs : List Rectangle). (origin : ℕ) → Contains numbers origin ↔ IsMet (HasListed xs) b origin) (take_all n listed le) h
+pub all_of : (listed : List Rectangle) (n : ℕ) (found : List Located) → length listed ≤ n → AreThose (take n listed) found → AreThose listed found
+all_of listed n found le h = subst (λ (xs : List Rectangle). AreThose xs found) (take_all n listed le) h
 
-pub met_is : (listed : List Rectangle) (b : Box2) (met sorted found : List ℕ) → met ≡ sorted → ((n : ℕ) → Contains sorted n ↔ Contains found n) → ((origin : ℕ) → Contains found origin ↔ IsMet (HasListed listed) b origin) → (origin : ℕ) → Contains met origin ↔ IsMet (HasListed listed) b origin
-met_is listed b met sorted found e same h origin = (
-  λ k. (h origin).0 ((same origin).0 (subst (λ (ns : List ℕ). Contains ns origin) e k)),
-  λ k. subst (λ (ns : List ℕ). Contains ns origin) (sym e) ((same origin).1 ((h origin).1 k)),
-)
+-- ---- the origins that are met
+
+met_alike : (listed : List Rectangle) (found : List Located) (b : Box2) (origin : ℕ) → AreThose listed found
+    → IsMet (HasSquareOf found) b origin ↔ IsMet (HasListed listed) b origin
+met_alike listed found b origin h = (λ m. (m.0, (h.squares origin m.0).0 m.1, m.2), λ m. (m.0, (h.squares origin m.0).1 m.1, m.2))
+
+pub tell_met : (listed : List Rectangle) (found : List Located) (keys : List Key) (boxes : List Box2) (mets : List (List ℕ)) → AreThose listed found
+    → boxes ≡ map key_box keys → AreMetOrigins found boxes mets → TellMet listed keys mets
+tell_met listed found keys boxes mets h e a = record {
+  count = a.count ∙ ap (λ (bs : List Box2). length bs) e ∙ length-map keys key_box;
+  ascending = a.ascending;
+  met = met;
+}
+  where
+    met : (k origin : ℕ) (d : Key) → k < length keys → Contains (get_or mets k []) origin ↔ IsMet (HasListed listed) (key_box (get_or keys k d)) origin
+    met k origin d lt =
+        let same : length boxes ≡ length keys = ap (λ (bs : List Box2). length bs) e ∙ length-map keys key_box in
+        let box : get_or boxes k (key_box d) ≡ key_box (get_or keys k d) = ap (λ (bs : List Box2). get_or bs k (key_box d)) e ∙ get_or-map key_box keys k d (key_box d) lt in
+        let own = subst (λ (b : Box2). Contains (get_or mets k []) origin ↔ IsMet (HasSquareOf found) b origin) box (a.met k origin (key_box d) (omega arith)) in
+        let alike = met_alike listed found (key_box (get_or keys k d)) origin h in
+        (λ c. alike.0 (own.0 c), λ m. own.1 (alike.1 m))
+
+-- ---- the markers
+
+pub mapped_more : {X : Type 0} (f : Marker → X) (markers : List Marker) (xs : List X) (n : ℕ) (d : X) (m : Marker) → n < length xs
+    → map f markers ≡ take n xs → f m ≡ get_or xs n d → map f (markers ++ m ∷ []) ≡ take (n + 1) xs
+mapped_more {X} f markers xs n d m lt e g =
+    map_push f markers m ∙ ap (λ (ys : List X). ys ++ f m ∷ []) e ∙ ap (λ (y : X). take n xs ++ y ∷ []) g ∙ sym (take_more xs n d lt)
+
+pub mapped_all : {X : Type 0} (f : Marker → X) (markers : List Marker) (xs : List X) (n : ℕ) → length xs ≤ n → map f markers ≡ take n xs → map f markers ≡ xs
+mapped_all f markers xs n le e = e ∙ take_all n xs le
+
+pub are_markers : (listed : List Rectangle) (keys : List Key) (mets : List (List ℕ)) (markers : List Marker) → map key_of markers ≡ keys
+    → map met_of markers ≡ mets → TellMet listed keys mets → AreMarkersOfKeys listed keys markers
+are_markers listed keys mets markers e f t = record { keys_are = e; met = met }
+  where
+    met : All (TellsMet listed) markers
+    met k d lt =
+        let keyed : get_or keys k (key_of d) ≡ key_of (get_or markers k d) = ap (λ (ks : List Key). get_or ks k (key_of d)) (sym e) ∙ get_or-map key_of markers k d (key_of d) lt in
+        let told : get_or mets k [] ≡ met_of (get_or markers k d) = ap (λ (ms : List (List ℕ)). get_or ms k []) (sym f) ∙ get_or-map met_of markers k d [] lt in
+        let many : length keys ≡ length markers = ap (λ (ks : List Key). length ks) (sym e) ∙ length-map markers key_of in
+        let count = t.count in
+        record {
+          ascending = subst IsAscending told (t.ascending k [] (omega arith));
+          exact = λ origin.
+              subst (λ (key : Key). Contains (met_of (get_or markers k d)) origin ↔ IsMet (HasListed listed) (key_box key) origin) keyed
+              (subst (λ (ns : List ℕ). Contains ns origin ↔ IsMet (HasListed listed) (key_box (get_or keys k (key_of d))) origin) told (t.met k origin (key_of d) (omega arith)));
+        }

@@ -26,8 +26,10 @@ use Rattle.mpw_markers.specs.declared.marker.Key.{Key}
 use Rattle.mpw_markers.specs.Markers.{line_of_key}
 use Rattle.mpw_markers.specs.Whole.{IsMaximal}
 use Rattle.mpw_markers.specs.Laws.{steps_in}
-use Rattle.mpw_job.specs.Layers.{same_layer, Coverage, first_squares, second_squares, has_step_on, has_step_of, steps_of, square_on, is_in_core}
+use Rattle.mpw_job.specs.Layers.{same_layer, Coverage, first_squares, second_squares, has_step_on, has_step_of, steps_of}
+use Rattle.mpw_job.specs.Cores.{square_on, is_in_core}
 use Rattle.mpw_job.specs.Answers.{IsFoundIn}
+use Rattle.mpw_job.specs.Found.{run_at}
 
 pub or_parts : (a b : Bool) → (a || b) ≡ true → (a ≡ true) ⊎ (b ≡ true)
 or_parts true b e = inl refl
@@ -105,10 +107,6 @@ step_from law rule a b core H side x1 x2 j e =
     let p = and_parts (has_step_on rule a b H side x1 x2 j) (has_square core (square_on H x1 j)) e in
     let i = SquareIn-from_test core (square_on H x1 j) p.1 in
     ((law rule.check rule.distance (exchanged a) (exchanged b) side x1 x2 j).0 p.0, (i.bottom, i.top, i.left, i.right))
-
--- the run of a key
-abbrev pub run_at : Key → Piece
-run_at k = record { axis = k.axis; side = k.side; x1 = k.x1; x2 = k.x2; y0 = k.y0; y1 = k.y1 }
 
 abbrev HasRow : Rule → Coverage → Box2 → Key → ℤ → Type 0
 HasRow rule on core k j = HasStep rule (first_squares rule.check on) (second_squares rule.check on) core k.axis k.side k.x1 k.x2 j

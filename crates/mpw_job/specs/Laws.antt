@@ -40,6 +40,11 @@ AnswersMakeTheLayout =
     → IsSnapshot s → plan_for s ≡ Some plan → StandFor s windows → AnswerTiles s plan windows run lists → IsStitched lists book
     → AreLayoutMarkers s book
 
+-- A layout has one list of markers: two lists that are the layout's are equal, in their order too.
+abbrev pub LayoutDeterminesMarkers : Type 0
+LayoutDeterminesMarkers =
+    (s : Snapshot) (first second : List Marker) → AreLayoutMarkers s first → AreLayoutMarkers s second → first ≡ second
+
 -- A marker of the layout meets at least one submission.
 abbrev pub EachMarkerMeetsSome : Type 0
 EachMarkerMeetsSome =

@@ -1,8 +1,7 @@
 -- The squares of layers that a rule looks at, and its pair steps row by row.
-use Rattle.std.specs.Prelude.{ℕ, ℤ, Bool, false, ◌&&◌, ◌==◌, List, Option, Some, None, slice_get}
-use Rattle.mpw_geom.specs.declared.plane.Box2.{Box2}
+use Rattle.std.specs.Prelude.{ℕ, ℤ, ◌+◌, ◌*◌, Bool, false, ◌&&◌, ◌==◌, List, Option, Some, None, slice_get}
+use Rattle.std.specs.List.Sorted.{IsNonDecreasingBy}
 use Rattle.mpw_geom.specs.declared.plane.Layer.{Layer}
-use Rattle.mpw_geom.specs.Plane.{Square, has_square}
 use Rattle.mpw_deck.specs.declared.rule.Check.{Check}
 use Rattle.mpw_deck.specs.declared.rule.Check.TheVariants.{Width, Space, Separation, Enclosing}
 use Rattle.mpw_deck.specs.declared.rule.Rule.{Rule}
@@ -10,11 +9,20 @@ use Rattle.mpw_edges.specs.declared.run.Axis.{Axis}
 use Rattle.mpw_edges.specs.declared.run.Axis.TheVariants.{V, H}
 use Rattle.mpw_edges.specs.Edges.{Squares, exchanged}
 use Rattle.mpw_edges.specs.Computed.{has_pair_step}
+use Rattle.mpw_tiles.specs.declared.listing.Rectangle.{Rectangle}
 use Rattle.mpw_markers.specs.declared.marker.Line.{Line}
 
 -- The layers are one.
 abbrev pub same_layer : Layer → Layer → Bool
 same_layer a b = (a.layer == b.layer) && (a.datatype == b.datatype)
+
+-- A layer's place among all layers: by its number, and then by its datatype.
+unfoldable pub layer_code : Layer → ℕ
+layer_code l = l.layer * 65536 + l.datatype
+
+-- The rectangles stand by layer.
+abbrev pub IsByLayer : List Rectangle → Type 0
+IsByLayer rectangles = IsNonDecreasingBy (λ (r : Rectangle). layer_code r.layer) rectangles
 
 -- Which unit squares each layer has.
 abbrev pub Coverage : Type 0
@@ -49,12 +57,3 @@ has_step_of (Some rule) on line j = has_step_on rule (first_squares rule.check o
 -- The row has a pair step of the line's rule on the line.
 abbrev pub steps_of : List Rule → Coverage → Line → ℤ → Bool
 steps_of rules on line = has_step_of (slice_get rules line.rule) on line
-
--- The unit square at the lower left point of a row of a line.
-abbrev pub square_on : Axis → ℤ → ℤ → Square
-square_on V x1 j = record { column = x1; row = j }
-square_on H x1 j = record { column = j; row = x1 }
-
--- The row of the line lies in the half-open core.
-abbrev pub is_in_core : Box2 → Line → ℤ → Bool
-is_in_core core line j = has_square core (square_on line.axis line.x1 j)

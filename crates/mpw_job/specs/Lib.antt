@@ -1,4 +1,5 @@
 pub mod Layers
+pub mod Cores
 pub mod Answers
 pub mod Found
 pub mod Layout

@@ -8,8 +8,10 @@ use crate::find::found;
 use crate::job::{CutJob, Job, TileJob};
 use mpw_markers::TileMarkers;
 use mpw_tiles::{Windows, cut};
+use rayon::prelude::*;
 use std::alloc::{AllocError, Global};
 use std::marker::Model;
+use std::thread::Threads;
 
 /// The windows of a snapshot, with the job of cutting it: contracts see both. The windows stand for the snapshot.
 #[derive(Drop)]
@@ -145,8 +147,8 @@ fn tile_answer(alloc: Global, job: &TileJob) -> Result<TileAnswer, AllocError>
 
 /// Does the job. The answer carries it, and its type keeps that it is right.
 ///
-/// A cut costs what [`cut`] does. A tile costs for each rule two passes over the window and what [`mpw_checks::pieces`]
-/// takes for the rectangles of its layers, and for each run found a pass over the window.
+/// A cut costs what [`cut`] does. A tile costs a sort of the window, for each rule what [`mpw_checks::pieces`] takes for the
+/// rectangles of its layers, and what [`mpw_origins::met_origins`] takes for the window and all runs together.
 ///
 /// # Errors
 /// Where there is no memory.
@@ -159,16 +161,35 @@ pub fn do_job(alloc: Global, job: &Job) -> Result<Answer, AllocError>
     }
 }
 
-/// Does the jobs, one after another. The answers stand in the order of the jobs, and each carries its job.
+/// The answers of the jobs, in order, from as many threads as there are processors. An error is want of memory.
+fn worked(
+    rt: &(impl Threads + Sync),
+    alloc: Global,
+    jobs: &[Job],
+) -> Result<Result<Vec<Answer>, AllocError>, AllocError>
+    ensures { IfOk result (λ r. IfOk r (λ v. map job_of v.items ≡ jobs.now)) }
+{
+    jobs.par_iter()
+        .with_min_len(1)
+        .map(
+            |job: &Job| -> Result<Answer, AllocError>
+                ensures { IfOk result (λ a. job_of a ≡ job.now) }
+            { do_job(alloc, job) },
+        )
+        .collect(rt, alloc)
+}
+
+/// Does the jobs, in as many threads as there are processors, two lists of neighbours a thread. The answers stand in the
+/// order of the jobs, and each carries its job.
 ///
 /// # Errors
 /// Where there is no memory.
-pub fn work_all(alloc: Global, jobs: &[Job]) -> Result<Vec<Answer>, AllocError>
+pub fn work_all(
+    rt: &(impl Threads + Sync),
+    alloc: Global,
+    jobs: &[Job],
+) -> Result<Vec<Answer>, AllocError>
     ensures { IfOk result (λ v. map job_of v.items ≡ jobs.now) }
 {
-    let mut answers = Vec::new(alloc);
-    for job in jobs {
-        answers.push(do_job(alloc, job)?)?;
-    }
-    Ok(answers)
+    worked(rt, alloc, jobs)?
 }

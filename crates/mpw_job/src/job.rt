@@ -177,7 +177,7 @@ impl Job {
     }
 }
 
-/// What a worker passes before it works a job, as a test that holds it up, or counts.
+/// What a worker passes before it works a tile's job, as a test that holds it up, or counts.
 pub trait Gate {
     /// Passes, with the run's number and the tile's.
     fn pass(&self, run: u32, tile: u32);

@@ -1,6 +1,6 @@
 //! Laws of the definitions alone. The contract of each function is the law.
 
-ghost use Rattle.mpw_job.specs.Laws.{TestsTellShown, CoresLieInPlane, AnswersMakeTheLayout, EachMarkerMeetsSome, NoShapesNoMarkers};
+ghost use Rattle.mpw_job.specs.Laws.{TestsTellShown, CoresLieInPlane, AnswersMakeTheLayout, LayoutDeterminesMarkers, EachMarkerMeetsSome, NoShapesNoMarkers};
 
 use mpw_edges::test_decides_pair_steps;
 use mpw_markers::stitched_is_whole;
@@ -32,6 +32,11 @@ pub fn answers_make_the_layout()
     squares_lie_in_boxes();
     windows_show_layers();
 }
+
+/// A layout has one list of markers: two books of its markers are equal.
+pub fn layout_determines_markers()
+    ensures { LayoutDeterminesMarkers }
+{}
 
 /// A marker of a layout meets one submission at least.
 pub fn each_marker_meets_some()

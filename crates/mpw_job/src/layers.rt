@@ -1,8 +1,11 @@
 //! The rectangles of a window by layer.
+//!
+//! They are put in order once for all rules, and each rule takes those of its layers, which stand together.
 
-ghost use Rattle.std.specs.Prelude.{◌≡◌, ℤ, IfOk};
+ghost use Rattle.std.specs.Prelude.{◌≡◌, ◌≤◌, ◌<◌, ◌^◌, ℤ, All, IfOk, take, drop, length};
+ghost use Rattle.std.specs.List.Sorted.{IsPermutation};
 ghost use Rattle.mpw_region.specs.Squares.{covers};
-ghost use Rattle.mpw_job.specs.Layers.{same_layer, first_squares, second_squares};
+ghost use Rattle.mpw_job.specs.Layers.{same_layer, layer_code, IsByLayer, Coverage, first_squares, second_squares};
 ghost use Rattle.mpw_job.specs.Answers.{listed_on};
 
 use mpw_deck::Check;
@@ -17,12 +20,51 @@ fn same_layer(a: Layer, b: Layer) -> bool
     (a.layer == b.layer) & (a.datatype == b.datatype)
 }
 
+/// The layer's place among all layers.
+#[tactic(auto, unfolding(crate::specs::Layers::layer_code))]
+fn layer_code(layer: Layer) -> u64
+    ensures code { result ≡ layer_code layer }
+    ensures small { result < 2 ^ 32 }
+{
+    u64::from(layer.layer) * 65536 + u64::from(layer.datatype)
+}
+
+/// The rectangles by layer. A sort of them.
+pub(crate) fn by_layer(alloc: Global, window: &[Rectangle]) -> Result<Vec<Rectangle>, AllocError>
+    ensures ordered { IfOk result (λ v. IsByLayer v.items) }
+    ensures same { IfOk result (λ v. IsPermutation window.now v.items) }
+{
+    let mut rectangles = Vec::from_slice(alloc, window)?;
+    rectangles.sort_unstable_by_key(|r| layer_code(r.layer));
+    Ok(rectangles)
+}
+
+/// How many of the rectangles stand before that place. A binary search.
+fn count_before(rectangles: &[Rectangle], code: u64) -> usize
+    requires { IsByLayer rectangles.now }
+    ensures within { result ≤ length rectangles.now }
+    ensures before { All (λ r. layer_code r.layer < code) (take result rectangles.now) }
+    ensures behind { All (λ r. code ≤ layer_code r.layer) (drop result rectangles.now) }
+{
+    rectangles.partition_point(|r| layer_code(r.layer) < code)
+}
+
+/// Those of the rectangles that may be on the layer: two binary searches.
+fn on_layer(rectangles: &[Rectangle], layer: Layer) -> &[Rectangle]
+    requires { IsByLayer rectangles.now }
+    ensures { (i j : ℤ) → listed_on result.now layer i j ≡ listed_on rectangles.now layer i j }
+{
+    let code = layer_code(layer);
+    let behind = &rectangles[count_before(rectangles, code)..];
+    &behind[..count_before(behind, code + 1)]
+}
+
 /// The areas of the rectangles on the layer. One pass.
-fn areas_on(alloc: Global, window: &[Rectangle], layer: Layer) -> Result<Vec<Box2>, AllocError>
-    ensures { IfOk result (λ v. (i j : ℤ) → covers v.items i j ≡ listed_on window.now layer i j) }
+fn areas_of(alloc: Global, rectangles: &[Rectangle], layer: Layer) -> Result<Vec<Box2>, AllocError>
+    ensures { IfOk result (λ v. (i j : ℤ) → covers v.items i j ≡ listed_on rectangles.now layer i j) }
 {
     let mut areas = Vec::new(alloc);
-    for rectangle in window {
+    for rectangle in rectangles {
         if same_layer(rectangle.layer, layer) {
             areas.push(rectangle.area)?;
         }
@@ -30,35 +72,46 @@ fn areas_on(alloc: Global, window: &[Rectangle], layer: Layer) -> Result<Vec<Box
     Ok(areas)
 }
 
-/// The areas on the check's first layer.
+/// The areas on the layer, of rectangles by layer.
+fn areas_on(alloc: Global, rectangles: &[Rectangle], layer: Layer) -> Result<Vec<Box2>, AllocError>
+    requires { IsByLayer rectangles.now }
+    ensures { IfOk result (λ v. (i j : ℤ) → covers v.items i j ≡ listed_on rectangles.now layer i j) }
+{
+    let areas = areas_of(alloc, on_layer(rectangles, layer), layer)?;
+    Ok(areas)
+}
+
+/// The areas on the check's first layer, of rectangles by layer.
 pub(crate) fn first_areas(
     alloc: Global,
-    window: &[Rectangle],
+    rectangles: &[Rectangle],
     check: Check,
 ) -> Result<Vec<Box2>, AllocError>
-    ensures { IfOk result (λ v. (i j : ℤ) → covers v.items i j ≡ first_squares check (listed_on window.now) i j) }
+    requires { IsByLayer rectangles.now }
+    ensures { IfOk result (λ v. (i j : ℤ) → covers v.items i j ≡ first_squares check (listed_on rectangles.now) i j) }
 {
     match check {
-        Check::Width(layer) => areas_on(alloc, window, layer),
-        Check::Space(layer) => areas_on(alloc, window, layer),
-        Check::Separation(layer, _) => areas_on(alloc, window, layer),
-        Check::Enclosing(layer, _) => areas_on(alloc, window, layer),
+        Check::Width(layer) => areas_on(alloc, rectangles, layer),
+        Check::Space(layer) => areas_on(alloc, rectangles, layer),
+        Check::Separation(layer, _) => areas_on(alloc, rectangles, layer),
+        Check::Enclosing(layer, _) => areas_on(alloc, rectangles, layer),
     }
 }
 
 #[tactic(auto, unfolding(mpw_geom::specs::Plane::any_has_square))]
-/// The areas on the check's second layer; none for a check of one layer.
+/// The areas on the check's second layer, of rectangles by layer; none for a check of one layer.
 pub(crate) fn second_areas(
     alloc: Global,
-    window: &[Rectangle],
+    rectangles: &[Rectangle],
     check: Check,
 ) -> Result<Vec<Box2>, AllocError>
-    ensures { IfOk result (λ v. (i j : ℤ) → covers v.items i j ≡ second_squares check (listed_on window.now) i j) }
+    requires { IsByLayer rectangles.now }
+    ensures { IfOk result (λ v. (i j : ℤ) → covers v.items i j ≡ second_squares check (listed_on rectangles.now) i j) }
 {
     match check {
         Check::Width(_) => Ok(Vec::new(alloc)),
         Check::Space(_) => Ok(Vec::new(alloc)),
-        Check::Separation(_, layer) => areas_on(alloc, window, layer),
-        Check::Enclosing(_, layer) => areas_on(alloc, window, layer),
+        Check::Separation(_, layer) => areas_on(alloc, rectangles, layer),
+        Check::Enclosing(_, layer) => areas_on(alloc, rectangles, layer),
     }
 }

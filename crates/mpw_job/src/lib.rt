@@ -17,7 +17,7 @@ mod tiles;
 pub use answer::{Answer, CutAnswer, TileAnswer, do_job, work_all};
 pub use job::{CutJob, Gate, Job, TileJob};
 pub use laws::{
-    answers_make_the_layout, cores_lie_in_plane, each_marker_meets_some, no_shapes_no_markers,
-    tests_tell_shown,
+    answers_make_the_layout, cores_lie_in_plane, each_marker_meets_some, layout_determines_markers,
+    no_shapes_no_markers, tests_tell_shown,
 };
 pub use tiles::tile_job;

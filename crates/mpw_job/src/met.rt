@@ -1,14 +1,18 @@
-//! The submissions that a box meets.
+//! The submissions that markers meet.
+//!
+//! All markers of a tile are looked at together, so that a rectangle is not compared with each of them.
 
-ghost use Rattle.std.specs.Prelude.{◌↔◌, ℕ, IfOk, IsTrue, MatchBool, Contains};
-ghost use Rattle.mpw_geom.specs.Plane.{HasArea};
-ghost use Rattle.mpw_markers.specs.Met.{IsAscending};
-ghost use Rattle.mpw_markers.specs.Whole.{IsMet};
+ghost use Rattle.std.specs.Prelude.{◌≡◌, ◌↔◌, ℕ, IfOk, MatchBool, All, length, map};
+ghost use Rattle.mpw_geom.specs.Plane.{Square, HasArea, IsOrdered};
+ghost use Rattle.mpw_markers.specs.Markers.{key_of};
+ghost use Rattle.mpw_origins.specs.Origins.{HasSquareOf};
 ghost use Rattle.mpw_job.specs.Answers.{HasListed};
-ghost use Rattle.mpw_job.specs.Found.{AreaMeets};
+ghost use Rattle.mpw_job.specs.Found.{key_box, met_of, TellMet, AreMarkersOfKeys};
 
+use mpw_edges::Axis;
 use mpw_geom::Box2;
-use mpw_markers::Met;
+use mpw_markers::{Key, Marker, Met};
+use mpw_origins::met_origins;
 use mpw_tiles::Rectangle;
 use std::alloc::{AllocError, Global};
 
@@ -19,45 +23,109 @@ fn has_area(b: &Box2) -> bool
     b.x0 < b.x1 && b.y0 < b.y1
 }
 
-/// Whether a closed unit square of the area meets the closed box.
-fn meets(area: &Box2, b: &Box2) -> bool
-    ensures { IsTrue result ↔ AreaMeets area.now b.now }
+/// The rectangles that have a unit square, by area and origin.
+fn with_area(alloc: Global, window: &[Rectangle]) -> Result<Vec<mpw_origins::Rectangle>, AllocError>
+    ensures areas { IfOk result (λ v. All (λ r. HasArea r.area) v.items) }
+    ensures squares { IfOk result (λ v. (origin : ℕ) (s : Square) →
+        HasSquareOf v.items origin s ↔ HasListed window.now origin s) }
 {
-    if !has_area(area) {
-        return false;
-    }
-    area.meets(*b)
-}
-
-/// The origins of the rectangles with a closed unit square that meets the closed box.
-fn numbers_met(alloc: Global, window: &[Rectangle], b: &Box2) -> Result<Vec<u32>, AllocError>
-    ensures { IfOk result (λ v. (origin : ℕ) → Contains v.items origin ↔ IsMet (HasListed window.now) b.now origin) }
-{
-    let mut numbers = Vec::new(alloc);
+    let mut found = Vec::new(alloc);
     for rectangle in window {
-        if meets(&rectangle.area, b) {
-            numbers.push(rectangle.origin)?;
+        if has_area(&rectangle.area) {
+            found.push(mpw_origins::Rectangle {
+                area: rectangle.area,
+                origin: rectangle.origin,
+            })?;
         }
     }
-    Ok(numbers)
+    Ok(found)
 }
 
-/// Puts the numbers in order, each once.
-fn sort_each_once(numbers: &mut Vec<u32>)
-    ensures ascending { IsAscending numbers.new.items }
-    ensures same { (n : ℕ) → Contains numbers.new.items n ↔ Contains numbers.old.items n }
+/// The closed box of a marker of this key.
+fn closed_box(key: &Key) -> Box2
+    ensures { result ≡ key_box key.now }
 {
-    numbers.sort_unstable();
-    numbers.dedup();
+    match key.axis {
+        Axis::V => Box2 {
+            x0: key.x1,
+            y0: key.y0,
+            x1: key.x2,
+            y1: key.y1,
+        },
+        Axis::H => Box2 {
+            x0: key.y0,
+            y0: key.x1,
+            x1: key.y1,
+            y1: key.x2,
+        },
+    }
 }
 
-/// The origins of the rectangles, on any layer, with a closed unit square that meets the closed box. One pass over the
-/// rectangles, and a sort of the numbers of those that meet it. An error is want of memory.
-pub(crate) fn met_origins(alloc: Global, window: &[Rectangle], b: &Box2) -> Result<Met, AllocError>
-    ensures ascending { IfOk result IsAscending }
-    ensures exact { IfOk result (λ met. (origin : ℕ) → Contains met origin ↔ IsMet (HasListed window.now) b.now origin) }
+/// The closed boxes of markers of these keys.
+fn closed_boxes(alloc: Global, keys: &[Key]) -> Result<Vec<Box2>, AllocError>
+    ensures { IfOk result (λ v. v.items ≡ map key_box keys.now) }
 {
-    let mut numbers = numbers_met(alloc, window, b)?;
-    sort_each_once(&mut numbers);
-    Met::of(alloc, numbers.as_slice())
+    let mut boxes = Vec::with_capacity(alloc, keys.len())?;
+    for key in keys {
+        boxes.push(closed_box(key))?;
+    }
+    Ok(boxes)
+}
+
+/// What the markers of these keys meet.
+fn mets_of(alloc: Global, window: &[Rectangle], keys: &[Key]) -> Result<Vec<Met>, AllocError>
+    requires { All (λ k. IsOrdered (key_box k)) keys.now }
+    ensures { IfOk result (λ v. TellMet window.now keys.now v.items) }
+{
+    let rectangles = with_area(alloc, window)?;
+    let boxes = closed_boxes(alloc, keys)?;
+    let mets = met_origins(alloc, rectangles.as_slice(), boxes.as_slice())?;
+    Ok(mets)
+}
+
+/// The marker of this key, which meets these submissions.
+fn marker(key: &Key, met: Met) -> Marker
+    ensures key { key_of result ≡ key.now }
+    ensures met { result.met ≡ met }
+{
+    Marker {
+        rule: key.rule,
+        axis: key.axis,
+        side: key.side,
+        x1: key.x1,
+        x2: key.x2,
+        y0: key.y0,
+        y1: key.y1,
+        met,
+    }
+}
+
+/// The markers of these keys, each with what it meets.
+fn with_mets(alloc: Global, keys: &[Key], mets: &[Met]) -> Result<Vec<Marker>, AllocError>
+    requires { length mets.now ≡ length keys.now }
+    ensures keys { IfOk result (λ v. map key_of v.items ≡ keys.now) }
+    ensures mets { IfOk result (λ v. map met_of v.items ≡ mets.now) }
+{
+    let mut markers = Vec::with_capacity(alloc, keys.len())?;
+    for place in 0..keys.len() {
+        let met = mets[place].copy()?;
+        markers.push(marker(&keys[place], met))?;
+    }
+    Ok(markers)
+}
+
+/// The markers of these keys, each with the origins of the rectangles, on any layer, with a closed unit square that meets
+/// its closed box. A pass over the rectangles, and what [`met_origins`] takes for them and the boxes. An error is want of
+/// memory.
+pub(crate) fn markers_of(
+    alloc: Global,
+    window: &[Rectangle],
+    keys: &[Key],
+) -> Result<Vec<Marker>, AllocError>
+    requires { All (λ k. IsOrdered (key_box k)) keys.now }
+    ensures { IfOk result (λ v. AreMarkersOfKeys window.now keys.now v.items) }
+{
+    let mets = mets_of(alloc, window, keys)?;
+    let markers = with_mets(alloc, keys, mets.as_slice())?;
+    Ok(markers)
 }

@@ -1,8 +1,8 @@
-mod Order
+pub mod Order
 mod Marked
 mod Gathered
 mod Grouped
 mod Joins
-mod Unique
+pub mod Unique
 mod Maximal
 mod Found

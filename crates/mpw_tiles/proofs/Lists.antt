@@ -130,9 +130,16 @@ rows_end g block row tile u v = (
 
 -- a rectangle that is listed where its block of windows is adds its squares to each window
 pub adds_rectangle : (plan : Tiling) (old new : Tiles) (r : Rectangle) (block : Block) → length old ≡ tiles plan → Lists old new r (λ tile. IsInBlock block (column_of plan.grid tile) (row_of plan.grid tile))
-    → ((tile : ℕ) → tile < tiles plan → ShareSquare (tile_window plan tile) r.area → IsInBlock block (column_of plan.grid tile) (row_of plan.grid tile))
+    → ((tile : ℕ) → tile < tiles plan → IsInBlock block (column_of plan.grid tile) (row_of plan.grid tile) ↔ ShareSquare (tile_window plan tile) r.area)
     → AddsSquares plan old new (HasSquareOf r)
-adds_rectangle plan old new r block count h meets = record { count = h.count; squares = λ tile s layer origin u w. (to tile s layer origin, from tile s layer origin u w) }
+adds_rectangle plan old new r block count h meets = record {
+  count = h.count;
+  squares = λ tile s layer origin u w. (to tile s layer origin, from tile s layer origin u w);
+  near = λ tile x u c. elim ((h.listed tile x).0 c) [
+    | inl k ↦ inl k
+    | inr p ↦ inr (subst (λ (y : Rectangle). ShareSquare (tile_window plan tile) y.area) (sym p.1) ((meets tile u).0 p.0))
+  ];
+}
   where
     to : (tile : ℕ) (s : Square) (layer : Layer) (origin : ℕ) → IsListed (get_or new tile []) layer origin s → IsListed (get_or old tile []) layer origin s ⊎ HasSquareOf r layer origin s
     to tile s layer origin l = elim ((h.listed tile l.0).0 l.1) [
@@ -142,11 +149,15 @@ adds_rectangle plan old new r block count h meets = record { count = h.count; sq
 
     from : (tile : ℕ) (s : Square) (layer : Layer) (origin : ℕ) → tile < tiles plan → has_square (tile_window plan tile) s ≡ true → IsListed (get_or old tile []) layer origin s ⊎ HasSquareOf r layer origin s → IsListed (get_or new tile []) layer origin s
     from tile s layer origin u w (inl l) = (l.0, (h.listed tile l.0).1 (inl l.1), l.2)
-    from tile s layer origin u w (inr p) = (r, (h.listed tile r).1 (inr (meets tile u (record { square = s; first = w; second = p.has }), refl)), p)
+    from tile s layer origin u w (inr p) = (r, (h.listed tile r).1 (inr ((meets tile u).1 (record { square = s; first = w; second = p.has }), refl)), p)
 
 -- a rectangle without area adds none
 pub adds_nothing : (plan : Tiling) (old : Tiles) (r : Rectangle) → ((s : Square) → has_square r.area s ≡ true → ⊥) → AddsSquares plan old old (HasSquareOf r)
-adds_nothing plan old r none = record { count = refl; squares = λ tile s layer origin u w. (λ l. inl l, λ p. elim p [ inl l ↦ l | inr q ↦ absurd (none s q.has) ]) }
+adds_nothing plan old r none = record {
+  count = refl;
+  squares = λ tile s layer origin u w. (λ l. inl l, λ p. elim p [ inl l ↦ l | inr q ↦ absurd (none s q.has) ]);
+  near = λ tile x u c. inl c;
+}
 
 pub no_width : (r : Rectangle) → r.area.x1 ≤ℤ r.area.x0 → (s : Square) → has_square r.area s ≡ true → ⊥
 no_width r h s t = let i = SquareIn-from_test r.area s t in let a = i.left in let b = i.right in omega (arith, ints)
@@ -169,6 +180,7 @@ pub adds_more : (plan : Tiling) (a b c : Tiles) (rs : List Rectangle) (i : ℕ) 
 adds_more plan a b c rs i d h f g = record {
   count = g.count ∙ f.count;
   squares = λ tile s layer origin u w. (to tile s layer origin u w, from tile s layer origin u w);
+  near = λ tile x u l. elim (g.near tile x u l) [ inl m ↦ f.near tile x u m | inr q ↦ inr q ];
 }
   where
     to : (tile : ℕ) (s : Square) (layer : Layer) (origin : ℕ) → tile < tiles plan → has_square (tile_window plan tile) s ≡ true → IsListed (get_or c tile []) layer origin s → IsListed (get_or a tile []) layer origin s ⊎ IsListed (take (i + 1) rs) layer origin s
@@ -195,4 +207,8 @@ are_windows plan old new rs e empty f = record {
     ],
     λ p. (f.squares tile s layer origin u w).1 (inr p),
   );
+  near = λ tile r u l. elim (f.near tile r u l) [
+    | inl k ↦ absurd (let c = subst (λ (xs : List Rectangle). Contains xs r) (empty tile [] (subst (λ (n : ℕ). tile < n) (sym e) u)) k in omega (arith, c.1))
+    | inr q ↦ q
+  ];
 }

@@ -1,6 +1,6 @@
 -- Snapshots: their extents, their plans, and windows that stand for them.
 use Rattle.std.proofs.Common.{◌≡◌, ℕ, w64, SFits, to_z, of_z, ◌+◌, ◌≤◌, ◌<◌, ◌^◌, Bool, true, ◌&&◌, List, [], ◌∷◌, length, get_or, drop, max, Option, Some, None, inl, inr, refl, sym, subst, ap, ◌∙◌, arith}
-use Rattle.std.specs.Prelude.{◌↔◌, IsTrue, IfOk, Result, Ok, Err, ℤ, pos, neg_ℤ, All, IfSome, fold}
+use Rattle.std.specs.Prelude.{Contains, ◌↔◌, IsTrue, IfOk, Result, Ok, Err, ℤ, pos, neg_ℤ, All, IfSome, fold}
 use Rattle.std.specs.Int.{int_min, int_max}
 use Rattle.std.specs.Ordering.{int_eq}
 use Rattle.std.proofs.lemmas.Bool.{and_parts, and_from}
@@ -195,6 +195,10 @@ stand_for s plan old new e count empty f = subst (λ (o : Option Tiling). AreWin
     ],
     λ p. (f.squares tile q layer origin u w).1 (inr p),
   );
+  near = λ tile r u l. elim (f.near tile r u l) [
+    | inl k ↦ absurd (let c = subst (λ (xs : List Rectangle). Contains xs r) (empty tile [] (subst (λ (n : ℕ). tile < n) (sym count) u)) k in omega (arith, c.1))
+    | inr q ↦ q
+  ];
 })
 
 pub same_shown : (s : Snapshot) (shelf : List Submission) (roots : List Root) → shelf ≡ s.shelf → roots ≡ s.roots → flat_roots shelf roots ≡ shown s

@@ -37,12 +37,17 @@ either P Q layer origin s = P layer origin s ⊎ Q layer origin s
 -- ---- adding
 
 pub adds_none : (plan : Tiling) (old : Tiles) (P : Layer → ℕ → Square → Type 0) → ((layer : Layer) (origin : ℕ) (s : Square) → P layer origin s → ⊥) → AddsSquares plan old old P
-adds_none plan old P none = record { count = refl; squares = λ tile s layer origin u w. (λ l. inl l, λ p. elim p [ inl l ↦ l | inr q ↦ absurd (none layer origin s q) ]) }
+adds_none plan old P none = record {
+  count = refl;
+  squares = λ tile s layer origin u w. (λ l. inl l, λ p. elim p [ inl l ↦ l | inr q ↦ absurd (none layer origin s q) ]);
+  near = λ tile x u c. inl c;
+}
 
 pub adds_next : (plan : Tiling) (a b c : Tiles) (P Q R : Layer → ℕ → Square → Type 0) → AgreeInWindows plan (either P Q) R → AddsSquares plan a b P → AddsSquares plan b c Q → AddsSquares plan a c R
 adds_next plan a b c P Q R agree f g = record {
   count = g.count ∙ f.count;
   squares = λ tile s layer origin u w. (to tile s layer origin u w, from tile s layer origin u w);
+  near = λ tile x u l. elim (g.near tile x u l) [ inl m ↦ f.near tile x u m | inr q ↦ inr q ];
 }
   where
     to : (tile : ℕ) (s : Square) (layer : Layer) (origin : ℕ) → tile < tiles plan → has_square (tile_window plan tile) s ≡ true → IsListed (get_or c tile []) layer origin s → IsListed (get_or a tile []) layer origin s ⊎ R layer origin s
@@ -65,6 +70,7 @@ adds_same plan a b P R agree f = record {
     λ l. elim ((f.squares tile s layer origin u w).0 l) [ inl k ↦ inl k | inr p ↦ inr ((agree tile s layer origin u w).0 p) ],
     λ p. elim p [ inl k ↦ (f.squares tile s layer origin u w).1 (inl k) | inr r ↦ (f.squares tile s layer origin u w).1 (inr ((agree tile s layer origin u w).1 r)) ],
   );
+  near = f.near;
 }
 
 -- ---- the square that a placing takes to a square

@@ -18,11 +18,11 @@ use Rattle.mpw_edges.specs.Edges.{Squares, exchanged}
 use Rattle.mpw_edges.specs.Steps.{IsPair}
 use Rattle.mpw_edges.specs.Pieces.{IsInCore, IsPiece}
 use Rattle.mpw_edges.specs.Laws.{AreSameIn}
-use Rattle.mpw_edges.proofs.Window.{window}
+use Rattle.mpw_edges.proofs.Window.{window, step_same, back}
 use Rattle.mpw_grid.specs.Grid.{core_of, found_cell}
 use Rattle.mpw_grid.proofs.Cells.{only_cell}
 use Rattle.mpw_tiles.specs.Plan.{Tiling, greatest_distance, plan_of, tile_core, tile_window}
-use Rattle.mpw_tiles.specs.Laws.{LieIn, IsStepOn, IsOnlyTile}
+use Rattle.mpw_tiles.specs.Laws.{EachWindowDecidesRows, LieIn, IsStepOn, IsOnlyTile}
 
 -- ---- where a pair step stands
 
@@ -107,3 +107,14 @@ no_greater rules rule h = All-contains (λ (other : Rule). other.distance ≤ gr
 pub decides : (extent : Box2) (deck : Deck) (rule : Rule) (tile : ℕ) (a b a' b' : Squares) → Contains deck.rules rule → AreSameIn (tile_window (plan_of extent deck) tile) a a' → AreSameIn (tile_window (plan_of extent deck) tile) b b' → (p : Piece) → IsPiece rule a b (tile_core (plan_of extent deck) tile) p ↔ IsPiece rule a' b' (tile_core (plan_of extent deck) tile) p
 decides extent deck rule tile a b a' b' h f g =
     window rule (greatest_distance deck.rules) a b a' b' (tile_core (plan_of extent deck) tile) (no_greater deck.rules rule h) f g
+
+pub decides_rows : EachWindowDecidesRows
+decides_rows extent deck rule tile a b a' b' h f g axis side x1 x2 j =
+    let plan = plan_of extent deck in
+    let core = tile_core plan tile in
+    let w = tile_window plan tile in
+    let greatest = greatest_distance deck.rules in
+    let near = no_greater deck.rules rule h in (
+      step_same rule greatest a b a' b' core near f g axis side x1 x2 j,
+      step_same rule greatest a' b' a b core near (back w a a' f) (back w b b' g) axis side x1 x2 j,
+    )

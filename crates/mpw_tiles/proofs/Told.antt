@@ -1,5 +1,5 @@
 -- What the window of a tile tells of the layout.
-use Rattle.std.proofs.Common.{◌≡◌, ℕ, ◌+◌, ◌≤◌, Bool, true, false, List, Option, Some, None, sym, subst, arith}
+use Rattle.std.proofs.Common.{◌≡◌, ℕ, ◌+◌, ◌≤◌, Bool, true, false, List, Option, Some, None, refl, sym, subst, arith}
 use Rattle.std.specs.Prelude.{ℤ, pos, ◌-ℤ◌, ◌≤ℤ◌, if◌then◌else◌, nat_le}
 use Rattle.std.proofs.lemmas.Int.{ints}
 use Rattle.mpw_geom.specs.declared.plane.Box2.{Box2}
@@ -15,7 +15,7 @@ use Rattle.mpw_grid.specs.Grid.{widened}
 use Rattle.mpw_tiles.specs.declared.listing.Rectangle.{Rectangle}
 use Rattle.mpw_tiles.specs.Plan.{Tiling, greatest_distance, plan_of, tiles, tile_core, tile_window}
 use Rattle.mpw_tiles.specs.Snapshots.{Snapshot, shown, shown_extent, plan_over, plan_for, ShowItems, AreWindowsFor, StandFor}
-use Rattle.mpw_tiles.specs.Laws.{Meet, box_on, piece_box, WindowsShowLayers, MetSquaresLieInWindows, WindowsTellMet}
+use Rattle.mpw_tiles.specs.Laws.{Meet, box_on, piece_box, WindowsShowLayers, WindowsListWhatIsShown, MetSquaresLieInWindows, WindowsTellMet}
 use Rattle.mpw_tiles.proofs.Tiles.{no_greater}
 
 windows_show : (s : Snapshot) (plan : Tiling) (windows : List (List Rectangle)) → plan_for s ≡ Some plan → StandFor s windows → ShowItems plan (shown s) windows
@@ -31,6 +31,17 @@ show_layers s plan windows tile layer a listed e stand u shows lists i j l r d t
     same_tests (a i j) (listed i j)
     (λ k. let p = shows.shown i j k in lists.all i j p.0 ((f.squares tile q layer p.0 u w).1 p.1))
     (λ k. let p = lists.listed_at i j k in shows.all i j p.0 ((f.squares tile q layer p.0 u w).0 p.1))
+
+pub list_shown : WindowsListWhatIsShown
+list_shown s plan windows tile r e stand u c =
+    let f = windows_show s plan windows e stand in
+    let n = f.near tile r u c in
+    record {
+      square = n.square;
+      inside = n.first;
+      has = n.second;
+      shown_there = (f.squares tile n.square r.layer r.origin u n.first).0 (r, c, record { on_layer = refl; of_origin = refl; has = n.second });
+    }
 
 -- ---- squares that meet the box of a run
 

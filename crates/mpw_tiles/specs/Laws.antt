@@ -55,6 +55,15 @@ EachWindowDecides =
     → AreSameIn (tile_window (plan_of extent deck) tile) a a' → AreSameIn (tile_window (plan_of extent deck) tile) b b'
     → (p : Piece) → IsPiece rule a b (tile_core (plan_of extent deck) tile) p ↔ IsPiece rule a' b' (tile_core (plan_of extent deck) tile) p
 
+-- So it is row by row: which pair steps lie in a tile's core depends on the squares of its window alone.
+abbrev pub EachWindowDecidesRows : Type 0
+EachWindowDecidesRows =
+    (extent : Box2) (deck : Deck) (rule : Rule) (tile : ℕ) (a b a' b' : Squares) → Contains deck.rules rule
+    → AreSameIn (tile_window (plan_of extent deck) tile) a a' → AreSameIn (tile_window (plan_of extent deck) tile) b b'
+    → (axis : Axis) (side : ℕ) (x1 x2 j : ℤ)
+    → HasStep rule a b (tile_core (plan_of extent deck) tile) axis side x1 x2 j
+    ↔ HasStep rule a' b' (tile_core (plan_of extent deck) tile) axis side x1 x2 j
+
 -- The squares are those that shapes of the list have on the layer.
 pub record AreShownOn (items : List Item) (layer : Layer) (a : Squares) : Type 0 where
   pub shown : (i j : ℤ) → a i j ≡ true → (origin : ℕ) × IsShown items layer origin (record { column = i; row = j })
@@ -95,6 +104,19 @@ WindowsShowLayers =
     (snapshot : Snapshot) (plan : Tiling) (windows : List (List Rectangle)) (tile : ℕ) (layer : Layer) (a listed : Squares)
     → plan_for snapshot ≡ Some plan → StandFor snapshot windows → tile < tiles plan → AreShownOn (shown snapshot) layer a
     → AreListedOn (slice_index_or windows tile []) layer listed → AreSameIn (tile_window plan tile) a listed
+
+-- A rectangle that is listed for a tile has a unit square of the tile's window that a shape of its layer and origin has.
+pub record ListsWhatIsShown (items : List Item) (window : Box2) (r : Rectangle) : Type 0 where
+  pub square : Square
+  pub inside : has_square window square ≡ true
+  pub has : has_square r.area square ≡ true
+  pub shown_there : IsShown items r.layer r.origin square
+
+abbrev pub WindowsListWhatIsShown : Type 0
+WindowsListWhatIsShown =
+    (snapshot : Snapshot) (plan : Tiling) (windows : List (List Rectangle)) (tile : ℕ) (r : Rectangle)
+    → plan_for snapshot ≡ Some plan → StandFor snapshot windows → tile < tiles plan → Contains (slice_index_or windows tile []) r
+    → ListsWhatIsShown (shown snapshot) (tile_window plan tile) r
 
 -- The closed box of a run: on the axis V from x1 to x2 over its rows, on H with the coordinates exchanged.
 abbrev pub box_on : Axis → (x1 x2 y0 y1 : ℤ) → Box2

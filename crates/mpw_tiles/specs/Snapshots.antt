@@ -1,9 +1,10 @@
 -- What a run looks at, and the windows that stand for it.
-use Rattle.std.specs.Prelude.{◌≡◌, ◌≤◌, ◌<◌, ◌^◌, ◌↔◌, ℕ, true, List, [], length, slice_index_or, All, Option, Some, None, nat_le, if◌then◌else◌}
+use Rattle.std.specs.Prelude.{◌≡◌, ◌≤◌, ◌<◌, ◌^◌, ◌↔◌, ℕ, true, List, [], length, slice_index_or, All, Contains, Option, Some, None, nat_le, if◌then◌else◌}
 use Rattle.mpw_geom.specs.declared.plane.Box2.{Box2}
 use Rattle.mpw_geom.specs.declared.plane.Layer.{Layer}
 use Rattle.mpw_geom.specs.Plane.{Square, has_square}
 use Rattle.mpw_deck.specs.Decks.{Deck, IsDeck}
+use Rattle.mpw_grid.specs.Grid.{ShareSquare}
 use Rattle.mpw_hier.specs.declared.submission.Submission.{Submission}
 use Rattle.mpw_hier.specs.Boxes.{extent_of}
 use Rattle.mpw_hier.specs.Items.{Item}
@@ -55,10 +56,12 @@ abbrev pub plan_for : Snapshot → Option Tiling
 plan_for s = plan_over s.deck (shown_extent s)
 
 -- One window a tile. In each, by layer and origin, a listed rectangle has a unit square of the window exactly where a shape has it.
+-- Nothing is listed that has no square of the window.
 pub record ShowItems (plan : Tiling) (items : List Item) (windows : List (List Rectangle)) : Type 0 where
   pub count : length windows ≡ tiles plan
   pub squares : (tile : ℕ) (s : Square) (layer : Layer) (origin : ℕ) → tile < tiles plan → has_square (tile_window plan tile) s ≡ true
       → IsListed (slice_index_or windows tile []) layer origin s ↔ IsShown items layer origin s
+  pub near : (tile : ℕ) (r : Rectangle) → tile < tiles plan → Contains (slice_index_or windows tile []) r → ShareSquare (tile_window plan tile) r.area
 
 abbrev pub AreWindowsFor : Option Tiling → List Item → List (List Rectangle) → Type 0
 AreWindowsFor None items windows = windows ≡ []

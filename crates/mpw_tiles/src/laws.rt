@@ -1,13 +1,15 @@
-//! Laws of the definitions alone. Each function calls at most the laws that its own rests on: its contract is the law.
+//! Laws of the definitions alone: the contract of each function is the law. It calls at most the laws on which that one rests.
 
 ghost use Rattle.mpw_tiles.specs.Laws.{
   EachStepHasOneTile,
   EachWindowDecides,
+  EachWindowDecidesRows,
   SquaresLieInBoxes,
   SquaresLieInExtents,
   LayersLieInExtents,
   SquaresLieInPlane,
   WindowsShowLayers,
+  WindowsListWhatIsShown,
   MetSquaresLieInWindows,
   WindowsTellMet,
 };
@@ -21,9 +23,11 @@ pub fn each_step_has_one_tile()
     ensures { EachStepHasOneTile }
 {}
 
-/// What a tile's core finds of a rule of the deck depends on the squares of its window alone.
+/// What a tile's core finds of a rule of the deck depends on the squares of its window alone, and so do the pair steps of
+/// each row.
 pub fn each_window_decides()
-    ensures { EachWindowDecides }
+    ensures runs { EachWindowDecides }
+    ensures rows { EachWindowDecidesRows }
 {}
 
 /// The squares of a shape lie in its placed box, those of a flat list in its extent, by layer too, and those of roots in the
@@ -42,6 +46,12 @@ pub fn squares_lie_in_boxes()
 /// layer.
 pub fn windows_show_layers()
     ensures { WindowsShowLayers }
+{}
+
+/// Of windows that stand for a snapshot: each rectangle that is listed for a tile has a unit square of the tile's window that
+/// a shape of its layer and origin has. So a window tells nothing of a submission that shows nothing in it.
+pub fn windows_list_what_is_shown()
+    ensures { WindowsListWhatIsShown }
 {}
 
 /// Which origins have a closed square that meets the closed box of a run that a tile's core finds depends on the squares of

@@ -3,6 +3,10 @@
 //! A [`Plan`] is a grid of half-open cores over the layout's extent. Each pair step of a rule belongs to exactly
 //! one core. What a core finds depends on the squares of its window, which is wider by the deck's greatest
 //! distance plus 1 on each side. [`windows_of`] sorts placed rectangles into the windows that they meet.
+//!
+//! A [`Snapshot`] is what a run looks at: a deck, placed submissions and the shelf that they are on. Its plan is over the
+//! shapes that they show, and [`cut`] makes the windows that stand for it: by layer and origin they have the squares of
+//! the shapes, and they list nothing that has no square of its window.
 #![tactic(auto)]
 
 mod extent;
@@ -17,7 +21,7 @@ mod snapshot;
 pub use fill::windows_of;
 pub use laws::{
     each_step_has_one_tile, each_window_decides, each_window_tells_met, squares_lie_in_boxes,
-    windows_show_layers,
+    windows_list_what_is_shown, windows_show_layers,
 };
 pub use listing::{Rectangle, Window, Windows};
 pub use place::placed_area;

@@ -10,6 +10,7 @@ use mpw_job::{Answer, Job, TileJob, work_all};
 use mpw_markers::{Book, Marker, TileMarkers, stitch};
 use mpw_tiles::{Plan, Rectangle, Window, Windows, windows_of};
 use std::alloc::Global;
+use std::thread::Threads;
 
 /// Sides of tiles, and the greatest, which makes a single core.
 const SIDES: [&str; 5] = ["256", "257", "300", "333", "511"];
@@ -72,8 +73,8 @@ fn found(answer: &Answer) -> Result<TileMarkers> {
     }
 }
 
-fn lists(alloc: Global, jobs: &[Job]) -> Result<Vec<TileMarkers>> {
-    let answers = work_all(alloc, jobs)?;
+fn lists(rt: &(impl Threads + Sync), alloc: Global, jobs: &[Job]) -> Result<Vec<TileMarkers>> {
+    let answers = work_all(rt, alloc, jobs)?;
     let mut lists = Vec::new(alloc);
     for answer in &answers {
         lists.push(found(answer)?)?;
@@ -82,10 +83,16 @@ fn lists(alloc: Global, jobs: &[Job]) -> Result<Vec<TileMarkers>> {
 }
 
 /// The book of the rectangles, by a job a tile.
-fn book(alloc: Global, plan: &Plan, deck: &Deck, rectangles: &[Rectangle]) -> Result<Book> {
+fn book(
+    rt: &(impl Threads + Sync),
+    alloc: Global,
+    plan: &Plan,
+    deck: &Deck,
+    rectangles: &[Rectangle],
+) -> Result<Book> {
     let windows = windows(alloc, plan, rectangles)?;
     let jobs = jobs(alloc, plan, windows.as_slice(), deck.rules())?;
-    let lists = lists(alloc, &jobs)?;
+    let lists = lists(rt, alloc, &jobs)?;
     Ok(stitch(alloc, &lists)?)
 }
 
@@ -112,7 +119,7 @@ fn print_book(rt: &impl Print, rules: &Rules, markers: &[Marker]) -> Result<()> 
 
 /// Prints the number of tiles, and the markers.
 pub fn print_found(
-    rt: &(impl Print + AllocGlobal),
+    rt: &(impl Print + AllocGlobal + Threads + Sync),
     side: &str,
     rules: &str,
     shapes: &str,
@@ -121,7 +128,7 @@ pub fn print_found(
     let rectangles = rectangles(rt.alloc(), shapes)?;
     let plan = plan(&rectangles, &deck)?;
     println!(rt; "    {} tiles", plan.tiles())?;
-    let book = book(rt.alloc(), &plan, &deck, &rectangles)?;
+    let book = book(rt, rt.alloc(), &plan, &deck, &rectangles)?;
     print_book(rt, deck.rules(), book.as_slice())
 }
 
@@ -137,19 +144,29 @@ fn are_same(a: &[Marker], b: &[Marker]) -> bool {
     true
 }
 
-fn book_at(alloc: Global, side: &str, rules: &str, shapes: &[Rectangle]) -> Result<Book> {
+fn book_at(
+    rt: &(impl Threads + Sync),
+    alloc: Global,
+    side: &str,
+    rules: &str,
+    shapes: &[Rectangle],
+) -> Result<Book> {
     let deck = deck(alloc, side, rules)?;
     let plan = plan(shapes, &deck)?;
-    book(alloc, &plan, &deck, shapes)
+    book(rt, alloc, &plan, &deck, shapes)
 }
 
 /// Prints for each side whether its book is that of a single core.
-pub fn print_sides(rt: &(impl Print + AllocGlobal), rules: &str, shapes: &str) -> Result<()> {
+pub fn print_sides(
+    rt: &(impl Print + AllocGlobal + Threads + Sync),
+    rules: &str,
+    shapes: &str,
+) -> Result<()> {
     let rectangles = rectangles(rt.alloc(), shapes)?;
-    let whole = book_at(rt.alloc(), GREATEST, rules, &rectangles)?;
+    let whole = book_at(rt, rt.alloc(), GREATEST, rules, &rectangles)?;
     println!(rt; "    {} markers", whole.len())?;
     for side in &SIDES {
-        let book = book_at(rt.alloc(), side, rules, &rectangles)?;
+        let book = book_at(rt, rt.alloc(), side, rules, &rectangles)?;
         let word = if are_same(whole.as_slice(), book.as_slice()) {
             "same"
         } else {

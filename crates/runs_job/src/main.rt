@@ -3,16 +3,23 @@
 //! Each line is repeated, with the answer below. A line that begins with `#`, and an empty one, says nothing. Rules are
 //! a deck's lines parted by `;`, and rectangles are `ORIGIN LAYER X0 Y0 X1 Y1`, parted by `,`.
 //! - `find SIDE | RULES | RECTANGLES` tells the number of tiles and the markers, each with the origins that it meets;
-//! - `sides | RULES | RECTANGLES` tells for five sides of the tiles whether the book is that of a single core.
+//! - `sides | RULES | RECTANGLES` tells for five sides of the tiles whether the book is that of a single core;
+//! - `random N` cuts N random layouts by five sides and as a single core, works all jobs, stitches their answers, and tells
+//!   how many books differ from a plain search square by square;
+//! - `copies` copies a job and an answer of each kind, and tells how many of the copies are other ones.
 #![tactic(auto)]
 
 mod book;
+mod copies;
 mod near;
+mod random;
+mod whole;
 mod words;
 
 use anyhow::{Result, bail};
+use std::thread::Threads;
 
-fn answer(rt: &(impl Print + AllocGlobal), line: &str) -> Result<()> {
+fn answer(rt: &(impl Print + AllocGlobal + Threads + Sync), line: &str) -> Result<()> {
     if line.is_empty() || line.starts_with('#') {
         return Ok(());
     }
@@ -22,6 +29,8 @@ fn answer(rt: &(impl Print + AllocGlobal), line: &str) -> Result<()> {
     match words.as_slice() {
         ["find", side] => book::print_found(rt, side, rules, shapes),
         ["sides"] => book::print_sides(rt, rules, shapes),
+        ["random", count] => random::compared(rt, count),
+        ["copies"] => copies::compared(rt),
         _ => bail!("a command"),
     }
 }

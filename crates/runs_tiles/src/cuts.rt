@@ -1,11 +1,11 @@
 //! What a cut lists for each tile.
 
 use crate::plans::deck;
-use crate::shelves::roots;
 use anyhow::{Result, bail};
 use mpw_deck::Deck;
 use mpw_geom::{Box2, Layer};
 use mpw_hier::Shelf;
+use mpw_plain::placed_roots;
 use mpw_tiles::{Rectangle, Snapshot, Window, Windows, are_roots, cut};
 use mpw_walk::Root;
 use std::alloc::Global;
@@ -90,6 +90,6 @@ pub fn print_cut(
 ) -> Result<()> {
     let alloc = rt.alloc();
     let deck = deck(alloc, side, distance)?;
-    let snapshot = snapshot(alloc, deck, roots(alloc, placed)?, shelf)?;
+    let snapshot = snapshot(alloc, deck, placed_roots(alloc, placed)?, shelf)?;
     print_snapshot(rt, &snapshot)
 }

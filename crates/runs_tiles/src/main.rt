@@ -12,12 +12,8 @@
 #![tactic(auto)]
 
 mod cuts;
-mod flat;
-mod layouts;
 mod near;
 mod plans;
-mod random;
-mod shelves;
 mod squares;
 mod windows;
 
@@ -33,7 +29,7 @@ fn answer_shelf(
 ) -> Result<()> {
     match words {
         ["new"] => *shelf = Shelf::new(rt.alloc()),
-        ["submit", cell, top] => shelves::submit(rt.alloc(), shelf, cell, top, rest)?,
+        ["submit", cell, top] => mpw_plain::submit(rt.alloc(), shelf, cell, top, rest)?,
         ["cut", side, distance] => cuts::print_cut(rt, shelf, side, distance, rest)?,
         _ => bail!("a command"),
     }

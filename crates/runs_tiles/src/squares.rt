@@ -1,14 +1,11 @@
 //! Windows compared square by square with a plain flattening.
 
 use crate::cuts::snapshot;
-use crate::flat::{Cell, Shown, flat_list, has};
-use crate::layouts::{layout, roots};
 use crate::plans::deck;
-use crate::random::Random;
 use anyhow::{Context, Result, bail};
-use mpw_elements::Element;
 use mpw_geom::{Box2, Layer};
 use mpw_hier::Shelf;
+use mpw_plain::{Cell, Random, Shown, flat_list, layer, layout, roots, squares_of};
 use mpw_tiles::{Plan, Rectangle, Snapshot, Window, cut};
 use mpw_walk::Root;
 use std::alloc::Global;
@@ -21,17 +18,6 @@ const SIDES: [(&str, &str); 5] = [
     ("777", "40"),
     ("5000", "5"),
 ];
-
-/// No coordinate of a random shape is farther from its origin, with half a wire's width.
-const REACH: i64 = 90;
-
-fn layer(element: &Element) -> Option<Layer> {
-    match element {
-        Element::Boundary(boundary) => Some(boundary.layer),
-        Element::Path(path) => Some(path.layer),
-        Element::Reference(_) => None,
-    }
-}
 
 fn is_in(area: &Box2, cell: Cell) -> bool {
     area.x0 <= cell.x && cell.x < area.x1 && area.y0 <= cell.y && cell.y < area.y1
@@ -59,20 +45,6 @@ fn is_listed_everywhere(
         }
     }
     Ok(true)
-}
-
-/// The squares of a shape where they come.
-fn squares_of(alloc: Global, shown: &Shown<'_>) -> Result<Vec<Cell>> {
-    let mut squares = Vec::new(alloc);
-    for x in -REACH..REACH {
-        for y in -REACH..REACH {
-            let cell = Cell { x, y };
-            if has(shown.element, cell) {
-                squares.push(shown.placed(cell))?;
-            }
-        }
-    }
-    Ok(squares)
 }
 
 /// A shape's layer and origin, with its squares and a box that has them.

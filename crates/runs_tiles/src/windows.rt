@@ -2,9 +2,9 @@
 
 use crate::near::{all_near, is_near, is_ordered};
 use crate::plans::deck;
-use crate::random::Random;
 use anyhow::{Result, bail};
 use mpw_geom::{Box2, Layer};
+use mpw_plain::Random;
 use mpw_tiles::{Plan, Rectangle, Window, windows_of};
 use std::alloc::Global;
 

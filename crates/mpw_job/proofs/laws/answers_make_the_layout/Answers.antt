@@ -7,7 +7,7 @@ returns c =
       each = record {
         decides = c.test_decides_pair_steps.ensures;
         windows = c.windows_show_layers.ensures;
-        found = c.each_window_decides.ensures;
+        found = c.each_window_decides.ensures.runs;
         met = c.each_window_tells_met.ensures.origins;
       };
       one = c.each_step_has_one_tile.ensures;

@@ -14,5 +14,5 @@ returns-then-area c = record {
 
 pub returns : goal.returns
 returns c = record {
-  ok = adds_rectangle c.args.plan.now c.args.lists.now.items c.list_in_block.new.lists.items c.args.rectangle.now c.meeting-block.result c.requires.count c.in_ok-list_in_block.ensures.ok (λ tile u s. (c.meeting-block.ensures.exact tile u).1 s);
+  ok = adds_rectangle c.args.plan.now c.args.lists.now.items c.list_in_block.new.lists.items c.args.rectangle.now c.meeting-block.result c.requires.count c.in_ok-list_in_block.ensures.ok c.meeting-block.ensures.exact;
 }

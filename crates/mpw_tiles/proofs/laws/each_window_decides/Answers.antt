@@ -1,5 +1,5 @@
-use Rattle.mpw_tiles.proofs.Tiles.{decides}
+use Rattle.mpw_tiles.proofs.Tiles.{decides, decides_rows}
 use Rattle.mpw_tiles.proofs.laws.each_window_decides.Goals as goal
 
 pub returns : goal.returns
-returns c = decides
+returns c = record { runs = decides; rows = decides_rows }

@@ -1,10 +1,19 @@
-use Rattle.std.proofs.Common.{[], ◌∷◌, ◌++◌, sym, ap, ◌∙◌}
+use Rattle.std.proofs.Common.{[], ◌∷◌, ◌++◌, refl, sym, ap, ◌∙◌}
 use Rattle.std.proofs.lemmas.List.{append_assoc}
+use Rattle.mpw_hier.specs.Items.{Item}
+use Rattle.mpw_region.proofs.Held.{Held-nil}
 use Rattle.mpw_walk.specs.Turns.{given}
 use Rattle.mpw_walk.specs.Way.{item_of}
 use Rattle.mpw_tiles.specs.Shown.{ShowsSquare, IsShown}
-use Rattle.mpw_tiles.proofs.Showing.{adds_next, shown_more}
+use Rattle.mpw_tiles.proofs.Showing.{adds_none, adds_next, shown_more}
 use Rattle.mpw_tiles.proofs.shapes.list_shapes.Goals as goal
+
+pub loop-placed-init : goal.loop-placed-init
+loop-placed-init c = (
+  [],
+  refl,
+  adds_none c.args.plan.now c.args.lists.now.items (IsShown []) (λ layer origin s h. Held-nil (λ (i : Item). ShowsSquare i layer origin s) h),
+)
 
 pub loop-placed-preserved : goal.loop-placed-preserved
 loop-placed-preserved c =

@@ -1,0 +1,299 @@
+//! The flat list of placed submissions by plain recursion, and the unit squares of its shapes by their definition: a second
+//! opinion of walks, placings and rectangles.
+
+use anyhow::{Context, Result, bail};
+use mpw_elements::{Boundary, Element, Path, Reference};
+use mpw_geom::{Layer, Name, Orient, Placing, Point};
+use mpw_hier::{Shelf, Submission};
+use mpw_library::Structure;
+use mpw_walk::Root;
+use std::alloc::Global;
+
+/// More levels than a random layout has.
+const LEVELS: u32 = 8;
+
+/// No coordinate of a random shape is farther from its origin, with half a wire's width.
+const REACH: i64 = 90;
+
+/// A unit square, by its lower left corner.
+#[derive(Clone, Copy, PartialEq, Eq)]
+pub struct Cell {
+    pub x: i64,
+    pub y: i64,
+}
+
+/// A shape of a submission under placings, the innermost first.
+#[derive(Drop)]
+pub struct Shown<'a> {
+    pub origin: u32,
+    pub element: &'a Element,
+    placings: Vec<Placing>,
+}
+
+/// The quarter turn takes the square of (x, y) to that of (-y - 1, x).
+fn turned(cell: Cell) -> Cell {
+    Cell {
+        x: cell.y.wrapping_neg().wrapping_sub(1),
+        y: cell.x,
+    }
+}
+
+/// The mirror about the x axis.
+fn mirrored(cell: Cell) -> Cell {
+    Cell {
+        x: cell.x,
+        y: cell.y.wrapping_neg().wrapping_sub(1),
+    }
+}
+
+/// Whether the orientation begins with the mirror, and the quarter turns that follow.
+fn parts(orient: Orient) -> (bool, u32) {
+    match orient {
+        Orient::R0 => (false, 0),
+        Orient::R90 => (false, 1),
+        Orient::R180 => (false, 2),
+        Orient::R270 => (false, 3),
+        Orient::M0 => (true, 0),
+        Orient::M90 => (true, 1),
+        Orient::M180 => (true, 2),
+        Orient::M270 => (true, 3),
+    }
+}
+
+fn placed(placing: &Placing, cell: Cell) -> Cell {
+    let (is_mirrored, turns) = parts(placing.orient);
+    let mut cell = if is_mirrored { mirrored(cell) } else { cell };
+    for _ in 0..turns {
+        cell = turned(cell);
+    }
+    Cell {
+        x: cell.x.wrapping_add(placing.by.x),
+        y: cell.y.wrapping_add(placing.by.y),
+    }
+}
+
+impl Shown<'_> {
+    /// Where the shape's square comes.
+    pub fn placed(&self, cell: Cell) -> Cell {
+        let mut cell = cell;
+        for placing in &self.placings {
+            cell = placed(placing, cell);
+        }
+        cell
+    }
+}
+
+/// The same placings with one more behind them.
+fn with(alloc: Global, placings: &[Placing], first: Placing) -> Result<Vec<Placing>> {
+    let mut all = Vec::new(alloc);
+    all.push(first)?;
+    for placing in placings {
+        all.push(*placing)?;
+    }
+    Ok(all)
+}
+
+fn same(alloc: Global, placings: &[Placing]) -> Result<Vec<Placing>> {
+    let mut all = Vec::new(alloc);
+    for placing in placings {
+        all.push(*placing)?;
+    }
+    Ok(all)
+}
+
+/// The instance of a row and a column.
+fn instance(reference: &Reference, row: u16, column: u16) -> Placing {
+    let (row, column) = (i64::from(row), i64::from(column));
+    let (across, up) = (reference.column_step, reference.row_step);
+    let x = column
+        .wrapping_mul(across.x)
+        .wrapping_add(row.wrapping_mul(up.x));
+    let y = column
+        .wrapping_mul(across.y)
+        .wrapping_add(row.wrapping_mul(up.y));
+    Placing {
+        orient: reference.orient,
+        by: Point {
+            x: x.wrapping_add(reference.origin.x),
+            y: y.wrapping_add(reference.origin.y),
+        },
+    }
+}
+
+fn own<'a>(submission: &'a Submission, name: &Name) -> Option<&'a Structure> {
+    for structure in submission.library.structures() {
+        if structure.name.as_str() == name.as_str() {
+            return Some(structure);
+        }
+    }
+    None
+}
+
+fn bound(submission: &Submission, name: &Name) -> Result<u32> {
+    for binding in submission.bound.as_slice() {
+        if binding.name.as_str() == name.as_str() {
+            return Ok(binding.submission);
+        }
+    }
+    bail!("a bound name")
+}
+
+/// The instances of a reference.
+fn instances(alloc: Global, reference: &Reference) -> Result<Vec<Placing>> {
+    let mut all = Vec::new(alloc);
+    for place in 0..u32::from(reference.columns) * u32::from(reference.rows) {
+        let columns = u32::from(reference.columns.max(1));
+        all.push(instance(
+            reference,
+            (place / columns) as u16,
+            (place % columns) as u16,
+        ))?;
+    }
+    Ok(all)
+}
+
+/// Adds what a name shows to the submission of a number, under these placings.
+fn flatten<'a>(
+    list: &mut Vec<Shown<'a>>,
+    shelf: &'a Shelf,
+    number: u32,
+    name: &Name,
+    placings: &[Placing],
+    depth: u32,
+) -> Result<()> {
+    if depth == 0 {
+        bail!("fewer levels");
+    }
+    let alloc = *list.allocator();
+    let submission = shelf.get(number).context("a submission")?;
+    let Some(structure) = own(submission, name) else {
+        let outer = bound(submission, name)?;
+        let top = &shelf.get(outer).context("a bound submission")?.top;
+        return flatten(list, shelf, outer, top, placings, depth - 1);
+    };
+    for element in structure.elements.as_slice() {
+        let Element::Reference(reference) = element else {
+            let placings = same(alloc, placings)?;
+            list.push(Shown {
+                origin: number,
+                element,
+                placings,
+            })?;
+            continue;
+        };
+        for instance in &instances(alloc, reference)? {
+            let inner = with(alloc, placings, *instance)?;
+            flatten(list, shelf, number, &reference.name, &inner, depth - 1)?;
+        }
+    }
+    Ok(())
+}
+
+/// The shapes of placed submissions, each with its placings.
+///
+/// # Errors
+/// Where a submission or a bound name is not there, where there are more levels than a random layout has, or no memory.
+pub fn flat_list<'a>(alloc: Global, shelf: &'a Shelf, roots: &[Root]) -> Result<Vec<Shown<'a>>> {
+    let mut list = Vec::new(alloc);
+    for root in roots {
+        let placings = with(alloc, &[], root.placing)?;
+        let top = &shelf.get(root.submission).context("a root")?.top;
+        flatten(&mut list, shelf, root.submission, top, &placings, LEVELS)?;
+    }
+    Ok(list)
+}
+
+/// Whether a step goes up across the square's row, at the square or left of it.
+fn rises(from: &Point, to: &Point, cell: Cell) -> bool {
+    from.x <= cell.x && from.y <= cell.y && cell.y < to.y
+}
+
+fn boundary_has(boundary: &Boundary, cell: Cell) -> bool {
+    let points = boundary.points.as_slice();
+    let Some(last) = points.last() else {
+        return false;
+    };
+    let mut from = last;
+    let mut winding = 0i64;
+    for to in points {
+        winding = winding.wrapping_add(i64::from(rises(from, to, cell)));
+        winding = winding.wrapping_sub(i64::from(rises(to, from, cell)));
+        from = to;
+    }
+    winding != 0
+}
+
+/// Whether the coordinate lies on a segment's span, lengthened on both sides.
+fn is_along(from: i64, to: i64, before: i64, behind: i64, z: i64) -> bool {
+    if from <= to {
+        from.wrapping_sub(before) <= z && z < to.wrapping_add(behind)
+    } else {
+        to.wrapping_sub(behind) <= z && z < from.wrapping_add(before)
+    }
+}
+
+fn path_has(path: &Path, cell: Cell) -> bool {
+    let points = path.points.as_slice();
+    let half = path.width / 2;
+    for (k, pair) in points.windows(2).enumerate() {
+        let [from, to] = pair else {
+            return false;
+        };
+        let before = if k == 0 { path.begin } else { half };
+        let behind = if k.wrapping_add(2) == points.len() {
+            path.end
+        } else {
+            half
+        };
+        let is_level = from.y == to.y;
+        let (x0, x1) = if is_level {
+            (before, behind)
+        } else {
+            (half, half)
+        };
+        let (y0, y1) = if is_level {
+            (half, half)
+        } else {
+            (before, behind)
+        };
+        if is_along(from.x, to.x, x0, x1, cell.x) && is_along(from.y, to.y, y0, y1, cell.y) {
+            return true;
+        }
+    }
+    false
+}
+
+/// Whether the shape has the square, in its own coordinates.
+pub fn has(element: &Element, cell: Cell) -> bool {
+    match element {
+        Element::Boundary(boundary) => boundary_has(boundary, cell),
+        Element::Path(path) => path_has(path, cell),
+        Element::Reference(_) => false,
+    }
+}
+
+/// The layer of a shape; none of a reference.
+pub fn layer(element: &Element) -> Option<Layer> {
+    match element {
+        Element::Boundary(boundary) => Some(boundary.layer),
+        Element::Path(path) => Some(path.layer),
+        Element::Reference(_) => None,
+    }
+}
+
+/// The squares of a random layout's shape where they come.
+///
+/// # Errors
+/// Where there is no memory.
+pub fn squares_of(alloc: Global, shown: &Shown<'_>) -> Result<Vec<Cell>> {
+    let mut squares = Vec::new(alloc);
+    for x in -REACH..REACH {
+        for y in -REACH..REACH {
+            let cell = Cell { x, y };
+            if has(shown.element, cell) {
+                squares.push(shown.placed(cell))?;
+            }
+        }
+    }
+    Ok(squares)
+}

@@ -1,0 +1,21 @@
+//! Random layouts for stored runs, and what they show, by plain second bodies.
+//!
+//! [`layout`] makes a shelf with a pad and a chip that places it, alone and in arrays, in any orientation; [`roots`] places
+//! them. [`flat_list`] flattens placed submissions by plain recursion, [`squares_of`] tells the unit squares of a shape by
+//! their definition, and [`Picture`] paints them all and finds the markers of a rule square by square. Nothing here uses
+//! the walks, rectangles, bands or windows with which it is compared.
+#![tactic(auto)]
+
+mod flat;
+mod layouts;
+mod picture;
+mod random;
+mod search;
+mod shelves;
+
+pub use flat::{Cell, Shown, flat_list, has, layer, squares_of};
+pub use layouts::{layout, roots};
+pub use picture::Picture;
+pub use random::Random;
+pub use search::{PlainMarker, plain_markers};
+pub use shelves::{ORIENTS, placed_roots, submit, submit_text};

@@ -1,0 +1,68 @@
+//! The book of a snapshot, by its jobs: the cut, a job a tile, and the stitching.
+
+use anyhow::{Context, Result, bail};
+use mpw_job::{Answer, CutAnswer, CutJob, Job, do_job, tile_job, work_all};
+use mpw_markers::{Book, TileMarkers, stitch};
+use mpw_tiles::{Snapshot, Windows};
+use std::alloc::Global;
+use std::thread::Threads;
+
+/// The number of the run.
+const RUN: u32 = 7;
+
+fn cut(alloc: Global, snapshot: &Snapshot) -> Result<CutAnswer> {
+    let snapshot = snapshot.copy(alloc)?;
+    let job = Job::Cut(CutJob { run: RUN, snapshot });
+    match do_job(alloc, &job)? {
+        Answer::Cut(answer) => Ok(answer),
+        Answer::Tile(_) => bail!("the answer of a cut"),
+    }
+}
+
+/// The markers of a tile, where the answer is its own.
+fn markers_of(answer: &Answer, tile: usize) -> Result<TileMarkers> {
+    let Answer::Tile(answer) = answer else {
+        bail!("the answer of a tile");
+    };
+    if answer.job().run() != RUN || answer.job().tile() as usize != tile {
+        bail!("the answer of that job");
+    }
+    Ok(answer.markers().copy()?)
+}
+
+/// The jobs of all tiles, in order.
+fn jobs(alloc: Global, snapshot: &Snapshot, windows: &Windows) -> Result<Vec<Job>> {
+    let plan = snapshot.plan().context("a plan")?;
+    let mut jobs = Vec::new(alloc);
+    for tile in 0..plan.tiles() {
+        if tile as usize >= windows.as_slice().len() {
+            bail!("a window a tile");
+        }
+        jobs.push(Job::Tile(tile_job(RUN, tile, snapshot, &plan, windows)?))?;
+    }
+    Ok(jobs)
+}
+
+fn stitched(alloc: Global, answers: &[Answer]) -> Result<Book> {
+    let mut lists = Vec::new(alloc);
+    for (tile, answer) in answers.iter().enumerate() {
+        lists.push(markers_of(answer, tile)?)?;
+    }
+    Ok(stitch(alloc, &lists)?)
+}
+
+/// How many tiles the snapshot's plan has.
+pub fn tiles(snapshot: &Snapshot) -> u32 {
+    match snapshot.plan() {
+        Some(plan) => plan.tiles(),
+        None => 0,
+    }
+}
+
+/// The book of the snapshot.
+pub fn book(rt: &(impl Threads + Sync), alloc: Global, snapshot: &Snapshot) -> Result<Book> {
+    let cut = cut(alloc, snapshot)?;
+    let jobs = jobs(alloc, snapshot, cut.windows())?;
+    let answers = work_all(rt, alloc, &jobs)?;
+    stitched(alloc, &answers)
+}
