@@ -25,33 +25,33 @@ kept-asked s (Ok q) kept = kept
 kept-asked s (Err r) kept = kept
 
 module _
-  (row_keeps : (conn : ℕ) (request : PolicyRequest) → KeepsTables (λ p. row_of p conn request))
-  (end_keeps : (conn : ℕ) → KeepsTables (λ p. Ok (rows.end_session p conn)))
-  (ends_keep : KeepsTables (λ p. Ok (rows.end_sessions p)))
+    (row_keeps : (conn : ℕ) (request : PolicyRequest) → KeepsTables (λ p. row_of p conn request))
+    (end_keeps : (conn : ℕ) → KeepsTables (λ p. Ok (rows.end_session p conn)))
+    (ends_keep : KeepsTables (λ p. Ok (rows.end_sessions p)))
   where
-  kept-request : (s : State) (conn : ℕ) (request : Request) → IsKept s.policy → IsKept (outcome_of s conn request).state.policy
-  kept-request s conn (ask.Policy request) kept = kept-changed s (row_of s.policy conn request) (λ q is. row_keeps conn request s.policy q is kept) kept
-  kept-request s conn ask.Whoami kept = kept-asked s (rows.whoami s.policy conn) kept
-  kept-request s conn (ask.Layout request) kept = kept
+    kept-request : (s : State) (conn : ℕ) (request : Request) → IsKept s.policy → IsKept (outcome_of s conn request).state.policy
+    kept-request s conn (ask.Policy request) kept = kept-changed s (row_of s.policy conn request) (λ q is. row_keeps conn request s.policy q is kept) kept
+    kept-request s conn ask.Whoami kept = kept-asked s (rows.whoami s.policy conn) kept
+    kept-request s conn (ask.Layout request) kept = kept
 
-  kept-wanted : (s : State) (event : Event) → IsKept s.policy → IsKept (wanted s event).state.policy
-  unfolding wanted
-  kept-wanted s (event.Ask conn request) kept = kept-request s conn request kept
-  kept-wanted s (event.Gone conn) kept = end_keeps conn s.policy (rows.end_session s.policy conn) refl kept
-  kept-wanted s event.Restart kept = ends_keep s.policy (rows.end_sessions s.policy) refl kept
+    kept-wanted : (s : State) (event : Event) → IsKept s.policy → IsKept (wanted s event).state.policy
+    unfolding wanted
+    kept-wanted s (event.Ask conn request) kept = kept-request s conn request kept
+    kept-wanted s (event.Gone conn) kept = end_keeps conn s.policy (rows.end_session s.policy conn) refl kept
+    kept-wanted s event.Restart kept = ends_keep s.policy (rows.end_sessions s.policy) refl kept
 
-  kept-settled : (s : State) (event : Event) (was : Bool) (outcome : Outcome) → IsKept s.policy → IsKept outcome.state.policy → IsKept (settled s event was outcome).state.policy
-  kept-settled s event was outcome before now =
-      elim (outcome.changes && not was) as (λ b. IsKept (cond b (left (unkept event) (record s { closed = true })) outcome).state.policy) [ true ↦ before | false ↦ now ]
+    kept-settled : (s : State) (event : Event) (was : Bool) (outcome : Outcome) → IsKept s.policy → IsKept outcome.state.policy → IsKept (settled s event was outcome).state.policy
+    kept-settled s event was outcome before now =
+        elim (outcome.changes && not was) as (λ b. IsKept (cond b (left (unkept event) (record s { closed = true })) outcome).state.policy) [ true ↦ before | false ↦ now ]
 
-  kept-step : (s : State) (event : Event) (was : Bool) → IsKept s.policy → IsKept (after s event was).policy
-  unfolding step
-  kept-step s event was kept = kept-settled s event was (wanted s event) kept (kept-wanted s event kept)
+    kept-step : (s : State) (event : Event) (was : Bool) → IsKept s.policy → IsKept (after s event was).policy
+    unfolding step
+    kept-step s event was kept = kept-settled s event was (wanted s event) kept (kept-wanted s event kept)
 
-  kept-calls : (s : State) (calls : List Call) → IsKept s.policy → IsKept (state_after s calls).policy
-  kept-calls s [] kept = kept
-  kept-calls s (call ∷ calls) kept = kept-calls (after s call.event call.kept) calls (kept-step s call.event call.kept kept)
+    kept-calls : (s : State) (calls : List Call) → IsKept s.policy → IsKept (state_after s calls).policy
+    kept-calls s [] kept = kept
+    kept-calls s (call ∷ calls) kept = kept-calls (after s call.event call.kept) calls (kept-step s call.event call.kept kept)
 
-  pub kept-history : (officer digest : List ℕ) (calls : List Call) → IsKept (new_policy officer digest) → IsKept (state_after (new_state officer digest) calls).policy
-  unfolding new_state
-  kept-history officer digest calls new = kept-calls (new_state officer digest) calls new
+    pub kept-history : (officer digest : List ℕ) (calls : List Call) → IsKept (new_policy officer digest) → IsKept (state_after (new_state officer digest) calls).policy
+    unfolding new_state
+    kept-history officer digest calls new = kept-calls (new_state officer digest) calls new

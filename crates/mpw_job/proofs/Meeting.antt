@@ -135,14 +135,6 @@ tell_met listed found keys boxes mets h e a = record {
 
 -- ---- the markers
 
-pub mapped_more : {X : Type 0} (f : Marker → X) (markers : List Marker) (xs : List X) (n : ℕ) (d : X) (m : Marker) → n < length xs
-    → map f markers ≡ take n xs → f m ≡ get_or xs n d → map f (markers ++ m ∷ []) ≡ take (n + 1) xs
-mapped_more {X} f markers xs n d m lt e g =
-    map_push f markers m ∙ ap (λ (ys : List X). ys ++ f m ∷ []) e ∙ ap (λ (y : X). take n xs ++ y ∷ []) g ∙ sym (take_more xs n d lt)
-
-pub mapped_all : {X : Type 0} (f : Marker → X) (markers : List Marker) (xs : List X) (n : ℕ) → length xs ≤ n → map f markers ≡ take n xs → map f markers ≡ xs
-mapped_all f markers xs n le e = e ∙ take_all n xs le
-
 pub are_markers : (listed : List Rectangle) (keys : List Key) (mets : List (List ℕ)) (markers : List Marker) → map key_of markers ≡ keys
     → map met_of markers ≡ mets → TellMet listed keys mets → AreMarkersOfKeys listed keys markers
 are_markers listed keys mets markers e f t = record { keys_are = e; met = met }

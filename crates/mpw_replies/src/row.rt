@@ -58,7 +58,12 @@ impl From<AllocError> for Fault {
 ///
 /// # Errors
 /// A denial where there is no session, or where it lacks the permission; want of memory for the user's name.
-pub fn enter(policy: &Policy, conn: u32, operation: Operation, object: Object) -> Result<Name, Fault>
+pub fn enter(
+    policy: &Policy,
+    conn: u32,
+    operation: Operation,
+    object: Object,
+) -> Result<Name, Fault>
     ensures permitted { Answers (λ user. tt) result (permitted policy.now conn operation object) }
     ensures user { IfOk result (λ user. user ≡ user_of policy.now conn) }
 {

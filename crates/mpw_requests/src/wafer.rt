@@ -13,7 +13,12 @@ pub enum WaferRequest {
         placing: Placing,
     },
     /// Takes the placing of a cell under a label away.
-    Unplace { cell: Name, label: Name },
+    Unplace {
+        cell: Name,
+        label: Name,
+    },
     /// The deck of a text comes in the place of the one before.
-    Deck { text: DeckText },
+    Deck {
+        text: DeckText,
+    },
 }

@@ -7,11 +7,8 @@ ghost use Rattle.mpw_serve.specs.Serving.{Answer, told, IsAnswer, answer_text, S
 
 use mpw_core::{Core, Event, Keeper, keepers_have_the_changes_in_order};
 use mpw_requests::SharedRequest;
-use mpw_wire::{
-    Asked, Refusal, Sink, Source, WireFault, read_request, write_refusal, write_reply,
-};
+use mpw_wire::{Asked, Refusal, Sink, Source, WireFault, read_request, write_refusal, write_reply};
 use std::alloc::Global;
-
 
 /// The greatest number of answered lines of one connection.
 pub const MAX_LINES: usize = 4096;

@@ -6,9 +6,9 @@ ghost use Rattle.mpw_wire.specs.Writing.{fault_of};
 use crate::line::{Taken, take_bytes, take_line};
 use crate::request::{LineAsk, parse_line};
 use crate::{Source, WireFault};
-use mpw_requests::{LayoutRequest, Request, SharedRequest};
 use mpw_geom::Name;
 use mpw_library::LibraryText;
+use mpw_requests::{LayoutRequest, Request, SharedRequest};
 use std::alloc::Global;
 
 /// What the next line of the input asks.

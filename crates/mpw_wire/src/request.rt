@@ -9,8 +9,8 @@ ghost use Rattle.mpw_wire.specs.Words.{words};
 use crate::form::{bare, of_more, of_one, of_three, of_two};
 use crate::operand::{Origin, is, name};
 use crate::words::{Arguments, cut, read_arguments};
-use mpw_requests::{LayoutRequest, PolicyRequest, Request, SharedRequest};
 use mpw_geom::Name;
+use mpw_requests::{LayoutRequest, PolicyRequest, Request, SharedRequest};
 use mpw_text::{is_decimal, read_count};
 use std::alloc::{AllocError, Global};
 

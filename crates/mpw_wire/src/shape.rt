@@ -13,9 +13,9 @@ ghost use Rattle.mpw_wire.specs.Writing.{Writes};
 use crate::write::write_parts;
 use crate::{Sink, WireFault};
 use itoa::Buffer;
-use mpw_replies::{ShapeListing, ShapeView};
 use mpw_elements::{Boundary, Element, Path};
 use mpw_geom::{Layer, Name, Placing, Point};
+use mpw_replies::{ShapeListing, ShapeView};
 
 /// Writes a point, behind a space.
 fn write_point<W: Sink>(writer: &mut W, point: Point) -> Result<(), WireFault>

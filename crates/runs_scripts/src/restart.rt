@@ -5,9 +5,9 @@ use crate::limit::tell_whoami;
 use crate::serving::new_desk;
 use anyhow::Result;
 use mpw_core::{Core, Event, Keeper, NoKeeper};
+use mpw_geom::Name;
 use mpw_replies::Reply;
 use mpw_requests::{PolicyRequest, Request, SharedRequest};
-use mpw_geom::Name;
 use mpw_wire::digest_of;
 use std::alloc::{AllocError, Global};
 
