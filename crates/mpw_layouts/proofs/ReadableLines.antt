@@ -17,12 +17,13 @@ use Rattle.mpw_requests.specs.declared.layouts.LayoutRequest.TheVariants as ask
 use Rattle.mpw_replies.specs.Listing.{Listed, stored, line_if, shape_line}
 use Rattle.mpw_replies.specs.Readable.{IsOfReadable}
 use Rattle.mpw_replies.specs.Rows.{◌>>=◌, permitted, ended_by}
+use Rattle.mpw_replies.specs.Sight.{may_read}
 use Rattle.mpw_replies.specs.declared.reply.Denial.TheVariants as denial
 use Rattle.mpw_replies.specs.declared.reply.Line.TheVariants.{Version}
 use Rattle.mpw_replies.specs.declared.reply.Reply.TheVariants as reply
 use Rattle.mpw_replies.specs.declared.row.Ending.{Ending}
 use Rattle.mpw_replies.specs.declared.row.Ending.TheVariants as ending
-use Rattle.mpw_layouts.specs.Layouts.{numbered_at, cell_line, present_submission, readable_line, cells_of, may_read, readable_shape, shown, cells, shapes, submitted, shelved, listed, outcome_of}
+use Rattle.mpw_layouts.specs.Layouts.{numbered_at, cell_line, present_submission, readable_line, cells_of, readable_shape, shown, cells, shapes, submitted, shelved, listed, outcome_of}
 
 -- the lines that no request has
 nothing : (P : Listed → Type 0) → All P []

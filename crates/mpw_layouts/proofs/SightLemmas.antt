@@ -6,8 +6,9 @@ use Rattle.std.proofs.lemmas.Option.{slice_get-map}
 use Rattle.mpw_hier.specs.declared.submission.Submission.{Submission}
 use Rattle.mpw_hier.specs.Items.{Item}
 use Rattle.mpw_rbac.specs.Policy.{Policy}
-use Rattle.mpw_layouts.specs.Layouts.{may_read, readable_shape}
+use Rattle.mpw_layouts.specs.Layouts.{readable_shape}
 use Rattle.mpw_replies.specs.Listing.{line_if, is_seen, seen_line, seen_lines}
+use Rattle.mpw_replies.specs.Sight.{may_read}
 
 same_test : (p : Submission → Bool) (o : Option Submission) (item : Item) → line_if (λ s. is_seen (option_map p o)) o item ≡ line_if p o item
 same_test p None item = refl

@@ -8,7 +8,6 @@ use Rattle.mpw_roles.specs.Hierarchy.{Name}
 use Rattle.mpw_rbac.specs.declared.permission.Operation.TheVariants.{Submit, Use, Read}
 use Rattle.mpw_rbac.specs.declared.permission.Object.TheVariants as object
 use Rattle.mpw_rbac.specs.Policy.{Policy, permits}
-use Rattle.mpw_rbac.specs.Access.{Access}
 use Rattle.mpw_rbac.specs.Rows.{user_of}
 use Rattle.mpw_library.specs.declared.structures.Structure.{Structure}
 use Rattle.mpw_library.specs.Grammar.{library_of}
@@ -23,6 +22,7 @@ use Rattle.mpw_hier.specs.Values.{flat}
 use Rattle.mpw_requests.specs.declared.layouts.LayoutRequest.{LayoutRequest}
 use Rattle.mpw_requests.specs.declared.layouts.LayoutRequest.TheVariants as ask
 use Rattle.mpw_replies.specs.Listing.{Listed, stored, line_if}
+use Rattle.mpw_replies.specs.Sight.{may_read}
 use Rattle.mpw_replies.specs.Rows.{◌>>=◌, denied, in_session, permitted, ended_by}
 use Rattle.mpw_replies.specs.declared.reply.Line.{Line}
 use Rattle.mpw_replies.specs.declared.reply.Line.TheVariants as line
@@ -122,14 +122,6 @@ cells policy shelf conn = decided (in_session policy conn ∷ []) (map stored (f
 abbrev pub shown : Option ℕ → Result ℕ Ending
 shown None = Err (ending.Refused code.NoCell)
 shown (Some number) = Ok number
-
--- the session may read the cell that the submission is of
-abbrev pub may_read : Policy → ℕ → Submission → Bool
-may_read policy conn s = permits policy conn Read (object.Cell s.cell)
-
--- the access permits its operation on that cell
-abbrev pub access_permits : Access → Submission → Bool
-access_permits access s = permits access.policy access.conn access.operation (object.Cell s.cell)
 
 -- the line of a shape, if the session may read the cell that the shape comes from
 abbrev pub readable_shape : Policy → List Submission → ℕ → Item → List Listed

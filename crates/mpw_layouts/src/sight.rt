@@ -1,29 +1,13 @@
-//! Which submissions a session sees.
-ghost use Rattle.std.specs.Prelude.{◌≡◌, ◌<◌, length, map, IfOk};
+//! The shapes that a session sees.
+ghost use Rattle.std.specs.Prelude.{◌≡◌, ◌<◌, length, IfOk};
 ghost use Rattle.std.specs.List.{flat_map};
 ghost use Rattle.mpw_hier.specs.Values.{flat};
-ghost use Rattle.mpw_layouts.specs.Layouts.{access_permits, readable_shape};
+ghost use Rattle.mpw_layouts.specs.Layouts.{readable_shape};
 
-use mpw_hier::{Shelf, Submission};
-use mpw_rbac::{Access, Object, Operation, Policy};
-use mpw_replies::ShapeListing;
+use mpw_hier::Shelf;
+use mpw_rbac::Policy;
+use mpw_replies::{ShapeListing, seen_by};
 use std::alloc::{AllocError, Global};
-
-/// Which submissions are of cells that the session may read, by number.
-fn seen_by(
-    alloc: Global,
-    access: &Access<'_>,
-    submissions: &[Submission],
-) -> Result<Vec<bool>, AllocError>
-    ensures { IfOk result (λ seen. seen.items ≡ map (access_permits access.now) submissions.now) }
-{
-    let mut seen = Vec::new(alloc);
-    for submission in submissions {
-        let object = Object::Cell(submission.cell.copy()?);
-        seen.push(access.permits(&object))?;
-    }
-    Ok(seen)
-}
 
 /// The listing of a submission, as the connection's session may see it: one look-up for each submission on the shelf, and
 /// the turns of a walk over the submission's shapes.
@@ -40,7 +24,6 @@ pub(crate) fn shapes_of(
     requires { number < length shelf.now }
     ensures { IfOk result (λ listing. listing ≡ flat_map (readable_shape policy.now shelf.now conn) (flat shelf.now number)) }
 {
-    let access = policy.access(conn, Operation::Read);
-    let seen = seen_by(alloc, &access, shelf.submissions())?;
+    let seen = seen_by(alloc, policy, conn, shelf.submissions())?;
     Ok(ShapeListing::new(shelf.copy(alloc)?, number, seen))
 }

@@ -1,2 +1,6 @@
+mod BookLines
+mod HiddenLemmas
 mod ListingLemmas
+mod MarkerLemmas
+mod RankLemmas
 mod RowLemmas

@@ -1,11 +1,11 @@
 -- What the first tests of a row deny.
-use Rattle.std.proofs.Common.{◌≡◌, ℕ, Bool, true, false, cond, Result, Ok, Err, refl}
+use Rattle.std.proofs.Common.{◌≡◌, ℕ, Bool, true, false, cond, Ok, Err, refl}
 use Rattle.std.specs.Prelude.{is_some}
 use Rattle.mpw_rbac.specs.declared.permission.Operation.{Operation}
 use Rattle.mpw_rbac.specs.declared.permission.Object.{Object}
 use Rattle.mpw_rbac.specs.Policy.{Policy, session_of, permits}
 use Rattle.mpw_replies.specs.Laws.{EnteringDeniesWhatIsLacked}
-use Rattle.mpw_replies.specs.Rows.{denied, permitted}
+use Rattle.mpw_replies.specs.Rows.{denied}
 use Rattle.mpw_replies.specs.declared.reply.Denial.TheVariants as denial
 use Rattle.mpw_replies.specs.declared.row.Ending.TheVariants as ending
 

@@ -1,6 +1,9 @@
 pub mod Laws
 pub mod Listing
+pub mod Ranks
 pub mod Readable
 pub mod Rows
 pub mod Shapes
+pub mod Sight
 pub mod Told
+pub mod Views

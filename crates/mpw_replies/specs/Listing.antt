@@ -1,5 +1,5 @@
 -- The lines of an accepted request's reply. A listing of shapes is kept as what it lists: the shelf, and which submissions may be seen.
-use Rattle.std.specs.Prelude.{◌≡◌, ℕ, Bool, true, false, List, [], ◌∷◌, map, length, slice_get, Option, None, Some, if◌then◌else◌}
+use Rattle.std.specs.Prelude.{◌≡◌, ℕ, Bool, false, List, [], ◌∷◌, length, slice_get, Option, None, Some, if◌then◌else◌}
 use Rattle.std.specs.List.{flat_map}
 use Rattle.mpw_geom.specs.declared.placing.Placing.{Placing}
 use Rattle.mpw_elements.specs.declared.element.Element.{Element}
@@ -8,14 +8,17 @@ use Rattle.mpw_hier.specs.Items.{Item}
 use Rattle.mpw_walk.specs.declared.root.Root.{Root}
 use Rattle.mpw_walk.specs.Turns.{flat_roots}
 use Rattle.mpw_walk.specs.Walk.{IsRoot}
+use Rattle.mpw_markers.specs.declared.marker.Key.{Key}
 use Rattle.mpw_roles.specs.Hierarchy.{Name}
 use Rattle.mpw_replies.specs.declared.reply.Line.{Line}
 
--- a line: one that is kept as it is told, or a shape with the cell and the version of the submission that it comes from, and how it
--- is placed
+-- a line: one that is kept as it is told; a shape with the cell and the version of the submission that it comes from, and how it is
+-- placed; a marker by the name of its rule, with its key and the cells that it meets; or how many markers of a rule are masked
 pub data Listed : Type 0 where
   stored : Line → Listed
   shape : Name → ℕ → Placing → Element → Listed
+  marker : Name → Key → List Name → Listed
+  masked : Name → ℕ → Listed
 
 -- the line of a shape that comes from a submission
 abbrev pub shape_line : Submission → Item → Listed

@@ -1,5 +1,5 @@
 -- The rows of requests: the tests of a row in order, of which the first that fails ends it.
-use Rattle.std.specs.Prelude.{◌≡◌, ℕ, Bool, List, [], ◌∷◌, is_some, Result, Ok, Err}
+use Rattle.std.specs.Prelude.{◌≡◌, ℕ, Bool, [], ◌∷◌, is_some, Result, Ok, Err}
 use Rattle.mpw_roles.specs.Decided.{decided}
 use Rattle.mpw_rbac.specs.declared.permission.Operation.{Operation}
 use Rattle.mpw_rbac.specs.declared.permission.Object.{Object}
@@ -49,6 +49,3 @@ abbrev pub IsNegative : Reply → Type 0
 IsNegative (reply.Ok lines) = ⊥
 IsNegative (reply.Denied why) = Unit {0}
 IsNegative (reply.Refused why) = Unit {0}
-IsNegative reply.Gone = ⊥
-IsNegative reply.Restarted = ⊥
-IsNegative reply.Ended = ⊥

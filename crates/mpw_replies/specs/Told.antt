@@ -9,7 +9,9 @@ use Rattle.mpw_replies.specs.Listing.{Listed, stored}
 abbrev pub told_lines : Told → List Listed
 told_lines (told.Stored lines) = map stored lines.items
 told_lines (told.Shapes listing) = listing
+told_lines (told.Markers listing) = listing
 
 abbrev pub kept_lines : Kept → List Listed
 kept_lines (kept.Stored lines) = map stored lines.now
 kept_lines (kept.Shapes listing) = listing.now
+kept_lines (kept.Markers listing) = listing.now

@@ -3,12 +3,25 @@
 //! A copy of a reply shares its lines, and a listing is kept as what it lists.
 #![tactic(auto)]
 
+mod laws;
 mod lines;
 mod listing;
+mod markers;
+mod masked;
+mod met;
 mod reply;
 mod row;
+mod sight;
 
+pub use laws::{
+    full_markers_are_not_hidden, hidden_markers_leave_no_trace,
+    lines_of_books_are_of_readable_cells,
+};
 pub use lines::{Kept, Lines};
 pub use listing::{ShapeListing, ShapeView, ShapeViews};
+pub use markers::{MarkerLines, MarkerListing, MarkerView, MarkerViews};
+pub use masked::{MaskedView, MaskedViews};
+pub use met::MetCells;
 pub use reply::{Code, Denial, Line, Reply};
 pub use row::{Ending, Fault, enter, entering_denies_what_is_lacked};
+pub use sight::seen_by;

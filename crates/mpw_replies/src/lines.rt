@@ -1,22 +1,24 @@
 //! The lines of an accepted request's reply.
 //!
-//! A copy of a reply shares its lines, and the history keeps each reply. So a listing of shapes is kept as what it lists
-//! ([`ShapeListing`]), and its lines are made one by one where they are written.
+//! A copy of a reply shares its lines, and the history keeps each reply. So a listing of shapes or of markers is kept as what it
+//! lists ([`ShapeListing`], [`MarkerListing`]), and its lines are made one by one where they are written.
 ghost use Rattle.std.specs.Prelude.{◌≡◌, [], IfOk, length, map};
 ghost use Rattle.mpw_replies.specs.Listing.{stored};
 ghost use Rattle.mpw_replies.specs.Told.{kept_lines, told_lines};
 
 use crate::listing::ShapeListing;
+use crate::markers::MarkerListing;
 use crate::reply::Line;
 use std::alloc::{AllocError, Global};
 use std::marker::Model;
 use std::sync::Arc;
 
-/// What a reply holds of its lines: the lines themselves, or the shapes that they list.
+/// What a reply holds of its lines: the lines themselves, or the shapes or the markers that they list.
 #[derive(Drop)]
 enum Told {
     Stored(Vec<Line>),
     Shapes(ShapeListing),
+    Markers(MarkerListing),
 }
 
 /// The lines of a reply, which contracts see as that list. Copies share them.
@@ -42,6 +44,8 @@ pub enum Kept<'a> {
     Stored(&'a [Line]),
     /// The shapes that they list.
     Shapes(&'a ShapeListing),
+    /// The markers that they list.
+    Markers(&'a MarkerListing),
 }
 
 impl Lines {
@@ -74,6 +78,17 @@ impl Lines {
         Ok(Lines { told: Some(told) })
     }
 
+    /// The lines of a listing of markers. One allocation.
+    ///
+    /// # Errors
+    /// Where there is no room for it.
+    pub fn of_markers(alloc: Global, listing: MarkerListing) -> Result<Lines, AllocError>
+        ensures { IfOk result (λ made. made ≡ listing) }
+    {
+        let told = Arc::new(alloc, Told::Markers(listing))?;
+        Ok(Lines { told: Some(told) })
+    }
+
     /// What is kept of the lines. It takes no memory.
     pub fn kept(&self) -> Kept<'_>
         ensures { kept_lines result ≡ self.now }
@@ -91,6 +106,7 @@ impl Lines {
         match self.kept() {
             Kept::Stored(lines) => lines.len(),
             Kept::Shapes(listing) => listing.len(),
+            Kept::Markers(listing) => listing.len(),
         }
     }
 
@@ -125,5 +141,6 @@ fn kept_of(told: &Told) -> Kept<'_>
     match told {
         Told::Stored(lines) => Kept::Stored(lines.as_slice()),
         Told::Shapes(listing) => Kept::Shapes(listing),
+        Told::Markers(listing) => Kept::Markers(listing),
     }
 }

@@ -2,14 +2,15 @@
 //!
 //! A listing holds the shelf, which submission it lists, and which submissions may be seen; copies of a reply share it. Its
 //! lines are made one by one by a walk, which takes no memory.
-ghost use Rattle.std.specs.Prelude.{◌≡◌, ◌<◌, ◌≤◌, ◌^◌, ◌∷◌, ◌++◌, [], length, slice_get, All, IfSome, IfNone};
+ghost use Rattle.std.specs.Prelude.{◌≡◌, ◌<◌, ◌≤◌, ◌^◌, ◌∷◌, ◌++◌, [], length, All, IfSome, IfNone};
 ghost use Rattle.mpw_hier.specs.Values.{flat};
 ghost use Rattle.mpw_walk.specs.Turns.{given, flat_roots};
 ghost use Rattle.mpw_walk.specs.Walk.{IsRoot};
 ghost use Rattle.mpw_walk.specs.Way.{IsPlaceable, item_of};
-ghost use Rattle.mpw_replies.specs.Listing.{is_seen, seen_line, seen_lines};
+ghost use Rattle.mpw_replies.specs.Listing.{seen_line, seen_lines};
 ghost use Rattle.mpw_replies.specs.Shapes.{IsPlaceableView, line_of, lines_of};
 
+use crate::sight::is_seen;
 use mpw_elements::Element;
 use mpw_geom::{Name, Placing};
 use mpw_hier::{Shelf, shelves_have_their_numbers};
@@ -152,16 +153,6 @@ fn view_of<'a>(shelf: &'a Shelf, seen: &[bool], placed: &Placed<'a>) -> Option<S
         placing: placed.placing,
         element: placed.element,
     })
-}
-
-/// Whether the submission of a number may be seen.
-fn is_seen(seen: &[bool], number: u32) -> bool
-    ensures { result ≡ is_seen (slice_get seen.now number) }
-{
-    match seen.get(number as usize) {
-        Some(seen) => *seen,
-        None => false,
-    }
 }
 
 /// The number of lines of roots that show at most 2^20 shapes.

@@ -4,9 +4,11 @@
 mod layouts;
 mod policy;
 mod request;
+mod run;
 mod wafer;
 
 pub use layouts::LayoutRequest;
 pub use policy::PolicyRequest;
 pub use request::{Request, SharedRequest};
+pub use run::RunRequest;
 pub use wafer::WaferRequest;

@@ -1,15 +1,14 @@
-use Rattle.std.proofs.Common.{◌≡◌, map, ap, ◌∙◌}
+use Rattle.std.proofs.Common.{◌≡◌, ap, ◌∙◌}
 use Rattle.mpw_hier.specs.Values.{flat}
-use Rattle.mpw_layouts.specs.Layouts.{may_read, access_permits}
-use Rattle.mpw_replies.specs.Listing.{seen_lines}
 use Rattle.mpw_layouts.proofs.SightLemmas.{all_readable}
+use Rattle.mpw_replies.specs.Listing.{seen_lines}
+use Rattle.mpw_replies.specs.Sight.{seen_by}
 use Rattle.mpw_layouts.proofs.sight.shapes_of.Goals as goal
 
 pub returns : goal.returns
 returns c =
     let ss = c.args.shelf.now in
     let policy = c.args.policy.now in
-    let seen : c.in_ok-seen.seen.items ≡ map (may_read policy c.args.conn) ss =
-    c.in_ok-seen.ensures ∙ ap (λ access. map (access_permits access) c.submissions.result.now) c.access-access.ensures ∙ ap (map (may_read policy c.args.conn)) c.submissions.ensures in
+    let seen : c.in_ok-seen.seen.items ≡ seen_by policy c.args.conn ss = c.in_ok-seen.ensures ∙ ap (seen_by policy c.args.conn) c.submissions.ensures in
     c.new.ensures ∙ ap (λ shelf. seen_lines shelf c.in_ok-seen.seen.items (flat shelf c.args.number)) c.in_ok-copy.ensures
     ∙ all_readable policy ss c.args.conn c.in_ok-seen.seen.items (flat ss c.args.number) seen

@@ -1,4 +1,4 @@
-use Rattle.std.proofs.Common.{◌≡◌, ◌≤◌, ◌+◌, ◌^◌, length, ap, arith}
+use Rattle.std.proofs.Common.{◌≡◌, ◌+◌, length, ap, arith}
 use Rattle.mpw_walk.specs.Turns.{flat_roots}
 use Rattle.mpw_replies.proofs.ListingLemmas.{lines_few}
 use Rattle.mpw_replies.proofs.listing.count_lines.Goals as goal

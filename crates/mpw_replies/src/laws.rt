@@ -1,0 +1,17 @@
+//! Laws of what a session sees of markers, over the definitions alone. Each function does nothing: its contract is the law.
+ghost use Rattle.mpw_replies.specs.Laws.{BooksAreOfReadable, FullAreNotHidden, HiddenLeaveNoTrace};
+
+/// A line of a book of markers names only cells that the connection's session may read.
+pub fn lines_of_books_are_of_readable_cells()
+    ensures { BooksAreOfReadable }
+{}
+
+/// A marker that meets a submission is not both shown in full and hidden.
+pub fn full_markers_are_not_hidden()
+    ensures { FullAreNotHidden }
+{}
+
+/// A hidden marker leaves no trace: neither a line nor a number.
+pub fn hidden_markers_leave_no_trace()
+    ensures { HiddenLeaveNoTrace }
+{}

@@ -1,0 +1,177 @@
+//! The cells that a marker meets, by name.
+//!
+//! A marker keeps the numbers of the submissions that it meets. For each submission the place of its cell among the cells
+//! by name is kept, its rank. Cells are gone over in blocks of 64: one pass over the met numbers marks those of a block,
+//! so that no memory is taken, and a marker costs its met numbers once for each block, and the cells.
+ghost use Rattle.std.specs.Prelude.{◌≡◌, ◌<◌, ◌^◌, ◌+◌, ◌||◌, ◌∷◌, [], ℕ, List, false, slice_get, slice_index_or, IfOk, IfSome, IfNone};
+ghost use Rattle.mpw_geom.specs.Names.{by_name};
+ghost use Rattle.mpw_roles.specs.Hierarchy.{Name as NameValue};
+ghost use Rattle.mpw_replies.specs.Ranks.{AreMarks, AreRanks, IsMarked, IsRank, is_at, is_met_at, met_left, met_of};
+
+use mpw_geom::Name;
+use mpw_hier::Submission;
+use std::alloc::{AllocError, Global};
+use std::marker::Model;
+
+/// How many cells are marked at once.
+const BLOCK: usize = 64;
+
+/// How far the cells are gone over: the next place, and the marks of the block from a base on.
+#[derive(Drop)]
+struct Turn {
+    at: usize,
+    base: usize,
+    marks: [bool; BLOCK],
+}
+
+/// The cells that a marker meets, which contracts see as the list of those that are still to come: in order of name,
+/// each once. It takes no memory.
+#[derive(Drop)]
+pub struct MetCells<'a> {
+    cells: &'a [Name],
+    ranks: &'a [usize],
+    met: &'a [u32],
+    turn: Turn,
+}
+
+impl<'a> Model for MetCells<'a> {
+    ghost use Rattle.std.specs.Prelude.{List};
+    ghost use Rattle.mpw_roles.specs.Hierarchy.{Name};
+    ghost use Rattle.mpw_replies.specs.Ranks.{IsMarked, met_left};
+
+    ghost Value = { List Name };
+
+    ghost view = { λ c. met_left c.cells.now c.ranks.now c.met.now c.turn };
+
+    ghost invariant = { λ c. IsMarked c.ranks.now c.met.now c.turn };
+}
+
+impl<'a> MetCells<'a> {
+    /// The cells of the met submissions. One pass over their numbers.
+    pub(crate) fn new(cells: &'a [Name], ranks: &'a [usize], met: &'a [u32]) -> MetCells<'a>
+        ensures { result ≡ met_of cells.now ranks.now met.now }
+    {
+        let turn = Turn {
+            at: 0,
+            base: 0,
+            marks: marks_from(ranks, met, 0),
+        };
+        MetCells {
+            cells,
+            ranks,
+            met,
+            turn,
+        }
+    }
+
+    /// The next cell; none behind the last. It takes no memory, and one pass over the met numbers for each 64 cells.
+    pub fn next(&mut self) -> Option<&'a Name>
+        ensures some { IfSome result (λ cell. self.old ≡ cell.now ∷ self.new) }
+        ensures none { IfNone result (self.old ≡ []) }
+    {
+        next_met(&mut self.turn, self.cells, self.ranks, self.met)
+    }
+}
+
+/// The next cell of a turn that is met.
+fn next_met<'a>(
+    turn: &mut Turn,
+    cells: &'a [Name],
+    ranks: &[usize],
+    met: &[u32],
+) -> Option<&'a Name>
+    requires { IsMarked ranks.now met.now turn.old }
+    ensures marked { IsMarked ranks.now met.now turn.new }
+    ensures some { IfSome result (λ cell. met_left cells.now ranks.now met.now turn.old ≡ cell.now ∷ met_left cells.now ranks.now met.now turn.new) }
+    ensures none { IfNone result (met_left cells.now ranks.now met.now turn.old ≡ []) }
+{
+    while turn.at < cells.len() {
+        let place = turn.at;
+        if goes_over(turn, ranks, met) {
+            return Some(&cells[place]);
+        }
+    }
+    None
+}
+
+/// Whether the cell at the turn's place is met. The turn goes on to the next place.
+fn goes_over(turn: &mut Turn, ranks: &[usize], met: &[u32]) -> bool
+    requires marked { IsMarked ranks.now met.now turn.old }
+    requires room { turn.old.at + 1 < 2 ^ 64 }
+    ensures met { result ≡ is_met_at ranks.now met.now turn.old.at }
+    ensures next { turn.new.at ≡ turn.old.at + 1 }
+    ensures marked { IsMarked ranks.now met.now turn.new }
+{
+    if turn.at - turn.base >= BLOCK {
+        turn.base = turn.at;
+        turn.marks = marks_from(ranks, met, turn.base);
+    }
+    let place = turn.at - turn.base;
+    turn.at += 1;
+    turn.marks[place]
+}
+
+/// Which of the 64 places from the base on are of cells of which a submission is met. One pass over the met numbers.
+fn marks_from(ranks: &[usize], met: &[u32], base: usize) -> [bool; BLOCK]
+    ensures { AreMarks ranks.now met.now base result }
+{
+    let mut marks = [false; BLOCK];
+    for number in met {
+        mark(&mut marks, base, rank_at(ranks, *number));
+    }
+    marks
+}
+
+/// Marks a rank, where it is one of the 64 places from the base on.
+fn mark(marks: &mut [bool; BLOCK], base: usize, rank: Option<usize>)
+    ensures { (i : ℕ) → i < 64 → slice_index_or marks.new i false ≡ (slice_index_or marks.old i false || is_at (base + i) rank) }
+{
+    let Some(rank) = rank else {
+        return;
+    };
+    if rank < base {
+        return;
+    }
+    let place = rank - base;
+    if place >= BLOCK {
+        return;
+    }
+    marks[place] = true;
+}
+
+/// The rank of the submission of a number.
+fn rank_at(ranks: &[usize], number: u32) -> Option<usize>
+    ensures { result ≡ slice_get ranks.now number }
+{
+    ranks.get(number as usize).copied()
+}
+
+/// The place of each submission's cell among the cells: a binary search each.
+///
+/// # Errors
+/// Where there is no room.
+pub(crate) fn ranks_of(
+    alloc: Global,
+    cells: &[Name],
+    submissions: &[Submission],
+) -> Result<Vec<usize>, AllocError>
+    requires { (names : List NameValue) × (cells.now ≡ by_name names) }
+    ensures { IfOk result (λ ranks. AreRanks cells.now submissions.now ranks.items) }
+{
+    let mut ranks = Vec::with_capacity(alloc, submissions.len())?;
+    for submission in submissions {
+        ranks.push(rank_of(cells, &submission.cell))?;
+    }
+    Ok(ranks)
+}
+
+/// The place of a name among names in their order; as many as there are, where it is not among them.
+fn rank_of(cells: &[Name], name: &Name) -> usize
+    requires { (names : List NameValue) × (cells.now ≡ by_name names) }
+    ensures { IsRank cells.now name.now result }
+{
+    match cells.binary_search(name) {
+        Ok(rank) => rank,
+        Err(_) => cells.len(),
+    }
+}
