@@ -37,6 +37,16 @@ started run planned = record { number = run.number + 1; phase = Cutting planned 
 abbrev pub cancelled : Run → Run
 cancelled run = record { number = run.number; phase = Idle }
 
+-- A run whose tiles are checked goes back to where it is cut, as where what was handed out is lost. Another is left.
+abbrev pub restarted_phase : Phase → Phase
+restarted_phase Idle = Idle
+restarted_phase (Cutting planned) = Cutting planned
+restarted_phase (Checking c) = Cutting c.planned
+restarted_phase (Finished f) = Finished f
+
+abbrev pub restarted : Run → Run
+restarted run = record { number = run.number; phase = restarted_phase run.phase }
+
 -- The task of a tile of a run.
 abbrev pub tile_task : ℕ → Checks → ℕ → Task
 tile_task number c tile = task_of c.planned.snapshot c.planned.plan c.windows number tile

@@ -3,7 +3,7 @@
 ghost use Rattle.std.specs.Prelude.{◌≡◌, ◌+◌, ◌<◌, ◌^◌, IfOk, Some, None, length, slice_get};
 ghost use Rattle.mpw_run.specs.Run.{Tile as TileValue};
 ghost use Rattle.mpw_run.specs.declared.phase.RunReply.TheVariants.{Kept};
-ghost use Rattle.mpw_run.specs.Step.{IsRun, new_run, started, cancelled, taken, tile_answered, tile_checked, tile_task, cut_answered, begun, handed, next_from, kept, answered_by};
+ghost use Rattle.mpw_run.specs.Step.{IsRun, new_run, started, cancelled, restarted, restarted_phase, taken, tile_answered, tile_checked, tile_task, cut_answered, begun, handed, next_from, kept, answered_by};
 ghost use Rattle.mpw_run.specs.declared.phase.Phase.TheVariants.{Cutting, Checking};
 ghost use Rattle.mpw_run.specs.Prepared.{IsFitting, IsPrepared, applied, set_tile};
 
@@ -64,6 +64,14 @@ impl Run {
         ensures { self.new ≡ cancelled self.old }
     {
         self.phase = Phase::Idle;
+    }
+
+    /// Takes a run whose tiles are checked back to where it is cut, and leaves another. It takes no memory.
+    pub fn restart(&mut self)
+        ensures { self.new ≡ restarted self.old }
+    {
+        let phase = mem::replace(&mut self.phase, Phase::Idle);
+        self.phase = cut_again(phase);
     }
 
     /// Each run keeps what is true of runs. A law: the function does nothing.
@@ -281,5 +289,15 @@ impl Run {
             reply: RunReply::Kept,
             change: Change::Check(windows, tiles),
         })
+    }
+}
+
+/// The phase that a restart leaves.
+fn cut_again(phase: Phase) -> Phase
+    ensures { result ≡ restarted_phase phase }
+{
+    match phase {
+        Phase::Checking(c) => Phase::Cutting(c.planned),
+        other => other,
     }
 }
