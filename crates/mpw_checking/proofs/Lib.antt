@@ -1,0 +1,4 @@
+pub mod Denials
+pub mod Leaving
+pub mod Parts
+pub mod Readable

@@ -1,0 +1,84 @@
+-- What requests over the run list may be read.
+use Rattle.std.proofs.Common.{◌≡◌, ℕ, ◌+◌, List, [], ◌∷◌, Result, Ok, Err, arith, refl, subst}
+use Rattle.std.specs.Prelude.{All}
+use Rattle.std.proofs.lemmas.List.Elements.{All-cons}
+use Rattle.mpw_rbac.specs.Policy.{Policy}
+use Rattle.mpw_requests.specs.declared.run.RunRequest.TheVariants as ask
+use Rattle.mpw_replies.specs.Laws.{BooksAreOfReadable}
+use Rattle.mpw_replies.specs.Listing.{Listed, stored}
+use Rattle.mpw_replies.specs.Readable.{IsOfReadable}
+use Rattle.mpw_replies.specs.Rows.{ended_by}
+use Rattle.mpw_replies.specs.declared.reply.Line.TheVariants as line
+use Rattle.mpw_replies.specs.declared.reply.Reply.TheVariants as reply
+use Rattle.mpw_replies.specs.declared.row.Ending.{Ending}
+use Rattle.mpw_replies.specs.declared.row.Ending.TheVariants as ending
+use Rattle.mpw_run.specs.declared.phase.Phase.{Phase}
+use Rattle.mpw_run.specs.declared.phase.Phase.TheVariants.{Idle, Cutting, Checking, Finished}
+use Rattle.mpw_run.specs.Run.{Planned}
+use Rattle.mpw_run.specs.Step.{Run}
+use Rattle.mpw_checking.specs.Laws.{MarkersAreOfReadable}
+use Rattle.mpw_checking.specs.Checking.{entered, begun, left_off, status, markers, finished, checked_lines, phase_line, begun_outcome, left_off_outcome, listed}
+use Rattle.mpw_checking.proofs.Parts.{passed}
+
+-- a reply that denies or refuses has no lines
+no_reply : (e : Ending) (lines : List Listed) → ended_by e ≡ reply.Ok lines → ⊥
+no_reply (ending.Denied why) lines told = cc
+no_reply (ending.Refused why) lines told = cc
+
+module _ (policy : Policy) (conn : ℕ) where
+  abbrev Readable : List Listed → Type 0
+  Readable lines = All (IsOfReadable policy conn) lines
+
+  none : Readable []
+  none = λ k d lt. absurd (omega (arith, lt))
+
+  one : (l : Listed) → IsOfReadable policy conn l → Readable (l ∷ [])
+  one l may = All-cons (IsOfReadable policy conn) l [] may none
+
+  of_phase : (number : ℕ) (phase : Phase) → Readable (stored (phase_line number phase) ∷ [])
+  of_phase number Idle = one (stored line.Idle) tt
+  of_phase number (Cutting planned) = one (stored (line.Cutting number)) tt
+  of_phase number (Checking c) = one (stored (phase_line number (Checking c))) tt
+  of_phase number (Finished f) = one (stored (line.Finished number)) tt
+
+  of_begun : (run : Run) (row : Result Planned Ending) (lines : List Listed)
+      → (begun_outcome run row).reply ≡ reply.Ok lines → Readable lines
+  of_begun run (Ok planned) lines e =
+      let same : stored (line.Run (run.number + 1)) ∷ [] ≡ lines = cc in
+      subst Readable same (one (stored (line.Run (run.number + 1))) tt)
+  of_begun run (Err why) lines e = absurd (no_reply why lines e)
+
+  of_left : (run : Run) (row : Result (Unit {0}) Ending) (lines : List Listed)
+      → (left_off_outcome run row).reply ≡ reply.Ok lines → Readable lines
+  of_left run (Ok x) lines e = let same : [] ≡ lines = cc in subst Readable same none
+  of_left run (Err why) lines e = absurd (no_reply why lines e)
+
+  -- what is listed is the row's
+  of_listed : (run : Run) (row : Result (List Listed) Ending) (lines : List Listed) → ((told : List Listed) → row ≡ Ok told → Readable told)
+      → (listed run row).reply ≡ reply.Ok lines → Readable lines
+  of_listed run (Ok told) lines may e = let same : told ≡ lines = cc in subst Readable same (may told refl)
+  of_listed run (Err why) lines may e = absurd (no_reply why lines e)
+
+  of_status : (run : Run) (told : List Listed) → status policy run conn ≡ Ok told → Readable told
+  unfolding status
+  of_status run told e =
+      let inside = passed (entered policy conn) _ told e in
+      let same : stored (phase_line run.number run.phase) ∷ [] ≡ told = cc in
+      subst Readable same (of_phase run.number run.phase)
+
+  of_markers : BooksAreOfReadable → (run : Run) (told : List Listed) → markers policy run conn ≡ Ok told → Readable told
+  unfolding markers
+  of_markers books run told e =
+      let inside = passed (entered policy conn) _ told e in
+      let f = passed (finished run.phase) _ told inside.2 in
+      let shelf = f.0.planned.snapshot.shelf in
+      let same : checked_lines policy conn f.0 ≡ told = cc in
+      subst Readable same (books policy conn f.0.planned.snapshot.deck.rules shelf f.0.book)
+
+pub lines_may : BooksAreOfReadable → MarkersAreOfReadable
+lines_may books policy shelf wafer run conn ask.Run lines e = of_begun policy conn run (begun policy shelf wafer run conn) lines e
+lines_may books policy shelf wafer run conn ask.Cancel lines e = of_left policy conn run (left_off policy run conn) lines e
+lines_may books policy shelf wafer run conn ask.Status lines e =
+    of_listed policy conn run (status policy run conn) lines (of_status policy conn run) e
+lines_may books policy shelf wafer run conn ask.Markers lines e =
+    of_listed policy conn run (markers policy run conn) lines (of_markers policy conn books run) e

@@ -1,0 +1,9 @@
+use Rattle.std.proofs.Common.{◌≡◌, ◌≤◌, ◌*◌, ◌^◌, take}
+use Rattle.mpw_walk.specs.Roots.{roots_count}
+use Rattle.mpw_checking.proofs.begin.shape_count.Given as goal
+
+abbrev pub invariant-loop-root : goal.invariant-loop-root
+invariant-loop-root l = record {
+  so_far : l.count ≡ roots_count l.snapshot.shelf (take l.root-index l.snapshot.roots);
+  small : l.count ≤ l.root-index * 2 ^ 32;
+}

@@ -1,0 +1,152 @@
+-- The requests over the checking run: each with its tests in order, and what it gives where all pass.
+use Rattle.std.specs.Prelude.{ℕ, ◌+◌, Bool, true, false, List, [], ◌∷◌, map, Option, None, Some, Result, Ok, Err}
+use Rattle.mpw_deck.specs.Decks.{Deck}
+use Rattle.mpw_hier.specs.declared.submission.Submission.{Submission}
+use Rattle.mpw_hier.specs.Items.{Item}
+use Rattle.mpw_placings.specs.declared.placement.Placement.{Placement}
+use Rattle.mpw_placings.specs.Placements.{roots_of}
+use Rattle.mpw_tiles.specs.Plan.{Tiling, tiles}
+use Rattle.mpw_tiles.specs.Snapshots.{Snapshot, shown, plan_for}
+use Rattle.mpw_roles.specs.Decided.{decided}
+use Rattle.mpw_rbac.specs.declared.permission.Operation.TheVariants as operation
+use Rattle.mpw_rbac.specs.declared.permission.Object.TheVariants as object
+use Rattle.mpw_rbac.specs.Policy.{Policy}
+use Rattle.mpw_requests.specs.declared.run.RunRequest.{RunRequest}
+use Rattle.mpw_requests.specs.declared.run.RunRequest.TheVariants as ask
+use Rattle.mpw_replies.specs.Listing.{Listed, stored}
+use Rattle.mpw_replies.specs.Rows.{◌>>=◌, in_session, permitted, ended_by}
+use Rattle.mpw_replies.specs.Sight.{seen_by, book_lines}
+use Rattle.mpw_replies.specs.declared.reply.Line.{Line}
+use Rattle.mpw_replies.specs.declared.reply.Line.TheVariants as line
+use Rattle.mpw_replies.specs.declared.reply.Code.TheVariants as code
+use Rattle.mpw_replies.specs.declared.reply.Reply.{Reply}
+use Rattle.mpw_replies.specs.declared.reply.Reply.TheVariants as reply
+use Rattle.mpw_replies.specs.declared.row.Ending.{Ending}
+use Rattle.mpw_replies.specs.declared.row.Ending.TheVariants as ending
+use Rattle.mpw_run.specs.declared.phase.Checked.{Checked}
+use Rattle.mpw_run.specs.declared.phase.Phase.{Phase}
+use Rattle.mpw_run.specs.declared.phase.Phase.TheVariants.{Idle, Cutting, Checking, Finished}
+use Rattle.mpw_run.specs.Run.{Planned, answered}
+use Rattle.mpw_run.specs.Step.{Run, started, cancelled}
+use Rattle.mpw_wafer.specs.declared.wafer.Wafer.{Wafer}
+
+-- ---- tests
+
+-- The connection has a session.
+abbrev pub entered : Policy → ℕ → Result (Unit {0}) Ending
+entered policy conn = decided (in_session policy conn ∷ []) tt
+
+-- No run goes on.
+abbrev pub at_rest : Phase → Result (Unit {0}) Ending
+at_rest Idle = Ok tt
+at_rest (Cutting planned) = Err (ending.Refused code.Running)
+at_rest (Checking c) = Err (ending.Refused code.Running)
+at_rest (Finished f) = Ok tt
+
+-- A run goes on.
+abbrev pub going_on : Phase → Result (Unit {0}) Ending
+going_on Idle = Err (ending.Refused code.NoRun)
+going_on (Cutting planned) = Ok tt
+going_on (Checking c) = Ok tt
+going_on (Finished f) = Err (ending.Refused code.NoRun)
+
+-- A run is finished.
+abbrev pub finished : Phase → Result Checked Ending
+finished Idle = Err (ending.Refused code.NotFinished)
+finished (Cutting planned) = Err (ending.Refused code.NotFinished)
+finished (Checking c) = Err (ending.Refused code.NotFinished)
+finished (Finished f) = Ok f
+
+-- There is a deck.
+abbrev pub decked : Option Deck → Result Deck Ending
+decked None = Err (ending.Refused code.NoDeck)
+decked (Some deck) = Ok deck
+
+-- What is placed shows a shape, and at most 4096 tiles cover it.
+abbrev pub covered : Snapshot → Option Tiling → Result Planned Ending
+covered snapshot None = Err (ending.Refused code.Tiles)
+covered snapshot (Some plan) = Ok (record { snapshot = snapshot; plan = plan })
+
+abbrev pub planned_over : Snapshot → List Item → Result Planned Ending
+planned_over snapshot [] = Err (ending.Refused code.Empty)
+planned_over snapshot (item ∷ items) = covered snapshot (plan_for snapshot)
+
+-- ---- rows
+
+-- What a run looks at: the deck, the submissions that are placed, in order, and the shelf that they are on.
+abbrev pub snapshot_of : Deck → List Placement → List Submission → Snapshot
+snapshot_of deck placings shelf = record { deck = deck; roots = roots_of placings; shelf = shelf }
+
+abbrev pub planned : Snapshot → Result Planned Ending
+planned snapshot = planned_over snapshot (shown snapshot)
+
+-- What a new run looks at, with the plan of its tiles.
+unfoldable pub begun : Policy → List Submission → Wafer → Run → ℕ → Result Planned Ending
+begun policy shelf wafer run conn = do
+  allowed ← permitted policy conn operation.Run object.Desk
+  free ← at_rest run.phase
+  deck ← decked wafer.deck
+  planned (snapshot_of deck wafer.placings shelf)
+
+unfoldable pub left_off : Policy → Run → ℕ → Result (Unit {0}) Ending
+left_off policy run conn = do
+  allowed ← permitted policy conn operation.Run object.Desk
+  going_on run.phase
+
+-- How far the run is.
+abbrev pub phase_line : ℕ → Phase → Line
+phase_line number Idle = line.Idle
+phase_line number (Cutting planned) = line.Cutting number
+phase_line number (Checking c) = line.Checking number (answered c.tiles) (tiles c.planned.plan)
+phase_line number (Finished f) = line.Finished number
+
+unfoldable pub status : Policy → Run → ℕ → Result (List Listed) Ending
+status policy run conn = do
+  inside ← entered policy conn
+  Ok (stored (phase_line run.number run.phase) ∷ [])
+
+-- The markers of a finished run, as far as the session may read the cells that they meet.
+abbrev pub checked_lines : Policy → ℕ → Checked → List Listed
+checked_lines policy conn f =
+    let shelf = f.planned.snapshot.shelf in
+    book_lines f.planned.snapshot.deck.rules shelf (seen_by policy conn shelf) f.book
+
+unfoldable pub markers : Policy → Run → ℕ → Result (List Listed) Ending
+markers policy run conn = do
+  inside ← entered policy conn
+  f ← finished run.phase
+  Ok (checked_lines policy conn f)
+
+-- ---- what comes of a request
+
+-- A reply with the run that it leaves, and whether that is a change, which has to be kept.
+pub record Outcome : Type 0 where
+  pub reply : Reply
+  pub run : Run
+  pub changes : Bool
+
+abbrev pub left : Reply → Run → Outcome
+left told run = record { reply = told; run = run; changes = false }
+
+abbrev pub changed : List Line → Run → Outcome
+changed lines run = record { reply = reply.Ok (map stored lines); run = run; changes = true }
+
+-- A new run is told its number.
+abbrev pub begun_outcome : Run → Result Planned Ending → Outcome
+begun_outcome run (Ok planned) = changed (line.Run (run.number + 1) ∷ []) (started run planned)
+begun_outcome run (Err ending) = left (ended_by ending) run
+
+abbrev pub left_off_outcome : Run → Result (Unit {0}) Ending → Outcome
+left_off_outcome run (Ok x) = changed [] (cancelled run)
+left_off_outcome run (Err ending) = left (ended_by ending) run
+
+abbrev pub listed : Run → Result (List Listed) Ending → Outcome
+listed run (Ok lines) = left (reply.Ok lines) run
+listed run (Err ending) = left (ended_by ending) run
+
+-- Each request by its row.
+abbrev pub outcome_of : Policy → List Submission → Wafer → Run → ℕ → RunRequest → Outcome
+outcome_of policy shelf wafer run conn ask.Run = begun_outcome run (begun policy shelf wafer run conn)
+outcome_of policy shelf wafer run conn ask.Cancel = left_off_outcome run (left_off policy run conn)
+outcome_of policy shelf wafer run conn ask.Status = listed run (status policy run conn)
+outcome_of policy shelf wafer run conn ask.Markers = listed run (markers policy run conn)

@@ -1,0 +1,128 @@
+//! The answers to requests over the checking run.
+ghost use Rattle.std.specs.Prelude.{◌+◌, ◌<◌, ◌^◌, List, Result, IfOk};
+ghost use Rattle.mpw_checking.specs.Answers.{Gives, IsEnd};
+ghost use Rattle.mpw_checking.specs.Checking.{outcome_of, begun_outcome, left_off_outcome, listed};
+ghost use Rattle.mpw_placings.specs.Placements.{ArePlacings};
+ghost use Rattle.mpw_replies.specs.Listing.{Listed};
+ghost use Rattle.mpw_replies.specs.Rows.{Answers};
+ghost use Rattle.mpw_replies.specs.declared.row.Ending.{Ending as AnyEnding};
+ghost use Rattle.mpw_run.specs.Run.{Planned as PlannedTold};
+
+use crate::begin::begin;
+use crate::rows::{leave, markers, one_line, status};
+use mpw_hier::Shelf;
+use mpw_rbac::Policy;
+use mpw_replies::{Fault, Line, Lines, Reply};
+use mpw_requests::RunRequest;
+use mpw_run::{Planned, Prepared, Run};
+use mpw_wafer::Wafer;
+use std::alloc::{AllocError, Global};
+
+/// What a request changes in the run.
+#[derive(Drop)]
+pub enum NextRun {
+    /// Nothing.
+    Same,
+    /// A new run begins.
+    Start(Prepared),
+    /// The run is left.
+    Cancel,
+}
+
+/// The reply to a request over the run, and what it changes in the run.
+#[derive(Drop)]
+pub struct RunAnswer {
+    pub reply: Reply,
+    pub next: NextRun,
+}
+
+/// What ends a row is told, and leaves the run; want of memory gives no answer.
+fn told(fault: Fault) -> Result<RunAnswer, AllocError>
+    ensures { IfOk result (IsEnd fault) }
+{
+    match fault {
+        Fault::Told(ending) => Ok(RunAnswer {
+            reply: ending.reply(),
+            next: NextRun::Same,
+        }),
+        Fault::Memory => Err(AllocError),
+    }
+}
+
+/// The answer to what begins a run.
+fn beginning(
+    alloc: Global,
+    run: &Run,
+    made: Result<Planned, Fault>,
+) -> Result<RunAnswer, AllocError>
+    requires { run.now.number + 1 < 2 ^ 32 }
+    ensures { (row : Result PlannedTold AnyEnding) → Answers (λ planned. planned) made row
+        → IfOk result (λ answer. Gives run.now (begun_outcome run.now row) answer) }
+{
+    match made {
+        Ok(planned) => {
+            let lines = one_line(alloc, Line::Run(run.number() + 1))?;
+            Ok(RunAnswer {
+                reply: Reply::Ok(lines),
+                next: NextRun::Start(run.prepare_start(planned)),
+            })
+        }
+        Err(fault) => told(fault),
+    }
+}
+
+/// The answer to what leaves a run.
+fn leaving(run: &Run, made: Result<(), Fault>) -> Result<RunAnswer, AllocError>
+    ensures { (row : Result (Unit {0}) AnyEnding) → Answers (λ x. x) made row
+        → IfOk result (λ answer. Gives run.now (left_off_outcome run.now row) answer) }
+{
+    let _number = run.number();
+    match made {
+        Ok(()) => Ok(RunAnswer {
+            reply: Reply::Ok(Lines::none()),
+            next: NextRun::Cancel,
+        }),
+        Err(fault) => told(fault),
+    }
+}
+
+/// The answer to what lists.
+fn listing(run: &Run, made: Result<Lines, Fault>) -> Result<RunAnswer, AllocError>
+    ensures { (row : Result (List Listed) AnyEnding) → Answers (λ lines. lines) made row
+        → IfOk result (λ answer. Gives run.now (listed run.now row) answer) }
+{
+    let _number = run.number();
+    match made {
+        Ok(lines) => Ok(RunAnswer {
+            reply: Reply::Ok(lines),
+            next: NextRun::Same,
+        }),
+        Err(fault) => told(fault),
+    }
+}
+
+/// The answer to a request over the run. A `run` is linear in the placings and the deck's rules, `status` in the run's tiles;
+/// `markers` takes a look-up for each submission on the run's shelf, and a listing of the run's book.
+///
+/// # Errors
+/// Where there is no room for it.
+pub fn answer_request(
+    alloc: Global,
+    policy: &Policy,
+    shelf: &Shelf,
+    wafer: &Wafer,
+    run: &Run,
+    conn: u32,
+    request: &RunRequest,
+) -> Result<RunAnswer, AllocError>
+    requires placings { ArePlacings shelf.now wafer.now.placings }
+    requires counted { run.now.number + 1 < 2 ^ 32 }
+    ensures { IfOk result (λ answer. Gives run.now (outcome_of policy.now shelf.now wafer.now run.now conn request.now) answer) }
+{
+    match request {
+        RunRequest::Run => beginning(alloc, run, begin(alloc, policy, shelf, wafer, run, conn)),
+        RunRequest::Cancel => leaving(run, leave(policy, run, conn)),
+        RunRequest::Status => listing(run, status(alloc, policy, run, conn)),
+        RunRequest::Markers => listing(run, markers(alloc, policy, run, conn)),
+    }
+}

@@ -1,0 +1,105 @@
+//! The row of `run`: what a new run looks at.
+//!
+//! It is a function that gives its value, or what ends the row, or tells want of memory. Its parts have the same form.
+ghost use Rattle.std.specs.Prelude.{◌≡◌, IfOk, length};
+ghost use Rattle.mpw_checking.specs.Checking as row;
+ghost use Rattle.mpw_placings.specs.Placements.{ArePlacings, roots_of};
+ghost use Rattle.mpw_replies.specs.Rows.{Answers};
+ghost use Rattle.mpw_tiles.specs.Snapshots.{AreRoots, shown};
+
+use mpw_deck::Deck;
+use mpw_hier::Shelf;
+use mpw_placings::Placings;
+use mpw_rbac::{Object, Operation, Policy};
+use mpw_replies::{Code, Fault, enter};
+use mpw_run::{Phase, Planned, Run};
+use mpw_tiles::Snapshot;
+use mpw_wafer::Wafer;
+use mpw_walk::roots_show_what_their_submissions_do;
+use std::alloc::{AllocError, Global};
+
+/// No run goes on.
+fn rest(phase: &Phase) -> Result<(), Fault>
+    ensures { Answers (λ x. x) result (row.at_rest phase.now) }
+{
+    match phase {
+        Phase::Idle => Ok(()),
+        Phase::Cutting(_) => Err(Fault::refused(Code::Running)),
+        Phase::Checking(_) => Err(Fault::refused(Code::Running)),
+        Phase::Finished(_) => Ok(()),
+    }
+}
+
+/// The deck, if there is one.
+fn deck(deck: &Option<Deck>) -> Result<Deck, Fault>
+    ensures { Answers (λ deck. deck) result (row.decked deck.now) }
+{
+    match deck {
+        Some(deck) => Ok(deck.copy()?),
+        None => Err(Fault::refused(Code::NoDeck)),
+    }
+}
+
+/// What a run over the placings looks at.
+fn snapshot(
+    alloc: Global,
+    deck: Deck,
+    placings: &Placings,
+    shelf: &Shelf,
+) -> Result<Snapshot, AllocError>
+    requires { AreRoots shelf.now (roots_of placings.now) }
+    ensures { IfOk result (λ snapshot. snapshot ≡ row.snapshot_of deck placings.now shelf.now) }
+{
+    let roots = placings.roots(alloc)?;
+    let shelf = shelf.copy(alloc)?;
+    Snapshot::new(alloc, deck, roots, shelf)
+}
+
+/// How many shapes are shown.
+fn shape_count(snapshot: &Snapshot) -> u64
+    ensures { result ≡ length (shown snapshot.now) }
+{
+    roots_show_what_their_submissions_do();
+    snapshot.is_snapshot();
+    let mut count = 0u64;
+    for root in snapshot.roots() {
+        count += u64::from(snapshot.shelf().count(root.submission));
+    }
+    count
+}
+
+/// The snapshot with the plan of its tiles. Linear in its roots and rules.
+fn plan(snapshot: Snapshot) -> Result<Planned, Fault>
+    ensures { Answers (λ planned. planned) result (row.planned snapshot) }
+{
+    if shape_count(&snapshot) == 0 {
+        return Err(Fault::refused(Code::Empty));
+    }
+    match Planned::of(snapshot) {
+        Some(planned) => {
+            planned.is_planned();
+            Ok(planned)
+        }
+        None => Err(Fault::refused(Code::Tiles)),
+    }
+}
+
+/// What a new run looks at, with the plan of its tiles. Linear in the placings and the deck's rules.
+#[tactic(auto, unfolding(crate::specs::Checking::begun))]
+pub(crate) fn begin(
+    alloc: Global,
+    policy: &Policy,
+    shelf: &Shelf,
+    wafer: &Wafer,
+    run: &Run,
+    conn: u32,
+) -> Result<Planned, Fault>
+    requires { ArePlacings shelf.now wafer.now.placings }
+    ensures { Answers (λ planned. planned) result (row.begun policy.now shelf.now wafer.now run.now conn) }
+{
+    enter(policy, conn, Operation::Run, Object::Desk)?;
+    rest(run.phase())?;
+    let deck = deck(&wafer.deck)?;
+    let snapshot = snapshot(alloc, deck, &wafer.placings, shelf)?;
+    plan(snapshot)
+}

@@ -1,0 +1,16 @@
+//! The requests over the checking run: `run`, `cancel`, `status` and `markers`.
+//!
+//! [`answer_request`] gives the reply to such a request, and what it changes in the run: a new run that was prepared, or that
+//! the run is left. It changes nothing itself.
+#![tactic(auto)]
+
+mod answer;
+mod begin;
+mod laws;
+mod rows;
+
+pub use answer::{NextRun, RunAnswer, answer_request};
+pub use laws::{
+    a_request_counts_one_run_at_most, denials_over_the_run_name_what_is_lacked,
+    lines_of_markers_are_of_readable_cells, runs_are_left_unless_a_request_is_accepted,
+};

@@ -1,0 +1,118 @@
+//! The rows of `cancel`, `status` and `markers`.
+//!
+//! Each is a function that gives its value, or what ends the row, or tells want of memory. Its parts have the same form.
+ghost use Rattle.std.specs.Prelude.{◌≡◌, ◌∷◌, [], IfOk};
+ghost use Rattle.mpw_checking.specs.Checking as row;
+ghost use Rattle.mpw_replies.specs.Listing.{stored};
+ghost use Rattle.mpw_replies.specs.Rows.{Answers};
+
+use mpw_rbac::{Object, Operation, Policy};
+use mpw_replies::{Code, Denial, Ending, Fault, Line, Lines, MarkerListing, enter, seen_by};
+use mpw_run::{Checked, Phase, Run};
+use std::alloc::{AllocError, Global};
+
+/// The connection has a session.
+fn session(policy: &Policy, conn: u32) -> Result<(), Fault>
+    ensures { Answers (λ x. x) result (row.entered policy.now conn) }
+{
+    if !policy.has_session(conn) {
+        return Err(Fault::Told(Ending::Denied(Denial::Session)));
+    }
+    Ok(())
+}
+
+/// A run goes on.
+fn goes_on(phase: &Phase) -> Result<(), Fault>
+    ensures { Answers (λ x. x) result (row.going_on phase.now) }
+{
+    match phase {
+        Phase::Idle => Err(Fault::refused(Code::NoRun)),
+        Phase::Cutting(_) => Ok(()),
+        Phase::Checking(_) => Ok(()),
+        Phase::Finished(_) => Err(Fault::refused(Code::NoRun)),
+    }
+}
+
+/// Whether the run may be left: it goes on, and the session may do so.
+#[tactic(auto, unfolding(crate::specs::Checking::left_off))]
+pub(crate) fn leave(policy: &Policy, run: &Run, conn: u32) -> Result<(), Fault>
+    ensures { Answers (λ x. x) result (row.left_off policy.now run.now conn) }
+{
+    enter(policy, conn, Operation::Run, Object::Desk)?;
+    goes_on(run.phase())
+}
+
+/// How far the run is. Linear in its tiles.
+fn phase_line(run: &Run) -> Line
+    ensures { result ≡ row.phase_line run.now.number run.now.phase }
+{
+    let run_number = run.number();
+    match run.phase() {
+        Phase::Idle => Line::Idle,
+        Phase::Cutting(_) => Line::Cutting(run_number),
+        Phase::Checking(checks) => Line::Checking {
+            run: run_number,
+            done: checks.done(),
+            total: checks.total(),
+        },
+        Phase::Finished(_) => Line::Finished(run_number),
+    }
+}
+
+/// One line.
+pub(crate) fn one_line(alloc: Global, line: Line) -> Result<Lines, AllocError>
+    ensures { IfOk result (λ lines. lines ≡ stored line ∷ []) }
+{
+    let mut lines = Vec::new(alloc);
+    lines.push(line)?;
+    Lines::from_vec(alloc, lines)
+}
+
+/// The line of `status`. Linear in the run's tiles.
+#[tactic(auto, unfolding(crate::specs::Checking::status))]
+pub(crate) fn status(alloc: Global, policy: &Policy, run: &Run, conn: u32) -> Result<Lines, Fault>
+    ensures { Answers (λ lines. lines) result (row.status policy.now run.now conn) }
+{
+    session(policy, conn)?;
+    Ok(one_line(alloc, phase_line(run))?)
+}
+
+/// What a finished run found.
+fn findings(phase: &Phase) -> Result<&Checked, Fault>
+    ensures { Answers (λ f. f.now) result (row.finished phase.now) }
+{
+    match phase {
+        Phase::Idle => Err(Fault::refused(Code::NotFinished)),
+        Phase::Cutting(_) => Err(Fault::refused(Code::NotFinished)),
+        Phase::Checking(_) => Err(Fault::refused(Code::NotFinished)),
+        Phase::Finished(checked) => Ok(checked),
+    }
+}
+
+/// The lines of what a finished run found, as far as the session may read the cells.
+fn checked_lines(
+    alloc: Global,
+    policy: &Policy,
+    conn: u32,
+    checked: &Checked,
+) -> Result<Lines, AllocError>
+    ensures { IfOk result (λ lines. lines ≡ row.checked_lines policy.now conn checked.now) }
+{
+    let snapshot = checked.planned.snapshot();
+    let shelf = snapshot.shelf();
+    let seen = seen_by(alloc, policy, conn, shelf.submissions())?;
+    let book = checked.book.copy()?;
+    let rules = snapshot.deck().rules().copy()?;
+    let listing = MarkerListing::new(alloc, book, rules, shelf.copy(alloc)?, seen)?;
+    Lines::of_markers(alloc, listing)
+}
+
+/// The lines of `markers`: a look-up for each submission on the run's shelf, and what the listing takes.
+#[tactic(auto, unfolding(crate::specs::Checking::markers))]
+pub(crate) fn markers(alloc: Global, policy: &Policy, run: &Run, conn: u32) -> Result<Lines, Fault>
+    ensures { Answers (λ lines. lines) result (row.markers policy.now run.now conn) }
+{
+    session(policy, conn)?;
+    let checked = findings(run.phase())?;
+    Ok(checked_lines(alloc, policy, conn, checked)?)
+}
