@@ -16,7 +16,6 @@ use Rattle.mpw_requests.specs.declared.policy.PolicyRequest.TheVariants.{Open, C
 use Rattle.mpw_core.specs.PolicyRows.{row_of}
 use Rattle.mpw_core.specs.declared.event.Call.{Call}
 use Rattle.mpw_core.specs.History.{state_after}
-use Rattle.mpw_replies.specs.declared.reply.Reply.{Reply}
 use Rattle.mpw_core.specs.Step.{State, Outcome, new_state, left, changed, asked, identity_lines, outcome_of, wanted, unkept, settled, step, after}
 
 -- every active role is authorized
@@ -52,11 +51,16 @@ keeps-request : (s : State) (conn : ℕ) (request : Request) → active_authoriz
 keeps-request s conn (ask.Policy request) sound = keeps-changed s (row_of s.policy conn request) (λ q is. keeps-row s.policy conn request q is sound) sound
 keeps-request s conn ask.Whoami sound = keeps-asked s (rows.whoami s.policy conn) sound
 keeps-request s conn (ask.Layout request) sound = sound
+keeps-request s conn (ask.Wafer request) sound = sound
+keeps-request s conn (ask.Run request) sound = sound
 
 keeps-wanted : (s : State) (event : Event) → active_authorized s.policy ≡ true → active_authorized (wanted s event).state.policy ≡ true
 unfolding wanted
 keeps-wanted s (event.Ask conn request) sound = keeps-request s conn request sound
 keeps-wanted s (event.Gone conn) sound = law.keeps-end_session conn s.policy (rows.end_session s.policy conn) refl sound
+keeps-wanted s (event.Take worker) sound = sound
+keeps-wanted s (event.Cut answer) sound = sound
+keeps-wanted s (event.Tile answer) sound = sound
 keeps-wanted s event.Restart sound = law.keeps-end_sessions s.policy (rows.end_sessions s.policy) refl sound
 
 keeps-settled : (s : State) (event : Event) (kept : Bool) (outcome : Outcome) → active_authorized s.policy ≡ true → active_authorized outcome.state.policy ≡ true → active_authorized (settled s event kept outcome).state.policy ≡ true
@@ -107,11 +111,16 @@ sound-request : (s : State) (conn : ℕ) (request : Request) → Sound s.policy 
 sound-request s conn (ask.Policy request) sound = sound-changed s (row_of s.policy conn request) (λ q is. sound-row s.policy conn request q is sound) sound
 sound-request s conn ask.Whoami sound = sound-asked s (rows.whoami s.policy conn) sound
 sound-request s conn (ask.Layout request) sound = sound
+sound-request s conn (ask.Wafer request) sound = sound
+sound-request s conn (ask.Run request) sound = sound
 
 sound-wanted : (s : State) (event : Event) → Sound s.policy → Sound (wanted s event).state.policy
 unfolding wanted
 sound-wanted s (event.Ask conn request) sound = sound-request s conn request sound
 sound-wanted s (event.Gone conn) sound = law.sound-end_session conn s.policy (rows.end_session s.policy conn) refl sound
+sound-wanted s (event.Take worker) sound = sound
+sound-wanted s (event.Cut answer) sound = sound
+sound-wanted s (event.Tile answer) sound = sound
 sound-wanted s event.Restart sound = law.sound-end_sessions s.policy (rows.end_sessions s.policy) refl sound
 
 sound-settled : (s : State) (event : Event) (kept : Bool) (outcome : Outcome) → Sound s.policy → Sound outcome.state.policy → Sound (settled s event kept outcome).state.policy

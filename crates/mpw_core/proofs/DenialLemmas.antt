@@ -16,10 +16,18 @@ use Rattle.mpw_requests.specs.declared.policy.PolicyRequest.{PolicyRequest}
 use Rattle.mpw_requests.specs.declared.policy.PolicyRequest.TheVariants.{Open, Close, Activate, DropRole, AddUser, DelUser, AddRole, DelRole, Assign, Deassign, Grant, Revoke, Inherit, Uninherit, Ssd, Dsd, UnSsd, UnDsd}
 use Rattle.mpw_core.specs.PolicyRows.{row_of}
 use Rattle.mpw_replies.specs.declared.reply.Denial.TheVariants as denial
+use Rattle.mpw_replies.specs.declared.reply.Reply.{Reply}
 use Rattle.mpw_replies.specs.declared.reply.Reply.TheVariants as reply
+use Rattle.mpw_core.specs.declared.event.Response.TheVariants as response
 use Rattle.mpw_layouts.specs.Laws.{LayoutsDenyWhatIsLacked}
-use Rattle.mpw_core.specs.Step.{State, Outcome, told, changed, asked, identity_lines, outcome_of, wanted, step, reply_of}
+use Rattle.mpw_wafer.specs.Laws.{WafersDenyWhatIsLacked}
+use Rattle.mpw_checking.specs.Laws.{RunsDenyWhatIsLacked}
+use Rattle.mpw_core.specs.Step.{State, Outcome, told, changed, asked, identity_lines, outcome_of, wanted, step, response_of}
 use Rattle.mpw_core.proofs.RefusalLemmas.{settled-denied}
+
+-- what is told is told alike
+pub inside : {a b : Reply} → response.Told a ≡ response.Told b → a ≡ b
+inside e = cc
 
 permission-told : (r : Refusal) (operation : Operation) (object : Object) → told r ≡ reply.Denied (denial.Permission operation object) → r ≡ refusal.NotPermitted operation object
 permission-told refusal.Opened operation object e = cc
@@ -49,17 +57,17 @@ activation-told refusal.Known other e = cc
 activation-told refusal.Used other e = cc
 activation-told refusal.Full other e = cc
 
-pub permission-changed : (s : State) (row : Result Policy Refusal) (operation : Operation) (object : Object) → (changed s row).reply ≡ reply.Denied (denial.Permission operation object) → row ≡ Err (refusal.NotPermitted operation object)
+pub permission-changed : (s : State) (row : Result Policy Refusal) (operation : Operation) (object : Object) → (changed s row).response ≡ response.Told (reply.Denied (denial.Permission operation object)) → row ≡ Err (refusal.NotPermitted operation object)
 permission-changed s (Ok q) operation object e = cc
-permission-changed s (Err r) operation object e = ap (λ x. Err x) (permission-told r operation object e)
+permission-changed s (Err r) operation object e = ap (λ x. Err x) (permission-told r operation object (inside e))
 
-permission-asked : (s : State) (row : Result Identity Refusal) (operation : Operation) (object : Object) → (asked s identity_lines row).reply ≡ reply.Denied (denial.Permission operation object) → row ≡ Err (refusal.NotPermitted operation object)
+permission-asked : (s : State) (row : Result Identity Refusal) (operation : Operation) (object : Object) → (asked s identity_lines row).response ≡ response.Told (reply.Denied (denial.Permission operation object)) → row ≡ Err (refusal.NotPermitted operation object)
 permission-asked s (Ok q) operation object e = cc
-permission-asked s (Err r) operation object e = ap (λ x. Err x) (permission-told r operation object e)
+permission-asked s (Err r) operation object e = ap (λ x. Err x) (permission-told r operation object (inside e))
 
-activation-changed : (s : State) (row : Result Policy Refusal) (other : List ℕ) → (changed s row).reply ≡ reply.Denied (denial.Activation other) → row ≡ Err (refusal.NotAuthorized other)
+activation-changed : (s : State) (row : Result Policy Refusal) (other : List ℕ) → (changed s row).response ≡ response.Told (reply.Denied (denial.Activation other)) → row ≡ Err (refusal.NotAuthorized other)
 activation-changed s (Ok q) other e = cc
-activation-changed s (Err r) other e = ap (λ x. Err x) (activation-told r other e)
+activation-changed s (Err r) other e = ap (λ x. Err x) (activation-told r other (inside e))
 
 lacks-row : (p : Policy) (conn : ℕ) (request : PolicyRequest) (operation : Operation) (object : Object) → row_of p conn request ≡ Err (refusal.NotPermitted operation object) → permits p conn operation object ≡ false
 lacks-row p conn (Open user digest) operation object e = law.denies-open_session conn user digest p operation object e
@@ -81,19 +89,22 @@ lacks-row p conn (Dsd set) operation object e = law.denies-dsd conn set p operat
 lacks-row p conn (UnSsd name) operation object e = law.denies-unssd conn name p operation object e
 lacks-row p conn (UnDsd name) operation object e = law.denies-undsd conn name p operation object e
 
-lacks-request : LayoutsDenyWhatIsLacked → (s : State) (conn : ℕ) (request : Request) (operation : Operation) (object : Object) → (outcome_of s conn request).reply ≡ reply.Denied (denial.Permission operation object) → permits s.policy conn operation object ≡ false
-lacks-request lacks s conn (ask.Policy request) operation object e = lacks-row s.policy conn request operation object (permission-changed s (row_of s.policy conn request) operation object e)
-lacks-request lacks s conn ask.Whoami operation object e = absurd (law.denies-whoami s.policy conn operation object (permission-asked s (rows.whoami s.policy conn) operation object e))
-lacks-request lacks s conn (ask.Layout request) operation object e = lacks s.policy s.shelf conn request operation object e
+module _ (shelves : LayoutsDenyWhatIsLacked) (wafers : WafersDenyWhatIsLacked) (runs : RunsDenyWhatIsLacked) where
+  lacks-request : (s : State) (conn : ℕ) (request : Request) (operation : Operation) (object : Object) → (outcome_of s conn request).response ≡ response.Told (reply.Denied (denial.Permission operation object)) → permits s.policy conn operation object ≡ false
+  lacks-request s conn (ask.Policy request) operation object e = lacks-row s.policy conn request operation object (permission-changed s (row_of s.policy conn request) operation object e)
+  lacks-request s conn ask.Whoami operation object e = absurd (law.denies-whoami s.policy conn operation object (permission-asked s (rows.whoami s.policy conn) operation object e))
+  lacks-request s conn (ask.Layout request) operation object e = shelves s.policy s.shelf conn request operation object (inside e)
+  lacks-request s conn (ask.Wafer request) operation object e = wafers s.policy s.shelf s.wafer conn request operation object (inside e)
+  lacks-request s conn (ask.Run request) operation object e = runs s.policy s.shelf s.wafer s.run conn request operation object (inside e)
 
-pub lacks-permission : LayoutsDenyWhatIsLacked → (s : State) (conn : ℕ) (request : Request) (kept : Bool) (operation : Operation) (object : Object) → reply_of s (event.Ask conn request) kept ≡ reply.Denied (denial.Permission operation object) → permits s.policy conn operation object ≡ false
-unfolding step wanted
-lacks-permission lacks s conn request kept operation object e =
-    let same = settled-denied s (event.Ask conn request) kept (outcome_of s conn request) (denial.Permission operation object) e in
-    lacks-request lacks s conn request operation object (ap (λ (o : Outcome). o.reply) (sym same) ∙ e)
+  pub lacks-permission : (s : State) (conn : ℕ) (request : Request) (kept : Bool) (operation : Operation) (object : Object) → response_of s (event.Ask conn request) kept ≡ response.Told (reply.Denied (denial.Permission operation object)) → permits s.policy conn operation object ≡ false
+  unfolding step wanted
+  lacks-permission s conn request kept operation object e =
+      let same = settled-denied s (event.Ask conn request) kept (outcome_of s conn request) (denial.Permission operation object) e in
+      lacks-request s conn request operation object (ap (λ (o : Outcome). o.response) (sym same) ∙ e)
 
-pub lacks-role : (s : State) (conn : ℕ) (role other : List ℕ) (kept : Bool) → reply_of s (event.Ask conn (ask.Policy (Activate role))) kept ≡ reply.Denied (denial.Activation other) → (other ≡ role) × (contains_name (authorized s.policy (rows.user_of s.policy conn)) role ≡ false)
+pub lacks-role : (s : State) (conn : ℕ) (role other : List ℕ) (kept : Bool) → response_of s (event.Ask conn (ask.Policy (Activate role))) kept ≡ response.Told (reply.Denied (denial.Activation other)) → (other ≡ role) × (contains_name (authorized s.policy (rows.user_of s.policy conn)) role ≡ false)
 unfolding step wanted
 lacks-role s conn role other kept e =
     let same = settled-denied s (event.Ask conn (ask.Policy (Activate role))) kept (outcome_of s conn (ask.Policy (Activate role))) (denial.Activation other) e in
-    law.denies-activate s.policy conn role other (activation-changed s (rows.activate s.policy conn role) other (ap (λ (o : Outcome). o.reply) (sym same) ∙ e))
+    law.denies-activate s.policy conn role other (activation-changed s (rows.activate s.policy conn role) other (ap (λ (o : Outcome). o.response) (sym same) ∙ e))

@@ -33,11 +33,16 @@ module _
     kept-request s conn (ask.Policy request) kept = kept-changed s (row_of s.policy conn request) (λ q is. row_keeps conn request s.policy q is kept) kept
     kept-request s conn ask.Whoami kept = kept-asked s (rows.whoami s.policy conn) kept
     kept-request s conn (ask.Layout request) kept = kept
+    kept-request s conn (ask.Wafer request) kept = kept
+    kept-request s conn (ask.Run request) kept = kept
 
     kept-wanted : (s : State) (event : Event) → IsKept s.policy → IsKept (wanted s event).state.policy
     unfolding wanted
     kept-wanted s (event.Ask conn request) kept = kept-request s conn request kept
     kept-wanted s (event.Gone conn) kept = end_keeps conn s.policy (rows.end_session s.policy conn) refl kept
+    kept-wanted s (event.Take worker) kept = kept
+    kept-wanted s (event.Cut answer) kept = kept
+    kept-wanted s (event.Tile answer) kept = kept
     kept-wanted s event.Restart kept = ends_keep s.policy (rows.end_sessions s.policy) refl kept
 
     kept-settled : (s : State) (event : Event) (was : Bool) (outcome : Outcome) → IsKept s.policy → IsKept outcome.state.policy → IsKept (settled s event was outcome).state.policy

@@ -9,3 +9,7 @@ pub mod GoingOnLemmas
 mod ReadableLemmas
 mod KeptLemmas
 mod PolicyReplies
+mod RunLemmas
+mod PlacingLemmas
+mod ReadyLemmas
+mod SettlingLemmas

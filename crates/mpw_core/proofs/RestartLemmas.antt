@@ -2,10 +2,11 @@
 use Rattle.std.proofs.Common.{◌≡◌, ℕ, Bool, None, refl}
 use Rattle.mpw_rbac.specs.Policy.{session_of}
 use Rattle.mpw_core.specs.declared.event.Event.TheVariants as event
-use Rattle.mpw_replies.specs.declared.reply.Reply.TheVariants as reply
-use Rattle.mpw_core.specs.Step.{State, wanted, step, reply_of, after}
+use Rattle.mpw_core.specs.declared.event.Response.TheVariants as response
+use Rattle.mpw_run.specs.Step as run
+use Rattle.mpw_core.specs.Step.{State, wanted, step, response_of, after}
 
-pub restart-told : (s : State) (kept : Bool) → reply_of s event.Restart kept ≡ reply.Restarted
+pub restart-told : (s : State) (kept : Bool) → response_of s event.Restart kept ≡ response.Restarted
 unfolding step wanted
 restart-told s kept = refl
 
@@ -13,6 +14,10 @@ pub restart-ends : (s : State) (kept : Bool) (conn : ℕ) → session_of (after 
 unfolding step wanted
 restart-ends s kept conn = refl
 
-pub restart-rest : (s : State) (kept : Bool) → record (after s event.Restart kept) { policy = record (after s event.Restart kept).policy { sessions = s.policy.sessions } } ≡ s
+pub restart-cuts : (s : State) (kept : Bool) → (after s event.Restart kept).run ≡ run.restarted s.run
+unfolding step wanted
+restart-cuts s kept = refl
+
+pub restart-rest : (s : State) (kept : Bool) → record (after s event.Restart kept) { policy = record (after s event.Restart kept).policy { sessions = s.policy.sessions }; run = s.run } ≡ s
 unfolding step wanted
 restart-rest s kept = refl

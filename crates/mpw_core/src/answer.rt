@@ -1,23 +1,32 @@
-//! *Prepare*: the reply to an event and what it changes, made aside from the desk's own.
-ghost use Rattle.std.specs.Prelude.{◌≡◌, IfErr, IfOk, OnOk, Ok, Result, map};
+//! *Prepare*: the response to an event and what it changes, made aside from the desk's own.
+ghost use Rattle.std.specs.Prelude.{◌≡◌, false, IfErr, IfOk, OnOk, Ok, Result, map};
 ghost use Rattle.mpw_rbac.specs.Policy.{Policy as PolicyState};
 ghost use Rattle.mpw_rbac.specs.Rows as rows;
 ghost use Rattle.mpw_rbac.specs.Rows.{IsFaultOf};
 ghost use Rattle.mpw_rbac.specs.declared.refusal.Refusal.{Refusal as PolicyRefusal};
+ghost use Rattle.mpw_checking.specs.Checking as checking;
 ghost use Rattle.mpw_layouts.specs.Layouts as layouts;
+ghost use Rattle.mpw_run.specs.Prepared.{IsPrepared};
+ghost use Rattle.mpw_run.specs.Step.{Outcome as RunOutcome};
+ghost use Rattle.mpw_wafer.specs.Wafers as wafers;
 ghost use Rattle.mpw_replies.specs.Listing.{stored};
-ghost use Rattle.mpw_core.specs.Answer.{IsRefusal, Gives, open_state};
+ghost use Rattle.mpw_core.specs.Answer.{IsRefusal, IsReady, Gives, moved, open_state, run_response};
+ghost use Rattle.mpw_core.specs.History.{restarts};
 ghost use Rattle.mpw_core.specs.PolicyRows.{row_of};
-ghost use Rattle.mpw_core.specs.Step.{State, told, changed, asked, over_shelf, wanted, parted, outcome_of, identity_lines};
+ghost use Rattle.mpw_core.specs.Step.{State, told, changed, asked, finishes, of_run, over_run, over_shelf, over_wafer, wanted, parted, outcome_of, identity_lines};
 
-use crate::Event;
 use crate::policy::make;
+use crate::tables::Tables;
+use crate::{Event, Response, SharedRunReply};
+use mpw_checking::{NextRun, RunAnswer};
 use mpw_geom::Names;
 use mpw_hier::Shelf;
-use mpw_layouts::{LayoutAnswer, answer_request};
+use mpw_layouts::LayoutAnswer;
 use mpw_rbac::{Identity, Policy, PolicyFault, Refusal};
 use mpw_replies::{Code, Denial, Line, Lines, Reply};
-use mpw_requests::{LayoutRequest, PolicyRequest, Request};
+use mpw_requests::{LayoutRequest, PolicyRequest, Request, RunRequest, WaferRequest};
+use mpw_run::{Prepared, RunReply};
+use mpw_wafer::{Wafer, WaferAnswer};
 use std::alloc::{AllocError, Global};
 
 /// What moves in where an event is answered.
@@ -26,14 +35,21 @@ pub(crate) enum Next {
     Nothing,
     NextPolicy(Policy),
     NextShelf(Shelf),
-    /// All sessions end, which takes no memory.
-    NoSessions,
+    NextWafer(Wafer),
+    /// What was prepared for the run, and has to be kept.
+    Change(Prepared),
+    /// What was prepared for the run, of which nothing has to be kept.
+    Move(Prepared),
+    /// The run is left, which takes no memory.
+    Cancel,
+    /// All sessions end, and a run that is checked goes back to where it is cut, which takes no memory.
+    Restart,
 }
 
-/// A reply, and what changes with it.
+/// A response, and what changes with it.
 #[derive(Drop)]
 pub(crate) struct Answer {
-    pub(crate) reply: Reply,
+    pub(crate) response: Response,
     pub(crate) next: Next,
 }
 
@@ -61,11 +77,11 @@ fn told(refusal: Refusal) -> Reply
 
 /// A fault of the policy as an answer that changes nothing, or as want of memory.
 fn refused(fault: PolicyFault) -> Result<Answer, AllocError>
-    ensures { IfOk result (λ answer. IsRefusal fault answer.reply answer.next) }
+    ensures { IfOk result (λ answer. IsRefusal fault answer.response answer.next) }
 {
     match fault {
         PolicyFault::Refused(refusal) => Ok(Answer {
-            reply: told(refusal),
+            response: Response::Told(told(refusal)),
             next: Next::Nothing,
         }),
         PolicyFault::Memory => Err(AllocError),
@@ -74,11 +90,11 @@ fn refused(fault: PolicyFault) -> Result<Answer, AllocError>
 
 /// The answer of a changed copy of the policy.
 fn changed(next: Policy, made: Result<(), PolicyFault>) -> Result<Answer, AllocError>
-    ensures { (state : State) (row : Result PolicyState PolicyRefusal) → OnOk made (row ≡ Ok next) → IfErr made (IsFaultOf row) → IfOk result (λ answer. Gives state (changed state row) answer.reply answer.next) }
+    ensures { (state : State) (row : Result PolicyState PolicyRefusal) → OnOk made (row ≡ Ok next) → IfErr made (IsFaultOf row) → IfOk result (λ answer. Gives state (changed state row) answer.response answer.next) }
 {
     match made {
         Ok(()) => Ok(Answer {
-            reply: Reply::Ok(Lines::none()),
+            response: Response::Told(Reply::Ok(Lines::none())),
             next: Next::NextPolicy(next),
         }),
         Err(fault) => refused(fault),
@@ -102,11 +118,11 @@ fn identity_lines(alloc: Global, identity: Identity) -> Result<Lines, AllocError
 
 /// Answers `whoami`.
 fn whoami(alloc: Global, policy: &Policy, conn: u32) -> Result<Answer, AllocError>
-    ensures { (state : State) → state.policy ≡ policy.now → IfOk result (λ answer. Gives state (asked state identity_lines (rows.whoami policy.now conn)) answer.reply answer.next) }
+    ensures { (state : State) → state.policy ≡ policy.now → IfOk result (λ answer. Gives state (asked state identity_lines (rows.whoami policy.now conn)) answer.response answer.next) }
 {
     match policy.whoami(conn) {
         Ok(identity) => Ok(Answer {
-            reply: Reply::Ok(identity_lines(alloc, identity)?),
+            response: Response::Told(Reply::Ok(identity_lines(alloc, identity)?)),
             next: Next::Nothing,
         }),
         Err(fault) => refused(fault),
@@ -115,7 +131,7 @@ fn whoami(alloc: Global, policy: &Policy, conn: u32) -> Result<Answer, AllocErro
 
 /// Answers a request of the policy on a copy of it.
 fn revised(policy: &Policy, conn: u32, request: &PolicyRequest) -> Result<Answer, AllocError>
-    ensures { (state : State) → state.policy ≡ policy.now → IfOk result (λ answer. Gives state (changed state (row_of policy.now conn request.now)) answer.reply answer.next) }
+    ensures { (state : State) → state.policy ≡ policy.now → IfOk result (λ answer. Gives state (changed state (row_of policy.now conn request.now)) answer.response answer.next) }
 {
     let mut next = policy.copy()?;
     let made = make(&mut next, conn, request);
@@ -125,81 +141,196 @@ fn revised(policy: &Policy, conn: u32, request: &PolicyRequest) -> Result<Answer
 /// Answers a request over the shelf.
 fn layout(
     alloc: Global,
-    policy: &Policy,
-    shelf: &Shelf,
+    tables: &Tables,
     conn: u32,
     request: &LayoutRequest,
 ) -> Result<Answer, AllocError>
-    ensures { IfOk result (λ answer. Gives (open_state policy.now shelf.now) (over_shelf (open_state policy.now shelf.now) (layouts.outcome_of policy.now shelf.now conn request.now)) answer.reply answer.next) }
+    ensures { IfOk result (λ answer. Gives (open_state tables.now) (over_shelf (open_state tables.now) (layouts.outcome_of tables.now.policy tables.now.shelf conn request.now)) answer.response answer.next) }
 {
-    let LayoutAnswer { reply, next } = answer_request(alloc, policy, shelf, conn, request)?;
+    let LayoutAnswer { reply, next } = mpw_layouts::answer_request(
+        alloc,
+        &tables.policy,
+        &tables.shelf,
+        conn,
+        request,
+    )?;
+    let response = Response::Told(reply);
     match next {
         Some(next) => Ok(Answer {
-            reply,
+            response,
             next: Next::NextShelf(next),
         }),
         None => Ok(Answer {
-            reply,
+            response,
             next: Next::Nothing,
         }),
     }
 }
 
-/// Answers a request.
-fn ask(
+/// Answers a request over the wafer.
+fn wafer(
     alloc: Global,
-    policy: &Policy,
-    shelf: &Shelf,
+    tables: &Tables,
     conn: u32,
-    request: &Request,
+    request: &WaferRequest,
 ) -> Result<Answer, AllocError>
-    ensures { IfOk result (λ answer. Gives (open_state policy.now shelf.now) (outcome_of (open_state policy.now shelf.now) conn request.now) answer.reply answer.next) }
+    ensures { IfOk result (λ answer. Gives (open_state tables.now) (over_wafer (open_state tables.now) (wafers.outcome_of tables.now.policy tables.now.shelf tables.now.wafer conn request.now)) answer.response answer.next) }
+{
+    let Tables {
+        policy,
+        shelf,
+        wafer,
+        ..
+    } = tables;
+    let WaferAnswer { reply, next } = mpw_wafer::answer_request(
+        alloc, policy, shelf, wafer, conn, request,
+    )?;
+    let response = Response::Told(reply);
+    match next {
+        Some(next) => Ok(Answer {
+            response,
+            next: Next::NextWafer(next),
+        }),
+        None => Ok(Answer {
+            response,
+            next: Next::Nothing,
+        }),
+    }
+}
+
+/// Answers a request over the run.
+fn checking(
+    alloc: Global,
+    tables: &Tables,
+    conn: u32,
+    request: &RunRequest,
+) -> Result<Answer, AllocError>
+    requires { IsReady tables.now }
+    ensures { IfOk result (λ answer. Gives (open_state tables.now) (over_run (open_state tables.now) (checking.outcome_of tables.now.policy tables.now.shelf tables.now.wafer tables.now.run conn request.now)) answer.response answer.next) }
+{
+    let Tables {
+        policy,
+        shelf,
+        wafer,
+        run,
+    } = tables;
+    let RunAnswer { reply, next } = mpw_checking::answer_request(
+        alloc, policy, shelf, wafer, run, conn, request,
+    )?;
+    let response = Response::Told(reply);
+    match next {
+        NextRun::Same => Ok(Answer {
+            response,
+            next: Next::Nothing,
+        }),
+        NextRun::Start(prepared) => Ok(Answer {
+            response,
+            next: Next::Change(prepared),
+        }),
+        NextRun::Cancel => Ok(Answer {
+            response,
+            next: Next::Cancel,
+        }),
+    }
+}
+
+/// Answers a request.
+fn ask(alloc: Global, tables: &Tables, conn: u32, request: &Request) -> Result<Answer, AllocError>
+    requires { IsReady tables.now }
+    ensures { IfOk result (λ answer. Gives (open_state tables.now) (outcome_of (open_state tables.now) conn request.now) answer.response answer.next) }
 {
     match request {
-        Request::Policy(request) => revised(policy, conn, request),
-        Request::Whoami => whoami(alloc, policy, conn),
-        Request::Layout(request) => layout(alloc, policy, shelf, conn, request),
+        Request::Policy(request) => revised(&tables.policy, conn, request),
+        Request::Whoami => whoami(alloc, &tables.policy, conn),
+        Request::Layout(request) => layout(alloc, tables, conn, request),
+        Request::Wafer(request) => wafer(alloc, tables, conn, request),
+        Request::Run(request) => checking(alloc, tables, conn, request),
     }
 }
 
 /// Answers a connection's end. Where the connection has no session there is nothing to change, and nothing is copied.
 fn gone(policy: &Policy, conn: u32) -> Result<Answer, AllocError>
-    ensures { (state : State) → state.policy ≡ policy.now → IfOk result (λ answer. Gives state (parted state conn) answer.reply answer.next) }
+    ensures { (state : State) → state.policy ≡ policy.now → IfOk result (λ answer. Gives state (parted state conn) answer.response answer.next) }
 {
     if !policy.has_session(conn) {
         return Ok(Answer {
-            reply: Reply::Gone,
+            response: Response::Gone,
             next: Next::Nothing,
         });
     }
     let mut next = policy.copy()?;
     next.end(conn);
     Ok(Answer {
-        reply: Reply::Gone,
+        response: Response::Gone,
         next: Next::NextPolicy(next),
     })
 }
 
-/// The answer to an event. It takes the policy's size at most, and its own; a submission takes its library's size, and
-/// the number of submissions on the shelf, and so does `cells`; `shapes` takes the turns of a walk too.
+/// What the run answers, shared by its copies. One allocation, and those of a job's copy.
+///
+/// # Errors
+/// Where there is no room for it, or no more copies can be counted.
+fn run_response(alloc: Global, reply: &RunReply) -> Result<Response, AllocError>
+    ensures { IfOk result (λ response. response ≡ run_response reply.now) }
+{
+    let reply = reply.copy(alloc)?;
+    Ok(Response::Run(SharedRunReply::new(alloc, reply)?))
+}
+
+/// Whether the reply finishes a run.
+fn finishes(reply: &RunReply) -> bool
+    ensures { result ≡ finishes reply.now }
+{
+    matches!(reply, RunReply::Finished)
+}
+
+/// What moves in of what was prepared for the run: what finishes the run has to be kept.
+fn moved(prepared: Prepared) -> Next
+    ensures { result ≡ moved prepared }
+{
+    if finishes(&prepared.reply) {
+        Next::Change(prepared)
+    } else {
+        Next::Move(prepared)
+    }
+}
+
+/// The answer to an event of the run.
+///
+/// # Errors
+/// Where there is no room for the reply's copy, or no more copies can be counted.
+fn of_run(alloc: Global, prepared: Prepared) -> Result<Answer, AllocError>
+    ensures { (state : State) (outcome : RunOutcome) → IsPrepared prepared state.run outcome → IfOk result (λ answer. Gives state (of_run state outcome) answer.response answer.next) }
+{
+    match run_response(alloc, &prepared.reply) {
+        Ok(response) => Ok(Answer {
+            response,
+            next: moved(prepared),
+        }),
+        Err(error) => Err(error),
+    }
+}
+
+/// The answer to an event. A request takes the policy's size at most, and its own: a submission its library's size and the
+/// number of submissions on the shelf, and so does `cells`; `shapes` takes the turns of a walk too. An event of the run takes
+/// what the run's own `prepare` takes.
 ///
 /// # Errors
 /// Where there is no room for it.
 #[tactic(auto, unfolding(crate::specs::Step::wanted))]
-pub(crate) fn prepare(
-    alloc: Global,
-    policy: &Policy,
-    shelf: &Shelf,
-    event: &Event,
-) -> Result<Answer, AllocError>
-    ensures { IfOk result (λ answer. Gives (open_state policy.now shelf.now) (wanted (open_state policy.now shelf.now) event.now) answer.reply answer.next) }
+pub(crate) fn prepare(alloc: Global, tables: &Tables, event: &Event) -> Result<Answer, AllocError>
+    requires { restarts event.now ≡ false → IsReady tables.now }
+    ensures { IfOk result (λ answer. Gives (open_state tables.now) (wanted (open_state tables.now) event.now) answer.response answer.next) }
 {
     match event {
-        Event::Ask { conn, request } => ask(alloc, policy, shelf, *conn, request.get()),
-        Event::Gone { conn } => gone(policy, *conn),
+        Event::Ask { conn, request } => ask(alloc, tables, *conn, request.get()),
+        Event::Gone { conn } => gone(&tables.policy, *conn),
+        Event::Take { .. } => of_run(alloc, tables.run.prepare_take(alloc)?),
+        Event::Cut(answer) => of_run(alloc, tables.run.prepare_cut(alloc, answer.get())?),
+        Event::Tile(answer) => of_run(alloc, tables.run.prepare_tile(alloc, answer.get())?),
         Event::Restart => Ok(Answer {
-            reply: Reply::Restarted,
-            next: Next::NoSessions,
+            response: Response::Restarted,
+            next: Next::Restart,
         }),
     }
 }

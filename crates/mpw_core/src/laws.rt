@@ -1,5 +1,5 @@
 //! Laws of the definitions alone. Each function calls at most the laws that its own rests on: its contract is the law.
-ghost use Rattle.std.specs.Prelude.{◌≡◌, ◌≢◌, ℕ, Bool, List, All, true, false, None};
+ghost use Rattle.std.specs.Prelude.{◌≡◌, ◌≢◌, ◌≤◌, ℕ, Bool, List, All, length, true, false, None};
 ghost use Rattle.mpw_geom.specs.Names.{contains_name};
 ghost use Rattle.mpw_rbac.specs.Policy.{authorized, is_user, permits, session_of};
 ghost use Rattle.mpw_rbac.specs.Rows.{is_login, user_of};
@@ -11,12 +11,14 @@ ghost use Rattle.mpw_rbac.specs.declared.permission.Operation.TheVariants.{Admin
 ghost use Rattle.mpw_requests.specs.declared.policy.PolicyRequest.{PolicyRequest as AnyPolicyRequest};
 ghost use Rattle.mpw_core.specs.Requested.{is_administration, requested};
 ghost use Rattle.mpw_core.specs.History.{state_after, KeptDesk, IsHandled, GoesOnTo};
-ghost use Rattle.mpw_replies.specs.declared.reply.Reply.{Reply as AnyReply};
+ghost use Rattle.mpw_placings.specs.Placements.{ArePlacings};
 ghost use Rattle.mpw_replies.specs.Listing.{Listed};
 ghost use Rattle.mpw_replies.specs.Readable.{IsOfReadable};
-ghost use Rattle.mpw_core.specs.Step.{State, new_state, outcome_of, wanted, unkept, left, step, reply_of, after};
+ghost use Rattle.mpw_core.specs.Step.{State, new_state, outcome_of, wanted, unkept, left, step, response_of, after};
 ghost use Rattle.mpw_core.specs.declared.event.Event.{Event};
 ghost use Rattle.mpw_core.specs.declared.event.Event.TheVariants as event;
+ghost use Rattle.mpw_core.specs.declared.event.Response.{Response};
+ghost use Rattle.mpw_core.specs.declared.event.Response.TheVariants as response;
 ghost use Rattle.mpw_requests.specs.declared.request.Request.{Request as AnyRequest};
 ghost use Rattle.mpw_requests.specs.declared.request.Request.TheVariants as ask;
 ghost use Rattle.mpw_requests.specs.declared.policy.PolicyRequest.TheVariants as Request;
@@ -28,15 +30,29 @@ ghost use Rattle.mpw_replies.specs.declared.reply.Reply.TheVariants as Reply;
 ghost use Rattle.mpw_core.specs.declared.event.Call.{Call};
 ghost use Rattle.mpw_rbac.specs.declared.permission.Object.{Object};
 ghost use Rattle.mpw_rbac.specs.declared.permission.Operation.{Operation};
+ghost use Rattle.mpw_run.specs.declared.phase.RunReply.{RunReply as AnyRunReply};
+ghost use Rattle.mpw_run.specs.Laws.{leaves};
+ghost use Rattle.mpw_run.specs.Step.{restarted};
+ghost use Rattle.mpw_core.specs.Answer.{run_response};
 
+use mpw_checking::{
+    a_request_counts_one_run_at_most, denials_over_the_run_name_what_is_lacked,
+    lines_of_markers_are_of_readable_cells, runs_are_left_unless_a_request_is_accepted,
+};
 use mpw_layouts::{
     denials_of_layouts_name_what_is_lacked, layouts_are_left_unless_a_request_is_accepted,
     lines_of_layouts_are_of_readable_cells,
 };
+use mpw_placings::{each_change_keeps, later_submissions_keep};
 use mpw_rbac::{
     administration_needs_its_permission, denied_only_for_the_least_broken_set,
     each_request_keeps_the_tables, own_requests_need_no_permission,
     sets_are_told_where_they_are_tested,
+};
+use mpw_run::unkept_leaves_the_run;
+use mpw_wafer::{
+    changes_of_the_wafer_keep_its_placings, denials_over_the_wafer_name_what_is_lacked,
+    wafers_are_left_unless_a_request_is_accepted,
 };
 
 /// In every state that calls lead to, each session is of a user who is authorized for each of its active roles.
@@ -52,16 +68,26 @@ pub fn every_state_keeps_separation()
 
 /// A login is denied alike where the user is unknown and where the token is another.
 pub fn unknown_users_are_denied_like_wrong_tokens()
-    ensures unknown { (state : State) (conn : ℕ) (user digest : List ℕ) → session_of state.policy conn ≡ None → is_user state.policy user ≡ false → (outcome_of state conn (ask.Policy (Request.Open user digest))).reply ≡ Reply.Denied denial.Login }
-    ensures wrong { (state : State) (conn : ℕ) (user digest : List ℕ) → session_of state.policy conn ≡ None → is_login state.policy user digest ≡ false → (outcome_of state conn (ask.Policy (Request.Open user digest))).reply ≡ Reply.Denied denial.Login }
+    ensures unknown { (state : State) (conn : ℕ) (user digest : List ℕ) → session_of state.policy conn ≡ None → is_user state.policy user ≡ false → (outcome_of state conn (ask.Policy (Request.Open user digest))).response ≡ response.Told (Reply.Denied denial.Login) }
+    ensures wrong { (state : State) (conn : ℕ) (user digest : List ℕ) → session_of state.policy conn ≡ None → is_login state.policy user digest ≡ false → (outcome_of state conn (ask.Policy (Request.Open user digest))).response ≡ response.Told (Reply.Denied denial.Login) }
 {}
 
 /// A denial leaves the state as it was, and so does a refusal unless it tells that the change could not be kept.
 pub fn denials_and_refusals_change_nothing()
-    ensures denied { (state : State) (event : Event) (kept : Bool) (why : Denial) → reply_of state event kept ≡ Reply.Denied why → after state event kept ≡ state }
-    ensures refused { (state : State) (event : Event) (kept : Bool) (why : Code) → why ≢ code.Store → reply_of state event kept ≡ Reply.Refused why → after state event kept ≡ state }
+    ensures denied { (state : State) (event : Event) (kept : Bool) (why : Denial) → response_of state event kept ≡ response.Told (Reply.Denied why) → after state event kept ≡ state }
+    ensures refused { (state : State) (event : Event) (kept : Bool) (why : Code) → why ≢ code.Store → response_of state event kept ≡ response.Told (Reply.Refused why) → after state event kept ≡ state }
 {
     layouts_are_left_unless_a_request_is_accepted();
+    wafers_are_left_unless_a_request_is_accepted();
+    runs_are_left_unless_a_request_is_accepted();
+}
+
+/// What the run doesn't keep leaves the state as it was: what is told as a stranger's, as double or as of an old run. So does
+/// a call to which no job is handed out.
+pub fn what_is_not_kept_leaves_the_run()
+    ensures { (state : State) (event : Event) (kept : Bool) (reply : AnyRunReply) → leaves reply ≡ true → response_of state event kept ≡ run_response reply → after state event kept ≡ state }
+{
+    unkept_leaves_the_run();
 }
 
 /// A change that is kept counts as it was wanted; one that could not be kept closes the desk and changes nothing else.
@@ -70,17 +96,19 @@ pub fn changes_count_once_they_are_kept()
     ensures unkept { (state : State) (event : Event) → (wanted state event).changes ≡ true → step state event false ≡ left (unkept event) (record state { closed = true }) }
 {}
 
-/// A restart ends every session, and changes nothing else: with the sessions of before put back all is as before.
+/// A restart ends every session and takes a run that is checked back to where it is cut, and changes nothing else: with the
+/// sessions and the run of before put back all is as before.
 pub fn a_restart_ends_every_session()
-    ensures told { (state : State) (kept : Bool) → reply_of state event.Restart kept ≡ Reply.Restarted }
+    ensures told { (state : State) (kept : Bool) → response_of state event.Restart kept ≡ response.Restarted }
     ensures ended { (state : State) (kept : Bool) (conn : ℕ) → session_of (after state event.Restart kept).policy conn ≡ None }
-    ensures rest { (state : State) (kept : Bool) → record (after state event.Restart kept) { policy = record (after state event.Restart kept).policy { sessions = state.policy.sessions } } ≡ state }
+    ensures cut { (state : State) (kept : Bool) → (after state event.Restart kept).run ≡ restarted state.run }
+    ensures rest { (state : State) (kept : Bool) → record (after state event.Restart kept) { policy = record (after state event.Restart kept).policy { sessions = state.policy.sessions }; run = state.run } ≡ state }
 {}
 
 /// A desk goes on by calls, and a keeper whose list is known has just their changes behind those before, in order: where an
 /// event is handled, where nothing is, and so over every list of events.
 pub fn keepers_have_the_changes_in_order()
-    ensures handled { (d left : KeptDesk) (event : Event) (reply : AnyReply) → IsHandled d event reply left → GoesOnTo d left }
+    ensures handled { (d left : KeptDesk) (event : Event) (answered : Response) → IsHandled d event answered left → GoesOnTo d left }
     ensures stays { (d : KeptDesk) → GoesOnTo d d }
     ensures on { (a b c : KeptDesk) → GoesOnTo a b → GoesOnTo b c → GoesOnTo a c }
 {}
@@ -88,18 +116,21 @@ pub fn keepers_have_the_changes_in_order()
 /// Whatever the request, a line of its reply that tells of a cell, or shows a shape of one, is of a cell that the connection's
 /// session may read.
 pub fn lines_are_of_readable_cells()
-    ensures { (state : State) (conn : ℕ) (request : AnyRequest) (kept : Bool) (lines : List Listed) → reply_of state (event.Ask conn request) kept ≡ Reply.Ok lines → All (IsOfReadable state.policy conn) lines }
+    ensures { (state : State) (conn : ℕ) (request : AnyRequest) (kept : Bool) (lines : List Listed) → response_of state (event.Ask conn request) kept ≡ response.Told (Reply.Ok lines) → All (IsOfReadable state.policy conn) lines }
 {
     lines_of_layouts_are_of_readable_cells();
+    lines_of_markers_are_of_readable_cells();
 }
 
 /// A denial of a permission, whatever the request, names one that the connection's session lacks. A denial of an
 /// activation names the role that was asked for, and the session's user is not authorized for it.
 pub fn denials_name_what_the_session_lacks()
-    ensures permission { (state : State) (conn : ℕ) (request : AnyRequest) (kept : Bool) (operation : Operation) (object : Object) → reply_of state (event.Ask conn request) kept ≡ Reply.Denied (denial.Permission operation object) → permits state.policy conn operation object ≡ false }
-    ensures activation { (state : State) (conn : ℕ) (role other : List ℕ) (kept : Bool) → reply_of state (event.Ask conn (ask.Policy (Request.Activate role))) kept ≡ Reply.Denied (denial.Activation other) → (other ≡ role) × (contains_name (authorized state.policy (user_of state.policy conn)) role ≡ false) }
+    ensures permission { (state : State) (conn : ℕ) (request : AnyRequest) (kept : Bool) (operation : Operation) (object : Object) → response_of state (event.Ask conn request) kept ≡ response.Told (Reply.Denied (denial.Permission operation object)) → permits state.policy conn operation object ≡ false }
+    ensures activation { (state : State) (conn : ℕ) (role other : List ℕ) (kept : Bool) → response_of state (event.Ask conn (ask.Policy (Request.Activate role))) kept ≡ response.Told (Reply.Denied (denial.Activation other)) → (other ≡ role) × (contains_name (authorized state.policy (user_of state.policy conn)) role ≡ false) }
 {
     denials_of_layouts_name_what_is_lacked();
+    denials_over_the_wafer_name_what_is_lacked();
+    denials_over_the_run_name_what_is_lacked();
 }
 
 /// In every state that calls lead to, the policy's tables name users and roles that are there, and hold no more than their
@@ -110,17 +141,34 @@ pub fn every_state_keeps_its_tables()
     each_request_keeps_the_tables();
 }
 
+/// In every state that calls lead to, what is placed is sound on the shelf: no two placings have the same cell and label, each
+/// is of a submission of its cell, and a run can look at them.
+pub fn every_state_keeps_its_placings()
+    ensures { (officer digest : List ℕ) (calls : List Call) → ArePlacings (state_after (new_state officer digest) calls).shelf (state_after (new_state officer digest) calls).wafer.placings }
+{
+    each_change_keeps();
+    later_submissions_keep();
+    changes_of_the_wafer_keep_its_placings();
+}
+
+/// In every state that calls lead to, no more runs were accepted than calls were made.
+pub fn every_state_counts_its_runs()
+    ensures { (officer digest : List ℕ) (calls : List Call) → (state_after (new_state officer digest) calls).run.number ≤ length calls }
+{
+    a_request_counts_one_run_at_most();
+}
+
 /// A request that administers the desk is accepted only of a session that had the permission `admin desk`.
 pub fn accepted_administration_had_its_permission()
-    ensures { (state : State) (conn : ℕ) (request : AnyPolicyRequest) (kept : Bool) (lines : List Listed) → is_administration request ≡ true → reply_of state (event.Ask conn (ask.Policy request)) kept ≡ Reply.Ok lines → permits state.policy conn Admin Desk ≡ true }
+    ensures { (state : State) (conn : ℕ) (request : AnyPolicyRequest) (kept : Bool) (lines : List Listed) → is_administration request ≡ true → response_of state (event.Ask conn (ask.Policy request)) kept ≡ response.Told (Reply.Ok lines) → permits state.policy conn Admin Desk ≡ true }
 {
     administration_needs_its_permission();
 }
 
 /// A denial for a set of separation of duty names the least set of its kind that the policy that was asked for would break.
 pub fn sets_are_denied_for_what_was_asked()
-    ensures ssd { (state : State) (conn : ℕ) (request : AnyPolicyRequest) (kept : Bool) (name : List ℕ) → reply_of state (event.Ask conn (ask.Policy request)) kept ≡ Reply.Denied (denial.Ssd name) → IsLeastStatic (requested state.policy conn request) name }
-    ensures dsd { (state : State) (conn : ℕ) (request : AnyPolicyRequest) (kept : Bool) (name : List ℕ) → reply_of state (event.Ask conn (ask.Policy request)) kept ≡ Reply.Denied (denial.Dsd name) → IsLeastDynamic (requested state.policy conn request) name }
+    ensures ssd { (state : State) (conn : ℕ) (request : AnyPolicyRequest) (kept : Bool) (name : List ℕ) → response_of state (event.Ask conn (ask.Policy request)) kept ≡ response.Told (Reply.Denied (denial.Ssd name)) → IsLeastStatic (requested state.policy conn request) name }
+    ensures dsd { (state : State) (conn : ℕ) (request : AnyPolicyRequest) (kept : Bool) (name : List ℕ) → response_of state (event.Ask conn (ask.Policy request)) kept ≡ response.Told (Reply.Denied (denial.Dsd name)) → IsLeastDynamic (requested state.policy conn request) name }
 {
     denied_only_for_the_least_broken_set();
     sets_are_told_where_they_are_tested();
@@ -128,7 +176,7 @@ pub fn sets_are_denied_for_what_was_asked()
 
 /// `open`, `close`, `activate` and `drop` are never denied for want of a permission.
 pub fn own_requests_are_never_denied_a_permission()
-    ensures { (state : State) (conn : ℕ) (request : AnyPolicyRequest) (kept : Bool) (operation : Operation) (object : Object) → is_administration request ≡ false → reply_of state (event.Ask conn (ask.Policy request)) kept ≡ Reply.Denied (denial.Permission operation object) → ⊥ }
+    ensures { (state : State) (conn : ℕ) (request : AnyPolicyRequest) (kept : Bool) (operation : Operation) (object : Object) → is_administration request ≡ false → response_of state (event.Ask conn (ask.Policy request)) kept ≡ response.Told (Reply.Denied (denial.Permission operation object)) → ⊥ }
 {
     own_requests_need_no_permission();
 }

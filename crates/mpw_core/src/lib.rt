@@ -12,15 +12,19 @@ mod event;
 mod keeper;
 mod laws;
 mod policy;
+mod shared;
+mod tables;
 
 pub use desk::{Core, MAX_EVENTS, replay};
-pub use event::{Call, Event};
+pub use event::{Call, Event, Response};
 pub use keeper::{Change, Keeper, KeptChange, NoKeeper, NotKept};
 pub use laws::{
     a_restart_ends_every_session, accepted_administration_had_its_permission,
     changes_count_once_they_are_kept, denials_and_refusals_change_nothing,
-    denials_name_what_the_session_lacks, every_state_keeps_authorization,
-    every_state_keeps_its_tables, every_state_keeps_separation, keepers_have_the_changes_in_order,
-    lines_are_of_readable_cells, own_requests_are_never_denied_a_permission,
-    sets_are_denied_for_what_was_asked, unknown_users_are_denied_like_wrong_tokens,
+    denials_name_what_the_session_lacks, every_state_counts_its_runs,
+    every_state_keeps_authorization, every_state_keeps_its_placings, every_state_keeps_its_tables,
+    every_state_keeps_separation, keepers_have_the_changes_in_order, lines_are_of_readable_cells,
+    own_requests_are_never_denied_a_permission, sets_are_denied_for_what_was_asked,
+    unknown_users_are_denied_like_wrong_tokens, what_is_not_kept_leaves_the_run,
 };
+pub use shared::{SharedCut, SharedRunReply, SharedTile};

@@ -5,5 +5,5 @@ use Rattle.mpw_core.proofs.answer.ask.Goals as goal
 
 pub returns-in-Whoami : goal.returns-in-Whoami
 returns-in-Whoami c =
-    let state : State = open_state c.args.policy.now c.args.shelf.now in
+    let state : State = open_state c.args.tables.now in
     rw c.in-Whoami.is (c.whoami.ensures state refl)

@@ -13,4 +13,5 @@ returns-then-not-has_session c = λ state same.
       told = refl;
       left = ap (λ (p : Policy). record state { policy = p }) (sym (end-absent state.policy c.args.conn absent));
       changes = sym absent;
+      fits = tt;
     }

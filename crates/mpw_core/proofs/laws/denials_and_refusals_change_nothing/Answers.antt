@@ -2,4 +2,8 @@ use Rattle.mpw_core.proofs.RefusalLemmas.{denied-leaves, refused-leaves}
 use Rattle.mpw_core.proofs.laws.denials_and_refusals_change_nothing.Goals as goal
 
 pub returns : goal.returns
-returns c = record { denied = denied-leaves c.layouts_are_left_unless_a_request_is_accepted.ensures; refused = refused-leaves c.layouts_are_left_unless_a_request_is_accepted.ensures }
+returns c =
+    let shelves = c.layouts_are_left_unless_a_request_is_accepted.ensures in
+    let wafers = c.wafers_are_left_unless_a_request_is_accepted.ensures in
+    let runs = c.runs_are_left_unless_a_request_is_accepted.ensures in
+    record { denied = denied-leaves shelves wafers runs; refused = refused-leaves shelves wafers runs }

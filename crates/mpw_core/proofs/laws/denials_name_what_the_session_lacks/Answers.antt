@@ -2,4 +2,8 @@ use Rattle.mpw_core.proofs.DenialLemmas.{lacks-permission, lacks-role}
 use Rattle.mpw_core.proofs.laws.denials_name_what_the_session_lacks.Goals as goal
 
 pub returns : goal.returns
-returns c = record { permission = lacks-permission c.denials_of_layouts_name_what_is_lacked.ensures; activation = lacks-role }
+returns c =
+    let shelves = c.denials_of_layouts_name_what_is_lacked.ensures in
+    let wafers = c.denials_over_the_wafer_name_what_is_lacked.ensures in
+    let runs = c.denials_over_the_run_name_what_is_lacked.ensures in
+    record { permission = lacks-permission shelves wafers runs; activation = lacks-role }

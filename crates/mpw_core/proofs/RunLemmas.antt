@@ -1,0 +1,172 @@
+-- What the run's events leave, and how many runs were accepted.
+use Rattle.std.proofs.Common.{◌≡◌, ℕ, Bool, true, false, cond, List, [], ◌∷◌, length, Option, Some, None, Result, Ok, Err, refl, sym, ap, subst, ◌∙◌, arith}
+use Rattle.std.specs.Prelude.{◌==◌, ◌≤◌, ◌+◌, ◌&&◌, not, slice_get, slice_set, if◌then◌else◌, nat_lt}
+use Rattle.mpw_tiles.specs.Plan.{tiles}
+use Rattle.mpw_markers.specs.declared.marker.Marker.{Marker}
+use Rattle.mpw_job.specs.Jobs.{CutWindows, FoundMarkers}
+use Rattle.mpw_rbac.specs.declared.refusal.Refusal.{Refusal}
+use Rattle.mpw_rbac.specs.declared.session.Identity.{Identity}
+use Rattle.mpw_rbac.specs.Policy.{Policy}
+use Rattle.mpw_rbac.specs.Rows as rows
+use Rattle.mpw_run.specs.declared.phase.Phase.{Phase}
+use Rattle.mpw_run.specs.declared.phase.Phase.TheVariants.{Idle, Cutting, Checking, Finished}
+use Rattle.mpw_run.specs.declared.phase.RunReply.{RunReply}
+use Rattle.mpw_run.specs.Run.{Tile, Checks, answered}
+use Rattle.mpw_run.specs.Same.{same_snapshot, same_task}
+use Rattle.mpw_run.specs.Step.{Run, Offer, Outcome as RunOutcome, answered_by, next_from, handed, taken_in, taken, cut_in, cut_answered, kept, tile_task, tile_compared, tile_checked, tile_in, tile_answered}
+use Rattle.mpw_run.specs.Laws.{Event as RunEvent, leaves, UnkeptLeavesTheRun}
+use Rattle.mpw_run.specs.Laws as law
+use Rattle.mpw_checking.specs.Laws.{NumbersAreCounted}
+use Rattle.mpw_requests.specs.declared.request.Request.{Request}
+use Rattle.mpw_requests.specs.declared.request.Request.TheVariants as ask
+use Rattle.mpw_core.specs.Answer.{run_response}
+use Rattle.mpw_core.specs.PolicyRows.{row_of}
+use Rattle.mpw_core.specs.declared.event.Call.{Call}
+use Rattle.mpw_core.specs.declared.event.Event.{Event}
+use Rattle.mpw_core.specs.declared.event.Event.TheVariants as event
+use Rattle.mpw_core.specs.declared.event.Response.TheVariants as response
+use Rattle.mpw_core.specs.History.{state_after}
+use Rattle.mpw_core.specs.Step.{State, Outcome, new_state, left, changed, asked, identity_lines, outcome_of, wanted, unkept, settled, step, response_of, after}
+use Rattle.mpw_core.proofs.RefusalLemmas.{settled-run}
+
+-- ---- what is not kept leaves the state
+
+same-reply : {a b : RunReply} → run_response a ≡ run_response b → a ≡ b
+same-reply e = cc
+
+changed-told : (s : State) (row : Result Policy Refusal) (r : RunReply) → (changed s row).response ≡ run_response r → ⊥
+changed-told s (Ok q) r e = cc
+changed-told s (Err why) r e = cc
+
+asked-told : (s : State) (row : Result Identity Refusal) (r : RunReply) → (asked s identity_lines row).response ≡ run_response r → ⊥
+asked-told s (Ok who) r e = cc
+asked-told s (Err why) r e = cc
+
+-- a request is told a reply of its own
+request-told : (s : State) (conn : ℕ) (request : Request) (r : RunReply) → (outcome_of s conn request).response ≡ run_response r → ⊥
+request-told s conn (ask.Policy request) r e = changed-told s (row_of s.policy conn request) r e
+request-told s conn ask.Whoami r e = asked-told s (rows.whoami s.policy conn) r e
+request-told s conn (ask.Layout request) r e = cc
+request-told s conn (ask.Wafer request) r e = cc
+request-told s conn (ask.Run request) r e = cc
+
+gone-told : (r : RunReply) → response.Gone ≡ run_response r → ⊥
+gone-told r e = cc
+
+restart-told : (r : RunReply) → response.Restarted ≡ run_response r → ⊥
+restart-told r e = cc
+
+module _ (unkept_leaves : UnkeptLeavesTheRun) where
+  leaves-run : (s : State) (e : RunEvent) (r : RunReply) → leaves r ≡ true → (o : RunOutcome) → o ≡ law.step s.run e → run_response o.reply ≡ run_response r → record s { run = o.run } ≡ s
+  leaves-run s e r is o same told =
+      let leaving : leaves (law.step s.run e).reply ≡ true = ap (λ (o : RunOutcome). leaves o.reply) (sym same) ∙ ap leaves (same-reply told) ∙ is in
+      ap (λ (run : Run). record s { run = run }) (ap (λ (o : RunOutcome). o.run) same ∙ unkept_leaves s.run e leaving)
+
+  leaves-wanted : (s : State) (event : Event) (r : RunReply) → leaves r ≡ true → (wanted s event).response ≡ run_response r → (wanted s event).state ≡ s
+  unfolding wanted
+  leaves-wanted s (event.Ask conn request) r is e = absurd (request-told s conn request r e)
+  leaves-wanted s (event.Gone conn) r is e = absurd (gone-told r e)
+  leaves-wanted s (event.Take worker) r is e = leaves-run s RunEvent.take r is (taken s.run) refl e
+  leaves-wanted s (event.Cut answer) r is e = leaves-run s (RunEvent.cut answer) r is (cut_answered s.run answer) refl e
+  leaves-wanted s (event.Tile answer) r is e = leaves-run s (RunEvent.tile answer) r is (tile_answered s.run answer) refl e
+  leaves-wanted s event.Restart r is e = absurd (restart-told r e)
+
+  pub unkept-leaves : (s : State) (event : Event) (kept : Bool) (r : RunReply) → leaves r ≡ true → response_of s event kept ≡ run_response r → after s event kept ≡ s
+  unfolding step
+  unkept-leaves s event kept r is e =
+      let same = settled-run s event kept (wanted s event) r e in
+      ap (λ (o : Outcome). o.state) same ∙ leaves-wanted s event r is (ap (λ (o : Outcome). o.response) (sym same) ∙ e)
+
+-- ---- the run's own events leave its number
+
+abbrev Stays : Run → RunOutcome → Type 0
+Stays run o = o.run.number ≡ run.number
+
+one_of : (run : Run) (b : Bool) (x y : RunOutcome) → Stays run x → Stays run y → Stays run (if b then x else y)
+one_of run true x y f g = f
+one_of run false x y f g = g
+
+handed_stays : (run : Run) (c : Checks) (o : Option Offer) → Stays run (handed run c o)
+handed_stays run c None = refl
+handed_stays run c (Some o) = refl
+
+take_stays : (run : Run) (phase : Phase) → Stays run (taken_in run phase)
+take_stays run Idle = refl
+take_stays run (Cutting planned) = refl
+take_stays run (Checking c) = handed_stays run c (next_from 0 c.tiles)
+take_stays run (Finished f) = refl
+
+cut_stays : (run : Run) (answer : CutWindows) (phase : Phase) → Stays run (cut_in run answer phase)
+cut_stays run answer Idle = refl
+cut_stays run answer (Cutting planned) = one_of run (same_snapshot answer.job.snapshot planned.snapshot) _ _ refl refl
+cut_stays run answer (Checking c) = refl
+cut_stays run answer (Finished f) = refl
+
+kept_stays : (run : Run) (c : Checks) (now : List Tile) → Stays run (kept run c now)
+kept_stays run c now = one_of run (answered now == tiles c.planned.plan) _ _ refl refl
+
+compared_stays : (run : Run) (c : Checks) (answer : FoundMarkers) (tile : Tile) (a : Option (List Marker)) → Stays run (tile_compared run c answer tile a)
+compared_stays run c answer tile (Some m) = refl
+compared_stays run c answer tile None =
+    one_of run (same_task answer.job (tile_task run.number c answer.job.tile)) _ _ (kept_stays run c (slice_set c.tiles answer.job.tile (answered_by answer.markers tile))) refl
+
+checked_stays : (run : Run) (c : Checks) (answer : FoundMarkers) (tile : Option Tile) → Stays run (tile_checked run c answer tile)
+checked_stays run c answer None = refl
+checked_stays run c answer (Some tile) = compared_stays run c answer tile tile.answer
+
+tile_stays : (run : Run) (answer : FoundMarkers) (phase : Phase) → Stays run (tile_in run answer phase)
+tile_stays run answer Idle = refl
+tile_stays run answer (Cutting planned) = refl
+tile_stays run answer (Checking c) = checked_stays run c answer (slice_get c.tiles answer.job.tile)
+tile_stays run answer (Finished f) = one_of run (nat_lt answer.job.tile (tiles f.planned.plan)) _ _ refl refl
+
+-- ---- a call counts one run at most
+
+same-counts : (n m : ℕ) → n ≡ m → n ≤ m + 1
+same-counts n m e = omega (arith, e)
+
+module _ (counted : NumbersAreCounted) where
+  count-changed : (s : State) (row : Result Policy Refusal) → (changed s row).state.run.number ≤ s.run.number + 1
+  count-changed s (Ok q) = same-counts s.run.number s.run.number refl
+  count-changed s (Err r) = same-counts s.run.number s.run.number refl
+
+  count-asked : (s : State) (row : Result Identity Refusal) → (asked s identity_lines row).state.run.number ≤ s.run.number + 1
+  count-asked s (Ok q) = same-counts s.run.number s.run.number refl
+  count-asked s (Err r) = same-counts s.run.number s.run.number refl
+
+  count-request : (s : State) (conn : ℕ) (request : Request) → (outcome_of s conn request).state.run.number ≤ s.run.number + 1
+  count-request s conn (ask.Policy request) = count-changed s (row_of s.policy conn request)
+  count-request s conn ask.Whoami = count-asked s (rows.whoami s.policy conn)
+  count-request s conn (ask.Layout request) = same-counts s.run.number s.run.number refl
+  count-request s conn (ask.Wafer request) = same-counts s.run.number s.run.number refl
+  count-request s conn (ask.Run request) = counted s.policy s.shelf s.wafer s.run conn request
+
+  count-wanted : (s : State) (event : Event) → (wanted s event).state.run.number ≤ s.run.number + 1
+  unfolding wanted
+  count-wanted s (event.Ask conn request) = count-request s conn request
+  count-wanted s (event.Gone conn) = same-counts s.run.number s.run.number refl
+  count-wanted s (event.Take worker) = same-counts _ s.run.number (take_stays s.run s.run.phase)
+  count-wanted s (event.Cut answer) =
+      same-counts _ s.run.number (one_of s.run (s.run.number == answer.job.run) _ _ (cut_stays s.run answer s.run.phase) refl)
+  count-wanted s (event.Tile answer) =
+      same-counts _ s.run.number (one_of s.run (s.run.number == answer.job.run) _ _ (tile_stays s.run answer s.run.phase) refl)
+  count-wanted s event.Restart = same-counts s.run.number s.run.number refl
+
+  count-settled : (s : State) (event : Event) (was : Bool) (outcome : Outcome) → outcome.state.run.number ≤ s.run.number + 1 → (settled s event was outcome).state.run.number ≤ s.run.number + 1
+  count-settled s event was outcome now =
+      elim (outcome.changes && not was) as (λ b. (cond b (left (unkept event) (record s { closed = true })) outcome).state.run.number ≤ s.run.number + 1) [ true ↦ same-counts s.run.number s.run.number refl | false ↦ now ]
+
+  count-step : (s : State) (event : Event) (was : Bool) → (after s event was).run.number ≤ s.run.number + 1
+  unfolding step
+  count-step s event was = count-settled s event was (wanted s event) (count-wanted s event)
+
+  count-calls : (s : State) (calls : List Call) → (state_after s calls).run.number ≤ s.run.number + length calls
+  count-calls s [] = omega arith
+  count-calls s (call ∷ calls) =
+      let first = count-step s call.event call.kept in
+      let rest = count-calls (after s call.event call.kept) calls in
+      omega (arith, first, rest)
+
+  pub count-history : (officer digest : List ℕ) (calls : List Call) → (state_after (new_state officer digest) calls).run.number ≤ length calls
+  unfolding new_state
+  count-history officer digest calls = let all = count-calls (new_state officer digest) calls in omega (arith, all)
