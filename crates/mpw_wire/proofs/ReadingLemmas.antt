@@ -1,12 +1,13 @@
 -- Reading to the end.
-use Rattle.std.proofs.Common.{◌≡◌, ◌≢◌, ◌∙◌, ◌<◌, ◌+◌, ℕ, List, [], ◌∷◌, ◌++◌, length, drop, get_or, Option, None, Some, option_map, Result, Ok, Err, refl, sym, ap, subst, append-nil, append_assoc}
+use Rattle.std.proofs.Common.{◌≡◌, ◌≢◌, ◌∙◌, ◌<◌, ◌+◌, ℕ, List, [], ◌∷◌, ◌++◌, length, drop, get_or, Option, None, Some, option_map, Result, Ok, Err, inr, refl, sym, ap, subst, append-nil, append_assoc}
 use Rattle.std.proofs.lemmas.List.{at_drop_more}
 use Rattle.std.proofs.lemmas.List.Elements.{All-push}
 use Rattle.std.specs.Prelude.{IfErr}
 use Rattle.std.specs.Result.{IsErrAnd}
 use Rattle.mpw_wire.specs.declared.fault.WireFault.{WireFault}
-use Rattle.mpw_wire.specs.declared.fault.WireFault.TheVariants.{Memory}
-use Rattle.mpw_wire.specs.Reading.{IsUnbroken, BreaksLine, BreaksBytes, TakesSome, TakesUpTo}
+use Rattle.mpw_wire.specs.declared.fault.WireFault.TheVariants.{Read, Write, Memory}
+use Rattle.mpw_wire.specs.declared.request.LineAsk.{LineAsk}
+use Rattle.mpw_wire.specs.Reading.{IsUnbroken, Breaks, BreaksLine, BreaksBytes, TakesSome, TakesUpTo, TakesOffer, following}
 use Rattle.mpw_wire.specs.declared.operand.Origin.{Origin}
 use Rattle.mpw_wire.specs.Request.{name_of, names_of, ◌>>=◌}
 use Rattle.std.proofs.KnownBytes.{Consumes-trans}
@@ -61,3 +62,14 @@ memory_breaks (Err e) old new h t = subst (BreaksLine old new) (sym h) t
 pub memory_breaks_bytes : {A : Type 0} (result : Result A WireFault) (old new : Option (List ℕ)) (most : ℕ) → IsErrAnd result (λ e. e ≡ Memory) → TakesUpTo old new most → IfErr result (BreaksBytes old new most)
 memory_breaks_bytes (Ok answer) old new most h t = tt
 memory_breaks_bytes (Err e) old new most h t = subst (BreaksBytes old new most) (sym h) t
+
+-- reading the bytes that are to follow a line broke off
+pub offer_breaks : {A : Type 0} (result : Result A WireFault) (fault : WireFault) (old mid new : Option (List ℕ)) (line : List ℕ) (asked : LineAsk) (most : ℕ)
+    → IsErrAnd result (λ e. e ≡ fault) → TakesOffer old mid line asked → following asked ≡ Some most → BreaksBytes mid new most fault → IfErr result (Breaks old new)
+offer_breaks (Ok answer) fault old mid new line asked most h offer counted broken = tt
+offer_breaks (Err e) fault old mid new line asked most h offer counted broken = subst (Breaks old new) (sym h) (breaks fault broken)
+  where
+    breaks : (fault : WireFault) → BreaksBytes mid new most fault → Breaks old new fault
+    breaks Read front = inr (record { line = line; asked = asked; length_asked = most; mid = mid; offer = offer; counted = counted; front = front })
+    breaks Write front = absurd front
+    breaks Memory front = inr (record { line = line; asked = asked; length_asked = most; mid = mid; offer = offer; counted = counted; front = front })

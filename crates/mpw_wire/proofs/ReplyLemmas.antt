@@ -3,7 +3,7 @@ use Rattle.std.proofs.Common.{◌≡◌, refl}
 use Rattle.mpw_deck.specs.declared.deck.DeckFault.{DeckFault}
 use Rattle.mpw_records.specs.declared.fault.ReadFault.{ReadFault}
 use Rattle.mpw_replies.specs.declared.reply.Code.{Code}
-use Rattle.mpw_replies.specs.declared.reply.Code.TheVariants.{Read, Deck, NoTop, Cycle, NoCell, Extent, Shapes, Deep, Full, Opened, Unknown, Known, Used, Loop, Ended, Store, Closed}
+use Rattle.mpw_replies.specs.declared.reply.Code.TheVariants.{Read, Deck, NoTop, Cycle, NoCell, Extent, Shapes, Deep, Full, Tiles, Opened, NoRun, Unknown, Known, Used, Loop, Running, NoDeck, Empty, NotFinished, Ended, Store, Closed}
 use Rattle.mpw_wire.specs.Reply.{code_text, refused_text, refusal_line}
 
 -- that of any but a text's fault has no place
@@ -17,11 +17,17 @@ refused_alone Extent other another = refl
 refused_alone Shapes other another = refl
 refused_alone Deep other another = refl
 refused_alone Full other another = refl
+refused_alone Tiles other another = refl
 refused_alone Opened other another = refl
+refused_alone NoRun other another = refl
 refused_alone Unknown other another = refl
 refused_alone Known other another = refl
 refused_alone Used other another = refl
 refused_alone Loop other another = refl
+refused_alone Running other another = refl
+refused_alone NoDeck other another = refl
+refused_alone Empty other another = refl
+refused_alone NotFinished other another = refl
 refused_alone Ended other another = refl
 refused_alone Store other another = refl
 refused_alone Closed other another = refl

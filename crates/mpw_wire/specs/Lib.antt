@@ -1,5 +1,6 @@
 pub mod Device
 pub mod Digest
+pub mod Placement
 pub mod Reading
 pub mod Reply
 pub mod Request

@@ -9,8 +9,10 @@ use Rattle.mpw_wire.specs.declared.read.Asked.TheVariants as asked
 use Rattle.mpw_wire.specs.declared.line.Taken.{Taken}
 use Rattle.mpw_wire.specs.declared.line.Taken.TheVariants as taken
 use Rattle.mpw_requests.specs.declared.request.Request.{Request}
-use Rattle.mpw_requests.specs.declared.request.Request.TheVariants.{Layout}
+use Rattle.mpw_requests.specs.declared.request.Request.TheVariants.{Layout, Wafer}
 use Rattle.mpw_requests.specs.declared.layouts.LayoutRequest.TheVariants.{Submit}
+use Rattle.mpw_requests.specs.declared.wafer.WaferRequest.TheVariants.{Deck}
+use Rattle.mpw_wire.specs.declared.request.LineAsk.{LineAsk}
 use Rattle.mpw_wire.specs.declared.request.LineAsk.TheVariants as ask
 use Rattle.mpw_wire.specs.Request.{ask_of}
 
@@ -72,40 +74,50 @@ BreaksBytes old new length_asked Read = TakesUpTo old new length_asked
 BreaksBytes old new length_asked Write = ⊥
 BreaksBytes old new length_asked Memory = TakesUpTo old new length_asked
 
--- a line that asks to submit so many bytes is taken off the front
-pub record TakesOffer (old new : Option (List ℕ)) (line cell top : List ℕ) (length_asked : ℕ) : Type 0 where
+-- how many bytes follow a line that asks this
+abbrev pub following : LineAsk → Option ℕ
+following (ask.Request request) = None
+following (ask.Submission cell top length_asked) = Some length_asked
+following (ask.Deck length_asked) = Some length_asked
+following ask.Long = None
+following ask.Form = None
+
+-- a line that asks this is taken off the front
+pub record TakesOffer (old new : Option (List ℕ)) (line : List ℕ) (asked : LineAsk) : Type 0 where
   pub taken : TakesLine old new line
-  pub asks : ask_of line ≡ ask.Submission cell top length_asked
+  pub asks : ask_of line ≡ asked
 
 -- ---- requests
 
--- the text of a request: its line, or the line that asks to submit with the bytes behind it
+-- the text of a request: its line, or the line that asks to submit, or to bring a deck, with the bytes behind it
 pub data IsText (old new : Option (List ℕ)) (line : List ℕ) : Request → Type 0 where
   alone : {request : Request} → TakesLine old new line → ask_of line ≡ ask.Request request → IsText old new line request
-  followed : {cell top payload : List ℕ} (mid : Option (List ℕ)) → TakesOffer old mid line cell top (length payload) → Consumes mid new payload → IsText old new line (Layout (Submit cell top payload))
+  followed : {cell top payload : List ℕ} (mid : Option (List ℕ)) → TakesOffer old mid line (ask.Submission cell top (length payload)) → Consumes mid new payload
+      → IsText old new line (Layout (Submit cell top payload))
+  deck : {payload : List ℕ} (mid : Option (List ℕ)) → TakesOffer old mid line (ask.Deck (length payload)) → Consumes mid new payload → IsText old new line (Wafer (Deck payload))
 
--- a line that is too long, or one that asks to submit too much
+-- a line that is too long, or one behind which too much is to follow
 abbrev pub TakesTooLong : Option (List ℕ) → Option (List ℕ) → Type 0
 TakesTooLong old new = TakesLong old new ⊎ ((line : List ℕ) × TakesLine old new line × (ask_of line ≡ ask.Long))
 
--- a line that asks to submit, and fewer bytes than it says
+-- a line that bytes are to follow, and fewer of them than it says
 pub record TakesCut (old new : Option (List ℕ)) : Type 0 where
   pub line : List ℕ
-  pub cell : List ℕ
-  pub top : List ℕ
+  pub asked : LineAsk
   pub length_asked : ℕ
   pub mid : Option (List ℕ)
-  pub offer : TakesOffer old mid line cell top length_asked
+  pub offer : TakesOffer old mid line asked
+  pub counted : following asked ≡ Some length_asked
   pub few : TakesTooFew mid new length_asked
 
--- a line that asks to submit, and at most as many bytes as it says
+-- a line that bytes are to follow, and at most as many of them as it says
 pub record TakesOfferFront (old new : Option (List ℕ)) : Type 0 where
   pub line : List ℕ
-  pub cell : List ℕ
-  pub top : List ℕ
+  pub asked : LineAsk
   pub length_asked : ℕ
   pub mid : Option (List ℕ)
-  pub offer : TakesOffer old mid line cell top length_asked
+  pub offer : TakesOffer old mid line asked
+  pub counted : following asked ≡ Some length_asked
   pub front : TakesUpTo mid new length_asked
 
 abbrev pub Reads : Option (List ℕ) → Option (List ℕ) → Asked → Type 0

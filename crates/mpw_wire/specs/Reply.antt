@@ -6,11 +6,13 @@ use Rattle.mpw_geom.specs.declared.plane.Layer.{Layer}
 use Rattle.mpw_geom.specs.declared.plane.Point.{Point}
 use Rattle.mpw_geom.specs.declared.placing.Placing.{Placing}
 use Rattle.mpw_geom.specs.Placing.{placed_point}
-use Rattle.mpw_elements.specs.declared.element.Boundary.{Boundary}
 use Rattle.mpw_elements.specs.declared.element.Path.{Path}
 use Rattle.mpw_elements.specs.declared.element.Element.{Element}
 use Rattle.mpw_elements.specs.declared.element.Element.TheVariants as elements
-use Rattle.mpw_replies.specs.Listing.{Listed, stored, shape}
+use Rattle.mpw_edges.specs.declared.run.Axis.{Axis}
+use Rattle.mpw_edges.specs.declared.run.Axis.TheVariants.{V, H}
+use Rattle.mpw_markers.specs.declared.marker.Key.{Key}
+use Rattle.mpw_replies.specs.Listing.{Listed, stored, shape, marker, masked}
 use Rattle.mpw_rbac.specs.declared.permission.Operation.{Operation}
 use Rattle.mpw_rbac.specs.declared.permission.Operation.TheVariants.{Submit, Use, Place, Admin, Deck, Run, Waive, Sign, Verdict, Audit}
 use Rattle.mpw_rbac.specs.declared.permission.Object.{Object}
@@ -41,9 +43,13 @@ line_feed = 0x0A ∷ []
 abbrev pub named_text : List ℕ → List ℕ → List ℕ
 named_text word name = concat (word ∷ name ∷ line_feed ∷ [])
 
--- the line of a version
-abbrev pub version_text : ℕ → List ℕ
-version_text version = concat (codes "version " ∷ decimal version ∷ line_feed ∷ [])
+-- a line of a word and a number
+abbrev pub numbered_text : List ℕ → ℕ → List ℕ
+numbered_text word number = concat (word ∷ decimal number ∷ line_feed ∷ [])
+
+-- the line of a run that checks tiles: its number, how many are checked, and how many there are
+abbrev pub checking_text : ℕ → ℕ → ℕ → List ℕ
+checking_text run done total = concat (codes "checking " ∷ decimal run ∷ codes " " ∷ decimal done ∷ codes " " ∷ decimal total ∷ line_feed ∷ [])
 
 -- the line of a cell: its name, the version of its present submission, and who submitted it
 abbrev pub cell_text : List ℕ → ℕ → List ℕ → List ℕ
@@ -54,8 +60,13 @@ unfoldable pub line_text : Line → List ℕ
 line_text (User name) = named_text (codes "user ") name
 line_text (Active name) = named_text (codes "active ") name
 line_text (Authorized name) = named_text (codes "authorized ") name
-line_text (Version version) = version_text version
+line_text (Version version) = numbered_text (codes "version ") version
 line_text (line.Cell cell version submitter) = cell_text cell version submitter
+line_text (line.Run run) = numbered_text (codes "run ") run
+line_text line.Idle = concat (codes "idle" ∷ line_feed ∷ [])
+line_text (line.Cutting run) = numbered_text (codes "cutting ") run
+line_text (line.Checking run done total) = checking_text run done total
+line_text (line.Finished run) = numbered_text (codes "finished ") run
 
 -- a point, behind a space: its coordinates in nm
 abbrev pub point_text : Point → List ℕ
@@ -100,10 +111,53 @@ shape_text cell version placing (elements.Boundary b) = boundary_head cell versi
 shape_text cell version placing (elements.Path p) = path_head cell version p ++ shape_end placing p.points
 shape_text cell version placing (elements.Reference r) = []
 
+-- the letter of an axis
+unfoldable pub axis_text : Axis → List ℕ
+axis_text V = codes "V"
+axis_text H = codes "H"
+
+-- the key of a marker: the name of its rule, and, each behind a colon, its axis, its side, where its edges lie and which rows it has,
+-- in nm
+abbrev pub key_text : List ℕ → Key → List ℕ
+key_text rule key =
+    concat
+    (rule
+    ∷ codes ":"
+    ∷ axis_text key.axis
+    ∷ codes ":"
+    ∷ decimal key.side
+    ∷ codes ":"
+    ∷ signed_decimal key.x1
+    ∷ codes ":"
+    ∷ signed_decimal key.x2
+    ∷ codes ":"
+    ∷ signed_decimal key.y0
+    ∷ codes ":"
+    ∷ signed_decimal key.y1
+    ∷ [])
+
+-- a cell that a marker meets, behind a space
+abbrev pub cell_part : List ℕ → List ℕ
+cell_part cell = concat (codes " " ∷ cell ∷ [])
+
+-- the cells that a marker meets, and the end of its line
+unfoldable pub met_text : List (List ℕ) → List ℕ
+met_text cells = flat_map cell_part cells ++ line_feed
+
+-- the line of a marker
+unfoldable pub marker_text : List ℕ → Key → List (List ℕ) → List ℕ
+marker_text rule key cells = key_text rule key ++ met_text cells
+
+-- the line of a rule with masked markers, and how many they are
+abbrev pub masked_text : List ℕ → ℕ → List ℕ
+masked_text rule number = concat (codes "masked " ∷ rule ∷ codes " " ∷ decimal number ∷ line_feed ∷ [])
+
 -- a line, as it is kept
 abbrev pub listed_text : Listed → List ℕ
 listed_text (stored line) = line_text line
 listed_text (shape cell version placing element) = shape_text cell version placing element
+listed_text (marker rule key cells) = marker_text rule key cells
+listed_text (masked rule number) = masked_text rule number
 
 -- the word of an operation
 unfoldable pub operation_text : Operation → List ℕ
@@ -184,11 +238,17 @@ code_text Extent = codes "24 extent"
 code_text Shapes = codes "25 shapes"
 code_text Deep = codes "26 deep"
 code_text Full = codes "27 full"
+code_text refused.Tiles = codes "28 tiles"
 code_text Opened = codes "30 opened"
+code_text refused.NoRun = codes "31 norun"
 code_text Unknown = codes "32 unknown"
 code_text Known = codes "33 known"
 code_text Used = codes "35 used"
 code_text Loop = codes "36 loop"
+code_text refused.Running = codes "37 running"
+code_text refused.NoDeck = codes "38 nodeck"
+code_text refused.Empty = codes "39 empty"
+code_text refused.NotFinished = codes "43 notfinished"
 code_text Ended = codes "46 ended"
 code_text Store = codes "60 store"
 code_text Closed = codes "61 closed"
@@ -211,11 +271,17 @@ refused_text Extent = refusal_line (code_text Extent)
 refused_text Shapes = refusal_line (code_text Shapes)
 refused_text Deep = refusal_line (code_text Deep)
 refused_text Full = refusal_line (code_text Full)
+refused_text refused.Tiles = refusal_line (code_text refused.Tiles)
 refused_text Opened = refusal_line (code_text Opened)
+refused_text refused.NoRun = refusal_line (code_text refused.NoRun)
 refused_text Unknown = refusal_line (code_text Unknown)
 refused_text Known = refusal_line (code_text Known)
 refused_text Used = refusal_line (code_text Used)
 refused_text Loop = refusal_line (code_text Loop)
+refused_text refused.Running = refusal_line (code_text refused.Running)
+refused_text refused.NoDeck = refusal_line (code_text refused.NoDeck)
+refused_text refused.Empty = refusal_line (code_text refused.Empty)
+refused_text refused.NotFinished = refusal_line (code_text refused.NotFinished)
 refused_text Ended = refusal_line (code_text Ended)
 refused_text Store = refusal_line (code_text Store)
 refused_text Closed = refusal_line (code_text Closed)
@@ -238,11 +304,7 @@ count_text count = concat (codes "OK " ∷ decimal count ∷ line_feed ∷ [])
 unfoldable pub accepted_text : List Listed → List ℕ
 accepted_text lines = count_text (length lines) ++ flat_map listed_text lines
 
--- the end of a connection, a restart and what is ended are told nobody, so they have no text
 unfoldable pub reply_text : Reply → List ℕ
 reply_text (reply.Ok lines) = accepted_text lines
 reply_text (reply.Denied denial) = denial_text denial
 reply_text (reply.Refused code) = refused_text code
-reply_text reply.Gone = []
-reply_text reply.Restarted = []
-reply_text reply.Ended = []

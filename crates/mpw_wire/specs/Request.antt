@@ -6,6 +6,7 @@ use Rattle.std.specs.Result.{result_ok}
 use Rattle.hex.specs.Hex.{decode_sized}
 use Rattle.mpw_text.specs.Text.{number_of, is_decimal}
 use Rattle.mpw_geom.specs.Names.{name_eq}
+use Rattle.mpw_geom.specs.declared.placing.Placing.{Placing}
 use Rattle.mpw_separation.specs.Set.{SeparationSet, formed}
 use Rattle.mpw_rbac.specs.declared.permission.Grant as permission
 use Rattle.mpw_rbac.specs.declared.permission.Operation.{Operation}
@@ -13,14 +14,19 @@ use Rattle.mpw_rbac.specs.declared.permission.Operation.TheVariants.{Submit, Use
 use Rattle.mpw_rbac.specs.declared.permission.Object.{Object}
 use Rattle.mpw_rbac.specs.declared.permission.Object.TheVariants.{Cell, Desk}
 use Rattle.mpw_requests.specs.declared.request.Request.{Request}
-use Rattle.mpw_requests.specs.declared.request.Request.TheVariants.{Policy, Whoami, Layout}
+use Rattle.mpw_requests.specs.declared.request.Request.TheVariants.{Policy, Whoami, Layout, Wafer}
+use Rattle.mpw_requests.specs.declared.request.Request.TheVariants as group
 use Rattle.mpw_requests.specs.declared.policy.PolicyRequest.{PolicyRequest}
 use Rattle.mpw_requests.specs.declared.policy.PolicyRequest.TheVariants.{Open, Close, Activate, DropRole, AddUser, DelUser, AddRole, DelRole, Assign, Deassign, Grant, Revoke, Inherit, Uninherit, Ssd, Dsd, UnSsd, UnDsd}
 use Rattle.mpw_requests.specs.declared.layouts.LayoutRequest.TheVariants.{Cells, Shapes}
+use Rattle.mpw_requests.specs.declared.wafer.WaferRequest.{WaferRequest}
+use Rattle.mpw_requests.specs.declared.wafer.WaferRequest.TheVariants as wafer
+use Rattle.mpw_requests.specs.declared.run.RunRequest.TheVariants as run
 use Rattle.mpw_wire.specs.declared.operand.Origin.{Origin}
 use Rattle.mpw_wire.specs.declared.operand.Origin.TheVariants.{Connection, Store}
 use Rattle.mpw_wire.specs.declared.request.LineAsk.{LineAsk}
 use Rattle.mpw_wire.specs.declared.request.LineAsk.TheVariants as ask
+use Rattle.mpw_wire.specs.Placement.{orient_of, coordinate_of}
 use Rattle.mpw_wire.specs.Words.{words, is_visible_word}
 
 infixl 10 ◌>>=◌
@@ -127,12 +133,39 @@ set_of origin name cardinality roles = do
   cardinality ← number_of 0 (length roles) cardinality
   formed (record { name = name; cardinality = cardinality; roles = roles })
 
+-- the placing that an orientation and two coordinates give
+unfoldable pub placing_by : Origin → List ℕ → List ℕ → List ℕ → Option Placing
+placing_by origin orient x y = do
+  orient ← orient_of orient
+  x ← coordinate_of origin x
+  y ← coordinate_of origin y
+  Some (record { orient = orient; by = record { x = x; y = y } })
+
+-- the same of words, of which there are to be three
+abbrev pub placing_of : Origin → List (List ℕ) → Option Placing
+placing_of origin [] = None
+placing_of origin (a ∷ []) = None
+placing_of origin (a ∷ b ∷ []) = None
+placing_of origin (orient ∷ x ∷ y ∷ []) = placing_by origin orient x y
+placing_of origin (a ∷ b ∷ c ∷ d ∷ more) = None
+
+-- a cell and a label, with a placing
+unfoldable pub placement_of : Origin → List ℕ → List ℕ → List (List ℕ) → Option WaferRequest
+placement_of origin cell label words = do
+  names ← pair_of origin cell label
+  placing ← placing_of origin words
+  Some (wafer.Place names.0 names.1 placing)
+
 -- the requests of a verb alone
 unfoldable pub bare_request : List ℕ → Option Request
 bare_request verb =
     if name_eq verb (codes "close") then Some (Policy Close)
     else if name_eq verb (codes "whoami") then Some Whoami
     else if name_eq verb (codes "cells") then Some (Layout Cells)
+    else if name_eq verb (codes "run") then Some (group.Run run.Run)
+    else if name_eq verb (codes "cancel") then Some (group.Run run.Cancel)
+    else if name_eq verb (codes "status") then Some (group.Run run.Status)
+    else if name_eq verb (codes "markers") then Some (group.Run run.Markers)
     else None
 
 -- the requests of the policy of a verb and one name
@@ -180,6 +213,9 @@ asked None = ask.Form
 abbrev pub asked_policy : Option PolicyRequest → LineAsk
 asked_policy request = asked (option_map Policy request)
 
+abbrev pub asked_wafer : Option WaferRequest → LineAsk
+asked_wafer request = asked (option_map Wafer request)
+
 -- the greatest number of bytes that follow a line
 unfoldable pub max_payload : ℕ
 max_payload = 16777216
@@ -189,39 +225,60 @@ unfoldable pub longest : Origin → ℕ
 longest Connection = max_payload
 longest Store = 9223372036854775807
 
--- a number of bytes that is too great is so whatever its digits are
-abbrev pub length_of : List ℕ → List ℕ → Bool → Option ℕ → LineAsk
-length_of cell top false length = ask.Form
-length_of cell top true (Some length) = ask.Submission cell top length
-length_of cell top true None = ask.Long
+-- what is asked with that many bytes; a number of them that is too great is so whatever its digits are
+abbrev pub with_length : (ℕ → LineAsk) → Bool → Option ℕ → LineAsk
+with_length offer false length = ask.Form
+with_length offer true (Some length) = offer length
+with_length offer true None = ask.Long
+
+-- the same of the word of that number
+abbrev pub offered : Origin → (ℕ → LineAsk) → List ℕ → LineAsk
+offered origin offer word = with_length offer (is_decimal word) (number_of 0 (longest origin) word)
 
 abbrev pub submission_to : Origin → Option (List ℕ) → Option (List ℕ) → List ℕ → LineAsk
 submission_to origin None top length = ask.Form
 submission_to origin (Some cell) None length = ask.Form
-submission_to origin (Some cell) (Some top) length = length_of cell top (is_decimal length) (number_of 0 (longest origin) length)
+submission_to origin (Some cell) (Some top) length = offered origin (ask.Submission cell top) length
 
 -- to submit a cell with a structure, and how many bytes follow
 unfoldable pub submission_of : Origin → List ℕ → List ℕ → List ℕ → LineAsk
 submission_of origin cell top length = submission_to origin (name_of origin cell) (name_of origin top) length
+
+-- to bring a deck, of which so many bytes follow
+unfoldable pub deck_of : Origin → List ℕ → LineAsk
+deck_of origin length = offered origin ask.Deck length
+
+-- what a verb and one word ask
+unfoldable pub ask_of_one : Origin → List ℕ → List ℕ → LineAsk
+ask_of_one origin verb word =
+    if name_eq verb (codes "shapes") then asked (option_map (λ cell. Layout (Shapes cell)) (name_of origin word))
+    else if name_eq verb (codes "deck") then deck_of origin word
+    else asked_policy (request_of_one origin verb word)
+
+-- what a verb and two words ask
+unfoldable pub ask_of_two : Origin → List ℕ → List ℕ → List ℕ → LineAsk
+ask_of_two origin verb first second =
+    if name_eq verb (codes "unplace") then asked_wafer (option_map (λ names. wafer.Unplace names.0 names.1) (pair_of origin first second))
+    else asked_policy (request_of_two origin verb first second)
 
 -- what a verb and three words ask
 unfoldable pub ask_of_three : Origin → List ℕ → List ℕ → List ℕ → List ℕ → LineAsk
 ask_of_three origin verb first second third =
     if name_eq verb (codes "submit") then submission_of origin first second third else asked_policy (request_of_three origin verb first second third)
 
--- what a verb and one word ask
-unfoldable pub ask_of_one : Origin → List ℕ → List ℕ → LineAsk
-ask_of_one origin verb word =
-    if name_eq verb (codes "shapes") then asked (option_map (λ cell. Layout (Shapes cell)) (name_of origin word)) else asked_policy (request_of_one origin verb word)
+-- what a verb and four words or more ask
+unfoldable pub ask_of_more : Origin → List ℕ → List ℕ → List ℕ → List (List ℕ) → LineAsk
+ask_of_more origin verb first second rest =
+    if name_eq verb (codes "place") then asked_wafer (placement_of origin first second rest) else asked_policy (request_of_more origin verb first second rest)
 
 -- what the words of a line ask
 abbrev pub ask_by : Origin → List (List ℕ) → LineAsk
 ask_by origin [] = ask.Form
 ask_by origin (verb ∷ []) = asked (bare_request verb)
 ask_by origin (verb ∷ a ∷ []) = ask_of_one origin verb a
-ask_by origin (verb ∷ a ∷ b ∷ []) = asked_policy (request_of_two origin verb a b)
+ask_by origin (verb ∷ a ∷ b ∷ []) = ask_of_two origin verb a b
 ask_by origin (verb ∷ a ∷ b ∷ c ∷ []) = ask_of_three origin verb a b c
-ask_by origin (verb ∷ a ∷ b ∷ c ∷ d ∷ more) = asked_policy (request_of_more origin verb a b (c ∷ d ∷ more))
+ask_by origin (verb ∷ a ∷ b ∷ c ∷ d ∷ more) = ask_of_more origin verb a b (c ∷ d ∷ more)
 
 -- what a line of a connection asks
 abbrev pub ask_of : List ℕ → LineAsk

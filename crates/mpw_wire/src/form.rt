@@ -4,7 +4,7 @@ ghost use Rattle.mpw_wire.specs.Request.{bare_request, request_of_one, request_o
 ghost use Rattle.mpw_wire.specs.Words.{words};
 
 use crate::operand::{Origin, grant, is, login, name, pair, set};
-use mpw_requests::{LayoutRequest, PolicyRequest, Request};
+use mpw_requests::{LayoutRequest, PolicyRequest, Request, RunRequest};
 use std::alloc::{AllocError, Global};
 
 /// The requests of a verb alone.
@@ -18,6 +18,14 @@ pub(crate) fn bare(verb: &[u8]) -> Option<Request>
         Some(Request::Whoami)
     } else if is(verb, "cells") {
         Some(Request::Layout(LayoutRequest::Cells))
+    } else if is(verb, "run") {
+        Some(Request::Run(RunRequest::Run))
+    } else if is(verb, "cancel") {
+        Some(Request::Run(RunRequest::Cancel))
+    } else if is(verb, "status") {
+        Some(Request::Run(RunRequest::Status))
+    } else if is(verb, "markers") {
+        Some(Request::Run(RunRequest::Markers))
     } else {
         None
     }

@@ -2,13 +2,15 @@
 ghost use Rattle.std.specs.Prelude.{◌≡◌, ℕ, List, Option, IfOk, IfErr};
 ghost use Rattle.mpw_wire.specs.Reading.{Reads, Breaks, TakesOffer, read_failures};
 ghost use Rattle.mpw_wire.specs.Writing.{fault_of};
+ghost use Rattle.mpw_wire.specs.declared.request.LineAsk.TheVariants.{Submission, Deck};
 
 use crate::line::{Taken, take_bytes, take_line};
 use crate::request::{LineAsk, parse_line};
 use crate::{Source, WireFault};
+use mpw_deck::DeckText;
 use mpw_geom::Name;
 use mpw_library::LibraryText;
-use mpw_requests::{LayoutRequest, Request, SharedRequest};
+use mpw_requests::{LayoutRequest, Request, SharedRequest, WaferRequest};
 use std::alloc::Global;
 
 /// What the next line of the input asks.
@@ -18,9 +20,9 @@ pub enum Asked {
     Request(SharedRequest),
     /// The line is no request's text.
     Form,
-    /// The line is longer than 4096 bytes, or asks to submit more than 2^24.
+    /// The line is longer than 4096 bytes, or more than 2^24 are to follow it.
     Long,
-    /// The input ends before the bytes that the line asks to submit.
+    /// The input ends before the bytes that are to follow the line.
     Cut,
     /// The input is at its end.
     End,
@@ -34,8 +36,8 @@ fn read_submission<R: Source>(
     top: Name,
     length: usize,
 ) -> Result<Asked, WireFault>
-    ensures asked { (old : Option (List ℕ)) (line : List ℕ) → TakesOffer old (R.remaining reader.old) line cell top length → IfOk result (Reads old (R.remaining reader.new)) }
-    ensures fault { (old : Option (List ℕ)) (line : List ℕ) → TakesOffer old (R.remaining reader.old) line cell top length → IfErr result (Breaks old (R.remaining reader.new)) }
+    ensures asked { (old : Option (List ℕ)) (line : List ℕ) → TakesOffer old (R.remaining reader.old) line (Submission cell top length) → IfOk result (Reads old (R.remaining reader.new)) }
+    ensures fault { (old : Option (List ℕ)) (line : List ℕ) → TakesOffer old (R.remaining reader.old) line (Submission cell top length) → IfErr result (Breaks old (R.remaining reader.new)) }
     ensures failures { R.failures reader.new ≡ read_failures (fault_of result) (R.failures reader.old) }
 {
     match take_bytes(alloc, reader, length)? {
@@ -49,9 +51,26 @@ fn read_submission<R: Source>(
     }
 }
 
-/// Reads the next request of the input: a line, and the bytes that it asks to submit. A line ends with a line feed,
+/// Reads the bytes of a deck that a line asks to bring.
+fn read_deck<R: Source>(alloc: Global, reader: &mut R, length: usize) -> Result<Asked, WireFault>
+    ensures asked { (old : Option (List ℕ)) (line : List ℕ) → TakesOffer old (R.remaining reader.old) line (Deck length) → IfOk result (Reads old (R.remaining reader.new)) }
+    ensures fault { (old : Option (List ℕ)) (line : List ℕ) → TakesOffer old (R.remaining reader.old) line (Deck length) → IfErr result (Breaks old (R.remaining reader.new)) }
+    ensures failures { R.failures reader.new ≡ read_failures (fault_of result) (R.failures reader.old) }
+{
+    match take_bytes(alloc, reader, length)? {
+        Some(bytes) => {
+            let text = DeckText::read(alloc, bytes)?;
+            let request = Request::Wafer(WaferRequest::Deck { text });
+            let shared = SharedRequest::new(alloc, request)?;
+            Ok(Asked::Request(shared))
+        }
+        None => Ok(Asked::Cut),
+    }
+}
+
+/// Reads the next request of the input: a line, and the bytes that are to follow it. A line ends with a line feed,
 /// which the last one may lack where it isn't empty. It costs the text's size, and takes room for the line, the
-/// request's names, and the bytes with the library that they are of.
+/// request's names, and the bytes with the library or the deck that they are of.
 ///
 /// # Errors
 /// `Read` where the source failed, and `Memory` where there is no room.
@@ -66,6 +85,7 @@ pub fn read_request<R: Source>(alloc: Global, reader: &mut R) -> Result<Asked, W
             LineAsk::Submission { cell, top, length } => {
                 read_submission(alloc, reader, cell, top, length)
             }
+            LineAsk::Deck { length } => read_deck(alloc, reader, length),
             LineAsk::Long => Ok(Asked::Long),
             LineAsk::Form => Ok(Asked::Form),
         },

@@ -1,9 +1,10 @@
 //! The text of replies.
 ghost use Rattle.std.specs.Prelude.{◌≡◌};
 ghost use Rattle.mpw_wire.specs.Writing.{Writes};
-ghost use Rattle.mpw_wire.specs.Reply.{named_text, version_text, cell_text, line_text, listed_text, denial_word, operation_text, object_text, denial_text, fault_text, fault_line, deck_text, code_text, refused_text, count_text, accepted_text, refusal_words, refusal_text, reply_text};
+ghost use Rattle.mpw_wire.specs.Reply.{named_text, numbered_text, checking_text, cell_text, line_text, listed_text, denial_word, operation_text, object_text, denial_text, fault_text, fault_line, deck_text, code_text, refused_text, count_text, accepted_text, refusal_words, refusal_text, reply_text};
 ghost use Rattle.std.specs.List.{flat_map};
 
+use crate::markers::write_markers;
 use crate::shape::write_shapes;
 use crate::write::{flush, write_parts};
 use crate::{Sink, WireFault};
@@ -14,12 +15,38 @@ use mpw_rbac::{Object, Operation};
 use mpw_records::Code as TextFault;
 use mpw_replies::{Code, Denial, Kept, Line, Lines, Reply};
 
-/// Writes a line of a version.
-fn write_version<W: Sink>(writer: &mut W, version: u32) -> Result<(), WireFault>
-    ensures { Writes W.contents W.failures writer.old writer.new result (version_text version) }
+/// Writes a line of a word and a number.
+fn write_numbered<W: Sink>(writer: &mut W, word: &str, number: u32) -> Result<(), WireFault>
+    ensures { Writes W.contents W.failures writer.old writer.new result (numbered_text word.now number) }
 {
     let mut digits = Buffer::new();
-    write_parts(writer, &["version ", digits.format(version), "\n"])
+    write_parts(writer, &[word, digits.format(number), "\n"])
+}
+
+/// Writes the line of a run that checks tiles.
+fn write_checking<W: Sink>(
+    writer: &mut W,
+    run: u32,
+    done: usize,
+    total: u32,
+) -> Result<(), WireFault>
+    ensures { Writes W.contents W.failures writer.old writer.new result (checking_text run done total) }
+{
+    let mut runs = Buffer::new();
+    let mut dones = Buffer::new();
+    let mut totals = Buffer::new();
+    write_parts(
+        writer,
+        &[
+            "checking ",
+            runs.format(run),
+            " ",
+            dones.format(done),
+            " ",
+            totals.format(total),
+            "\n",
+        ],
+    )
 }
 
 /// Writes a line of a cell.
@@ -61,12 +88,17 @@ fn write_line<W: Sink>(writer: &mut W, line: &Line) -> Result<(), WireFault>
         Line::User(name) => write_named(writer, "user ", name),
         Line::Active(name) => write_named(writer, "active ", name),
         Line::Authorized(name) => write_named(writer, "authorized ", name),
-        Line::Version(version) => write_version(writer, *version),
+        Line::Version(version) => write_numbered(writer, "version ", *version),
         Line::Cell {
             cell,
             version,
             submitter,
         } => write_cell(writer, cell, *version, submitter),
+        Line::Run(run) => write_numbered(writer, "run ", *run),
+        Line::Idle => write_parts(writer, &["idle", "\n"]),
+        Line::Cutting(run) => write_numbered(writer, "cutting ", *run),
+        Line::Checking { run, done, total } => write_checking(writer, *run, *done, *total),
+        Line::Finished(run) => write_numbered(writer, "finished ", *run),
     }
 }
 
@@ -87,6 +119,7 @@ fn write_lines<W: Sink>(writer: &mut W, lines: &Lines) -> Result<(), WireFault>
     match lines.kept() {
         Kept::Stored(lines) => write_stored(writer, lines),
         Kept::Shapes(listing) => write_shapes(writer, listing),
+        Kept::Markers(listing) => write_markers(writer, listing),
     }
 }
 
@@ -234,11 +267,17 @@ fn code_words(code: Code) -> &'static str
         Code::Shapes => "25 shapes",
         Code::Deep => "26 deep",
         Code::Full => "27 full",
+        Code::Tiles => "28 tiles",
         Code::Opened => "30 opened",
+        Code::NoRun => "31 norun",
         Code::Unknown => "32 unknown",
         Code::Known => "33 known",
         Code::Used => "35 used",
         Code::Loop => "36 loop",
+        Code::Running => "37 running",
+        Code::NoDeck => "38 nodeck",
+        Code::Empty => "39 empty",
+        Code::NotFinished => "43 notfinished",
         Code::Ended => "46 ended",
         Code::Store => "60 store",
         Code::Closed => "61 closed",
@@ -311,12 +350,11 @@ fn write_text<W: Sink>(reply: &Reply, writer: &mut W) -> Result<(), WireFault>
         Reply::Ok(lines) => write_accepted(writer, lines),
         Reply::Denied(denial) => write_denial(writer, denial),
         Reply::Refused(code) => write_code(writer, *code),
-        Reply::Gone | Reply::Restarted | Reply::Ended => Ok(()),
     }
 }
 
-/// Writes the text of a reply, each line with its line feed, and has the sink hand it on. The end of a connection is
-/// told nobody, so its text is empty. It takes no memory and costs the text's size.
+/// Writes the text of a reply, each line with its line feed, and has the sink hand it on. It takes no memory and costs the
+/// text's size.
 ///
 /// # Errors
 /// `Write` where the sink failed; it then holds a front of the text.

@@ -1,16 +1,17 @@
 //! Request lines.
 ghost use Rattle.std.specs.Prelude.{◌≡◌, IfOk};
-ghost use Rattle.mpw_wire.specs.Request.{asked, asked_policy, longest, submission_of, ask_of_one, ask_of_three, ask_by, ask_of};
+ghost use Rattle.mpw_wire.specs.Request.{asked, asked_policy, asked_wafer, longest, submission_of, deck_of, ask_of_one, ask_of_two, ask_of_three, ask_of_more, ask_by, ask_of};
 ghost use Rattle.mpw_requests.specs.declared.request.Request.TheVariants.{Layout};
 ghost use Rattle.mpw_requests.specs.declared.layouts.LayoutRequest.TheVariants.{Shapes};
 ghost use Rattle.mpw_text.specs.Text.{number_of};
 ghost use Rattle.mpw_wire.specs.Words.{words};
 
 use crate::form::{bare, of_more, of_one, of_three, of_two};
-use crate::operand::{Origin, is, name};
+use crate::operand::{Origin, is, name, pair};
+use crate::placement::placement;
 use crate::words::{Arguments, cut, read_arguments};
 use mpw_geom::Name;
-use mpw_requests::{LayoutRequest, PolicyRequest, Request, SharedRequest};
+use mpw_requests::{LayoutRequest, PolicyRequest, Request, SharedRequest, WaferRequest};
 use mpw_text::{is_decimal, read_count};
 use std::alloc::{AllocError, Global};
 
@@ -31,7 +32,11 @@ pub enum LineAsk {
         top: Name,
         length: usize,
     },
-    /// To submit more than 2^24 bytes.
+    /// To bring the deck whose bytes follow the line, so many.
+    Deck {
+        length: usize,
+    },
+    /// More than 2^24 bytes are to follow the line.
     Long,
     /// The line is no request's text.
     Form,
@@ -52,6 +57,13 @@ fn ask_policy(alloc: Global, request: Option<PolicyRequest>) -> Result<LineAsk, 
     ensures { IfOk result (λ ask. ask ≡ asked_policy request) }
 {
     ask(alloc, request.map(Request::Policy))
+}
+
+/// The same of a request over the wafer.
+fn ask_wafer(alloc: Global, request: Option<WaferRequest>) -> Result<LineAsk, AllocError>
+    ensures { IfOk result (λ ask. ask ≡ asked_wafer request) }
+{
+    ask(alloc, request.map(Request::Wafer))
 }
 
 /// The number of bytes that a word counts: up to 2^24 on a connection, and in a store up to what a slice has.
@@ -91,6 +103,20 @@ fn submission(
     }
 }
 
+/// What the word of a deck asks: how many bytes follow.
+#[tactic(auto, unfolding(crate::specs::Request::deck_of))]
+fn deck(origin: Origin, length_word: &[u8]) -> LineAsk
+    ensures { result ≡ deck_of origin length_word.now }
+{
+    if !is_decimal(length_word) {
+        return LineAsk::Form;
+    }
+    match payload_length(origin, length_word) {
+        Some(length) => LineAsk::Deck { length },
+        None => LineAsk::Long,
+    }
+}
+
 /// What a verb and one word ask.
 #[tactic(auto, unfolding(crate::specs::Request::ask_of_one))]
 fn ask_one(alloc: Global, origin: Origin, verb: &[u8], word: &[u8]) -> Result<LineAsk, AllocError>
@@ -98,6 +124,9 @@ fn ask_one(alloc: Global, origin: Origin, verb: &[u8], word: &[u8]) -> Result<Li
 {
     if is(verb, "shapes") {
         return ask(alloc, name(alloc, origin, word)?.map(shapes));
+    }
+    if is(verb, "deck") {
+        return Ok(deck(origin, word));
     }
     ask_policy(alloc, of_one(alloc, origin, verb, word)?)
 }
@@ -107,6 +136,29 @@ fn shapes(cell: Name) -> Request
     ensures { result ≡ Layout (Shapes cell) }
 {
     Request::Layout(LayoutRequest::Shapes { cell })
+}
+
+/// What a verb and two words ask.
+#[tactic(auto, unfolding(crate::specs::Request::ask_of_two))]
+fn ask_two(
+    alloc: Global,
+    origin: Origin,
+    verb: &[u8],
+    first: &[u8],
+    second: &[u8],
+) -> Result<LineAsk, AllocError>
+    ensures { IfOk result (λ ask. ask ≡ ask_of_two origin verb.now first.now second.now) }
+{
+    if is(verb, "unplace") {
+        return ask_wafer(
+            alloc,
+            pair(alloc, origin, first, second)?.map(|(cell, label)| WaferRequest::Unplace {
+                cell,
+                label,
+            }),
+        );
+    }
+    ask_policy(alloc, of_two(alloc, origin, verb, first, second)?)
 }
 
 /// What a verb and three words ask.
@@ -127,6 +179,24 @@ fn ask_three(
     ask_policy(alloc, of_three(alloc, origin, verb, first, second, third)?)
 }
 
+/// What a verb and four words or more ask; the words behind the first two stand in a text.
+#[tactic(auto, unfolding(crate::specs::Request::ask_of_more))]
+fn ask_more(
+    alloc: Global,
+    origin: Origin,
+    verb: &[u8],
+    first: &[u8],
+    second: &[u8],
+    rest: &[u8],
+) -> Result<LineAsk, AllocError>
+    ensures { IfOk result (λ ask. ask ≡ ask_of_more origin verb.now first.now second.now (words rest.now)) }
+{
+    if is(verb, "place") {
+        return ask_wafer(alloc, placement(alloc, origin, first, second, rest)?);
+    }
+    ask_policy(alloc, of_more(alloc, origin, verb, first, second, rest)?)
+}
+
 /// What a line asks that stands there, without its line feed.
 pub(crate) fn parse(alloc: Global, origin: Origin, line: &[u8]) -> Result<LineAsk, AllocError>
     ensures { IfOk result (λ ask. ask ≡ ask_by origin (words line.now)) }
@@ -135,16 +205,11 @@ pub(crate) fn parse(alloc: Global, origin: Origin, line: &[u8]) -> Result<LineAs
     match read_arguments(rest) {
         Arguments::Zero => ask(alloc, bare(verb)),
         Arguments::One(first) => ask_one(alloc, origin, verb, first),
-        Arguments::Two(first, second) => ask_policy(
-            alloc,
-            of_two(alloc, origin, verb, first, second)?,
-        ),
+        Arguments::Two(first, second) => ask_two(alloc, origin, verb, first, second),
         Arguments::Three(first, second, third) => ask_three(
             alloc, origin, verb, first, second, third,
         ),
-        Arguments::More(first, second, rest) => {
-            ask_policy(alloc, of_more(alloc, origin, verb, first, second, rest)?)
-        }
+        Arguments::More(first, second, rest) => ask_more(alloc, origin, verb, first, second, rest),
     }
 }
 

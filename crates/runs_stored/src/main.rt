@@ -8,10 +8,11 @@
 #![tactic(auto)]
 
 use anyhow::{Result, bail};
+use mpw_deck::DeckText;
 use mpw_geom::Name;
 use mpw_library::LibraryText;
 use mpw_rbac::{Grant, Object, Operation};
-use mpw_requests::{LayoutRequest, PolicyRequest, Request, SharedRequest};
+use mpw_requests::{LayoutRequest, PolicyRequest, Request, SharedRequest, WaferRequest};
 use mpw_wire::{LineAsk, parse_line, read_stored, stored_line, stored_payload};
 use std::alloc::Global;
 
@@ -30,6 +31,12 @@ fn request_of(alloc: Global, line: &str) -> Result<SharedRequest> {
             let bytes = vec![in alloc; 0u8; length.min(65535)]?;
             let text = LibraryText::read(alloc, bytes)?;
             let request = Request::Layout(LayoutRequest::Submit { cell, top, text });
+            Ok(SharedRequest::new(alloc, request)?)
+        }
+        LineAsk::Deck { length } => {
+            let bytes = vec![in alloc; 0u8; length.min(65535)]?;
+            let text = DeckText::read(alloc, bytes)?;
+            let request = Request::Wafer(WaferRequest::Deck { text });
             Ok(SharedRequest::new(alloc, request)?)
         }
         LineAsk::Long | LineAsk::Form => bail!("a request's line"),

@@ -1,4 +1,4 @@
-use Rattle.std.proofs.Common.{ap, length, ◌++◌}
+use Rattle.std.proofs.Common.{ap, ◌++◌}
 use Rattle.std.specs.List.{flat_map}
 use Rattle.mpw_wire.specs.Reply.{listed_text, count_text, accepted_text}
 use Rattle.mpw_wire.specs.Writing.{fault_of}

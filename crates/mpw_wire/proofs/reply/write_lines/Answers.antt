@@ -2,7 +2,7 @@ use Rattle.std.proofs.Common.{sym, ap, ◌∙◌}
 use Rattle.std.specs.List.{flat_map}
 use Rattle.mpw_replies.specs.Told.{kept_lines}
 use Rattle.mpw_wire.specs.Reply.{line_text, listed_text}
-use Rattle.mpw_wire.proofs.ShapeLemmas.{stored_text}
+use Rattle.mpw_wire.proofs.ListingLemmas.{stored_text}
 use Rattle.mpw_wire.proofs.WritingLemmas.{Writes_same}
 use Rattle.mpw_wire.proofs.reply.write_lines.Goals as goal
 

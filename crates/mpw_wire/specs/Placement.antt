@@ -1,0 +1,56 @@
+-- The words of a placing: an orientation, and coordinates in nm.
+use Rattle.std.specs.Prelude.{FitsSigned, ℕ, ℤ, pos, neg_ℤ, List, [], ◌∷◌, codes, Option, Some, None, option_map, ◌==◌, if◌then◌else◌}
+use Rattle.std.specs.Int.{w64}
+use Rattle.mpw_text.specs.Text.{number_of}
+use Rattle.mpw_geom.specs.Names.{name_eq}
+use Rattle.mpw_geom.specs.declared.plane.Orient.{Orient}
+use Rattle.mpw_geom.specs.declared.plane.Orient.TheVariants.{R0, R90, R180, R270, M0, M90, M180, M270}
+use Rattle.mpw_wire.specs.declared.operand.Origin.{Origin}
+use Rattle.mpw_wire.specs.declared.operand.Origin.TheVariants.{Connection, Store}
+
+-- the word of an orientation
+unfoldable pub orient_text : Orient → List ℕ
+orient_text R0 = codes "R0"
+orient_text R90 = codes "R90"
+orient_text R180 = codes "R180"
+orient_text R270 = codes "R270"
+orient_text M0 = codes "M0"
+orient_text M90 = codes "M90"
+orient_text M180 = codes "M180"
+orient_text M270 = codes "M270"
+
+-- the orientation that a word names
+unfoldable pub orient_of : List ℕ → Option Orient
+orient_of word =
+    if name_eq word (codes "R0") then Some R0
+    else if name_eq word (codes "R90") then Some R90
+    else if name_eq word (codes "R180") then Some R180
+    else if name_eq word (codes "R270") then Some R270
+    else if name_eq word (codes "M0") then Some M0
+    else if name_eq word (codes "M90") then Some M90
+    else if name_eq word (codes "M180") then Some M180
+    else if name_eq word (codes "M270") then Some M270
+    else None
+
+-- how far below 0 a coordinate may lie: 2^30 nm on a connection, and in a store as far as 64 bits tell
+unfoldable pub farthest_below : Origin → ℕ
+farthest_below Connection = 1073741824
+farthest_below Store = 9223372036854775808
+
+-- the same above 0
+unfoldable pub farthest_above : Origin → ℕ
+farthest_above Connection = 1073741824
+farthest_above Store = 9223372036854775807
+
+abbrev pub negative : ℕ → ℤ
+negative number = neg_ℤ (pos number)
+
+-- the coordinate that a word spells: a number, or a minus sign and a number that isn't 0
+unfoldable pub coordinate_of : Origin → List ℕ → Option ℤ
+coordinate_of origin [] = None
+coordinate_of origin (first ∷ rest) =
+    if first == 0x2D then option_map negative (number_of 1 (farthest_below origin) rest) else option_map pos (number_of 0 (farthest_above origin) (first ∷ rest))
+
+-- a number of 64 bits
+abbrev pub IsSigned : ℤ → Type 0
+IsSigned z = FitsSigned w64 z
