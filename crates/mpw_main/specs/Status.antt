@@ -1,5 +1,5 @@
 -- The exit status of the program.
-use Rattle.std.specs.Prelude.{ℕ}
+use Rattle.std.specs.Prelude.{⊤, ℕ, Result, Ok, Err}
 use Rattle.mpw_wire.specs.declared.fault.WireFault.TheVariants as wire
 use Rattle.mpw_main.specs.declared.fault.ProgramFault.{ProgramFault}
 use Rattle.mpw_main.specs.declared.fault.ProgramFault.TheVariants.{Usage, Wire, Memory}
@@ -11,3 +11,8 @@ status_of (Wire wire.Read) = 3
 status_of (Wire wire.Write) = 3
 status_of (Wire wire.Memory) = 5
 status_of Memory = 5
+
+-- 0 where the connection ended
+abbrev pub exit_of : Result ⊤ ProgramFault → ℕ
+exit_of (Ok ended) = 0
+exit_of (Err fault) = status_of fault

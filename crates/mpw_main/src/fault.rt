@@ -1,7 +1,7 @@
 //! Why the program ends early.
 ghost use Rattle.std.specs.Prelude.{◌≡◌};
 ghost use Rattle.mpw_main.specs.declared.fault.ProgramFault.TheVariants.{Usage, Wire, Memory};
-ghost use Rattle.mpw_main.specs.Status.{status_of};
+ghost use Rattle.mpw_main.specs.Status.{exit_of, status_of};
 
 use mpw_wire::WireFault;
 use std::alloc::{AllocError, AllocFailed};
@@ -31,6 +31,16 @@ impl ProgramFault {
             ProgramFault::Wire(WireFault::Memory) | ProgramFault::Memory => 5,
             ProgramFault::Wire(WireFault::Read | WireFault::Write) => 3,
         }
+    }
+}
+
+/// The exit status of the program: 0 where the connection ended, and else the fault's.
+pub fn exit_status(ended: &Result<(), ProgramFault>) -> u8
+    ensures { result ≡ exit_of ended.now }
+{
+    match ended {
+        Ok(()) => 0,
+        Err(fault) => fault.status(),
     }
 }
 

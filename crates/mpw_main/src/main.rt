@@ -5,13 +5,14 @@ mod fault;
 mod script;
 mod settings;
 
-use fault::ProgramFault;
+use fault::{ProgramFault, exit_status};
 use mpw_wire::{Counted, WireFault};
 use script::serve_script;
 use settings::{Settings, read_settings};
 use std::env;
 use std::io::{self, BufReader, BufWriter};
 use std::process::ExitCode;
+use std::thread::Threads;
 
 /// The words of the command line.
 fn words(rt: &HostRuntime) -> Result<Vec<String>, ProgramFault> {
@@ -25,8 +26,12 @@ fn words(rt: &HostRuntime) -> Result<Vec<String>, ProgramFault> {
     }
 }
 
-/// Serves the standard input to the standard output as the settings say.
-fn serve(rt: &HostRuntime, settings: Settings) -> Result<(), ProgramFault> {
+/// Serves the standard input to the standard output as the settings say, and works runs off in these threads.
+fn serve(
+    rt: &HostRuntime,
+    threads: &(impl Threads + Sync),
+    settings: Settings,
+) -> Result<(), ProgramFault> {
     let alloc = rt.alloc();
     let Ok(input) = BufReader::new(alloc, rt.stdin()) else {
         return Err(ProgramFault::Memory);
@@ -35,6 +40,7 @@ fn serve(rt: &HostRuntime, settings: Settings) -> Result<(), ProgramFault> {
         return Err(ProgramFault::Memory);
     };
     match serve_script(
+        threads,
         alloc,
         settings,
         &mut Counted::new(input),
@@ -46,21 +52,19 @@ fn serve(rt: &HostRuntime, settings: Settings) -> Result<(), ProgramFault> {
 }
 
 /// Reads the command line, and serves.
-fn run(rt: &HostRuntime) -> Result<(), ProgramFault> {
+fn run(rt: &HostRuntime, threads: &(impl Threads + Sync)) -> Result<(), ProgramFault> {
     let words = words(rt)?;
     let words: Vec<&str> = words.iter().map(|word| word.as_str()).collect(rt.alloc())?;
     let settings = read_settings(rt.alloc(), words.as_slice())?;
-    serve(rt, settings)
+    serve(rt, threads, settings)
 }
 
 /// Exits with 0 where the connection ended, 2 at a usage fault, 3 where a device failed, and 5 where memory was
 /// wanting. A fault is told on the standard error.
 fn main(rt: HostRuntime) -> ExitCode {
-    match run(&rt) {
-        Ok(()) => ExitCode::SUCCESS,
-        Err(fault) => {
-            let _ = eprintln!(rt; "{fault}");
-            ExitCode::from(fault.status())
-        }
+    let ended = run(&rt, &rt);
+    if let Err(fault) = &ended {
+        let _ = eprintln!(rt; "{fault}");
     }
+    ExitCode::from(exit_status(&ended))
 }

@@ -10,15 +10,18 @@ use mpw_core::{Core, NoKeeper};
 use mpw_serve::{End, serve_core};
 use mpw_wire::{Sink, Source, WireFault};
 use std::alloc::Global;
+use std::thread::Threads;
 
 /// The connection of a script.
 const CONNECTION: u32 = 1;
 
-/// Serves the reader to the writer as connection 1 of a new desk.
+/// Serves the reader to the writer as connection 1 of a new desk. A run is worked off in as many threads as there are
+/// processors.
 ///
 /// # Errors
 /// As `serve_core`, and `Memory` where there is no room for the new desk.
 pub fn serve_script<R: Source, W: Sink>(
+    rt: &(impl Threads + Sync),
     alloc: Global,
     settings: Settings,
     reader: &mut R,
@@ -30,5 +33,13 @@ pub fn serve_script<R: Source, W: Sink>(
 {
     let Settings::Script { officer, digest } = settings;
     let mut core = Core::new(alloc, officer, digest)?;
-    serve_core(alloc, &mut core, &mut NoKeeper, CONNECTION, reader, writer)
+    serve_core(
+        rt,
+        alloc,
+        &mut core,
+        &mut NoKeeper,
+        CONNECTION,
+        reader,
+        writer,
+    )
 }

@@ -5,7 +5,7 @@ use Rattle.std.specs.List.{flat_map}
 use Rattle.std.proofs.KnownBytes.{Appends-trans, Appends-nil}
 use Rattle.std.specs.Io.KnownBytes.{Appends}
 use Rattle.mpw_core.specs.declared.event.Event.TheVariants as event
-use Rattle.mpw_replies.specs.declared.reply.Reply.{Reply}
+use Rattle.mpw_core.specs.declared.event.Response.{Response}
 use Rattle.mpw_core.specs.declared.event.Event.{Event}
 use Rattle.mpw_core.specs.History.{KeptDesk, IsHandled, GoesOnTo}
 use Rattle.mpw_wire.specs.declared.fault.WireFault.{WireFault}
@@ -13,6 +13,7 @@ use Rattle.mpw_wire.specs.declared.fault.WireFault.TheVariants.{Read, Write, Mem
 use Rattle.mpw_serve.specs.declared.serve.End.{End}
 use Rattle.mpw_serve.specs.declared.serve.End.TheVariants as end
 use Rattle.mpw_wire.specs.Writing.{WritesKnown, fault_of}
+use Rattle.mpw_work.specs.Laws.{WorkGoesOn}
 use Rattle.mpw_serve.specs.Serving.{Answer, Turn, Stop, IsTrace, IsTurn, IsStop, Written, HasText, ServesLine, ServesLines, IsGone, Serves, max_lines, turn_text, stop_text, end_of, told}
 
 flat_map-push : (f : Turn → List ℕ) (turns : List Turn) (turn : Turn) → flat_map f (turns ++ turn ∷ []) ≡ flat_map f turns ++ f turn
@@ -138,38 +139,44 @@ spent conn input input' output output' desk desk' count p e = record {
 }
 
 -- the end of a connection was handled, or memory was wanting
-pub gone_cases : {E : Type 0} (conn : ℕ) (d d' : KeptDesk) (result : Result Reply E) → IfOk result (λ reply. IsHandled d (event.Gone conn) reply d') → OnErr result (d' ≡ d) → IsGone conn d d'
-gone_cases conn d d' (Ok reply) ok err = inl (reply, ok)
+pub gone_cases : {E : Type 0} (conn : ℕ) (d d' : KeptDesk) (result : Result Response E) → IfOk result (λ response. IsHandled d (event.Gone conn) response d') → OnErr result (d' ≡ d) → IsGone conn d d'
+gone_cases conn d d' (Ok response) ok err = inl (response, ok)
 gone_cases conn d d' (Err e) ok err = inr err
 
 -- ---- what the keeper has of it
 
-module _ (goes : (d left : KeptDesk) (event : Event) (reply : Reply) → IsHandled d event reply left → GoesOnTo d left) (stays : (d : KeptDesk) → GoesOnTo d d) (on : (a b c : KeptDesk) → GoesOnTo a b → GoesOnTo b c → GoesOnTo a c) where
-  unmoved : (d d' : KeptDesk) → d' ≡ d → GoesOnTo d d'
-  unmoved d d' same = subst (GoesOnTo d) (sym same) (stays d)
+module _
+    (goes : (d left : KeptDesk) (event : Event) (response : Response) → IsHandled d event response left → GoesOnTo d left)
+    (stays : (d : KeptDesk) → GoesOnTo d d)
+    (on : (a b c : KeptDesk) → GoesOnTo a b → GoesOnTo b c → GoesOnTo a c)
+    (works : WorkGoesOn)
+  where
+    unmoved : (d d' : KeptDesk) → d' ≡ d → GoesOnTo d d'
+    unmoved d d' same = subst (GoesOnTo d) (sym same) (stays d)
 
-  turn_on : (conn : ℕ) (input input' : Option (List ℕ)) (d d' : KeptDesk) (turn : Turn) → IsTurn conn input d turn input' d' → GoesOnTo d d'
-  turn_on conn input input' d d' (Turn.asked line request (Answer.replied reply)) is = goes d d' (event.Ask conn request) reply is.1
-  turn_on conn input input' d d' (Turn.asked line request Answer.starved) is = unmoved d d' is.1
-  turn_on conn input input' d d' (Turn.malformed line) is = unmoved d d' is.2
+    turn_on : (conn : ℕ) (input input' : Option (List ℕ)) (d d' : KeptDesk) (turn : Turn) → IsTurn conn input d turn input' d' → GoesOnTo d d'
+    turn_on conn input input' d d' (Turn.asked line request (Answer.replied response)) (text, (asked, handled, worked)) =
+        on d asked d' (goes d asked (event.Ask conn request) response handled) (works request response asked d' worked)
+    turn_on conn input input' d d' (Turn.asked line request Answer.starved) is = unmoved d d' is.1
+    turn_on conn input input' d d' (Turn.malformed line) is = unmoved d d' is.2
 
-  trace_on : (conn : ℕ) (input : Option (List ℕ)) (d : KeptDesk) (turns : List Turn) (input' : Option (List ℕ)) (d' : KeptDesk) → IsTrace conn input d turns input' d' → GoesOnTo d d'
-  trace_on conn input d turns input' d' IsTrace.none = stays d
-  trace_on conn input d turns input' d' (IsTrace.then before turn middle last near far trace is) = on d near far (trace_on conn input d before middle near trace) (turn_on conn middle last near far turn is)
+    trace_on : (conn : ℕ) (input : Option (List ℕ)) (d : KeptDesk) (turns : List Turn) (input' : Option (List ℕ)) (d' : KeptDesk) → IsTrace conn input d turns input' d' → GoesOnTo d d'
+    trace_on conn input d turns input' d' IsTrace.none = stays d
+    trace_on conn input d turns input' d' (IsTrace.then before turn middle last near far trace is) = on d near far (trace_on conn input d before middle near trace) (turn_on conn middle last near far turn is)
 
-  stop_on : (conn lines : ℕ) (input input' : Option (List ℕ)) (d d' : KeptDesk) (s : Stop) → IsStop conn lines input d s input' d' → GoesOnTo d d'
-  stop_on conn lines input input' d d' Stop.closed is = unmoved d d' is.2
-  stop_on conn lines input input' d d' Stop.long is = unmoved d d' is.2
-  stop_on conn lines input input' d d' Stop.cut is = unmoved d d' is.2
-  stop_on conn lines input input' d d' Stop.starving is = unmoved d d' is.2
-  stop_on conn lines input input' d d' Stop.unreadable is = unmoved d d' is.2
-  stop_on conn lines input input' d d' Stop.spent is = unmoved d d' is.2
-  stop_on conn lines input input' d d' (Stop.unwritten turn) is = turn_on conn input input' d d' turn is.1
+    stop_on : (conn lines : ℕ) (input input' : Option (List ℕ)) (d d' : KeptDesk) (s : Stop) → IsStop conn lines input d s input' d' → GoesOnTo d d'
+    stop_on conn lines input input' d d' Stop.closed is = unmoved d d' is.2
+    stop_on conn lines input input' d d' Stop.long is = unmoved d d' is.2
+    stop_on conn lines input input' d d' Stop.cut is = unmoved d d' is.2
+    stop_on conn lines input input' d d' Stop.starving is = unmoved d d' is.2
+    stop_on conn lines input input' d d' Stop.unreadable is = unmoved d d' is.2
+    stop_on conn lines input input' d d' Stop.spent is = unmoved d d' is.2
+    stop_on conn lines input input' d d' (Stop.unwritten turn) is = turn_on conn input input' d d' turn is.1
 
-  gone_on : (conn : ℕ) (d d' : KeptDesk) → IsGone conn d d' → GoesOnTo d d'
-  gone_on conn d d' (inl is) = goes d d' (event.Gone conn) is.0 is.1
-  gone_on conn d d' (inr same) = unmoved d d' same
+    gone_on : (conn : ℕ) (d d' : KeptDesk) → IsGone conn d d' → GoesOnTo d d'
+    gone_on conn d d' (inl is) = goes d d' (event.Gone conn) is.0 is.1
+    gone_on conn d d' (inr same) = unmoved d d' same
 
-  pub served_on : (conn : ℕ) (input left output written : Option (List ℕ)) (d d' : KeptDesk) (result : Result End WireFault) → Serves conn input left output written d d' result → GoesOnTo d d'
-  served_on conn input left output written d d' result (reached, lines, gone) =
-      on d reached d' (on d lines.reached reached (trace_on conn input d lines.turns lines.left lines.reached lines.answered) (stop_on conn (length lines.turns) lines.left left lines.reached reached lines.stop lines.stopped)) (gone_on conn reached d' gone)
+    pub served_on : (conn : ℕ) (input left output written : Option (List ℕ)) (d d' : KeptDesk) (result : Result End WireFault) → Serves conn input left output written d d' result → GoesOnTo d d'
+    served_on conn input left output written d d' result (reached, lines, gone) =
+        on d reached d' (on d lines.reached reached (trace_on conn input d lines.turns lines.left lines.reached lines.answered) (stop_on conn (length lines.turns) lines.left left lines.reached reached lines.stop lines.stopped)) (gone_on conn reached d' gone)

@@ -5,7 +5,8 @@ use Rattle.std.specs.Io.KnownBytes.{Appends}
 use Rattle.std.specs.Io.Iter.{u64_saturate}
 use Rattle.mpw_requests.specs.declared.request.Request.{Request}
 use Rattle.mpw_core.specs.declared.event.Event.TheVariants as event
-use Rattle.mpw_replies.specs.declared.reply.Reply.{Reply}
+use Rattle.mpw_core.specs.declared.event.Response.{Response}
+use Rattle.mpw_core.specs.declared.event.Response.TheVariants as response
 use Rattle.mpw_core.specs.History.{KeptDesk, IsHandled}
 use Rattle.mpw_wire.specs.declared.fault.WireFault.{WireFault}
 use Rattle.mpw_wire.specs.declared.fault.WireFault.TheVariants.{Read, Write, Memory}
@@ -17,10 +18,11 @@ use Rattle.mpw_wire.specs.Reply.{reply_text, refusal_text}
 use Rattle.mpw_wire.specs.declared.request.LineAsk.TheVariants as ask
 use Rattle.mpw_wire.specs.Request.{ask_of}
 use Rattle.mpw_wire.specs.Writing.{fault_of}
+use Rattle.mpw_work.specs.Working.{WorksBehind}
 
--- what a request got: the desk's reply, or the word that memory was wanting
+-- what a request got: the desk's response, or the word that memory was wanting
 pub data Answer : Type 0 where
-  replied : Reply → Answer
+  replied : Response → Answer
   starved : Answer
 
 -- an answered line: one that asks something, and one that is no request's text
@@ -40,9 +42,21 @@ pub data Stop : Type 0 where
   spent : Stop
   unwritten : Turn → Stop
 
+-- the text of a response: what is told of a request. Nobody is told of the other events
+abbrev pub response_text : Response → List ℕ
+response_text (response.Told reply) = reply_text reply
+response_text (response.Run reply) = []
+response_text response.Gone = []
+response_text response.Restarted = []
+response_text response.Ended = []
+
 abbrev pub answer_text : Answer → List ℕ
-answer_text (replied reply) = reply_text reply
+answer_text (replied response) = response_text response
 answer_text starved = refusal_text refusal.Memory
+
+abbrev pub answer_of : Option Response → Answer
+answer_of None = starved
+answer_of (Some response) = replied response
 
 abbrev pub turn_text : Turn → List ℕ
 turn_text (asked line request answer) = answer_text answer
@@ -57,9 +71,11 @@ stop_text unreadable = []
 stop_text spent = []
 stop_text (unwritten turn) = turn_text turn
 
--- the desk's reply is its own, and the desk goes on with it, its keeper too; want of memory leaves both
+-- the desk's response is its own, and the desk goes on with it, its keeper too; a run that is accepted is then worked off. Want of memory
+-- leaves both
 abbrev pub IsAnswer : ℕ → Request → KeptDesk → Answer → KeptDesk → Type 0
-IsAnswer conn request desk (replied reply) desk' = IsHandled desk (event.Ask conn request) reply desk'
+IsAnswer conn request desk (replied response) desk' =
+    (asked : KeptDesk) × IsHandled desk (event.Ask conn request) response asked × WorksBehind request response asked desk'
 IsAnswer conn request desk starved desk' = desk' ≡ desk
 
 -- the text is taken off the input, and it gets what it asks; a line that is no request's text leaves the desk
@@ -142,7 +158,7 @@ pub record ServesLines (conn : ℕ) (input input' output output' : Option (List 
 
 -- the end of the connection is handed to the desk; or the desk is left, as where memory is wanting
 abbrev pub IsGone : ℕ → KeptDesk → KeptDesk → Type 0
-IsGone conn desk desk' = ((reply : Reply) × IsHandled desk (event.Gone conn) reply desk') ⊎ (desk' ≡ desk)
+IsGone conn desk desk' = ((response : Response) × IsHandled desk (event.Gone conn) response desk') ⊎ (desk' ≡ desk)
 
 -- a connection: its lines, and its end
 abbrev pub Serves : ℕ → Option (List ℕ) → Option (List ℕ) → Option (List ℕ) → Option (List ℕ) → KeptDesk → KeptDesk → Result End WireFault → Type 0

@@ -3,12 +3,14 @@ ghost use Rattle.std.specs.Prelude.{◌≡◌, ℕ, List, Option, Result};
 ghost use Rattle.mpw_core.specs.History.{KeptDesk, GoesOnTo, kept_desk};
 ghost use Rattle.mpw_wire.specs.Reading.{read_failures};
 ghost use Rattle.mpw_wire.specs.Writing.{Writes, fault_of};
-ghost use Rattle.mpw_serve.specs.Serving.{Answer, told, IsAnswer, answer_text, ServesLine, ServesLines, IsGone, Serves, write_failures};
+ghost use Rattle.mpw_serve.specs.Serving.{Answer, told, IsAnswer, answer_of, answer_text, response_text, ServesLine, ServesLines, IsGone, Serves, write_failures};
 
-use mpw_core::{Core, Event, Keeper, keepers_have_the_changes_in_order};
+use mpw_core::{Core, Event, Keeper, Response, keepers_have_the_changes_in_order};
 use mpw_requests::SharedRequest;
 use mpw_wire::{Asked, Refusal, Sink, Source, WireFault, read_request, write_refusal, write_reply};
+use mpw_work::{work_behind, work_goes_on};
 use std::alloc::Global;
+use std::thread::Threads;
 
 /// The greatest number of answered lines of one connection.
 pub const MAX_LINES: usize = 4096;
@@ -28,8 +30,37 @@ pub enum End {
     Spent,
 }
 
+/// Writes what is told of a request.
+fn write_response<W: Sink>(response: &Response, writer: &mut W) -> Result<(), WireFault>
+    ensures { Writes W.contents W.failures writer.old writer.new result (response_text response.now) }
+{
+    match response {
+        Response::Told(reply) => write_reply(reply, writer),
+        _ => Ok(()),
+    }
+}
+
+/// Has the desk answer a request, and works a run off that is accepted; none where memory is wanting.
+fn handle<K: Keeper>(
+    rt: &(impl Threads + Sync),
+    alloc: Global,
+    core: &mut Core,
+    keeper: &mut K,
+    conn: u32,
+    request: SharedRequest,
+) -> Option<Response>
+    ensures { IsAnswer conn request (kept_desk core.old (K.kept keeper.old) (K.failures keeper.old)) (answer_of result) (kept_desk core.new (K.kept keeper.new) (K.failures keeper.new)) }
+{
+    let asked = request.copy().ok()?;
+    let response = core.handle(keeper, Event::Ask { conn, request }).ok()?;
+    work_behind(rt, alloc, core, keeper, asked.get(), &response);
+    Some(response)
+}
+
 /// Answers a request.
 fn answer<K: Keeper, W: Sink>(
+    rt: &(impl Threads + Sync),
+    alloc: Global,
     core: &mut Core,
     keeper: &mut K,
     conn: u32,
@@ -38,9 +69,9 @@ fn answer<K: Keeper, W: Sink>(
 ) -> Result<(), WireFault>
     ensures { (answer : Answer) × IsAnswer conn request (kept_desk core.old (K.kept keeper.old) (K.failures keeper.old)) answer (kept_desk core.new (K.kept keeper.new) (K.failures keeper.new)) × Writes W.contents W.failures writer.old writer.new result (answer_text answer) }
 {
-    match core.handle(keeper, Event::Ask { conn, request }) {
-        Ok(reply) => write_reply(&reply, writer),
-        Err(_) => write_refusal(Refusal::Memory, writer),
+    match handle(rt, alloc, core, keeper, conn, request) {
+        Some(response) => write_response(&response, writer),
+        None => write_refusal(Refusal::Memory, writer),
     }
 }
 
@@ -56,6 +87,7 @@ fn told(end: Option<End>, written: Result<(), WireFault>) -> Result<Option<End>,
 
 /// Serves one line. It answers `None` where the connection goes on.
 fn serve_line<K: Keeper, R: Source, W: Sink>(
+    rt: &(impl Threads + Sync),
     alloc: Global,
     core: &mut Core,
     keeper: &mut K,
@@ -68,7 +100,10 @@ fn serve_line<K: Keeper, R: Source, W: Sink>(
     ensures writer { W.failures writer.new ≡ write_failures (fault_of result) (W.failures writer.old) }
 {
     match read_request(alloc, reader) {
-        Ok(Asked::Request(request)) => told(None, answer(core, keeper, conn, request, writer)),
+        Ok(Asked::Request(request)) => told(
+            None,
+            answer(rt, alloc, core, keeper, conn, request, writer),
+        ),
         Ok(Asked::Form) => told(None, write_refusal(Refusal::Form, writer)),
         Ok(Asked::Long) => told(Some(End::Long), write_refusal(Refusal::Long, writer)),
         Ok(Asked::Cut) => told(Some(End::Cut), write_refusal(Refusal::Cut, writer)),
@@ -83,6 +118,7 @@ fn serve_line<K: Keeper, R: Source, W: Sink>(
 
 /// Serves lines until the connection ends.
 fn serve_lines<K: Keeper, R: Source, W: Sink>(
+    rt: &(impl Threads + Sync),
     alloc: Global,
     core: &mut Core,
     keeper: &mut K,
@@ -95,7 +131,7 @@ fn serve_lines<K: Keeper, R: Source, W: Sink>(
     ensures writer { W.failures writer.new ≡ write_failures (fault_of result) (W.failures writer.old) }
 {
     for _ in 0..MAX_LINES {
-        match serve_line(alloc, core, keeper, conn, reader, writer) {
+        match serve_line(rt, alloc, core, keeper, conn, reader, writer) {
             Ok(None) => {}
             Ok(Some(end)) => return Ok(end),
             Err(fault) => return Err(fault),
@@ -120,6 +156,7 @@ fn hand_end<K: Keeper>(core: &mut Core, keeper: &mut K, conn: u32)
 /// # Errors
 /// `Read` where the source failed and `Write` where the sink failed; what was accepted before stays accepted.
 pub fn serve_core<K: Keeper, R: Source, W: Sink>(
+    rt: &(impl Threads + Sync),
     alloc: Global,
     core: &mut Core,
     keeper: &mut K,
@@ -131,7 +168,7 @@ pub fn serve_core<K: Keeper, R: Source, W: Sink>(
     ensures reader { R.failures reader.new ≡ read_failures (fault_of result) (R.failures reader.old) }
     ensures writer { W.failures writer.new ≡ write_failures (fault_of result) (W.failures writer.old) }
 {
-    let end = serve_lines(alloc, core, keeper, conn, reader, writer);
+    let end = serve_lines(rt, alloc, core, keeper, conn, reader, writer);
     hand_end(core, keeper, conn);
     end
 }
@@ -142,4 +179,5 @@ pub fn served_changes_are_kept_in_order()
     ensures { (conn : ℕ) (input left output written : Option (List ℕ)) (desk reached : KeptDesk) (result : Result End WireFault) → Serves conn input left output written desk reached result → GoesOnTo desk reached }
 {
     keepers_have_the_changes_in_order();
+    work_goes_on();
 }

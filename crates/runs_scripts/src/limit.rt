@@ -4,7 +4,7 @@ use crate::devices::Paper;
 use crate::restart::tell_restart;
 use crate::serving::new_desk;
 use anyhow::Result;
-use mpw_core::{Core, Event, MAX_EVENTS, NoKeeper};
+use mpw_core::{Core, Event, MAX_EVENTS, NoKeeper, Response};
 use mpw_requests::{Request, SharedRequest};
 use mpw_wire::write_reply;
 use std::alloc::{AllocError, Global};
@@ -20,13 +20,15 @@ fn end_connections(core: &mut Core, count: usize) -> Result<(), AllocError> {
 /// The text of what `whoami` is answered.
 fn whoami(alloc: Global, core: &mut Core) -> Result<Vec<u8>, AllocError> {
     let request = SharedRequest::new(alloc, Request::Whoami)?;
-    let reply = core.handle(&mut NoKeeper, Event::Ask { conn: 1, request })?;
+    let response = core.handle(&mut NoKeeper, Event::Ask { conn: 1, request })?;
     let mut paper = Paper {
         bytes: Vec::new(alloc),
         room: usize::MAX,
         failures: 0,
     };
-    let _ = write_reply(&reply, &mut paper);
+    if let Response::Told(reply) = &response {
+        let _ = write_reply(reply, &mut paper);
+    }
     Ok(paper.bytes)
 }
 

@@ -24,6 +24,7 @@ use limit::fill_a_history;
 use restart::restart_desks;
 use serving::{Devices, Served, is_closed, is_front, serve};
 use std::fs;
+use std::thread::Threads;
 use transcript::{Transcript, read_transcript};
 
 /// A line of the standard input.
@@ -78,8 +79,14 @@ fn first_difference(told: &[u8], wanted: &[u8]) -> usize {
 }
 
 /// Tells of a script that says how it is answered.
-fn tell(rt: &HostRuntime, case: &Case, script: &Transcript, devices: &Devices) -> Result<()> {
-    let served = serve(rt.alloc(), script.input.as_slice(), devices)?;
+fn tell(
+    rt: &HostRuntime,
+    threads: &(impl Threads + Sync),
+    case: &Case,
+    script: &Transcript,
+    devices: &Devices,
+) -> Result<()> {
+    let served = serve(threads, rt.alloc(), script.input.as_slice(), devices)?;
     if served.text.as_slice() == script.replies.as_slice() {
         println!(rt;
             "{}: answered as written; {}; {} calls, {} changes",
@@ -93,10 +100,16 @@ fn tell(rt: &HostRuntime, case: &Case, script: &Transcript, devices: &Devices) -
 }
 
 /// How often a script is told as closed, where its keeper fails at each of some calls in turn.
-fn closed_times(rt: &HostRuntime, script: &Transcript, calls: usize) -> Result<usize> {
+fn closed_times(
+    rt: &HostRuntime,
+    threads: &(impl Threads + Sync),
+    script: &Transcript,
+    calls: usize,
+) -> Result<usize> {
     let mut closed = 0usize;
     for call in 1..=calls {
         let served = serve(
+            threads,
             rt.alloc(),
             script.input.as_slice(),
             &failing("keeper", call),
@@ -109,9 +122,19 @@ fn closed_times(rt: &HostRuntime, script: &Transcript, calls: usize) -> Result<u
 }
 
 /// Tells of a script whose keeper fails at each call in turn.
-fn tell_closed(rt: &HostRuntime, case: &Case, script: &Transcript) -> Result<()> {
-    let served = serve(rt.alloc(), script.input.as_slice(), &failing("", 0))?;
-    let closed = closed_times(rt, script, served.kept)?;
+fn tell_closed(
+    rt: &HostRuntime,
+    threads: &(impl Threads + Sync),
+    case: &Case,
+    script: &Transcript,
+) -> Result<()> {
+    let served = serve(
+        threads,
+        rt.alloc(),
+        script.input.as_slice(),
+        &failing("", 0),
+    )?;
+    let closed = closed_times(rt, threads, script, served.kept)?;
     println!(rt;
         "{}, the keeper fails at each of {} calls: {closed} times closed from there on",
         case.name, served.kept
@@ -120,8 +143,15 @@ fn tell_closed(rt: &HostRuntime, case: &Case, script: &Transcript) -> Result<()>
 }
 
 /// Tells of a script over a device that fails at one place.
-fn tell_failing(rt: &HostRuntime, case: &Case, script: &Transcript, place: usize) -> Result<()> {
+fn tell_failing(
+    rt: &HostRuntime,
+    threads: &(impl Threads + Sync),
+    case: &Case,
+    script: &Transcript,
+    place: usize,
+) -> Result<()> {
     let served = serve(
+        threads,
         rt.alloc(),
         script.input.as_slice(),
         &failing(case.device, place),
@@ -148,7 +178,12 @@ fn is_told(served: &Served, script: &Transcript, device: &str) -> bool {
 }
 
 /// Tells of a script over a device that fails at each byte in turn.
-fn tell_each(rt: &HostRuntime, case: &Case, script: &Transcript) -> Result<()> {
+fn tell_each(
+    rt: &HostRuntime,
+    threads: &(impl Threads + Sync),
+    case: &Case,
+    script: &Transcript,
+) -> Result<()> {
     let places = if case.device == "source" {
         script.input.len()
     } else {
@@ -157,6 +192,7 @@ fn tell_each(rt: &HostRuntime, case: &Case, script: &Transcript) -> Result<()> {
     let mut told = 0usize;
     for place in 0..places {
         let served = serve(
+            threads,
             rt.alloc(),
             script.input.as_slice(),
             &failing(case.device, place),
@@ -180,16 +216,16 @@ fn script(rt: &HostRuntime, name: &str) -> Result<Transcript> {
 }
 
 /// Serves one line of the standard input.
-fn run_case(rt: &HostRuntime, line: &str) -> Result<()> {
+fn run_case(rt: &HostRuntime, threads: &(impl Threads + Sync), line: &str) -> Result<()> {
     let case = read_case(line);
     let script = script(rt, case.name)?;
     match (case.device, case.place.parse::<usize>()) {
-        ("", _) => tell(rt, &case, &script, &failing("", 0)),
-        ("keeper", Ok(place)) => tell(rt, &case, &script, &failing("keeper", place)),
-        ("once", Ok(place)) => tell(rt, &case, &script, &failing("once", place)),
-        ("keeper", Err(_)) => tell_closed(rt, &case, &script),
-        (_, Ok(place)) => tell_failing(rt, &case, &script, place),
-        (_, Err(_)) => tell_each(rt, &case, &script),
+        ("", _) => tell(rt, threads, &case, &script, &failing("", 0)),
+        ("keeper", Ok(place)) => tell(rt, threads, &case, &script, &failing("keeper", place)),
+        ("once", Ok(place)) => tell(rt, threads, &case, &script, &failing("once", place)),
+        ("keeper", Err(_)) => tell_closed(rt, threads, &case, &script),
+        (_, Ok(place)) => tell_failing(rt, threads, &case, &script, place),
+        (_, Err(_)) => tell_each(rt, threads, &case, &script),
     }
 }
 
@@ -197,7 +233,7 @@ fn main(rt: HostRuntime) -> Result<()> {
     for line in rt.lines(rt.alloc()) {
         let line = line?;
         if !line.is_empty() {
-            run_case(&rt, line.as_str())?;
+            run_case(&rt, &rt, line.as_str())?;
         }
     }
     tell_digests(&rt)?;

@@ -4,22 +4,23 @@ use crate::keeper::{Fails, MemoryKeeper};
 use crate::limit::tell_whoami;
 use crate::serving::new_desk;
 use anyhow::Result;
-use mpw_core::{Core, Event, Keeper, NoKeeper};
+use mpw_core::{Core, Event, Keeper, NoKeeper, Response};
 use mpw_geom::Name;
 use mpw_replies::Reply;
 use mpw_requests::{PolicyRequest, Request, SharedRequest};
 use mpw_wire::digest_of;
 use std::alloc::{AllocError, Global};
 
-/// The word of a reply.
-fn reply_word(reply: &Reply) -> &'static str {
-    match reply {
-        Reply::Ok(_) => "accepted",
-        Reply::Denied(_) => "denied",
-        Reply::Refused(_) => "refused",
-        Reply::Gone => "gone",
-        Reply::Restarted => "restarted",
-        Reply::Ended => "ended",
+/// The word of a response.
+fn response_word(response: &Response) -> &'static str {
+    match response {
+        Response::Told(Reply::Ok(_)) => "accepted",
+        Response::Told(Reply::Denied(_)) => "denied",
+        Response::Told(Reply::Refused(_)) => "refused",
+        Response::Run(_) => "answered by the run",
+        Response::Gone => "gone",
+        Response::Restarted => "restarted",
+        Response::Ended => "ended",
     }
 }
 
@@ -35,14 +36,14 @@ fn login(alloc: Global) -> Result<SharedRequest, AllocError> {
 /// The word of what the officer's login on connection 1 is answered.
 fn open<K: Keeper>(alloc: Global, core: &mut Core, keeper: &mut K) -> Result<&'static str> {
     let request = login(alloc)?;
-    let reply = core.handle(keeper, Event::Ask { conn: 1, request })?;
-    Ok(reply_word(&reply))
+    let response = core.handle(keeper, Event::Ask { conn: 1, request })?;
+    Ok(response_word(&response))
 }
 
 /// The word of what a restart is answered.
 fn restart(core: &mut Core) -> Result<&'static str> {
-    let reply = core.handle(&mut NoKeeper, Event::Restart)?;
-    Ok(reply_word(&reply))
+    let response = core.handle(&mut NoKeeper, Event::Restart)?;
+    Ok(response_word(&response))
 }
 
 /// Tells what a restart is answered, and what a session is told then.

@@ -8,6 +8,7 @@ use mpw_geom::Name;
 use mpw_serve::{End, serve_core};
 use mpw_wire::{WireFault, digest_of};
 use std::alloc::{AllocError, Global};
+use std::thread::Threads;
 
 /// The places at which the devices and the keeper fail.
 #[derive(Clone, Copy)]
@@ -26,10 +27,19 @@ pub struct Served {
     pub kept: usize,
 }
 
-/// A new desk.
-pub fn new_desk(alloc: Global) -> Result<Core, AllocError> {
+/// A new desk. It stands behind a pointer, so that to let it go is one step wherever it is held.
+pub fn new_desk(alloc: Global) -> Result<Box<Core>, AllocError> {
     match Name::read(alloc, b"root") {
-        Ok(officer) => Core::new(alloc, officer, digest_of(b"abc")),
+        Ok(officer) => boxed(alloc, officer),
+        Err(_) => Err(AllocError),
+    }
+}
+
+/// A new desk of that officer.
+fn boxed(alloc: Global, officer: Name) -> Result<Box<Core>, AllocError> {
+    let core = Core::new(alloc, officer, digest_of(b"abc"))?;
+    match Box::new(alloc, core) {
+        Ok(core) => Ok(core),
         Err(_) => Err(AllocError),
     }
 }
@@ -49,7 +59,12 @@ fn end_word(end: Result<End, WireFault>) -> &'static str {
 }
 
 /// Serves a text on a new desk.
-pub fn serve(alloc: Global, bytes: &[u8], devices: &Devices) -> Result<Served, AllocError> {
+pub fn serve(
+    threads: &(impl Threads + Sync),
+    alloc: Global,
+    bytes: &[u8],
+    devices: &Devices,
+) -> Result<Served, AllocError> {
     let mut core = new_desk(alloc)?;
     let mut reader = Text {
         bytes,
@@ -68,7 +83,15 @@ pub fn serve(alloc: Global, bytes: &[u8], devices: &Devices) -> Result<Served, A
         asked: 0,
         failures: 0,
     };
-    let end = serve_core(alloc, &mut core, &mut keeper, 1, &mut reader, &mut writer);
+    let end = serve_core(
+        threads,
+        alloc,
+        &mut core,
+        &mut keeper,
+        1,
+        &mut reader,
+        &mut writer,
+    );
     Ok(Served {
         text: writer.bytes,
         end: end_word(end),

@@ -1,0 +1,2 @@
+mod HandingLemmas
+mod WorkLemmas

@@ -1,0 +1,219 @@
+-- How a run is worked off: its snapshot is cut, the jobs of its tiles are done in one batch, and what comes of them is handed to the
+-- desk in order. Want of memory ends it at any place, and leaves the run as it stands.
+use Rattle.std.specs.Prelude.{◌≡◌, ℕ, Bool, true, false, List, [], ◌∷◌, map, Option, None, Some, IfSome, ◌&&◌}
+use Rattle.std.specs.List.{range_with_len}
+use Rattle.mpw_core.specs.History.{KeptDesk, IsHandled, restarts}
+use Rattle.mpw_core.specs.declared.event.Event.{Event}
+use Rattle.mpw_core.specs.declared.event.Event.TheVariants as event
+use Rattle.mpw_core.specs.declared.event.Response.{Response}
+use Rattle.mpw_core.specs.declared.event.Response.TheVariants as response
+use Rattle.mpw_job.specs.Carried.{job_of}
+use Rattle.mpw_job.specs.Jobs.{CutWindows}
+use Rattle.mpw_job.specs.Laws.{task_of}
+use Rattle.mpw_job.specs.declared.answer.Answer.{Answer}
+use Rattle.mpw_job.specs.declared.answer.Answer.TheVariants as answers
+use Rattle.mpw_job.specs.declared.job.CutJob.{CutJob}
+use Rattle.mpw_job.specs.declared.job.Job.{Job}
+use Rattle.mpw_job.specs.declared.job.Job.TheVariants as jobs
+use Rattle.mpw_replies.specs.declared.reply.Reply.{Reply}
+use Rattle.mpw_replies.specs.declared.reply.Reply.TheVariants as reply
+use Rattle.mpw_requests.specs.declared.request.Request.{Request}
+use Rattle.mpw_requests.specs.declared.request.Request.TheVariants as ask
+use Rattle.mpw_requests.specs.declared.run.RunRequest.{RunRequest}
+use Rattle.mpw_requests.specs.declared.run.RunRequest.TheVariants.{Run, Cancel, Status, Markers}
+use Rattle.mpw_run.specs.declared.phase.RunReply.{RunReply}
+use Rattle.mpw_run.specs.declared.phase.RunReply.TheVariants as told
+use Rattle.mpw_tiles.specs.Plan.{Tiling, tiles}
+use Rattle.mpw_tiles.specs.Snapshots.{Snapshot, plan_for}
+use Rattle.mpw_tiles.specs.declared.listing.Rectangle.{Rectangle}
+
+-- The worker by whose number a connection's own work is known.
+abbrev pub own_worker : ℕ
+own_worker = 0
+
+-- What is handed to the desk of a job that was done.
+abbrev pub event_of : Answer → Event
+event_of (answers.Cut a) = event.Cut a
+event_of (answers.Tile a) = event.Tile a
+
+-- The work ends with that response: the run is finished, or nothing is answered any more.
+abbrev pub is_last : RunReply → Bool
+is_last (told.Taken job) = false
+is_last told.NoJob = false
+is_last told.Kept = false
+is_last told.Finished = true
+is_last told.Stranger = false
+is_last told.Double = false
+is_last told.OldRun = false
+
+abbrev pub ends : Response → Bool
+ends (response.Told reply) = false
+ends (response.Run reply) = is_last reply
+ends response.Gone = false
+ends response.Restarted = false
+ends response.Ended = true
+
+-- What came of an event that is handed to the desk: its response, or want of memory, which leaves the desk.
+abbrev pub CameOf : KeptDesk → Event → Option Response → KeptDesk → Type 0
+CameOf d event None d' = d' ≡ d
+CameOf d event (Some response) d' = IsHandled d event response d'
+
+-- Nothing more is handed in behind that.
+abbrev pub is_over : Option Response → Bool
+is_over None = true
+is_over (Some response) = ends response
+
+-- ---- tiles
+
+-- The event is of the run, and no restart.
+abbrev pub IsOfRun : Event → Type 0
+IsOfRun e = restarts e ≡ false
+
+-- The event is handed to the desk. Whether nothing more is handed in behind it.
+pub record HandsOver (d : KeptDesk) (e : Event) (over : Bool) (d' : KeptDesk) : Type 0 where
+  pub came : Option Response
+  pub handled : CameOf d e came d'
+  pub ends : is_over came ≡ over
+
+-- The desk is called for a job, and then handed what came of a tile's. Whether that was all.
+pub data HandsTile (d : KeptDesk) (tile : Event) : Bool → KeptDesk → Type 0 where
+  uncalled : (d' : KeptDesk) → HandsOver d (event.Take own_worker) true d' → HandsTile d tile true d'
+  handed : (over : Bool) (d' d'' : KeptDesk) → HandsOver d (event.Take own_worker) false d' → HandsOver d' tile over d'' → HandsTile d tile over d''
+
+-- One tile after the other, up to the last that is handed in.
+pub data HandsTiles : KeptDesk → List Event → KeptDesk → Type 0 where
+  none : (d : KeptDesk) → HandsTiles d [] d
+  last : (d : KeptDesk) (tile : Event) (rest : List Event) (d' : KeptDesk) → HandsTile d tile true d' → HandsTiles d (tile ∷ rest) d'
+  next : (d : KeptDesk) (tile : Event) (rest : List Event) (d' d'' : KeptDesk)
+      → HandsTile d tile false d' → HandsTiles d' rest d'' → HandsTiles d (tile ∷ rest) d''
+
+-- The jobs of the tiles of a cut, in order.
+abbrev pub job_at : Snapshot → Tiling → List (List Rectangle) → (run tile : ℕ) → Job
+job_at snapshot plan windows run tile = jobs.Tile (task_of snapshot plan windows run tile)
+
+abbrev pub jobs_by : CutWindows → Option Tiling → List Job
+jobs_by a None = []
+jobs_by a (Some plan) = map (job_at a.job.snapshot plan a.windows a.job.run) (range_with_len 0 (tiles plan))
+
+abbrev pub jobs_of : CutWindows → List Job
+jobs_of a = jobs_by a (plan_for a.job.snapshot)
+
+-- The events are what came of all tiles' jobs, in order.
+pub record IsDone (a : CutWindows) (events : List Event) : Type 0 where
+  pub done : List Answer
+  pub jobs_are : map job_of done ≡ jobs_of a
+  pub events_are : events ≡ map event_of done
+
+-- ---- the cut
+
+-- The job of cutting that a call was handed.
+abbrev pub cut_of : Job → Option CutJob
+cut_of (jobs.Cut job) = Some job
+cut_of (jobs.Tile job) = None
+
+abbrev pub cut_handed : RunReply → Option CutJob
+cut_handed (told.Taken job) = cut_of job
+cut_handed told.NoJob = None
+cut_handed told.Kept = None
+cut_handed told.Finished = None
+cut_handed told.Stranger = None
+cut_handed told.Double = None
+cut_handed told.OldRun = None
+
+abbrev pub cut_told : Response → Option CutJob
+cut_told (response.Told reply) = None
+cut_told (response.Run reply) = cut_handed reply
+cut_told response.Gone = None
+cut_told response.Restarted = None
+cut_told response.Ended = None
+
+abbrev pub cut_called : Option Response → Option CutJob
+cut_called None = None
+cut_called (Some response) = cut_told response
+
+-- The windows were kept.
+abbrev pub keeps : RunReply → Bool
+keeps (told.Taken job) = false
+keeps told.NoJob = false
+keeps told.Kept = true
+keeps told.Finished = false
+keeps told.Stranger = false
+keeps told.Double = false
+keeps told.OldRun = false
+
+abbrev pub is_kept : Response → Bool
+is_kept (response.Told reply) = false
+is_kept (response.Run reply) = keeps reply
+is_kept response.Gone = false
+is_kept response.Restarted = false
+is_kept response.Ended = false
+
+abbrev pub was_kept : Option Response → Bool
+was_kept None = false
+was_kept (Some response) = is_kept response
+
+-- The windows are handed to the desk. Whether they were kept.
+pub record HandsCut (d : KeptDesk) (job : CutJob) (a : CutWindows) (kept : Bool) (d' : KeptDesk) : Type 0 where
+  pub came : Option Response
+  pub handled : CameOf d (event.Cut a) came d'
+  pub keeps : was_kept came ≡ kept
+  pub job_is : a.job ≡ job
+
+-- The jobs of all tiles are done, and what came of them is handed in; or a job finds no memory.
+pub data WorksTiles (d : KeptDesk) (a : CutWindows) : KeptDesk → Type 0 where
+  unworked : WorksTiles d a d
+  worked : (events : List Event) (d' : KeptDesk) → IsDone a events → HandsTiles d events d' → WorksTiles d a d'
+
+-- The snapshot is cut, the windows are handed in, and where they are kept the jobs of all tiles are done and handed in. Where a job
+-- finds no memory the run stays as it stands.
+pub data WorksCut (d : KeptDesk) (job : CutJob) : KeptDesk → Type 0 where
+  uncut : WorksCut d job d
+  unkept : (a : CutWindows) (d' : KeptDesk) → HandsCut d job a false d' → WorksCut d job d'
+  kept : (a : CutWindows) (d' d'' : KeptDesk) → HandsCut d job a true d' → WorksTiles d' a d'' → WorksCut d job d''
+
+-- The desk is called for a job; where that is to cut, the run is worked off.
+pub data WorksOff (d : KeptDesk) : KeptDesk → Type 0 where
+  uncalled : (call : Option Response) (d' : KeptDesk) → CameOf d (event.Take own_worker) call d' → cut_called call ≡ None → WorksOff d d'
+  called : (call : Option Response) (job : CutJob) (d' d'' : KeptDesk)
+      → CameOf d (event.Take own_worker) call d' → cut_called call ≡ Some job → WorksCut d' job d'' → WorksOff d d''
+
+-- What a call for a job came to, and the job of cutting that is taken from it; none where there is none, or memory is wanting.
+pub record CallsFor (d : KeptDesk) (job : Option CutJob) (d' : KeptDesk) : Type 0 where
+  pub call : Option Response
+  pub handled : CameOf d (event.Take own_worker) call d'
+  pub taken : IfSome job (λ j. cut_called call ≡ Some j)
+
+-- ---- behind which replies
+
+abbrev pub begins : RunRequest → Bool
+begins Run = true
+begins Cancel = false
+begins Status = false
+begins Markers = false
+
+abbrev pub is_begin : Request → Bool
+is_begin (ask.Policy request) = false
+is_begin ask.Whoami = false
+is_begin (ask.Layout request) = false
+is_begin (ask.Wafer request) = false
+is_begin (ask.Run request) = begins request
+
+abbrev pub accepts : Reply → Bool
+accepts (reply.Ok lines) = true
+accepts (reply.Denied denial) = false
+accepts (reply.Refused code) = false
+
+abbrev pub is_accepted : Response → Bool
+is_accepted (response.Told reply) = accepts reply
+is_accepted (response.Run reply) = false
+is_accepted response.Gone = false
+is_accepted response.Restarted = false
+is_accepted response.Ended = false
+
+abbrev pub WorksWhere : Bool → KeptDesk → KeptDesk → Type 0
+WorksWhere true d d' = WorksOff d d'
+WorksWhere false d d' = d' ≡ d
+
+-- A run that is accepted is worked off before the next line is read. Another request leaves the desk.
+abbrev pub WorksBehind : Request → Response → KeptDesk → KeptDesk → Type 0
+WorksBehind request response d d' = WorksWhere (is_begin request && is_accepted response) d d'
