@@ -1,0 +1,5 @@
+mod Least
+mod OwnCells
+mod Signed
+mod Reached
+mod Counted

@@ -1,0 +1,52 @@
+-- Who may ask for a waiver and who may sign it: the tests in order, and the waivers that are left where all pass.
+use Rattle.std.specs.Prelude.{ℕ, List, slice_get, is_some, Option, None, Some, Result, Ok, Err, filter_map, if◌then◌else◌}
+use Rattle.mpw_geom.specs.Names.{name_eq}
+use Rattle.mpw_hier.specs.declared.submission.Submission.{Submission}
+use Rattle.mpw_waiver.specs.declared.fault.WaiverFault.{WaiverFault}
+use Rattle.mpw_waiver.specs.declared.fault.WaiverFault.TheVariants.{Known, NoWaiver, Submitter, Asker}
+use Rattle.mpw_waiver.specs.declared.waiver.Waiver.{Waiver}
+use Rattle.mpw_waiver.specs.Least.{least_name}
+use Rattle.mpw_waiver.specs.Waivers.{waiver_at, with_asker, with_signer}
+
+-- A waiver can be asked for where there is none.
+abbrev pub ask_test : Option Waiver → Result (Unit {0}) WaiverFault
+ask_test None = Ok tt
+ask_test (Some waiver) = Err Known
+
+-- The cell of a submission, where the user submitted it.
+abbrev pub own_cell : List ℕ → Option Submission → Option (List ℕ)
+own_cell user None = None
+own_cell user (Some s) = if name_eq s.submitter user then Some s.cell else None
+
+-- The cells of those of the met submissions that the user submitted.
+unfoldable pub own_cells : List Submission → List ℕ → List ℕ → List (List ℕ)
+own_cells shelf met user = filter_map (λ number. own_cell user (slice_get shelf number)) met
+
+-- The least of them, by name.
+unfoldable pub least_own_cell : List Submission → List ℕ → List ℕ → Option (List ℕ)
+least_own_cell shelf met user = least_name (own_cells shelf met user)
+
+-- Who submitted what a marker meets doesn't sign its waiver, nor does who asked for it.
+abbrev pub separation_test : Option (List ℕ) → List ℕ → List ℕ → Result (Unit {0}) WaiverFault
+separation_test (Some cell) asker user = Err (Submitter cell)
+separation_test None asker user = if name_eq asker user then Err Asker else Ok tt
+
+-- A waiver can be signed where there is one that nobody signed, by a user whom nothing keeps apart from it.
+abbrev pub sign_test : List Submission → List ℕ → List ℕ → Option Waiver → Result (Unit {0}) WaiverFault
+sign_test shelf met user None = Err NoWaiver
+sign_test shelf met user (Some waiver) =
+    if is_some waiver.signer then Err Known else separation_test (least_own_cell shelf met user) waiver.asker user
+
+-- What is left where a test passes.
+abbrev pub if_passed : Result (Unit {0}) WaiverFault → List (Option Waiver) → Result (List (Option Waiver)) WaiverFault
+if_passed (Ok passed) waivers = Ok waivers
+if_passed (Err fault) waivers = Err fault
+
+-- The waivers with one that the user asked for, of the marker at that place.
+unfoldable pub asked : List (Option Waiver) → ℕ → List ℕ → Result (List (Option Waiver)) WaiverFault
+asked waivers place user = if_passed (ask_test (waiver_at waivers place)) (with_asker waivers place user)
+
+-- The waivers with that of the marker at that place signed by the user. The marker meets the submissions of these numbers.
+unfoldable pub signed : List Submission → List (Option Waiver) → ℕ → List ℕ → List ℕ → Result (List (Option Waiver)) WaiverFault
+signed shelf waivers place met user =
+    if_passed (sign_test shelf met user (waiver_at waivers place)) (with_signer waivers place user)

@@ -1,0 +1,49 @@
+//! Which of a marker's cells a user submitted.
+
+ghost use Rattle.std.specs.Prelude.{◌≡◌, slice_get};
+ghost use Rattle.std.specs.Option.{option_copied};
+ghost use Rattle.mpw_waiver.specs.Signing.{own_cell, least_own_cell};
+ghost use Rattle.mpw_waiver.specs.Least.{lesser};
+
+use mpw_geom::Name;
+use mpw_hier::Shelf;
+use std::cmp::Ordering;
+
+/// The lesser of two names, of those that are there.
+fn lesser<'a>(first: Option<&'a Name>, second: Option<&'a Name>) -> Option<&'a Name>
+    ensures { option_copied result ≡ lesser (option_copied first.entry) (option_copied second.entry) }
+{
+    match (first, second) {
+        (None, _) => second,
+        (_, None) => first,
+        (Some(one), Some(other)) => match other.cmp(one) {
+            Ordering::Less => second,
+            _ => first,
+        },
+    }
+}
+
+/// The cell of the submission of that number, where the user submitted it.
+fn own_cell<'a>(shelf: &'a Shelf, number: u32, user: &Name) -> Option<&'a Name>
+    ensures { option_copied result ≡ own_cell user.now (slice_get shelf.now number) }
+{
+    let submission = shelf.get(number)?;
+    if submission.submitter == *user {
+        Some(&submission.cell)
+    } else {
+        None
+    }
+}
+
+/// The least name of a cell of which the user submitted one of the met submissions. One pass over their numbers, which
+/// compares names; it takes no memory.
+#[tactic(auto, unfolding(crate::specs::Signing::least_own_cell))]
+pub(crate) fn least_own_cell<'a>(shelf: &'a Shelf, met: &[u32], user: &Name) -> Option<&'a Name>
+    ensures { option_copied result ≡ least_own_cell shelf.now met.now user.now }
+{
+    let mut least = None;
+    for number in met {
+        least = lesser(least, own_cell(shelf, *number, user));
+    }
+    least
+}

@@ -1,0 +1,23 @@
+//! One waiver.
+
+ghost use Rattle.std.specs.Prelude.{◌≡◌, is_some};
+
+use mpw_geom::Name;
+
+/// What was asked for a marker: that it may stay.
+#[derive(Drop)]
+pub struct Waiver {
+    /// The user who asked.
+    pub asker: Name,
+    /// The user who signed, if one did.
+    pub signer: Option<Name>,
+}
+
+impl Waiver {
+    /// Whether somebody signed it.
+    pub fn is_signed(&self) -> bool
+        ensures { result ≡ is_some self.now.signer }
+    {
+        self.signer.is_some()
+    }
+}
