@@ -113,7 +113,7 @@ def main(words):
     program = words[0]
     crates = crates_of_file()
     wanted = below(crates, program)
-    say(f"proving and building {program}; the first time takes 15 to 20 minutes on four processors")
+    say(f"proving and building {program}; the first time takes 20 to 30 minutes on four processors")
     if not prove_all(crates, wanted):
         return 1
     say(f"proving {program} itself")
