@@ -23,12 +23,12 @@ use Rattle.mpw_walk.proofs.Related.{Related, none, related_at, related_lengths, 
 
 pub given_append : (a b : List Turn) → given (a ++ b) ≡ given a ++ given b
 given_append [] b = refl
-given_append (enter ∷ a) b = given_append a b
+given_append (enter e ∷ a) b = given_append a b
 given_append (give i ∷ a) b = ap (λ is. i ∷ is) (given_append a b)
 
 pub given_placed : (t : Placing) (a : List Turn) → given (map (placed_turn t) a) ≡ map (placed_item t) (given a)
 given_placed t [] = refl
-given_placed t (enter ∷ a) = given_placed t a
+given_placed t (enter e ∷ a) = given_placed t a
 given_placed t (give i ∷ a) = ap (λ is. placed_item t i ∷ is) (given_placed t a)
 
 pub given_give : (is : List Item) → given (map give is) ≡ is

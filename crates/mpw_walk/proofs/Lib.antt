@@ -8,8 +8,13 @@ pub mod Fronts
 pub mod Shapes
 pub mod Close
 pub mod Drawn
+pub mod Shaped
 pub mod Entered
 pub mod Shows
+pub mod Held
+pub mod Taken
+pub mod ShapeBoxes
+pub mod Missed
 pub mod Nexts
 pub mod Depth
 pub mod Reach

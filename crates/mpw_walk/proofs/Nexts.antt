@@ -1,6 +1,6 @@
 -- The next turn of a frame, and the frame behind it.
 use Rattle.std.proofs.Common.{◌≡◌, ℕ, zero, suc, ◌+◌, ◌<◌, ◌≤◌, Bool, true, false, List, [], ◌∷◌, ◌++◌, length, get_or, map, take, drop, Some, None, refl, sym, ap, subst, ◌∙◌, arith, append_assoc, nat_lt, if◌then◌else◌}
-use Rattle.std.specs.Prelude.{slice_get, slice_index, All}
+use Rattle.std.specs.Prelude.{slice_get, slice_index, All, option_map}
 use Rattle.std.specs.List.{flat_map}
 use Rattle.std.proofs.lemmas.Bool.Decides.{nat_tests}
 use Rattle.std.proofs.lemmas.Option.{slice_get_within, get_or_from_slice_get}
@@ -16,10 +16,11 @@ use Rattle.mpw_hier.specs.declared.node.Target.{Target}
 use Rattle.mpw_hier.specs.declared.submission.Submission.{Submission}
 use Rattle.mpw_hier.specs.Structures.{is_shape}
 use Rattle.mpw_hier.specs.Items.{instance, placed_again}
+use Rattle.mpw_hier.specs.Boxes.{placed_box, extent_of}
 use Rattle.mpw_hier.specs.Nodes.{shape_places}
 use Rattle.mpw_hier.specs.Values.{flats}
 use Rattle.mpw_walk.specs.declared.frame.Frame.{Frame}
-use Rattle.mpw_walk.specs.Turns.{Turn, enter, give, entered, placed_turn}
+use Rattle.mpw_walk.specs.Turns.{Turn, enter, give, given, entered, placed_turn}
 use Rattle.mpw_walk.specs.Frames.{named_turns, reference_turns, instance_turns, turns_of_children, instances_from, turns_within, turns_to_come, IsFrame, IsNext, HasReference, behind_instance}
 use Rattle.mpw_walk.proofs.Fronts.{one, element_read, frame_at}
 use Rattle.mpw_walk.proofs.Entered.{children_front}
@@ -150,7 +151,7 @@ frame_over ss f h none =
 -- an instance is entered that shows something
 pub instance_next : (ss : List Submission) (f : Frame) (q : IsFrame ss f) (target : Target) (r : Reference) → IsNext f target r → length f.node.now.shapes.items ≤ f.shape
     → 0 < length (named_turns ss f.submission r.name)
-    → turns_to_come ss f ≡ enter ∷ map (placed_turn (placed_again f.placing (instance r f.row f.column))) (named_turns ss f.submission r.name)
+    → turns_to_come ss f ≡ enter (option_map (placed_box (placed_again f.placing (instance r f.row f.column))) (extent_of (given (named_turns ss f.submission r.name)))) ∷ map (placed_turn (placed_again f.placing (instance r f.row f.column))) (named_turns ss f.submission r.name)
     ++ turns_to_come ss (behind_instance f r)
 instance_next ss f q target r x over some =
     let ts = named_turns ss f.submission r.name in
@@ -162,7 +163,7 @@ instance_next ss f q target r x over some =
     (λ _ _. sym (shapes_over ss (record f { child = f.child + 1; row = 0; column = 0 }) over)) in
     whole ∙ ap (λ turns. map (placed_turn f.placing) (entered ts t) ++ turns) rest ∙ ap (λ turns. turns ++ turns_to_come ss (behind_instance f r)) (go ts some)
   where
-    go : (ts : List Turn) → 0 < length ts → map (placed_turn f.placing) (entered ts (instance r f.row f.column)) ≡ enter ∷ map (placed_turn (placed_again f.placing (instance r f.row f.column))) ts
+    go : (ts : List Turn) → 0 < length ts → map (placed_turn f.placing) (entered ts (instance r f.row f.column)) ≡ enter (option_map (placed_box (placed_again f.placing (instance r f.row f.column))) (extent_of (given ts))) ∷ map (placed_turn (placed_again f.placing (instance r f.row f.column))) ts
     go [] h = absurd (omega (arith, h))
     go (turn ∷ turns) h =
-        ap (λ turns. enter ∷ turns) (turns_again f.placing (instance r f.row f.column) (turn ∷ turns))
+        turns_again f.placing (instance r f.row f.column) (enter (extent_of (given (turn ∷ turns))) ∷ turn ∷ turns)

@@ -1,7 +1,8 @@
 -- Placings one behind another, and what they place.
-use Rattle.std.proofs.Common.{◌≡◌, ℕ, zero, suc, pos, negsuc, ◌+ℤ◌, refl, sym, ap, ◌∙◌, arith, List, [], ◌∷◌, map, if◌then◌else◌}
-use Rattle.std.specs.Prelude.{int_lt}
+use Rattle.std.proofs.Common.{◌≡◌, ℕ, zero, suc, pos, negsuc, ◌+ℤ◌, refl, sym, ap, ◌∙◌, arith, List, [], ◌∷◌, map, Option, Some, None, if◌then◌else◌}
+use Rattle.std.specs.Prelude.{int_lt, option_map}
 use Rattle.std.proofs.lemmas.Int.{ints}
+use Rattle.mpw_geom.specs.declared.plane.Box2.{Box2}
 use Rattle.mpw_geom.specs.declared.plane.Orient.{Orient}
 use Rattle.mpw_geom.specs.declared.plane.Orient.TheVariants.{R0, R90, R180, R270, M0, M90, M180, M270}
 use Rattle.mpw_geom.specs.declared.plane.Point.{Point}
@@ -9,6 +10,8 @@ use Rattle.mpw_geom.specs.declared.placing.Placing.{Placing}
 use Rattle.mpw_geom.specs.Placing.{by_orient, times, mirrored_point, turned_point, moved_point, oriented_point, placed_point}
 use Rattle.mpw_geom.proofs.Chains.{same_point, placed-placed_point}
 use Rattle.mpw_hier.specs.Items.{Item, mirrored, turned, placed_again, placed_item}
+use Rattle.mpw_hier.specs.Boxes.{placed_box}
+use Rattle.mpw_hier.proofs.Placings.{again_box}
 use Rattle.mpw_walk.specs.Turns.{Turn, enter, give, placed_turn}
 
 -- ---- orientations
@@ -148,8 +151,12 @@ pub items_again : (p q : Placing) (is : List Item) → map (placed_item p) (map 
 items_again p q [] = refl
 items_again p q (i ∷ is) = rw (placed_item_again p q i, items_again p q is) refl
 
+pub again_some : (t u : Placing) (o : Option Box2) → option_map (placed_box (placed_again t u)) o ≡ option_map (placed_box t) (option_map (placed_box u) o)
+again_some t u None = refl
+again_some t u (Some b) = ap Some (again_box t u b)
+
 pub placed_turn_again : (p q : Placing) (turn : Turn) → placed_turn p (placed_turn q turn) ≡ placed_turn (placed_again p q) turn
-placed_turn_again p q enter = refl
+placed_turn_again p q (enter e) = ap enter (sym (again_some p q e))
 placed_turn_again p q (give i) = ap give (placed_item_again p q i)
 
 pub turns_again : (p q : Placing) (turns : List Turn) → map (placed_turn p) (map (placed_turn q) turns) ≡ map (placed_turn (placed_again p q)) turns

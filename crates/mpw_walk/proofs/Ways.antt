@@ -1,6 +1,6 @@
 -- What a step does to the way of a walk.
-use Rattle.std.proofs.Common.{◌≡◌, ℕ, zero, suc, ◌+◌, ◌<◌, ◌≤◌, ◌^◌, ◌⊎◌, inl, inr, List, [], ◌∷◌, ◌++◌, length, map, take, drop, Some, None, refl, sym, ap, subst, ◌∙◌, arith, append_assoc}
-use Rattle.std.specs.Prelude.{slice_get, slice_index, All}
+use Rattle.std.proofs.Common.{◌≡◌, ℕ, zero, suc, ◌+◌, ◌<◌, ◌≤◌, ◌^◌, ◌⊎◌, inl, inr, Bool, true, false, List, [], ◌∷◌, ◌++◌, length, map, take, drop, Option, Some, None, refl, sym, ap, subst, ◌∙◌, arith, append_assoc}
+use Rattle.std.specs.Prelude.{slice_get, slice_index, All, option_map}
 use Rattle.std.specs.List.{flat_map}
 use Rattle.std.proofs.lemmas.Option.{slice_get_within}
 use Rattle.std.proofs.lemmas.List.{length-append, drop_all, nil_from_length}
@@ -8,6 +8,7 @@ use Rattle.std.proofs.lemmas.List.Sums.{fold-append}
 use Rattle.std.proofs.lemmas.List.Elements.{All-tail}
 use Rattle.std.proofs.lemmas.Int.{ints}
 use Rattle.mpw_geom.specs.Plane.{IsInPlane}
+use Rattle.mpw_geom.specs.declared.plane.Box2.{Box2}
 use Rattle.mpw_geom.specs.declared.plane.Point.{Point}
 use Rattle.mpw_geom.specs.declared.placing.Placing.{Placing}
 use Rattle.mpw_elements.specs.Element.{IsElement}
@@ -16,6 +17,8 @@ use Rattle.mpw_elements.specs.declared.element.Reference.{Reference}
 use Rattle.mpw_hier.specs.declared.node.Target.{Target}
 use Rattle.mpw_hier.specs.declared.submission.Submission.{Submission}
 use Rattle.mpw_hier.specs.Items.{Item, placed_item, placed_again, instance}
+use Rattle.mpw_hier.specs.Boxes.{placed_box, element_box, extent_of}
+use Rattle.mpw_hier.specs.Sizes.{IsExtentNear}
 use Rattle.mpw_hier.specs.Values.{structure_items, flats}
 use Rattle.mpw_walk.specs.declared.frame.Frame.{Frame}
 use Rattle.mpw_walk.specs.declared.root.Root.{Root}
@@ -24,7 +27,8 @@ use Rattle.mpw_walk.specs.Turns.{Turn, enter, give, given, entered, placed_turn,
 use Rattle.mpw_walk.specs.Frames.{named_turns, turns_to_come, turns_within, IsFrame, IsNext, IsShape, IsWithin, IsNearArray, Shows, ShowsName, behind_instance}
 use Rattle.mpw_walk.specs.Named.{NamesAreWalked}
 use Rattle.mpw_walk.specs.Near.{IsCloseItem}
-use Rattle.mpw_walk.specs.Way.{left_of, work_left, IsOnWay, GoesOn, GivesFirst, IsPlaceable, item_of}
+use Rattle.mpw_walk.specs.Window.{is_in, is_taken, taken}
+use Rattle.mpw_walk.specs.Way.{left_of, left_in, work_left, IsOnWay, GoesOn, GivesFirst, IsPlaceable, item_of}
 use Rattle.mpw_walk.proofs.Fronts.{at_all}
 use Rattle.mpw_walk.proofs.Given.{given_append, given_placed}
 use Rattle.mpw_walk.proofs.Entered.{named_give, nothing_named}
@@ -32,7 +36,10 @@ use Rattle.mpw_walk.proofs.Shapes.{get_at}
 use Rattle.mpw_walk.proofs.Shows.{placed_shows, top_turns}
 use Rattle.mpw_walk.proofs.Nexts.{shape_within, shape_next, shape_frame, behind_frame, behind_cases, frame_over, instance_next, drop_get}
 use Rattle.mpw_walk.proofs.Depth.{frame_high, less_high}
-use Rattle.mpw_walk.proofs.Reach.{all_left, shows_close, first_short, near_array}
+use Rattle.mpw_walk.proofs.Reach.{all_left, all_right, shows_close, first_short, near_array}
+use Rattle.mpw_walk.proofs.Held.{named_holds, number_holds}
+use Rattle.mpw_walk.proofs.Taken.{taken_in, taken_out, taken_append, missed_taken}
+use Rattle.mpw_walk.proofs.ShapeBoxes.{shape_near}
 use Rattle.mpw_walk.proofs.Targets.{next_shows}
 
 -- ---- stacks
@@ -77,7 +84,7 @@ in_plane p h = record {
 
 -- ---- a shape is given
 
-module _ (law : NamesAreWalked) (ss : List Submission) (roots : List Root) (root turns : ℕ) (frames : List Frame) (f : Frame) (w : IsOnWay ss roots root turns (frames ++ f ∷ [])) where
+module _ (law : NamesAreWalked) (window : Option Box2) (ss : List Submission) (roots : List Root) (root turns : ℕ) (frames : List Frame) (f : Frame) (w : IsOnWay window ss roots root turns (frames ++ f ∷ [])) where
   abbrev last : IsFrame ss f × (length frames + f.node.now.size.height ≤ 64)
   last = each_last ss frames f w.each
 
@@ -93,20 +100,54 @@ module _ (law : NamesAreWalked) (ss : List Submission) (roots : List Root) (root
       let next : turns_to_come ss f ≡ give (item_of placed) ∷ turns_to_come ss (record f { shape = f.shape + 1 }) = shape_next ss f placed.element.now h shape.element ∙ ap (λ i. give i ∷ turns_to_come ss (record f { shape = f.shape + 1 })) item in
       left_more ss roots root frames f ∙ ap (λ turns. turns ++ left_of ss roots root frames) next ∙ ap (λ turns. give (item_of placed) ∷ turns) (sym (left_more ss roots root frames (record f { shape = f.shape + 1 })))
 
-  pub given_way : (placed : Placed) → f.shape < length f.node.now.shapes.items → IsShape f placed → IsOnWay ss roots root (turns + 1) (frames ++ (record f { shape = f.shape + 1 }) ∷ [])
-  given_way placed h shape =
-      let left = given_left placed h shape in
+  taken_left : (placed : Placed) → f.shape < length f.node.now.shapes.items → IsShape f placed → is_taken window (give (item_of placed)) ≡ true → left_in window ss roots root (frames ++ f ∷ []) ≡ give (item_of placed) ∷ left_in window ss roots root (frames ++ (record f { shape = f.shape + 1 }) ∷ [])
+  taken_left placed h shape met =
+      ap (taken window) (given_left placed h shape) ∙ taken_in window (give (item_of placed)) (left_of ss roots root (frames ++ (record f { shape = f.shape + 1 }) ∷ [])) met
+
+  over_left : (placed : Placed) → f.shape < length f.node.now.shapes.items → IsShape f placed → is_taken window (give (item_of placed)) ≡ false → left_in window ss roots root (frames ++ f ∷ []) ≡ left_in window ss roots root (frames ++ (record f { shape = f.shape + 1 }) ∷ [])
+  over_left placed h shape missed =
+      ap (taken window) (given_left placed h shape) ∙ taken_out window (give (item_of placed)) (left_of ss roots root (frames ++ (record f { shape = f.shape + 1 }) ∷ [])) missed
+
+  behind_each : IsEach ss (frames ++ (record f { shape = f.shape + 1 }) ∷ [])
+  behind_each =
+      each_push ss frames (record f { shape = f.shape + 1 }) (each_front ss frames f w.each) (shape_frame ss f last.0) last.1
+
+  behind_close : (placed : Placed) → f.shape < length f.node.now.shapes.items → IsShape f placed → All IsCloseItem (given (left_of ss roots root (frames ++ (record f { shape = f.shape + 1 }) ∷ [])))
+  behind_close placed h shape =
       let rest = left_of ss roots root (frames ++ (record f { shape = f.shape + 1 }) ∷ []) in
-      let long : length (left_of ss roots root (frames ++ f ∷ [])) ≡ suc (length rest) = ap length left in record {
+      All-tail IsCloseItem (item_of placed) (given rest) (subst (λ turns. All IsCloseItem (given turns)) (given_left placed h shape) w.close)
+
+  pub given_way : (placed : Placed) → f.shape < length f.node.now.shapes.items → IsShape f placed → is_taken window (give (item_of placed)) ≡ true → IsOnWay window ss roots root (turns + 1) (frames ++ (record f { shape = f.shape + 1 }) ∷ [])
+  given_way placed h shape met =
+      let rest = left_in window ss roots root (frames ++ (record f { shape = f.shape + 1 }) ∷ []) in
+      let long : length (left_in window ss roots root (frames ++ f ∷ [])) ≡ suc (length rest) = ap length (taken_left placed h shape met) in record {
         read = w.read;
         present = w.present;
         begun = w.begun;
-        each = each_push ss frames (record f { shape = f.shape + 1 }) (each_front ss frames f w.each) (shape_frame ss f last.0) last.1;
-        close = All-tail IsCloseItem (item_of placed) (given rest) (subst (λ turns. All IsCloseItem (given turns)) left w.close);
+        each = behind_each;
+        close = behind_close placed h shape;
         few = omega (arith, w.few, long);
       }
 
-  given_placeable : (placed : Placed) → IsShape f placed → IsPlaceable placed
+  -- a shape that misses the window is passed over
+  pub over_way : (placed : Placed) → f.shape < length f.node.now.shapes.items → IsShape f placed → is_taken window (give (item_of placed)) ≡ false → IsOnWay window ss roots root turns (frames ++ (record f { shape = f.shape + 1 }) ∷ [])
+  over_way placed h shape missed = record {
+    read = w.read;
+    present = w.present;
+    begun = w.begun;
+    each = behind_each;
+    close = behind_close placed h shape;
+    few = subst (λ left. turns + length left < 2 ^ 64) (over_left placed h shape missed) w.few;
+  }
+
+  pub over_does : (placed : Placed) → f.shape < length f.node.now.shapes.items → IsShape f placed → is_taken window (give (item_of placed)) ≡ false → GoesOn (record { turns = turns; left = left_in window ss roots root (frames ++ f ∷ []) }) (record { turns = turns; left = left_in window ss roots root (frames ++ (record f { shape = f.shape + 1 }) ∷ []) }) × (work_left ss roots root (frames ++ (record f { shape = f.shape + 1 }) ∷ []) < work_left ss roots root (frames ++ f ∷ []))
+  over_does placed h shape missed =
+      let same = over_left placed h shape missed in
+      let rest = left_of ss roots root (frames ++ (record f { shape = f.shape + 1 }) ∷ []) in
+      let long : length (left_of ss roots root (frames ++ f ∷ [])) ≡ suc (length rest) = ap length (given_left placed h shape) in
+      (record { first = ap first_given same; behind = ap behind_first same; count = ap (λ left. turns + length left) same }, omega (arith, long, length-append frames (f ∷ []), length-append frames ((record f { shape = f.shape + 1 }) ∷ [])))
+
+  pub given_placeable : (placed : Placed) → IsShape f placed → IsPlaceable placed
   given_placeable placed shape =
       let frame = last.0 in
       let read : IsLibrary frame.submission.library = at_all (λ (s : Submission). IsLibrary s.library) ss f.submission frame.submission w.read frame.is in
@@ -117,11 +158,18 @@ module _ (law : NamesAreWalked) (ss : List Submission) (roots : List Root) (root
         displacement = in_plane placed.placing.by (rw shape.placing frame.near);
       }
 
-  pub given_first : (placed : Placed) → f.shape < length f.node.now.shapes.items → IsShape f placed → GivesFirst (record { turns = turns; left = left_of ss roots root (frames ++ f ∷ []) }) (record { turns = turns + 1; left = left_of ss roots root (frames ++ (record f { shape = f.shape + 1 }) ∷ []) }) placed
-  given_first placed h shape =
-      let left = given_left placed h shape in
-      let rest = left_of ss roots root (frames ++ (record f { shape = f.shape + 1 }) ∷ []) in
-      let long : length (left_of ss roots root (frames ++ f ∷ [])) ≡ suc (length rest) = ap length left in record {
+  -- what its test asks for
+  pub given_near : (placed : Placed) → f.shape < length f.node.now.shapes.items → IsShape f placed → IsExtentNear (element_box placed.element.now)
+  given_near placed h shape = shape_near law ss f last.0 placed.element.now h shape.element
+
+  pub given_short : (placed : Placed) → IsShape f placed → IsWithin placed.placing.by
+  given_short placed shape = subst (λ (t : Placing). IsWithin t.by) (sym shape.placing) last.0.near
+
+  pub given_first : (placed : Placed) → f.shape < length f.node.now.shapes.items → IsShape f placed → is_taken window (give (item_of placed)) ≡ true → GivesFirst (record { turns = turns; left = left_in window ss roots root (frames ++ f ∷ []) }) (record { turns = turns + 1; left = left_in window ss roots root (frames ++ (record f { shape = f.shape + 1 }) ∷ []) }) placed
+  given_first placed h shape met =
+      let left = taken_left placed h shape met in
+      let rest = left_in window ss roots root (frames ++ (record f { shape = f.shape + 1 }) ∷ []) in
+      let long : length (left_in window ss roots root (frames ++ f ∷ [])) ≡ suc (length rest) = ap length left in record {
         placeable = given_placeable placed shape;
         first = ap first_given left;
         behind = ap behind_first left;
@@ -154,7 +202,7 @@ module _ (law : NamesAreWalked) (ss : List Submission) (roots : List Root) (root
     array_near g shown =
         near_array law ss f last.0 target r w.read x (next_shows ss f last.0 target r x) (own_close g shown)
 
-    below_given : given (named_turns ss f.submission r.name) ≡ below
+    pub below_given : given (named_turns ss f.submission r.name) ≡ below
     below_given = (named_give ss f.submission last.0.submission last.0.is r.name).items_given
 
     some_turns : 0 < length (named_turns ss f.submission r.name)
@@ -164,7 +212,11 @@ module _ (law : NamesAreWalked) (ss : List Submission) (roots : List Root) (root
         go [] e h = omega (arith, h, ap length e)
         go (t ∷ ts) e h = omega arith
 
-    next_turns : length f.node.now.shapes.items ≤ f.shape → turns_to_come ss f ≡ enter ∷ map (placed_turn placing) (named_turns ss f.submission r.name) ++ turns_to_come ss (behind_instance f r)
+    -- the placed extent of what is entered
+    abbrev pub extent_there : Option Box2
+    extent_there = option_map (placed_box placing) (extent_of (given (named_turns ss f.submission r.name)))
+
+    next_turns : length f.node.now.shapes.items ≤ f.shape → turns_to_come ss f ≡ enter extent_there ∷ map (placed_turn placing) (named_turns ss f.submission r.name) ++ turns_to_come ss (behind_instance f r)
     next_turns over = instance_next ss f last.0 target r x over some_turns
 
     placing_short : length f.node.now.shapes.items ≤ f.shape → (g : Frame) → ShowsName ss f.submission (λ _. r.name) g → IsWithin placing.by
@@ -172,7 +224,7 @@ module _ (law : NamesAreWalked) (ss : List Submission) (roots : List Root) (root
         let ts = named_turns ss f.submission r.name in
         let front = map (placed_turn placing) ts in
         let rest = turns_to_come ss (behind_instance f r) in
-        let whole : left_of ss roots root (frames ++ f ∷ []) ≡ enter ∷ (front ++ rest) ++ left_of ss roots root frames = left_more ss roots root frames f ∙ ap (λ turns. turns ++ left_of ss roots root frames) (next_turns over) in
+        let whole : left_of ss roots root (frames ++ f ∷ []) ≡ enter extent_there ∷ (front ++ rest) ++ left_of ss roots root frames = left_more ss roots root frames f ∙ ap (λ turns. turns ++ left_of ss roots root frames) (next_turns over) in
         let items : given (left_of ss roots root (frames ++ f ∷ [])) ≡ (map (placed_item placing) below ++ given rest) ++ given (left_of ss roots root frames) = ap given whole ∙ given_append (front ++ rest) (left_of ss roots root frames) ∙ ap (λ is. is ++ given (left_of ss roots root frames)) (given_append front rest ∙ ap (λ is. is ++ given rest) (given_placed placing ts ∙ ap (map (placed_item placing)) below_given)) in
         let close = subst (All IsCloseItem) items w.close in
         first_short placing below (next_shows ss f last.0 target r x) (own_close g shown) (all_left IsCloseItem (map (placed_item placing) below) (given rest) (all_left IsCloseItem _ (given (left_of ss roots root frames)) close))
@@ -196,12 +248,24 @@ module _ (law : NamesAreWalked) (ss : List Submission) (roots : List Root) (root
       inner_turns =
           ap (λ t. map (placed_turn t) (turns_within ss inner)) p_is ∙ ap (map (placed_turn placing)) inner_shows.turns
 
-      pub entered_left : left_of ss roots root (frames ++ f ∷ []) ≡ enter ∷ left_of ss roots root ((frames ++ behind ∷ []) ++ inner ∷ [])
+      entered_left : left_of ss roots root (frames ++ f ∷ []) ≡ enter extent_there ∷ left_of ss roots root ((frames ++ behind ∷ []) ++ inner ∷ [])
       entered_left =
           let whole = left_more ss roots root frames f ∙ ap (λ turns. turns ++ left_of ss roots root frames) (next_turns over) in
           let under = left_more ss roots root frames behind in
           let over = left_more ss roots root (frames ++ behind ∷ []) inner ∙ ap (λ turns. turns ++ left_of ss roots root (frames ++ behind ∷ [])) inner_turns ∙ ap (λ turns. map (placed_turn placing) (named_turns ss f.submission r.name) ++ turns) under in
-          whole ∙ ap (λ turns. enter ∷ turns) (append_assoc (map (placed_turn placing) (named_turns ss f.submission r.name)) (turns_to_come ss behind) (left_of ss roots root frames) ∙ sym over)
+          whole ∙ ap (λ turns. enter extent_there ∷ turns) (append_assoc (map (placed_turn placing) (named_turns ss f.submission r.name)) (turns_to_come ss behind) (left_of ss roots root frames) ∙ sym over)
+
+      -- the extent of its node, placed
+      extent_is : option_map (placed_box p) g.node.now.size.extent ≡ extent_there
+      extent_is =
+          let size : g.node.now.size.extent ≡ extent_of (given (named_turns ss f.submission r.name)) = inner_shows.size.extent ∙ ap extent_of (sym below_given) in
+          ap (λ t. option_map (placed_box t) g.node.now.size.extent) p_is ∙ ap (option_map (placed_box placing)) size
+
+      told : (b : Bool) → is_in window (option_map (placed_box p) g.node.now.size.extent) ≡ b → is_in window extent_there ≡ b
+      told b h = sym (ap (is_in window) extent_is) ∙ h
+
+      pub near : IsExtentNear g.node.now.size.extent
+      near = inner_shows.size.near
 
       pub lower : length (frames ++ behind ∷ []) + g.node.now.size.height ≤ 64
       lower =
@@ -212,10 +276,14 @@ module _ (law : NamesAreWalked) (ss : List Submission) (roots : List Root) (root
       behind_low =
           behind_cases f r (λ (b : Frame). length frames + b.node.now.size.height ≤ 64) (λ _. last.1) (λ _ _. last.1) (λ _ _. last.1)
 
-      pub entered_way : IsOnWay ss roots root (turns + 1) ((frames ++ behind ∷ []) ++ inner ∷ [])
-      entered_way =
-          let rest = left_of ss roots root ((frames ++ behind ∷ []) ++ inner ∷ []) in
-          let long : length (left_of ss roots root (frames ++ f ∷ [])) ≡ suc (length rest) = ap length entered_left in record {
+      taken_entered : is_in window extent_there ≡ true → left_in window ss roots root (frames ++ f ∷ []) ≡ enter extent_there ∷ left_in window ss roots root ((frames ++ behind ∷ []) ++ inner ∷ [])
+      taken_entered met =
+          ap (taken window) entered_left ∙ taken_in window (enter extent_there) (left_of ss roots root ((frames ++ behind ∷ []) ++ inner ∷ [])) met
+
+      pub entered_way : is_in window (option_map (placed_box p) g.node.now.size.extent) ≡ true → IsOnWay window ss roots root (turns + 1) ((frames ++ behind ∷ []) ++ inner ∷ [])
+      entered_way met =
+          let rest = left_in window ss roots root ((frames ++ behind ∷ []) ++ inner ∷ []) in
+          let long : length (left_in window ss roots root (frames ++ f ∷ [])) ≡ suc (length rest) = ap length (taken_entered (told true met)) in record {
             read = w.read;
             present = w.present;
             begun = w.begun;
@@ -224,11 +292,47 @@ module _ (law : NamesAreWalked) (ss : List Submission) (roots : List Root) (root
             few = omega (arith, w.few, long);
           }
 
-      pub entered_does : GoesOn (record { turns = turns; left = left_of ss roots root (frames ++ f ∷ []) }) (record { turns = turns + 1; left = left_of ss roots root ((frames ++ behind ∷ []) ++ inner ∷ []) }) × (work_left ss roots root ((frames ++ behind ∷ []) ++ inner ∷ []) < work_left ss roots root (frames ++ f ∷ []))
-      entered_does =
-          let rest = left_of ss roots root ((frames ++ behind ∷ []) ++ inner ∷ []) in
-          let long : length (left_of ss roots root (frames ++ f ∷ [])) ≡ suc (length rest) = ap length entered_left in
-          (record { first = ap first_given entered_left; behind = ap behind_first entered_left; count = omega (arith, long) }, omega (arith, long, length-append frames (behind ∷ []), length-append (frames ++ behind ∷ []) (inner ∷ []), length-append frames (f ∷ [])))
+      pub entered_does : is_in window (option_map (placed_box p) g.node.now.size.extent) ≡ true → GoesOn (record { turns = turns; left = left_in window ss roots root (frames ++ f ∷ []) }) (record { turns = turns + 1; left = left_in window ss roots root ((frames ++ behind ∷ []) ++ inner ∷ []) }) × (work_left ss roots root ((frames ++ behind ∷ []) ++ inner ∷ []) < work_left ss roots root (frames ++ f ∷ []))
+      entered_does met =
+          let same = taken_entered (told true met) in
+          let all : length (left_of ss roots root (frames ++ f ∷ [])) ≡ suc (length (left_of ss roots root ((frames ++ behind ∷ []) ++ inner ∷ []))) = ap length entered_left in
+          let long : length (left_in window ss roots root (frames ++ f ∷ [])) ≡ suc (length (left_in window ss roots root ((frames ++ behind ∷ []) ++ inner ∷ []))) = ap length same in
+          (record { first = ap first_given same; behind = ap behind_first same; count = omega (arith, long) }, omega (arith, all, length-append frames (behind ∷ []), length-append (frames ++ behind ∷ []) (inner ∷ []), length-append frames (f ∷ [])))
+
+      -- an instance that misses the window is passed over, with all that it shows
+      missed_left : left_of ss roots root (frames ++ f ∷ []) ≡ (enter extent_there ∷ map (placed_turn placing) (named_turns ss f.submission r.name)) ++ left_of ss roots root (frames ++ behind ∷ [])
+      missed_left =
+          let shown = map (placed_turn placing) (named_turns ss f.submission r.name) in
+          left_more ss roots root frames f ∙ ap (λ turns. turns ++ left_of ss roots root frames) (next_turns over) ∙ ap (λ turns. enter extent_there ∷ turns) (append_assoc shown (turns_to_come ss behind) (left_of ss roots root frames) ∙ ap (λ turns. shown ++ turns) (sym (left_more ss roots root frames behind)))
+
+      taken_missed : is_in window extent_there ≡ false → left_in window ss roots root (frames ++ f ∷ []) ≡ left_in window ss roots root (frames ++ behind ∷ [])
+      taken_missed missed =
+          let names = named_turns ss f.submission r.name in
+          let shown = map (placed_turn placing) names in
+          let rest = left_of ss roots root (frames ++ behind ∷ []) in
+          let none : taken window (enter extent_there ∷ shown) ≡ [] = taken_out window (enter extent_there) shown missed ∙ missed_taken window placing names (named_holds ss f.submission last.0.submission last.0.is r.name) missed in
+          ap (taken window) missed_left ∙ taken_append window (enter extent_there ∷ shown) rest ∙ ap (λ turns. turns ++ taken window rest) none
+
+      pub missed_way : is_in window (option_map (placed_box p) g.node.now.size.extent) ≡ false → IsOnWay window ss roots root turns (frames ++ behind ∷ [])
+      missed_way missed =
+          let shown = map (placed_turn placing) (named_turns ss f.submission r.name) in
+          let rest = left_of ss roots root (frames ++ behind ∷ []) in
+          let items : given (left_of ss roots root (frames ++ f ∷ [])) ≡ given shown ++ given rest = ap given missed_left ∙ given_append shown rest in record {
+            read = w.read;
+            present = w.present;
+            begun = w.begun;
+            each = each_push ss frames behind (each_front ss frames f w.each) (behind_frame ss f last.0 target r x) behind_low;
+            close = all_right IsCloseItem (given shown) (given rest) (subst (All IsCloseItem) items w.close);
+            few = subst (λ left. turns + length left < 2 ^ 64) (taken_missed (told false missed)) w.few;
+          }
+
+      pub missed_does : is_in window (option_map (placed_box p) g.node.now.size.extent) ≡ false → GoesOn (record { turns = turns; left = left_in window ss roots root (frames ++ f ∷ []) }) (record { turns = turns; left = left_in window ss roots root (frames ++ behind ∷ []) }) × (work_left ss roots root (frames ++ behind ∷ []) < work_left ss roots root (frames ++ f ∷ []))
+      missed_does missed =
+          let same = taken_missed (told false missed) in
+          let shown = map (placed_turn placing) (named_turns ss f.submission r.name) in
+          let rest = left_of ss roots root (frames ++ behind ∷ []) in
+          let all : length (left_of ss roots root (frames ++ f ∷ [])) ≡ suc (length (shown ++ rest)) = ap length missed_left in
+          (record { first = ap first_given same; behind = ap behind_first same; count = ap (λ left. turns + length left) same }, omega (arith, all, length-append shown rest, length-append frames (behind ∷ []), length-append frames (f ∷ [])))
 
       pub frames_room : length frames + 1 < 64
       frames_room =
@@ -240,7 +344,7 @@ module _ (law : NamesAreWalked) (ss : List Submission) (roots : List Root) (root
   left_over over none =
       left_more ss roots root frames f ∙ ap (λ turns. turns ++ left_of ss roots root frames) (frame_over ss f over none)
 
-  pub left_way : length f.node.now.shapes.items ≤ f.shape → slice_get f.node.now.children.items f.child ≡ None → IsOnWay ss roots root turns frames
+  pub left_way : length f.node.now.shapes.items ≤ f.shape → slice_get f.node.now.children.items f.child ≡ None → IsOnWay window ss roots root turns frames
   left_way over none =
       let same = left_over over none in record {
         read = w.read;
@@ -248,13 +352,14 @@ module _ (law : NamesAreWalked) (ss : List Submission) (roots : List Root) (root
         begun = w.begun;
         each = each_front ss frames f w.each;
         close = subst (λ turns. All IsCloseItem (given turns)) same w.close;
-        few = subst (λ left. turns + length left < 2 ^ 64) same w.few;
+        few = subst (λ left. turns + length left < 2 ^ 64) (ap (taken window) same) w.few;
       }
 
-  pub left_does : length f.node.now.shapes.items ≤ f.shape → slice_get f.node.now.children.items f.child ≡ None → GoesOn (record { turns = turns; left = left_of ss roots root (frames ++ f ∷ []) }) (record { turns = turns; left = left_of ss roots root frames }) × (work_left ss roots root frames < work_left ss roots root (frames ++ f ∷ []))
+  pub left_does : length f.node.now.shapes.items ≤ f.shape → slice_get f.node.now.children.items f.child ≡ None → GoesOn (record { turns = turns; left = left_in window ss roots root (frames ++ f ∷ []) }) (record { turns = turns; left = left_in window ss roots root frames }) × (work_left ss roots root frames < work_left ss roots root (frames ++ f ∷ []))
   left_does over none =
       let same = left_over over none in
-      (record { first = ap first_given same; behind = ap behind_first same; count = ap (λ left. turns + length left) same }, omega (arith, ap length same, length-append frames (f ∷ [])))
+      let kept = ap (taken window) same in
+      (record { first = ap first_given kept; behind = ap behind_first kept; count = ap (λ left. turns + length left) kept }, omega (arith, ap length same, length-append frames (f ∷ [])))
 
 -- ---- a root is entered, or passed over
 
@@ -267,7 +372,7 @@ pub no_root : (ss : List Submission) (roots : List Root) (root : ℕ) → length
 unfolding left_of roots_turns
 no_root ss roots root h = rw (drop_all root roots h) refl
 
-module _ (law : NamesAreWalked) (ss : List Submission) (roots : List Root) (root turns : ℕ) (w : IsOnWay ss roots root turns []) (r : Root) (r_is : slice_get roots root ≡ Some r) where
+module _ (law : NamesAreWalked) (window : Option Box2) (ss : List Submission) (roots : List Root) (root turns : ℕ) (w : IsOnWay window ss roots root turns []) (r : Root) (r_is : slice_get roots root ≡ Some r) where
   pub root_present : r.submission < length ss
   root_present = at_all (λ (r : Root). r.submission < length ss) roots root r w.present r_is
 
@@ -301,7 +406,7 @@ module _ (law : NamesAreWalked) (ss : List Submission) (roots : List Root) (root
         let empty : turns_of ss r.submission ≡ [] = turns_are ∙ nothing_named ss r.submission of.0 of.1 of.0.top none in
         root_left ∙ ap (λ ts. entered ts r.placing ++ left_of ss roots (root + 1) []) empty
 
-    pub passed_way : g.node.now.size.count ≡ 0 → IsOnWay ss roots (root + 1) turns []
+    pub passed_way : g.node.now.size.count ≡ 0 → IsOnWay window ss roots (root + 1) turns []
     passed_way none_shown =
         let same = passed_left none_shown in record {
           read = w.read;
@@ -309,13 +414,14 @@ module _ (law : NamesAreWalked) (ss : List Submission) (roots : List Root) (root
           begun = omega (arith, root_within);
           each = w.each;
           close = subst (λ turns. All IsCloseItem (given turns)) same w.close;
-          few = subst (λ left. turns + length left < 2 ^ 64) same w.few;
+          few = subst (λ left. turns + length left < 2 ^ 64) (ap (taken window) same) w.few;
         }
 
-    pub passed_does : g.node.now.size.count ≡ 0 → GoesOn (record { turns = turns; left = left_of ss roots root [] }) (record { turns = turns; left = left_of ss roots (root + 1) [] }) × (work_left ss roots (root + 1) [] < work_left ss roots root [])
+    pub passed_does : g.node.now.size.count ≡ 0 → GoesOn (record { turns = turns; left = left_in window ss roots root [] }) (record { turns = turns; left = left_in window ss roots (root + 1) [] }) × (work_left ss roots (root + 1) [] < work_left ss roots root [])
     passed_does none_shown =
         let same = passed_left none_shown in
-        (record { first = ap first_given same; behind = ap behind_first same; count = ap (λ left. turns + length left) same }, omega (arith, ap length same, root_within))
+        let kept = ap (taken window) same in
+        (record { first = ap first_given kept; behind = ap behind_first kept; count = ap (λ left. turns + length left) kept }, omega (arith, ap length same, root_within))
 
     -- it shows something
     module _ (some : 0 < g.node.now.size.count) where
@@ -325,14 +431,29 @@ module _ (law : NamesAreWalked) (ss : List Submission) (roots : List Root) (root
       some_items : 0 < length top_list
       some_items = omega (arith, here.size.count, some)
 
-      begun_turns : root_turns ss r ≡ enter ∷ map (placed_turn r.placing) (turns_of ss r.submission)
+      -- the placed extent of what is entered
+      abbrev pub root_there : Option Box2
+      root_there = option_map (placed_box r.placing) (extent_of (given (turns_of ss r.submission)))
+
+      begun_turns : root_turns ss r ≡ enter root_there ∷ map (placed_turn r.placing) (turns_of ss r.submission)
       begun_turns = go (turns_of ss r.submission) given_are some_items
         where
-          go : (ts : List Turn) → given ts ≡ top_list → 0 < length top_list → entered ts r.placing ≡ enter ∷ map (placed_turn r.placing) ts
+          go : (ts : List Turn) → given ts ≡ top_list → 0 < length top_list → entered ts r.placing ≡ enter (option_map (placed_box r.placing) (extent_of (given ts))) ∷ map (placed_turn r.placing) ts
           go [] e h = absurd (omega (arith, h, ap length e))
           go (t ∷ ts) e h = refl
 
-      begun_placing : IsWithin r.placing.by
+      -- the extent of its node, placed
+      root_extent_is : option_map (placed_box r.placing) g.node.now.size.extent ≡ root_there
+      root_extent_is =
+          ap (option_map (placed_box r.placing)) (here.size.extent ∙ ap extent_of (sym given_are))
+
+      root_told : (b : Bool) → is_in window (option_map (placed_box r.placing) g.node.now.size.extent) ≡ b → is_in window root_there ≡ b
+      root_told b h = sym (ap (is_in window) root_extent_is) ∙ h
+
+      pub root_near : IsExtentNear g.node.now.size.extent
+      root_near = here.size.near
+
+      pub begun_placing : IsWithin r.placing.by
       begun_placing =
           let whole = root_left ∙ ap (λ turns. turns ++ left_of ss roots (root + 1) []) begun_turns in
           let items : given (left_of ss roots root []) ≡ map (placed_item r.placing) top_list ++ given (left_of ss roots (root + 1) []) = ap given whole ∙ given_append (map (placed_turn r.placing) (turns_of ss r.submission)) (left_of ss roots (root + 1) []) ∙ ap (λ is. is ++ given (left_of ss roots (root + 1) [])) (given_placed r.placing (turns_of ss r.submission) ∙ ap (map (placed_item r.placing)) given_are) in
@@ -346,14 +467,18 @@ module _ (law : NamesAreWalked) (ss : List Submission) (roots : List Root) (root
       unfolding turns_to_come
       root_turns_are = ap (map (placed_turn r.placing)) (begun_shows.turns ∙ sym turns_are)
 
-      begun_left : left_of ss roots root [] ≡ enter ∷ left_of ss roots (root + 1) ([] ++ entered_root ∷ [])
+      begun_left : left_of ss roots root [] ≡ enter root_there ∷ left_of ss roots (root + 1) ([] ++ entered_root ∷ [])
       begun_left =
-          root_left ∙ ap (λ turns. turns ++ left_of ss roots (root + 1) []) begun_turns ∙ ap (λ turns. enter ∷ turns) (sym (left_more ss roots (root + 1) [] entered_root ∙ ap (λ turns. turns ++ left_of ss roots (root + 1) []) root_turns_are))
+          root_left ∙ ap (λ turns. turns ++ left_of ss roots (root + 1) []) begun_turns ∙ ap (λ turns. enter root_there ∷ turns) (sym (left_more ss roots (root + 1) [] entered_root ∙ ap (λ turns. turns ++ left_of ss roots (root + 1) []) root_turns_are))
 
-      pub begun_way : IsOnWay ss roots (root + 1) (turns + 1) ([] ++ entered_root ∷ [])
-      begun_way =
-          let rest = left_of ss roots (root + 1) ([] ++ entered_root ∷ []) in
-          let long : length (left_of ss roots root []) ≡ suc (length rest) = ap length begun_left in record {
+      taken_begun : is_in window root_there ≡ true → left_in window ss roots root [] ≡ enter root_there ∷ left_in window ss roots (root + 1) ([] ++ entered_root ∷ [])
+      taken_begun met =
+          ap (taken window) begun_left ∙ taken_in window (enter root_there) (left_of ss roots (root + 1) ([] ++ entered_root ∷ [])) met
+
+      pub begun_way : is_in window (option_map (placed_box r.placing) g.node.now.size.extent) ≡ true → IsOnWay window ss roots (root + 1) (turns + 1) ([] ++ entered_root ∷ [])
+      begun_way met =
+          let rest = left_in window ss roots (root + 1) ([] ++ entered_root ∷ []) in
+          let long : length (left_in window ss roots root []) ≡ suc (length rest) = ap length (taken_begun (root_told true met)) in record {
             read = w.read;
             present = w.present;
             begun = omega (arith, root_within);
@@ -362,8 +487,42 @@ module _ (law : NamesAreWalked) (ss : List Submission) (roots : List Root) (root
             few = omega (arith, w.few, long);
           }
 
-      pub begun_does : GoesOn (record { turns = turns; left = left_of ss roots root [] }) (record { turns = turns + 1; left = left_of ss roots (root + 1) ([] ++ entered_root ∷ []) }) × (work_left ss roots (root + 1) ([] ++ entered_root ∷ []) < work_left ss roots root [])
-      begun_does =
-          let rest = left_of ss roots (root + 1) ([] ++ entered_root ∷ []) in
-          let long : length (left_of ss roots root []) ≡ suc (length rest) = ap length begun_left in
-          (record { first = ap first_given begun_left; behind = ap behind_first begun_left; count = omega (arith, long) }, omega (arith, long, root_within))
+      pub begun_does : is_in window (option_map (placed_box r.placing) g.node.now.size.extent) ≡ true → GoesOn (record { turns = turns; left = left_in window ss roots root [] }) (record { turns = turns + 1; left = left_in window ss roots (root + 1) ([] ++ entered_root ∷ []) }) × (work_left ss roots (root + 1) ([] ++ entered_root ∷ []) < work_left ss roots root [])
+      begun_does met =
+          let same = taken_begun (root_told true met) in
+          let all : length (left_of ss roots root []) ≡ suc (length (left_of ss roots (root + 1) ([] ++ entered_root ∷ []))) = ap length begun_left in
+          let long : length (left_in window ss roots root []) ≡ suc (length (left_in window ss roots (root + 1) ([] ++ entered_root ∷ []))) = ap length same in
+          (record { first = ap first_given same; behind = ap behind_first same; count = omega (arith, long) }, omega (arith, all, root_within))
+
+      -- a root that misses the window is passed over, with all that it shows
+      missed_root : left_of ss roots root [] ≡ (enter root_there ∷ map (placed_turn r.placing) (turns_of ss r.submission)) ++ left_of ss roots (root + 1) []
+      missed_root = root_left ∙ ap (λ turns. turns ++ left_of ss roots (root + 1) []) begun_turns
+
+      taken_past : is_in window root_there ≡ false → left_in window ss roots root [] ≡ left_in window ss roots (root + 1) []
+      taken_past missed =
+          let names = turns_of ss r.submission in
+          let shown = map (placed_turn r.placing) names in
+          let rest = left_of ss roots (root + 1) [] in
+          let none : taken window (enter root_there ∷ shown) ≡ [] = taken_out window (enter root_there) shown missed ∙ missed_taken window r.placing names (number_holds ss r.submission) missed in
+          ap (taken window) missed_root ∙ taken_append window (enter root_there ∷ shown) rest ∙ ap (λ turns. turns ++ taken window rest) none
+
+      pub past_way : is_in window (option_map (placed_box r.placing) g.node.now.size.extent) ≡ false → IsOnWay window ss roots (root + 1) turns []
+      past_way missed =
+          let shown = map (placed_turn r.placing) (turns_of ss r.submission) in
+          let rest = left_of ss roots (root + 1) [] in
+          let items : given (left_of ss roots root []) ≡ given shown ++ given rest = ap given missed_root ∙ given_append shown rest in record {
+            read = w.read;
+            present = w.present;
+            begun = omega (arith, root_within);
+            each = w.each;
+            close = all_right IsCloseItem (given shown) (given rest) (subst (All IsCloseItem) items w.close);
+            few = subst (λ left. turns + length left < 2 ^ 64) (taken_past (root_told false missed)) w.few;
+          }
+
+      pub past_does : is_in window (option_map (placed_box r.placing) g.node.now.size.extent) ≡ false → GoesOn (record { turns = turns; left = left_in window ss roots root [] }) (record { turns = turns; left = left_in window ss roots (root + 1) [] }) × (work_left ss roots (root + 1) [] < work_left ss roots root [])
+      past_does missed =
+          let same = taken_past (root_told false missed) in
+          let shown = map (placed_turn r.placing) (turns_of ss r.submission) in
+          let rest = left_of ss roots (root + 1) [] in
+          let all : length (left_of ss roots root []) ≡ suc (length (shown ++ rest)) = ap length missed_root in
+          (record { first = ap first_given same; behind = ap behind_first same; count = ap (λ left. turns + length left) same }, omega (arith, all, length-append shown rest, root_within))

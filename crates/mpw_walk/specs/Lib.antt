@@ -1,8 +1,10 @@
 pub mod Turns
+pub mod Window
 pub mod Frames
 pub mod Stack
 pub mod Near
 pub mod Way
 pub mod Walk
 pub mod Roots
+pub mod Missed
 pub mod Named

@@ -1,19 +1,22 @@
--- The turns of a walk over placed submissions: one to enter each instance that shows something, and one for each shape.
-use Rattle.std.specs.Prelude.{ℕ, List, [], ◌∷◌, ◌++◌, map, length, slice_index_or, Option, Some, None}
+-- The turns of a walk over placed submissions: one to enter each instance that shows something, with its placed extent, and one
+-- for each shape.
+use Rattle.std.specs.Prelude.{ℕ, List, [], ◌∷◌, ◌++◌, map, length, slice_index_or, Option, Some, None, option_map}
 use Rattle.std.specs.List.{flat_map}
+use Rattle.mpw_geom.specs.declared.plane.Box2.{Box2}
 use Rattle.mpw_geom.specs.declared.placing.Placing.{Placing}
 use Rattle.mpw_elements.specs.declared.element.Reference.{Reference}
 use Rattle.mpw_library.specs.declared.structures.Structure.{Structure}
 use Rattle.mpw_hier.specs.declared.submission.Submission.{Submission}
 use Rattle.mpw_hier.specs.Structures.{references}
 use Rattle.mpw_hier.specs.Items.{Item, own_items, placed_item, placed_again, instances}
+use Rattle.mpw_hier.specs.Boxes.{placed_box, extent_of}
 use Rattle.mpw_hier.specs.Levels.{by_levels, levels_of}
 use Rattle.mpw_hier.specs.Values.{bound_number, at_number, from_first, flat}
 use Rattle.mpw_walk.specs.declared.root.Root.{Root}
 
--- A turn enters an instance, or gives a shape.
+-- A turn enters an instance, which carries the extent of what it shows, or gives a shape.
 pub data Turn : Type 0 where
-  enter : Turn
+  enter : Option Box2 → Turn
   give : Item → Turn
 
 -- ---- roots
@@ -34,17 +37,18 @@ placed_root t root = record { submission = root.submission; placing = placed_aga
 -- What turns give, in order.
 abbrev pub given : List Turn → List Item
 given [] = []
-given (enter ∷ turns) = given turns
+given (enter extent ∷ turns) = given turns
 given (give item ∷ turns) = item ∷ given turns
 
 abbrev pub placed_turn : Placing → Turn → Turn
-placed_turn t enter = enter
+placed_turn t (enter extent) = enter (option_map (placed_box t) extent)
 placed_turn t (give item) = give (placed_item t item)
 
--- An instance is entered, and then come the turns of what it shows. What shows nothing has none.
+-- An instance is entered, with the least box that holds what it shows, and then come the turns of that, all placed. What shows
+-- nothing has none.
 abbrev pub entered : List Turn → Placing → List Turn
 entered [] t = []
-entered (turn ∷ turns) t = enter ∷ map (placed_turn t) (turn ∷ turns)
+entered (turn ∷ turns) t = map (placed_turn t) (enter (extent_of (given (turn ∷ turns))) ∷ turn ∷ turns)
 
 abbrev pub placed_turns : Reference → List Turn → List Turn
 placed_turns r turns = flat_map (entered turns) (instances r)
@@ -85,10 +89,10 @@ pub record Walked : Type 0 where
 -- The first shape that turns give, and the turns behind it.
 abbrev pub first_given : List Turn → Option Item
 first_given [] = None
-first_given (enter ∷ turns) = first_given turns
+first_given (enter extent ∷ turns) = first_given turns
 first_given (give item ∷ turns) = Some item
 
 abbrev pub behind_first : List Turn → List Turn
 behind_first [] = []
-behind_first (enter ∷ turns) = behind_first turns
+behind_first (enter extent ∷ turns) = behind_first turns
 behind_first (give item ∷ turns) = turns

@@ -1,5 +1,6 @@
 -- The way of a walk: the structures that it has entered, the turns to come of them, and what is true on the way.
-use Rattle.std.specs.Prelude.{◌≡◌, ◌≤◌, ◌<◌, ◌+◌, ◌-◌, ◌*◌, ◌^◌, ℕ, List, [], ◌++◌, length, drop, slice_get, fold, All, Some}
+use Rattle.std.specs.Prelude.{◌≡◌, ◌≤◌, ◌<◌, ◌+◌, ◌-◌, ◌*◌, ◌^◌, ℕ, List, [], ◌++◌, length, drop, slice_get, fold, All, Option, Some}
+use Rattle.mpw_geom.specs.declared.plane.Box2.{Box2}
 use Rattle.mpw_geom.specs.Plane.{IsInPlane}
 use Rattle.mpw_elements.specs.Element.{IsElement}
 use Rattle.mpw_library.specs.Library.{IsLibrary}
@@ -12,6 +13,7 @@ use Rattle.mpw_walk.specs.declared.way.Way.{Way}
 use Rattle.mpw_walk.specs.declared.way.Step.{Step}
 use Rattle.mpw_walk.specs.declared.way.Step.TheVariants as steps
 use Rattle.mpw_walk.specs.Turns.{Turn, given, roots_turns, Walked, first_given, behind_first}
+use Rattle.mpw_walk.specs.Window.{taken}
 use Rattle.mpw_walk.specs.Near.{IsCloseItem}
 use Rattle.mpw_walk.specs.Frames.{turns_to_come, IsFrame}
 
@@ -19,16 +21,19 @@ use Rattle.mpw_walk.specs.Frames.{turns_to_come, IsFrame}
 abbrev pub AreRead : List Submission → Type 0
 AreRead ss = All (λ (s : Submission). IsLibrary s.library) ss
 
--- The turns to come of frames, the last one's first, and then those of the roots to come.
+-- The turns to come of frames, the last one's first, and then those of the roots to come: all of them, and those that a walk takes.
 unfoldable pub left_of : List Submission → List Root → ℕ → List Frame → List Turn
 left_of ss roots root frames = fold (λ turns f. turns_to_come ss f ++ turns) (roots_turns ss (drop root roots)) frames
 
+abbrev pub left_in : Option Box2 → List Submission → List Root → ℕ → List Frame → List Turn
+left_in window ss roots root frames = taken window (left_of ss roots root frames)
+
 abbrev pub walked : Way → List Frame → Walked
-walked w frames = record { turns = w.turns; left = left_of w.shelf.now w.roots.now w.root frames }
+walked w frames = record { turns = w.turns; left = left_in w.window w.shelf.now w.roots.now w.root frames }
 
 -- The turns to come of a way.
 abbrev pub left : Way → List Turn
-left w = left_of w.shelf.now w.roots.now w.root w.frames.items
+left w = left_in w.window w.shelf.now w.roots.now w.root w.frames.items
 
 -- What falls with each step.
 abbrev pub work_left : List Submission → List Root → ℕ → List Frame → ℕ
@@ -38,16 +43,16 @@ abbrev pub work : Way → List Frame → ℕ
 work w frames = work_left w.shelf.now w.roots.now w.root frames
 
 -- Frames on the way down, each with fewer levels than the one before, so many turns from the beginning.
-pub record IsOnWay (ss : List Submission) (roots : List Root) (root turns : ℕ) (frames : List Frame) : Type 0 where
+pub record IsOnWay (window : Option Box2) (ss : List Submission) (roots : List Root) (root turns : ℕ) (frames : List Frame) : Type 0 where
   pub read : AreRead ss
   pub present : All (λ (root : Root). root.submission < length ss) roots
   pub begun : root ≤ length roots
   pub each : (k : ℕ) (f : Frame) → slice_get frames k ≡ Some f → IsFrame ss f × (k + f.node.now.size.height ≤ 64)
   pub close : All IsCloseItem (given (left_of ss roots root frames))
-  pub few : turns + length (left_of ss roots root frames) < 2 ^ 64
+  pub few : turns + length (left_in window ss roots root frames) < 2 ^ 64
 
 abbrev pub IsWay : Way → List Frame → Type 0
-IsWay w frames = IsOnWay w.shelf.now w.roots.now w.root w.turns frames
+IsWay w frames = IsOnWay w.window w.shelf.now w.roots.now w.root w.turns frames
 
 -- ---- steps
 

@@ -30,7 +30,7 @@ fn is_short(by: Point) -> bool
 }
 
 /// Where the placing takes a near box.
-fn placed_box(placing: Placing, b: Box2) -> Box2
+pub fn placed_box(placing: Placing, b: Box2) -> Box2
     requires near { is_box_near b ≡ true }
     requires short { IsWithin placing.by }
     ensures { result ≡ placed_box placing b }

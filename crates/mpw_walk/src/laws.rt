@@ -1,16 +1,22 @@
 //! Laws of the definitions alone. Each function calls at most the laws that its own rests on: its contract is the law.
 
-ghost use Rattle.std.specs.Prelude.{◌≡◌, ◌≤◌, ◌<◌, ◌+◌, ◌*◌, ◌++◌, ◌∷◌, ◌↔◌, [], ℕ, List, length, map, All};
+ghost use Rattle.std.specs.Prelude.{◌≡◌, ◌≤◌, ◌<◌, ◌+◌, ◌*◌, ◌++◌, ◌∷◌, ◌↔◌, [], true, IsTrue, ℕ, List, length, map, All};
+ghost use Rattle.mpw_geom.specs.Plane.{has_point};
 ghost use Rattle.mpw_geom.specs.declared.placing.Placing.{Placing};
+ghost use Rattle.mpw_geom.specs.declared.plane.Box2.{Box2};
+ghost use Rattle.mpw_geom.specs.declared.plane.Point.{Point};
 ghost use Rattle.mpw_hier.specs.Boxes.{extent_of};
 ghost use Rattle.mpw_hier.specs.Items.{Item, placed_item};
 ghost use Rattle.mpw_hier.specs.Limits.{IsShelf};
+ghost use Rattle.mpw_hier.specs.Structures.{is_shape};
 ghost use Rattle.mpw_hier.specs.Values.{flat, height};
 ghost use Rattle.mpw_hier.specs.declared.submission.Submission.{Submission};
+ghost use Rattle.mpw_walk.specs.Missed.{RootsCarryTheirExtents, InstancesCarryTheirExtents, MissedRootsShowNothing, MissedInstancesShowNothing};
 ghost use Rattle.mpw_walk.specs.Named.{NamesAreWalked};
 ghost use Rattle.mpw_walk.specs.Roots.{unmoved_root, roots_extent, roots_count};
 ghost use Rattle.mpw_walk.specs.Turns.{given, flat_root, flat_roots, placed_root, root_turns, roots_turns};
 ghost use Rattle.mpw_walk.specs.Walk.{IsRoot};
+ghost use Rattle.mpw_walk.specs.Window.{do_meet};
 ghost use Rattle.mpw_walk.specs.declared.root.Root.{Root};
 
 use mpw_hier::{
@@ -49,6 +55,13 @@ pub fn shapes_come_from_the_shelf()
     shelves_have_their_numbers();
 }
 
+/// Each shape that roots show, and each that a submission shows, is a boundary or a path: arrays and other references are taken
+/// apart.
+pub fn shapes_are_no_references()
+    ensures roots { (ss : List Submission) (roots : List Root) → All (λ (i : Item). is_shape i.element ≡ true) (flat_roots ss roots) }
+    ensures submissions { (ss : List Submission) (number : ℕ) → All (λ (i : Item). is_shape i.element ≡ true) (flat ss number) }
+{}
+
 /// What was a root stays one when other submissions come, and shows the same; what was on the shelf and no root becomes none.
 pub fn roots_stay_roots()
     ensures roots { (ss later : List Submission) (root : Root) → root.submission < length ss → IsRoot ss root ↔ IsRoot (ss ++ later) root }
@@ -66,16 +79,28 @@ pub fn roots_show_what_their_submissions_do()
     extents_are_least_boxes();
 }
 
+/// A box meets a window where they share a point. The turn that enters an instance carries its placed extent, and where that
+/// misses a window, so do all turns of what the instance shows: the turns that meet a window are those of the instances that a walk
+/// within it enters, and of the shapes that it gives.
+pub fn missed_instances_show_nothing_met()
+    ensures points { (a b : Box2) → (do_meet a b ≡ true) ↔ ((p : Point) × IsTrue (has_point a p) × IsTrue (has_point b p)) }
+    ensures carried_by_roots { RootsCarryTheirExtents }
+    ensures carried_by_instances { InstancesCarryTheirExtents }
+    ensures missed_roots { MissedRootsShowNothing }
+    ensures missed_instances { MissedInstancesShowNothing }
+{}
+
 /// A turn, which laws of lists of any kind are called with. There is no value of it.
 #[derive(Drop)]
 struct Turning;
 
 impl Model for Turning {
+    ghost use Rattle.std.specs.Prelude.{None};
     ghost use Rattle.mpw_walk.specs.Turns.{Turn, enter};
 
     ghost Value = { Turn };
 
-    ghost view = { λ _. enter };
+    ghost view = { λ _. enter None };
 }
 
 /// What a name shows to a submission, and the turns of that, is what its structure does, or the top of the submission to which it

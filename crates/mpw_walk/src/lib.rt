@@ -2,7 +2,8 @@
 //!
 //! [`Walk`] goes through placed submissions and gives each shape that they show with its origin and
 //! its placing. It goes down the hierarchy with a stack of its own of one frame a level, which is of
-//! fixed size.
+//! fixed size. A walk within a window ([`Walk::within`]) gives the shapes whose boxes meet the window, and
+//! goes down into the instances whose placed extents do.
 #![tactic(auto)]
 
 mod fit;
@@ -10,12 +11,15 @@ mod frame;
 mod frames;
 mod laws;
 mod root;
+mod shape_box;
 mod walk;
 mod way;
+mod window;
 
 pub use fit::all_fit;
 pub use laws::{
-    roots_are_placed_again, roots_show_what_their_submissions_do, roots_stay_roots,
+    missed_instances_show_nothing_met, roots_are_placed_again,
+    roots_show_what_their_submissions_do, roots_stay_roots, shapes_are_no_references,
     shapes_come_from_the_shelf, turns_give_flat_lists, unmoved_roots_show_their_submission,
 };
 pub use root::{Placed, Root};

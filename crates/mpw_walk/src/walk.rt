@@ -1,16 +1,18 @@
 //! A walk over placed submissions.
 //!
 //! To contracts it is the number of its turns so far and the turns to come, which give the flat lists of
-//! the roots.
+//! the roots, or the shapes of these that meet a window.
 
 ghost use Rattle.std.specs.Prelude.{◌≡◌, ◌≤◌, ◌+◌, ◌^◌, [], ◌∷◌, length, IfSome, IfNone, All};
 ghost use Rattle.mpw_walk.specs.Turns.{given, behind_first, flat_roots, roots_turns};
 ghost use Rattle.mpw_walk.specs.Walk.{IsRoot};
 ghost use Rattle.mpw_walk.specs.Way.{IsPlaceable, item_of};
+ghost use Rattle.mpw_walk.specs.Window.{items_met, turns_met, taken};
 
 use crate::frames::Frames;
 use crate::root::{Placed, Root};
 use crate::way::Way;
+use mpw_geom::Box2;
 use mpw_hier::{Shelf, shelves_have_their_numbers};
 use std::marker::Model;
 
@@ -33,6 +35,27 @@ impl<'a> Model for Walk<'a> {
 }
 
 impl<'a> Walk<'a> {
+    /// The walk that takes these turns, before the first.
+    fn start(shelf: &'a Shelf, roots: &'a [Root], window: Option<Box2>) -> Walk<'a>
+        requires roots { All (IsRoot shelf.now) roots.now }
+        requires few { length roots.now ≤ 2 ^ 32 }
+        ensures turns { result.turns ≡ 0 }
+        ensures left { result.left ≡ taken window (roots_turns shelf.now roots.now) }
+    {
+        shelf.is_shelf();
+        shelves_have_their_numbers();
+        Walk {
+            way: Way {
+                shelf,
+                roots,
+                window,
+                root: 0,
+                frames: Frames::new(),
+                turns: 0,
+            },
+        }
+    }
+
     /// The walk over the roots in order: for each, its own shapes in file order, and then what it places,
     /// an array row by row, the column running fastest. What shows nothing is passed over.
     ///
@@ -44,21 +67,27 @@ impl<'a> Walk<'a> {
         ensures left { result.left ≡ roots_turns shelf.now roots.now }
         ensures given { given result.left ≡ flat_roots shelf.now roots.now }
     {
-        shelf.is_shelf();
-        shelves_have_their_numbers();
-        Walk {
-            way: Way {
-                shelf,
-                roots,
-                root: 0,
-                frames: Frames::new(),
-                turns: 0,
-            },
-        }
+        Walk::start(shelf, roots, None)
+    }
+
+    /// The walk over the roots that keeps to a window. It gives the shapes whose boxes share a point with the window, where a
+    /// common corner or edge is enough, in the order of the walk over all. It enters the instances whose placed extents share one,
+    /// and passes over the others with all that they show.
+    ///
+    /// It takes no memory.
+    pub fn within(shelf: &'a Shelf, roots: &'a [Root], window: Box2) -> Walk<'a>
+        requires roots { All (IsRoot shelf.now) roots.now }
+        requires few { length roots.now ≤ 2 ^ 32 }
+        ensures turns { result.turns ≡ 0 }
+        ensures left { result.left ≡ turns_met window (roots_turns shelf.now roots.now) }
+        ensures given { given result.left ≡ items_met window (flat_roots shelf.now roots.now) }
+    {
+        Walk::start(shelf, roots, Some(window))
     }
 
     /// The next shape; none behind the last. It takes no memory. One turn enters each instance on the way
-    /// to it, and one gives it; a turn takes constant time, and so does leaving what has been shown.
+    /// to it, and one gives it; a turn takes constant time, and so does leaving what has been shown. With a window each
+    /// instance that is passed over takes constant time, and each shape of what is entered time by the number of its points.
     pub fn next(&mut self) -> Option<Placed<'a>>
         ensures some { IfSome result (λ placed. given self.old.left ≡ item_of placed ∷ given self.new.left) }
         ensures placeable { IfSome result IsPlaceable }

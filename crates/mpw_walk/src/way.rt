@@ -1,11 +1,12 @@
 //! The way of a walk: the structures that it has entered, from a root down.
 //!
 //! A turn gives the next shape of the last frame, or enters its next instance, which becomes the last
-//! frame. A frame behind its last turn is dropped, which is no turn. Each structure has fewer levels than
-//! the one that places it, so there are never more frames than levels.
+//! frame. A frame behind its last turn is dropped, and what misses the window is passed over, which are no
+//! turns. Each structure has fewer levels than the one that places it, so there are never more frames than
+//! levels.
 
-ghost use Rattle.std.specs.Prelude.{◌≡◌, ◌≤◌, ◌+◌, [], ◌∷◌, ◌++◌, length, IfSome, IfNone};
-ghost use Rattle.mpw_walk.specs.Frames.{IsNext};
+ghost use Rattle.std.specs.Prelude.{◌≡◌, ◌≤◌, ◌<◌, ◌+◌, [], ◌∷◌, ◌++◌, length, slice_get, Some, IfSome, IfNone};
+ghost use Rattle.mpw_walk.specs.Frames.{IsNext, ShowsName};
 ghost use Rattle.mpw_walk.specs.Turns.{given, behind_first};
 ghost use Rattle.mpw_walk.specs.Way.{IsWay, IsPlaceable, Does, left, item_of};
 ghost use Rattle.mpw_walk.specs.declared.way.Step.TheVariants as steps;
@@ -14,7 +15,9 @@ use crate::frame::{Frame, instance};
 use crate::frames::Frames;
 use crate::laws::names_are_walked;
 use crate::root::{Placed, Root};
+use crate::window::{is_given, is_in};
 use mpw_elements::Reference;
+use mpw_geom::Box2;
 use mpw_hier::{Shelf, Target};
 
 /// What a step found.
@@ -30,6 +33,8 @@ pub enum Step<'a> {
 pub struct Way<'a> {
     pub shelf: &'a Shelf,
     pub roots: &'a [Root],
+    /// The window that the walk keeps to, if any.
+    pub window: Option<Box2>,
     /// The next root.
     pub root: usize,
     /// Each structure is placed by the one before, the first by a root.
@@ -51,8 +56,32 @@ impl<'a> Way<'a> {
         let entered = frame.target(self.shelf, target, reference);
         let placing = instance(reference, frame.row, frame.column).then(frame.placing);
         self.frames.push(frame.behind_instance(reference));
+        if !is_in(self.window, placing, entered.node.size.extent) {
+            return;
+        }
         self.frames.push(Frame { placing, ..entered });
         self.turns += 1;
+    }
+
+    /// Takes the next shape of a frame that was the last.
+    fn give(&mut self, frame: &Frame<'a>) -> Step<'a>
+        requires way { IsWay self.old (self.old.frames.items ++ frame.now ∷ []) }
+        requires shape { frame.now.shape < length frame.now.node.now.shapes.items }
+        ensures way { IsWay self.new self.new.frames.items }
+        ensures does { Does result self.old (self.old.frames.items ++ frame.now ∷ []) self.new }
+    {
+        names_are_walked();
+        let placed = frame.placed();
+        let next = Frame {
+            shape: frame.shape + 1,
+            ..*frame
+        };
+        self.frames.push(next);
+        if !is_given(self.window, &placed) {
+            return Step::On;
+        }
+        self.turns += 1;
+        Step::Given(placed)
     }
 
     /// The next turn of a frame that was the last; none behind them.
@@ -63,19 +92,33 @@ impl<'a> Way<'a> {
     {
         names_are_walked();
         if frame.shape < frame.node.shapes.len() {
-            let placed = frame.placed();
-            let next = Frame {
-                shape: frame.shape + 1,
-                ..*frame
-            };
-            self.frames.push(next);
-            self.turns += 1;
-            return Step::Given(placed);
+            return self.give(frame);
         }
         if let Some((target, reference)) = frame.reference() {
             self.enter(frame, target, reference);
         }
         Step::On
+    }
+
+    /// Enters the next root, which shows something, by its top.
+    fn enter_root(&mut self, root: &Root, top: Frame<'a>)
+        requires way { IsWay self.old [] }
+        requires empty { self.old.frames.items ≡ [] }
+        requires next { slice_get self.old.roots.now self.old.root ≡ Some root.now }
+        requires shows { ShowsName self.old.shelf.now root.now.submission (λ s. s.top) top }
+        requires low { top.node.now.size.height ≤ 64 }
+        requires some { 0 < top.node.now.size.count }
+        ensures way { IsWay self.new self.new.frames.items }
+        ensures does { Does steps.On self.old [] self.new }
+    {
+        names_are_walked();
+        let placing = root.placing;
+        self.root += 1;
+        if !is_in(self.window, placing, top.node.size.extent) {
+            return;
+        }
+        self.frames.push(Frame { placing, ..top });
+        self.turns += 1;
     }
 
     /// Enters the next root, if it shows anything.
@@ -89,13 +132,12 @@ impl<'a> Way<'a> {
         let Some(root) = self.roots.get(self.root) else {
             return Step::Ended;
         };
-        self.root += 1;
         let top = Frame::top(self.shelf, root.submission);
         if top.node.size.count > 0 {
-            let placing = root.placing;
-            self.frames.push(Frame { placing, ..top });
-            self.turns += 1;
+            self.enter_root(root, top);
+            return Step::On;
         }
+        self.root += 1;
         Step::On
     }
 

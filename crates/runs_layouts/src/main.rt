@@ -9,6 +9,7 @@
 //! - `same N N` compares two submissions and their libraries by value, `apart CELL TOP | ..` a copy of the shelf before
 //!   and behind a submission to the copy alone;
 //! - `walk N R90 x y, ..` prints each shape of placed submissions, `count N R90 x y, ..` their number;
+//! - `within x0 y0 x1 y1, N R90 x y, ..` prints each shape of placed submissions that meets a window;
 //! - `walks N` compares walks over random shelves with a plain flattening.
 #![tactic(auto)]
 
@@ -68,6 +69,9 @@ fn answer(rt: &(impl Print + AllocGlobal), shelf: &mut Shelf, line: &str) -> Res
     }
     if let Some(roots) = line.strip_prefix("walk ") {
         return walks::walk(rt, shelf, roots);
+    }
+    if let Some(roots) = line.strip_prefix("within ") {
+        return walks::within(rt, shelf, roots);
     }
     if let Some(roots) = line.strip_prefix("count ") {
         return walks::count(rt, shelf, roots);

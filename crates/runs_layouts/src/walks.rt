@@ -3,7 +3,7 @@
 use crate::flat::{flat_list, gives};
 use crate::random::Random;
 use anyhow::{Result, bail};
-use mpw_geom::{Orient, Placing, Point};
+use mpw_geom::{Box2, Orient, Placing, Point};
 use mpw_hier::Shelf;
 use mpw_walk::{Placed, Root, Walk, all_fit};
 use std::alloc::Global;
@@ -85,12 +85,7 @@ fn print_placed(rt: &impl Print, placed: Placed<'_>) -> Result<()> {
 }
 
 /// Prints each shape by its origin and its placing, and the number of turns.
-pub fn walk(rt: &(impl Print + AllocGlobal), shelf: &Shelf, text: &str) -> Result<()> {
-    let roots = roots(rt.alloc(), text)?;
-    if roots.len() > 10 || !all_fit(shelf, &roots) {
-        return Ok(println!(rt; "    no roots")?);
-    }
-    let mut walk = Walk::new(shelf, &roots);
+fn print_walk(rt: &impl Print, walk: &mut Walk<'_>) -> Result<()> {
     for _ in 0..100 {
         match walk.next() {
             Some(placed) => print_placed(rt, placed)?,
@@ -99,6 +94,39 @@ pub fn walk(rt: &(impl Print + AllocGlobal), shelf: &Shelf, text: &str) -> Resul
     }
     let turns = walk.turns();
     Ok(println!(rt; "    {turns} turns")?)
+}
+
+/// Prints the shapes of a walk over roots.
+pub fn walk(rt: &(impl Print + AllocGlobal), shelf: &Shelf, text: &str) -> Result<()> {
+    let roots = roots(rt.alloc(), text)?;
+    if roots.len() > 10 || !all_fit(shelf, &roots) {
+        return Ok(println!(rt; "    no roots")?);
+    }
+    print_walk(rt, &mut Walk::new(shelf, &roots))
+}
+
+fn window(words: &[&str]) -> Result<Box2> {
+    let [x0, y0, x1, y1] = words else {
+        bail!("a window");
+    };
+    Ok(Box2 {
+        x0: number(x0)?,
+        y0: number(y0)?,
+        x1: number(x1)?,
+        y1: number(y1)?,
+    })
+}
+
+/// Prints the shapes of a walk over roots within a window, which stands before them.
+pub fn within(rt: &(impl Print + AllocGlobal), shelf: &Shelf, text: &str) -> Result<()> {
+    let (first, rest) = text.split_once(',').unwrap_or((text, ""));
+    let words: Vec<&str> = first.split_whitespace().collect(rt.alloc())?;
+    let window = window(&words)?;
+    let roots = roots(rt.alloc(), rest)?;
+    if roots.len() > 10 || !all_fit(shelf, &roots) {
+        return Ok(println!(rt; "    no roots")?);
+    }
+    print_walk(rt, &mut Walk::within(shelf, &roots, window))
 }
 
 /// How many shapes a walk gives.

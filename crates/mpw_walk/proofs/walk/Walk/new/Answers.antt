@@ -1,26 +1,11 @@
-use Rattle.std.proofs.Common.{List, sym, ap, subst, ◌∙◌}
-use Rattle.mpw_walk.specs.Turns.{given}
-use Rattle.mpw_walk.specs.Way.{left_of, IsOnWay}
-use Rattle.mpw_walk.specs.declared.frame.Frame.{Frame}
-use Rattle.mpw_walk.proofs.Given.{roots_given}
-use Rattle.mpw_walk.proofs.Kept.{shelf_kept}
-use Rattle.mpw_walk.proofs.Starts.{start_left, start_way}
+use Rattle.std.proofs.Common.{ap, ◌∙◌}
+use Rattle.mpw_walk.specs.Turns.{given, roots_turns}
+use Rattle.mpw_walk.proofs.Starts.{all_given}
+use Rattle.mpw_walk.proofs.Taken.{taken_all}
 use Rattle.mpw_walk.proofs.walk.Walk.new.Goals as goal
 
-pub invariant_of-result : goal.invariant_of-result
-invariant_of-result c =
-    let ss = c.args.shelf.now in
-    let roots = c.args.roots.now in
-    subst (λ (fs : List Frame). IsOnWay ss roots 0 0 fs) (sym c.new.ensures) (start_way ss roots (shelf_kept c.shelves_have_their_numbers.ensures.limits ss c.is_shelf.ensures) c.requires.roots c.requires.few)
-
 pub returns-clause-left : goal.returns-clause-left
-returns-clause-left c =
-    let ss = c.args.shelf.now in
-    let roots = c.args.roots.now in
-    ap (left_of ss roots 0) c.new.ensures ∙ start_left ss roots
+returns-clause-left c = c.start.ensures.left ∙ taken_all (roots_turns c.args.shelf.now c.args.roots.now)
 
 pub returns-clause-given : goal.returns-clause-given
-returns-clause-given c =
-    let ss = c.args.shelf.now in
-    let roots = c.args.roots.now in
-    ap (λ (fs : List Frame). given (left_of ss roots 0 fs)) c.new.ensures ∙ ap given (start_left ss roots) ∙ roots_given ss roots
+returns-clause-given c = ap given c.start.ensures.left ∙ all_given c.args.shelf.now c.args.roots.now

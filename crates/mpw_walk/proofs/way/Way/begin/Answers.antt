@@ -1,58 +1,43 @@
-use Rattle.std.proofs.Common.{◌≡◌, ◌<◌, ◌+◌, ◌++◌, ◌∷◌, [], length, List, arith, refl, sym, ap, subst, ◌∙◌}
-use Rattle.mpw_walk.specs.Way.{left_of, work_left, IsOnWay, GoesOn, IsOver}
+use Rattle.std.proofs.Common.{◌<◌, ◌+◌, [], length, List, arith, refl, sym, ap, subst}
+use Rattle.mpw_walk.specs.Way.{left_in, work_left, IsOnWay, GoesOn, IsOver}
+use Rattle.mpw_walk.specs.Window.{taken}
 use Rattle.mpw_walk.specs.declared.frame.Frame.{Frame}
 use Rattle.mpw_walk.proofs.Fronts.{got, some_within, none_within}
-use Rattle.mpw_walk.proofs.Ways.{no_root, root_present, passed_way, passed_does, begun_way, begun_does}
+use Rattle.mpw_walk.proofs.Ways.{no_root, root_present, passed_way, passed_does}
 use Rattle.mpw_walk.proofs.way.Way.begin.Goals as goal
-use Rattle.mpw_walk.proofs.way.Way.begin.Goals.{then-top-gt0, else-top-gt0}
-
-alone : (zs xs : List Frame) (f : Frame) → zs ≡ xs ++ f ∷ [] → xs ≡ [] → zs ≡ [] ++ f ∷ []
-alone zs xs f e none = e ∙ ap (λ (fs : List Frame). fs ++ f ∷ []) none
 
 pub returns-in_default-clause-does : goal.returns-in_default-clause-does
 returns-in_default-clause-does c =
     let v = c.args.self.now in
     let past = none_within c.get.result v.root (length v.roots.now) c.in_default.is c.get.ensures.lookup.0 in
     let none = no_root v.shelf.now v.roots.now v.root past in
-    subst (λ (fs : List Frame). IsOver (record { turns = v.turns; left = left_of v.shelf.now v.roots.now v.root [] }) (record { turns = v.turns; left = left_of v.shelf.now v.roots.now v.root fs })) (sym c.requires.empty) (record { none = none; same = refl })
+    subst (λ (fs : List Frame). IsOver (record { turns = v.turns; left = left_in v.window v.shelf.now v.roots.now v.root [] }) (record { turns = v.turns; left = left_in v.window v.shelf.now v.roots.now v.root fs })) (sym c.requires.empty) (record { none = ap (taken v.window) none; same = refl })
 
 pub top-top-requires : goal.top-top-requires
 top-top-requires c =
     let v = c.args.self.now in
     let within = some_within c.get.result c.in-Some.root v.root (length v.roots.now) c.in-Some.is c.get.ensures.lookup.0 in
     let r_is = got v.roots.now v.root c.get.result c.in-Some.root c.in-Some.is c.get.ensures.lookup.1 within in
-    root_present c.names_are_walked.ensures v.shelf.now v.roots.now v.root v.turns c.requires.way c.in-Some.root.now r_is
+    root_present c.names_are_walked.ensures v.window v.shelf.now v.roots.now v.root v.turns c.requires.way c.in-Some.root.now r_is
 
-pub overflow_add-self-then-top-gt0 : goal.overflow_add-self-then-top-gt0
-overflow_add-self-then-top-gt0 c =
+pub enter_root-requires-clause-next : goal.enter_root-requires-clause-next
+enter_root-requires-clause-next c =
     let v = c.args.self.now in
     let within = some_within c.get.result c.in-Some.root v.root (length v.roots.now) c.in-Some.is c.get.ensures.lookup.0 in
-    let r_is = got v.roots.now v.root c.get.result c.in-Some.root c.in-Some.is c.get.ensures.lookup.1 within in
-    let w = begun_way c.names_are_walked.ensures v.shelf.now v.roots.now v.root v.turns c.requires.way c.in-Some.root.now r_is c.top-top.result c.top-top.ensures.shows c.top-top.ensures.low c.if-top-gt0.true in
-    omega (arith, w.few)
+    got v.roots.now v.root c.get.result c.in-Some.root c.in-Some.is c.get.ensures.lookup.1 within
 
 pub returns-clause-way : goal.returns-clause-way
 returns-clause-way c =
     let v = c.args.self.now in
     let within = some_within c.get.result c.in-Some.root v.root (length v.roots.now) c.in-Some.is c.get.ensures.lookup.0 in
     let r_is = got v.roots.now v.root c.get.result c.in-Some.root c.in-Some.is c.get.ensures.lookup.1 within in
-    elim c.if-top-gt0.branch [
-      | then-top-gt0 w ↦ let way = begun_way c.names_are_walked.ensures v.shelf.now v.roots.now v.root v.turns c.requires.way c.in-Some.root.now r_is c.top-top.result c.top-top.ensures.shows c.top-top.ensures.low w.if-top-gt0.true in
-          let items = alone w.push.new.self.items v.frames.items _ w.push.ensures c.requires.empty in
-          rw w.self-is (subst (λ (fs : List Frame). IsOnWay v.shelf.now v.roots.now (v.root + 1) (v.turns + 1) fs) (sym items) way)
-      | else-top-gt0 w ↦ let way = passed_way c.names_are_walked.ensures v.shelf.now v.roots.now v.root v.turns c.requires.way c.in-Some.root.now r_is c.top-top.result c.top-top.ensures.shows c.top-top.ensures.low (omega (arith, w.if-top-gt0.false)) in
-          rw w.self-is (subst (λ (fs : List Frame). IsOnWay v.shelf.now v.roots.now (v.root + 1) v.turns fs) (sym c.requires.empty) way)
-    ]
+    let way = passed_way c.names_are_walked.ensures v.window v.shelf.now v.roots.now v.root v.turns c.requires.way c.in-Some.root.now r_is c.top-top.result c.top-top.ensures.shows c.top-top.ensures.low (omega (arith, c.if-top-gt0.false)) in
+    subst (λ (fs : List Frame). IsOnWay v.window v.shelf.now v.roots.now (v.root + 1) v.turns fs) (sym c.requires.empty) way
 
 pub returns-clause-does : goal.returns-clause-does
 returns-clause-does c =
     let v = c.args.self.now in
     let within = some_within c.get.result c.in-Some.root v.root (length v.roots.now) c.in-Some.is c.get.ensures.lookup.0 in
     let r_is = got v.roots.now v.root c.get.result c.in-Some.root c.in-Some.is c.get.ensures.lookup.1 within in
-    elim c.if-top-gt0.branch [
-      | then-top-gt0 w ↦ let does = begun_does c.names_are_walked.ensures v.shelf.now v.roots.now v.root v.turns c.requires.way c.in-Some.root.now r_is c.top-top.result c.top-top.ensures.shows c.top-top.ensures.low w.if-top-gt0.true in
-          let items = alone w.push.new.self.items v.frames.items _ w.push.ensures c.requires.empty in
-          rw w.self-is (subst (λ (fs : List Frame). GoesOn (record { turns = v.turns; left = left_of v.shelf.now v.roots.now v.root [] }) (record { turns = v.turns + 1; left = left_of v.shelf.now v.roots.now (v.root + 1) fs }) × (work_left v.shelf.now v.roots.now (v.root + 1) fs < work_left v.shelf.now v.roots.now v.root [])) (sym items) does)
-      | else-top-gt0 w ↦ let does = passed_does c.names_are_walked.ensures v.shelf.now v.roots.now v.root v.turns c.requires.way c.in-Some.root.now r_is c.top-top.result c.top-top.ensures.shows c.top-top.ensures.low (omega (arith, w.if-top-gt0.false)) in
-          rw w.self-is (subst (λ (fs : List Frame). GoesOn (record { turns = v.turns; left = left_of v.shelf.now v.roots.now v.root [] }) (record { turns = v.turns; left = left_of v.shelf.now v.roots.now (v.root + 1) fs }) × (work_left v.shelf.now v.roots.now (v.root + 1) fs < work_left v.shelf.now v.roots.now v.root [])) (sym c.requires.empty) does)
-    ]
+    let does = passed_does c.names_are_walked.ensures v.window v.shelf.now v.roots.now v.root v.turns c.requires.way c.in-Some.root.now r_is c.top-top.result c.top-top.ensures.shows c.top-top.ensures.low (omega (arith, c.if-top-gt0.false)) in
+    subst (λ (fs : List Frame). GoesOn (record { turns = v.turns; left = left_in v.window v.shelf.now v.roots.now v.root [] }) (record { turns = v.turns; left = left_in v.window v.shelf.now v.roots.now (v.root + 1) fs }) × (work_left v.shelf.now v.roots.now (v.root + 1) fs < work_left v.shelf.now v.roots.now v.root [])) (sym c.requires.empty) does

@@ -15,13 +15,13 @@ pub go_on-requires : goal.go_on-requires
 go_on-requires c =
     let v = c.args.self.now in
     let items = popped_some v.frames.items c.pop.new.self.items c.pop.result c.in-Some.frame c.pop.ensures.items c.in-Some.is in
-    subst (λ (fs : List Frame). IsOnWay v.shelf.now v.roots.now v.root v.turns fs) items c.requires
+    subst (λ (fs : List Frame). IsOnWay v.window v.shelf.now v.roots.now v.root v.turns fs) items c.requires
 
 pub begin-requires-clause-way : goal.begin-requires-clause-way
 begin-requires-clause-way c =
     let v = c.args.self.now in
     let none = popped_none c.pop.result _ c.in-None.is c.pop.ensures.none in
-    subst (λ (fs : List Frame). IsOnWay v.shelf.now v.roots.now v.root v.turns fs) none c.requires
+    subst (λ (fs : List Frame). IsOnWay v.window v.shelf.now v.roots.now v.root v.turns fs) none c.requires
 
 pub returns-in-Some-clause-does : goal.returns-in-Some-clause-does
 returns-in-Some-clause-does c =

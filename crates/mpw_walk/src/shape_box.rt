@@ -1,0 +1,119 @@
+//! The least boxes that hold shapes. Nothing here takes memory.
+
+ghost use Rattle.std.specs.Prelude.{◌≡◌, ◌≤◌, All, drop, length, if◌then◌else◌, Some, None};
+ghost use Rattle.mpw_elements.specs.Element.{IsElement, IsPath, IsPointWithinReach, IsWithinReach};
+ghost use Rattle.mpw_elements.specs.declared.element.Element.TheVariants as elements;
+ghost use Rattle.mpw_hier.specs.Boxes.{joined, hull, hull_of_points, has_area, element_box};
+ghost use Rattle.mpw_hier.specs.SizeParts.{wires_box};
+
+use mpw_elements::{Element, Path};
+use mpw_geom::{Box2, Point};
+use mpw_shapes::{Wire, first_wire};
+
+/// The least box that holds two.
+fn joined(a: Box2, b: Box2) -> Box2
+    ensures { result ≡ joined a b }
+{
+    Box2 {
+        x0: a.x0.min(b.x0),
+        y0: a.y0.min(b.y0),
+        x1: a.x1.max(b.x1),
+        y1: a.y1.max(b.y1),
+    }
+}
+
+/// The least box that holds two, where there are such.
+fn hull(a: Option<Box2>, b: Option<Box2>) -> Option<Box2>
+    ensures { result ≡ hull a b }
+{
+    match (a, b) {
+        (None, b) => b,
+        (a, None) => a,
+        (Some(a), Some(b)) => Some(joined(a, b)),
+    }
+}
+
+/// Whether the box has a unit square.
+fn has_area(b: Box2) -> bool
+    ensures { result ≡ has_area b }
+{
+    b.x0 < b.x1 && b.y0 < b.y1
+}
+
+/// The box of a point.
+fn dot(p: Point) -> Box2
+    ensures { result ≡ record { x0 = p.x; y0 = p.y; x1 = p.x; y1 = p.y } }
+{
+    Box2 {
+        x0: p.x,
+        y0: p.y,
+        x1: p.x,
+        y1: p.y,
+    }
+}
+
+/// The least box that holds the points.
+fn points_box(points: &[Point]) -> Option<Box2>
+    ensures { result ≡ hull_of_points points.now }
+{
+    let mut extent = None;
+    for point in points {
+        extent = hull(extent, Some(dot(*point)));
+    }
+    extent
+}
+
+/// The box, if it has area.
+fn if_area(b: Box2) -> Option<Box2>
+    ensures { result ≡ (if has_area b then Some b else None) }
+{
+    if has_area(b) { Some(b) } else { None }
+}
+
+/// The rectangle of the first of these segments, if it has area. The last one goes to the end of the path.
+fn segment_box(path: &Path, wire: Wire, rest: &[Point]) -> Option<Box2>
+    requires path { IsPath path.now }
+    requires half { IsWithinReach wire.half }
+    requires before { IsWithinReach wire.before }
+    requires behind { wire.behind ≡ wire.half }
+    requires points { All IsPointWithinReach rest.now }
+    requires least { 2 ≤ length rest.now }
+    ensures { wires_box wire.half wire.before path.now.end rest.now ≡ hull result (wires_box wire.half wire.half path.now.end (drop 1 rest.now)) }
+{
+    let segment = if rest.len() == 2 {
+        wire.to_end_of(path)
+    } else {
+        wire
+    };
+    if_area(segment.box_along(rest[0], rest[1]))
+}
+
+/// The box of the points of a path, and of its rectangles with area.
+fn path_box(path: &Path) -> Option<Box2>
+    requires { IsPath path.now }
+    ensures { result ≡ element_box (elements.Path path.now) }
+{
+    let mut rest = path.points.as_slice();
+    let mut extent = points_box(rest);
+    let mut wire = first_wire(path);
+    while rest.len() >= 2 {
+        extent = hull(extent, segment_box(path, wire, rest));
+        wire = wire.from_inner();
+        rest = &rest[1..];
+    }
+    extent
+}
+
+/// The least box that holds an element's points, and the rectangles with area of a path. A reference
+/// has none. Takes time by the number of points.
+#[tactic(auto, unfolding(mpw_hier::specs::Boxes::element_box))]
+pub fn element_box(element: &Element) -> Option<Box2>
+    requires { IsElement element.now }
+    ensures { result ≡ element_box element.now }
+{
+    match element {
+        Element::Boundary(boundary) => points_box(boundary.points.as_slice()),
+        Element::Path(path) => path_box(path),
+        Element::Reference(_) => None,
+    }
+}
