@@ -1,8 +1,10 @@
 -- Books of markers.
-use Rattle.std.specs.Prelude.{List, All, AllPairs}
+use Rattle.std.specs.Prelude.{ℕ, List, All, AllPairs, Option}
+use Rattle.std.specs.List.{position}
+use Rattle.mpw_markers.specs.declared.marker.Key.{Key}
 use Rattle.mpw_markers.specs.declared.marker.Marker.{Marker}
 use Rattle.mpw_markers.specs.Met.{IsAscending}
-use Rattle.mpw_markers.specs.Markers.{IsFilled}
+use Rattle.mpw_markers.specs.Markers.{key_of, key_eq, IsFilled}
 use Rattle.mpw_markers.specs.Order.{StandsBefore}
 
 -- markers with rows, by line and then by row, of which no two on a line overlap or touch
@@ -10,3 +12,7 @@ pub record IsBook (markers : List Marker) : Type 0 where
   pub filled : All IsFilled markers
   pub ordered : AllPairs StandsBefore markers
   pub ascending : All (λ m. IsAscending m.met) markers
+
+-- where the marker of a key stands, counted from 0, if there is one
+abbrev pub place_in : List Marker → Key → Option ℕ
+place_in markers key = position (λ m. key_eq (key_of m) key) markers

@@ -1,8 +1,11 @@
 -- Laws of books.
-use Rattle.std.specs.Prelude.{◌≡◌, ℕ, ◌<◌, ℤ, ◌≤ℤ◌, ◌<ℤ◌, Bool, ◌&&◌, true, List, [], length, slice_index_or}
+use Rattle.std.specs.Prelude.{◌≡◌, ℕ, ◌<◌, ℤ, ◌≤ℤ◌, ◌<ℤ◌, Bool, ◌&&◌, true, List, [], length, slice_get, slice_index_or, Some}
 use Rattle.mpw_geom.specs.Plane.{Square}
+use Rattle.mpw_markers.specs.declared.marker.Key.{Key}
 use Rattle.mpw_markers.specs.declared.marker.Line.{Line}
 use Rattle.mpw_markers.specs.declared.marker.Marker.{Marker}
+use Rattle.mpw_markers.specs.Book.{place_in}
+use Rattle.mpw_markers.specs.Markers.{key_of}
 use Rattle.mpw_markers.specs.Stitched.{IsStitched}
 use Rattle.mpw_markers.specs.Whole.{AreMarkersOf}
 
@@ -27,3 +30,9 @@ StitchedIsWhole =
     (steps : Line → ℤ → Bool) (cores : ℕ → Line → ℤ → Bool) (has : ℕ → Square → Bool) (lists : List (List Marker)) (book : List Marker)
     → AreListedByCores steps cores (λ origin s. has origin s ≡ true) lists → IsStitched lists book
     → AreMarkersOf steps (λ origin s. has origin s ≡ true) book
+
+-- What stands at the place of a key has that key.
+abbrev pub PlacesAreOfKeys : Type 0
+PlacesAreOfKeys =
+    (book : List Marker) (key : Key) (place : ℕ) → place_in book key ≡ Some place
+    → (m : Marker) × (slice_get book place ≡ Some m) × (key_of m ≡ key)

@@ -1,5 +1,6 @@
 -- Markers, their lines, rows and boxes.
-use Rattle.std.specs.Prelude.{◌≡◌, ℤ, ◌≤ℤ◌, ◌<ℤ◌, List, Contains}
+use Rattle.std.specs.Prelude.{◌≡◌, ◌==◌, ◌&&◌, Bool, true, false, ℤ, ◌≤ℤ◌, ◌<ℤ◌, List, Contains}
+use Rattle.std.specs.Ordering.{int_eq}
 use Rattle.mpw_geom.specs.declared.plane.Box2.{Box2}
 use Rattle.mpw_edges.specs.declared.run.Axis.{Axis}
 use Rattle.mpw_edges.specs.declared.run.Axis.TheVariants.{V, H}
@@ -17,6 +18,20 @@ key_of m = record { rule = m.rule; axis = m.axis; side = m.side; x1 = m.x1; x2 =
 
 abbrev pub line_of_key : Key → Line
 line_of_key k = record { rule = k.rule; axis = k.axis; side = k.side; x1 = k.x1; x2 = k.x2 }
+
+-- whether two axes, two lines, and two keys are one
+abbrev pub axis_eq : Axis → Axis → Bool
+axis_eq V V = true
+axis_eq V H = false
+axis_eq H V = false
+axis_eq H H = true
+
+abbrev pub line_eq : Line → Line → Bool
+line_eq a b =
+    ((a.rule == b.rule) && axis_eq a.axis b.axis) && ((a.side == b.side) && (int_eq a.x1 b.x1 && int_eq a.x2 b.x2))
+
+abbrev pub key_eq : Key → Key → Bool
+key_eq a b = line_eq (line_of_key a) (line_of_key b) && (int_eq a.y0 b.y0 && int_eq a.y1 b.y1)
 
 -- the marker has a row at all
 abbrev pub IsFilled : Marker → Type 0

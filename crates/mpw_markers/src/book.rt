@@ -1,10 +1,10 @@
 //! The book of a run's markers.
 
-ghost use Rattle.std.specs.Prelude.{◌≡◌, ◌↔◌, ◌==◌, [], Some, length, IfOk, Contains};
+ghost use Rattle.std.specs.Prelude.{◌≡◌, ◌↔◌, ◌==◌, [], Some, length, slice_get, IfOk, Contains};
 ghost use Rattle.std.specs.Option.{option_copied};
 ghost use Rattle.mpw_markers.specs.declared.marker.Marker.{Marker as MarkerValue};
 ghost use Rattle.mpw_markers.specs.Markers.{key_of};
-ghost use Rattle.mpw_markers.specs.Book.{IsBook};
+ghost use Rattle.mpw_markers.specs.Book.{IsBook, place_in};
 
 use crate::marker::{Key, Marker};
 use std::alloc::{AllocError, Global};
@@ -29,6 +29,13 @@ impl Model for Book {
     ghost view = { λ b. option_map_or (λ items. items.value.items) b.items [] };
 
     ghost invariant = { λ b. IsBook (option_map_or (λ items. items.value.items) b.items []) };
+}
+
+/// The marker at a place, counted from 0.
+fn marker_at(markers: &[Marker], place: usize) -> Option<&Marker>
+    ensures { option_copied result ≡ slice_get markers.now place }
+{
+    markers.get(place)
 }
 
 impl Book {
@@ -76,16 +83,27 @@ impl Book {
         self.as_slice().is_empty()
     }
 
+    /// Where the marker of this key stands, counted from 0, where there is one. A binary search, which takes no memory.
+    pub fn place(&self, key: &Key) -> Option<usize>
+        ensures { result ≡ place_in self.now key.now }
+    {
+        let markers = self.as_slice();
+        let place = key.place();
+        match markers.binary_search_by_key(&place, |marker| marker.key().place()) {
+            Ok(i) => Some(i),
+            Err(_) => None,
+        }
+    }
+
     /// The marker of this key, where there is one. A binary search, which takes no memory.
     pub fn find(&self, key: &Key) -> Option<&Marker>
         ensures { (m : MarkerValue) →
             (option_copied result ≡ Some m) ↔ (Contains self.now m × (key_of m ≡ key.now)) }
     {
         let markers = self.as_slice();
-        let place = key.place();
-        match markers.binary_search_by_key(&place, |marker| marker.key().place()) {
-            Ok(i) => Some(&markers[i]),
-            Err(_) => None,
+        match self.place(key) {
+            Some(place) => marker_at(markers, place),
+            None => None,
         }
     }
 

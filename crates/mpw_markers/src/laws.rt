@@ -1,6 +1,6 @@
 //! Laws of the definitions alone. Each function has an empty body: its contract is the law.
 
-ghost use Rattle.mpw_markers.specs.Laws.{ListsDetermineTheBook, StitchedIsWhole};
+ghost use Rattle.mpw_markers.specs.Laws.{ListsDetermineTheBook, PlacesAreOfKeys, StitchedIsWhole};
 
 /// Two books stitched from the same lists are equal.
 pub fn lists_determine_the_book()
@@ -12,4 +12,9 @@ pub fn lists_determine_the_book()
 /// submissions that their boxes meet.
 pub fn stitched_is_whole()
     ensures { StitchedIsWhole }
+{}
+
+/// What stands at the place of a key has that key.
+pub fn places_are_of_their_keys()
+    ensures { PlacesAreOfKeys }
 {}

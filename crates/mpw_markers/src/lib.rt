@@ -2,7 +2,7 @@
 //!
 //! A tile's job lists the markers of its core. A run of rows that goes on from one core to the next is listed in
 //! pieces; [`stitch`] makes each run one [`Marker`], which meets what its pieces meet. The [`Book`] is in order, so
-//! [`Book::find`] looks a key up by halving.
+//! [`Book::place`] and [`Book::find`] look a key up by halving.
 #![tactic(auto)]
 
 mod book;
@@ -13,7 +13,7 @@ mod place;
 mod stitching;
 
 pub use book::Book;
-pub use laws::{lists_determine_the_book, stitched_is_whole};
+pub use laws::{lists_determine_the_book, places_are_of_their_keys, stitched_is_whole};
 pub use marker::{Key, Line, Marker, TileMarkers};
 pub use met::Met;
 pub use stitching::stitch;

@@ -1,6 +1,6 @@
 //! The waivers of a run's markers.
 
-ghost use Rattle.std.specs.Prelude.{◌≡◌, length, IfOk};
+ghost use Rattle.std.specs.Prelude.{◌≡◌, [], length, IfOk};
 ghost use Rattle.std.specs.Option.{option_copied};
 ghost use Rattle.mpw_waiver.specs.Waivers.{none_asked, waiver_at, is_signed, unsigned, with_asker, signed_by, with_signer};
 ghost use Rattle.mpw_waiver.specs.Signing.{ask_test, sign_test};
@@ -42,6 +42,15 @@ impl Waivers {
             places.push(None)?;
         }
         Ok(Waivers { places })
+    }
+
+    /// The waivers of no marker. It takes no memory.
+    pub fn empty(alloc: Global) -> Waivers
+        ensures { result ≡ [] }
+    {
+        Waivers {
+            places: Vec::new(alloc),
+        }
     }
 
     /// How many markers there are.
@@ -127,6 +136,13 @@ impl Waivers {
                 signer: None,
             });
         }
+    }
+
+    /// No marker has a place any more, as where the run that they are of is left. It takes no memory.
+    pub fn clear(&mut self)
+        ensures { self.new ≡ [] }
+    {
+        self.places.clear();
     }
 
     /// Keeps that the user signed the waiver of the marker at a place: [`Waivers::may_sign`] tells whether it may be so.

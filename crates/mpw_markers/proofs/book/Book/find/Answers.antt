@@ -1,13 +1,12 @@
-use Rattle.std.proofs.Common.{Ok, Err, rules}
-use Rattle.mpw_markers.proofs.Found.{search_is, found_ok, found_none}
+use Rattle.std.proofs.Common.{◌∙◌, ap, slice_get, sym}
+use Rattle.std.specs.Option.{option_copied}
+use Rattle.mpw_markers.proofs.Found.{found_some, found_none}
 use Rattle.mpw_markers.proofs.book.Book.find.Goals as goal
 
-pub returns-in-Ok : goal.returns-in-Ok
-returns-in-Ok c =
-    found_ok c.args.self.now c.as_slice-markers.result.now c.args.key.now c.place-place.result c.in-Ok.i c.index-markers-i.result c.as_slice-markers.ensures.markers c.as_slice-markers.ensures.book c.place-place.ensures c.index-markers-i.is c.in-Ok.ensures.bound
-    (search_is c.as_slice-markers.result.now c.place-place.result (Ok c.in-Ok.i) c.in-Ok.ensures.position (λ a r q k. search rules))
+pub returns-in-Some : goal.returns-in-Some
+returns-in-Some c =
+    found_some c.args.self.now c.args.key.now c.in-Some.place (option_copied c.marker_at.result) c.as_slice-markers.ensures.book (sym c.place.ensures ∙ c.in-Some.is)
+    (c.marker_at.ensures ∙ ap (λ markers. slice_get markers c.in-Some.place) c.as_slice-markers.ensures.markers)
 
-pub returns-in-Err : goal.returns-in-Err
-returns-in-Err c =
-    found_none c.args.self.now c.as_slice-markers.result.now c.args.key.now c.place-place.result c.in-Err.field-0 c.as_slice-markers.ensures.markers c.as_slice-markers.ensures.book c.place-place.ensures
-    (search_is c.as_slice-markers.result.now c.place-place.result (Err c.in-Err.field-0) c.in-Err.ensures.position (λ a r q k. search rules))
+pub returns-in-None : goal.returns-in-None
+returns-in-None c = found_none c.args.self.now c.args.key.now (sym c.place.ensures ∙ c.in-None.is)
