@@ -4,3 +4,4 @@ mod ListingLemmas
 mod MarkerLemmas
 mod RankLemmas
 mod RowLemmas
+mod TrailLemmas

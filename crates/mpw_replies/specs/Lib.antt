@@ -1,3 +1,4 @@
+pub mod Entries
 pub mod Laws
 pub mod Listing
 pub mod Ranks
@@ -6,4 +7,6 @@ pub mod Rows
 pub mod Shapes
 pub mod Sight
 pub mod Told
+pub mod Trail
+pub mod Verdicts
 pub mod Views

@@ -11,14 +11,17 @@ use Rattle.mpw_walk.specs.Walk.{IsRoot}
 use Rattle.mpw_markers.specs.declared.marker.Key.{Key}
 use Rattle.mpw_roles.specs.Hierarchy.{Name}
 use Rattle.mpw_replies.specs.declared.reply.Line.{Line}
+use Rattle.mpw_replies.specs.declared.entry.Entry.{Entry}
 
 -- a line: one that is kept as it is told; a shape with the cell and the version of the submission that it comes from, and how it is
--- placed; a marker by the name of its rule, with its key and the cells that it meets; or how many markers of a rule are masked
+-- placed; a marker by the name of its rule, with its key and the cells that it meets; how many markers of a rule are masked; or a
+-- request of the trail with its number
 pub data Listed : Type 0 where
   stored : Line → Listed
   shape : Name → ℕ → Placing → Element → Listed
   marker : Name → Key → List Name → Listed
   masked : Name → ℕ → Listed
+  entry : ℕ → Entry → Listed
 
 -- the line of a shape that comes from a submission
 abbrev pub shape_line : Submission → Item → Listed

@@ -5,13 +5,16 @@ use Rattle.mpw_replies.specs.declared.lines.Told.TheVariants as told
 use Rattle.mpw_replies.specs.declared.lines.Kept.{Kept}
 use Rattle.mpw_replies.specs.declared.lines.Kept.TheVariants as kept
 use Rattle.mpw_replies.specs.Listing.{Listed, stored}
+use Rattle.mpw_replies.specs.Trail.{trail_lines}
 
 abbrev pub told_lines : Told → List Listed
 told_lines (told.Stored lines) = map stored lines.items
 told_lines (told.Shapes listing) = listing
 told_lines (told.Markers listing) = listing
+told_lines (told.Trail trail) = trail_lines trail.entries
 
 abbrev pub kept_lines : Kept → List Listed
 kept_lines (kept.Stored lines) = map stored lines.now
 kept_lines (kept.Shapes listing) = listing.now
 kept_lines (kept.Markers listing) = listing.now
+kept_lines (kept.Trail trail) = trail_lines trail.now.entries

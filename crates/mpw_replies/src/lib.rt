@@ -3,6 +3,7 @@
 //! A copy of a reply shares its lines, and a listing is kept as what it lists.
 #![tactic(auto)]
 
+mod entry;
 mod laws;
 mod lines;
 mod listing;
@@ -12,7 +13,9 @@ mod met;
 mod reply;
 mod row;
 mod sight;
+mod trail;
 
+pub use entry::{Entry, Verdict};
 pub use laws::{
     full_markers_are_not_hidden, hidden_markers_leave_no_trace,
     lines_of_books_are_of_readable_cells,
@@ -25,3 +28,4 @@ pub use met::MetCells;
 pub use reply::{Code, Denial, Line, Reply};
 pub use row::{Ending, Fault, enter, entering_denies_what_is_lacked};
 pub use sight::seen_by;
+pub use trail::{Trail, TrailView, TrailViews};

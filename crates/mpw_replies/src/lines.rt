@@ -1,24 +1,27 @@
 //! The lines of an accepted request's reply.
 //!
-//! A copy of a reply shares its lines, and the history keeps each reply. So a listing of shapes or of markers is kept as what it
-//! lists ([`ShapeListing`], [`MarkerListing`]), and its lines are made one by one where they are written.
+//! A copy of a reply shares its lines, and the history keeps each reply. So a listing of shapes, of markers or of requests is kept as
+//! what it lists ([`ShapeListing`], [`MarkerListing`], [`Trail`]), and its lines are made one by one where they are written.
 ghost use Rattle.std.specs.Prelude.{◌≡◌, [], IfOk, length, map};
 ghost use Rattle.mpw_replies.specs.Listing.{stored};
 ghost use Rattle.mpw_replies.specs.Told.{kept_lines, told_lines};
+ghost use Rattle.mpw_replies.specs.Trail.{trail_lines};
 
 use crate::listing::ShapeListing;
 use crate::markers::MarkerListing;
 use crate::reply::Line;
+use crate::trail::Trail;
 use std::alloc::{AllocError, Global};
 use std::marker::Model;
 use std::sync::Arc;
 
-/// What a reply holds of its lines: the lines themselves, or the shapes or the markers that they list.
+/// What a reply holds of its lines: the lines themselves, or the shapes, the markers or the requests that they list.
 #[derive(Drop)]
 enum Told {
     Stored(Vec<Line>),
     Shapes(ShapeListing),
     Markers(MarkerListing),
+    Trail(Trail),
 }
 
 /// The lines of a reply, which contracts see as that list. Copies share them.
@@ -46,6 +49,8 @@ pub enum Kept<'a> {
     Shapes(&'a ShapeListing),
     /// The markers that they list.
     Markers(&'a MarkerListing),
+    /// The requests that they list.
+    Trail(&'a Trail),
 }
 
 impl Lines {
@@ -89,6 +94,17 @@ impl Lines {
         Ok(Lines { told: Some(told) })
     }
 
+    /// The lines of a trail. One allocation.
+    ///
+    /// # Errors
+    /// Where there is no room for it.
+    pub fn of_trail(alloc: Global, trail: Trail) -> Result<Lines, AllocError>
+        ensures { IfOk result (λ made. made ≡ trail_lines trail.entries) }
+    {
+        let told = Arc::new(alloc, Told::Trail(trail))?;
+        Ok(Lines { told: Some(told) })
+    }
+
     /// What is kept of the lines. It takes no memory.
     pub fn kept(&self) -> Kept<'_>
         ensures { kept_lines result ≡ self.now }
@@ -107,6 +123,7 @@ impl Lines {
             Kept::Stored(lines) => lines.len(),
             Kept::Shapes(listing) => listing.len(),
             Kept::Markers(listing) => listing.len(),
+            Kept::Trail(trail) => trail.len(),
         }
     }
 
@@ -142,5 +159,6 @@ fn kept_of(told: &Told) -> Kept<'_>
         Told::Stored(lines) => Kept::Stored(lines.as_slice()),
         Told::Shapes(listing) => Kept::Shapes(listing),
         Told::Markers(listing) => Kept::Markers(listing),
+        Told::Trail(trail) => Kept::Trail(trail),
     }
 }

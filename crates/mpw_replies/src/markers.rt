@@ -92,10 +92,10 @@ impl MarkerListing {
         alloc: Global,
         book: Book,
         rules: Rules,
-        shelf: Shelf,
+        shelf: &Shelf,
         seen: Vec<bool>,
     ) -> Result<MarkerListing, AllocError>
-        ensures { IfOk result (λ listing. listing ≡ book_lines rules shelf seen.items book) }
+        ensures { IfOk result (λ listing. listing ≡ book_lines rules shelf.now seen.items book) }
     {
         let cells = shelf.cells(alloc)?;
         let ranks = ranks_of(alloc, cells.as_slice(), shelf.submissions())?;

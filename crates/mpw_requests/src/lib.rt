@@ -5,10 +5,12 @@ mod layouts;
 mod policy;
 mod request;
 mod run;
+mod sign_off;
 mod wafer;
 
 pub use layouts::LayoutRequest;
 pub use policy::PolicyRequest;
 pub use request::{Request, SharedRequest};
 pub use run::RunRequest;
+pub use sign_off::{MarkerName, SignOffRequest};
 pub use wafer::WaferRequest;

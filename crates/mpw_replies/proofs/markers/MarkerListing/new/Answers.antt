@@ -6,7 +6,7 @@ use Rattle.mpw_replies.proofs.markers.MarkerListing.new.Goals as goal
 
 pub returns : goal.returns
 returns c =
-    let shelf = c.args.shelf in
+    let shelf = c.args.shelf.now in
     let cells = c.in_ok-cells.cells in
     let seen = c.args.seen.items in
     let ranks : AreRanks cells shelf c.in_ok-ranks.ranks.items =
