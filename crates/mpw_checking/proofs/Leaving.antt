@@ -1,12 +1,12 @@
 -- What a request leaves of the run.
-use Rattle.std.proofs.Common.{◌≡◌, ◌≤◌, ℕ, ◌+◌, List, Result, Ok, Err, arith, refl}
+use Rattle.std.proofs.Common.{◌≡◌, ◌≤◌, ℕ, ◌+◌, false, List, Result, Ok, Err, arith, refl}
 use Rattle.mpw_requests.specs.declared.run.RunRequest.TheVariants as ask
 use Rattle.mpw_replies.specs.Listing.{Listed}
 use Rattle.mpw_replies.specs.Rows.{IsNegative}
 use Rattle.mpw_replies.specs.declared.row.Ending.{Ending}
 use Rattle.mpw_run.specs.Run.{Planned}
 use Rattle.mpw_run.specs.Step.{Run}
-use Rattle.mpw_checking.specs.Laws.{NegativesLeaveTheRun, NumbersAreCounted}
+use Rattle.mpw_checking.specs.Laws.{NegativesAreNoChange, NegativesLeaveTheRun, NumbersAreCounted}
 use Rattle.mpw_checking.specs.Checking.{begun, left_off, status, markers, begun_outcome, left_off_outcome, listed}
 
 -- ---- denials and refusals
@@ -29,6 +29,27 @@ negatives_leave policy shelf wafer run conn ask.Run told = begun_left run (begun
 negatives_leave policy shelf wafer run conn ask.Cancel told = cancel_left run (left_off policy run conn) told
 negatives_leave policy shelf wafer run conn ask.Status told = listed_left run (status policy run conn)
 negatives_leave policy shelf wafer run conn ask.Markers told = listed_left run (markers policy run conn)
+
+-- ---- no change
+
+begun_same : (run : Run) (row : Result Planned Ending) → IsNegative (begun_outcome run row).reply → (begun_outcome run row).changes ≡ false
+begun_same run (Ok planned) told = absurd told
+begun_same run (Err why) told = refl
+
+cancel_same : (run : Run) (row : Result (Unit {0}) Ending)
+    → IsNegative (left_off_outcome run row).reply → (left_off_outcome run row).changes ≡ false
+cancel_same run (Ok x) told = absurd told
+cancel_same run (Err why) told = refl
+
+listed_same : (run : Run) (row : Result (List Listed) Ending) → (listed run row).changes ≡ false
+listed_same run (Ok lines) = refl
+listed_same run (Err why) = refl
+
+pub negatives_same : NegativesAreNoChange
+negatives_same policy shelf wafer run conn ask.Run told = begun_same run (begun policy shelf wafer run conn) told
+negatives_same policy shelf wafer run conn ask.Cancel told = cancel_same run (left_off policy run conn) told
+negatives_same policy shelf wafer run conn ask.Status told = listed_same run (status policy run conn)
+negatives_same policy shelf wafer run conn ask.Markers told = listed_same run (markers policy run conn)
 
 -- ---- numbers
 

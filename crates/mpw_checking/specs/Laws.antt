@@ -29,6 +29,13 @@ NegativesLeaveTheRun =
     → IsNegative (outcome_of policy shelf wafer run conn request).reply
     → (outcome_of policy shelf wafer run conn request).run ≡ run
 
+-- It is no change that has to be kept.
+abbrev pub NegativesAreNoChange : Type 0
+NegativesAreNoChange =
+    (policy : Policy) (shelf : List Submission) (wafer : Wafer) (run : Run) (conn : ℕ) (request : RunRequest)
+    → IsNegative (outcome_of policy shelf wafer run conn request).reply
+    → (outcome_of policy shelf wafer run conn request).changes ≡ false
+
 -- What is listed of markers names only cells that the session may read.
 abbrev pub MarkersAreOfReadable : Type 0
 MarkersAreOfReadable =

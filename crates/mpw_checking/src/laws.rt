@@ -1,5 +1,5 @@
 //! Laws of the definitions alone. Each function calls at most the laws that its own rests on: its contract is the law.
-ghost use Rattle.mpw_checking.specs.Laws.{MarkersAreOfReadable, NegativesLeaveTheRun, NumbersAreCounted, RunsDenyWhatIsLacked};
+ghost use Rattle.mpw_checking.specs.Laws.{MarkersAreOfReadable, NegativesAreNoChange, NegativesLeaveTheRun, NumbersAreCounted, RunsDenyWhatIsLacked};
 
 use mpw_replies::{entering_denies_what_is_lacked, lines_of_books_are_of_readable_cells};
 
@@ -10,9 +10,10 @@ pub fn denials_over_the_run_name_what_is_lacked()
     entering_denies_what_is_lacked();
 }
 
-/// A request that is denied or refused leaves the run as it was.
+/// A request that is denied or refused leaves the run as it was, and is no change that has to be kept.
 pub fn runs_are_left_unless_a_request_is_accepted()
-    ensures { NegativesLeaveTheRun }
+    ensures left { NegativesLeaveTheRun }
+    ensures same { NegativesAreNoChange }
 {}
 
 /// What is listed of markers names only cells that the connection's session may read.

@@ -103,7 +103,7 @@ fn checked_lines(
     let seen = seen_by(alloc, policy, conn, shelf.submissions())?;
     let book = checked.book.copy()?;
     let rules = snapshot.deck().rules().copy()?;
-    let listing = MarkerListing::new(alloc, book, rules, shelf.copy(alloc)?, seen)?;
+    let listing = MarkerListing::new(alloc, book, rules, shelf, seen)?;
     Lines::of_markers(alloc, listing)
 }
 

@@ -1,5 +1,5 @@
 -- What the events of a run are answered, and the state that each leaves.
-use Rattle.std.specs.Prelude.{◌==◌, ⊤, ℕ, ◌+◌, List, [], ◌∷◌, Option, Some, None, slice_get, slice_set, replicate, nat_le, nat_lt, if◌then◌else◌}
+use Rattle.std.specs.Prelude.{◌==◌, ⊤, ℕ, ◌+◌, List, [], ◌∷◌, length, Option, Some, None, slice_get, slice_set, replicate, nat_le, nat_lt, if◌then◌else◌}
 use Rattle.std.specs.Io.Iter.{u64_saturate}
 use Rattle.mpw_tiles.specs.Plan.{tiles}
 use Rattle.mpw_markers.specs.declared.marker.Marker.{Marker}
@@ -26,6 +26,13 @@ pub record Run : Type 0 where
 pub record Outcome : Type 0 where
   pub reply : RunReply
   pub run : Run
+
+-- How many markers the book of a run has: none before it is finished.
+abbrev pub book_size : Phase → ℕ
+book_size Idle = 0
+book_size (Cutting planned) = 0
+book_size (Checking c) = 0
+book_size (Finished f) = length f.book
 
 abbrev pub new_run : Run
 new_run = record { number = 0; phase = Idle }

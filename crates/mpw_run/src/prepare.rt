@@ -3,6 +3,7 @@
 ghost use Rattle.std.specs.Prelude.{◌≡◌, ◌<◌, ◌^◌};
 ghost use Rattle.mpw_run.specs.declared.prepare.Change.TheVariants as change;
 ghost use Rattle.mpw_run.specs.Prepared.{next_number, next_phase};
+ghost use Rattle.mpw_run.specs.Step.{book_size};
 
 use crate::phase::{Checked, Checks, Phase, Planned, RunReply};
 use crate::tiles::Tiles;
@@ -94,6 +95,37 @@ fn finish(phase: Phase, book: Book) -> Phase
             book,
         }),
         other => other,
+    }
+}
+
+/// How many markers the book of a phase has: none before the run is finished.
+fn book_size(phase: &Phase) -> usize
+    ensures { result ≡ book_size phase.now }
+{
+    match phase {
+        Phase::Finished(checked) => checked.book.len(),
+        _ => 0,
+    }
+}
+
+/// How many markers the book has that finishes a run in this phase.
+fn finished_size(phase: &Phase, book: &Book) -> usize
+    ensures { result ≡ book_size (next_phase (change.Finish book.now) phase.now) }
+{
+    match phase {
+        Phase::Checking(_) => book.len(),
+        _ => book_size(phase),
+    }
+}
+
+/// How many markers the book of the phase has that a change leaves.
+pub(crate) fn next_size(change: &Change, phase: &Phase) -> usize
+    ensures { result ≡ book_size (next_phase change.now phase.now) }
+{
+    match change {
+        Change::Start(_) => 0,
+        Change::Finish(book) => finished_size(phase, book),
+        _ => book_size(phase),
     }
 }
 

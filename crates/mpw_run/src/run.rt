@@ -3,13 +3,13 @@
 ghost use Rattle.std.specs.Prelude.{◌≡◌, ◌+◌, ◌<◌, ◌^◌, IfOk, Some, None, length, slice_get};
 ghost use Rattle.mpw_run.specs.Run.{Tile as TileValue};
 ghost use Rattle.mpw_run.specs.declared.phase.RunReply.TheVariants.{Kept};
-ghost use Rattle.mpw_run.specs.Step.{IsRun, new_run, started, cancelled, restarted, restarted_phase, taken, tile_answered, tile_checked, tile_task, cut_answered, begun, handed, next_from, kept, answered_by};
+ghost use Rattle.mpw_run.specs.Step.{IsRun, book_size, new_run, started, cancelled, restarted, restarted_phase, taken, tile_answered, tile_checked, tile_task, cut_answered, begun, handed, next_from, kept, answered_by};
 ghost use Rattle.mpw_run.specs.declared.phase.Phase.TheVariants.{Cutting, Checking};
 ghost use Rattle.mpw_run.specs.Prepared.{IsFitting, IsPrepared, applied, set_tile};
 
 use crate::laws::stitched_computes;
 use crate::phase::{Checks, Phase, Planned, RunReply};
-use crate::prepare::{Change, Prepared, next_number, next_phase};
+use crate::prepare::{Change, Prepared, next_number, next_phase, next_size};
 use crate::same::{is_same_snapshot, is_same_task};
 use crate::tiles::Tiles;
 use mpw_job::{CutAnswer, CutJob, Job, TileAnswer, answers_make_the_layout};
@@ -97,6 +97,14 @@ impl Run {
             reply,
             change: Change::Nothing,
         }
+    }
+
+    /// How many markers the book has of the run that the prepared change leaves: none before it is finished. Constant time; it
+    /// takes no memory.
+    pub fn next_size(&self, prepared: &Prepared) -> usize
+        ensures { result ≡ book_size (applied prepared.now.change self.now).phase }
+    {
+        next_size(&prepared.change, &self.phase)
     }
 
     /// Makes the change that was prepared for the run as it is, and gives the reply. It takes no memory.
