@@ -1,0 +1,52 @@
+-- What a request leaves of the waivers.
+use Rattle.std.proofs.Common.{◌≡◌, List, length, Option, None, Some, Result, Ok, Err, refl}
+use Rattle.std.proofs.lemmas.List.{length-set}
+use Rattle.mpw_requests.specs.declared.sign_off.SignOffRequest.TheVariants as ask
+use Rattle.mpw_replies.specs.Listing.{Listed}
+use Rattle.mpw_replies.specs.Rows.{IsNegative}
+use Rattle.mpw_replies.specs.declared.row.Ending.{Ending}
+use Rattle.mpw_waiver.specs.Waivers.{signed_by, waiver_at}
+use Rattle.mpw_waiver.specs.declared.waiver.Waiver.{Waiver}
+use Rattle.mpw_signoff.specs.declared.rows.ByUser.{ByUser}
+use Rattle.mpw_signoff.specs.Laws.{NegativesLeaveTheWaivers, PlacesAreLeft}
+use Rattle.mpw_signoff.specs.SigningOff.{waived, signed_off, waivers_told, verdict, waived_outcome, signed_outcome, listed}
+
+waived_left : (waivers : List (Option Waiver)) (row : Result ByUser Ending)
+    → IsNegative (waived_outcome waivers row).reply → (waived_outcome waivers row).waivers ≡ waivers
+waived_left waivers (Ok by) told = absurd told
+waived_left waivers (Err why) told = refl
+
+signed_left : (waivers : List (Option Waiver)) (row : Result ByUser Ending)
+    → IsNegative (signed_outcome waivers row).reply → (signed_outcome waivers row).waivers ≡ waivers
+signed_left waivers (Ok by) told = absurd told
+signed_left waivers (Err why) told = refl
+
+listed_left : (waivers : List (Option Waiver)) (row : Result (List Listed) Ending) → (listed waivers row).waivers ≡ waivers
+listed_left waivers (Ok lines) = refl
+listed_left waivers (Err why) = refl
+
+pub negatives_leave : NegativesLeaveTheWaivers
+negatives_leave policy wafer run waivers conn (ask.Waive name) told = waived_left waivers (waived policy run waivers conn name) told
+negatives_leave policy wafer run waivers conn (ask.Sign name) told = signed_left waivers (signed_off policy run waivers conn name) told
+negatives_leave policy wafer run waivers conn ask.Waivers told = listed_left waivers (waivers_told policy run waivers conn)
+negatives_leave policy wafer run waivers conn ask.Verdict told = listed_left waivers (verdict policy wafer run waivers conn)
+
+-- ---- places
+
+waived_places : (waivers : List (Option Waiver)) (row : Result ByUser Ending) → length (waived_outcome waivers row).waivers ≡ length waivers
+waived_places waivers (Ok by) = length-set waivers by.place (Some (record { asker = by.user; signer = None }))
+waived_places waivers (Err why) = refl
+
+signed_places : (waivers : List (Option Waiver)) (row : Result ByUser Ending) → length (signed_outcome waivers row).waivers ≡ length waivers
+signed_places waivers (Ok by) = length-set waivers by.place (signed_by by.user (waiver_at waivers by.place))
+signed_places waivers (Err why) = refl
+
+listed_places : (waivers : List (Option Waiver)) (row : Result (List Listed) Ending) → length (listed waivers row).waivers ≡ length waivers
+listed_places waivers (Ok lines) = refl
+listed_places waivers (Err why) = refl
+
+pub places_left : PlacesAreLeft
+places_left policy wafer run waivers conn (ask.Waive name) = waived_places waivers (waived policy run waivers conn name)
+places_left policy wafer run waivers conn (ask.Sign name) = signed_places waivers (signed_off policy run waivers conn name)
+places_left policy wafer run waivers conn ask.Waivers = listed_places waivers (waivers_told policy run waivers conn)
+places_left policy wafer run waivers conn ask.Verdict = listed_places waivers (verdict policy wafer run waivers conn)

@@ -1,0 +1,8 @@
+pub mod Denials
+pub mod Leaving
+pub mod Listed
+pub mod Naming
+pub mod Parts
+pub mod Readable
+pub mod Shown
+pub mod Verdicts

@@ -1,0 +1,96 @@
+-- What the requests of the sign-off list may be read.
+use Rattle.std.proofs.Common.{◌≡◌, ◌==◌, ℕ, Bool, true, false, if◌then◌else◌, List, [], ◌∷◌, Option, None, Some, Result, Ok, Err, refl, subst}
+use Rattle.std.specs.Prelude.{All}
+use Rattle.std.proofs.lemmas.List.Elements.{All-nil, All-cons, All-map}
+use Rattle.mpw_rbac.specs.declared.permission.Object.TheVariants as objects
+use Rattle.mpw_rbac.specs.declared.permission.Operation.TheVariants as operations
+use Rattle.mpw_rbac.specs.Policy.{Policy}
+use Rattle.mpw_requests.specs.declared.sign_off.MarkerName.{MarkerName}
+use Rattle.mpw_requests.specs.declared.sign_off.SignOffRequest.TheVariants as ask
+use Rattle.mpw_replies.specs.Listing.{Listed, stored}
+use Rattle.mpw_replies.specs.Readable.{IsOfReadable}
+use Rattle.mpw_replies.specs.Rows.{ended_by, permitted}
+use Rattle.mpw_replies.specs.Sight.{seen_by}
+use Rattle.mpw_replies.specs.declared.reply.Line.TheVariants as line
+use Rattle.mpw_replies.specs.declared.reply.Reply.TheVariants as reply
+use Rattle.mpw_replies.specs.declared.row.Ending.{Ending}
+use Rattle.mpw_replies.specs.declared.row.Ending.TheVariants as ending
+use Rattle.mpw_run.specs.Step.{Run}
+use Rattle.mpw_wafer.specs.declared.wafer.Wafer.{Wafer}
+use Rattle.mpw_waiver.specs.declared.waiver.Waiver.{Waiver}
+use Rattle.mpw_waiver.specs.Waivers.{unsigned}
+use Rattle.mpw_signoff.specs.declared.rows.ByUser.{ByUser}
+use Rattle.mpw_signoff.specs.Laws.{SignOffLinesAreOfReadable}
+use Rattle.mpw_signoff.specs.Named.{name_for}
+use Rattle.mpw_signoff.specs.SigningOff.{finished, is_present, verdict_line, waived, signed_off, waiver_lines, waivers_told, verdict, waived_outcome, signed_outcome, listed}
+use Rattle.mpw_signoff.specs.WaiverLines.{waiver_line}
+use Rattle.mpw_signoff.proofs.Listed.{of_lines, told_is}
+use Rattle.mpw_signoff.proofs.Parts.{passed}
+
+-- a reply that denies or refuses has no lines
+no_reply : (e : Ending) (lines : List Listed) → ended_by e ≡ reply.Ok lines → ⊥
+no_reply (ending.Denied why) lines told = cc
+no_reply (ending.Refused why) lines told = cc
+
+module _ (policy : Policy) (conn : ℕ) where
+  abbrev Readable : List Listed → Type 0
+  Readable lines = All (IsOfReadable policy conn) lines
+
+  none : Readable []
+  none = All-nil (IsOfReadable policy conn)
+
+  one : (l : Listed) → IsOfReadable policy conn l → Readable (l ∷ [])
+  one l may = All-cons (IsOfReadable policy conn) l [] may none
+
+  of_waived : (waivers : List (Option Waiver)) (row : Result ByUser Ending) (lines : List Listed)
+      → (waived_outcome waivers row).reply ≡ reply.Ok lines → Readable lines
+  of_waived waivers (Ok by) lines e = let same : [] ≡ lines = cc in subst Readable same none
+  of_waived waivers (Err why) lines e = absurd (no_reply why lines e)
+
+  of_signed : (waivers : List (Option Waiver)) (row : Result ByUser Ending) (lines : List Listed)
+      → (signed_outcome waivers row).reply ≡ reply.Ok lines → Readable lines
+  of_signed waivers (Ok by) lines e = let same : [] ≡ lines = cc in subst Readable same none
+  of_signed waivers (Err why) lines e = absurd (no_reply why lines e)
+
+  -- what is listed is the row's
+  of_listed : (waivers : List (Option Waiver)) (row : Result (List Listed) Ending) (lines : List Listed) → ((told : List Listed) → row ≡ Ok told → Readable told)
+      → (listed waivers row).reply ≡ reply.Ok lines → Readable lines
+  of_listed waivers (Ok told) lines may e = let same : told ≡ lines = cc in subst Readable same (may told refl)
+  of_listed waivers (Err why) lines may e = absurd (no_reply why lines e)
+
+  of_waiver : (name : MarkerName) (asker : List ℕ) (signer : Option (List ℕ)) → IsOfReadable policy conn (stored (waiver_line name asker signer))
+  of_waiver name asker None = tt
+  of_waiver name asker (Some signer) = tt
+
+  of_told : (run : Run) (waivers : List (Option Waiver)) (told : List Listed) → waivers_told policy run waivers conn ≡ Ok told → Readable told
+  of_told run waivers told e =
+      let row = told_is policy run waivers conn told e in
+      let f = row.0 in
+      let all = of_lines (λ l. IsOfReadable policy conn (stored l)) f.planned.snapshot.deck.rules (seen_by policy conn f.planned.snapshot.shelf) waivers f.book
+      (λ place m waiver rule at full is of. of_waiver (name_for rule.name m) waiver.asker waiver.signer) in
+      subst Readable row.2 (All-map (IsOfReadable policy conn) stored (waiver_lines policy conn f waivers) all)
+
+  of_line : (present : Bool) (number : ℕ) → IsOfReadable policy conn (stored (verdict_line present number))
+  of_line false number = tt
+  of_line true number = go (number == 0)
+    where
+      go : (b : Bool) → IsOfReadable policy conn (stored (if b then line.Clean else line.Open number))
+      go true = tt
+      go false = tt
+
+  of_verdict : (wafer : Wafer) (run : Run) (waivers : List (Option Waiver)) (told : List Listed) → verdict policy wafer run waivers conn ≡ Ok told → Readable told
+  unfolding verdict
+  of_verdict wafer run waivers told e =
+      let allowed = passed (permitted policy conn operations.Verdict objects.Desk) _ told e in
+      let f = passed (finished run.phase) _ told allowed.2 in
+      let present = is_present wafer f.0.planned.snapshot in
+      let same : stored (verdict_line present (unsigned waivers)) ∷ [] ≡ told = cc in
+      subst Readable same (one (stored (verdict_line present (unsigned waivers))) (of_line present (unsigned waivers)))
+
+pub lines_may : SignOffLinesAreOfReadable
+lines_may policy wafer run waivers conn (ask.Waive name) lines e = of_waived policy conn waivers (waived policy run waivers conn name) lines e
+lines_may policy wafer run waivers conn (ask.Sign name) lines e = of_signed policy conn waivers (signed_off policy run waivers conn name) lines e
+lines_may policy wafer run waivers conn ask.Waivers lines e =
+    of_listed policy conn waivers (waivers_told policy run waivers conn) lines (of_told policy conn run waivers) e
+lines_may policy wafer run waivers conn ask.Verdict lines e =
+    of_listed policy conn waivers (verdict policy wafer run waivers conn) lines (of_verdict policy conn wafer run waivers) e

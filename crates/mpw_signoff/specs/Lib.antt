@@ -1,0 +1,5 @@
+pub mod Answers
+pub mod Laws
+pub mod Named
+pub mod SigningOff
+pub mod WaiverLines

@@ -1,0 +1,63 @@
+-- The markers that requests name, by the names of their rules.
+use Rattle.std.specs.Prelude.{ℕ, List, slice_get, Option, None, Some}
+use Rattle.std.specs.List.{position}
+use Rattle.mpw_geom.specs.Names.{name_eq}
+use Rattle.mpw_deck.specs.declared.rule.Rule.{Rule}
+use Rattle.mpw_markers.specs.declared.marker.Key.{Key}
+use Rattle.mpw_markers.specs.declared.marker.Marker.{Marker}
+use Rattle.mpw_markers.specs.Book.{place_in}
+use Rattle.mpw_requests.specs.declared.sign_off.MarkerName.{MarkerName}
+use Rattle.mpw_signoff.specs.declared.named.Named.{Named as NamedLook}
+
+-- The place of the first rule of that name.
+abbrev pub rule_place : List Rule → List ℕ → Option ℕ
+rule_place rules name = position (λ rule. name_eq rule.name name) rules
+
+-- The key of the marker that is named, of the rule at that place.
+abbrev pub key_by : MarkerName → ℕ → Key
+key_by name rule = record {
+  rule = rule;
+  axis = name.axis;
+  side = name.side;
+  x1 = name.x1;
+  x2 = name.x2;
+  y0 = name.y0;
+  y1 = name.y1;
+}
+
+-- The name of a marker of a rule of that name.
+abbrev pub name_for : List ℕ → Marker → MarkerName
+name_for rule m = record {
+  rule = rule;
+  axis = m.axis;
+  side = m.side;
+  x1 = m.x1;
+  x2 = m.x2;
+  y0 = m.y0;
+  y1 = m.y1;
+}
+
+-- A marker of a book with its place.
+pub record Named : Type 0 where
+  pub place : ℕ
+  pub marker : Marker
+
+-- What a function's look at such a marker shows.
+abbrev pub seen_named : NamedLook → Named
+seen_named n = record { place = n.place; marker = n.marker.now }
+
+abbrev pub with_place : ℕ → Option Marker → Option Named
+with_place place None = None
+with_place place (Some m) = Some (record { place = place; marker = m })
+
+abbrev pub found_at : List Marker → Option ℕ → Option Named
+found_at book None = None
+found_at book (Some place) = with_place place (slice_get book place)
+
+abbrev pub found_by : List Marker → MarkerName → Option ℕ → Option Named
+found_by book name None = None
+found_by book name (Some rule) = found_at book (place_in book (key_by name rule))
+
+-- The marker of the book that is named, if there is one.
+unfoldable pub named_in : List Rule → List Marker → MarkerName → Option Named
+named_in rules book name = found_by book name (rule_place rules name.rule)

@@ -1,0 +1,169 @@
+-- The requests that sign a finished run off: each with its tests in order, and what it gives where all pass.
+use Rattle.std.specs.Prelude.{ℕ, ◌==◌, Bool, true, false, List, [], ◌∷◌, map, Option, None, Some, Result, Ok, Err, if◌then◌else◌}
+use Rattle.mpw_deck.specs.Decks.{Deck}
+use Rattle.mpw_placings.specs.declared.placement.Placement.{Placement}
+use Rattle.mpw_placings.specs.Placements.{roots_of}
+use Rattle.mpw_tiles.specs.Snapshots.{Snapshot}
+use Rattle.mpw_roles.specs.Decided.{decided}
+use Rattle.mpw_rbac.specs.declared.permission.Operation.TheVariants as operation
+use Rattle.mpw_rbac.specs.declared.permission.Object.TheVariants as object
+use Rattle.mpw_rbac.specs.Policy.{Policy}
+use Rattle.mpw_rbac.specs.Rows.{user_of}
+use Rattle.mpw_requests.specs.declared.sign_off.MarkerName.{MarkerName}
+use Rattle.mpw_requests.specs.declared.sign_off.SignOffRequest.{SignOffRequest}
+use Rattle.mpw_requests.specs.declared.sign_off.SignOffRequest.TheVariants as ask
+use Rattle.mpw_replies.specs.Listing.{Listed, stored}
+use Rattle.mpw_replies.specs.Rows.{◌>>=◌, in_session, permitted, ended_by}
+use Rattle.mpw_replies.specs.Sight.{seen_by, is_full}
+use Rattle.mpw_replies.specs.declared.reply.Line.{Line}
+use Rattle.mpw_replies.specs.declared.reply.Line.TheVariants as line
+use Rattle.mpw_replies.specs.declared.reply.Code.TheVariants as code
+use Rattle.mpw_replies.specs.declared.reply.Denial.TheVariants as denial
+use Rattle.mpw_replies.specs.declared.reply.Reply.{Reply}
+use Rattle.mpw_replies.specs.declared.reply.Reply.TheVariants as reply
+use Rattle.mpw_replies.specs.declared.row.Ending.{Ending}
+use Rattle.mpw_replies.specs.declared.row.Ending.TheVariants as ending
+use Rattle.mpw_run.specs.declared.phase.Checked.{Checked}
+use Rattle.mpw_run.specs.declared.phase.Phase.{Phase}
+use Rattle.mpw_run.specs.declared.phase.Phase.TheVariants.{Idle, Cutting, Checking, Finished}
+use Rattle.mpw_run.specs.Same.{same_snapshot}
+use Rattle.mpw_run.specs.Step.{Run}
+use Rattle.mpw_wafer.specs.declared.wafer.Wafer.{Wafer}
+use Rattle.mpw_waiver.specs.declared.fault.WaiverFault.{WaiverFault}
+use Rattle.mpw_waiver.specs.declared.fault.WaiverFault.TheVariants as fault
+use Rattle.mpw_waiver.specs.declared.waiver.Waiver.{Waiver}
+use Rattle.mpw_waiver.specs.Signing.{ask_test, sign_test}
+use Rattle.mpw_waiver.specs.Waivers.{waiver_at, with_asker, with_signer, unsigned}
+use Rattle.mpw_signoff.specs.declared.rows.ByUser.{ByUser}
+use Rattle.mpw_signoff.specs.Named.{Named, named_in}
+use Rattle.mpw_signoff.specs.WaiverLines.{lines_from}
+
+-- ---- tests
+
+-- The connection has a session.
+abbrev pub entered : Policy → ℕ → Result (Unit {0}) Ending
+entered policy conn = decided (in_session policy conn ∷ []) tt
+
+-- A run is finished.
+abbrev pub finished : Phase → Result Checked Ending
+finished Idle = Err (ending.Refused code.NotFinished)
+finished (Cutting planned) = Err (ending.Refused code.NotFinished)
+finished (Checking c) = Err (ending.Refused code.NotFinished)
+finished (Finished f) = Ok f
+
+-- The marker that is named is in the book, and shown in full.
+abbrev pub if_full : List Bool → Named → Result Named Ending
+if_full seen n = if is_full seen n.marker then Ok n else Err (ending.Refused code.NoMarker)
+
+abbrev pub if_shown : List Bool → Option Named → Result Named Ending
+if_shown seen None = Err (ending.Refused code.NoMarker)
+if_shown seen (Some n) = if_full seen n
+
+unfoldable pub shown : Policy → ℕ → Checked → MarkerName → Result Named Ending
+shown policy conn f name =
+    if_shown (seen_by policy conn f.planned.snapshot.shelf) (named_in f.planned.snapshot.deck.rules f.book name)
+
+-- What ends a row where the test of a waiver fails.
+abbrev pub ending_of : WaiverFault → Ending
+ending_of fault.Known = ending.Refused code.Known
+ending_of fault.NoWaiver = ending.Refused code.NoWaiver
+ending_of (fault.Submitter cell) = ending.Denied (denial.Submitter cell)
+ending_of fault.Asker = ending.Denied denial.Asker
+
+-- The test of a waiver passes.
+abbrev pub passes : Result (Unit {0}) WaiverFault → Result (Unit {0}) Ending
+passes (Ok x) = Ok x
+passes (Err fault) = Err (ending_of fault)
+
+-- ---- rows
+
+-- The user, with the place of the marker.
+abbrev pub by_user : Policy → ℕ → Named → ByUser
+by_user policy conn n = record { place = n.place; user = user_of policy conn }
+
+-- A waiver of the marker may be asked for.
+unfoldable pub waived : Policy → Run → List (Option Waiver) → ℕ → MarkerName → Result ByUser Ending
+waived policy run waivers conn name = do
+  allowed ← permitted policy conn operation.Waive object.Desk
+  f ← finished run.phase
+  n ← shown policy conn f name
+  free ← passes (ask_test (waiver_at waivers n.place))
+  Ok (by_user policy conn n)
+
+-- Nothing keeps the user apart from the waiver of the marker.
+abbrev pub apart : Checked → List (Option Waiver) → Named → List ℕ → Result (Unit {0}) Ending
+apart f waivers n user = passes (sign_test f.planned.snapshot.shelf n.marker.met user (waiver_at waivers n.place))
+
+-- The marker's waiver may be signed.
+unfoldable pub signed_off : Policy → Run → List (Option Waiver) → ℕ → MarkerName → Result ByUser Ending
+signed_off policy run waivers conn name = do
+  allowed ← permitted policy conn operation.Sign object.Desk
+  f ← finished run.phase
+  n ← shown policy conn f name
+  free ← apart f waivers n (user_of policy conn)
+  Ok (by_user policy conn n)
+
+-- The waivers of the markers that are shown in full.
+abbrev pub waiver_lines : Policy → ℕ → Checked → List (Option Waiver) → List Line
+waiver_lines policy conn f waivers =
+    lines_from f.planned.snapshot.deck.rules (seen_by policy conn f.planned.snapshot.shelf) waivers 0 f.book
+
+unfoldable pub waivers_told : Policy → Run → List (Option Waiver) → ℕ → Result (List Listed) Ending
+waivers_told policy run waivers conn = do
+  inside ← entered policy conn
+  f ← finished run.phase
+  Ok (map stored (waiver_lines policy conn f waivers))
+
+-- A run over the present deck and placings, on the same shelf, would look at what the run looked at: labels of placings are no part of it.
+abbrev pub is_present_with : Option Deck → List Placement → Snapshot → Bool
+is_present_with None placings s = false
+is_present_with (Some deck) placings s = same_snapshot (record { deck = deck; roots = roots_of placings; shelf = s.shelf }) s
+
+abbrev pub is_present : Wafer → Snapshot → Bool
+is_present wafer s = is_present_with wafer.deck wafer.placings s
+
+-- So many markers have no signed waiver.
+abbrev pub open_line : ℕ → Line
+open_line number = if number == 0 then line.Clean else line.Open number
+
+abbrev pub verdict_line : Bool → ℕ → Line
+verdict_line present number = if present then open_line number else line.Stale
+
+unfoldable pub verdict : Policy → Wafer → Run → List (Option Waiver) → ℕ → Result (List Listed) Ending
+verdict policy wafer run waivers conn = do
+  allowed ← permitted policy conn operation.Verdict object.Desk
+  f ← finished run.phase
+  Ok (stored (verdict_line (is_present wafer f.planned.snapshot) (unsigned waivers)) ∷ [])
+
+-- ---- what comes of a request
+
+-- A reply with the waivers that it leaves, and whether that is a change, which has to be kept.
+pub record Outcome : Type 0 where
+  pub reply : Reply
+  pub waivers : List (Option Waiver)
+  pub changes : Bool
+
+abbrev pub left : Reply → List (Option Waiver) → Outcome
+left told waivers = record { reply = told; waivers = waivers; changes = false }
+
+abbrev pub changed : List (Option Waiver) → Outcome
+changed waivers = record { reply = reply.Ok []; waivers = waivers; changes = true }
+
+abbrev pub waived_outcome : List (Option Waiver) → Result ByUser Ending → Outcome
+waived_outcome waivers (Ok by) = changed (with_asker waivers by.place by.user)
+waived_outcome waivers (Err ending) = left (ended_by ending) waivers
+
+abbrev pub signed_outcome : List (Option Waiver) → Result ByUser Ending → Outcome
+signed_outcome waivers (Ok by) = changed (with_signer waivers by.place by.user)
+signed_outcome waivers (Err ending) = left (ended_by ending) waivers
+
+abbrev pub listed : List (Option Waiver) → Result (List Listed) Ending → Outcome
+listed waivers (Ok lines) = left (reply.Ok lines) waivers
+listed waivers (Err ending) = left (ended_by ending) waivers
+
+-- Each request by its row.
+abbrev pub outcome_of : Policy → Wafer → Run → List (Option Waiver) → ℕ → SignOffRequest → Outcome
+outcome_of policy wafer run waivers conn (ask.Waive marker) = waived_outcome waivers (waived policy run waivers conn marker)
+outcome_of policy wafer run waivers conn (ask.Sign marker) = signed_outcome waivers (signed_off policy run waivers conn marker)
+outcome_of policy wafer run waivers conn ask.Waivers = listed waivers (waivers_told policy run waivers conn)
+outcome_of policy wafer run waivers conn ask.Verdict = listed waivers (verdict policy wafer run waivers conn)

@@ -1,0 +1,133 @@
+//! The answers to the requests that sign a run off.
+ghost use Rattle.std.specs.Prelude.{List, Result, IfOk};
+ghost use Rattle.mpw_replies.specs.Listing.{Listed};
+ghost use Rattle.mpw_replies.specs.Rows.{Answers};
+ghost use Rattle.mpw_replies.specs.declared.row.Ending.{Ending as AnyEnding};
+ghost use Rattle.mpw_signoff.specs.Answers.{Gives, IsEnd};
+ghost use Rattle.mpw_signoff.specs.SigningOff.{outcome_of, waived_outcome, signed_outcome, listed};
+ghost use Rattle.mpw_signoff.specs.declared.rows.ByUser.{ByUser as AnyUser};
+
+use crate::rows::{ByUser, sign, verdict, waive, waivers as waivers_row};
+use mpw_geom::Name;
+use mpw_rbac::Policy;
+use mpw_replies::{Fault, Lines, Reply};
+use mpw_requests::SignOffRequest;
+use mpw_run::Run;
+use mpw_wafer::Wafer;
+use mpw_waiver::Waivers;
+use std::alloc::{AllocError, Global};
+
+/// What a request changes in the waivers.
+#[derive(Drop)]
+pub enum NextWaivers {
+    /// Nothing.
+    Same,
+    /// The user asked for a waiver of the marker at a place of the book.
+    Ask { place: usize, asker: Name },
+    /// The user signed the waiver of the marker at a place of the book.
+    Sign { place: usize, signer: Name },
+}
+
+/// The reply to a request over the waivers, and what it changes in them.
+#[derive(Drop)]
+pub struct SignOffAnswer {
+    pub reply: Reply,
+    pub next: NextWaivers,
+}
+
+/// What ends a row is told, and leaves the waivers; want of memory gives no answer.
+fn told(fault: Fault) -> Result<SignOffAnswer, AllocError>
+    ensures { IfOk result (IsEnd fault) }
+{
+    match fault {
+        Fault::Told(ending) => Ok(SignOffAnswer {
+            reply: ending.reply(),
+            next: NextWaivers::Same,
+        }),
+        Fault::Memory => Err(AllocError),
+    }
+}
+
+/// The answer to what asks for a waiver.
+fn waiving(waivers: &Waivers, made: Result<ByUser, Fault>) -> Result<SignOffAnswer, AllocError>
+    ensures { (row : Result AnyUser AnyEnding) → Answers (λ by. by) made row
+        → IfOk result (λ answer. Gives waivers.now (waived_outcome waivers.now row) answer) }
+{
+    let _many = waivers.len();
+    match made {
+        Ok(by) => Ok(SignOffAnswer {
+            reply: Reply::Ok(Lines::none()),
+            next: NextWaivers::Ask {
+                place: by.place,
+                asker: by.user,
+            },
+        }),
+        Err(fault) => told(fault),
+    }
+}
+
+/// The answer to what signs a waiver.
+fn signing(waivers: &Waivers, made: Result<ByUser, Fault>) -> Result<SignOffAnswer, AllocError>
+    ensures { (row : Result AnyUser AnyEnding) → Answers (λ by. by) made row
+        → IfOk result (λ answer. Gives waivers.now (signed_outcome waivers.now row) answer) }
+{
+    let _many = waivers.len();
+    match made {
+        Ok(by) => Ok(SignOffAnswer {
+            reply: Reply::Ok(Lines::none()),
+            next: NextWaivers::Sign {
+                place: by.place,
+                signer: by.user,
+            },
+        }),
+        Err(fault) => told(fault),
+    }
+}
+
+/// The answer to what lists.
+fn listing(waivers: &Waivers, made: Result<Lines, Fault>) -> Result<SignOffAnswer, AllocError>
+    ensures { (row : Result (List Listed) AnyEnding) → Answers (λ lines. lines) made row
+        → IfOk result (λ answer. Gives waivers.now (listed waivers.now row) answer) }
+{
+    let _many = waivers.len();
+    match made {
+        Ok(lines) => Ok(SignOffAnswer {
+            reply: Reply::Ok(lines),
+            next: NextWaivers::Same,
+        }),
+        Err(fault) => told(fault),
+    }
+}
+
+/// The answer to a request over the waivers of a finished run's markers. A `waive` and a `sign` look at each of the deck's
+/// rules, halve the book, and look up each submission that the marker meets; `waivers` takes a look-up for each submission on
+/// the run's shelf and a pass over the book; `verdict` is linear in the placings, the rules and the markers.
+///
+/// # Errors
+/// Where there is no room for it.
+pub fn answer_request(
+    alloc: Global,
+    policy: &Policy,
+    wafer: &Wafer,
+    run: &Run,
+    waivers: &Waivers,
+    conn: u32,
+    request: &SignOffRequest,
+) -> Result<SignOffAnswer, AllocError>
+    ensures { IfOk result (λ answer. Gives waivers.now (outcome_of policy.now wafer.now run.now waivers.now conn request.now) answer) }
+{
+    match request {
+        SignOffRequest::Waive { marker } => {
+            waiving(waivers, waive(policy, run, waivers, conn, marker))
+        }
+        SignOffRequest::Sign { marker } => {
+            signing(waivers, sign(policy, run, waivers, conn, marker))
+        }
+        SignOffRequest::Waivers => {
+            listing(waivers, waivers_row(alloc, policy, run, waivers, conn))
+        }
+        SignOffRequest::Verdict => {
+            listing(waivers, verdict(alloc, policy, wafer, run, waivers, conn))
+        }
+    }
+}

@@ -1,0 +1,69 @@
+//! The markers that requests name.
+//!
+//! A request has the name of a marker's rule, and its key otherwise. The rule is looked for among the deck's, at most 256,
+//! and then the key in the book, by halving.
+ghost use Rattle.std.specs.Prelude.{◌≡◌, ◌≤◌, length, option_map};
+ghost use Rattle.mpw_markers.specs.Book.{place_in};
+ghost use Rattle.mpw_signoff.specs.Named.{found_at, key_by, named_in, rule_place, seen_named};
+
+use mpw_deck::{Deck, Rule};
+use mpw_geom::Name;
+use mpw_markers::{Book, Key, Marker};
+use mpw_requests::MarkerName;
+
+/// A marker of a book with its place.
+#[derive(Clone, Copy)]
+pub(crate) struct Named<'a> {
+    pub place: usize,
+    pub marker: &'a Marker,
+}
+
+/// Where the first rule of that name stands.
+fn rule_index(rules: &[Rule], name: &Name) -> Option<usize>
+    ensures { result ≡ rule_place rules.now name.now }
+{
+    rules.iter().position(|rule| rule.name == *name)
+}
+
+/// The same place, as a marker has it.
+fn rule_place(rules: &[Rule], name: &Name) -> Option<u32>
+    requires { length rules.now ≤ 256 }
+    ensures { result ≡ rule_place rules.now name.now }
+{
+    let place = rule_index(rules, name)?;
+    Some(place as u32)
+}
+
+/// The key of the marker that is named, of the rule at that place.
+fn key_by(name: &MarkerName, rule: u32) -> Key
+    ensures { result ≡ key_by name.now rule }
+{
+    Key {
+        rule,
+        axis: name.axis,
+        side: name.side,
+        x1: name.x1,
+        x2: name.x2,
+        y0: name.y0,
+        y1: name.y1,
+    }
+}
+
+/// The marker of that key.
+fn found_at<'a>(book: &'a Book, key: &Key) -> Option<Named<'a>>
+    ensures { option_map seen_named result ≡ found_at book.now (place_in book.now key.now) }
+{
+    let place = book.place(key)?;
+    let marker = book.as_slice().get(place)?;
+    Some(Named { place, marker })
+}
+
+/// The marker of the book that is named, if there is one. A look at each of the deck's rules, and a binary search.
+#[tactic(auto, unfolding(crate::specs::Named::named_in))]
+pub(crate) fn named_in<'a>(deck: &Deck, book: &'a Book, name: &MarkerName) -> Option<Named<'a>>
+    ensures { option_map seen_named result ≡ named_in deck.now.rules book.now name.now }
+{
+    deck.is_deck();
+    let rule = rule_place(deck.rules().as_slice(), &name.rule)?;
+    found_at(book, &key_by(name, rule))
+}

@@ -1,0 +1,219 @@
+//! The rows of `waive`, `sign`, `waivers` and `verdict`.
+//!
+//! Each is a function that gives its value, or what ends the row, or tells want of memory. Its parts have the same form.
+ghost use Rattle.std.specs.Prelude.{◌≡◌, ◌∷◌, [], IfOk, map};
+ghost use Rattle.mpw_replies.specs.Listing.{stored};
+ghost use Rattle.mpw_replies.specs.Rows.{Answers};
+ghost use Rattle.mpw_signoff.specs.Named.{seen_named};
+ghost use Rattle.mpw_signoff.specs.SigningOff as row;
+ghost use Rattle.mpw_waiver.specs.Waivers.{unsigned};
+
+use crate::lines::waiver_lines;
+use crate::named::{Named, named_in};
+use crate::present::is_present;
+use crate::sight::is_shown;
+use mpw_geom::Name;
+use mpw_rbac::{Object, Operation, Policy};
+use mpw_replies::{Code, Denial, Ending, Fault, Line, Lines, enter, seen_by};
+use mpw_requests::MarkerName;
+use mpw_run::{Checked, Phase, Run};
+use mpw_wafer::Wafer;
+use mpw_waiver::{WaiverFault, Waivers};
+use std::alloc::{AllocError, Global};
+
+/// A user, with the place of the marker whose waiver the user asks for or signs.
+#[derive(Drop)]
+pub(crate) struct ByUser {
+    pub place: usize,
+    pub user: Name,
+}
+
+/// The connection has a session.
+fn session(policy: &Policy, conn: u32) -> Result<(), Fault>
+    ensures { Answers (λ x. x) result (row.entered policy.now conn) }
+{
+    if !policy.has_session(conn) {
+        return Err(Fault::Told(Ending::Denied(Denial::Session)));
+    }
+    Ok(())
+}
+
+/// What a finished run found.
+fn findings(phase: &Phase) -> Result<&Checked, Fault>
+    ensures { Answers (λ f. f.now) result (row.finished phase.now) }
+{
+    match phase {
+        Phase::Idle => Err(Fault::refused(Code::NotFinished)),
+        Phase::Cutting(_) => Err(Fault::refused(Code::NotFinished)),
+        Phase::Checking(_) => Err(Fault::refused(Code::NotFinished)),
+        Phase::Finished(checked) => Ok(checked),
+    }
+}
+
+/// The marker that is named, where it is shown in full: a look-up for each submission that it meets.
+#[tactic(auto, unfolding(crate::specs::SigningOff::shown))]
+fn shown<'a>(
+    policy: &Policy,
+    conn: u32,
+    checked: &'a Checked,
+    name: &MarkerName,
+) -> Result<Named<'a>, Fault>
+    ensures { Answers seen_named result (row.shown policy.now conn checked.now name.now) }
+{
+    let snapshot = checked.planned.snapshot();
+    let Some(named) = named_in(snapshot.deck(), &checked.book, name) else {
+        return Err(Fault::refused(Code::NoMarker));
+    };
+    if !is_shown(policy, conn, snapshot.shelf(), named.marker)? {
+        return Err(Fault::refused(Code::NoMarker));
+    }
+    Ok(named)
+}
+
+/// What a waiver's fault ends a row with.
+fn ending_of(fault: WaiverFault) -> Ending
+    ensures { result ≡ row.ending_of fault }
+{
+    match fault {
+        WaiverFault::Known => Ending::Refused(Code::Known),
+        WaiverFault::NoWaiver => Ending::Refused(Code::NoWaiver),
+        WaiverFault::Submitter(cell) => Ending::Denied(Denial::Submitter(cell)),
+        WaiverFault::Asker => Ending::Denied(Denial::Asker),
+    }
+}
+
+/// The test of a waiver passes.
+fn passes(told: Result<(), WaiverFault>) -> Result<(), Fault>
+    ensures { Answers (λ x. x) result (row.passes told) }
+{
+    match told {
+        Ok(()) => Ok(()),
+        Err(fault) => Err(Fault::Told(ending_of(fault))),
+    }
+}
+
+/// The user who asks for a waiver, with the marker's place. What [`shown`] takes.
+#[tactic(auto, unfolding(crate::specs::SigningOff::waived))]
+pub(crate) fn waive(
+    policy: &Policy,
+    run: &Run,
+    waivers: &Waivers,
+    conn: u32,
+    marker: &MarkerName,
+) -> Result<ByUser, Fault>
+    ensures { Answers (λ by. by) result (row.waived policy.now run.now waivers.now conn marker.now) }
+{
+    let user = enter(policy, conn, Operation::Waive, Object::Desk)?;
+    let checked = findings(run.phase())?;
+    let place = shown(policy, conn, checked, marker)?.place;
+    passes(waivers.may_ask(place))?;
+    Ok(ByUser { place, user })
+}
+
+/// Nothing keeps the user apart from the waiver of the marker.
+fn is_apart(
+    checked: &Checked,
+    waivers: &Waivers,
+    named: &Named<'_>,
+    user: &Name,
+) -> Result<(), Fault>
+    ensures { Answers (λ x. x) result (row.apart checked.now waivers.now (seen_named named.now) user.now) }
+{
+    let shelf = checked.planned.snapshot().shelf();
+    let met = named.marker.met.as_slice();
+    passes(waivers.may_sign(named.place, shelf, met, user)?)
+}
+
+/// The user who signs a waiver, with the marker's place. What [`shown`] takes, and a pass over the marker's met numbers.
+#[tactic(auto, unfolding(crate::specs::SigningOff::signed_off))]
+pub(crate) fn sign(
+    policy: &Policy,
+    run: &Run,
+    waivers: &Waivers,
+    conn: u32,
+    marker: &MarkerName,
+) -> Result<ByUser, Fault>
+    ensures { Answers (λ by. by) result (row.signed_off policy.now run.now waivers.now conn marker.now) }
+{
+    let user = enter(policy, conn, Operation::Sign, Object::Desk)?;
+    let checked = findings(run.phase())?;
+    let named = shown(policy, conn, checked, marker)?;
+    is_apart(checked, waivers, &named, &user)?;
+    Ok(ByUser {
+        place: named.place,
+        user,
+    })
+}
+
+/// The lines of the waivers of what a finished run found, as far as the session sees the markers in full.
+fn listed(
+    alloc: Global,
+    policy: &Policy,
+    conn: u32,
+    checked: &Checked,
+    waivers: &Waivers,
+) -> Result<Lines, AllocError>
+    ensures { IfOk result (λ lines. lines ≡ map stored (row.waiver_lines policy.now conn checked.now waivers.now)) }
+{
+    let snapshot = checked.planned.snapshot();
+    let seen = seen_by(alloc, policy, conn, snapshot.shelf().submissions())?;
+    let rules = snapshot.deck().rules().as_slice();
+    let lines = waiver_lines(alloc, rules, &seen, checked.book.as_slice(), waivers)?;
+    Lines::from_vec(alloc, lines)
+}
+
+/// The lines of `waivers`: a look-up for each submission on the run's shelf, and a pass over the book.
+#[tactic(auto, unfolding(crate::specs::SigningOff::waivers_told))]
+pub(crate) fn waivers(
+    alloc: Global,
+    policy: &Policy,
+    run: &Run,
+    waivers: &Waivers,
+    conn: u32,
+) -> Result<Lines, Fault>
+    ensures { Answers (λ lines. lines) result (row.waivers_told policy.now run.now waivers.now conn) }
+{
+    session(policy, conn)?;
+    let checked = findings(run.phase())?;
+    Ok(listed(alloc, policy, conn, checked, waivers)?)
+}
+
+/// The line of a verdict.
+fn verdict_line(present: bool, waivers: &Waivers) -> Line
+    ensures { result ≡ row.verdict_line present (unsigned waivers.now) }
+{
+    if !present {
+        return Line::Stale;
+    }
+    match waivers.unsigned() {
+        0 => Line::Clean,
+        number => Line::Open(number),
+    }
+}
+
+/// One line.
+fn one_line(alloc: Global, line: Line) -> Result<Lines, AllocError>
+    ensures { IfOk result (λ lines. lines ≡ stored line ∷ []) }
+{
+    let mut lines = Vec::new(alloc);
+    lines.push(line)?;
+    Lines::from_vec(alloc, lines)
+}
+
+/// The line of `verdict`. Linear in the placings, the rules and the markers.
+#[tactic(auto, unfolding(crate::specs::SigningOff::verdict))]
+pub(crate) fn verdict(
+    alloc: Global,
+    policy: &Policy,
+    wafer: &Wafer,
+    run: &Run,
+    waivers: &Waivers,
+    conn: u32,
+) -> Result<Lines, Fault>
+    ensures { Answers (λ lines. lines) result (row.verdict policy.now wafer.now run.now waivers.now conn) }
+{
+    enter(policy, conn, Operation::Verdict, Object::Desk)?;
+    let checked = findings(run.phase())?;
+    let present = is_present(alloc, wafer, checked.planned.snapshot())?;
+    Ok(one_line(alloc, verdict_line(present, waivers))?)
+}
