@@ -13,10 +13,14 @@ use Rattle.mpw_requests.specs.declared.request.Request.{Request}
 use Rattle.mpw_requests.specs.declared.request.Request.TheVariants as ask
 use Rattle.mpw_requests.specs.declared.policy.PolicyRequest.{PolicyRequest}
 use Rattle.mpw_requests.specs.declared.policy.PolicyRequest.TheVariants.{Open, Close, Activate, DropRole, AddUser, DelUser, AddRole, DelRole, Assign, Deassign, Grant, Revoke, Inherit, Uninherit, Ssd, Dsd, UnSsd, UnDsd}
+use Rattle.mpw_rbac.specs.declared.permission.Object.TheVariants as object
+use Rattle.mpw_rbac.specs.declared.permission.Operation.TheVariants as operation
+use Rattle.mpw_replies.specs.Rows.{permitted}
+use Rattle.mpw_replies.specs.declared.row.Ending.{Ending}
 use Rattle.mpw_core.specs.PolicyRows.{row_of}
 use Rattle.mpw_core.specs.declared.event.Call.{Call}
 use Rattle.mpw_core.specs.History.{state_after}
-use Rattle.mpw_core.specs.Step.{State, Outcome, new_state, left, changed, asked, identity_lines, outcome_of, wanted, unkept, settled, step, after}
+use Rattle.mpw_core.specs.Step.{State, Outcome, new_state, left, changed, asked, audited, identity_lines, outcome_of, wanted, unkept, settled, step, after}
 
 -- every active role is authorized
 keeps-changed : (s : State) (row : Result Policy Refusal) → ((q : Policy) → row ≡ Ok q → active_authorized q ≡ true) → active_authorized s.policy ≡ true → active_authorized (changed s row).state.policy ≡ true
@@ -26,6 +30,10 @@ keeps-changed s (Err r) kept sound = sound
 keeps-asked : (s : State) (row : Result Identity Refusal) → active_authorized s.policy ≡ true → active_authorized (asked s identity_lines row).state.policy ≡ true
 keeps-asked s (Ok q) sound = sound
 keeps-asked s (Err r) sound = sound
+
+keeps-audited : (s : State) (row : Result (Unit {0}) Ending) → active_authorized s.policy ≡ true → active_authorized (audited s row).state.policy ≡ true
+keeps-audited s (Ok allowed) sound = sound
+keeps-audited s (Err ending) sound = sound
 
 keeps-row : (p : Policy) (conn : ℕ) (request : PolicyRequest) (q : Policy) → row_of p conn request ≡ Ok q → active_authorized p ≡ true → active_authorized q ≡ true
 keeps-row p conn (Open user digest) q is sound = law.keeps-open_session conn user digest p q is sound
@@ -53,6 +61,8 @@ keeps-request s conn ask.Whoami sound = keeps-asked s (rows.whoami s.policy conn
 keeps-request s conn (ask.Layout request) sound = sound
 keeps-request s conn (ask.Wafer request) sound = sound
 keeps-request s conn (ask.Run request) sound = sound
+keeps-request s conn (ask.SignOff request) sound = sound
+keeps-request s conn ask.Trail sound = keeps-audited s (permitted s.policy conn operation.Audit object.Desk) sound
 
 keeps-wanted : (s : State) (event : Event) → active_authorized s.policy ≡ true → active_authorized (wanted s event).state.policy ≡ true
 unfolding wanted
@@ -87,6 +97,10 @@ sound-asked : (s : State) (row : Result Identity Refusal) → Sound s.policy →
 sound-asked s (Ok q) sound = sound
 sound-asked s (Err r) sound = sound
 
+sound-audited : (s : State) (row : Result (Unit {0}) Ending) → Sound s.policy → Sound (audited s row).state.policy
+sound-audited s (Ok allowed) sound = sound
+sound-audited s (Err ending) sound = sound
+
 sound-row : (p : Policy) (conn : ℕ) (request : PolicyRequest) (q : Policy) → row_of p conn request ≡ Ok q → Sound p → Sound q
 sound-row p conn (Open user digest) q is sound = law.sound-open_session conn user digest p q is sound
 sound-row p conn Close q is sound = law.sound-close_session conn p q is sound
@@ -113,6 +127,8 @@ sound-request s conn ask.Whoami sound = sound-asked s (rows.whoami s.policy conn
 sound-request s conn (ask.Layout request) sound = sound
 sound-request s conn (ask.Wafer request) sound = sound
 sound-request s conn (ask.Run request) sound = sound
+sound-request s conn (ask.SignOff request) sound = sound
+sound-request s conn ask.Trail sound = sound-audited s (permitted s.policy conn operation.Audit object.Desk) sound
 
 sound-wanted : (s : State) (event : Event) → Sound s.policy → Sound (wanted s event).state.policy
 unfolding wanted

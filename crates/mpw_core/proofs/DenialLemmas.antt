@@ -22,7 +22,14 @@ use Rattle.mpw_core.specs.declared.event.Response.TheVariants as response
 use Rattle.mpw_layouts.specs.Laws.{LayoutsDenyWhatIsLacked}
 use Rattle.mpw_wafer.specs.Laws.{WafersDenyWhatIsLacked}
 use Rattle.mpw_checking.specs.Laws.{RunsDenyWhatIsLacked}
-use Rattle.mpw_core.specs.Step.{State, Outcome, told, changed, asked, identity_lines, outcome_of, wanted, step, response_of}
+use Rattle.mpw_signoff.specs.Laws.{SignOffsDenyWhatIsLacked}
+use Rattle.mpw_replies.specs.Laws.{EnteringDeniesWhatIsLacked}
+use Rattle.mpw_replies.specs.Rows.{denied, ended_by, permitted}
+use Rattle.mpw_replies.specs.declared.row.Ending.{Ending}
+use Rattle.mpw_replies.specs.declared.row.Ending.TheVariants as ending
+use Rattle.mpw_rbac.specs.declared.permission.Object.TheVariants as objects
+use Rattle.mpw_rbac.specs.declared.permission.Operation.TheVariants as operations
+use Rattle.mpw_core.specs.Step.{State, Outcome, told, changed, asked, audited, identity_lines, outcome_of, wanted, step, response_of}
 use Rattle.mpw_core.proofs.RefusalLemmas.{settled-denied}
 
 -- what is told is told alike
@@ -89,13 +96,23 @@ lacks-row p conn (Dsd set) operation object e = law.denies-dsd conn set p operat
 lacks-row p conn (UnSsd name) operation object e = law.denies-unssd conn name p operation object e
 lacks-row p conn (UnDsd name) operation object e = law.denies-undsd conn name p operation object e
 
-module _ (shelves : LayoutsDenyWhatIsLacked) (wafers : WafersDenyWhatIsLacked) (runs : RunsDenyWhatIsLacked) where
+permission-ended : (e : Ending) (operation : Operation) (object : Object) → ended_by e ≡ reply.Denied (denial.Permission operation object) → e ≡ denied operation object
+permission-ended (ending.Denied why) operation object e = cc
+permission-ended (ending.Refused why) operation object e = absurd cc
+
+permission-audited : (s : State) (row : Result (Unit {0}) Ending) (operation : Operation) (object : Object) → (audited s row).response ≡ response.Told (reply.Denied (denial.Permission operation object)) → row ≡ Err (denied operation object)
+permission-audited s (Ok allowed) operation object e = absurd cc
+permission-audited s (Err ending) operation object e = ap (λ x. Err x) (permission-ended ending operation object (inside e))
+
+module _ (shelves : LayoutsDenyWhatIsLacked) (wafers : WafersDenyWhatIsLacked) (runs : RunsDenyWhatIsLacked) (waivers : SignOffsDenyWhatIsLacked) (entering : EnteringDeniesWhatIsLacked) where
   lacks-request : (s : State) (conn : ℕ) (request : Request) (operation : Operation) (object : Object) → (outcome_of s conn request).response ≡ response.Told (reply.Denied (denial.Permission operation object)) → permits s.policy conn operation object ≡ false
   lacks-request s conn (ask.Policy request) operation object e = lacks-row s.policy conn request operation object (permission-changed s (row_of s.policy conn request) operation object e)
   lacks-request s conn ask.Whoami operation object e = absurd (law.denies-whoami s.policy conn operation object (permission-asked s (rows.whoami s.policy conn) operation object e))
   lacks-request s conn (ask.Layout request) operation object e = shelves s.policy s.shelf conn request operation object (inside e)
   lacks-request s conn (ask.Wafer request) operation object e = wafers s.policy s.shelf s.wafer conn request operation object (inside e)
   lacks-request s conn (ask.Run request) operation object e = runs s.policy s.shelf s.wafer s.run conn request operation object (inside e)
+  lacks-request s conn (ask.SignOff request) operation object e = waivers s.policy s.wafer s.run s.waivers conn request operation object (inside e)
+  lacks-request s conn ask.Trail operation object e = entering s.policy conn operations.Audit operation objects.Desk object (permission-audited s (permitted s.policy conn operations.Audit objects.Desk) operation object e)
 
   pub lacks-permission : (s : State) (conn : ℕ) (request : Request) (kept : Bool) (operation : Operation) (object : Object) → response_of s (event.Ask conn request) kept ≡ response.Told (reply.Denied (denial.Permission operation object)) → permits s.policy conn operation object ≡ false
   unfolding step wanted

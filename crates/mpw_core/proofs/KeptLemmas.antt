@@ -6,6 +6,10 @@ use Rattle.mpw_rbac.specs.declared.session.Identity.{Identity}
 use Rattle.mpw_rbac.specs.Existing.{IsKept, KeepsTables}
 use Rattle.mpw_rbac.specs.Policy.{Policy, new_policy}
 use Rattle.mpw_rbac.specs.Rows as rows
+use Rattle.mpw_rbac.specs.declared.permission.Object.TheVariants as object
+use Rattle.mpw_rbac.specs.declared.permission.Operation.TheVariants as operation
+use Rattle.mpw_replies.specs.Rows.{permitted}
+use Rattle.mpw_replies.specs.declared.row.Ending.{Ending}
 use Rattle.mpw_requests.specs.declared.policy.PolicyRequest.{PolicyRequest}
 use Rattle.mpw_requests.specs.declared.request.Request.{Request}
 use Rattle.mpw_requests.specs.declared.request.Request.TheVariants as ask
@@ -14,7 +18,7 @@ use Rattle.mpw_core.specs.declared.event.Event.{Event}
 use Rattle.mpw_core.specs.declared.event.Event.TheVariants as event
 use Rattle.mpw_core.specs.History.{state_after}
 use Rattle.mpw_core.specs.PolicyRows.{row_of}
-use Rattle.mpw_core.specs.Step.{State, Outcome, new_state, left, changed, asked, identity_lines, outcome_of, wanted, unkept, settled, step, after}
+use Rattle.mpw_core.specs.Step.{State, Outcome, new_state, left, changed, asked, audited, identity_lines, outcome_of, wanted, unkept, settled, step, after}
 
 kept-changed : (s : State) (row : Result Policy Refusal) → ((q : Policy) → row ≡ Ok q → IsKept q) → IsKept s.policy → IsKept (changed s row).state.policy
 kept-changed s (Ok q) each kept = each q refl
@@ -23,6 +27,10 @@ kept-changed s (Err r) each kept = kept
 kept-asked : (s : State) (row : Result Identity Refusal) → IsKept s.policy → IsKept (asked s identity_lines row).state.policy
 kept-asked s (Ok q) kept = kept
 kept-asked s (Err r) kept = kept
+
+kept-audited : (s : State) (row : Result (Unit {0}) Ending) → IsKept s.policy → IsKept (audited s row).state.policy
+kept-audited s (Ok allowed) kept = kept
+kept-audited s (Err ending) kept = kept
 
 module _
     (row_keeps : (conn : ℕ) (request : PolicyRequest) → KeepsTables (λ p. row_of p conn request))
@@ -35,6 +43,8 @@ module _
     kept-request s conn (ask.Layout request) kept = kept
     kept-request s conn (ask.Wafer request) kept = kept
     kept-request s conn (ask.Run request) kept = kept
+    kept-request s conn (ask.SignOff request) kept = kept
+    kept-request s conn ask.Trail kept = kept-audited s (permitted s.policy conn operation.Audit object.Desk) kept
 
     kept-wanted : (s : State) (event : Event) → IsKept s.policy → IsKept (wanted s event).state.policy
     unfolding wanted

@@ -13,3 +13,6 @@ mod RunLemmas
 mod PlacingLemmas
 mod ReadyLemmas
 mod SettlingLemmas
+mod TrailLemmas
+mod PlaceLemmas
+mod WaiverLemmas

@@ -12,7 +12,10 @@ use Rattle.mpw_requests.specs.declared.layouts.LayoutRequest.{LayoutRequest}
 use Rattle.mpw_requests.specs.declared.layouts.LayoutRequest.TheVariants.{Submit, Cells, Shapes}
 use Rattle.mpw_requests.specs.declared.request.Request.{Request}
 use Rattle.mpw_requests.specs.declared.request.Request.TheVariants as ask
+use Rattle.mpw_rbac.specs.declared.permission.Object.TheVariants as object
+use Rattle.mpw_rbac.specs.declared.permission.Operation.TheVariants as operation
 use Rattle.mpw_replies.specs.Listing.{Listed}
+use Rattle.mpw_replies.specs.Rows.{permitted}
 use Rattle.mpw_replies.specs.declared.row.Ending.{Ending}
 use Rattle.mpw_layouts.specs.Layouts as layouts
 use Rattle.mpw_wafer.specs.Laws.{ChangesKeepPlacings}
@@ -21,7 +24,7 @@ use Rattle.mpw_core.specs.declared.event.Call.{Call}
 use Rattle.mpw_core.specs.declared.event.Event.{Event}
 use Rattle.mpw_core.specs.declared.event.Event.TheVariants as event
 use Rattle.mpw_core.specs.History.{state_after}
-use Rattle.mpw_core.specs.Step.{State, Outcome, new_state, left, changed, asked, identity_lines, outcome_of, wanted, unkept, settled, step, after}
+use Rattle.mpw_core.specs.Step.{State, Outcome, new_state, left, changed, asked, audited, identity_lines, outcome_of, wanted, unkept, settled, step, after}
 
 abbrev Placed : State → Type 0
 Placed s = ArePlacings s.shelf s.wafer.placings
@@ -33,6 +36,10 @@ placed-changed s (Err r) placed = placed
 placed-asked : (s : State) (row : Result Identity Refusal) → Placed s → Placed (asked s identity_lines row).state
 placed-asked s (Ok q) placed = placed
 placed-asked s (Err r) placed = placed
+
+placed-audited : (s : State) (row : Result (Unit {0}) Ending) → Placed s → Placed (audited s row).state
+placed-audited s (Ok allowed) placed = placed
+placed-audited s (Err ending) placed = placed
 
 placed-settled : (s : State) (event : Event) (was : Bool) (outcome : Outcome) → Placed s → Placed outcome.state → Placed (settled s event was outcome).state
 placed-settled s event was outcome before now =
@@ -58,6 +65,8 @@ module _ (none_are : NoneArePlacings) (later_keep : LaterShelvesKeep) (changes_k
   placed-request s conn (ask.Layout request) placed = placed-layout s conn request placed
   placed-request s conn (ask.Wafer request) placed = changes_keep s.policy s.shelf s.wafer conn request placed
   placed-request s conn (ask.Run request) placed = placed
+  placed-request s conn (ask.SignOff request) placed = placed
+  placed-request s conn ask.Trail placed = placed-audited s (permitted s.policy conn operation.Audit object.Desk) placed
 
   placed-wanted : (s : State) (event : Event) → Placed s → Placed (wanted s event).state
   unfolding wanted

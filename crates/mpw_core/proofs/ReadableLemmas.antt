@@ -1,6 +1,6 @@
 -- Which lines a request's reply has.
 use Rattle.std.proofs.Common.{◌≡◌, ℕ, Bool, List, [], ◌∷◌, ◌++◌, map, Option, Some, None, Result, Ok, Err, arith, sym, ap, subst, ◌∙◌}
-use Rattle.std.specs.Prelude.{All}
+use Rattle.std.specs.Prelude.{All, ◌+◌}
 use Rattle.std.proofs.lemmas.List.Elements.{All-cons, All-append}
 use Rattle.std.proofs.lemmas.List.{map-append}
 use Rattle.mpw_rbac.specs.declared.refusal.Refusal.TheVariants as refusal
@@ -18,11 +18,16 @@ use Rattle.mpw_placings.specs.declared.placement.Placement.{Placement}
 use Rattle.mpw_placings.specs.Placements.{version_at}
 use Rattle.mpw_layouts.specs.Laws.{LayoutsAreOfReadable}
 use Rattle.mpw_checking.specs.Laws.{MarkersAreOfReadable}
+use Rattle.mpw_signoff.specs.Laws.{SignOffLinesAreOfReadable}
+use Rattle.mpw_replies.specs.Trail.{numbered_entries}
+use Rattle.mpw_replies.specs.declared.entry.Entry.{Entry}
+use Rattle.mpw_rbac.specs.declared.permission.Object.TheVariants as object
+use Rattle.mpw_rbac.specs.declared.permission.Operation.TheVariants as operation
 use Rattle.mpw_wafer.specs.declared.wafer.Wafer.{Wafer}
 use Rattle.mpw_wafer.specs.Wafers as wafers
-use Rattle.mpw_replies.specs.Listing.{Listed, stored}
+use Rattle.mpw_replies.specs.Listing.{Listed, stored, entry}
 use Rattle.mpw_replies.specs.Readable.{IsOfReadable}
-use Rattle.mpw_replies.specs.Rows.{IsNegative, ended_by}
+use Rattle.mpw_replies.specs.Rows.{IsNegative, ended_by, permitted}
 use Rattle.mpw_replies.specs.declared.row.Ending.{Ending}
 use Rattle.mpw_replies.specs.declared.row.Ending.TheVariants as ending
 use Rattle.mpw_replies.specs.declared.reply.Line.{Line}
@@ -32,7 +37,7 @@ use Rattle.mpw_replies.specs.declared.reply.Reply.TheVariants as reply
 use Rattle.mpw_core.specs.declared.event.Event.TheVariants as event
 use Rattle.mpw_core.specs.declared.event.Response.TheVariants as response
 use Rattle.mpw_core.specs.PolicyRows.{row_of}
-use Rattle.mpw_core.specs.Step.{State, Outcome, told, changed, asked, identity_lines, outcome_of, wanted, step, response_of}
+use Rattle.mpw_core.specs.Step.{State, Outcome, told, changed, asked, audited, identity_lines, outcome_of, wanted, step, response_of}
 use Rattle.mpw_core.proofs.DenialLemmas.{inside}
 use Rattle.mpw_core.proofs.RefusalLemmas.{settled-ok}
 
@@ -57,7 +62,7 @@ told_refusal refusal.Known = tt
 told_refusal refusal.Used = tt
 told_refusal refusal.Full = tt
 
-ended_negative : (e : Ending) → IsNegative (ended_by e)
+pub ended_negative : (e : Ending) → IsNegative (ended_by e)
 ended_negative (ending.Denied why) = tt
 ended_negative (ending.Refused why) = tt
 
@@ -114,13 +119,24 @@ of_wafer s conn (wafer.Place cell label placing) lines e = of_placed s.policy co
 of_wafer s conn (wafer.Unplace cell label) lines e = of_unplaced s.policy conn s.wafer (wafers.unplaced s.policy s.wafer.placings conn cell label) lines e
 of_wafer s conn (wafer.Deck text) lines e = of_decked s.policy conn s.wafer (wafers.decked s.policy conn text) lines e
 
-module _ (layouts_are : LayoutsAreOfReadable) (markers_are : MarkersAreOfReadable) where
+of_entries : (policy : Policy) (conn number : ℕ) (entries : List Entry) → All (IsOfReadable policy conn) (numbered_entries number entries)
+unfolding numbered_entries
+of_entries policy conn number [] = no_lines policy conn
+of_entries policy conn number (e ∷ entries) = All-cons (IsOfReadable policy conn) (entry number e) _ tt (of_entries policy conn (number + 1) entries)
+
+of_audited : (s : State) (conn : ℕ) (row : Result (Unit {0}) Ending) (lines : List Listed) → (audited s row).response ≡ response.Told (reply.Ok lines) → All (IsOfReadable s.policy conn) lines
+of_audited s conn (Ok allowed) lines e = let same : numbered_entries 1 s.trail ≡ lines = cc in subst (All (IsOfReadable s.policy conn)) same (of_entries s.policy conn 1 s.trail)
+of_audited s conn (Err ending) lines e = absurd (never_ok (ended_by ending) (ended_negative ending) lines (inside e))
+
+module _ (layouts_are : LayoutsAreOfReadable) (markers_are : MarkersAreOfReadable) (waivers_are : SignOffLinesAreOfReadable) where
   of_request : (s : State) (conn : ℕ) (request : Request) (lines : List Listed) → (outcome_of s conn request).response ≡ response.Told (reply.Ok lines) → All (IsOfReadable s.policy conn) lines
   of_request s conn (ask.Policy request) lines e = of_changed s.policy conn s (row_of s.policy conn request) lines e
   of_request s conn ask.Whoami lines e = of_identity s.policy conn s (rows.whoami s.policy conn) lines e
   of_request s conn (ask.Layout request) lines e = layouts_are s.policy s.shelf conn request lines (inside e)
   of_request s conn (ask.Wafer request) lines e = of_wafer s conn request lines (inside e)
   of_request s conn (ask.Run request) lines e = markers_are s.policy s.shelf s.wafer s.run conn request lines (inside e)
+  of_request s conn (ask.SignOff request) lines e = waivers_are s.policy s.wafer s.run s.waivers conn request lines (inside e)
+  of_request s conn ask.Trail lines e = of_audited s conn (permitted s.policy conn operation.Audit object.Desk) lines e
 
   pub readable-lines : (s : State) (conn : ℕ) (request : Request) (kept : Bool) (lines : List Listed) → response_of s (event.Ask conn request) kept ≡ response.Told (reply.Ok lines) → All (IsOfReadable s.policy conn) lines
   unfolding step wanted

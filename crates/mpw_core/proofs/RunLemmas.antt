@@ -1,5 +1,5 @@
 -- What the run's events leave, and how many runs were accepted.
-use Rattle.std.proofs.Common.{◌≡◌, ℕ, Bool, true, false, cond, List, [], ◌∷◌, length, Option, Some, None, Result, Ok, Err, refl, sym, ap, subst, ◌∙◌, arith}
+use Rattle.std.proofs.Common.{◌≡◌, ℕ, Bool, true, false, cond, List, [], ◌∷◌, length, Option, Some, None, Result, Ok, Err, refl, sym, ap, subst, ◌∙◌, arith, true≢false}
 use Rattle.std.specs.Prelude.{◌==◌, ◌≤◌, ◌+◌, ◌&&◌, not, slice_get, slice_set, if◌then◌else◌, nat_lt}
 use Rattle.mpw_tiles.specs.Plan.{tiles}
 use Rattle.mpw_markers.specs.declared.marker.Marker.{Marker}
@@ -11,12 +11,19 @@ use Rattle.mpw_rbac.specs.Rows as rows
 use Rattle.mpw_run.specs.declared.phase.Phase.{Phase}
 use Rattle.mpw_run.specs.declared.phase.Phase.TheVariants.{Idle, Cutting, Checking, Finished}
 use Rattle.mpw_run.specs.declared.phase.RunReply.{RunReply}
+use Rattle.mpw_run.specs.declared.phase.RunReply.TheVariants as reply
 use Rattle.mpw_run.specs.Run.{Tile, Checks, answered}
 use Rattle.mpw_run.specs.Same.{same_snapshot, same_task}
 use Rattle.mpw_run.specs.Step.{Run, Offer, Outcome as RunOutcome, answered_by, next_from, handed, taken_in, taken, cut_in, cut_answered, kept, tile_task, tile_compared, tile_checked, tile_in, tile_answered}
 use Rattle.mpw_run.specs.Laws.{Event as RunEvent, leaves, UnkeptLeavesTheRun}
 use Rattle.mpw_run.specs.Laws as law
 use Rattle.mpw_checking.specs.Laws.{NumbersAreCounted}
+use Rattle.mpw_rbac.specs.declared.permission.Object.TheVariants as object
+use Rattle.mpw_rbac.specs.declared.permission.Operation.TheVariants as operation
+use Rattle.mpw_replies.specs.Rows.{permitted}
+use Rattle.mpw_replies.specs.declared.row.Ending.{Ending}
+use Rattle.mpw_waiver.specs.Waivers.{none_asked}
+use Rattle.mpw_waiver.specs.declared.waiver.Waiver.{Waiver}
 use Rattle.mpw_requests.specs.declared.request.Request.{Request}
 use Rattle.mpw_requests.specs.declared.request.Request.TheVariants as ask
 use Rattle.mpw_core.specs.Answer.{run_response}
@@ -26,7 +33,7 @@ use Rattle.mpw_core.specs.declared.event.Event.{Event}
 use Rattle.mpw_core.specs.declared.event.Event.TheVariants as event
 use Rattle.mpw_core.specs.declared.event.Response.TheVariants as response
 use Rattle.mpw_core.specs.History.{state_after}
-use Rattle.mpw_core.specs.Step.{State, Outcome, new_state, left, changed, asked, identity_lines, outcome_of, wanted, unkept, settled, step, response_of, after}
+use Rattle.mpw_core.specs.Step.{State, Outcome, new_state, left, changed, asked, audited, identity_lines, outcome_of, wanted, unkept, settled, finishes, of_run, step, response_of, after}
 use Rattle.mpw_core.proofs.RefusalLemmas.{settled-run}
 
 -- ---- what is not kept leaves the state
@@ -42,6 +49,10 @@ asked-told : (s : State) (row : Result Identity Refusal) (r : RunReply) → (ask
 asked-told s (Ok who) r e = cc
 asked-told s (Err why) r e = cc
 
+audited-told : (s : State) (row : Result (Unit {0}) Ending) (r : RunReply) → (audited s row).response ≡ run_response r → ⊥
+audited-told s (Ok allowed) r e = cc
+audited-told s (Err ending) r e = cc
+
 -- a request is told a reply of its own
 request-told : (s : State) (conn : ℕ) (request : Request) (r : RunReply) → (outcome_of s conn request).response ≡ run_response r → ⊥
 request-told s conn (ask.Policy request) r e = changed-told s (row_of s.policy conn request) r e
@@ -49,6 +60,18 @@ request-told s conn ask.Whoami r e = asked-told s (rows.whoami s.policy conn) r 
 request-told s conn (ask.Layout request) r e = cc
 request-told s conn (ask.Wafer request) r e = cc
 request-told s conn (ask.Run request) r e = cc
+request-told s conn (ask.SignOff request) r e = cc
+request-told s conn ask.Trail r e = audited-told s (permitted s.policy conn operation.Audit object.Desk) r e
+
+-- what is not kept finishes no run
+leaving-goes-on : (r : RunReply) → leaves r ≡ true → finishes r ≡ false
+leaving-goes-on (reply.Taken job) is = refl
+leaving-goes-on reply.NoJob is = refl
+leaving-goes-on reply.Kept is = refl
+leaving-goes-on reply.Finished is = absurd (true≢false (sym is))
+leaving-goes-on reply.Stranger is = refl
+leaving-goes-on reply.Double is = refl
+leaving-goes-on reply.OldRun is = refl
 
 gone-told : (r : RunReply) → response.Gone ≡ run_response r → ⊥
 gone-told r e = cc
@@ -57,10 +80,11 @@ restart-told : (r : RunReply) → response.Restarted ≡ run_response r → ⊥
 restart-told r e = cc
 
 module _ (unkept_leaves : UnkeptLeavesTheRun) where
-  leaves-run : (s : State) (e : RunEvent) (r : RunReply) → leaves r ≡ true → (o : RunOutcome) → o ≡ law.step s.run e → run_response o.reply ≡ run_response r → record s { run = o.run } ≡ s
+  leaves-run : (s : State) (e : RunEvent) (r : RunReply) → leaves r ≡ true → (o : RunOutcome) → o ≡ law.step s.run e → run_response o.reply ≡ run_response r → (of_run s o).state ≡ s
   leaves-run s e r is o same told =
       let leaving : leaves (law.step s.run e).reply ≡ true = ap (λ (o : RunOutcome). leaves o.reply) (sym same) ∙ ap leaves (same-reply told) ∙ is in
-      ap (λ (run : Run). record s { run = run }) (ap (λ (o : RunOutcome). o.run) same ∙ unkept_leaves s.run e leaving)
+      let unfinished : finishes o.reply ≡ false = leaving-goes-on o.reply (ap leaves (same-reply told) ∙ is) in
+      rw unfinished (ap (λ (run : Run). record s { run = run }) (ap (λ (o : RunOutcome). o.run) same ∙ unkept_leaves s.run e leaving))
 
   leaves-wanted : (s : State) (event : Event) (r : RunReply) → leaves r ≡ true → (wanted s event).response ≡ run_response r → (wanted s event).state ≡ s
   unfolding wanted
@@ -71,7 +95,7 @@ module _ (unkept_leaves : UnkeptLeavesTheRun) where
   leaves-wanted s (event.Tile answer) r is e = leaves-run s (RunEvent.tile answer) r is (tile_answered s.run answer) refl e
   leaves-wanted s event.Restart r is e = absurd (restart-told r e)
 
-  pub unkept-leaves : (s : State) (event : Event) (kept : Bool) (r : RunReply) → leaves r ≡ true → response_of s event kept ≡ run_response r → after s event kept ≡ s
+  pub unkept-leaves : (s : State) (event : Event) (kept : Bool) (r : RunReply) → leaves r ≡ true → response_of s event kept ≡ run_response r → (step s event kept).state ≡ s
   unfolding step
   unkept-leaves s event kept r is e =
       let same = settled-run s event kept (wanted s event) r e in
@@ -134,12 +158,18 @@ module _ (counted : NumbersAreCounted) where
   count-asked s (Ok q) = same-counts s.run.number s.run.number refl
   count-asked s (Err r) = same-counts s.run.number s.run.number refl
 
+  count-audited : (s : State) (row : Result (Unit {0}) Ending) → (audited s row).state.run.number ≤ s.run.number + 1
+  count-audited s (Ok allowed) = same-counts s.run.number s.run.number refl
+  count-audited s (Err ending) = same-counts s.run.number s.run.number refl
+
   count-request : (s : State) (conn : ℕ) (request : Request) → (outcome_of s conn request).state.run.number ≤ s.run.number + 1
   count-request s conn (ask.Policy request) = count-changed s (row_of s.policy conn request)
   count-request s conn ask.Whoami = count-asked s (rows.whoami s.policy conn)
   count-request s conn (ask.Layout request) = same-counts s.run.number s.run.number refl
   count-request s conn (ask.Wafer request) = same-counts s.run.number s.run.number refl
   count-request s conn (ask.Run request) = counted s.policy s.shelf s.wafer s.run conn request
+  count-request s conn (ask.SignOff request) = same-counts s.run.number s.run.number refl
+  count-request s conn ask.Trail = count-audited s (permitted s.policy conn operation.Audit object.Desk)
 
   count-wanted : (s : State) (event : Event) → (wanted s event).state.run.number ≤ s.run.number + 1
   unfolding wanted

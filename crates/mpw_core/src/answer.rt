@@ -4,29 +4,38 @@ ghost use Rattle.mpw_rbac.specs.Policy.{Policy as PolicyState};
 ghost use Rattle.mpw_rbac.specs.Rows as rows;
 ghost use Rattle.mpw_rbac.specs.Rows.{IsFaultOf};
 ghost use Rattle.mpw_rbac.specs.declared.refusal.Refusal.{Refusal as PolicyRefusal};
+ghost use Rattle.mpw_rbac.specs.declared.permission.Object.TheVariants.{Desk};
+ghost use Rattle.mpw_rbac.specs.declared.permission.Operation.TheVariants.{Audit};
 ghost use Rattle.mpw_checking.specs.Checking as checking;
 ghost use Rattle.mpw_layouts.specs.Layouts as layouts;
 ghost use Rattle.mpw_run.specs.Prepared.{IsPrepared};
 ghost use Rattle.mpw_run.specs.Step.{Outcome as RunOutcome};
 ghost use Rattle.mpw_wafer.specs.Wafers as wafers;
 ghost use Rattle.mpw_replies.specs.Listing.{stored};
-ghost use Rattle.mpw_core.specs.Answer.{IsRefusal, IsReady, Gives, moved, open_state, run_response};
+ghost use Rattle.mpw_replies.specs.Rows.{permitted};
+ghost use Rattle.mpw_replies.specs.Trail.{trail_lines};
+ghost use Rattle.mpw_signoff.specs.SigningOff as signing;
+ghost use Rattle.mpw_core.specs.Answer.{IsRefusal, IsReady, Gives, moved, open_state, places_for, run_response};
 ghost use Rattle.mpw_core.specs.History.{restarts};
 ghost use Rattle.mpw_core.specs.PolicyRows.{row_of};
-ghost use Rattle.mpw_core.specs.Step.{State, told, changed, asked, finishes, of_run, over_run, over_shelf, over_wafer, wanted, parted, outcome_of, identity_lines};
+ghost use Rattle.mpw_core.specs.Step.{State, told, changed, asked, audited, finishes, of_run, over_run, over_shelf, over_wafer, over_waivers, wanted, parted, outcome_of, identity_lines};
 
 use crate::policy::make;
 use crate::tables::Tables;
 use crate::{Event, Response, SharedRunReply};
 use mpw_checking::{NextRun, RunAnswer};
-use mpw_geom::Names;
+use mpw_geom::Name;
 use mpw_hier::Shelf;
 use mpw_layouts::LayoutAnswer;
-use mpw_rbac::{Identity, Policy, PolicyFault, Refusal};
-use mpw_replies::{Code, Denial, Line, Lines, Reply};
-use mpw_requests::{LayoutRequest, PolicyRequest, Request, RunRequest, WaferRequest};
-use mpw_run::{Prepared, RunReply};
+use mpw_rbac::{Identity, Object, Operation, Policy, PolicyFault, Refusal};
+use mpw_replies::{Code, Denial, Fault, Line, Lines, Reply, Trail, enter};
+use mpw_requests::{
+    LayoutRequest, PolicyRequest, Request, RunRequest, SignOffRequest, WaferRequest,
+};
+use mpw_run::{Prepared, Run, RunReply};
+use mpw_signoff::{NextWaivers, SignOffAnswer};
 use mpw_wafer::{Wafer, WaferAnswer};
+use mpw_waiver::Waivers;
 use std::alloc::{AllocError, Global};
 
 /// What moves in where an event is answered.
@@ -36,12 +45,18 @@ pub(crate) enum Next {
     NextPolicy(Policy),
     NextShelf(Shelf),
     NextWafer(Wafer),
-    /// What was prepared for the run, and has to be kept.
-    Change(Prepared),
+    /// A run begins, and the waivers of the one before go.
+    Start(Prepared),
+    /// The run is finished, with a place for a waiver of each of its markers.
+    Finish(Prepared, Waivers),
     /// What was prepared for the run, of which nothing has to be kept.
     Move(Prepared),
     /// The run is left, which takes no memory.
     Cancel,
+    /// The user asks for a waiver of the marker at a place, which takes no memory.
+    Ask(usize, Name),
+    /// The user signs the waiver of the marker at a place, which takes no memory.
+    Sign(usize, Name),
     /// All sessions end, and a run that is checked goes back to where it is cut, which takes no memory.
     Restart,
 }
@@ -213,6 +228,7 @@ fn checking(
         shelf,
         wafer,
         run,
+        ..
     } = tables;
     let RunAnswer { reply, next } = mpw_checking::answer_request(
         alloc, policy, shelf, wafer, run, conn, request,
@@ -225,12 +241,73 @@ fn checking(
         }),
         NextRun::Start(prepared) => Ok(Answer {
             response,
-            next: Next::Change(prepared),
+            next: Next::Start(prepared),
         }),
         NextRun::Cancel => Ok(Answer {
             response,
             next: Next::Cancel,
         }),
+    }
+}
+
+/// Answers a request over the waivers.
+fn sign_off(
+    alloc: Global,
+    tables: &Tables,
+    conn: u32,
+    request: &SignOffRequest,
+) -> Result<Answer, AllocError>
+    ensures { IfOk result (λ answer. Gives (open_state tables.now) (over_waivers (open_state tables.now) (signing.outcome_of tables.now.policy tables.now.wafer tables.now.run tables.now.waivers conn request.now)) answer.response answer.next) }
+{
+    let Tables {
+        policy,
+        wafer,
+        run,
+        waivers,
+        ..
+    } = tables;
+    let SignOffAnswer { reply, next } = mpw_signoff::answer_request(
+        alloc, policy, wafer, run, waivers, conn, request,
+    )?;
+    let response = Response::Told(reply);
+    match next {
+        NextWaivers::Same => Ok(Answer {
+            response,
+            next: Next::Nothing,
+        }),
+        NextWaivers::Ask { place, asker } => Ok(Answer {
+            response,
+            next: Next::Ask(place, asker),
+        }),
+        NextWaivers::Sign { place, signer } => Ok(Answer {
+            response,
+            next: Next::Sign(place, signer),
+        }),
+    }
+}
+
+/// The lines of the trail.
+fn trail_lines(alloc: Global, trail: &Trail) -> Result<Lines, AllocError>
+    ensures { IfOk result (λ lines. lines ≡ trail_lines trail.now.entries) }
+{
+    let trail = trail.copy(alloc)?;
+    Lines::of_trail(alloc, trail)
+}
+
+/// Answers `trail`: a count for each 1024 requests so far, and for each of the last ones.
+fn trail(alloc: Global, tables: &Tables, conn: u32) -> Result<Answer, AllocError>
+    ensures { IfOk result (λ answer. Gives (open_state tables.now) (audited (open_state tables.now) (permitted tables.now.policy conn Audit Desk)) answer.response answer.next) }
+{
+    match enter(&tables.policy, conn, Operation::Audit, Object::Desk) {
+        Ok(_user) => Ok(Answer {
+            response: Response::Told(Reply::Ok(trail_lines(alloc, &tables.trail)?)),
+            next: Next::Nothing,
+        }),
+        Err(Fault::Told(ending)) => Ok(Answer {
+            response: Response::Told(ending.reply()),
+            next: Next::Nothing,
+        }),
+        Err(Fault::Memory) => Err(AllocError),
     }
 }
 
@@ -245,6 +322,8 @@ fn ask(alloc: Global, tables: &Tables, conn: u32, request: &Request) -> Result<A
         Request::Layout(request) => layout(alloc, tables, conn, request),
         Request::Wafer(request) => wafer(alloc, tables, conn, request),
         Request::Run(request) => checking(alloc, tables, conn, request),
+        Request::SignOff(request) => sign_off(alloc, tables, conn, request),
+        Request::Trail => trail(alloc, tables, conn),
     }
 }
 
@@ -284,28 +363,61 @@ fn finishes(reply: &RunReply) -> bool
     matches!(reply, RunReply::Finished)
 }
 
-/// What moves in of what was prepared for the run: what finishes the run has to be kept.
-fn moved(prepared: Prepared) -> Next
-    ensures { result ≡ moved prepared }
+/// Places for the waivers of a run that the prepared change finishes. One allocation.
+///
+/// # Errors
+/// Where there is no room for them.
+fn places_for(alloc: Global, run: &Run, prepared: &Prepared) -> Result<Option<Waivers>, AllocError>
+    ensures { IfOk result (λ places. places ≡ places_for run.now prepared.now) }
 {
-    if finishes(&prepared.reply) {
-        Next::Change(prepared)
-    } else {
-        Next::Move(prepared)
+    if !finishes(&prepared.reply) {
+        return Ok(None);
     }
+    let size = run.next_size(prepared);
+    Ok(Some(Waivers::new(alloc, size)?))
+}
+
+/// What moves in of what was prepared for the run: what finishes the run has to be kept, and has places for waivers.
+fn moved(prepared: Prepared, places: Option<Waivers>) -> Next
+    ensures { result ≡ moved prepared places }
+{
+    match places {
+        Some(waivers) => Next::Finish(prepared, waivers),
+        None => Next::Move(prepared),
+    }
+}
+
+/// What an event of the run is answered, and the places for waivers of a run that it finishes.
+#[derive(Drop)]
+struct Answered {
+    response: Response,
+    places: Option<Waivers>,
+}
+
+/// What is made aside for an event of the run.
+///
+/// # Errors
+/// Where there is no room for it, or no more copies can be counted.
+fn prepared_answer(alloc: Global, run: &Run, prepared: &Prepared) -> Result<Answered, AllocError>
+    ensures response { IfOk result (λ made. made.response ≡ run_response prepared.now.reply) }
+    ensures places { IfOk result (λ made. made.places ≡ places_for run.now prepared.now) }
+{
+    let places = places_for(alloc, run, prepared)?;
+    let response = run_response(alloc, &prepared.reply)?;
+    Ok(Answered { response, places })
 }
 
 /// The answer to an event of the run.
 ///
 /// # Errors
-/// Where there is no room for the reply's copy, or no more copies can be counted.
-fn of_run(alloc: Global, prepared: Prepared) -> Result<Answer, AllocError>
-    ensures { (state : State) (outcome : RunOutcome) → IsPrepared prepared state.run outcome → IfOk result (λ answer. Gives state (of_run state outcome) answer.response answer.next) }
+/// Where there is no room for the reply's copy or for the waivers' places, or no more copies can be counted.
+fn of_run(alloc: Global, run: &Run, prepared: Prepared) -> Result<Answer, AllocError>
+    ensures { (state : State) (outcome : RunOutcome) → state.run ≡ run.now → IsPrepared prepared state.run outcome → IfOk result (λ answer. Gives state (of_run state outcome) answer.response answer.next) }
 {
-    match run_response(alloc, &prepared.reply) {
-        Ok(response) => Ok(Answer {
-            response,
-            next: moved(prepared),
+    match prepared_answer(alloc, run, &prepared) {
+        Ok(made) => Ok(Answer {
+            response: made.response,
+            next: moved(prepared, made.places),
         }),
         Err(error) => Err(error),
     }
@@ -325,9 +437,17 @@ pub(crate) fn prepare(alloc: Global, tables: &Tables, event: &Event) -> Result<A
     match event {
         Event::Ask { conn, request } => ask(alloc, tables, *conn, request.get()),
         Event::Gone { conn } => gone(&tables.policy, *conn),
-        Event::Take { .. } => of_run(alloc, tables.run.prepare_take(alloc)?),
-        Event::Cut(answer) => of_run(alloc, tables.run.prepare_cut(alloc, answer.get())?),
-        Event::Tile(answer) => of_run(alloc, tables.run.prepare_tile(alloc, answer.get())?),
+        Event::Take { .. } => of_run(alloc, &tables.run, tables.run.prepare_take(alloc)?),
+        Event::Cut(answer) => of_run(
+            alloc,
+            &tables.run,
+            tables.run.prepare_cut(alloc, answer.get())?,
+        ),
+        Event::Tile(answer) => of_run(
+            alloc,
+            &tables.run,
+            tables.run.prepare_tile(alloc, answer.get())?,
+        ),
         Event::Restart => Ok(Answer {
             response: Response::Restarted,
             next: Next::Restart,

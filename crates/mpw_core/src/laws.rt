@@ -1,5 +1,5 @@
 //! Laws of the definitions alone. Each function calls at most the laws that its own rests on: its contract is the law.
-ghost use Rattle.std.specs.Prelude.{◌≡◌, ◌≢◌, ◌≤◌, ℕ, Bool, List, All, length, true, false, None};
+ghost use Rattle.std.specs.Prelude.{◌≡◌, ◌≢◌, ◌≤◌, ◌∷◌, ◌++◌, [], ℕ, Bool, List, All, length, true, false, None};
 ghost use Rattle.mpw_geom.specs.Names.{contains_name};
 ghost use Rattle.mpw_rbac.specs.Policy.{authorized, is_user, permits, session_of};
 ghost use Rattle.mpw_rbac.specs.Rows.{is_login, user_of};
@@ -12,9 +12,19 @@ ghost use Rattle.mpw_requests.specs.declared.policy.PolicyRequest.{PolicyRequest
 ghost use Rattle.mpw_core.specs.Requested.{is_administration, requested};
 ghost use Rattle.mpw_core.specs.History.{state_after, KeptDesk, IsHandled, GoesOnTo};
 ghost use Rattle.mpw_placings.specs.Placements.{ArePlacings};
-ghost use Rattle.mpw_replies.specs.Listing.{Listed};
+ghost use Rattle.mpw_replies.specs.Listing.{Listed, stored};
+ghost use Rattle.mpw_replies.specs.declared.reply.Line.TheVariants as line;
+ghost use Rattle.mpw_job.specs.Jobs.{FoundMarkers};
+ghost use Rattle.mpw_run.specs.Step.{book_size};
+ghost use Rattle.mpw_run.specs.declared.phase.RunReply.TheVariants as told;
+ghost use Rattle.mpw_requests.specs.declared.run.RunRequest.TheVariants as run;
+ghost use Rattle.mpw_requests.specs.declared.sign_off.MarkerName.{MarkerName};
+ghost use Rattle.mpw_requests.specs.declared.sign_off.SignOffRequest.{SignOffRequest as AnySignOffRequest};
+ghost use Rattle.mpw_requests.specs.declared.sign_off.SignOffRequest.TheVariants as sign;
+ghost use Rattle.mpw_signoff.specs.Laws.{IsAsked, IsAsker, IsSigned, IsSignedOff, IsSubmitter};
+ghost use Rattle.mpw_waiver.specs.Waivers.{none_asked};
 ghost use Rattle.mpw_replies.specs.Readable.{IsOfReadable};
-ghost use Rattle.mpw_core.specs.Step.{State, new_state, outcome_of, wanted, unkept, left, step, response_of, after};
+ghost use Rattle.mpw_core.specs.Step.{State, new_state, outcome_of, wanted, unkept, left, step, response_of, entries_of, after};
 ghost use Rattle.mpw_core.specs.declared.event.Event.{Event};
 ghost use Rattle.mpw_core.specs.declared.event.Event.TheVariants as event;
 ghost use Rattle.mpw_core.specs.declared.event.Response.{Response};
@@ -49,7 +59,14 @@ use mpw_rbac::{
     each_request_keeps_the_tables, own_requests_need_no_permission,
     sets_are_told_where_they_are_tested,
 };
+use mpw_replies::entering_denies_what_is_lacked;
 use mpw_run::unkept_leaves_the_run;
+use mpw_signoff::{
+    clean_is_signed_off, denials_of_separation_are_true,
+    denials_over_the_sign_off_name_what_is_lacked, lines_of_the_sign_off_are_of_readable_cells,
+    places_are_left, signers_stand_apart, waivers_are_left_unless_a_request_is_accepted,
+    waivers_are_of_shown_markers,
+};
 use mpw_wafer::{
     changes_of_the_wafer_keep_its_placings, denials_over_the_wafer_name_what_is_lacked,
     wafers_are_left_unless_a_request_is_accepted,
@@ -72,20 +89,22 @@ pub fn unknown_users_are_denied_like_wrong_tokens()
     ensures wrong { (state : State) (conn : ℕ) (user digest : List ℕ) → session_of state.policy conn ≡ None → is_login state.policy user digest ≡ false → (outcome_of state conn (ask.Policy (Request.Open user digest))).response ≡ response.Told (Reply.Denied denial.Login) }
 {}
 
-/// A denial leaves the state as it was, and so does a refusal unless it tells that the change could not be kept.
+/// The step of a denial leaves the state as it was, and so does that of a refusal unless it tells that the change could not be
+/// kept: only the trail has the request.
 pub fn denials_and_refusals_change_nothing()
-    ensures denied { (state : State) (event : Event) (kept : Bool) (why : Denial) → response_of state event kept ≡ response.Told (Reply.Denied why) → after state event kept ≡ state }
-    ensures refused { (state : State) (event : Event) (kept : Bool) (why : Code) → why ≢ code.Store → response_of state event kept ≡ response.Told (Reply.Refused why) → after state event kept ≡ state }
+    ensures denied { (state : State) (event : Event) (kept : Bool) (why : Denial) → response_of state event kept ≡ response.Told (Reply.Denied why) → (step state event kept).state ≡ state }
+    ensures refused { (state : State) (event : Event) (kept : Bool) (why : Code) → why ≢ code.Store → response_of state event kept ≡ response.Told (Reply.Refused why) → (step state event kept).state ≡ state }
 {
     layouts_are_left_unless_a_request_is_accepted();
     wafers_are_left_unless_a_request_is_accepted();
     runs_are_left_unless_a_request_is_accepted();
+    waivers_are_left_unless_a_request_is_accepted();
 }
 
 /// What the run doesn't keep leaves the state as it was: what is told as a stranger's, as double or as of an old run. So does
 /// a call to which no job is handed out.
 pub fn what_is_not_kept_leaves_the_run()
-    ensures { (state : State) (event : Event) (kept : Bool) (reply : AnyRunReply) → leaves reply ≡ true → response_of state event kept ≡ run_response reply → after state event kept ≡ state }
+    ensures { (state : State) (event : Event) (kept : Bool) (reply : AnyRunReply) → leaves reply ≡ true → response_of state event kept ≡ run_response reply → (step state event kept).state ≡ state }
 {
     unkept_leaves_the_run();
 }
@@ -120,6 +139,7 @@ pub fn lines_are_of_readable_cells()
 {
     lines_of_layouts_are_of_readable_cells();
     lines_of_markers_are_of_readable_cells();
+    lines_of_the_sign_off_are_of_readable_cells();
 }
 
 /// A denial of a permission, whatever the request, names one that the connection's session lacks. A denial of an
@@ -131,6 +151,8 @@ pub fn denials_name_what_the_session_lacks()
     denials_of_layouts_name_what_is_lacked();
     denials_over_the_wafer_name_what_is_lacked();
     denials_over_the_run_name_what_is_lacked();
+    denials_over_the_sign_off_name_what_is_lacked();
+    entering_denies_what_is_lacked();
 }
 
 /// In every state that calls lead to, the policy's tables name users and roles that are there, and hold no more than their
@@ -179,4 +201,50 @@ pub fn own_requests_are_never_denied_a_permission()
     ensures { (state : State) (conn : ℕ) (request : AnyPolicyRequest) (kept : Bool) (operation : Operation) (object : Object) → is_administration request ≡ false → response_of state (event.Ask conn (ask.Policy request)) kept ≡ response.Told (Reply.Denied (denial.Permission operation object)) → ⊥ }
 {
     own_requests_need_no_permission();
+}
+
+/// The trail behind an event is that before it and, behind a request, an entry of it: its user, and what its reply says first.
+/// So it has each request that was answered so far, in order, and nothing else.
+pub fn the_trail_has_each_request()
+    ensures { (state : State) (event : Event) (kept : Bool) → (after state event kept).trail ≡ state.trail ++ entries_of state.policy (after state event kept).policy event (response_of state event kept) }
+{}
+
+/// With a run that begins the waivers of the one before are gone, and a run that is finished begins with a place for each of
+/// its markers, and no waiver.
+pub fn waivers_go_with_their_run()
+    ensures begun { (state : State) (conn : ℕ) (kept : Bool) (lines : List Listed) → response_of state (event.Ask conn (ask.Run run.Run)) kept ≡ response.Told (Reply.Ok lines) → (after state (event.Ask conn (ask.Run run.Run)) kept).waivers ≡ [] }
+    ensures finished { (state : State) (answer : FoundMarkers) (kept : Bool) → response_of state (event.Tile answer) kept ≡ run_response told.Finished → (after state (event.Tile answer) kept).waivers ≡ none_asked (book_size (after state (event.Tile answer) kept).run.phase) }
+{}
+
+/// In every state that calls lead to there is a place for a waiver of each marker of a run that is finished, and of no other.
+pub fn every_state_has_a_place_for_each_marker()
+    ensures { (officer digest : List ℕ) (calls : List Call) → length (state_after (new_state officer digest) calls).waivers ≡ book_size (state_after (new_state officer digest) calls).run.phase }
+{
+    places_are_left();
+}
+
+/// A waiver that is asked for or signed is of a marker that is shown in full to the session, and who signs neither asked for it
+/// nor submitted what the marker meets.
+pub fn waivers_are_signed_apart()
+    ensures asked { (state : State) (conn : ℕ) (name : MarkerName) (kept : Bool) (lines : List Listed) → response_of state (event.Ask conn (ask.SignOff (sign.Waive name))) kept ≡ response.Told (Reply.Ok lines) → IsAsked state.policy state.run state.waivers conn name (after state (event.Ask conn (ask.SignOff (sign.Waive name))) kept).waivers }
+    ensures signed { (state : State) (conn : ℕ) (name : MarkerName) (kept : Bool) (lines : List Listed) → response_of state (event.Ask conn (ask.SignOff (sign.Sign name))) kept ≡ response.Told (Reply.Ok lines) → IsSigned state.policy state.run state.waivers conn name (after state (event.Ask conn (ask.SignOff (sign.Sign name))) kept).waivers }
+{
+    signers_stand_apart();
+    waivers_are_of_shown_markers();
+}
+
+/// A user who is denied to sign as a submitter submitted what the marker meets, of the cell that is told and of none lesser; one
+/// who is denied as the asker asked for the waiver.
+pub fn denials_to_sign_are_true()
+    ensures submitter { (state : State) (conn : ℕ) (request : AnySignOffRequest) (kept : Bool) (cell : List ℕ) → response_of state (event.Ask conn (ask.SignOff request)) kept ≡ response.Told (Reply.Denied (denial.Submitter cell)) → (name : MarkerName) × (request ≡ sign.Sign name) × IsSubmitter state.policy state.run conn name cell }
+    ensures asker { (state : State) (conn : ℕ) (request : AnySignOffRequest) (kept : Bool) → response_of state (event.Ask conn (ask.SignOff request)) kept ≡ response.Told (Reply.Denied denial.Asker) → (name : MarkerName) × (request ≡ sign.Sign name) × IsAsker state.policy state.run state.waivers conn name }
+{
+    denials_of_separation_are_true();
+}
+
+/// A run is told to be clean only where deck and placings are those that it looked at, and each of its markers is signed.
+pub fn clean_runs_are_signed_off()
+    ensures { (state : State) (conn : ℕ) (kept : Bool) → response_of state (event.Ask conn (ask.SignOff sign.Verdict)) kept ≡ response.Told (Reply.Ok (stored line.Clean ∷ [])) → IsSignedOff state.wafer state.run state.waivers }
+{
+    clean_is_signed_off();
 }

@@ -1,7 +1,3 @@
-//! (A note to whoever works in this tree: an `Arc` has no value that a definition can build, so what is large in events and
-//! responses is shared by the three types of this file; `event.rt`, `lib.rt`, `Step.antt` and `Keeping.antt` were changed for it.
-//! Use `SharedRunReply::new`, `get`, `copy`. Delete this note.)
-//!
 //! What is large in events and responses, shared by their copies.
 ghost use Rattle.std.specs.Prelude.{◌≡◌, IfOk};
 

@@ -2,14 +2,19 @@
 
 use mpw_hier::Shelf;
 use mpw_rbac::Policy;
+use mpw_replies::Trail;
 use mpw_run::Run;
 use mpw_wafer::Wafer;
+use mpw_waiver::Waivers;
 
-/// What the desk holds: the policy, the shelf of submissions, the wafer, and the run that checks it.
+/// What the desk holds: the policy, the shelf of submissions, the wafer, the run that checks it, the waivers of its markers, and
+/// the trail of requests.
 #[derive(Drop)]
 pub(crate) struct Tables {
     pub(crate) policy: Policy,
     pub(crate) shelf: Shelf,
     pub(crate) wafer: Wafer,
     pub(crate) run: Run,
+    pub(crate) waivers: Waivers,
+    pub(crate) trail: Trail,
 }

@@ -197,6 +197,8 @@ is_begin ask.Whoami = false
 is_begin (ask.Layout request) = false
 is_begin (ask.Wafer request) = false
 is_begin (ask.Run request) = begins request
+is_begin (ask.SignOff request) = false
+is_begin ask.Trail = false
 
 abbrev pub accepts : Reply → Bool
 accepts (reply.Ok lines) = true
