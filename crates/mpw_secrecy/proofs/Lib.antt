@@ -1,0 +1,5 @@
+pub mod Books
+pub mod Cells
+pub mod Listings
+pub mod Names
+pub mod Parts

@@ -1,0 +1,37 @@
+-- The requests that list what a session may know.
+use Rattle.std.specs.Prelude.{Bool, true, false}
+use Rattle.mpw_requests.specs.declared.layouts.LayoutRequest.{LayoutRequest}
+use Rattle.mpw_requests.specs.declared.layouts.LayoutRequest.TheVariants.{Submit, Cells, Shapes}
+use Rattle.mpw_requests.specs.declared.request.Request.{Request}
+use Rattle.mpw_requests.specs.declared.request.Request.TheVariants as ask
+use Rattle.mpw_requests.specs.declared.run.RunRequest.{RunRequest}
+use Rattle.mpw_requests.specs.declared.run.RunRequest.TheVariants.{Run, Cancel, Status, Markers}
+use Rattle.mpw_requests.specs.declared.sign_off.SignOffRequest.{SignOffRequest}
+use Rattle.mpw_requests.specs.declared.sign_off.SignOffRequest.TheVariants.{Waive, Sign, Waivers, Verdict}
+
+abbrev pub is_of_cells : LayoutRequest → Bool
+is_of_cells (Submit cell top text) = false
+is_of_cells Cells = true
+is_of_cells (Shapes cell) = true
+
+abbrev pub is_of_run : RunRequest → Bool
+is_of_run Run = false
+is_of_run Cancel = false
+is_of_run Status = true
+is_of_run Markers = true
+
+abbrev pub lists_waivers : SignOffRequest → Bool
+lists_waivers (Waive marker) = false
+lists_waivers (Sign marker) = false
+lists_waivers Waivers = true
+lists_waivers Verdict = false
+
+-- `whoami`, `cells`, `shapes`, `status`, `markers` and `waivers`.
+abbrev pub is_listing : Request → Bool
+is_listing (ask.Policy request) = false
+is_listing ask.Whoami = true
+is_listing (ask.Layout request) = is_of_cells request
+is_listing (ask.Wafer request) = false
+is_listing (ask.Run request) = is_of_run request
+is_listing (ask.SignOff request) = lists_waivers request
+is_listing ask.Trail = false

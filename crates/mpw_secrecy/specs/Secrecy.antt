@@ -1,0 +1,54 @@
+-- The law of secrecy: what a session is told depends on its view alone.
+use Rattle.std.specs.Prelude.{◌≡◌, ℕ, Bool, true, List, [], ◌∷◌}
+use Rattle.mpw_requests.specs.declared.request.Request.{Request}
+use Rattle.mpw_core.specs.declared.event.Event.TheVariants as event
+use Rattle.mpw_core.specs.declared.event.Response.{Response}
+use Rattle.mpw_core.specs.Step.{State, after, response_of}
+use Rattle.mpw_secrecy.specs.Questions.{is_listing}
+use Rattle.mpw_secrecy.specs.Views.{SameView}
+
+-- ---- one request
+
+-- What is listed of two desks with the same view is the same.
+abbrev pub EqualViewsGiveEqualListings : Type 0
+EqualViewsGiveEqualListings =
+    (conn : ℕ) (a b : State) (request : Request) (kept : Bool)
+    → SameView conn a b → is_listing request ≡ true
+    → response_of a (event.Ask conn request) kept ≡ response_of b (event.Ask conn request) kept
+
+-- Behind it the views are the same again.
+abbrev pub ListingsLeaveTheViews : Type 0
+ListingsLeaveTheViews =
+    (conn : ℕ) (a b : State) (request : Request) (kept : Bool)
+    → SameView conn a b → is_listing request ≡ true
+    → SameView conn (after a (event.Ask conn request) kept) (after b (event.Ask conn request) kept)
+
+-- ---- lists of requests
+
+-- A request, and whether what it changes is kept.
+pub record Asked : Type 0 where
+  pub request : Request
+  pub kept : Bool
+
+-- What a connection's requests are answered, one behind the other.
+abbrev pub answers_to : ℕ → State → List Asked → List Response
+answers_to conn state [] = []
+answers_to conn state (asked ∷ rest) =
+    response_of state (event.Ask conn asked.request) asked.kept ∷ answers_to conn (after state (event.Ask conn asked.request) asked.kept) rest
+
+-- The state that they leave.
+abbrev pub state_behind : ℕ → State → List Asked → State
+state_behind conn state [] = state
+state_behind conn state (asked ∷ rest) = state_behind conn (after state (event.Ask conn asked.request) asked.kept) rest
+
+pub record SameBehind (conn : ℕ) (a b : State) (requests : List Asked) : Type 0 where
+  pub answers : answers_to conn a requests ≡ answers_to conn b requests
+  pub view : SameView conn (state_behind conn a requests) (state_behind conn b requests)
+
+abbrev pub AreListings : List Asked → Type 0
+AreListings [] = Unit {0}
+AreListings (asked ∷ rest) = (is_listing asked.request ≡ true) × AreListings rest
+
+abbrev pub EqualViewsGiveEqualLists : Type 0
+EqualViewsGiveEqualLists =
+    (conn : ℕ) (a b : State) (requests : List Asked) → SameView conn a b → AreListings requests → SameBehind conn a b requests

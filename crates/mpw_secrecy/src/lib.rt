@@ -1,0 +1,16 @@
+//! The law of secrecy: what a session is told of its own listings depends on its view alone.
+//!
+//! The view of a session is what it may know of a desk: who its user is, with the active and the authorized roles; what these may do;
+//! of each cell that it may read the present submission, with the shapes of it that come from cells that it may read; how far the
+//! run is; and of a run that is finished the markers that are shown in full, each with the cells that it meets, those of which the
+//! user submitted what it meets and its waiver, and per rule how many are masked. Two desks of which a connection's sessions
+//! have the same view give the same answers to `whoami`, `cells`, `shapes`, `status`, `markers` and `waivers`, whatever else they
+//! hold, and the views are the same again behind them. Of `waive` and `sign`, which change the view, no law is here yet.
+//!
+//! Two requests tell more than the view, each to those with a permission of its own: `verdict` counts all markers, and `trail` shows
+//! the requests of all users.
+#![tactic(auto)]
+
+mod laws;
+
+pub use laws::equal_views_give_equal_listings;
