@@ -4,6 +4,9 @@ pub mod WritingLemmas
 pub mod ReadingLemmas
 pub mod StoredLemmas
 pub mod PlacementLemmas
+pub mod KeyLemmas
 pub mod AskedLemmas
+mod FieldLemmas
+mod RowLemmas
 mod ReplyLemmas
 mod ListingLemmas

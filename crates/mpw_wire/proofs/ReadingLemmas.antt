@@ -9,7 +9,8 @@ use Rattle.mpw_wire.specs.declared.fault.WireFault.TheVariants.{Read, Write, Mem
 use Rattle.mpw_wire.specs.declared.request.LineAsk.{LineAsk}
 use Rattle.mpw_wire.specs.Reading.{IsUnbroken, Breaks, BreaksLine, BreaksBytes, TakesSome, TakesUpTo, TakesOffer, following}
 use Rattle.mpw_wire.specs.declared.operand.Origin.{Origin}
-use Rattle.mpw_wire.specs.Request.{name_of, names_of, ◌>>=◌}
+use Rattle.mpw_wire.specs.Names.{name_of, ◌>>=◌}
+use Rattle.mpw_wire.specs.Request.{names_of}
 use Rattle.std.proofs.KnownBytes.{Consumes-trans}
 use Rattle.std.specs.Io.KnownBytes.{Consumes}
 

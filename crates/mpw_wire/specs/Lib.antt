@@ -1,9 +1,14 @@
 pub mod Device
 pub mod Digest
+pub mod Keys
+pub mod Names
 pub mod Placement
 pub mod Reading
 pub mod Reply
 pub mod Request
+pub mod Rows
+pub mod Setting
 pub mod Stored
+pub mod Verdict
 pub mod Words
 pub mod Writing

@@ -1,6 +1,6 @@
 -- The text of a request line: its words, and the request that they ask. A line stands on a connection or in a store; both
 -- have the same forms, and differ in how a word is read.
-use Rattle.std.specs.Prelude.{ℕ, Bool, true, false, List, [], ◌∷◌, length, codes, Option, Some, None, option_map, option_and_then, not, ◌==◌, if◌then◌else◌}
+use Rattle.std.specs.Prelude.{ℕ, Bool, true, false, List, [], ◌∷◌, length, codes, Option, Some, None, option_map, not, ◌==◌, if◌then◌else◌}
 use Rattle.sha2.specs.Sha256.{sha256}
 use Rattle.std.specs.Result.{result_ok}
 use Rattle.hex.specs.Hex.{decode_sized}
@@ -14,7 +14,7 @@ use Rattle.mpw_rbac.specs.declared.permission.Operation.TheVariants.{Submit, Use
 use Rattle.mpw_rbac.specs.declared.permission.Object.{Object}
 use Rattle.mpw_rbac.specs.declared.permission.Object.TheVariants.{Cell, Desk}
 use Rattle.mpw_requests.specs.declared.request.Request.{Request}
-use Rattle.mpw_requests.specs.declared.request.Request.TheVariants.{Policy, Whoami, Layout, Wafer}
+use Rattle.mpw_requests.specs.declared.request.Request.TheVariants.{Policy, Whoami, Layout, Wafer, SignOff, Trail}
 use Rattle.mpw_requests.specs.declared.request.Request.TheVariants as group
 use Rattle.mpw_requests.specs.declared.policy.PolicyRequest.{PolicyRequest}
 use Rattle.mpw_requests.specs.declared.policy.PolicyRequest.TheVariants.{Open, Close, Activate, DropRole, AddUser, DelUser, AddRole, DelRole, Assign, Deassign, Grant, Revoke, Inherit, Uninherit, Ssd, Dsd, UnSsd, UnDsd}
@@ -22,25 +22,16 @@ use Rattle.mpw_requests.specs.declared.layouts.LayoutRequest.TheVariants.{Cells,
 use Rattle.mpw_requests.specs.declared.wafer.WaferRequest.{WaferRequest}
 use Rattle.mpw_requests.specs.declared.wafer.WaferRequest.TheVariants as wafer
 use Rattle.mpw_requests.specs.declared.run.RunRequest.TheVariants as run
+use Rattle.mpw_requests.specs.declared.sign_off.SignOffRequest.{SignOffRequest}
+use Rattle.mpw_requests.specs.declared.sign_off.SignOffRequest.TheVariants as sign_off
 use Rattle.mpw_wire.specs.declared.operand.Origin.{Origin}
 use Rattle.mpw_wire.specs.declared.operand.Origin.TheVariants.{Connection, Store}
 use Rattle.mpw_wire.specs.declared.request.LineAsk.{LineAsk}
 use Rattle.mpw_wire.specs.declared.request.LineAsk.TheVariants as ask
 use Rattle.mpw_wire.specs.Placement.{orient_of, coordinate_of}
+use Rattle.mpw_wire.specs.Names.{◌>>=◌, name_of}
+use Rattle.mpw_wire.specs.Keys.{key_of}
 use Rattle.mpw_wire.specs.Words.{words, is_visible_word}
-
-infixl 10 ◌>>=◌
-abbrev pub ◌>>=◌ : {A B : Type 0} → Option A → (A → Option B) → Option B
-option >>= next = option_and_then next option
-
--- the name of these bytes
-unfoldable pub visible_of : List ℕ → Option (List ℕ)
-visible_of word = if is_visible_word word then Some word else None
-
--- the name that a word is; `-` is none on a connection
-unfoldable pub name_of : Origin → List ℕ → Option (List ℕ)
-name_of Connection word = if name_eq word (codes "-") then None else visible_of word
-name_of Store word = visible_of word
 
 -- the digest of the token that a word is
 unfoldable pub token_of : List ℕ → Option (List ℕ)
@@ -166,6 +157,9 @@ bare_request verb =
     else if name_eq verb (codes "cancel") then Some (group.Run run.Cancel)
     else if name_eq verb (codes "status") then Some (group.Run run.Status)
     else if name_eq verb (codes "markers") then Some (group.Run run.Markers)
+    else if name_eq verb (codes "waivers") then Some (SignOff sign_off.Waivers)
+    else if name_eq verb (codes "verdict") then Some (SignOff sign_off.Verdict)
+    else if name_eq verb (codes "trail") then Some Trail
     else None
 
 -- the requests of the policy of a verb and one name
@@ -216,6 +210,9 @@ asked_policy request = asked (option_map Policy request)
 abbrev pub asked_wafer : Option WaferRequest → LineAsk
 asked_wafer request = asked (option_map Wafer request)
 
+abbrev pub asked_sign_off : Option SignOffRequest → LineAsk
+asked_sign_off request = asked (option_map SignOff request)
+
 -- the greatest number of bytes that follow a line
 unfoldable pub max_payload : ℕ
 max_payload = 16777216
@@ -253,6 +250,8 @@ unfoldable pub ask_of_one : Origin → List ℕ → List ℕ → LineAsk
 ask_of_one origin verb word =
     if name_eq verb (codes "shapes") then asked (option_map (λ cell. Layout (Shapes cell)) (name_of origin word))
     else if name_eq verb (codes "deck") then deck_of origin word
+    else if name_eq verb (codes "waive") then asked_sign_off (option_map sign_off.Waive (key_of origin word))
+    else if name_eq verb (codes "sign") then asked_sign_off (option_map sign_off.Sign (key_of origin word))
     else asked_policy (request_of_one origin verb word)
 
 -- what a verb and two words ask

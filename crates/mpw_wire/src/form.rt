@@ -4,7 +4,7 @@ ghost use Rattle.mpw_wire.specs.Request.{bare_request, request_of_one, request_o
 ghost use Rattle.mpw_wire.specs.Words.{words};
 
 use crate::operand::{Origin, grant, is, login, name, pair, set};
-use mpw_requests::{LayoutRequest, PolicyRequest, Request, RunRequest};
+use mpw_requests::{LayoutRequest, PolicyRequest, Request, RunRequest, SignOffRequest};
 use std::alloc::{AllocError, Global};
 
 /// The requests of a verb alone.
@@ -26,6 +26,12 @@ pub(crate) fn bare(verb: &[u8]) -> Option<Request>
         Some(Request::Run(RunRequest::Status))
     } else if is(verb, "markers") {
         Some(Request::Run(RunRequest::Markers))
+    } else if is(verb, "waivers") {
+        Some(Request::SignOff(SignOffRequest::Waivers))
+    } else if is(verb, "verdict") {
+        Some(Request::SignOff(SignOffRequest::Verdict))
+    } else if is(verb, "trail") {
+        Some(Request::Trail)
     } else {
         None
     }

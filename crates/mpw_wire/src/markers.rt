@@ -5,56 +5,16 @@
 ghost use Rattle.std.specs.Prelude.{◌≡◌};
 ghost use Rattle.std.specs.List.{flat_map};
 ghost use Rattle.mpw_replies.specs.Views.{marker_line, number_line};
-ghost use Rattle.mpw_wire.specs.Reply.{axis_text, key_text, cell_part, met_text, marker_text, masked_text, listed_text};
+ghost use Rattle.mpw_wire.specs.Reply.{cell_part, met_text, marker_text, masked_text, listed_text};
 ghost use Rattle.mpw_wire.specs.Writing.{Writes};
 
+use crate::key::{Spot, write_key};
+use crate::setting::Setting;
 use crate::write::write_parts;
 use crate::{Sink, WireFault};
 use itoa::Buffer;
-use mpw_edges::Axis;
 use mpw_geom::Name;
-use mpw_markers::Key;
 use mpw_replies::{MarkerListing, MarkerView, MarkerViews, MaskedViews, MetCells};
-
-/// The letter of an axis.
-#[tactic(auto, unfolding(crate::specs::Reply::axis_text))]
-fn axis_letter(axis: &Axis) -> &str
-    ensures { result.now ≡ axis_text axis.now }
-{
-    match axis {
-        Axis::V => "V",
-        Axis::H => "H",
-    }
-}
-
-/// Writes the key of a marker.
-fn write_key<W: Sink>(writer: &mut W, rule: &Name, key: Key) -> Result<(), WireFault>
-    ensures { Writes W.contents W.failures writer.old writer.new result (key_text rule.now key) }
-{
-    let mut side = Buffer::new();
-    let mut x1 = Buffer::new();
-    let mut x2 = Buffer::new();
-    let mut y0 = Buffer::new();
-    let mut y1 = Buffer::new();
-    write_parts(
-        writer,
-        &[
-            rule.as_str(),
-            ":",
-            axis_letter(&key.axis),
-            ":",
-            side.format(key.side),
-            ":",
-            x1.format(key.x1),
-            ":",
-            x2.format(key.x2),
-            ":",
-            y0.format(key.y0),
-            ":",
-            y1.format(key.y1),
-        ],
-    )
-}
 
 /// Writes a cell, behind a space.
 fn write_met_cell<W: Sink>(writer: &mut W, cell: &Name) -> Result<(), WireFault>
@@ -88,7 +48,12 @@ fn write_met<W: Sink>(writer: &mut W, cells: MetCells<'_>) -> Result<(), WireFau
 fn write_marker<W: Sink>(writer: &mut W, marker: MarkerView<'_>) -> Result<(), WireFault>
     ensures { Writes W.contents W.failures writer.old writer.new result (listed_text (marker_line marker.entry)) }
 {
-    write_key(writer, marker.rule, marker.key)?;
+    write_key(
+        writer,
+        Setting::Within,
+        marker.rule,
+        Spot::of_key(marker.key),
+    )?;
     write_met(writer, marker.cells)
 }
 

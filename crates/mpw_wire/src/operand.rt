@@ -4,7 +4,8 @@
 //! connection has a token where a store has the digits of its digest.
 ghost use Rattle.std.specs.Prelude.{◌≡◌, IfOk};
 ghost use Rattle.mpw_geom.specs.Names.{name_eq};
-ghost use Rattle.mpw_wire.specs.Request.{visible_of, name_of, token_of, digest_of, operation_of, is_on_cells, object_by, object_of, grant_of, login_of, pair_of, names_of, set_of};
+ghost use Rattle.mpw_wire.specs.Request.{token_of, digest_of, operation_of, is_on_cells, object_by, object_of, grant_of, login_of, pair_of, names_of, set_of};
+ghost use Rattle.mpw_wire.specs.Names.{visible_of, name_of};
 ghost use Rattle.mpw_wire.specs.Words.{words};
 
 use crate::digest::digest_of;
@@ -32,7 +33,7 @@ pub(crate) fn is(word: &[u8], text: &str) -> bool
 }
 
 /// The name of these bytes.
-#[tactic(auto, using(crate::proofs::WordLemmas::read_word, crate::proofs::WordLemmas::refused_word), unfolding(crate::specs::Request::visible_of))]
+#[tactic(auto, using(crate::proofs::WordLemmas::read_word, crate::proofs::WordLemmas::refused_word), unfolding(crate::specs::Names::visible_of))]
 fn visible(alloc: Global, word: &[u8]) -> Result<Option<Name>, AllocError>
     ensures { IfOk result (λ name. name ≡ visible_of word.now) }
 {
@@ -44,7 +45,7 @@ fn visible(alloc: Global, word: &[u8]) -> Result<Option<Name>, AllocError>
 }
 
 /// The name that a word is. On a connection `-` is none.
-#[tactic(auto, unfolding(crate::specs::Request::name_of))]
+#[tactic(auto, unfolding(crate::specs::Names::name_of))]
 pub(crate) fn name(alloc: Global, origin: Origin, word: &[u8]) -> Result<Option<Name>, AllocError>
     ensures { IfOk result (λ name. name ≡ name_of origin word.now) }
 {

@@ -90,7 +90,7 @@ fn above(origin: Origin, digits: &[u8]) -> Option<i64>
 
 /// The coordinate that a word spells, in nm: digits without a leading zero, behind a minus sign where it is below 0.
 #[tactic(auto, unfolding(crate::specs::Placement::coordinate_of))]
-fn coordinate(origin: Origin, word: &[u8]) -> Option<i64>
+pub(crate) fn coordinate(origin: Origin, word: &[u8]) -> Option<i64>
     ensures { result ≡ coordinate_of origin word.now }
 {
     match word {

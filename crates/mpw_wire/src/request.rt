@@ -1,17 +1,20 @@
 //! Request lines.
 ghost use Rattle.std.specs.Prelude.{◌≡◌, IfOk};
-ghost use Rattle.mpw_wire.specs.Request.{asked, asked_policy, asked_wafer, longest, submission_of, deck_of, ask_of_one, ask_of_two, ask_of_three, ask_of_more, ask_by, ask_of};
+ghost use Rattle.mpw_wire.specs.Request.{asked, asked_policy, asked_wafer, asked_sign_off, longest, submission_of, deck_of, ask_of_one, ask_of_two, ask_of_three, ask_of_more, ask_by, ask_of};
 ghost use Rattle.mpw_requests.specs.declared.request.Request.TheVariants.{Layout};
 ghost use Rattle.mpw_requests.specs.declared.layouts.LayoutRequest.TheVariants.{Shapes};
 ghost use Rattle.mpw_text.specs.Text.{number_of};
 ghost use Rattle.mpw_wire.specs.Words.{words};
 
 use crate::form::{bare, of_more, of_one, of_three, of_two};
+use crate::key::key;
 use crate::operand::{Origin, is, name, pair};
 use crate::placement::placement;
 use crate::words::{Arguments, cut, read_arguments};
 use mpw_geom::Name;
-use mpw_requests::{LayoutRequest, PolicyRequest, Request, SharedRequest, WaferRequest};
+use mpw_requests::{
+    LayoutRequest, PolicyRequest, Request, SharedRequest, SignOffRequest, WaferRequest,
+};
 use mpw_text::{is_decimal, read_count};
 use std::alloc::{AllocError, Global};
 
@@ -64,6 +67,13 @@ fn ask_wafer(alloc: Global, request: Option<WaferRequest>) -> Result<LineAsk, Al
     ensures { IfOk result (λ ask. ask ≡ asked_wafer request) }
 {
     ask(alloc, request.map(Request::Wafer))
+}
+
+/// The same of a request over the waivers.
+fn ask_sign_off(alloc: Global, request: Option<SignOffRequest>) -> Result<LineAsk, AllocError>
+    ensures { IfOk result (λ ask. ask ≡ asked_sign_off request) }
+{
+    ask(alloc, request.map(Request::SignOff))
 }
 
 /// The number of bytes that a word counts: up to 2^24 on a connection, and in a store up to what a slice has.
@@ -127,6 +137,18 @@ fn ask_one(alloc: Global, origin: Origin, verb: &[u8], word: &[u8]) -> Result<Li
     }
     if is(verb, "deck") {
         return Ok(deck(origin, word));
+    }
+    if is(verb, "waive") {
+        return ask_sign_off(
+            alloc,
+            key(alloc, origin, word)?.map(|marker| SignOffRequest::Waive { marker }),
+        );
+    }
+    if is(verb, "sign") {
+        return ask_sign_off(
+            alloc,
+            key(alloc, origin, word)?.map(|marker| SignOffRequest::Sign { marker }),
+        );
     }
     ask_policy(alloc, of_one(alloc, origin, verb, word)?)
 }

@@ -1,6 +1,7 @@
 use Rattle.std.proofs.Common.{ap}
 use Rattle.std.specs.List.{flat_map}
-use Rattle.mpw_wire.specs.Reply.{cell_part, met_text, line_feed}
+use Rattle.mpw_wire.specs.Reply.{cell_part, met_text}
+use Rattle.mpw_wire.specs.Setting.{line_feed}
 use Rattle.mpw_wire.specs.Writing.{fault_of}
 use Rattle.mpw_wire.proofs.WritingLemmas.{Writes_first, Writes_both, handed_on}
 use Rattle.mpw_wire.proofs.markers.write_met.Goals as goal

@@ -1,5 +1,6 @@
 use Rattle.std.proofs.Common.{ap}
-use Rattle.mpw_wire.specs.Reply.{points_text, shape_end, line_feed}
+use Rattle.mpw_wire.specs.Reply.{points_text, shape_end}
+use Rattle.mpw_wire.specs.Setting.{line_feed}
 use Rattle.mpw_wire.specs.Writing.{fault_of}
 use Rattle.mpw_wire.proofs.WritingLemmas.{Writes_first, Writes_both, handed_on}
 use Rattle.mpw_wire.proofs.shape.write_end.Goals as goal

@@ -1,0 +1,118 @@
+-- The key of a marker, as a word of a line: the name of its rule, and behind colons its axis, its side and four coordinates in nm.
+-- It is read from its end, since a name may hold colons.
+use Rattle.std.specs.Prelude.{ℕ, ℤ, List, [], ◌∷◌, codes, Option, Some, None, ◌==◌, if◌then◌else◌}
+use Rattle.std.specs.List.{concat}
+use Rattle.std.specs.Fmt.{decimal, signed_decimal}
+use Rattle.mpw_geom.specs.Names.{name_eq}
+use Rattle.mpw_text.specs.Text.{number_of}
+use Rattle.mpw_edges.specs.declared.run.Axis.{Axis}
+use Rattle.mpw_edges.specs.declared.run.Axis.TheVariants.{V, H}
+use Rattle.mpw_markers.specs.declared.marker.Key.{Key}
+use Rattle.mpw_requests.specs.declared.sign_off.MarkerName.{MarkerName}
+use Rattle.mpw_wire.specs.declared.key.Spot.{Spot}
+use Rattle.mpw_wire.specs.declared.operand.Origin.{Origin}
+use Rattle.mpw_wire.specs.declared.operand.Origin.TheVariants.{Connection, Store}
+use Rattle.mpw_wire.specs.Placement.{coordinate_of}
+use Rattle.mpw_wire.specs.Names.{◌>>=◌, name_of}
+
+-- where the marker of a key lies
+abbrev pub spot_of : Key → Spot
+spot_of key = record { axis = key.axis; side = key.side; x1 = key.x1; x2 = key.x2; y0 = key.y0; y1 = key.y1 }
+
+-- where a marker lies that a request names
+abbrev pub named_spot : MarkerName → Spot
+named_spot m = record { axis = m.axis; side = m.side; x1 = m.x1; x2 = m.x2; y0 = m.y0; y1 = m.y1 }
+
+-- the marker of a rule that lies there
+abbrev pub marker_at : List ℕ → Spot → MarkerName
+marker_at rule spot = record { rule = rule; axis = spot.axis; side = spot.side; x1 = spot.x1; x2 = spot.x2; y0 = spot.y0; y1 = spot.y1 }
+
+-- ---- writing
+
+-- the letter of an axis
+unfoldable pub axis_text : Axis → List ℕ
+axis_text V = codes "V"
+axis_text H = codes "H"
+
+-- the name of the rule, and, each behind a colon, the axis, the side, where the edges lie and which rows there are
+abbrev pub key_text : List ℕ → Spot → List ℕ
+key_text rule spot =
+    concat
+    (rule
+    ∷ codes ":"
+    ∷ axis_text spot.axis
+    ∷ codes ":"
+    ∷ decimal spot.side
+    ∷ codes ":"
+    ∷ signed_decimal spot.x1
+    ∷ codes ":"
+    ∷ signed_decimal spot.x2
+    ∷ codes ":"
+    ∷ signed_decimal spot.y0
+    ∷ codes ":"
+    ∷ signed_decimal spot.y1
+    ∷ [])
+
+-- the key of a marker that a request names
+abbrev pub marker_key : MarkerName → List ℕ
+marker_key m = key_text m.rule (named_spot m)
+
+-- ---- reading
+
+-- what stands before the last colon, and what stands behind it
+unfoldable pub cut_last : List ℕ → Option (List ℕ × List ℕ)
+cut_last [] = None
+cut_last (byte ∷ bytes) = behind (cut_last bytes)
+  where
+    behind : Option (List ℕ × List ℕ) → Option (List ℕ × List ℕ)
+    behind (Some parts) = Some (byte ∷ parts.0, parts.1)
+    behind None = if byte == 0x3A then Some ([], bytes) else None
+
+-- the axis of a letter
+unfoldable pub axis_of : List ℕ → Option Axis
+axis_of word =
+    if name_eq word (codes "V") then Some V
+    else if name_eq word (codes "H") then Some H
+    else None
+
+-- the greatest side: 1 on a connection, and in a store what a byte tells
+unfoldable pub greatest_side : Origin → ℕ
+greatest_side Connection = 1
+greatest_side Store = 255
+
+-- what stands behind the last colon, read as a coordinate, a side or an axis, with what stands before it
+unfoldable pub last_coordinate : Origin → List ℕ → Option (List ℕ × ℤ)
+last_coordinate origin word = do
+  parts ← cut_last word
+  z ← coordinate_of origin parts.1
+  Some (parts.0, z)
+
+unfoldable pub last_side : Origin → List ℕ → Option (List ℕ × ℕ)
+last_side origin word = do
+  parts ← cut_last word
+  side ← number_of 0 (greatest_side origin) parts.1
+  Some (parts.0, side)
+
+unfoldable pub last_axis : List ℕ → Option (List ℕ × Axis)
+last_axis word = do
+  parts ← cut_last word
+  axis ← axis_of parts.1
+  Some (parts.0, axis)
+
+-- where a marker lies by the end of its key, with what stands before
+unfoldable pub last_spot : Origin → List ℕ → Option (List ℕ × Spot)
+last_spot origin word = do
+  y1 ← last_coordinate origin word
+  y0 ← last_coordinate origin y1.0
+  x2 ← last_coordinate origin y0.0
+  x1 ← last_coordinate origin x2.0
+  side ← last_side origin x1.0
+  axis ← last_axis side.0
+  Some (axis.0, record { axis = axis.1; side = side.1; x1 = x1.1; x2 = x2.1; y0 = y0.1; y1 = y1.1 })
+
+-- the marker of a key
+unfoldable pub key_of : Origin → List ℕ → Option MarkerName
+key_of origin word = do
+  found ← last_spot origin word
+  rule ← name_of origin found.0
+  Some (marker_at rule found.1)

@@ -1,0 +1,246 @@
+//! Keys of markers: the name of a rule, and behind colons where the marker lies.
+//!
+//! A name may hold colons, so a key is read from its end.
+ghost use Rattle.std.specs.Prelude.{◌≡◌, Some, None, IfOk, IfSome, IfNone};
+ghost use Rattle.mpw_text.specs.Text.{number_of};
+ghost use Rattle.mpw_wire.specs.Keys.{spot_of, named_spot, axis_text, key_text, marker_key, cut_last, axis_of, greatest_side, last_coordinate, last_side, last_axis, last_spot, key_of};
+ghost use Rattle.mpw_wire.specs.Setting.{set_text};
+ghost use Rattle.mpw_wire.specs.Writing.{Writes};
+
+use crate::operand::{Origin, is, name};
+use crate::placement::coordinate;
+use crate::setting::{Setting, write_set};
+use crate::{Sink, WireFault};
+use itoa::Buffer;
+use mpw_edges::Axis;
+use mpw_geom::Name;
+use mpw_markers::Key;
+use mpw_requests::MarkerName;
+use mpw_text::read_number;
+use std::alloc::{AllocError, Global};
+
+/// Where a marker lies: its axis, its side, and its coordinates in nm.
+#[derive(Clone, Copy)]
+pub(crate) struct Spot {
+    pub axis: Axis,
+    pub side: u8,
+    pub x1: i64,
+    pub x2: i64,
+    pub y0: i64,
+    pub y1: i64,
+}
+
+impl Spot {
+    /// Where the marker of a key lies.
+    pub(crate) fn of_key(key: Key) -> Spot
+        ensures { result ≡ spot_of key }
+    {
+        Spot {
+            axis: key.axis,
+            side: key.side,
+            x1: key.x1,
+            x2: key.x2,
+            y0: key.y0,
+            y1: key.y1,
+        }
+    }
+
+    /// Where a marker lies that a request names.
+    pub(crate) fn of_name(marker: &MarkerName) -> Spot
+        ensures { result ≡ named_spot marker.now }
+    {
+        Spot {
+            axis: marker.axis,
+            side: marker.side,
+            x1: marker.x1,
+            x2: marker.x2,
+            y0: marker.y0,
+            y1: marker.y1,
+        }
+    }
+}
+
+/// The letter of an axis.
+#[tactic(auto, unfolding(crate::specs::Keys::axis_text))]
+pub(crate) fn axis_letter(axis: &Axis) -> &str
+    ensures { result.now ≡ axis_text axis.now }
+{
+    match axis {
+        Axis::V => "V",
+        Axis::H => "H",
+    }
+}
+
+/// Writes the key of a marker that lies there.
+pub(crate) fn write_key<W: Sink>(
+    writer: &mut W,
+    setting: Setting,
+    rule: &Name,
+    spot: Spot,
+) -> Result<(), WireFault>
+    ensures { Writes W.contents W.failures writer.old writer.new result (set_text setting (key_text rule.now spot)) }
+{
+    let mut side = Buffer::new();
+    let mut x1 = Buffer::new();
+    let mut x2 = Buffer::new();
+    let mut y0 = Buffer::new();
+    let mut y1 = Buffer::new();
+    write_set(
+        writer,
+        setting,
+        &[
+            rule.as_str(),
+            ":",
+            axis_letter(&spot.axis),
+            ":",
+            side.format(spot.side),
+            ":",
+            x1.format(spot.x1),
+            ":",
+            x2.format(spot.x2),
+            ":",
+            y0.format(spot.y0),
+            ":",
+            y1.format(spot.y1),
+        ],
+    )
+}
+
+/// Writes the key of a marker that a request names.
+pub(crate) fn write_marker_key<W: Sink>(
+    writer: &mut W,
+    setting: Setting,
+    marker: &MarkerName,
+) -> Result<(), WireFault>
+    ensures { Writes W.contents W.failures writer.old writer.new result (set_text setting (marker_key marker.now)) }
+{
+    write_key(writer, setting, &marker.rule, Spot::of_name(marker))
+}
+
+/// What stands before the last colon, and what stands behind it. It looks from the end.
+fn cut_last(word: &[u8]) -> Option<(&[u8], &[u8])>
+    ensures some { IfSome result (λ parts. cut_last word.now ≡ Some (parts.0.now, parts.1.now)) }
+    ensures none { IfNone result (cut_last word.now ≡ None) }
+{
+    let mut at = word.len();
+    while at > 0 {
+        at -= 1;
+        if word[at] == b':' {
+            return Some((&word[..at], &word[at + 1..]));
+        }
+    }
+    None
+}
+
+/// The axis of a letter.
+#[tactic(auto, unfolding(crate::specs::Keys::axis_of))]
+fn axis(word: &[u8]) -> Option<Axis>
+    ensures { result ≡ axis_of word.now }
+{
+    if is(word, "V") {
+        Some(Axis::V)
+    } else if is(word, "H") {
+        Some(Axis::H)
+    } else {
+        None
+    }
+}
+
+/// The side that a word spells: 0 or 1 on a connection, and in a store what a byte tells.
+#[tactic(auto, unfolding(crate::specs::Keys::greatest_side))]
+fn side(origin: Origin, word: &[u8]) -> Option<u8>
+    ensures { result ≡ number_of 0 (greatest_side origin) word.now }
+{
+    let greatest = match origin {
+        Origin::Connection => 1,
+        Origin::Store => 255,
+    };
+    match read_number(word, 0, greatest) {
+        Some(side) => Some(side as u8),
+        None => None,
+    }
+}
+
+/// The coordinate behind the last colon, and what stands before it.
+#[tactic(auto, unfolding(crate::specs::Keys::last_coordinate))]
+fn last_coordinate(origin: Origin, word: &[u8]) -> Option<(&[u8], i64)>
+    ensures some { IfSome result (λ found. last_coordinate origin word.now ≡ Some (found.0.now, found.1)) }
+    ensures none { IfNone result (last_coordinate origin word.now ≡ None) }
+{
+    let (rest, field) = cut_last(word)?;
+    let coordinate = coordinate(origin, field)?;
+    Some((rest, coordinate))
+}
+
+/// The side behind the last colon, and what stands before it.
+#[tactic(auto, unfolding(crate::specs::Keys::last_side))]
+fn last_side(origin: Origin, word: &[u8]) -> Option<(&[u8], u8)>
+    ensures some { IfSome result (λ found. last_side origin word.now ≡ Some (found.0.now, found.1)) }
+    ensures none { IfNone result (last_side origin word.now ≡ None) }
+{
+    let (rest, field) = cut_last(word)?;
+    let side = side(origin, field)?;
+    Some((rest, side))
+}
+
+/// The axis behind the last colon, and what stands before it.
+#[tactic(auto, unfolding(crate::specs::Keys::last_axis))]
+fn last_axis(word: &[u8]) -> Option<(&[u8], Axis)>
+    ensures some { IfSome result (λ found. last_axis word.now ≡ Some (found.0.now, found.1)) }
+    ensures none { IfNone result (last_axis word.now ≡ None) }
+{
+    let (rest, field) = cut_last(word)?;
+    let axis = axis(field)?;
+    Some((rest, axis))
+}
+
+/// Where a marker lies by the end of its key, and what stands before.
+#[tactic(auto, unfolding(crate::specs::Keys::last_spot))]
+fn last_spot(origin: Origin, word: &[u8]) -> Option<(&[u8], Spot)>
+    ensures some { IfSome result (λ found. last_spot origin word.now ≡ Some (found.0.now, found.1)) }
+    ensures none { IfNone result (last_spot origin word.now ≡ None) }
+{
+    let (rest, y1) = last_coordinate(origin, word)?;
+    let (rest, y0) = last_coordinate(origin, rest)?;
+    let (rest, x2) = last_coordinate(origin, rest)?;
+    let (rest, x1) = last_coordinate(origin, rest)?;
+    let (rest, side) = last_side(origin, rest)?;
+    let (rest, axis) = last_axis(rest)?;
+    Some((
+        rest,
+        Spot {
+            axis,
+            side,
+            x1,
+            x2,
+            y0,
+            y1,
+        },
+    ))
+}
+
+/// The marker of the key that a word is.
+#[tactic(auto, unfolding(crate::specs::Keys::key_of))]
+pub(crate) fn key(
+    alloc: Global,
+    origin: Origin,
+    word: &[u8],
+) -> Result<Option<MarkerName>, AllocError>
+    ensures { IfOk result (λ marker. marker ≡ key_of origin word.now) }
+{
+    let Some((rest, spot)) = last_spot(origin, word) else {
+        return Ok(None);
+    };
+    let Some(rule) = name(alloc, origin, rest)? else {
+        return Ok(None);
+    };
+    Ok(Some(MarkerName {
+        rule,
+        axis: spot.axis,
+        side: spot.side,
+        x1: spot.x1,
+        x2: spot.x2,
+        y0: spot.y0,
+        y1: spot.y1,
+    }))
+}
