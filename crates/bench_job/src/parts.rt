@@ -1,0 +1,86 @@
+//! The parts of a run: the cut, a job a tile, and the stitching.
+
+use anyhow::{Context, Result, bail};
+use mpw_job::{Answer, CutAnswer, CutJob, Job, do_job, tile_job};
+use mpw_markers::{Book, Marker, TileMarkers, stitch};
+use mpw_tiles::{Snapshot, Windows};
+use std::alloc::Global;
+
+/// The number of the run.
+const RUN: u32 = 1;
+
+/// Cuts the snapshot into windows.
+pub fn cut(alloc: Global, snapshot: &Snapshot) -> Result<CutAnswer> {
+    let snapshot = snapshot.copy(alloc)?;
+    let job = Job::Cut(CutJob { run: RUN, snapshot });
+    match do_job(alloc, &job)? {
+        Answer::Cut(answer) => Ok(answer),
+        Answer::Tile(_) => bail!("the answer of a cut"),
+    }
+}
+
+/// The jobs of all tiles, in order.
+pub fn jobs(alloc: Global, snapshot: &Snapshot, windows: &Windows) -> Result<Vec<Job>> {
+    let plan = snapshot.plan().context("a plan")?;
+    let mut jobs = Vec::new(alloc);
+    for tile in 0..plan.tiles() {
+        if tile as usize >= windows.as_slice().len() {
+            bail!("a window a tile");
+        }
+        jobs.push(Job::Tile(tile_job(RUN, tile, snapshot, &plan, windows)?))?;
+    }
+    Ok(jobs)
+}
+
+/// How many markers the answer of the job has.
+fn count_of(alloc: Global, job: &Job) -> Result<usize> {
+    match do_job(alloc, job)? {
+        Answer::Tile(answer) => Ok(answer.markers().len()),
+        Answer::Cut(_) => bail!("the answer of a tile"),
+    }
+}
+
+/// Does the jobs one after another, and tells how many markers their answers have together.
+pub fn done_in_turn(alloc: Global, jobs: &[Job]) -> Result<usize> {
+    let mut count = 0usize;
+    for job in jobs {
+        count = count.saturating_add(count_of(alloc, job)?);
+    }
+    Ok(count)
+}
+
+fn markers_of(answer: &Answer) -> Result<TileMarkers> {
+    match answer {
+        Answer::Tile(answer) => Ok(answer.markers().copy()?),
+        Answer::Cut(_) => bail!("the answer of a tile"),
+    }
+}
+
+/// The book of the answers.
+pub fn stitched(alloc: Global, answers: &[Answer]) -> Result<Book> {
+    let mut lists = Vec::new(alloc);
+    for answer in answers {
+        lists.push(markers_of(answer)?)?;
+    }
+    Ok(stitch(alloc, &lists)?)
+}
+
+/// How many rectangles the windows list together.
+pub fn listed(windows: &Windows) -> usize {
+    let mut count = 0usize;
+    for window in windows.as_slice() {
+        count = count.saturating_add(window.as_slice().len());
+    }
+    count
+}
+
+/// How many of the markers are of the rule with that place in its deck.
+pub fn of_rule(markers: &[Marker], rule: usize) -> usize {
+    let mut count = 0usize;
+    for marker in markers {
+        if marker.rule as usize == rule {
+            count = count.saturating_add(1);
+        }
+    }
+    count
+}

@@ -1,0 +1,83 @@
+//! The parts of a run, each told with the time that it took where times are told.
+
+use crate::parts;
+use anyhow::Result;
+use mpw_deck::Rules;
+use mpw_job::{Answer, CutAnswer, Job, work_all};
+use mpw_markers::{Book, Marker};
+use mpw_tiles::Snapshot;
+use std::thread::Threads;
+use std::time::{Clock, Instant};
+
+/// Prints what was done, and the time since then where times are told.
+pub fn part(rt: &(impl Print + Clock), what: &str, since: &Instant, still: bool) -> Result<()> {
+    let taken = since.elapsed(rt)?.as_millis();
+    if still {
+        return Ok(println!(rt; "{what}")?);
+    }
+    Ok(println!(rt; "{what}: {taken} ms")?)
+}
+
+/// Cuts the snapshot into windows.
+pub fn cut(
+    rt: &(impl Print + AllocGlobal + Clock),
+    snapshot: &Snapshot,
+    still: bool,
+) -> Result<CutAnswer> {
+    let start = Instant::now(rt)?;
+    let cut = parts::cut(rt.alloc(), snapshot)?;
+    let windows = cut.windows();
+    let (tiles, listed) = (windows.as_slice().len(), parts::listed(windows));
+    let what = format!(in rt.alloc(); "cut: {tiles} tiles, {listed} rectangles")?;
+    part(rt, what.as_str(), &start, still)?;
+    Ok(cut)
+}
+
+/// Does the jobs on one thread.
+pub fn done_in_turn(
+    rt: &(impl Print + AllocGlobal + Clock),
+    jobs: &[Job],
+    still: bool,
+) -> Result<()> {
+    let start = Instant::now(rt)?;
+    let found = parts::done_in_turn(rt.alloc(), jobs)?;
+    let what = format!(in rt.alloc(); "jobs on one thread: {found} markers of tiles")?;
+    part(rt, what.as_str(), &start, still)
+}
+
+/// Does the jobs on as many threads as there are processors.
+pub fn done_by_all(
+    rt: &(impl Print + AllocGlobal + Clock + Threads + Sync),
+    jobs: &[Job],
+    still: bool,
+) -> Result<Vec<Answer>> {
+    let start = Instant::now(rt)?;
+    let answers = work_all(rt, rt.alloc(), jobs)?;
+    part(rt, "jobs on all threads", &start, still)?;
+    Ok(answers)
+}
+
+/// Stitches the answers.
+pub fn stitched(
+    rt: &(impl Print + AllocGlobal + Clock),
+    answers: &[Answer],
+    still: bool,
+) -> Result<Book> {
+    let start = Instant::now(rt)?;
+    let book = parts::stitched(rt.alloc(), answers)?;
+    let what = format!(in rt.alloc(); "stitch: {} markers", book.len())?;
+    part(rt, what.as_str(), &start, still)?;
+    Ok(book)
+}
+
+/// Prints how many markers each rule has.
+pub fn by_rule(rt: &impl Print, rules: &Rules, markers: &[Marker]) -> Result<()> {
+    for (place, rule) in rules.as_slice().iter().enumerate() {
+        println!(rt;
+            "  {}: {}",
+            rule.name.as_str(),
+            parts::of_rule(markers, place)
+        )?;
+    }
+    Ok(())
+}
