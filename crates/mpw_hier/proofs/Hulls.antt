@@ -24,6 +24,9 @@ joined_assoc a b c = same_box _ _ (min_assoc a.x0 b.x0 c.x0) (min_assoc a.y0 b.y
 joined_comm : (a b : Box2) → joined a b ≡ joined b a
 joined_comm a b = same_box _ _ (min_comm a.x0 b.x0) (min_comm a.y0 b.y0) (max_comm a.x1 b.x1) (max_comm a.y1 b.y1)
 
+pub joined_self : (b : Box2) → joined b b ≡ b
+joined_self b = same_box _ _ (omega (arith, ints, clamps)) (omega (arith, ints, clamps)) (omega (arith, ints, clamps)) (omega (arith, ints, clamps))
+
 pub hull_assoc : (a b c : Option Box2) → hull (hull a b) c ≡ hull a (hull b c)
 hull_assoc None b c = refl
 hull_assoc (Some a) None c = refl

@@ -38,4 +38,5 @@ pub use outline::Outline;
 pub use shelf::Shelf;
 pub use size::Size;
 pub use size_box::is_box_near;
+pub use size_shape::element_box;
 pub use submission::Submission;

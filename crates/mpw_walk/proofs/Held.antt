@@ -1,21 +1,19 @@
 -- What a turn enters or gives lies in the extent of the whole.
-use Rattle.std.proofs.Common.{◌≡◌, ℕ, List, [], ◌∷◌, ◌++◌, length, map, take, Option, Some, None, refl, sym, ap, subst, ◌∙◌, arith}
+use Rattle.std.proofs.Common.{◌≡◌, ℕ, List, [], ◌∷◌, ◌++◌, length, map, take, Option, Some, None, refl, sym, ap, subst, ◌∙◌}
 use Rattle.std.specs.Prelude.{All, slice_get, option_map}
 use Rattle.std.specs.List.{flat_map}
-use Rattle.std.proofs.lemmas.Int.{ints, clamps}
 use Rattle.std.proofs.lemmas.List.Elements.{All-nil, All-cons, All-append, All-map, All-weaker}
 use Rattle.mpw_geom.specs.declared.plane.Box2.{Box2}
 use Rattle.mpw_geom.specs.declared.placing.Placing.{Placing}
-use Rattle.mpw_shapes.proofs.Wires.{same_box}
 use Rattle.mpw_elements.specs.declared.element.Reference.{Reference}
 use Rattle.mpw_library.specs.declared.structures.Structure.{Structure}
 use Rattle.mpw_hier.specs.declared.submission.Submission.{Submission}
 use Rattle.mpw_hier.specs.Structures.{references}
 use Rattle.mpw_hier.specs.Items.{Item, own_items, instances}
 use Rattle.mpw_hier.specs.Levels.{levels_of}
-use Rattle.mpw_hier.specs.Boxes.{joined, hull, placed_box, element_box, item_box, extent_of}
+use Rattle.mpw_hier.specs.Boxes.{hull, placed_box, element_box, item_box, extent_of}
 use Rattle.mpw_hier.specs.Values.{at_number, bound_number}
-use Rattle.mpw_hier.proofs.Hulls.{hull_assoc, hull_swap, hull_none}
+use Rattle.mpw_hier.proofs.Hulls.{joined_self, hull_assoc, hull_swap, hull_none}
 use Rattle.mpw_hier.proofs.Placings.{placed_ordered, placed_joined}
 use Rattle.mpw_hier.proofs.Extents.{AreOrdered, extent_ordered, extent_append, extent_placed}
 use Rattle.mpw_walk.specs.Turns.{Turn, enter, give, given, placed_turn, entered, placed_turns, shown_turns, structure_turns, submission_turns, all_turns, turns_of}
@@ -32,9 +30,6 @@ use Rattle.mpw_walk.proofs.Related.{Related, none, related_at, numbers_related, 
 pub record IsHeldIn (inner outer : Option Box2) : Type 0 where
   pub ordered : AreOrdered inner
   pub within : hull inner outer ≡ outer
-
-joined_self : (b : Box2) → joined b b ≡ b
-joined_self b = same_box _ _ (omega (arith, ints, clamps)) (omega (arith, ints, clamps)) (omega (arith, ints, clamps)) (omega (arith, ints, clamps))
 
 hull_self : (o : Option Box2) → hull o o ≡ o
 hull_self None = refl

@@ -11,7 +11,6 @@ mod frame;
 mod frames;
 mod laws;
 mod root;
-mod shape_box;
 mod walk;
 mod way;
 mod window;

@@ -11,8 +11,8 @@ ghost use Rattle.mpw_walk.specs.Window.{do_meet, is_in, is_taken};
 
 use crate::fit::placed_box;
 use crate::root::Placed;
-use crate::shape_box::element_box;
 use mpw_geom::{Box2, Placing};
+use mpw_hier::element_box;
 
 /// Whether the closed boxes share a point.
 fn do_meet(a: Box2, b: Box2) -> bool

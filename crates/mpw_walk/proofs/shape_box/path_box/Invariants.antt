@@ -1,9 +1,0 @@
-use Rattle.std.proofs.Common.{length}
-use Rattle.mpw_hier.proofs.ElementBoxes.{IsBoxedTo}
-use Rattle.mpw_walk.proofs.shape_box.path_box.Given as goal
-
-abbrev pub invariant-loop-rest : goal.invariant-loop-rest
-invariant-loop-rest l = IsBoxedTo l.path l.wire l.rest l.extent
-
-abbrev pub decreases-loop-rest : goal.decreases-loop-rest
-decreases-loop-rest l = length l.rest

@@ -1,7 +1,0 @@
-use Rattle.std.proofs.Common.{◌≡◌, drop}
-use Rattle.mpw_hier.specs.Boxes.{hull, hull_of_points}
-use Rattle.mpw_walk.proofs.shape_box.points_box.Given as goal
-
--- the points so far, and those to come
-abbrev pub invariant-loop-point : goal.invariant-loop-point
-invariant-loop-point l = hull l.extent (hull_of_points (drop l.point-index l.points)) ≡ hull_of_points l.points
