@@ -1,10 +1,6 @@
 -- The parts of a row as the shelf tells them.
-use Rattle.std.proofs.Common.{◌≡◌, ℕ, ◌+◌, ◌<◌, Bool, true, false, List, [], ◌∷◌, ◌++◌, length, get_or, drop, Option, Some, None, Result, Ok, Err, refl, sym, ap, ◌∙◌}
+use Rattle.std.proofs.Common.{◌≡◌, ℕ, Bool, true, false, List, [], ◌∷◌, ◌++◌, length, Option, Some, None, Result, Ok, Err, refl, sym, ap, ◌∙◌}
 use Rattle.std.specs.Prelude.{slice_get, ◌↔◌}
-use Rattle.std.proofs.lemmas.List.{at_drop_more}
-use Rattle.mpw_rbac.specs.declared.permission.Object.TheVariants as objects
-use Rattle.mpw_rbac.specs.declared.permission.Operation.TheVariants.{Use}
-use Rattle.mpw_rbac.specs.Policy.{Policy, permits}
 use Rattle.mpw_library.specs.declared.structures.Structure.{Structure}
 use Rattle.mpw_library.specs.Places.{place_of}
 use Rattle.mpw_hier.specs.declared.fault.HierFault.{HierFault}
@@ -15,7 +11,7 @@ use Rattle.mpw_hier.specs.Limits.{IsFar, KeepsLimits, IsRefused, numbered}
 use Rattle.mpw_hier.specs.Reach.{is_cyclic, is_far, CyclesAreFound, ExternalsAreOne, FarExtentsAreFound}
 use Rattle.mpw_replies.specs.Rows.{Told}
 use Rattle.mpw_layouts.specs.Answers.{fault_of}
-use Rattle.mpw_layouts.specs.Layouts.{outside, usable, kept}
+use Rattle.mpw_layouts.specs.Layouts.{outside, kept}
 
 refuted : (b : Bool) → (b ≡ true → ⊥) → b ≡ false
 refuted true never = absurd (never refl)

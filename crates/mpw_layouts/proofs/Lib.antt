@@ -2,4 +2,5 @@ mod LayoutDenials
 mod LayoutLemmas
 mod LeftLemmas
 mod ReadableLines
+mod ShapeLines
 mod SightLemmas

@@ -1,11 +1,13 @@
 -- Laws of the requests over the shelf.
-use Rattle.std.specs.Prelude.{◌≡◌, ℕ, false, List, All}
+use Rattle.std.specs.Prelude.{◌≡◌, ℕ, true, false, List, All}
 use Rattle.mpw_rbac.specs.declared.permission.Operation.{Operation}
 use Rattle.mpw_rbac.specs.declared.permission.Object.{Object}
 use Rattle.mpw_rbac.specs.Policy.{Policy, permits}
 use Rattle.mpw_hier.specs.declared.submission.Submission.{Submission}
+use Rattle.mpw_hier.specs.Structures.{is_shape}
 use Rattle.mpw_requests.specs.declared.layouts.LayoutRequest.{LayoutRequest}
-use Rattle.mpw_replies.specs.Listing.{Listed}
+use Rattle.mpw_requests.specs.declared.layouts.LayoutRequest.TheVariants as ask
+use Rattle.mpw_replies.specs.Listing.{Listed, stored, shape, marker, masked, entry}
 use Rattle.mpw_replies.specs.Readable.{IsOfReadable}
 use Rattle.mpw_replies.specs.Rows.{IsNegative}
 use Rattle.mpw_replies.specs.declared.reply.Denial.TheVariants as denial
@@ -26,3 +28,16 @@ LayoutsAreOfReadable = (policy : Policy) (shelf : List Submission) (conn : ℕ) 
 abbrev pub NegativesLeaveTheShelf : Type 0
 NegativesLeaveTheShelf = (policy : Policy) (shelf : List Submission) (conn : ℕ) (request : LayoutRequest)
     → IsNegative (outcome_of policy shelf conn request).reply → (outcome_of policy shelf conn request).shelf ≡ shelf
+
+-- A line of a shape, which is a boundary or a path.
+abbrev pub IsShapeLine : Listed → Type 0
+IsShapeLine (stored line) = ⊥
+IsShapeLine (shape cell version placing element) = is_shape element ≡ true
+IsShapeLine (marker rule key cells) = ⊥
+IsShapeLine (masked rule number) = ⊥
+IsShapeLine (entry number e) = ⊥
+
+-- Each line of a reply to `shapes` is of a boundary or of a path.
+abbrev pub ShapesAreNoReferences : Type 0
+ShapesAreNoReferences = (policy : Policy) (shelf : List Submission) (conn : ℕ) (cell : List ℕ) (lines : List Listed)
+    → (outcome_of policy shelf conn (ask.Shapes cell)).reply ≡ reply.Ok lines → All IsShapeLine lines

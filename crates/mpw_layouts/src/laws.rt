@@ -1,8 +1,9 @@
 //! Laws of the definitions alone. Each function calls at most the laws that its own rests on: its contract is the law.
-ghost use Rattle.mpw_layouts.specs.Laws.{LayoutsAreOfReadable, LayoutsDenyWhatIsLacked, NegativesLeaveTheShelf};
+ghost use Rattle.mpw_layouts.specs.Laws.{LayoutsAreOfReadable, LayoutsDenyWhatIsLacked, NegativesLeaveTheShelf, ShapesAreNoReferences};
 
 use mpw_hier::shelves_have_their_numbers;
 use mpw_replies::entering_denies_what_is_lacked;
+use mpw_walk::shapes_are_no_references;
 
 /// A denial of a permission names one that the connection's session lacks.
 pub fn denials_of_layouts_name_what_is_lacked()
@@ -16,6 +17,13 @@ pub fn lines_of_layouts_are_of_readable_cells()
     ensures { LayoutsAreOfReadable }
 {
     shelves_have_their_numbers();
+}
+
+/// Each line of a reply to `shapes` is of a boundary or of a path: arrays and other references are taken apart.
+pub fn lines_of_shapes_are_no_references()
+    ensures { ShapesAreNoReferences }
+{
+    shapes_are_no_references();
 }
 
 /// A request that is denied or refused leaves the shelf as it was.
