@@ -57,9 +57,16 @@ all_flat P f (x ∷ xs) h = All-append P (f x) (flat_map f xs) (h x) (all_flat P
 
 shown_drawn : (n : ℕ) (s : Structure) (below : List ℕ → List Item) → IsStructure s → ((target : List ℕ) → All IsDrawn (below target)) → All IsDrawn (shown_items n s below)
 shown_drawn n s below read down =
-    All-append IsDrawn (own_items n s.elements) _ (own_drawn n s.elements read.elements) (all_flat IsDrawn (λ (r : Reference). placed_items r (below r.name)) (references s.elements) (λ r. all_flat IsDrawn (λ t. map (placed_item t) (below r.name)) (instances r) (λ t. All-map IsDrawn (placed_item t) (below r.name) (down r.name))))
+    All-append IsDrawn (own_items n s.elements) _ (own_drawn n s.elements read.elements)
+    (all_flat IsDrawn (λ (r : Reference). placed_items r (below r.name)) (references s.elements)
+    (λ r. all_flat IsDrawn (λ t. map (placed_item t) (below r.name)) (instances r)
+    (λ t. All-map IsDrawn (placed_item t) (below r.name) (down r.name))))
 
-module _ {V : Type 0} (P : V → Type 0) (shown : Structure → (List ℕ → V) → V) (nothing : V) (outside_shown : List ℕ → V) (library : List Structure) (read : IsLibrary library) (base : P nothing) (outside : (name : List ℕ) → P (outside_shown name)) (step : (s : Structure) (below : List ℕ → V) → IsStructure s → ((target : List ℕ) → P (below target)) → P (shown s below)) where
+module _ {V : Type 0} (P : V → Type 0) (shown : Structure → (List ℕ → V) → V) (nothing : V)
+    (outside_shown : List ℕ → V) (library : List Structure) (read : IsLibrary library)
+    (base : P nothing) (outside : (name : List ℕ) → P (outside_shown name))
+    (step : (s : Structure) (below : List ℕ → V) → IsStructure s
+    → ((target : List ℕ) → P (below target)) → P (shown s below)) where
   levels_keep : (n : ℕ) (name : List ℕ) → P (by_levels shown nothing outside_shown n library name)
   unfolding by_levels
   levels_keep zero name = base

@@ -1,5 +1,5 @@
 -- Worked examples of the definitions.
-use Rattle.std.proofs.Common.{◌≡◌, ℕ, pos, List, [], ◌∷◌, length, map, refl}
+use Rattle.std.proofs.Common.{◌≡◌, ℕ, pos, List, [], ◌∷◌, map, refl}
 use Rattle.mpw_geom.specs.declared.plane.Orient.TheVariants.{R0, R90}
 use Rattle.mpw_geom.specs.declared.plane.Point.{Point}
 use Rattle.mpw_geom.specs.Placing.{oriented_point, placed_point}
@@ -10,11 +10,7 @@ use Rattle.mpw_hier.specs.declared.submission.Submission.{Submission}
 use Rattle.mpw_hier.specs.Levels.{by_levels}
 use Rattle.mpw_hier.specs.Values.{from_first, flats}
 use Rattle.mpw_hier.specs.Items.{Item, instances, placed_again}
-use Rattle.mpw_geom.specs.declared.plane.Box2.{Box2}
-use Rattle.mpw_geom.specs.Plane.{box_between}
-use Rattle.mpw_hier.specs.Boxes.{hull_of_points, element_box, placed_box, extent_of}
-use Rattle.mpw_walk.specs.Turns.{flat_roots, all_turns, roots_turns}
-use Rattle.mpw_walk.specs.Window.{do_meet, items_met, turns_met}
+use Rattle.mpw_walk.specs.Turns.{flat_roots}
 use Rattle.mpw_walk.specs.declared.root.Root.{Root}
 
 abbrev at : ℕ → ℕ → Point
@@ -62,15 +58,3 @@ shown_at i = (i.origin, i.placing.by)
 pub seven_items : map shown_at (flat_roots shelf roots) ≡ (1, at 1000 0) ∷ (0, at 1000 0) ∷ (0, at 1000 10) ∷ (0, at 900 0) ∷ (0, at 900 10) ∷ (0, at 800 0) ∷ (0, at 800 10) ∷ []
 unfolding flat_roots flats from_first by_levels instances placed_again placed_point oriented_point
 seven_items = refl
-
--- a window with a corner at one of the dots: that dot is given, behind the turns that enter the root and its instance
-abbrev window : Box2
-window = record { x0 = pos 900; y0 = pos 10; x1 = pos 950; y1 = pos 20 }
-
-pub one_item : map shown_at (items_met window (flat_roots shelf roots)) ≡ (0, at 900 10) ∷ []
-unfolding flat_roots flats from_first by_levels instances placed_again placed_point oriented_point hull_of_points element_box placed_box box_between do_meet
-one_item = refl
-
-pub three_turns : length (turns_met window (roots_turns shelf roots)) ≡ 3
-unfolding roots_turns all_turns from_first by_levels instances placed_again placed_point oriented_point hull_of_points element_box placed_box box_between extent_of do_meet
-three_turns = refl

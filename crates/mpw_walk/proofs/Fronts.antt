@@ -29,7 +29,11 @@ pub element_read : (library : List Structure) (k : ℕ) (s : Structure) (i : ℕ
 element_read library k s i e read is at =
     at_all IsElement s.elements i e (at_all IsStructure library k s read is).elements at
 
-pub front_is : (ss : List Submission) (number : ℕ) (nodes : List Node) (place : ℕ) (f : Frame) (w : AreNodes ss number nodes) (structure : Structure) → slice_get nodes place ≡ Some f.node.now → slice_get w.submission.library f.node.now.structure ≡ Some structure → IsWithin f.placing.by → f.submission ≡ number → f.nodes.now ≡ nodes → f.elements.now ≡ structure.elements → f.shape ≡ 0 → f.child ≡ 0 → f.row ≡ 0 → f.column ≡ 0 → IsFront ss number nodes place f
+pub front_is : (ss : List Submission) (number : ℕ) (nodes : List Node) (place : ℕ) (f : Frame)
+    (w : AreNodes ss number nodes) (structure : Structure) → slice_get nodes place ≡ Some f.node.now
+    → slice_get w.submission.library f.node.now.structure ≡ Some structure → IsWithin f.placing.by
+    → f.submission ≡ number → f.nodes.now ≡ nodes → f.elements.now ≡ structure.elements
+    → f.shape ≡ 0 → f.child ≡ 0 → f.row ≡ 0 → f.column ≡ 0 → IsFront ss number nodes place f
 front_is ss number nodes place f w structure at named near number_is nodes_are elements_are shape child row column = record {
   frame = record {
     submission = w.submission;
@@ -40,7 +44,11 @@ front_is ss number nodes place f w structure at named near number_is nodes_are e
     structure = structure;
     named = named;
     elements_are = elements_are;
-    within = λ c r child_is reference_is. let q : IsReference r = element_read w.submission.library f.node.now.structure structure c.element (elements.Reference r) w.shown.library named (subst (λ es. slice_get es c.element ≡ Some (elements.Reference r)) elements_are reference_is) in (omega (arith, row, q.rows.least), omega (arith, column, q.columns.least));
+    within = λ c r child_is reference_is. let q : IsReference r =
+        element_read w.submission.library f.node.now.structure structure c.element
+        (elements.Reference r) w.shown.library named
+        (subst (λ es. slice_get es c.element ≡ Some (elements.Reference r)) elements_are
+        reference_is) in (omega (arith, row, q.rows.least), omega (arith, column, q.columns.least));
     near = near;
   };
   number_is = number_is;
@@ -53,7 +61,13 @@ front_is ss number nodes place f w structure at named near number_is nodes_are e
 }
 
 -- the same structure, at other places within its elements and arrays, or placed elsewhere
-pub frame_at : (ss : List Submission) (f : Frame) → IsFrame ss f → (shape child row column : ℕ) (placing : Placing) → ((c : Child) (r : Reference) → slice_get f.node.now.children.items child ≡ Some c → slice_get f.elements.now c.element ≡ Some (elements.Reference r) → (row < r.rows) × (column < r.columns)) → IsWithin placing.by → IsFrame ss (record f { shape = shape; child = child; row = row; column = column; placing = placing })
+pub frame_at : (ss : List Submission) (f : Frame) → IsFrame ss f
+    → (shape child row column : ℕ) (placing : Placing)
+    → ((c : Child) (r : Reference) → slice_get f.node.now.children.items child ≡ Some c
+    → slice_get f.elements.now c.element ≡ Some (elements.Reference r)
+    → (row < r.rows) × (column < r.columns)) → IsWithin placing.by
+    → IsFrame ss
+    (record f { shape = shape; child = child; row = row; column = column; placing = placing })
 frame_at ss f q shape child row column placing within near = record {
   submission = q.submission;
   is = q.is;

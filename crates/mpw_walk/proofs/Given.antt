@@ -86,14 +86,22 @@ grows_with [] n m h = h
 grows_with (k ∷ ns) n m h = grows_with ns (max n k) (max m k) (omega arith)
 
 -- what holds of the references of elements by their heights, a bound of which holds for each
-pub references_few : (k : ℕ) (es : List Element) (turns : List ℕ → List Turn) (items : List ℕ → List Item) (levels : List ℕ → ℕ) → ((name : List ℕ) → length (turns name) ≤ levels name * length (items name)) → greatest (map levels (names_of es)) ≤ k → length (flat_map (λ (r : Reference). placed_turns r (turns r.name)) (references es)) ≤ suc k * length (flat_map (λ (r : Reference). placed_items r (items r.name)) (references es))
+pub references_few : (k : ℕ) (es : List Element) (turns : List ℕ → List Turn)
+    (items : List ℕ → List Item) (levels : List ℕ → ℕ)
+    → ((name : List ℕ) → length (turns name) ≤ levels name * length (items name))
+    → greatest (map levels (names_of es)) ≤ k
+    → length (flat_map (λ (r : Reference). placed_turns r (turns r.name)) (references es)) ≤ suc k
+    * length (flat_map (λ (r : Reference). placed_items r (items r.name)) (references es))
 references_few k [] turns items levels few le = omega arith
 references_few k (elements.Boundary b ∷ es) turns items levels few le = references_few k es turns items levels few le
 references_few k (elements.Path p ∷ es) turns items levels few le = references_few k es turns items levels few le
 references_few k (elements.Reference r ∷ es) turns items levels few le =
     let rest : greatest (map levels (names_of es)) ≤ k = omega (arith, le, grows_with (map levels (names_of es)) 0 (max 0 (levels r.name)) (omega arith)) in
     let one : levels r.name ≤ k = omega (arith, le, grows (map levels (names_of es)) (max 0 (levels r.name)), le-max_right 0 (levels r.name)) in
-    few_append (suc k) (placed_turns r (turns r.name)) _ (placed_items r (items r.name)) _ (few_each (suc k) (entered (turns r.name)) (λ t. map (placed_item t) (items r.name)) (λ t. few_entered (levels r.name) k (turns r.name) t (items r.name) (few r.name) one) (instances r)) (references_few k es turns items levels few rest)
+    few_append (suc k) (placed_turns r (turns r.name)) _ (placed_items r (items r.name))
+    _ (few_each (suc k) (entered (turns r.name)) (λ t. map (placed_item t) (items r.name))
+    (λ t. few_entered (levels r.name) k (turns r.name) t (items r.name) (few r.name) one)
+    (instances r)) (references_few k es turns items levels few rest)
 
 -- ---- all of it together
 
@@ -107,7 +115,14 @@ nothing_given = record { items_given = refl; few = omega arith }
 pub structure_gives : (number : ℕ) (s : Structure) (turns : List ℕ → List Turn) (items : List ℕ → List Item) (levels : List ℕ → ℕ) → ((target : List ℕ) → Gives (turns target) (items target) (levels target)) → Gives (shown_turns number s turns) (shown_items number s items) (shown_height s levels)
 structure_gives number s turns items levels below =
     let k = greatest (map levels (names_of s.elements)) in record {
-      items_given = given_append (map give (own_items number s.elements)) _ ∙ rw (given_give (own_items number s.elements)) (ap (λ is. own_items number s.elements ++ is) (given_each (λ (r : Reference). placed_turns r (turns r.name)) (λ (r : Reference). placed_items r (items r.name)) (λ r. given_placed_turns r (turns r.name) ∙ ap (placed_items r) (below r.name).items_given) (references s.elements)));
+      items_given =
+          given_append (map give (own_items number s.elements))
+          _ ∙ rw (given_give (own_items number s.elements))
+          (ap (λ is. own_items number s.elements ++ is)
+          (given_each (λ (r : Reference). placed_turns r (turns r.name))
+          (λ (r : Reference). placed_items r (items r.name))
+          (λ r. given_placed_turns r (turns r.name)
+          ∙ ap (placed_items r) (below r.name).items_given) (references s.elements)));
       few = few_append (suc k) (map give (own_items number s.elements)) _ (own_items number s.elements) _ (few_give k (own_items number s.elements)) (references_few k s.elements turns items levels (λ name. (below name).few) (omega arith));
     }
 

@@ -123,7 +123,13 @@ holds_shown n s below down =
 
 names_held : (xs ys zs : List (List Turn)) (s : Submission) → Related AreHeld xs ys zs → (name : List ℕ) → AreHeld (structure_turns xs s name) (structure_turns ys s name) (structure_turns zs s name)
 names_held xs ys zs s r name =
-    levels_related AreHeld (shown_turns (length xs)) (shown_turns (length ys)) (shown_turns (length zs)) [] [] [] (λ outside. at_number [] xs (bound_number s.bound outside)) (λ outside. at_number [] ys (bound_number s.bound outside)) (λ outside. at_number [] zs (bound_number s.bound outside)) (λ t x y z down. holds_shown (length xs) t x down) holds_nil (λ outside. numbers_related AreHeld xs ys zs [] [] [] holds_nil r (bound_number s.bound outside)) (levels_of s.library) s.library name
+    levels_related AreHeld (shown_turns (length xs)) (shown_turns (length ys))
+    (shown_turns (length zs)) [] [] [] (λ outside. at_number [] xs (bound_number s.bound outside))
+    (λ outside. at_number [] ys (bound_number s.bound outside))
+    (λ outside. at_number [] zs (bound_number s.bound outside))
+    (λ t x y z down. holds_shown (length xs) t x down) holds_nil
+    (λ outside. numbers_related AreHeld xs ys zs [] [] [] holds_nil r
+    (bound_number s.bound outside)) (levels_of s.library) s.library name
 
 all_held : (ss : List Submission) → Related AreHeld (all_turns ss) (all_turns ss) (all_turns ss)
 unfolding all_turns

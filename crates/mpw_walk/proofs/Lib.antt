@@ -19,7 +19,11 @@ pub mod Nexts
 pub mod Depth
 pub mod Reach
 pub mod Targets
-pub mod Ways
+pub mod FrameStacks
+pub mod GivenShapes
+pub mod EnteredInstances
+pub mod LeftFrames
+pub mod EnteredRoots
 pub mod Kept
 pub mod Starts
 pub mod Stacked

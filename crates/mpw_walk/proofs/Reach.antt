@@ -96,7 +96,11 @@ first_short t [] some own there = absurd (omega (arith, some))
 first_short t (i ∷ items) some own there =
     short_placing t i (All-head IsCloseItem i items own) (All-head IsCloseItem (placed_item t i) (map (placed_item t) items) there)
 
-pub near_array : (law : NamesAreWalked) (ss : List Submission) (f : Frame) (q : IsFrame ss f) (target : Target) (r : Reference) → AreRead ss → IsNext f target r → 0 < length (structure_items (flats (take f.submission ss)) q.submission r.name) → All IsCloseItem (structure_items (flats (take f.submission ss)) q.submission r.name) → IsNearArray r
+pub near_array : (law : NamesAreWalked) (ss : List Submission) (f : Frame) (q : IsFrame ss f)
+    (target : Target) (r : Reference) → AreRead ss → IsNext f target r
+    → 0 < length (structure_items (flats (take f.submission ss)) q.submission r.name)
+    → All IsCloseItem (structure_items (flats (take f.submission ss)) q.submission r.name)
+    → IsNearArray r
 near_array law ss f q target r read x some own = λ row column h l.
     let below = structure_items (flats (take f.submission ss)) q.submission in
     let of : Reference → List Item = λ r. placed_items r (below r.name) in

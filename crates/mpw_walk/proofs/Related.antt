@@ -28,13 +28,23 @@ pub numbers_related : {A B C : Type 0} (R : A → B → C → Type 0) (xs : List
 numbers_related R xs ys zs d e f r rest None = r
 numbers_related R xs ys zs d e f r rest (Some n) = related_at rest d e f r n
 
-module _ {A B C : Type 0} (R : A → B → C → Type 0) (f : Structure → (List ℕ → A) → A) (g : Structure → (List ℕ → B) → B) (h : Structure → (List ℕ → C) → C) (a : A) (b : B) (c : C) (oa : List ℕ → A) (ob : List ℕ → B) (oc : List ℕ → C) (step : (s : Structure) (x : List ℕ → A) (y : List ℕ → B) (z : List ℕ → C) → ((target : List ℕ) → R (x target) (y target) (z target)) → R (f s x) (g s y) (h s z)) (base : R a b c) (outside : (name : List ℕ) → R (oa name) (ob name) (oc name)) where
+module _ {A B C : Type 0} (R : A → B → C → Type 0) (f : Structure → (List ℕ → A) → A)
+    (g : Structure → (List ℕ → B) → B) (h : Structure → (List ℕ → C) → C) (a : A) (b : B) (c : C)
+    (oa : List ℕ → A) (ob : List ℕ → B) (oc : List ℕ → C)
+    (step : (s : Structure) (x : List ℕ → A) (y : List ℕ → B) (z : List ℕ → C)
+    → ((target : List ℕ) → R (x target) (y target) (z target)) → R (f s x) (g s y) (h s z))
+    (base : R a b c) (outside : (name : List ℕ) → R (oa name) (ob name) (oc name)) where
   pub levels_related : (n : ℕ) (library : List Structure) (name : List ℕ) → R (by_levels f a oa n library name) (by_levels g b ob n library name) (by_levels h c oc n library name)
   unfolding by_levels
   levels_related zero library name = base
   levels_related (suc n) library name = go (λ target. levels_related n library target) (structure_of library name)
     where
-      go : ((target : List ℕ) → R (by_levels f a oa n library target) (by_levels g b ob n library target) (by_levels h c oc n library target)) → (o : Option Structure) → R (at_structure (λ s. f s (λ target. by_levels f a oa n library target)) (oa name) o) (at_structure (λ s. g s (λ target. by_levels g b ob n library target)) (ob name) o) (at_structure (λ s. h s (λ target. by_levels h c oc n library target)) (oc name) o)
+      go : ((target : List ℕ)
+          → R (by_levels f a oa n library target) (by_levels g b ob n library target)
+          (by_levels h c oc n library target)) → (o : Option Structure)
+          → R (at_structure (λ s. f s (λ target. by_levels f a oa n library target)) (oa name) o)
+          (at_structure (λ s. g s (λ target. by_levels g b ob n library target)) (ob name) o)
+          (at_structure (λ s. h s (λ target. by_levels h c oc n library target)) (oc name) o)
       go below None = outside name
       go below (Some s) = step s _ _ _ below
 

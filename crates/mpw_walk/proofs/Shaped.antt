@@ -31,11 +31,20 @@ own_shapes n (elements.Reference r ∷ es) = own_shapes n es
 
 shown_shapes : (n : ℕ) (s : Structure) (below : List ℕ → List Item) → ((target : List ℕ) → All IsOfShape (below target)) → All IsOfShape (shown_items n s below)
 shown_shapes n s below down =
-    All-append IsOfShape (own_items n s.elements) _ (own_shapes n s.elements) (all_flat IsOfShape (λ (r : Reference). placed_items r (below r.name)) (references s.elements) (λ r. all_flat IsOfShape (λ t. map (placed_item t) (below r.name)) (instances r) (λ t. All-map IsOfShape (placed_item t) (below r.name) (down r.name))))
+    All-append IsOfShape (own_items n s.elements) _ (own_shapes n s.elements)
+    (all_flat IsOfShape (λ (r : Reference). placed_items r (below r.name)) (references s.elements)
+    (λ r. all_flat IsOfShape (λ t. map (placed_item t) (below r.name)) (instances r)
+    (λ t. All-map IsOfShape (placed_item t) (below r.name) (down r.name))))
 
 names_shapes : (xs ys zs : List (List Item)) (s : Submission) → Related AreOfShapes xs ys zs → (name : List ℕ) → AreOfShapes (structure_items xs s name) (structure_items ys s name) (structure_items zs s name)
 names_shapes xs ys zs s r name =
-    levels_related AreOfShapes (shown_items (length xs)) (shown_items (length ys)) (shown_items (length zs)) [] [] [] (λ outside. at_number [] xs (bound_number s.bound outside)) (λ outside. at_number [] ys (bound_number s.bound outside)) (λ outside. at_number [] zs (bound_number s.bound outside)) (λ t x y z down. shown_shapes (length xs) t x down) (All-nil IsOfShape) (λ outside. numbers_related AreOfShapes xs ys zs [] [] [] (All-nil IsOfShape) r (bound_number s.bound outside)) (levels_of s.library) s.library name
+    levels_related AreOfShapes (shown_items (length xs)) (shown_items (length ys))
+    (shown_items (length zs)) [] [] [] (λ outside. at_number [] xs (bound_number s.bound outside))
+    (λ outside. at_number [] ys (bound_number s.bound outside))
+    (λ outside. at_number [] zs (bound_number s.bound outside))
+    (λ t x y z down. shown_shapes (length xs) t x down) (All-nil IsOfShape)
+    (λ outside. numbers_related AreOfShapes xs ys zs [] [] [] (All-nil IsOfShape) r
+    (bound_number s.bound outside)) (levels_of s.library) s.library name
 
 all_shapes : (ss : List Submission) → Related AreOfShapes (flats ss) (flats ss) (flats ss)
 unfolding flats

@@ -35,7 +35,11 @@ shapes_all n front (e ∷ es) =
     let more = subst (λ m. turns_of_shapes n all (shape_places m es) ≡ map give (own_items n es)) (one_longer front e) (subst (λ whole. turns_of_shapes n whole (shape_places (length (front ++ e ∷ [])) es) ≡ map give (own_items n es)) next (shapes_all n (front ++ e ∷ []) es)) in
     go (ap (shape_turns n) (get_at front e es)) more e refl
   where
-    go : shape_turns n (slice_get (front ++ e ∷ es) (length front)) ≡ shape_turns n (Some e) → turns_of_shapes n (front ++ e ∷ es) (shape_places (length front + 1) es) ≡ map give (own_items n es) → (x : Element) → x ≡ e → turns_of_shapes n (front ++ e ∷ es) (shape_places (length front) (x ∷ es)) ≡ map give (own_items n (x ∷ es))
+    go : shape_turns n (slice_get (front ++ e ∷ es) (length front)) ≡ shape_turns n (Some e)
+        → turns_of_shapes n (front ++ e ∷ es) (shape_places (length front + 1) es)
+        ≡ map give (own_items n es) → (x : Element) → x ≡ e
+        → turns_of_shapes n (front ++ e ∷ es) (shape_places (length front) (x ∷ es))
+        ≡ map give (own_items n (x ∷ es))
     go here more (elements.Boundary b) is = rw (here, ← is) (ap (λ turns. shape_turns n (Some (elements.Boundary b)) ++ turns) more)
     go here more (elements.Path p) is = rw (here, ← is) (ap (λ turns. shape_turns n (Some (elements.Path p)) ++ turns) more)
     go here more (elements.Reference r) is = more
@@ -57,7 +61,12 @@ pub record IsChild (s : Submission) (before : List (List Item)) (earlier : List 
   pub target : IsTarget s (length before) earlier reference.name c.target
 
 module _ (s : Submission) (before : List (List Item)) (earlier : List Node) (all : List Element) where
-  pub children_all : (below : List ℕ → List Turn) → ((name : List ℕ) → structure_items before s name ≡ [] → below name ≡ []) → {i : ℕ} {es : List Element} {cs : List Child} → AreChildren s before earlier i es cs → (front : List Element) → i ≡ length front → all ≡ front ++ es → flat_map (λ (c : Child). reference_turns below (slice_get all c.element)) cs ≡ flat_map (λ (r : Reference). placed_turns r (below r.name)) (references es)
+  pub children_all : (below : List ℕ → List Turn)
+      → ((name : List ℕ) → structure_items before s name ≡ [] → below name ≡ [])
+      → {i : ℕ} {es : List Element} {cs : List Child} → AreChildren s before earlier i es cs
+      → (front : List Element) → i ≡ length front → all ≡ front ++ es
+      → flat_map (λ (c : Child). reference_turns below (slice_get all c.element)) cs
+      ≡ flat_map (λ (r : Reference). placed_turns r (below r.name)) (references es)
   children_all below none' none front at split = refl
   children_all below none' (shape {e = e} {es = es} {cs = cs} is rest) front at split =
       children_all below none' rest (front ++ e ∷ []) (omega (arith, at, one_longer front e)) (split ∙ sym (append_assoc front (e ∷ []) es)) ∙ go e is

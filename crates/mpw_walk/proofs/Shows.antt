@@ -21,7 +21,13 @@ front_turns : (law : NamesAreWalked) (ss : List Submission) (g : Frame) (q : IsF
 unfolding turns_within
 front_turns law ss g q name shape child row column place =
     let n = g.submission in
-    let start : turns_of_shapes n g.elements.now (drop g.shape g.node.now.shapes.items) ++ turns_of_children (named_turns ss n) g.elements.now g.row g.column (drop g.child g.node.now.children.items) ≡ turns_of_shapes n q.structure.elements g.node.now.shapes.items ++ turns_of_children (named_turns ss n) q.structure.elements 0 0 g.node.now.children.items = rw (shape, child, row, column, q.elements_are) refl in
+    let start : turns_of_shapes n g.elements.now (drop g.shape g.node.now.shapes.items)
+    ++ turns_of_children (named_turns ss n) g.elements.now g.row g.column
+    (drop g.child g.node.now.children.items)
+    ≡ turns_of_shapes n q.structure.elements g.node.now.shapes.items
+    ++ turns_of_children (named_turns ss n) q.structure.elements 0 0
+    g.node.now.children.items =
+    rw (shape, child, row, column, q.elements_are) refl in
     start ∙ node_turns ss n q.submission q.is g.nodes.now q.place g.node.now q.structure q.nodes q.at q.named ∙ sym (own_turns ss n q.submission q.is law g.nodes.now q.place g.node.now q.structure name q.nodes q.at q.named place)
 
 pub front_shows : (law : NamesAreWalked) (ss : List Submission) (n : ℕ) (nodes : List Node) (k : ℕ) (g : Frame) (w : IsFront ss n nodes k g) (s : Submission) → slice_get ss n ≡ Some s → (name : List ℕ) → place_of s.library name ≡ Some g.node.now.structure → Shows ss n s name g

@@ -3,7 +3,7 @@ use Rattle.mpw_walk.specs.Way.{left_in, work_left, IsOnWay, GoesOn, IsOver}
 use Rattle.mpw_walk.specs.Window.{taken}
 use Rattle.mpw_walk.specs.declared.frame.Frame.{Frame}
 use Rattle.mpw_walk.proofs.Fronts.{got, some_within, none_within}
-use Rattle.mpw_walk.proofs.Ways.{no_root, root_present, passed_way, passed_does}
+use Rattle.mpw_walk.proofs.EnteredRoots.{no_root, root_present, passed_way, passed_does}
 use Rattle.mpw_walk.proofs.way.Way.begin.Goals as goal
 
 pub returns-in_default-clause-does : goal.returns-in_default-clause-does
@@ -40,4 +40,7 @@ returns-clause-does c =
     let within = some_within c.get.result c.in-Some.root v.root (length v.roots.now) c.in-Some.is c.get.ensures.lookup.0 in
     let r_is = got v.roots.now v.root c.get.result c.in-Some.root c.in-Some.is c.get.ensures.lookup.1 within in
     let does = passed_does c.names_are_walked.ensures v.window v.shelf.now v.roots.now v.root v.turns c.requires.way c.in-Some.root.now r_is c.top-top.result c.top-top.ensures.shows c.top-top.ensures.low (omega (arith, c.if-top-gt0.false)) in
-    subst (λ (fs : List Frame). GoesOn (record { turns = v.turns; left = left_in v.window v.shelf.now v.roots.now v.root [] }) (record { turns = v.turns; left = left_in v.window v.shelf.now v.roots.now (v.root + 1) fs }) × (work_left v.shelf.now v.roots.now (v.root + 1) fs < work_left v.shelf.now v.roots.now v.root [])) (sym c.requires.empty) does
+    subst (λ (fs : List Frame). GoesOn (record {
+      turns = v.turns;
+      left = left_in v.window v.shelf.now v.roots.now v.root [];
+    }) (record { turns = v.turns; left = left_in v.window v.shelf.now v.roots.now (v.root + 1) fs }) × (work_left v.shelf.now v.roots.now (v.root + 1) fs < work_left v.shelf.now v.roots.now v.root [])) (sym c.requires.empty) does

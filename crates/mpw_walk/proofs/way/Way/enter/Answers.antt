@@ -7,7 +7,8 @@ use Rattle.mpw_walk.specs.Way.{left_in, work_left, IsOnWay, GoesOn}
 use Rattle.mpw_walk.specs.declared.frame.Frame.{Frame}
 use Rattle.mpw_walk.proofs.Arrays.{in_plane}
 use Rattle.mpw_walk.proofs.Placings.{then_is}
-use Rattle.mpw_walk.proofs.Ways.{few_frames, frame_is, grid, child_within, array_near, entered_way, entered_does, missed_way, missed_does, frames_room, near, short}
+use Rattle.mpw_walk.proofs.EnteredInstances.{frame_is, grid, child_within, array_near, entered_way, entered_does, missed_way, missed_does, frames_room, near, short}
+use Rattle.mpw_walk.proofs.GivenShapes.{few_frames}
 use Rattle.mpw_walk.proofs.way.Way.enter.Goals as goal
 
 pub target-entered-requires-clause-frame : goal.target-entered-requires-clause-frame
@@ -110,7 +111,10 @@ returns-then-not-is_in-clause-does c =
     let missed = sym c.is_in.ensures ∙ c.if-not-is_in.true in
     let w = missed_does c.names_are_walked.ensures v.window v.shelf.now v.roots.now v.root v.turns v.frames.items f c.requires.way c.args.target c.args.reference.now c.requires.next c.requires.shapes c.target-entered.result c.target-entered.ensures c.then-placing.result p_is missed in
     let items = one_frame v.frames.items c.push.new.self.items c.behind_instance.result (behind_instance f c.args.reference.now) c.push.ensures c.behind_instance.ensures in
-    subst (λ (fs : List Frame). GoesOn (record { turns = v.turns; left = left_in v.window v.shelf.now v.roots.now v.root (v.frames.items ++ f ∷ []) }) (record { turns = v.turns; left = left_in v.window v.shelf.now v.roots.now v.root fs }) × (work_left v.shelf.now v.roots.now v.root fs < work_left v.shelf.now v.roots.now v.root (v.frames.items ++ f ∷ []))) (sym items) w
+    subst (λ (fs : List Frame). GoesOn (record {
+      turns = v.turns;
+      left = left_in v.window v.shelf.now v.roots.now v.root (v.frames.items ++ f ∷ []);
+    }) (record { turns = v.turns; left = left_in v.window v.shelf.now v.roots.now v.root fs }) × (work_left v.shelf.now v.roots.now v.root fs < work_left v.shelf.now v.roots.now v.root (v.frames.items ++ f ∷ []))) (sym items) w
 
 pub overflow_add-self : goal.overflow_add-self
 overflow_add-self c =
@@ -142,4 +146,7 @@ returns-clause-does c =
     let met = sym c.is_in.ensures ∙ c.if-not-is_in.false in
     let w = entered_does c.names_are_walked.ensures v.window v.shelf.now v.roots.now v.root v.turns v.frames.items f c.requires.way c.args.target c.args.reference.now c.requires.next c.requires.shapes c.target-entered.result c.target-entered.ensures c.then-placing.result p_is met in
     let items = frames_are v.frames.items c.push.new.self.items c.push-2.new.self.items c.behind_instance.result (behind_instance f c.args.reference.now) _ c.push-2.ensures c.push.ensures c.behind_instance.ensures in
-    subst (λ (fs : List Frame). GoesOn (record { turns = v.turns; left = left_in v.window v.shelf.now v.roots.now v.root (v.frames.items ++ f ∷ []) }) (record { turns = v.turns + 1; left = left_in v.window v.shelf.now v.roots.now v.root fs }) × (work_left v.shelf.now v.roots.now v.root fs < work_left v.shelf.now v.roots.now v.root (v.frames.items ++ f ∷ []))) (sym items) w
+    subst (λ (fs : List Frame). GoesOn (record {
+      turns = v.turns;
+      left = left_in v.window v.shelf.now v.roots.now v.root (v.frames.items ++ f ∷ []);
+    }) (record { turns = v.turns + 1; left = left_in v.window v.shelf.now v.roots.now v.root fs }) × (work_left v.shelf.now v.roots.now v.root fs < work_left v.shelf.now v.roots.now v.root (v.frames.items ++ f ∷ []))) (sym items) w

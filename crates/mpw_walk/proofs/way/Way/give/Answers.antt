@@ -1,7 +1,7 @@
 use Rattle.std.proofs.Common.{◌<◌, ◌+◌, ◌++◌, ◌∷◌, [], List, arith, sym, subst, ◌∙◌}
 use Rattle.mpw_walk.specs.Way.{left_in, work_left, IsOnWay, GoesOn, GivesFirst}
 use Rattle.mpw_walk.specs.declared.frame.Frame.{Frame}
-use Rattle.mpw_walk.proofs.Ways.{few_frames, shape_is_within, given_placeable, given_near, given_short, given_way, given_first, over_way, over_does}
+use Rattle.mpw_walk.proofs.GivenShapes.{few_frames, shape_is_within, given_placeable, given_near, given_short, given_way, given_first, over_way, over_does}
 use Rattle.mpw_walk.proofs.way.Way.give.Goals as goal
 
 pub placed-placed-requires-clause-place : goal.placed-placed-requires-clause-place
@@ -41,7 +41,10 @@ returns-then-not-is_given-clause-does c =
     let v = c.args.self.now in
     let missed = sym c.is_given.ensures ∙ c.if-not-is_given.true in
     let does = over_does c.names_are_walked.ensures v.window v.shelf.now v.roots.now v.root v.turns v.frames.items c.args.frame.now c.requires.way c.placed-placed.result c.requires.shape c.placed-placed.ensures missed in
-    subst (λ (fs : List Frame). GoesOn (record { turns = v.turns; left = left_in v.window v.shelf.now v.roots.now v.root (v.frames.items ++ c.args.frame.now ∷ []) }) (record { turns = v.turns; left = left_in v.window v.shelf.now v.roots.now v.root fs }) × (work_left v.shelf.now v.roots.now v.root fs < work_left v.shelf.now v.roots.now v.root (v.frames.items ++ c.args.frame.now ∷ []))) (sym c.push.ensures) does
+    subst (λ (fs : List Frame). GoesOn (record {
+      turns = v.turns;
+      left = left_in v.window v.shelf.now v.roots.now v.root (v.frames.items ++ c.args.frame.now ∷ []);
+    }) (record { turns = v.turns; left = left_in v.window v.shelf.now v.roots.now v.root fs }) × (work_left v.shelf.now v.roots.now v.root fs < work_left v.shelf.now v.roots.now v.root (v.frames.items ++ c.args.frame.now ∷ []))) (sym c.push.ensures) does
 
 pub overflow_add-self : goal.overflow_add-self
 overflow_add-self c =

@@ -1,6 +1,7 @@
 use Rattle.std.proofs.Common.{◌≡◌, ◌≤◌, length, arith, subst}
 use Rattle.std.specs.Prelude.{Option, None, IfNone}
-use Rattle.mpw_walk.proofs.Ways.{left_way, left_does, each_last}
+use Rattle.mpw_walk.proofs.FrameStacks.{each_last}
+use Rattle.mpw_walk.proofs.LeftFrames.{left_way, left_does}
 use Rattle.mpw_walk.proofs.Nexts.{has_reference}
 use Rattle.mpw_walk.proofs.way.Way.go_on.Goals as goal
 use Rattle.mpw_walk.proofs.way.Way.go_on.Goals.{in-Some, in_default}
