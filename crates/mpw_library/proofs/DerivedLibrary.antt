@@ -77,15 +77,15 @@ to_units = record {
 }
 
 -- the records of a head
-record HeadIn (all : List Outcome) (x : ℕ × List Outcome) : Type 0 where
-  rest : List Outcome
-  libname : RawRecord
-  units : RawRecord
-  to_name : Begins all rest (λ rs. Behind is_aside LIBNAME rs libname)
-  to_unit : Begins rest x.1 (λ rs. Behind is_aside UNITS rs units)
-  unit : unit_of units ≡ Ok x.0
+pub record HeadIn (all : List Outcome) (x : ℕ × List Outcome) : Type 0 where
+  pub rest : List Outcome
+  pub libname : RawRecord
+  pub units : RawRecord
+  pub to_name : Begins all rest (λ rs. Behind is_aside LIBNAME rs libname)
+  pub to_unit : Begins rest x.1 (λ rs. Behind is_aside UNITS rs units)
+  pub unit : unit_of units ≡ Ok x.0
 
-head_sound : (all : List Outcome) (x : ℕ × List Outcome) → head all ≡ Ok x → HeadIn all x
+pub head_sound : (all : List Outcome) (x : ℕ × List Outcome) → head all ≡ Ok x → HeadIn all x
 unfolding head
 head_sound all x e =
     let a = bind_ok (up_to LIBNAME UNITS all) _ x e in
@@ -108,28 +108,26 @@ head_complete {to_unit = us} a b u rest = rw (up_to_complete a UNITS to_libname 
 -- ---- the library
 
 -- the records of a library, and what stands behind ENDLIB
-record LibraryIn (all : List Outcome) (ss : List Structure) : Type 0 where
-  before_end : List RawRecord
-  end : RawRecord
-  rest : List Outcome
-  parts : all ≡ records_then before_end (Ok end ∷ rest)
-  last : end.kind ≡ ENDLIB
-  derived : DerivesLibrary (before_end ++ end ∷ []) ss
+pub record LibraryIn (all : List Outcome) (x : List Structure × List Outcome) : Type 0 where
+  pub before_end : List RawRecord
+  pub end : RawRecord
+  pub parts : all ≡ records_then before_end (Ok end ∷ x.1)
+  pub last : end.kind ≡ ENDLIB
+  pub derived : DerivesLibrary (before_end ++ end ∷ []) x.0
 
-library_parts : (o1 o2 o3 o4 : List Outcome) (header begin : RawRecord) (unit : ℕ) (ss : List Structure)
-    → o1 ≡ Ok header ∷ o2 → header.kind ≡ HEADER → o2 ≡ Ok begin ∷ o3 → begin.kind ≡ BGNLIB → HeadIn o3 (unit, o4) → (rest : List Outcome) → StructuresIn unit [] o4 (ss, rest) → LibraryIn o1 ss
+pub library_parts : (o1 o2 o3 o4 : List Outcome) (header begin : RawRecord) (unit : ℕ) (ss : List Structure)
+    → o1 ≡ Ok header ∷ o2 → header.kind ≡ HEADER → o2 ≡ Ok begin ∷ o3 → begin.kind ≡ BGNLIB → HeadIn o3 (unit, o4) → (rest : List Outcome) → StructuresIn unit [] o4 (ss, rest) → LibraryIn o1 (ss, rest)
 library_parts o1 o2 o3 o4 header begin unit ss p1 k1 p2 k2 h rest s =
     let a : o3 ≡ records_then (h.to_name.records ++ h.to_unit.records ++ s.records) (Ok s.end ∷ rest) = parts_both o3 o4 (Ok s.end ∷ rest) (h.to_name.records ++ h.to_unit.records) s.records (parts_both o3 h.rest o4 h.to_name.records h.to_unit.records h.to_name.parts h.to_unit.parts) s.parts in
-    subst (LibraryIn o1) (sym s.total) (record {
+    subst (λ (l : List Structure). LibraryIn o1 (l, rest)) (sym s.total) (record {
       before_end = header ∷ begin ∷ h.to_name.records ++ h.to_unit.records ++ s.records;
       end = s.end;
-      rest = rest;
       parts = p1 ∙ ap (λ (os : List Outcome). Ok header ∷ os) (p2 ∙ ap (λ (os : List Outcome). Ok begin ∷ os) a);
       last = s.last;
       derived = DerivesLibrary.library s.end k1 k2 h.to_name.told h.to_unit.told h.unit s.derived (subst AreApart s.total (s.apart tt)) s.last;
     })
 
-library_sound : (all : List Outcome) (ss : List Structure) → library all ≡ Ok ss → LibraryIn all ss
+library_sound : (all : List Outcome) (ss : List Structure) → library all ≡ Ok ss → (rest : List Outcome) × LibraryIn all (ss, rest)
 unfolding library
 library_sound all ss e =
     let a = bind_ok (next_is HEADER all) (λ header. next_is BGNLIB header.1 >>= λ begin. head begin.1 >>= λ unit. all_structures unit.0 unit.1 >>= λ structures. Ok structures.0) ss e in
@@ -139,9 +137,9 @@ library_sound all ss e =
     let pa = next_is_sound HEADER all a.0 a.1 in
     let pb = next_is_sound BGNLIB a.0.1 b.0 b.1 in
     let h = head_sound b.0.1 u.0 u.1 in
-    subst (LibraryIn all) {x = s.0.0} (ok_is s.0.0 ss s.2) (library_parts all a.0.1 b.0.1 u.0.1 a.0.0 b.0.0 u.0.0 s.0.0 pa.0 pa.1 pb.0 pb.1 h s.0.1 (structures_sound (length u.0.1) u.0.0 [] u.0.1 s.0 s.1))
+    (s.0.1, subst (λ (l : List Structure). LibraryIn all (l, s.0.1)) {x = s.0.0} (ok_is s.0.0 ss s.2) (library_parts all a.0.1 b.0.1 u.0.1 a.0.0 b.0.0 u.0.0 s.0.0 pa.0 pa.1 pb.0 pb.1 h s.0.1 (structures_sound (length u.0.1) u.0.0 [] u.0.1 s.0 s.1)))
 
-library_complete : {rs : List RawRecord} {ss : List Structure} → DerivesLibrary rs ss → (rest : List Outcome) → library (records_then rs rest) ≡ Ok ss
+pub library_complete : {rs : List RawRecord} {ss : List Structure} → DerivesLibrary rs ss → (rest : List Outcome) → library (records_then rs rest) ≡ Ok ss
 unfolding library
 library_complete {ss = ss} (DerivesLibrary.library {header = header} {begin = begin} end {to_name = ns} {to_units = us} {rs = rs} {unit = unit} k1 k2 a b u d apart k3) rest =
     let after_head : List Outcome = records_then rs (Ok end ∷ rest) in
@@ -178,9 +176,9 @@ all_ok : (rs : List RawRecord) → records_then rs [] ≡ map (λ r. Ok r) rs
 all_ok [] = refl
 all_ok (r ∷ rs) = ap (λ (os : List Outcome). Ok r ∷ os) (all_ok rs)
 
-text_of : (text : List ℕ) (ss : List Structure) → LibraryIn (outcomes_of text) ss → IsTextOf text ss
-text_of text ss h =
-    let nothing : h.rest ≡ [] = last_record (suc (length text)) text 0 h.before_end h.end h.rest h.last h.parts in
+text_of : (text : List ℕ) (ss : List Structure) (rest : List Outcome) → LibraryIn (outcomes_of text) (ss, rest) → IsTextOf text ss
+text_of text ss rest h =
+    let nothing : rest ≡ [] = last_record (suc (length text)) text 0 h.before_end h.end rest h.last h.parts in
     record {
       records = h.before_end ++ h.end ∷ [];
       whole = h.parts ∙ ap (λ (os : List Outcome). records_then h.before_end (Ok h.end ∷ os)) nothing ∙ sym (records_both h.before_end (h.end ∷ []) []) ∙ all_ok (h.before_end ++ h.end ∷ []);
@@ -189,7 +187,7 @@ text_of text ss h =
 
 pub libraries_are_derived : LibrariesAreDerived
 libraries_are_derived text ss =
-    (λ e. text_of text ss (library_sound (outcomes_of text) ss e), λ h. ap library (h.whole ∙ sym (all_ok h.records)) ∙ library_complete h.derived [])
+    (λ e. let h = library_sound (outcomes_of text) ss e in text_of text ss h.0 h.1, λ h. ap library (h.whole ∙ sym (all_ok h.records)) ∙ library_complete h.derived [])
 
 pub derived_once : OneDerivation
 derived_once rs ss others d e = ok_is ss others (sym (library_complete d []) ∙ library_complete e [])

@@ -56,11 +56,11 @@ failed f = Err f
 fault_is : {A : Type 0} (f g : ReadFault) → failed {A = A} f ≡ failed {A = A} g → f ≡ g
 fault_is f g e = cc
 
-empty : (rs : List Outcome) → length rs ≤ 0 → rs ≡ []
+pub empty : (rs : List Outcome) → length rs ≤ 0 → rs ≡ []
 empty [] h = refl
 empty (r ∷ rs) h = absurd (omega arith)
 
-item_gone : (unit : ℕ) → item unit [] ≡ Err gone
+pub item_gone : (unit : ℕ) → item unit [] ≡ Err gone
 unfolding item
 item_gone unit = refl
 
@@ -68,7 +68,7 @@ fails_from : (e : ReadError) {Y Z : Type 0} (read : Result Y ReadFault) (total :
 fails_from errors.Memory read total h d = tt
 fails_from (errors.Fault f) read total h d = h f d
 
-elements_fail : (unit : ℕ) (most : ℕ) (es : List Element) (rs : List Outcome) → length rs ≤ most → (f : ReadFault) → item unit rs ≡ Err f → elements_behind most unit es rs ≡ Err f
+pub elements_fail : (unit : ℕ) (most : ℕ) (es : List Element) (rs : List Outcome) → length rs ≤ most → (f : ReadFault) → item unit rs ≡ Err f → elements_behind most unit es rs ≡ Err f
 unfolding elements_behind
 elements_fail unit zero es rs le f e = ap (λ g. Err g) (fault_is {A = Item × List Outcome} gone f (sym (item_gone unit) ∙ sym (ap (item unit) (empty rs le)) ∙ e))
 elements_fail unit (suc most) es rs le f e = rw e refl
@@ -104,11 +104,11 @@ pub record StructuresTo (unit : ℕ) (ss : List Structure) (rs : List Outcome) (
   pub enough : length rs ≤ most
   pub same : structures_behind most unit ss rs ≡ total
 
-structure_gone : (unit : ℕ) (ss : List Structure) → next_structure unit ss [] ≡ Err gone
+pub structure_gone : (unit : ℕ) (ss : List Structure) → next_structure unit ss [] ≡ Err gone
 unfolding next_structure
 structure_gone unit ss = refl
 
-structures_fail : (unit : ℕ) (most : ℕ) (ss : List Structure) (rs : List Outcome) → length rs ≤ most → (f : ReadFault) → next_structure unit ss rs ≡ Err f → structures_behind most unit ss rs ≡ Err f
+pub structures_fail : (unit : ℕ) (most : ℕ) (ss : List Structure) (rs : List Outcome) → length rs ≤ most → (f : ReadFault) → next_structure unit ss rs ≡ Err f → structures_behind most unit ss rs ≡ Err f
 unfolding structures_behind
 structures_fail unit zero ss rs le f e = ap (λ g. Err g) (fault_is {A = Option Structure × List Outcome} gone f (sym (structure_gone unit ss) ∙ sym (ap (next_structure unit ss) (empty rs le)) ∙ e))
 structures_fail unit (suc most) ss rs le f e = rw e refl

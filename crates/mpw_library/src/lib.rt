@@ -12,7 +12,7 @@ mod structures;
 mod text;
 
 pub use elements::Elements;
-pub use laws::libraries_are_derived;
+pub use laws::{libraries_are_derived, unexpected_is_first};
 pub use library::Library;
 pub use read::read_library;
 pub use structures::{Structure, Structures};

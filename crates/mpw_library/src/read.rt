@@ -1,12 +1,13 @@
 //! Reading a whole text.
 
-ghost use Rattle.std.specs.Prelude.{◌≡◌, ◌<◌, ◌≤◌, ◌==◌, ◌||◌, None, length, IsTrue, OnOk, IfOk, IfSome, All};
+ghost use Rattle.std.specs.Prelude.{◌≡◌, ◌<◌, ◌≤◌, ◌==◌, ◌||◌, None, length, IsTrue, OnOk, IfOk, IfErr, IfSome, All};
 ghost use Rattle.mpw_records.specs.Format.{least_size};
 ghost use Rattle.mpw_records.specs.Records.{raw, IsSized};
 ghost use Rattle.mpw_elements.specs.Element.{IsElement};
 ghost use Rattle.mpw_elements.specs.Reading.{Gives, GivesValue, demanded};
 ghost use Rattle.mpw_library.specs.Grammar.{gone, next_record, next_is, unit_of, ends_head, up_to, head, is_between, item, all_elements, structure, next_structure, all_structures, library_of};
 ghost use Rattle.mpw_library.specs.Derivation.{IsTextOf};
+ghost use Rattle.mpw_library.specs.Fronts.{IsToldFirst};
 ghost use Rattle.mpw_library.specs.Library.{IsItem, IsStructure, IsLibrary};
 ghost use Rattle.mpw_library.specs.Places.{place_of};
 
@@ -242,10 +243,12 @@ fn read_whole(alloc: Global, bytes: &[u8]) -> Result<Library, ReadError>
 /// names.
 ///
 /// # Errors
-/// The first fault by offset, with the first code in the order of the tests; or want of memory.
+/// The first fault by offset, with the first code in the order of the tests; or want of memory. An unexpected record is told
+/// by the offset of the first record with which no text goes on.
 pub fn read_library(alloc: Global, bytes: &[u8]) -> Result<Library, ReadError>
     ensures library { GivesValue (λ library. library) result (library_of bytes.now) }
     ensures derived { IfOk result (IsTextOf bytes.now) }
+    ensures unexpected { IfErr result (IsToldFirst bytes.now) }
     ensures shape { IfOk result IsLibrary }
 {
     read_whole(alloc, bytes)
