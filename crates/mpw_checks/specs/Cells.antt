@@ -1,5 +1,5 @@
 -- A core in two halves, left and right, and what is found in each.
-use Rattle.std.specs.Prelude.{◌+◌, ℤ, ◌≤ℤ◌, List, ◌⊎◌, ◌↔◌}
+use Rattle.std.specs.Prelude.{◌+◌, ℕ, ℤ, ◌≤ℤ◌, List, ◌⊎◌, ◌↔◌}
 use Rattle.std.specs.Int.{int_min, int_max}
 use Rattle.mpw_geom.specs.declared.plane.Point.{Point}
 use Rattle.mpw_geom.specs.declared.plane.Box2.{Box2}
@@ -14,9 +14,9 @@ use Rattle.mpw_edges.specs.Laws.{widened, AreSameIn}
 abbrev pub StepsIn : Rule → List Box2 → List Box2 → Box2 → Axis → Line → ℤ → Type 0
 StepsIn rule first second core axis line j = HasStep rule (covers first) (covers second) core axis line.side line.first line.second j
 
--- the window that decides what the rule finds in the core
-abbrev pub window_of : Box2 → Rule → Box2
-window_of core rule = widened core (rule.distance + 1)
+-- the window that decides what rules up to that distance find in the core
+abbrev pub window_of : Box2 → ℕ → Box2
+window_of core distance = widened core (distance + 1)
 
 -- the lists have the same squares in the window
 abbrev pub AreAlikeIn : Box2 → List Box2 → List Box2 → Type 0

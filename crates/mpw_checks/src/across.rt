@@ -89,24 +89,17 @@ fn add_across(boxes: &mut Vec<Box2>, runs: &[Run], window: &Box2) -> Result<(), 
 }
 
 /// Whether many of the boxes reach across the window: one in four.
-fn are_many(boxes: &[Box2], window: &Box2) -> bool {
+pub(crate) fn are_many(boxes: &[Box2], window: &Box2) -> bool {
     let across = boxes.iter().filter(|b| reaches_across(b, window)).count();
     across > 1 && across >= boxes.len() / 4
 }
 
-/// The squares of the boxes, by boxes of which no two that reach across the window overlap or touch, where those
-/// were many. A sort of their rows.
-pub(crate) fn merged(
-    alloc: Global,
-    boxes: Vec<Box2>,
-    window: &Box2,
-) -> Result<Vec<Box2>, AllocError>
-    ensures { IfOk result (λ v. (i j : ℤ) → covers v.items i j ≡ covers boxes.items i j) }
+/// The squares of the boxes, by boxes of which no two that reach across the window overlap or touch. A sort of
+/// their rows.
+pub(crate) fn merged(alloc: Global, boxes: &[Box2], window: &Box2) -> Result<Vec<Box2>, AllocError>
+    ensures { IfOk result (λ v. (i j : ℤ) → covers v.items i j ≡ covers boxes.now i j) }
 {
-    if !are_many(boxes.as_slice(), window) {
-        return Ok(boxes);
-    }
-    let Apart { within, across } = separate(alloc, boxes.as_slice(), window)?;
+    let Apart { within, across } = separate(alloc, boxes, window)?;
     let across = joined(alloc, across)?;
     let mut within = within;
     add_across(&mut within, across.as_slice(), window)?;

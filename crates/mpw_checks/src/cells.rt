@@ -1,93 +1,98 @@
-//! A core in strips: halves of halves, each checked by itself.
+//! A core in strips: halves of halves, each with bands of its own.
 //!
 //! Looking along rows, a core is halved left and right of the middle of its rectangles while the halves are
 //! less work together. So a strip has few rectangles in a row, however many it has from below to above;
 //! rectangles that all share a place are not divided for nothing, and the passes over a rectangle are about as
 //! many as the halvings.
 
-ghost use Rattle.std.specs.Prelude.{◌≡◌, ◌↔◌, ℤ, IfOk, OnOk, Contains, AllPairs};
+ghost use Rattle.std.specs.Prelude.{◌≡◌, ◌↔◌, ◌≤◌, ℤ, IfOk, OnOk, All, Contains, AllPairs};
 ghost use Rattle.mpw_geom.specs.Plane.{IsBoxInPlane};
 ghost use Rattle.mpw_region.specs.declared.runs.Line.{Line as LineValue};
-ghost use Rattle.mpw_region.specs.Runs.{Adds, CoversPlace, AreApart};
 ghost use Rattle.mpw_region.specs.Squares.{covers};
+ghost use Rattle.mpw_deck.specs.declared.rule.Rule.{Rule as RuleValue};
 ghost use Rattle.mpw_edges.specs.declared.run.Axis.TheVariants.{V, H};
 ghost use Rattle.mpw_edges.specs.declared.run.Piece.{Piece as PieceValue};
 ghost use Rattle.mpw_edges.specs.Pieces.{IsPiece, ComesBefore, exchanged_box};
 ghost use Rattle.mpw_checks.specs.Cells.{StepsIn};
+ghost use Rattle.mpw_checks.specs.Strips.{IsStrip, FindsIn, AddsStrips, AreStrips};
 
 use crate::halves::{Layers, halves, in_window};
+use crate::strips::{Strip, Strips, pieces_in};
 use mpw_deck::Rule;
-use mpw_edges::{Piece, pieces_of, vertical_steps};
+use mpw_edges::Piece;
 use mpw_geom::Box2;
-use mpw_region::{Run, exchange, joined, row_bands};
+use mpw_region::{exchange, row_bands};
 use std::alloc::{AllocError, Global};
 
 /// Halvings of a core.
 const DEPTH: u32 = 60;
 
-/// Adds what a strip finds along rows.
+/// Adds a strip with the bands of the layers.
 fn add_strip(
     alloc: Global,
-    found: &mut Vec<Run>,
-    rule: &Rule,
+    strips: &mut Vec<Strip>,
     layers: &Layers,
     core: Box2,
+    distance: u32,
 ) -> Result<(), AllocError>
-    ensures { OnOk result (Adds found.old.items found.new.items
-        (StepsIn rule.now layers.now.first.items layers.now.second.items core V)) }
+    ensures { OnOk result (AddsStrips distance strips.old.items strips.new.items
+        (λ rule. StepsIn rule layers.now.first.items layers.now.second.items core V)) }
 {
     let first = row_bands(alloc, layers.first.as_slice())?;
     let second = row_bands(alloc, layers.second.as_slice())?;
-    let runs = vertical_steps(alloc, rule, first.as_slice(), second.as_slice(), core)?;
-    found.extend_from_slice(runs.as_slice())?;
+    strips.push(Strip {
+        core,
+        first,
+        second,
+    })?;
     Ok(())
 }
 
-/// Adds what a core finds along rows, in at most two to the `depth` strips.
+/// Adds at most two to the `depth` strips of a core, along rows.
 fn add_core(
     alloc: Global,
-    found: &mut Vec<Run>,
-    rule: &Rule,
+    strips: &mut Vec<Strip>,
     layers: &Layers,
     core: Box2,
+    distance: u32,
     depth: u32,
 ) -> Result<(), AllocError>
     requires { IsBoxInPlane core }
-    ensures { OnOk result (Adds found.old.items found.new.items
-        (StepsIn rule.now layers.now.first.items layers.now.second.items core V)) }
+    ensures { OnOk result (AddsStrips distance strips.old.items strips.new.items
+        (λ rule. StepsIn rule layers.now.first.items layers.now.second.items core V)) }
 {
     let load = layers.load;
     if depth == 0 || load.is_light() {
-        return add_strip(alloc, found, rule, layers, core);
+        return add_strip(alloc, strips, layers, core, distance);
     }
     let (left, right) = halves(&core, &load.extent);
     let (first, second) = (layers.first.as_slice(), layers.second.as_slice());
-    let low = in_window(alloc, rule, first, second, &left)?;
-    let high = in_window(alloc, rule, first, second, &right)?;
+    let low = in_window(alloc, distance, first, second, &left)?;
+    let high = in_window(alloc, distance, first, second, &right)?;
     if !load.is_eased_by(&low.load, &high.load) {
-        return add_strip(alloc, found, rule, layers, core);
+        return add_strip(alloc, strips, layers, core, distance);
     }
-    add_core(alloc, found, rule, &low, left, depth - 1)?;
-    add_core(alloc, found, rule, &high, right, depth - 1)
+    add_core(alloc, strips, &low, left, distance, depth - 1)?;
+    add_core(alloc, strips, &high, right, distance, depth - 1)
 }
 
-/// The maximal runs of rows with a pair step between vertical edges inside the core.
+/// The strips of a core along rows, for rules up to that distance.
 fn along_rows(
     alloc: Global,
-    rule: &Rule,
+    distance: u32,
     first: &[Box2],
     second: &[Box2],
     core: Box2,
-) -> Result<Vec<Run>, AllocError>
+) -> Result<Vec<Strip>, AllocError>
     requires { IsBoxInPlane core }
-    ensures places { IfOk result (λ v. (line : LineValue) (j : ℤ) →
-        CoversPlace v.items line j ↔ StepsIn rule.now first.now second.now core V line j) }
-    ensures apart { IfOk result (λ v. AreApart v.items) }
+    ensures steps { IfOk result (λ v. (rule : RuleValue) → rule.distance ≤ distance → (line : LineValue) (j : ℤ) →
+        FindsIn v.items rule line j ↔ StepsIn rule first.now second.now core V line j) }
+    ensures banded { IfOk result (λ v. All IsStrip v.items) }
 {
-    let layers = in_window(alloc, rule, first, second, &core)?;
-    let mut found = Vec::new(alloc);
-    add_core(alloc, &mut found, rule, &layers, core, DEPTH)?;
-    joined(alloc, found)
+    let layers = in_window(alloc, distance, first, second, &core)?;
+    let mut strips = Vec::new(alloc);
+    add_core(alloc, &mut strips, &layers, core, distance, DEPTH)?;
+    Ok(strips)
 }
 
 /// The box with its coordinates exchanged.
@@ -102,32 +107,54 @@ fn exchanged_box(b: &Box2) -> Box2
     }
 }
 
-/// The maximal runs of columns with a pair step between horizontal edges inside the core.
+/// The strips of a core along columns, for rules up to that distance.
 fn along_columns(
     alloc: Global,
-    rule: &Rule,
+    distance: u32,
     first: &[Box2],
     second: &[Box2],
     core: Box2,
-) -> Result<Vec<Run>, AllocError>
+) -> Result<Vec<Strip>, AllocError>
     requires { IsBoxInPlane core }
-    ensures places { IfOk result (λ v. (line : LineValue) (j : ℤ) →
-        CoversPlace v.items line j ↔ StepsIn rule.now first.now second.now core H line j) }
-    ensures apart { IfOk result (λ v. AreApart v.items) }
+    ensures steps { IfOk result (λ v. (rule : RuleValue) → rule.distance ≤ distance → (line : LineValue) (j : ℤ) →
+        FindsIn v.items rule line j ↔ StepsIn rule first.now second.now core H line j) }
+    ensures banded { IfOk result (λ v. All IsStrip v.items) }
 {
     let first = exchange(alloc, first)?;
     let second = exchange(alloc, second)?;
     let core = exchanged_box(&core);
-    along_rows(alloc, rule, first.as_slice(), second.as_slice(), core)
+    along_rows(alloc, distance, first.as_slice(), second.as_slice(), core)
+}
+
+/// The half-open core in strips, with the bands of two layers, from rectangles in any order that may overlap. They serve
+/// each rule up to that distance whose first layer has the rectangles of `first` and whose second has those of
+/// `second`; a check of one layer ignores `second`.
+///
+/// Along rows and along columns the core is halved into strips with few rectangles side by side. The cost is a pass
+/// over the rectangles a halving, and the bands of each strip, which stay in memory.
+///
+/// # Errors
+/// Where there is no room.
+pub fn strips_of(
+    alloc: Global,
+    distance: u32,
+    first: &[Box2],
+    second: &[Box2],
+    core: Box2,
+) -> Result<Strips, AllocError>
+    requires { IsBoxInPlane core }
+    ensures { IfOk result (AreStrips distance (covers first.now) (covers second.now) core) }
+{
+    let rows = along_rows(alloc, distance, first, second, core)?;
+    let columns = along_columns(alloc, distance, first, second, core)?;
+    Ok(Strips::of(rows, columns))
 }
 
 /// What the rule finds in the half-open core, as [`mpw_edges::pieces`] tells it, from rectangles in any
 /// order that may overlap. `first` are those of the check's first layer, `second` those of its second; a
 /// check of one layer ignores `second`, which is then best empty.
 ///
-/// Along rows and along columns the core is halved into strips with few rectangles side by side, and each is
-/// checked by itself. The cost is a pass over the rectangles a halving, that of bands and pairs in each strip,
-/// and a sort of what is found. The only error is that memory ran out.
+/// The cost is that of [`strips_of`] and of [`pieces_in`]. The only error is that memory ran out.
 pub fn pieces(
     alloc: Global,
     rule: &Rule,
@@ -140,7 +167,6 @@ pub fn pieces(
         Contains v.items p ↔ IsPiece rule.now (covers first.now) (covers second.now) core p) }
     ensures ordered { IfOk result (λ v. AllPairs ComesBefore v.items) }
 {
-    let vertical = along_rows(alloc, rule, first, second, core)?;
-    let horizontal = along_columns(alloc, rule, first, second, core)?;
-    pieces_of(alloc, vertical.as_slice(), horizontal.as_slice())
+    let strips = strips_of(alloc, rule.distance, first, second, core)?;
+    pieces_in(alloc, rule, &strips)
 }

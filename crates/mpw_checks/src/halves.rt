@@ -12,9 +12,8 @@ ghost use Rattle.mpw_checks.specs.Cells.{
   AreAlikeIn,
 };
 
-use crate::across::merged;
+use crate::across::{are_many, merged};
 use crate::load::Load;
-use mpw_deck::Rule;
 use mpw_geom::{Box2, Point};
 use std::alloc::{AllocError, Global};
 
@@ -26,12 +25,19 @@ pub(crate) struct Layers {
     pub(crate) load: Load,
 }
 
-/// The core widened on each side by the rule's distance and 1.
-fn window(core: &Box2, rule: &Rule) -> Box2
+/// Boxes, and how much work they are.
+#[derive(Drop)]
+struct Loaded {
+    boxes: Vec<Box2>,
+    load: Load,
+}
+
+/// The core widened on each side by the distance and 1.
+fn window(core: &Box2, distance: u32) -> Box2
     requires { IsBoxInPlane core.now }
-    ensures { result ≡ window_of core.now rule.now }
+    ensures { result ≡ window_of core.now distance }
 {
-    let margin = i64::from(rule.distance) + 1;
+    let margin = i64::from(distance) + 1;
     Box2 {
         x0: core.x0 - margin,
         y0: core.y0 - margin,
@@ -102,48 +108,54 @@ fn has_area(b: &Box2) -> bool
     b.x0 < b.x1 && b.y0 < b.y1
 }
 
-/// The parts of the boxes in the window. One pass.
-fn parts(alloc: Global, boxes: &[Box2], window: &Box2) -> Result<Vec<Box2>, AllocError>
-    ensures { IfOk result (λ v. AreAlikeIn window.now boxes.now v.items) }
+/// The parts of the boxes in the window, and how much work they are. One pass.
+fn parts(alloc: Global, boxes: &[Box2], window: &Box2) -> Result<Loaded, AllocError>
+    ensures { IfOk result (λ s. AreAlikeIn window.now boxes.now s.boxes.items) }
 {
     let mut found = Vec::with_capacity(alloc, boxes.len())?;
+    let mut load = Load::none();
     for b in boxes {
         let part = part(b, window);
         if has_area(&part) {
             found.push(part)?;
+            load.add(&part);
         }
     }
-    Ok(found)
+    Ok(Loaded { boxes: found, load })
 }
 
 /// The boxes as far as the window has them, few of them from side to side of all.
-fn seen(alloc: Global, boxes: &[Box2], window: &Box2) -> Result<Vec<Box2>, AllocError>
-    ensures { IfOk result (λ v. AreAlikeIn window.now boxes.now v.items) }
+fn seen(alloc: Global, boxes: &[Box2], window: &Box2) -> Result<Loaded, AllocError>
+    ensures { IfOk result (λ s. AreAlikeIn window.now boxes.now s.boxes.items) }
 {
     let parts = parts(alloc, boxes, window)?;
-    let extent = Load::of(parts.as_slice(), &[]).extent;
-    merged(alloc, parts, &extent)
+    if !are_many(parts.boxes.as_slice(), &parts.load.extent) {
+        return Ok(parts);
+    }
+    let boxes = merged(alloc, parts.boxes.as_slice(), &parts.load.extent)?;
+    let load = Load::of(boxes.as_slice());
+    Ok(Loaded { boxes, load })
 }
 
 /// The parts of the rectangles that lie in the core's window.
 pub(crate) fn in_window(
     alloc: Global,
-    rule: &Rule,
+    distance: u32,
     first: &[Box2],
     second: &[Box2],
     core: &Box2,
 ) -> Result<Layers, AllocError>
     requires { IsBoxInPlane core.now }
-    ensures first { IfOk result (λ l. AreAlikeIn (window_of core.now rule.now) first.now l.first.items) }
-    ensures second { IfOk result (λ l. AreAlikeIn (window_of core.now rule.now) second.now l.second.items) }
+    ensures first { IfOk result (λ l. AreAlikeIn (window_of core.now distance) first.now l.first.items) }
+    ensures second { IfOk result (λ l. AreAlikeIn (window_of core.now distance) second.now l.second.items) }
 {
-    let window = window(core, rule);
+    let window = window(core, distance);
     let first = seen(alloc, first, &window)?;
     let second = seen(alloc, second, &window)?;
-    let load = Load::of(first.as_slice(), second.as_slice());
+    let load = first.load.with(&second.load);
     Ok(Layers {
-        first,
-        second,
+        first: first.boxes,
+        second: second.boxes,
         load,
     })
 }

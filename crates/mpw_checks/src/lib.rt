@@ -10,5 +10,7 @@ mod across;
 mod cells;
 mod halves;
 mod load;
+mod strips;
 
-pub use cells::pieces;
+pub use cells::{pieces, strips_of};
+pub use strips::{Strips, pieces_in};

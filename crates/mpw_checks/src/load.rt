@@ -3,10 +3,10 @@
 use mpw_geom::Box2;
 
 /// So few rectangles are a strip.
-const FEW: u64 = 8;
+const FEW: u64 = 16;
 
 /// What a rectangle costs beside the bands that it shares.
-const ITSELF: u64 = 4;
+const ITSELF: u64 = 12;
 
 /// How many rectangles there are, the sum of their heights, and the box about them all.
 #[derive(Clone, Copy)]
@@ -16,10 +16,20 @@ pub(crate) struct Load {
     pub(crate) extent: Box2,
 }
 
+/// The least box about both.
+fn joined(a: &Box2, b: &Box2) -> Box2 {
+    Box2 {
+        x0: a.x0.min(b.x0),
+        y0: a.y0.min(b.y0),
+        x1: a.x1.max(b.x1),
+        y1: a.y1.max(b.y1),
+    }
+}
+
 impl Load {
-    /// The load of the rectangles of both layers. One pass.
-    pub(crate) fn of(first: &[Box2], second: &[Box2]) -> Load {
-        let mut load = Load {
+    /// The load of no rectangle.
+    pub(crate) fn none() -> Load {
+        Load {
             count: 0,
             heights: 0,
             extent: Box2 {
@@ -28,22 +38,31 @@ impl Load {
                 x1: i64::MIN,
                 y1: i64::MIN,
             },
-        };
-        load.add(first);
-        load.add(second);
+        }
+    }
+
+    /// The load of the rectangles. One pass.
+    pub(crate) fn of(boxes: &[Box2]) -> Load {
+        let mut load = Load::none();
+        for b in boxes {
+            load.add(b);
+        }
         load
     }
 
-    fn add(&mut self, boxes: &[Box2]) {
-        for b in boxes {
-            self.count = self.count.saturating_add(1);
-            self.heights = self.heights.saturating_add(b.y0.abs_diff(b.y1));
-            self.extent = Box2 {
-                x0: self.extent.x0.min(b.x0),
-                y0: self.extent.y0.min(b.y0),
-                x1: self.extent.x1.max(b.x1),
-                y1: self.extent.y1.max(b.y1),
-            };
+    /// Adds a rectangle.
+    pub(crate) fn add(&mut self, b: &Box2) {
+        self.count = self.count.saturating_add(1);
+        self.heights = self.heights.saturating_add(b.y0.abs_diff(b.y1));
+        self.extent = joined(&self.extent, b);
+    }
+
+    /// The load of both together.
+    pub(crate) fn with(&self, other: &Load) -> Load {
+        Load {
+            count: self.count.saturating_add(other.count),
+            heights: self.heights.saturating_add(other.heights),
+            extent: joined(&self.extent, &other.extent),
         }
     }
 

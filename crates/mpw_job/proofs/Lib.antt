@@ -10,3 +10,4 @@ pub mod Adding
 pub mod Edges
 pub mod Unique
 pub mod Worked
+pub mod Serving

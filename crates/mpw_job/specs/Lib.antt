@@ -6,3 +6,4 @@ pub mod Layout
 pub mod Laws
 pub mod Jobs
 pub mod Carried
+pub mod Shared

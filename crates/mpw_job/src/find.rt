@@ -1,20 +1,20 @@
 //! Finding the markers of a tile: the runs of each rule in the core, and then what all of them meet.
 
 ghost use Rattle.std.specs.Prelude.{◌≡◌, ◌++◌, IfOk, OnOk, map};
-ghost use Rattle.mpw_geom.specs.Plane.{IsBoxInPlane};
-ghost use Rattle.mpw_job.specs.Layers.{IsByLayer};
-ghost use Rattle.mpw_job.specs.Answers.{key_at, listed_on, Answers};
+ghost use Rattle.mpw_geom.specs.declared.plane.Box2.{Box2 as BoxValue};
+ghost use Rattle.mpw_job.specs.Layers.{Coverage};
+ghost use Rattle.mpw_job.specs.Shared.{Serves, IsSharedOf};
+ghost use Rattle.mpw_job.specs.Answers.{key_at, Answers};
 ghost use Rattle.mpw_job.specs.Found.{AddsRule, AreKeys};
 
 use crate::job::TileJob;
-use crate::layers::{by_layer, first_areas, second_areas};
+use crate::layers::by_layer;
 use crate::met::markers_of;
-use mpw_checks::pieces;
+use crate::shared::{Shared, shared_for};
+use mpw_checks::pieces_in;
 use mpw_deck::Rule;
 use mpw_edges::Piece;
-use mpw_geom::Box2;
 use mpw_markers::{Key, Marker};
-use mpw_tiles::Rectangle;
 use std::alloc::{AllocError, Global};
 
 /// The key of a run of the rule at that place.
@@ -42,22 +42,19 @@ fn add_keys(keys: &mut Vec<Key>, place: u32, runs: &[Piece]) -> Result<(), Alloc
     Ok(())
 }
 
-/// Adds the keys of the runs of the rule at that place, which are found in the core among rectangles by layer.
+/// Adds the keys of the runs of the rule at that place, which are found in strips that serve it.
 fn add_rule(
     alloc: Global,
     keys: &mut Vec<Key>,
     place: u32,
     rule: &Rule,
-    rectangles: &[Rectangle],
-    core: Box2,
+    shared: &Shared,
 ) -> Result<(), AllocError>
-    requires plane { IsBoxInPlane core }
-    requires ordered { IsByLayer rectangles.now }
-    ensures { OnOk result (AddsRule core (listed_on rectangles.now) place rule.now keys.old.items keys.new.items) }
+    requires { Serves shared.now rule.now }
+    ensures { (core : BoxValue) (on : Coverage) → IsSharedOf core on shared.now →
+        OnOk result (AddsRule core on place rule.now keys.old.items keys.new.items) }
 {
-    let first = first_areas(alloc, rectangles, rule.check)?;
-    let second = second_areas(alloc, rectangles, rule.check)?;
-    let runs = pieces(alloc, rule, first.as_slice(), second.as_slice(), core)?;
+    let runs = pieces_in(alloc, rule, &shared.strips)?;
     add_keys(keys, place, runs.as_slice())?;
     Ok(())
 }
@@ -72,9 +69,12 @@ fn keys_found(alloc: Global, job: &TileJob) -> Result<Vec<Key>, AllocError>
     let rectangles = sorted.as_slice();
     let rules = job.rules().as_slice();
     let mut keys = Vec::new(alloc);
+    let mut held: Option<Shared> = None;
     for place in 0..rules.len() {
         let rule = &rules[place];
-        add_rule(alloc, &mut keys, place as u32, rule, rectangles, core)?;
+        let shared = shared_for(alloc, held, rule, &rules[place..], rectangles, core)?;
+        add_rule(alloc, &mut keys, place as u32, rule, &shared)?;
+        held = Some(shared);
     }
     Ok(keys)
 }

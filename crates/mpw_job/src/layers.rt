@@ -5,10 +5,9 @@
 ghost use Rattle.std.specs.Prelude.{◌≡◌, ◌≤◌, ◌<◌, ◌^◌, ℤ, All, IfOk, take, drop, length};
 ghost use Rattle.std.specs.List.Sorted.{IsPermutation};
 ghost use Rattle.mpw_region.specs.Squares.{covers};
-ghost use Rattle.mpw_job.specs.Layers.{same_layer, layer_code, IsByLayer, Coverage, first_squares, second_squares};
+ghost use Rattle.mpw_job.specs.Layers.{same_layer, layer_code, IsByLayer};
 ghost use Rattle.mpw_job.specs.Answers.{listed_on};
 
-use mpw_deck::Check;
 use mpw_geom::{Box2, Layer};
 use mpw_tiles::Rectangle;
 use std::alloc::{AllocError, Global};
@@ -73,45 +72,14 @@ fn areas_of(alloc: Global, rectangles: &[Rectangle], layer: Layer) -> Result<Vec
 }
 
 /// The areas on the layer, of rectangles by layer.
-fn areas_on(alloc: Global, rectangles: &[Rectangle], layer: Layer) -> Result<Vec<Box2>, AllocError>
+pub(crate) fn areas_on(
+    alloc: Global,
+    rectangles: &[Rectangle],
+    layer: Layer,
+) -> Result<Vec<Box2>, AllocError>
     requires { IsByLayer rectangles.now }
     ensures { IfOk result (λ v. (i j : ℤ) → covers v.items i j ≡ listed_on rectangles.now layer i j) }
 {
     let areas = areas_of(alloc, on_layer(rectangles, layer), layer)?;
     Ok(areas)
-}
-
-/// The areas on the check's first layer, of rectangles by layer.
-pub(crate) fn first_areas(
-    alloc: Global,
-    rectangles: &[Rectangle],
-    check: Check,
-) -> Result<Vec<Box2>, AllocError>
-    requires { IsByLayer rectangles.now }
-    ensures { IfOk result (λ v. (i j : ℤ) → covers v.items i j ≡ first_squares check (listed_on rectangles.now) i j) }
-{
-    match check {
-        Check::Width(layer) => areas_on(alloc, rectangles, layer),
-        Check::Space(layer) => areas_on(alloc, rectangles, layer),
-        Check::Separation(layer, _) => areas_on(alloc, rectangles, layer),
-        Check::Enclosing(layer, _) => areas_on(alloc, rectangles, layer),
-    }
-}
-
-#[tactic(auto, unfolding(mpw_geom::specs::Plane::any_has_square))]
-/// The areas on the check's second layer, of rectangles by layer; none for a check of one layer.
-pub(crate) fn second_areas(
-    alloc: Global,
-    rectangles: &[Rectangle],
-    check: Check,
-) -> Result<Vec<Box2>, AllocError>
-    requires { IsByLayer rectangles.now }
-    ensures { IfOk result (λ v. (i j : ℤ) → covers v.items i j ≡ second_squares check (listed_on rectangles.now) i j) }
-{
-    match check {
-        Check::Width(_) => Ok(Vec::new(alloc)),
-        Check::Space(_) => Ok(Vec::new(alloc)),
-        Check::Separation(_, layer) => areas_on(alloc, rectangles, layer),
-        Check::Enclosing(_, layer) => areas_on(alloc, rectangles, layer),
-    }
 }

@@ -12,6 +12,7 @@ mod job;
 mod laws;
 mod layers;
 mod met;
+mod shared;
 mod tiles;
 
 pub use answer::{Answer, CutAnswer, TileAnswer, do_job, work_all};

@@ -56,16 +56,16 @@ fn fill_each(
 }
 
 /// The items along one side of the box around them.
-fn in_order(items: Vec<Item>, around: &Box2) -> Result<Vec<Item>, AllocError>
-    ensures { IfOk result (λ v. IsPermutation items.items v.items) }
+fn in_order(items: Vec<Item>, around: &Box2) -> Vec<Item>
+    ensures { IsPermutation items.items result.items }
 {
     let mut items = items;
     if around.x1.abs_diff(around.x0) >= around.y1.abs_diff(around.y0) {
-        items.sort_by_key(|item| item.area.x0)?;
+        items.sort_unstable_by_key(|item| item.area.x0);
     } else {
-        items.sort_by_key(|item| item.area.y0)?;
+        items.sort_unstable_by_key(|item| item.area.y0);
     }
-    Ok(items)
+    items
 }
 
 /// The items in two halves, along one side of the box around them.
@@ -77,7 +77,7 @@ fn halves(
     ensures { IfOk result (λ r. (i : ItemValue) →
         Contains items.items i ↔ (Contains r.0.items i ⊎ Contains r.1.items i)) }
 {
-    let items = in_order(items, around)?;
+    let items = in_order(items, around);
     let (low, high) = items.as_slice().split_at(items.len() / 2);
     Ok((Vec::from_slice(alloc, low)?, Vec::from_slice(alloc, high)?))
 }
@@ -109,7 +109,7 @@ fn fill(
 fn items(alloc: Global, boxes: &[Box2]) -> Result<Vec<Item>, AllocError>
     ensures { IfOk result (λ v. AreItemsOf boxes.now v.items) }
 {
-    let mut items = Vec::new(alloc);
+    let mut items = Vec::with_capacity(alloc, boxes.len())?;
     for (place, area) in boxes.iter().enumerate() {
         items.push(Item { place, area: *area })?;
     }
@@ -120,7 +120,7 @@ fn items(alloc: Global, boxes: &[Box2]) -> Result<Vec<Item>, AllocError>
 fn none(alloc: Global, count: usize) -> Result<Vec<Met>, AllocError>
     ensures count { IfOk result (λ v. length v.items ≡ count) }
 {
-    let mut mets = Vec::new(alloc);
+    let mut mets = Vec::with_capacity(alloc, count)?;
     for place in 0..count {
         mets.push(Met::none())?;
     }

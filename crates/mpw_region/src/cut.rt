@@ -86,7 +86,7 @@ fn has_area(b: &Box2) -> bool
 fn filled(alloc: Global, boxes: &[Box2]) -> Result<Vec<Box2>, AllocError>
     ensures { IfOk result (λ v. HoldsJust boxes.now HasArea v.items) }
 {
-    let mut kept = Vec::new(alloc);
+    let mut kept = Vec::with_capacity(alloc, boxes.len())?;
     for b in boxes {
         if has_area(b) {
             kept.push(*b)?;
@@ -101,12 +101,12 @@ fn borders(alloc: Global, boxes: &[Box2]) -> Result<Vec<i64>, AllocError>
     ensures all { IfOk result (λ v.
         All (λ b. Contains v.items b.y0 × Contains v.items b.y1) boxes.now) }
 {
-    let mut rows = Vec::new(alloc);
+    let mut rows = Vec::with_capacity(alloc, boxes.len().saturating_mul(2))?;
     for b in boxes {
         rows.push(b.y0)?;
         rows.push(b.y1)?;
     }
-    rows.sort()?;
+    rows.sort_unstable();
     Ok(rows)
 }
 
@@ -149,7 +149,7 @@ fn sweep_up(alloc: Global, boxes: Vec<Box2>, rows: &[i64]) -> Result<Vec<Box2>, 
     ensures squares { IfOk result (λ v. (i j : ℤ) → IsCovered v.items i j ↔ IsCovered boxes.items i j) }
     ensures banded { IfOk result (λ v. AreBands v.items) }
 {
-    let mut out = Vec::new(alloc);
+    let mut out = Vec::with_capacity(alloc, rows.len())?;
     let mut sweep = Sweep::new(alloc, boxes)?;
     for k in 1..rows.len() {
         let band = Rows {

@@ -46,13 +46,14 @@ impl Run {
     }
 }
 
-fn in_order(runs: Vec<Run>) -> Result<Vec<Run>, AllocError>
-    ensures moved { IfOk result (λ v. IsPermutation runs.items v.items) }
-    ensures ordered { IfOk result (λ v. AreInOrder v.items) }
+/// The runs by line, and on a line by where they begin.
+fn in_order(runs: Vec<Run>) -> Vec<Run>
+    ensures moved { IsPermutation runs.items result.items }
+    ensures ordered { AreInOrder result.items }
 {
     let mut runs = runs;
-    runs.sort()?;
-    Ok(runs)
+    runs.sort_unstable();
+    runs
 }
 
 /// Joins ordered runs that overlap or touch on one line, beginning with `first`.
@@ -87,7 +88,7 @@ pub fn joined(alloc: Global, runs: Vec<Run>) -> Result<Vec<Run>, AllocError>
         CoversPlace v.items line at ↔ CoversPlace runs.items line at) }
     ensures apart { IfOk result (λ v. AreApart v.items) }
 {
-    let runs = in_order(runs)?;
+    let runs = in_order(runs);
     match runs.as_slice() {
         [] => Ok(Vec::new(alloc)),
         [first, rest @ ..] => join(alloc, *first, rest),

@@ -39,11 +39,11 @@ pub struct Sweep {
 }
 
 /// Sorts the boxes by their lowest rows.
-fn sort_from_below(boxes: &mut Vec<Box2>) -> Result<(), AllocError>
+fn sort_from_below(boxes: &mut Vec<Box2>)
     ensures moved { IsPermutation boxes.old.items boxes.new.items }
-    ensures ordered { OnOk result (AllPairs BeginsBelow boxes.new.items) }
+    ensures ordered { AllPairs BeginsBelow boxes.new.items }
 {
-    boxes.sort_by_key(|b| b.y0)
+    boxes.sort_unstable_by_key(|b| b.y0);
 }
 
 /// Sorts the boxes by their first columns.
@@ -106,7 +106,7 @@ impl Sweep {
         ensures row { IfOk result (λ s. s.row ≡ i64.MIN) }
     {
         let mut boxes = boxes;
-        sort_from_below(&mut boxes)?;
+        sort_from_below(&mut boxes);
         Ok(Sweep {
             row: i64::MIN,
             active: Vec::new(alloc),

@@ -1,22 +1,18 @@
 use Rattle.std.proofs.Common.{List, subst}
-use Rattle.std.proofs.lemmas.Result.{IfOk-weaker}
-use Rattle.mpw_region.specs.declared.runs.Run.{Run}
-use Rattle.mpw_region.specs.Runs.{Adds}
+use Rattle.std.proofs.lemmas.List.Elements.{All-nil}
 use Rattle.mpw_edges.specs.declared.run.Axis.TheVariants.{V}
+use Rattle.mpw_checks.specs.declared.strips.Strip.{Strip}
 use Rattle.mpw_checks.specs.Cells.{StepsIn}
-use Rattle.mpw_checks.proofs.Halving.{joined_places, seen, meant}
+use Rattle.mpw_checks.specs.Strips.{IsStrip, AddsStrips}
+use Rattle.mpw_checks.proofs.Halving.{all_steps}
 use Rattle.mpw_checks.proofs.cells.along_rows.Goals as goal
 
-pub returns-clause-places : goal.returns-clause-places
-returns-clause-places c =
-    let rule = c.args.rule.now in
+pub returns-clause-steps : goal.returns-clause-steps
+returns-clause-steps c = λ rule le line j.
     let first = c.in_ok-layers.layers.first.items in
     let second = c.in_ok-layers.layers.second.items in
-    let added = subst (λ (rs : List Run). Adds rs c.add_core.new.found.items (StepsIn rule first second c.args.core V)) c.new-found.ensures.items c.in_ok-add_core.ensures in
-    IfOk-weaker c.joined.result _ _
-    (λ v h line j.
-    let told = joined_places c.add_core.new.found.items v.items (StepsIn rule first second c.args.core V) added h line j in (
-      λ p. meant rule c.args.first.now c.args.second.now first second c.args.core c.in_ok-layers.ensures.first c.in_ok-layers.ensures.second V line j (told.0 p),
-      λ s. told.1 (seen rule c.args.first.now c.args.second.now first second c.args.core c.in_ok-layers.ensures.first c.in_ok-layers.ensures.second V line j s),
-    ))
-    c.joined.ensures.places
+    let added = subst (λ (ss : List Strip). AddsStrips c.args.distance ss c.add_core.new.strips.items (λ r. StepsIn r first second c.args.core V)) c.new-strips.ensures.items c.in_ok-add_core.ensures in
+    all_steps c.args.distance c.add_core.new.strips.items c.args.first.now c.args.second.now first second c.args.core V c.in_ok-layers.ensures.first c.in_ok-layers.ensures.second added rule le line j
+
+pub returns-clause-banded : goal.returns-clause-banded
+returns-clause-banded c = c.in_ok-add_core.ensures.banded (rw c.new-strips.ensures.items (All-nil IsStrip))

@@ -1,6 +1,10 @@
-use Rattle.std.proofs.Common.{◌∙◌, sym}
-use Rattle.std.proofs.lemmas.Result.{IfOk-weaker}
+use Rattle.std.proofs.Common.{◌≡◌, ◌∙◌, List, subst, sym}
+use Rattle.std.specs.Prelude.{ℤ}
+use Rattle.mpw_geom.specs.declared.plane.Box2.{Box2}
+use Rattle.mpw_region.specs.Squares.{covers}
 use Rattle.mpw_checks.proofs.halves.seen.Goals as goal
 
 pub returns : goal.returns
-returns c = IfOk-weaker c.merged.result _ _ (λ v h i j l u low high. c.in_ok-parts.ensures i j l u low high ∙ sym (h i j)) c.merged.ensures
+returns c = λ i j l u low high.
+    let same = subst (λ (bs : List Box2). (i j : ℤ) → covers c.in_ok-boxes.boxes.items i j ≡ covers bs i j) c.as_slice-2.ensures.value c.in_ok-boxes.ensures in
+    c.in_ok-parts.ensures i j l u low high ∙ sym (same i j)

@@ -7,4 +7,4 @@ use Rattle.mpw_checks.proofs.halves.window.Goals as goal
 pub returns : goal.returns
 returns c =
     let from = c.from-margin.ensures in
-    same_box _ (window_of c.args.core.now c.args.rule.now) (omega (arith, ints, from)) (omega (arith, ints, from)) (omega (arith, ints, from)) (omega (arith, ints, from))
+    same_box _ (window_of c.args.core.now c.args.distance) (omega (arith, ints, from)) (omega (arith, ints, from)) (omega (arith, ints, from)) (omega (arith, ints, from))

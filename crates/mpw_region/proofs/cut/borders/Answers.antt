@@ -19,9 +19,9 @@ loop-b-preserved c =
     (second ∙ ap (λ (rows : List ℤ). rows ++ b.y1 ∷ []) first)
 
 pub returns-clause-ordered : goal.returns-clause-ordered
-returns-clause-ordered c = ordered_from_sort c.sort.new.self.items c.in_ok-sort.ensures.sorted
+returns-clause-ordered c = ordered_from_sort c.sort_unstable.new.self.items c.sort_unstable.ensures.sorted
 
 pub returns-clause-all : goal.returns-clause-all
 returns-clause-all c =
-    borders_moved c.loop-b.rows.items c.sort.new.self.items c.args.boxes.now c.in_ok-sort.ensures.permutation
+    borders_moved c.loop-b.rows.items c.sort_unstable.new.self.items c.args.boxes.now c.sort_unstable.ensures.permutation
     (subst (λ (bs : List Box2). All (HasBorders c.loop-b.rows.items) bs) (take_all c.loop-b.b-index c.args.boxes.now c.loop-b-test.false) c.loop-b.invariant)

@@ -8,7 +8,7 @@ use Rattle.mpw_region.proofs.cut.filled.Goals as goal
 use Rattle.mpw_region.proofs.cut.filled.Goals.{then-has_area+in_ok-push, else-has_area}
 
 pub loop-b-init : goal.loop-b-init
-loop-b-init c = rw c.new-kept.ensures.items (HoldsJust-none HasArea)
+loop-b-init c = rw c.in_ok-kept.ensures.items (HoldsJust-none HasArea)
 
 pub loop-b-preserved : goal.loop-b-preserved
 loop-b-preserved c =

@@ -10,7 +10,7 @@ use Rattle.mpw_region.proofs.cut.sweep_up.Goals.{then-band+in_ok-add_next, else-
 
 pub loop-k-init : goal.loop-k-init
 loop-k-init c =
-    rw c.new-out.ensures.items (SweepsUp-start c.args.boxes.items c.args.rows.now c.in_ok-sweep.sweep c.requires.ordered c.requires.filled c.requires.all c.in_ok-sweep.ensures.sweep c.in_ok-sweep.ensures.row c.in_ok-sweep.ensures.boxes)
+    rw c.in_ok-out.ensures.items (SweepsUp-start c.args.boxes.items c.args.rows.now c.in_ok-sweep.sweep c.requires.ordered c.requires.filled c.requires.all c.in_ok-sweep.ensures.sweep c.in_ok-sweep.ensures.row c.in_ok-sweep.ensures.boxes)
 
 pub add_next-requires-clause-between : goal.add_next-requires-clause-between
 add_next-requires-clause-between c =

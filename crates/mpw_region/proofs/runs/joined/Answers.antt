@@ -11,25 +11,25 @@ use Rattle.mpw_region.proofs.runs.joined.Goals as goal
 
 pub returns-in-empty-clause-places : goal.returns-in-empty-clause-places
 returns-in-empty-clause-places c = λ line at.
-    let moved = c.in_ok-runs.ensures.moved in
-    let empty = nil_from_length c.in_ok-runs.runs.items (omega arith) in
-    let same = same_places-permutation c.args.runs.items c.in_ok-runs.runs.items moved line at in
+    let moved = c.in_order-runs.ensures.moved in
+    let empty = nil_from_length c.in_order-runs.result.items (omega arith) in
+    let same = same_places-permutation c.args.runs.items c.in_order-runs.result.items moved line at in
     rw c.new.ensures.items (rw empty at same)
 
 pub join-requires-clause-filled : goal.join-requires-clause-filled
 join-requires-clause-filled c =
     subst (λ (zs : List Run). All IsFilled zs) (sym (first_and_rest c.as_slice.result.now no_run c.in-len1-up.len_at_least ∙ c.as_slice.ensures.value))
-    (All-permutation IsFilled c.args.runs.items c.in_ok-runs.runs.items c.in_ok-runs.ensures.moved c.requires)
+    (All-permutation IsFilled c.args.runs.items c.in_order-runs.result.items c.in_order-runs.ensures.moved c.requires)
 
 pub join-requires-clause-ordered : goal.join-requires-clause-ordered
 join-requires-clause-ordered c =
     subst (λ (zs : List Run). AreInOrder zs) (sym (first_and_rest c.as_slice.result.now no_run c.in-len1-up.len_at_least ∙ c.as_slice.ensures.value))
-    c.in_ok-runs.ensures.ordered
+    c.in_order-runs.ensures.ordered
 
 pub returns-clause-places : goal.returns-clause-places
 returns-clause-places c =
     let e = first_and_rest c.as_slice.result.now no_run c.in-len1-up.len_at_least ∙ c.as_slice.ensures.value in
-    let same = same_places-permutation c.args.runs.items c.in_ok-runs.runs.items c.in_ok-runs.ensures.moved in
+    let same = same_places-permutation c.args.runs.items c.in_order-runs.result.items c.in_order-runs.ensures.moved in
     IfOk-weaker c.join.result _ _
     (λ v h line at.
     let told = subst (λ (zs : List Run). CoversPlace v.items line at ↔ CoversPlace zs line at) e (h line at) in

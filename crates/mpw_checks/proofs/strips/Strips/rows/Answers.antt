@@ -1,0 +1,4 @@
+use Rattle.mpw_checks.proofs.strips.Strips.rows.Goals as goal
+
+pub returns-clause-banded : goal.returns-clause-banded
+returns-clause-banded c = rw (← c.self.view_is) c.self.invariant.0
