@@ -1,0 +1,2 @@
+mod AloneLemmas
+mod TileLemmas
