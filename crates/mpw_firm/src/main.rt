@@ -1,0 +1,47 @@
+//! The program of a firm: `mpw check --deck DECK --top STRUCTURE FILE` checks a structure of a GDSII library under a deck, and
+//! prints its markers as a desk lists them.
+#![tactic(auto)]
+
+mod asked;
+mod fault;
+mod listing;
+mod options;
+mod sentences;
+mod told;
+
+use asked::check;
+use fault::{FirmFault, exit_status};
+use options::read_options;
+use std::process::ExitCode;
+use std::thread::Threads;
+use std::{env, io};
+
+/// The words of the command line.
+fn words(rt: &HostRuntime) -> Result<Vec<String>, FirmFault> {
+    match env::args(rt) {
+        Ok(arguments) => Ok(arguments.collect(rt.alloc())?),
+        Err(error) if error.kind() == io::ErrorKind::OutOfMemory => Err(FirmFault::Memory),
+        Err(_) => Err(FirmFault::Usage(String::from_str(
+            rt.alloc(),
+            "error: an argument is not valid UTF-8",
+        )?)),
+    }
+}
+
+/// Reads the command line, checks, and tells how many markers there are.
+fn run(rt: &HostRuntime, threads: &(impl Threads + Sync)) -> Result<usize, FirmFault> {
+    let words = words(rt)?;
+    let words: Vec<&str> = words.iter().map(|word| word.as_str()).collect(rt.alloc())?;
+    let options = read_options(rt.alloc(), words.as_slice())?;
+    check(rt, threads, &options)
+}
+
+/// Exits with 0 without markers and 1 with some, 2 at a usage fault, 3 where a file or a device failed, 4 where the library
+/// or the deck has a fault, and 5 where memory was wanting. A fault is told on the standard error.
+fn main(rt: HostRuntime) -> ExitCode {
+    let ended = run(&rt, &rt);
+    if let Err(fault) = &ended {
+        let _ = eprintln!(rt; "{fault}");
+    }
+    ExitCode::from(exit_status(&ended))
+}

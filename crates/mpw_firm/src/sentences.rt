@@ -1,0 +1,83 @@
+//! What a fault of a library or a deck means, and what to do.
+
+use mpw_deck::DeckKind;
+use mpw_hier::HierFault;
+use mpw_records::Code;
+
+/// What a fault of a library's records means and what to do, for records as such.
+fn of_record(code: Code) -> &'static str {
+    match code {
+        Code::Short => "the file ends too early: copy or export it again",
+        Code::BadLength =>
+            "a record's length is odd or below 4: the file is damaged, or is no GDSII",
+        Code::BadType => "a record has data of another type: the file is damaged, or is no GDSII",
+        Code::Unexpected => {
+            "a record stands where the format doesn't have it: nodes, text with paths and several XY records in an element              aren't read; export polygons of at most 8191 points without multi-XY records (KLayout: switch off 'Multi-XY              record mode for boundaries'; gdspy: max_points=8190)"
+        }
+        Code::BadSize =>
+            "a record has too much or too little data: polygons of more than 8191 points have to be split",
+        Code::BadName => {
+            "a name is empty, longer than 255 bytes, or has a blank or another byte outside 21 to 7E hex: rename the structure"
+        }
+        Code::DoubleName => "two structures have one name: rename one of them",
+        _ => of_shape(code),
+    }
+}
+
+/// The same of shapes and references.
+fn of_shape(code: Code) -> &'static str {
+    match code {
+        Code::Unit =>
+            "the database unit isn't one of 1 to 1000 nm: export with a unit of 1 nm (KLayout: 'Database unit' 0.001)",
+        Code::Magnification =>
+            "a reference is magnified: resolve it before the export (KLayout: 'Flatten' that instance)",
+        Code::Angle =>
+            "an angle isn't a multiple of 90 degrees from -360 to 360: resolve the reference before the export",
+        Code::NotManhattan =>
+            "an edge is neither horizontal nor vertical: only such layouts are checked",
+        Code::RoundPath =>
+            "a path has round ends (type 1): export it with ends of type 0, 2 or 4, or as a polygon",
+        Code::OddWidth =>
+            "a path's width is odd: make it even, or export the path as a polygon (KLayout: 'Convert to polygon')",
+        Code::PointPath => "all points of a path are one: remove it",
+        Code::Columns =>
+            "an array has fewer than one column or row: remove it, or export its elements",
+        Code::Pitch => "an array's step isn't a whole number of nm: export its elements one by one",
+        Code::Absolute =>
+            "an angle or a magnification is absolute: export it relative to the reference",
+        _ => "the library has a fault",
+    }
+}
+
+/// What a fault of a library's text means and what to do.
+pub fn of_library(code: Code) -> &'static str {
+    of_record(code)
+}
+
+/// What a fault of a top's structures means and what to do.
+pub fn of_structure(fault: HierFault) -> &'static str {
+    match fault {
+        HierFault::NoTop => "the library has no structure of that name: name another with --top",
+        HierFault::Cycle => "a structure stands below itself: take one of the references away",
+        HierFault::Extent => "a structure goes beyond 2^30 nm: move it nearer to its origin",
+        HierFault::Shapes =>
+            "the structure shows more than 2^20 shapes: check its parts one by one",
+        HierFault::Deep => "the structure has more than 64 levels: flatten some of them",
+        _ => "the structure can't be placed",
+    }
+}
+
+/// What a fault of a deck's line means and what to do.
+pub fn of_deck(kind: DeckKind) -> &'static str {
+    match kind {
+        DeckKind::Word =>
+            "a line is 'tile SIDE', or 'CHECK NAME LAYER.. DISTANCE' with width, space, separation or enclosing",
+        DeckKind::Number => "a distance is 1 to 65535 nm",
+        DeckKind::Layer => "a layer is two numbers to 65535 with a slash between them, as 1/0",
+        DeckKind::SameLayer => "separation and enclosing take two different layers",
+        DeckKind::DoubleRule => "each rule has a name of its own",
+        DeckKind::Tile => "the first line is 'tile SIDE', and no other",
+        DeckKind::Rules => "a deck has at most 256 rules",
+        DeckKind::Memory => "there is no room for it",
+    }
+}
