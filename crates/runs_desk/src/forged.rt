@@ -1,0 +1,25 @@
+//! Jobs with parts of others.
+
+use mpw_job::{CutAnswer, CutJob, Job, TileJob};
+use std::alloc::{AllocError, Global};
+
+/// The job of cutting what another answer cut, of a run of that number.
+pub fn cut_job(alloc: Global, run: u32, of: &CutAnswer) -> Result<Job, AllocError> {
+    let snapshot = of.job().snapshot.copy(alloc)?;
+    Ok(Job::Cut(CutJob { run, snapshot }))
+}
+
+/// The job of a run and a tile of those numbers, with the core, the window and the rules of others.
+pub fn tile_job(
+    run: u32,
+    tile: u32,
+    core: &TileJob,
+    window: &TileJob,
+    rules: &TileJob,
+) -> Result<Job, AllocError> {
+    core.is_task();
+    rules.is_task();
+    let window = window.window().copy()?;
+    let rules = rules.rules().copy()?;
+    Ok(Job::Tile(TileJob::new(run, tile, core.core(), window, rules)))
+}

@@ -1,0 +1,72 @@
+//! Answers of jobs under names.
+
+use anyhow::{Result, bail};
+use mpw_core::{Event, SharedCut, SharedTile};
+use mpw_geom::Name;
+use mpw_job::{Answer, Job, do_job};
+use std::alloc::{AllocError, Global};
+
+/// What came of a job.
+#[derive(Drop)]
+pub enum JobAnswer {
+    Cut(SharedCut),
+    Tile(SharedTile),
+}
+
+/// What came of a job, under a name.
+#[derive(Drop)]
+pub struct Kept {
+    name: Name,
+    work: JobAnswer,
+}
+
+/// Does a job.
+pub fn work(alloc: Global, job: &Job) -> Result<JobAnswer, AllocError> {
+    match do_job(alloc, job)? {
+        Answer::Cut(answer) => Ok(JobAnswer::Cut(SharedCut::new(alloc, answer)?)),
+        Answer::Tile(answer) => Ok(JobAnswer::Tile(SharedTile::new(alloc, answer)?)),
+    }
+}
+
+/// Keeps what came of a job under a name.
+pub fn keep(kept: &mut Vec<Kept>, name: Name, work: JobAnswer) -> Result<()> {
+    Ok(kept.push(Kept { name, work })?)
+}
+
+/// What is kept under a name. The latest counts.
+pub fn find<'a>(kept: &'a [Kept], name: &str) -> Result<&'a JobAnswer> {
+    let mut found = None;
+    for one in kept {
+        if one.name.as_str() == name {
+            found = Some(&one.work);
+        }
+    }
+    match found {
+        Some(work) => Ok(work),
+        None => bail!("the name of a kept answer"),
+    }
+}
+
+/// The cut that is kept under a name.
+pub fn find_cut<'a>(kept: &'a [Kept], name: &str) -> Result<&'a SharedCut> {
+    match find(kept, name)? {
+        JobAnswer::Cut(answer) => Ok(answer),
+        JobAnswer::Tile(_) => bail!("the name of a cut"),
+    }
+}
+
+/// The tile that is kept under a name.
+pub fn find_tile<'a>(kept: &'a [Kept], name: &str) -> Result<&'a SharedTile> {
+    match find(kept, name)? {
+        JobAnswer::Tile(answer) => Ok(answer),
+        JobAnswer::Cut(_) => bail!("the name of a tile's answer"),
+    }
+}
+
+/// The event that hands in what came of a job.
+pub fn event_of(work: &JobAnswer) -> Result<Event, AllocError> {
+    match work {
+        JobAnswer::Cut(answer) => Ok(Event::Cut(answer.copy()?)),
+        JobAnswer::Tile(answer) => Ok(Event::Tile(answer.copy()?)),
+    }
+}
