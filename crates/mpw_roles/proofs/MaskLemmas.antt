@@ -1,9 +1,9 @@
 -- What the bits of words say of places.
 use Rattle.std.proofs.Common.{min, ◌≡◌, ℕ, ◌+◌, ◌*◌, ◌/◌, ◌%◌, ◌^◌, ◌<◌, ◌≤◌, ◌≢◌, Bool, true, false, ◌||◌, ◌&&◌, length, get_or, set, eqb, refl, sym, ap, ◌∙◌, inl, inr, ◌⊎◌, arith, eq-eqb, w64, get_or-set_same, get_or-set_other}
 use Rattle.std.proofs.lemmas.Bool.{cases_eq, lt-ltb, ltb-true, ne_eqb, and_right}
-use Rattle.std.proofs.lemmas.Nat.Bits.{bit_at_or, bit_at_and, bit_at-zero, bit_at-lt, shr_and_one, bit_at_set_same, bit_at_set_other, bit_at-trailing_zeros}
-use Rattle.std.specs.Prelude.{bit_and, bit_or, nat_lt}
-use Rattle.std.specs.Int.{bit_at, trailing_zeros}
+use Rattle.std.proofs.lemmas.Nat.Bits.{bit_at_or, bit_at_and, bit_at-zero, bit_at-lt, shr_and_one, bit_at_set_same, bit_at_set_other, bit_at_clear_same, bit_at_clear_other, bit_at-trailing_zeros}
+use Rattle.std.specs.Prelude.{bit_and, bit_or, nat_lt, not}
+use Rattle.std.specs.Int.{bit_at, bit_not, trailing_zeros}
 use Rattle.mpw_roles.specs.declared.mask.Mask.{Mask}
 use Rattle.mpw_roles.specs.Mask.{has}
 
@@ -80,6 +80,40 @@ has-inserted m p small eight q =
             | inr far ↦ ap (λ w. bit_at w (q % 64)) (get_or-set_other ws (p / 64) (q / 64) word 0 far)
           ] in
           ap (λ x. nat_lt q 512 && eqb x 1) stays ∙ or_false _ ∙ ap (λ b. (nat_lt q 512 && eqb (bit_at (get_or ws (q / 64) 0) (q % 64)) 1) || b) (sym (ne_eqb q p other))
+    ]
+
+and_true : (b : Bool) → b ≡ (b && true)
+and_true true = refl
+and_true false = refl
+
+-- one bit less
+pub has-removed : (m : Mask) (p : ℕ) → p < 512 → length m.words ≡ 8 → (q : ℕ)
+    → has (record { words = set m.words (p / 64) (bit_and (get_or m.words (p / 64) 0) (bit_not w64 (1 * 2 ^ (p % 64) % 2 ^ 64))) }) q ≡ (has m q && not (eqb q p))
+unfolding has
+has-removed m p small eight q =
+    let ws = m.words in
+    let word = bit_and (get_or ws (p / 64) 0) (bit_not w64 (1 * 2 ^ (p % 64) % 2 ^ 64)) in
+    let low : p % 64 < 64 = omega arith in
+    elim (cases_eq q p) [
+      | inl same ↦
+          let inside : p / 64 < length ws = omega arith in
+          let here : get_or (set ws (p / 64) word) (q / 64) 0 ≡ word = ap (λ k. get_or (set ws (p / 64) word) (k / 64) 0) same ∙ get_or-set_same ws (p / 64) word 0 inside in
+          let none : bit_at (get_or (set ws (p / 64) word) (q / 64) 0) (q % 64) ≡ 0 = ap (λ w. bit_at w (q % 64)) here ∙ ap (λ k. bit_at word (k % 64)) same ∙ bit_at_clear_same w64 (get_or ws (p / 64) 0) (p % 64) low in
+          and_right (nat_lt q 512) _ (ne_eqb _ 1 (λ one. omega (arith, one, none)))
+          ∙ sym (and_right (has m q) (not (eqb q p)) (ap not (eq-eqb q p same)))
+      | inr other ↦
+          let stays : bit_at (get_or (set ws (p / 64) word) (q / 64) 0) (q % 64) ≡ bit_at (get_or ws (q / 64) 0) (q % 64) = elim (cases_eq (q / 64) (p / 64)) [
+            | inl near ↦
+                let inside : p / 64 < length ws = omega arith in
+                let apart : q % 64 ≢ p % 64 = omega arith in
+                let below : q % 64 < 64 = omega arith in
+                ap (λ k. bit_at (get_or (set ws (p / 64) word) k 0) (q % 64)) near
+                ∙ ap (λ w. bit_at w (q % 64)) (get_or-set_same ws (p / 64) word 0 inside)
+                ∙ bit_at_clear_other w64 (get_or ws (p / 64) 0) (p % 64) low (q % 64) below apart
+                ∙ ap (λ k. bit_at (get_or ws k 0) (q % 64)) (sym near)
+            | inr far ↦ ap (λ w. bit_at w (q % 64)) (get_or-set_other ws (p / 64) (q / 64) word 0 far)
+          ] in
+          ap (λ x. nat_lt q 512 && eqb x 1) stays ∙ and_true _ ∙ ap (λ b. (nat_lt q 512 && eqb (bit_at (get_or ws (q / 64) 0) (q % 64)) 1) && not b) (sym (ne_eqb q p other))
     ]
 
 bit_true : (m : Mask) (k t : ℕ) → k < 8 → t < 64 → bit_at (get_or m.words k 0) t ≡ 1 → has m (k * 64 + t) ≡ true

@@ -1,5 +1,5 @@
 //! Sets of places, 512 at most, as the bits of eight words.
-ghost use Rattle.std.specs.Prelude.{◌≡◌, ℕ, ◌<◌, true, false, ◌||◌, ◌&&◌, ◌==◌};
+ghost use Rattle.std.specs.Prelude.{◌≡◌, ℕ, ◌<◌, true, false, ◌||◌, ◌&&◌, ◌==◌, not};
 ghost use Rattle.mpw_roles.specs.Mask.{has};
 
 /// The number of words.
@@ -38,6 +38,14 @@ impl Mask {
         ensures { (other : ℕ) → has self.new other ≡ (has self.old other || other == place) }
     {
         self.words[place / 64] |= 1u64 << (place % 64);
+    }
+
+    /// Takes a place away.
+    pub fn remove(&mut self, place: usize)
+        requires { place < 512 }
+        ensures { (other : ℕ) → has self.new other ≡ (has self.old other && not (other == place)) }
+    {
+        self.words[place / 64] &= !(1u64 << (place % 64));
     }
 
     /// Adds the places of another set.
