@@ -1,10 +1,8 @@
 -- The masks of an operation, one grant after the other, and what they answer.
-use Rattle.std.proofs.Common.{◌≡◌, ℕ, zero, suc, ◌<◌, Bool, true, false, cond, not, ◌||◌, ◌&&◌, inl, inr, List, [], ◌∷◌, ◌++◌, length, get_or, eqb, eq-eqb, Option, None, Some, refl, sym, ap, ◌∙◌, true≢false, arith}
+use Rattle.std.proofs.Common.{◌≡◌, ℕ, zero, suc, ◌<◌, Bool, true, false, cond, not, ◌||◌, ◌&&◌, inl, inr, List, [], ◌∷◌, ◌++◌, filter, length, get_or, eqb, eq-eqb, Option, None, Some, refl, sym, ap, ◌∙◌, true≢false, arith}
 use Rattle.std.specs.Prelude.{nat_lt, position}
 use Rattle.std.specs.List.{list_any, position_or_len}
 use Rattle.std.specs.Cmp.{both_ways}
-use Rattle.std.specs.Map.{lookup}
-use Rattle.std.specs.Option.{option_map_or}
 use Rattle.std.proofs.lemmas.Bool.{cases_eq, cases_lt, lt-ltb, ltb-true, ne_eqb}
 use Rattle.std.proofs.lemmas.List.Quantifiers.{position-Some}
 use Rattle.std.proofs.lemmas.List.Sums.{fails_before_first}
@@ -15,12 +13,10 @@ use Rattle.mpw_roles.specs.Mask.{has}
 use Rattle.mpw_roles.specs.Order.{is_below, roles_below, are_distinct}
 use Rattle.mpw_roles.specs.Places.{name_at, is_place_below}
 use Rattle.mpw_roles.proofs.CallerLemmas.{same_name, name_eq-refl, or_right, or_cases, contains-roles_below}
-use Rattle.indexmap.specs.IndexSet.{insert_key}
 use Rattle.mpw_rbac.specs.Grant.{operation_index, operation_eq, object_eq, grant_eq}
-use Rattle.mpw_rbac.specs.Holders.{is_grant_of, is_place_granted, holds, IsHeld, AreHeld, AreHeldMore}
+use Rattle.mpw_rbac.specs.Holders.{Buckets, is_grant_of, is_place_granted, holds, grants_after, IsHeld, AreHeld, IsHeldAfter, AreHeldAfter}
 use Rattle.mpw_rbac.specs.Policy.{is_granted_to}
 use Rattle.mpw_rbac.specs.declared.permission.Grant.{Grant}
-use Rattle.mpw_rbac.specs.Table.{value_at}
 use Rattle.mpw_rbac.specs.declared.permission.Object.{Object}
 use Rattle.mpw_rbac.specs.declared.permission.Object.TheVariants.{Cell, Desk}
 use Rattle.mpw_rbac.specs.declared.permission.Operation.{Operation}
@@ -46,8 +42,12 @@ any-last : {X : Type 0} (f : X → Bool) (xs : List X) (y : X) → list_any f (x
 any-last f [] y = or_false (f y)
 any-last f (x ∷ xs) y = ap (λ b. f x || b) (any-last f xs y) ∙ sym (or_assoc (f x) (list_any f xs) (f y))
 
+and_true : (a : Bool) → (a && true) ≡ a
+and_true true = refl
+and_true false = refl
+
 -- objects that are equal are the same
-same_object : (a b : Object) → object_eq a b ≡ true → a ≡ b
+pub same_object : (a b : Object) → object_eq a b ≡ true → a ≡ b
 same_object (Cell a) (Cell b) is = ap Cell (same_name a b is)
 same_object (Cell a) Desk is = absurd (true≢false (sym is))
 same_object Desk (Cell b) is = absurd (true≢false (sym is))
@@ -57,27 +57,16 @@ object-refl : (a : Object) → object_eq a a ≡ true
 object-refl (Cell a) = name_eq-refl a
 object-refl Desk = refl
 
-other_way : (a b : Object) → object_eq a b ≡ object_eq b a
+pub other_way : (a b : Object) → object_eq a b ≡ object_eq b a
 other_way a b = both_ways _ _
     (λ is. ap (object_eq b) (same_object a b is) ∙ object-refl b)
     (λ is. ap (object_eq a) (same_object b a is) ∙ object-refl a)
 
-module _ (eq : Object → Object → Bool) (same : (a b : Object) → eq a b ≡ object_eq a b) where
-  looked-up : (es : List (Object × Mask)) (o : Object) → lookup (eq o) es ≡ value_at object_eq es o
-  looked-up [] o = refl
-  looked-up (e ∷ es) o = λ i. cond (same o e.0 i) (Some e.1) (looked-up es o i)
-
-pub value-found : (test : Object → Bool) (o : Object) (es : List (Object × Mask)) (r : Option Mask) → r ≡ lookup test es → ((x : Object) → test x ≡ object_eq o x) → r ≡ value_at object_eq es o
-value-found test o es r is same = is ∙ by es
-  where
-    by : (xs : List (Object × Mask)) → lookup test xs ≡ value_at object_eq xs o
-    by [] = refl
-    by (e ∷ xs) = λ i. cond (same e.0 i) (Some e.1) (by xs i)
-
--- the mask of one object is written
-put-holds : (old : List (Object × Mask)) (mask : Mask) (object : Object) (place : ℕ) → ((q : ℕ) → has mask q ≡ (holds old object q || eqb q place)) → (other : Object) (q : ℕ)
-    → option_map_or (λ m. has m q) (cond (object_eq object other) (Some mask) (value_at object_eq old other)) false ≡ (holds old other q || (object_eq other object && eqb q place))
-put-holds old mask object place is other q = elim (object_eq object other) as (λ b. object_eq object other ≡ b → option_map_or (λ m. has m q) (cond b (Some mask) (value_at object_eq old other)) false ≡ (holds old other q || (object_eq other object && eqb q place))) [
+-- the mask of one object is written, with a place more
+put-more : (old new : Buckets) (mask : Mask) (object : Object) (place : ℕ) → ((q : ℕ) → has mask q ≡ (holds old object q || eqb q place))
+    → ((other : Object) (q : ℕ) → holds new other q ≡ cond (object_eq object other) (has mask q) (holds old other q))
+    → (other : Object) (q : ℕ) → holds new other q ≡ (holds old other q || (object_eq other object && eqb q place))
+put-more old new mask object place is put other q = put other q ∙ elim (object_eq object other) as (λ b. object_eq object other ≡ b → cond b (has mask q) (holds old other q) ≡ (holds old other q || (object_eq other object && eqb q place))) [
   | true ↦ λ here.
       is q
       ∙ ap (λ o. holds old o q || eqb q place) (same_object object other here)
@@ -85,16 +74,20 @@ put-holds old mask object place is other q = elim (object_eq object other) as (�
   | false ↦ λ apart. sym (ap (λ b. holds old other q || (b && eqb q place)) (sym (other_way object other) ∙ apart) ∙ or_false (holds old other q))
 ] refl
 
-module _ (eq : Object → Object → Bool) (same : (a b : Object) → eq a b ≡ object_eq a b) where
-  pub holds-put : (old new : List (Object × Mask)) (mask : Mask) (object key : Object) (place : ℕ) → key ≡ object → ((q : ℕ) → has mask q ≡ (holds old object q || eqb q place))
-      → ((other : Object) → lookup (eq other) new ≡ cond (eq key other) (Some mask) (lookup (eq other) old)) → (other : Object) (q : ℕ) → holds new other q ≡ (holds old other q || (object_eq other object && eqb q place))
-  holds-put old new mask object key place at is put other q =
-      ap (λ o. option_map_or (λ m. has m q) o false)
-      (sym (looked-up eq same new other) ∙ put other ∙ (λ i. cond ((same key other ∙ ap (λ k. object_eq k other) at) i) (Some mask) (looked-up eq same old other i)))
-      ∙ put-holds old mask object place is other q
+-- and with one less
+put-less : (old new : Buckets) (mask : Mask) (object : Object) (place : ℕ) → ((q : ℕ) → has mask q ≡ (holds old object q && not (eqb q place)))
+    → ((other : Object) (q : ℕ) → holds new other q ≡ cond (object_eq object other) (has mask q) (holds old other q))
+    → (other : Object) (q : ℕ) → holds new other q ≡ (holds old other q && not (object_eq other object && eqb q place))
+put-less old new mask object place is put other q = put other q ∙ elim (object_eq object other) as (λ b. object_eq object other ≡ b → cond b (has mask q) (holds old other q) ≡ (holds old other q && not (object_eq other object && eqb q place))) [
+  | true ↦ λ here.
+      is q
+      ∙ ap (λ o. holds old o q && not (eqb q place)) (same_object object other here)
+      ∙ ap (λ b. holds old other q && not (b && eqb q place)) (sym (sym (other_way object other) ∙ here))
+  | false ↦ λ apart. sym (ap (λ b. holds old other q && not (b && eqb q place)) (sym (other_way object other) ∙ apart) ∙ and_true (holds old other q))
+] refl
 
 -- one grant more
-pub held-more : (roles : List Name) (done : List Grant) (g : Grant) (operation : ℕ) (old new : List (Object × Mask))
+held-more : (roles : List Name) (done : List Grant) (g : Grant) (operation : ℕ) (old new : Buckets)
     → ((object : Object) (place : ℕ) → holds new object place ≡ (holds old object place || (nat_lt place (length roles) && is_grant_of operation object (get_or roles place []) g)))
     → IsHeld roles done operation old → IsHeld roles (done ++ g ∷ []) operation new
 held-more roles done g operation old new step held = record {
@@ -106,7 +99,7 @@ held-more roles done g operation old new step held = record {
 }
 
 -- one that isn't of the operation, or is to no role
-held-same : (roles : List Name) (done : List Grant) (g : Grant) (operation : ℕ) (table : List (Object × Mask))
+held-same : (roles : List Name) (done : List Grant) (g : Grant) (operation : ℕ) (table : Buckets)
     → ((object : Object) (place : ℕ) → (nat_lt place (length roles) && is_grant_of operation object (get_or roles place []) g) ≡ false)
     → IsHeld roles done operation table → IsHeld roles (done ++ g ∷ []) operation table
 held-same roles done g operation table none held =
@@ -120,16 +113,13 @@ contains-at (x ∷ xs) (suc i) r inside is = or_right (name_eq r x) (contains_na
 turned : (a b : Name) → name_eq a b ≡ true → name_eq b a ≡ true
 turned a b is = ap (λ n. name_eq b n) (same_name a b is) ∙ name_eq-refl b
 
-pub held-stranger : (roles : List Name) (done : List Grant) (g : Grant) (operation : ℕ) (table : List (Object × Mask)) → contains_name roles g.role ≡ false
-    → IsHeld roles done operation table → IsHeld roles (done ++ g ∷ []) operation table
-held-stranger roles done g operation table none held =
-    held-same roles done g operation table
-    (λ object place. refuted _ (λ is.
+strange : (roles : List Name) (g : Grant) (operation : ℕ) → contains_name roles g.role ≡ false
+    → (object : Object) (place : ℕ) → (nat_lt place (length roles) && is_grant_of operation object (get_or roles place []) g) ≡ false
+strange roles g operation none object place = refuted _ (λ is.
     let inside = parts (nat_lt place (length roles)) _ is in
     let grant = parts (eqb operation (operation_index g.operation)) _ inside.1 in
     let at = parts (object_eq object g.object) _ grant.1 in
-    true≢false (sym (contains-at roles place g.role (ltb-true place (length roles) inside.0) (turned (get_or roles place []) g.role at.1)) ∙ none)))
-    held
+    true≢false (sym (contains-at roles place g.role (ltb-true place (length roles) inside.0) (turned (get_or roles place []) g.role at.1)) ∙ none))
 
 -- names that stand once stand at one place
 place-once : (names : List Name) → are_distinct names ≡ true → (i j : ℕ) → i < length names → j < length names → name_eq (get_or names i []) (get_or names j []) ≡ true → i ≡ j
@@ -157,7 +147,7 @@ put_in true true o n k is at = ap (λ b. o && b) at
 put_in false true o n k is at = ap (λ b. o && b) at ∙ and_false o
 put_in l false o n k is at = absurd (true≢false (sym is))
 
-pub held-place : (roles : List Name) → are_distinct roles ≡ true → (done : List Grant) (g : Grant) (operation : ℕ) (old new : List (Object × Mask)) (i : ℕ)
+held-place : (roles : List Name) → are_distinct roles ≡ true → (done : List Grant) (g : Grant) (operation : ℕ) (old new : Buckets) (i : ℕ)
     → operation_index g.operation ≡ operation → Some i ≡ position (name_eq g.role) roles
     → ((object : Object) (place : ℕ) → holds new object place ≡ (holds old object place || (object_eq object g.object && eqb place i)))
     → IsHeld roles done operation old → IsHeld roles (done ++ g ∷ []) operation new
@@ -193,29 +183,102 @@ any-found p (x ∷ xs) is = elim (or_cases (p x) (list_any p xs) is) [
   | inr later ↦ let found = any-found p xs later in (found.0, found.1, λ q t. or_right (q x) (list_any q xs) (found.2 q t))
 ]
 
-absorbed : (a b : Bool) → (b ≡ true → a ≡ true) → (a || b) ≡ a
-absorbed true b more = refl
-absorbed false true more = sym (more refl)
-absorbed false false more = refl
+-- grants of one operation and object to one role are equal
+same-key : (operation : ℕ) (object : Object) (role : Name) (a b : Grant) → is_grant_of operation object role a ≡ true → is_grant_of operation object role b ≡ true → grant_eq a b ≡ true
+same-key operation object role a b one other =
+    let x = parts (eqb operation (operation_index a.operation)) _ one in
+    let y = parts (eqb operation (operation_index b.operation)) _ other in
+    let u = parts (object_eq object a.object) _ x.1 in
+    let v = parts (object_eq object b.object) _ y.1 in
+    both (operation_eq a.operation b.operation) _ (eq-eqb (operation_index a.operation) (operation_index b.operation) (sym (same-number operation (operation_index a.operation) x.0) ∙ same-number operation (operation_index b.operation) y.0))
+    (both (object_eq a.object b.object) _
+    (ap (λ o. object_eq o b.object) (sym (same_object object a.object u.0)) ∙ v.0)
+    (ap (λ n. name_eq n b.role) (sym (same_name role a.role u.1)) ∙ v.1))
+  where
+    same-number : (i k : ℕ) → eqb i k ≡ true → i ≡ k
+    same-number i k is = elim (cases_eq i k) [ inl same ↦ same | inr apart ↦ absurd (true≢false (sym is ∙ ne_eqb i k apart)) ]
 
--- the masks of all operations with one grant more, which goes last where it is new
-pub held-insert : (roles : List Name) (granted : List Grant) (g : Grant) (old new : List (List (Object × Mask))) → AreHeld roles granted old → AreHeldMore roles g old new → AreHeld roles (insert_key grant_eq granted g) new
-held-insert roles granted g old new held grown =
-    elim (list_any (grant_eq g) granted) as (λ b. list_any (grant_eq g) granted ≡ b → AreHeld roles (cond b granted (granted ++ g ∷ [])) new) [
-      | false ↦ λ _. record { all = grown.all; exact = λ operation inside. (grown.more operation inside).more granted (held.exact operation inside) }
-      | true ↦ λ is. record {
-        all = grown.all;
-        exact = λ operation inside. record {
-          exact = λ object place.
-              let role = get_or roles place [] in
-              let test = is_grant_of operation object role in
-              let found = any-found (grant_eq g) granted is in
-              ((grown.more operation inside).more granted (held.exact operation inside)).exact object place
-              ∙ ap (λ b. nat_lt place (length roles) && b)
-              (any-last test granted g ∙ absorbed (list_any test granted) (test g) (λ t. found.2 test (sym (same-grant operation object role g found.0 found.1) ∙ t)));
-        };
-      }
-    ] refl
+-- what a filter keeps
+any-kept : {X : Type 0} (p k : X → Bool) → ((x : X) → p x ≡ true → k x ≡ true) → (xs : List X) → list_any p (filter k xs) ≡ list_any p xs
+any-kept p k keeps [] = refl
+any-kept p k keeps (x ∷ xs) = elim (k x) as (λ b. k x ≡ b → list_any p (cond b (x ∷ filter k xs) (filter k xs)) ≡ (p x || list_any p xs)) [
+  | true ↦ λ _. ap (λ b. p x || b) (any-kept p k keeps xs)
+  | false ↦ λ is. any-kept p k keeps xs ∙ ap (λ b. b || list_any p xs) (sym (refuted (p x) (λ t. true≢false (sym (keeps x t) ∙ is))))
+] refl
+
+any-gone : {X : Type 0} (p k : X → Bool) → ((x : X) → k x ≡ true → p x ≡ false) → (xs : List X) → list_any p (filter k xs) ≡ false
+any-gone p k gone [] = refl
+any-gone p k gone (x ∷ xs) = elim (k x) as (λ b. k x ≡ b → list_any p (cond b (x ∷ filter k xs) (filter k xs)) ≡ false) [
+  | true ↦ λ is. ap (λ b. b || list_any p (filter k xs)) (gone x is) ∙ any-gone p k gone xs
+  | false ↦ λ _. any-gone p k gone xs
+] refl
+
+less_in : (l a f t : Bool) → (t ≡ true → f ≡ false) → (t ≡ false → f ≡ a) → ((l && a) && not (l && t)) ≡ (l && f)
+less_in true a f true gone kept = and_false a ∙ sym (gone refl)
+less_in true a f false gone kept = and_true a ∙ sym (kept refl)
+less_in false a f t gone kept = refl
+
+-- one grant less
+held-less : (roles : List Name) (done : List Grant) (g : Grant) (operation : ℕ) (old new : Buckets)
+    → ((object : Object) (place : ℕ) → holds new object place ≡ (holds old object place && not (nat_lt place (length roles) && is_grant_of operation object (get_or roles place []) g)))
+    → IsHeld roles done operation old → IsHeld roles (filter (λ other. not (grant_eq g other)) done) operation new
+held-less roles done g operation old new step held = record {
+  exact = λ object place.
+      let t = is_grant_of operation object (get_or roles place []) in
+      let k : Grant → Bool = λ other. not (grant_eq g other) in
+      step object place
+      ∙ ap (λ b. b && not (nat_lt place (length roles) && t g)) (held.exact object place)
+      ∙ less_in (nat_lt place (length roles)) (list_any t done) (list_any t (filter k done)) (t g)
+      (λ is. any-gone t k (λ x left. refuted (t x) (λ also. true≢false (sym left ∙ ap not (same-key operation object (get_or roles place []) g x is also)))) done)
+      (λ none. any-kept t k (λ x is. ap not (refuted (grant_eq g x) (λ same. true≢false (sym is ∙ sym (same-grant operation object (get_or roles place []) g x same) ∙ none)))) done);
+}
+
+pub held-none : (roles : List Name) (operation : ℕ) (table : Buckets) → ((object : Object) (place : ℕ) → holds table object place ≡ false) → IsHeld roles [] operation table
+held-none roles operation table none = record { exact = λ object place. none object place ∙ sym (and_false (nat_lt place (length roles))) }
+
+-- a grant of another operation, or to no role, changes no mask
+unchanged : (more : Bool) (roles : List Name) (g : Grant) (operation : ℕ) (table : Buckets)
+    → ((object : Object) (place : ℕ) → (nat_lt place (length roles) && is_grant_of operation object (get_or roles place []) g) ≡ false)
+    → IsHeldAfter more roles g operation table table
+unchanged true roles g operation table none = record { after = λ granted held. held-same roles granted g operation table none held }
+unchanged false roles g operation table none = record {
+  after = λ granted held.
+      held-less roles granted g operation table table
+      (λ object place. sym (ap (λ b. holds table object place && not b) (none object place) ∙ and_true (holds table object place))) held;
+}
+
+pub changed-stranger : (more : Bool) (roles : List Name) (g : Grant) (operation : ℕ) (table : Buckets) → contains_name roles g.role ≡ false → IsHeldAfter more roles g operation table table
+changed-stranger more roles g operation table none = unchanged more roles g operation table (strange roles g operation none)
+
+pub changed-other : (more : Bool) (roles : List Name) (g : Grant) (operation : ℕ) (table : Buckets) → (operation ≡ operation_index g.operation → ⊥) → IsHeldAfter more roles g operation table table
+changed-other more roles g operation table apart = unchanged more roles g operation table
+    (λ object place. refuted _ (λ is.
+    let inside = parts (nat_lt place (length roles)) _ is in
+    let grant = parts (eqb operation (operation_index g.operation)) _ inside.1 in
+    true≢false (sym grant.0 ∙ ne_eqb operation (operation_index g.operation) apart)))
+
+-- a place more or less for the grant's object
+pub changed-place : (more : Bool) (roles : List Name) → are_distinct roles ≡ true → (g : Grant) (operation : ℕ) (old new : Buckets) (i : ℕ) (mask : Mask)
+    → operation_index g.operation ≡ operation → Some i ≡ position (name_eq g.role) roles
+    → (more ≡ true → (q : ℕ) → has mask q ≡ (holds old g.object q || eqb q i)) → (more ≡ false → (q : ℕ) → has mask q ≡ (holds old g.object q && not (eqb q i)))
+    → ((other : Object) (q : ℕ) → holds new other q ≡ cond (object_eq g.object other) (has mask q) (holds old other q))
+    → IsHeldAfter more roles g operation old new
+changed-place true roles once g operation old new i mask of found joined _ put = record {
+  after = λ granted held. held-place roles once granted g operation old new i of found (put-more old new mask g.object i (joined refl) put) held;
+}
+changed-place false roles once g operation old new i mask of found _ left put = record {
+  after = λ granted held.
+      held-less roles granted g operation old new
+      (λ object place.
+      put-less old new mask g.object i (left refl) put object place
+      ∙ ap (λ b. holds old object place && not b) (put_in (nat_lt place (length roles)) (eqb operation (operation_index g.operation)) (object_eq object g.object) (name_eq (get_or roles place []) g.role) (eqb place i) (eq-eqb operation (operation_index g.operation) (sym of)) (place-is roles once g.role i found place)))
+      held;
+}
+
+-- the masks of all operations after the change
+pub held-after : (more : Bool) (roles : List Name) (granted : List Grant) (g : Grant) (old new : List Buckets) → AreHeld roles granted old → AreHeldAfter more roles g old new → AreHeld roles (grants_after more granted g) new
+held-after more roles granted g old new held changed =
+    record { all = changed.all; exact = λ operation inside. (changed.after operation inside).after granted (held.exact operation inside) }
 
 length-names : (h : Hierarchy) → length (role_names h) ≡ length h
 length-names [] = refl

@@ -1,6 +1,8 @@
 pub mod AccessLemmas
 pub mod ActiveLemmas
 pub mod ApartLemmas
+pub mod BlockLemmas
+pub mod BucketLemmas
 pub mod DenialLemmas
 pub mod GrantedLemmas
 pub mod HolderLemmas

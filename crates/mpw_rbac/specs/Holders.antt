@@ -1,5 +1,7 @@
 -- The holders of a permission, by the places of their roles.
-use Rattle.std.specs.Prelude.{◌≡◌, ℕ, ◌<◌, Bool, false, ◌&&◌, ◌==◌, List, [], ◌∷◌, ◌++◌, length, nat_lt, slice_index_or}
+use Rattle.std.specs.Prelude.{◌≡◌, ℕ, ◌<◌, ◌%◌, Bool, true, false, not, ◌&&◌, ◌==◌, List, [], ◌∷◌, ◌++◌, length, filter, fold, nat_lt, slice_index_or, if◌then◌else◌}
+use Rattle.std.specs.Hash as fed
+use Rattle.std.specs.Hash.FoldHasher as folding
 use Rattle.std.specs.List.{list_any}
 use Rattle.std.specs.Option.{option_map_or}
 use Rattle.mpw_geom.specs.Names.{name_eq}
@@ -7,8 +9,9 @@ use Rattle.mpw_roles.specs.Hierarchy.{Name, Hierarchy}
 use Rattle.mpw_roles.specs.Mask.{has}
 use Rattle.mpw_roles.specs.declared.mask.Mask.{Mask}
 use Rattle.mpw_rbac.specs.declared.permission.Object.{Object}
+use Rattle.mpw_rbac.specs.declared.permission.Object.TheVariants.{Cell, Desk}
 use Rattle.mpw_rbac.specs.declared.permission.Grant.{Grant}
-use Rattle.mpw_rbac.specs.Grant.{operation_index, object_eq}
+use Rattle.mpw_rbac.specs.Grant.{operation_index, object_eq, grant_eq}
 use Rattle.mpw_rbac.specs.Table.{value_at}
 
 -- whether the grant is of the operation with that place among all, on this object, to this role
@@ -21,27 +24,49 @@ abbrev pub is_place_granted : List Name → List Grant → ℕ → Object → �
 is_place_granted roles granted operation object place =
     nat_lt place (length roles) && list_any (is_grant_of operation object (slice_index_or roles place [])) granted
 
+-- where an object is looked for: a hash of its name
+unfoldable pub slot : Object → ℕ
+slot Desk = 0
+slot (Cell name) = folding.finish (fold folding.write folding.initial (fed.str name)) % 512
+
+-- the bucket of an object
+unfoldable pub bucket_of : Object → ℕ
+bucket_of object = slot object % 128
+
+-- whether the place is in the mask of an object of one bucket
+abbrev pub holds_in : List (Object × Mask) → Object → ℕ → Bool
+holds_in bucket object place = option_map_or (λ mask. has mask place) (value_at object_eq bucket object) false
+
+-- the masks of the objects in their buckets
+abbrev pub Buckets : Type 0
+Buckets = List (List (Object × Mask))
+
 -- whether the place is in the mask of an object
-abbrev pub holds : List (Object × Mask) → Object → ℕ → Bool
-holds table object place = option_map_or (λ mask. has mask place) (value_at object_eq table object) false
+abbrev pub holds : Buckets → Object → ℕ → Bool
+holds buckets object place = holds_in (slice_index_or buckets (bucket_of object) []) object place
 
 -- the masks of one operation are those of its grants
-pub record IsHeld (roles : List Name) (granted : List Grant) (operation : ℕ) (table : List (Object × Mask)) : Type 0 where
-  pub exact : (object : Object) (place : ℕ) → holds table object place ≡ is_place_granted roles granted operation object place
+pub record IsHeld (roles : List Name) (granted : List Grant) (operation : ℕ) (buckets : Buckets) : Type 0 where
+  pub exact : (object : Object) (place : ℕ) → holds buckets object place ≡ is_place_granted roles granted operation object place
 
 -- and so for each operation
-pub record AreHeld (roles : List Name) (granted : List Grant) (tables : List (List (Object × Mask))) : Type 0 where
+pub record AreHeld (roles : List Name) (granted : List Grant) (tables : List Buckets) : Type 0 where
   pub all : length tables ≡ 11
   pub exact : (operation : ℕ) → operation < 11 → IsHeld roles granted operation (slice_index_or tables operation [])
 
--- whatever the grants were, the masks of one operation that were theirs are those with one grant more
-pub record IsHeldMore (roles : List Name) (grant : Grant) (operation : ℕ) (old new : List (Object × Mask)) : Type 0 where
-  pub more : (granted : List Grant) → IsHeld roles granted operation old → IsHeld roles (granted ++ grant ∷ []) operation new
+-- the grants with one more at their end, or without one
+abbrev pub grants_after : Bool → List Grant → Grant → List Grant
+grants_after more granted grant =
+    if more then granted ++ grant ∷ [] else filter (λ other. not (grant_eq grant other)) granted
+
+-- whatever the grants were, the masks of one operation that were theirs are those after the change
+pub record IsHeldAfter (more : Bool) (roles : List Name) (grant : Grant) (operation : ℕ) (old new : Buckets) : Type 0 where
+  pub after : (granted : List Grant) → IsHeld roles granted operation old → IsHeld roles (grants_after more granted grant) operation new
 
 -- and so for each operation
-pub record AreHeldMore (roles : List Name) (grant : Grant) (old new : List (List (Object × Mask))) : Type 0 where
+pub record AreHeldAfter (more : Bool) (roles : List Name) (grant : Grant) (old new : List Buckets) : Type 0 where
   pub all : length new ≡ 11
-  pub more : (operation : ℕ) → operation < 11 → IsHeldMore roles grant operation (slice_index_or old operation []) (slice_index_or new operation [])
+  pub after : (operation : ℕ) → operation < 11 → IsHeldAfter more roles grant operation (slice_index_or old operation []) (slice_index_or new operation [])
 
 -- the roles, and the grants to them
 pub record Permissions : Type 0 where

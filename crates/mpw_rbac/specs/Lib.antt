@@ -3,6 +3,7 @@ pub mod Access
 pub mod Existing
 pub mod Fault
 pub mod Grant
+pub mod Grants
 pub mod Holders
 pub mod Laws
 pub mod Policy

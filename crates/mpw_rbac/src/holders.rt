@@ -1,16 +1,19 @@
-//! Who was granted one operation, by object: the places of the roles as masks.
+//! Who was granted one operation, by object: the places of the roles as masks, in buckets.
 //!
-//! The masks of each operation stand behind a shared pointer of their own, so that one grant more copies those of its
-//! operation alone.
-ghost use Rattle.std.specs.Prelude.{◌≡◌, ℕ, ◌<◌, ◌==◌, ◌||◌, ◌&&◌, [], ◌∷◌, ◌++◌, List, IfOk, OnOk, length};
+//! The masks of each operation stand behind a shared pointer of their own, and so does each bucket of theirs. So one grant
+//! more or less makes one bucket anew, and counts the other buckets of its operation.
+ghost use Rattle.std.specs.Prelude.{◌≡◌, ℕ, ◌<◌, ◌==◌, ◌||◌, ◌&&◌, not, [], ◌∷◌, ◌++◌, List, true, false, IfOk, OnOk, length, slice_index_or, if◌then◌else◌};
+ghost use Rattle.std.specs.List.{flat_map};
 ghost use Rattle.mpw_roles.specs.Hierarchy.{role_names};
 ghost use Rattle.mpw_roles.specs.Mask.{has};
 ghost use Rattle.mpw_rbac.specs.Grant.{operation_index, object_eq};
-ghost use Rattle.mpw_rbac.specs.Holders.{holds, IsHeld, AreHeld, IsHeldMore, AreHeldMore};
+ghost use Rattle.mpw_rbac.specs.Holders.{holds, IsHeld, AreHeld, IsHeldAfter, AreHeldAfter};
 ghost use Rattle.mpw_rbac.specs.declared.permission.Grant.{Grant as GrantState};
+ghost use Rattle.mpw_rbac.specs.declared.permission.Object.{Object as ObjectState};
 
+use crate::bucket::{BUCKETS, Bucket, bucket_of};
+use crate::grants::Block;
 use crate::{Grant, Object, Operation};
-use indexmap::IndexMap;
 use mpw_roles::{Mask, Roles};
 use std::alloc::{AllocError, Global};
 use std::marker::Model;
@@ -19,20 +22,21 @@ use std::sync::Arc;
 /// The number of operations.
 const OPERATIONS: usize = 11;
 
-/// The places of the roles that were granted one operation on each object.
+/// The places of the roles that were granted one operation on each object: each object in its bucket.
 #[derive(Drop)]
 pub(crate) struct Holders {
-    table: IndexMap<Object, Mask>,
+    buckets: Vec<Bucket>,
 }
 
 impl Model for Holders {
-    ghost use Rattle.std.specs.Prelude.{List};
-    ghost use Rattle.mpw_rbac.specs.declared.permission.Object.{Object};
-    ghost use Rattle.mpw_roles.specs.declared.mask.Mask.{Mask};
+    ghost use Rattle.std.specs.Prelude.{◌≡◌, length};
+    ghost use Rattle.mpw_rbac.specs.Holders.{Buckets};
 
-    ghost Value = { List (Object × Mask) };
+    ghost Value = { Buckets };
 
-    ghost view = { λ holders. holders.table.entries };
+    ghost view = { λ holders. holders.buckets.items };
+
+    ghost invariant = { λ holders. length holders.buckets.items ≡ 128 };
 }
 
 /// The place of an operation among all.
@@ -55,56 +59,83 @@ pub(crate) fn index(operation: Operation) -> usize
     }
 }
 
-/// The same object.
-fn copied(object: &Object) -> Result<Object, AllocError>
-    ensures { IfOk result (λ copy. copy ≡ object.now) }
+/// A mask with a place more, or less.
+fn with_place(mask: &Mask, place: usize, more: bool) -> Mask
+    requires { place < 512 }
+    ensures more { more ≡ true → (other : ℕ) → has result other ≡ (has mask.now other || other == place) }
+    ensures less { more ≡ false → (other : ℕ) → has result other ≡ (has mask.now other && not (other == place)) }
 {
-    object.clone()
+    let mut next = *mask;
+    if more {
+        next.insert(place);
+    } else {
+        next.remove(place);
+    }
+    next
+}
+
+/// Buckets without masks.
+fn no_masks(alloc: Global, empty: &Bucket) -> Result<Vec<Bucket>, AllocError>
+    requires { empty.now ≡ [] }
+    ensures long { IfOk result (λ buckets. length buckets.items ≡ 128) }
+    ensures empty { IfOk result (λ buckets. (k : ℕ) → slice_index_or buckets.items k [] ≡ []) }
+{
+    let mut buckets = Vec::with_capacity(alloc, BUCKETS)?;
+    for _ in 0..BUCKETS {
+        buckets.push(empty.copy()?)?;
+    }
+    Ok(buckets)
 }
 
 impl Holders {
-    /// No holders.
-    fn new(alloc: Global) -> Holders
-        ensures { result ≡ [] }
+    /// No holders: one empty bucket, and a count for each other one.
+    fn new(alloc: Global) -> Result<Holders, AllocError>
+        ensures { IfOk result (λ holders. (object : ObjectState) (place : ℕ) → holds holders object place ≡ false) }
     {
-        Holders {
-            table: IndexMap::new(alloc),
-        }
+        let empty = Bucket::new(alloc)?;
+        let buckets = no_masks(alloc, &empty)?;
+        Ok(Holders { buckets })
     }
 
-    /// The same masks in a table of their own.
+    /// The same masks: a count for each bucket.
     fn copy(&self) -> Result<Holders, AllocError>
         ensures { IfOk result (λ copy. copy ≡ self.now) }
     {
-        Ok(Holders {
-            table: self.table.clone()?,
-        })
+        let mut buckets = Vec::with_capacity(*self.buckets.allocator(), self.buckets.len())?;
+        for bucket in &self.buckets {
+            buckets.push(bucket.copy()?)?;
+        }
+        Ok(Holders { buckets })
     }
 
-    /// The places of the roles that were granted the operation on the object: a look-up.
+    /// The places of the roles that were granted the operation on the object: a hash, and a look at its bucket.
     fn of(&self, object: &Object) -> Mask
         ensures { (place : ℕ) → has result place ≡ holds self.now object.now place }
     {
-        match self.table.get(object) {
-            Some(mask) => *mask,
-            None => Mask::new(),
-        }
+        let _all = self.buckets.len();
+        self.buckets[bucket_of(object)].of(object)
     }
 
-    /// One place more for an object.
-    fn insert(&mut self, object: &Object, place: usize) -> Result<(), AllocError>
-        requires { place < 512 }
-        ensures { OnOk result ((other : Object) (q : ℕ) → holds self.new other q ≡ (holds self.old other q || (object_eq other object.now && q == place))) }
+    /// Another mask for an object.
+    fn put(&mut self, object: &Object, mask: &Mask) -> Result<(), AllocError>
+        ensures { OnOk result ((other : ObjectState) (place : ℕ) → holds self.new other place ≡ (if object_eq object.now other then has mask.now place else holds self.old other place)) }
     {
-        let mut mask = self.of(object);
-        mask.insert(place);
-        self.table.insert(copied(object)?, mask)?;
+        let alloc = *self.buckets.allocator();
+        let at = bucket_of(object);
+        let bucket = self.buckets[at].with(alloc, object, mask)?;
+        self.buckets[at] = bucket;
         Ok(())
     }
 
-    /// One grant more, which counts where it is of the operation with that place among all.
-    fn add(&mut self, roles: &Roles, operation: usize, grant: &Grant) -> Result<(), AllocError>
-        ensures { OnOk result ((done : List GrantState) → IsHeld (role_names roles.now) done operation self.old → IsHeld (role_names roles.now) (done ++ grant.now ∷ []) operation self.new) }
+    /// One grant more or less, which counts where it is of the operation with that place among all.
+    fn change(
+        &mut self,
+        roles: &Roles,
+        operation: usize,
+        grant: &Grant,
+        more: bool,
+    ) -> Result<(), AllocError>
+        ensures { OnOk result (IsHeldAfter more (role_names roles.now) grant.now operation self.old self.new) }
     {
         roles.is_hierarchy();
         if index(grant.operation) != operation {
@@ -113,7 +144,8 @@ impl Holders {
         let Some(place) = roles.place(&grant.role) else {
             return Ok(());
         };
-        self.insert(&grant.object, place)?;
+        let mask = with_place(&self.of(&grant.object), place, more);
+        self.put(&grant.object, &mask)?;
         Ok(())
     }
 }
@@ -125,11 +157,9 @@ pub(crate) struct SharedHolders {
 }
 
 impl Model for SharedHolders {
-    ghost use Rattle.std.specs.Prelude.{List};
-    ghost use Rattle.mpw_rbac.specs.declared.permission.Object.{Object};
-    ghost use Rattle.mpw_roles.specs.declared.mask.Mask.{Mask};
+    ghost use Rattle.mpw_rbac.specs.Holders.{Buckets};
 
-    ghost Value = { List (Object × Mask) };
+    ghost Value = { Buckets };
 
     ghost view = { λ shared. shared.holders.value };
 }
@@ -144,7 +174,7 @@ impl SharedHolders {
         })
     }
 
-    /// The places of the roles that were granted the operation on the object: a look-up.
+    /// The places of the roles that were granted the operation on the object.
     pub(crate) fn of(&self, object: &Object) -> Mask
         ensures { (place : ℕ) → has result place ≡ holds self.now object.now place }
     {
@@ -160,53 +190,71 @@ impl SharedHolders {
         })
     }
 
-    /// The holders of the operation with that place among all, after one grant more: a table of their own where the
-    /// grant is of the operation, and the same ones otherwise.
-    fn with(
+    /// The holders of the operation with that place among all, after one grant more or less: buckets of their own where
+    /// the grant is of the operation, and the same holders otherwise.
+    fn changed(
         &self,
         roles: &Roles,
         operation: usize,
         grant: &Grant,
+        more: bool,
     ) -> Result<SharedHolders, AllocError>
-        ensures { IfOk result (λ next. IsHeldMore (role_names roles.now) grant.now operation self.now next) }
+        ensures { IfOk result (λ next. IsHeldAfter more (role_names roles.now) grant.now operation self.now next) }
     {
         if operation != index(grant.operation) {
-            return self.copy();
+            let same = self.copy()?;
+            return Ok(same);
         }
         let mut holders = self.holders.copy()?;
-        holders.add(roles, operation, grant)?;
+        holders.change(roles, operation, grant, more)?;
         SharedHolders::new(roles.allocator(), holders)
     }
 }
 
-/// The holders of each operation after one grant more. Those of other operations stay shared.
-pub(crate) fn holders_with(
+/// The holders of each operation after one grant more or less. Those of other operations stay shared.
+pub(crate) fn holders_after(
     roles: &Roles,
     all: &[SharedHolders],
     grant: &Grant,
+    more: bool,
 ) -> Result<Vec<SharedHolders>, AllocError>
     requires { length all.now ≡ 11 }
-    ensures { IfOk result (λ next. AreHeldMore (role_names roles.now) grant.now all.now next.items) }
+    ensures { IfOk result (λ next. AreHeldAfter more (role_names roles.now) grant.now all.now next.items) }
 {
-    let mut next = Vec::new(roles.allocator());
+    let mut next = Vec::with_capacity(roles.allocator(), OPERATIONS)?;
     for operation in 0..OPERATIONS {
-        next.push(all[operation].with(roles, operation, grant)?)?;
+        next.push(all[operation].changed(roles, operation, grant, more)?)?;
     }
     Ok(next)
+}
+
+/// Adds the grants of a block to the holders of the operation with that place among all.
+fn add_all(
+    holders: &mut Holders,
+    roles: &Roles,
+    operation: usize,
+    grants: &[Grant],
+) -> Result<(), AllocError>
+    ensures { OnOk result ((done : List GrantState) → IsHeld (role_names roles.now) done operation holders.old → IsHeld (role_names roles.now) (done ++ grants.now) operation holders.new) }
+{
+    for grant in grants {
+        holders.change(roles, operation, grant, true)?;
+    }
+    Ok(())
 }
 
 /// The holders of the operation with that place among all. One pass over the grants.
 fn holders_of(
     alloc: Global,
     roles: &Roles,
-    granted: &[Grant],
+    blocks: &[Block],
     operation: usize,
 ) -> Result<Holders, AllocError>
-    ensures { IfOk result (λ holders. IsHeld (role_names roles.now) granted.now operation holders) }
+    ensures { IfOk result (λ holders. IsHeld (role_names roles.now) (flat_map (λ block. block) blocks.now) operation holders) }
 {
-    let mut holders = Holders::new(alloc);
-    for grant in granted {
-        holders.add(roles, operation, grant)?;
+    let mut holders = Holders::new(alloc)?;
+    for block in blocks {
+        add_all(&mut holders, roles, operation, block.as_slice())?;
     }
     Ok(holders)
 }
@@ -215,25 +263,25 @@ fn holders_of(
 fn shared_holders_of(
     alloc: Global,
     roles: &Roles,
-    granted: &[Grant],
+    blocks: &[Block],
     operation: usize,
 ) -> Result<SharedHolders, AllocError>
-    ensures { IfOk result (λ holders. IsHeld (role_names roles.now) granted.now operation holders) }
+    ensures { IfOk result (λ holders. IsHeld (role_names roles.now) (flat_map (λ block. block) blocks.now) operation holders) }
 {
-    SharedHolders::new(alloc, holders_of(alloc, roles, granted, operation)?)
+    SharedHolders::new(alloc, holders_of(alloc, roles, blocks, operation)?)
 }
 
 /// The holders of each operation. A pass over the grants for each.
 pub(crate) fn all_holders(
     alloc: Global,
     roles: &Roles,
-    granted: &[Grant],
+    blocks: &[Block],
 ) -> Result<Vec<SharedHolders>, AllocError>
-    ensures { IfOk result (λ all. AreHeld (role_names roles.now) granted.now all.items) }
+    ensures { IfOk result (λ all. AreHeld (role_names roles.now) (flat_map (λ block. block) blocks.now) all.items) }
 {
-    let mut all = Vec::new(alloc);
+    let mut all = Vec::with_capacity(alloc, OPERATIONS)?;
     for operation in 0..OPERATIONS {
-        all.push(shared_holders_of(alloc, roles, granted, operation)?)?;
+        all.push(shared_holders_of(alloc, roles, blocks, operation)?)?;
     }
     Ok(all)
 }

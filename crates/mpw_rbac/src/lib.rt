@@ -8,6 +8,8 @@
 mod accepted;
 mod access;
 mod admin;
+mod bucket;
+mod grants;
 mod hierarchy;
 mod holders;
 mod laws;

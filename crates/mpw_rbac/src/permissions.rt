@@ -1,25 +1,24 @@
 //! Roles and the grants to them, which copies of the policy share.
 //!
 //! Beside the grants stand the masks of their roles, by operation and object. So whether one of some roles was granted
-//! something is a look-up and an `and` of eight words. A grant more copies the grants and the masks of its operation. A
-//! change of pairs leaves both as they are, since masks hold places of roles. Other changes make the masks anew, in a pass
-//! over the grants for each operation.
-ghost use Rattle.std.specs.Prelude.{◌≡◌, ℕ, List, not, filter, length, map, IfOk, IfErr, Ok, Err};
+//! something is a look-up and an `and` of eight words. A grant more or less copies a block of the grants and a bucket of
+//! the masks of its operation. A change of pairs leaves both as they are, since masks hold places of roles. A change of
+//! roles makes the masks anew, in a pass over the grants for each operation.
+ghost use Rattle.std.specs.Prelude.{◌≡◌, ◌∷◌, ◌++◌, [], ℕ, List, false, length, map, nat_lt, IfOk, IfErr, Ok, Err};
 ghost use Rattle.std.specs.List.{list_any};
-ghost use Rattle.indexmap.specs.IndexSet.{insert_key};
-ghost use Rattle.mpw_geom.specs.Names.{name_eq};
 ghost use Rattle.mpw_roles.specs.Hierarchy.{role_names};
 ghost use Rattle.mpw_roles.specs.Mask.{has};
 ghost use Rattle.mpw_roles.specs.Order.{roles_below};
 ghost use Rattle.mpw_roles.specs.Places.{is_place_below};
 ghost use Rattle.mpw_rbac.specs.Grant.{grant_eq};
-ghost use Rattle.mpw_rbac.specs.Holders.{AreHeld, AreHeldMore};
+ghost use Rattle.mpw_rbac.specs.Grants.{without_grant};
+ghost use Rattle.mpw_rbac.specs.Holders.{AreHeld, AreHeldAfter};
 ghost use Rattle.mpw_rbac.specs.Policy.{is_granted_to};
 ghost use Rattle.mpw_rbac.specs.Rows.{ungranted};
 
-use crate::holders::{SharedHolders, all_holders, holders_with, index};
+use crate::grants::Grants;
+use crate::holders::{SharedHolders, all_holders, holders_after, index};
 use crate::{Grant, Object, Operation};
-use indexmap::IndexSet;
 use mpw_geom::Name;
 use mpw_roles::{Mask, Roles};
 use std::alloc::{AllocError, Global};
@@ -30,7 +29,7 @@ use std::sync::Arc;
 #[derive(Drop)]
 pub(crate) struct Permissions {
     roles: Arc<Roles>,
-    granted: Arc<IndexSet<Grant>>,
+    granted: Grants,
     holders: Arc<Vec<SharedHolders>>,
 }
 
@@ -40,99 +39,41 @@ impl Model for Permissions {
 
     ghost Value = { PermissionsState };
 
-    ghost view = { λ p. record { roles = p.roles.value; granted = p.granted.value.keys } };
+    ghost view = { λ p. record { roles = p.roles.value; granted = p.granted } };
 
-    ghost invariant = { λ p. AreHeld (role_names p.roles.value) p.granted.value.keys p.holders.value.items };
-}
-
-/// The same grants in a table of their own.
-fn copied(granted: &IndexSet<Grant>) -> Result<IndexSet<Grant>, AllocError>
-    ensures { IfOk result (λ copy. copy.keys ≡ granted.now.keys) }
-{
-    granted.clone()
-}
-
-/// The role is granted nothing.
-fn ungrant(granted: &mut IndexSet<Grant>, role: &Name)
-    ensures { granted.new.keys ≡ ungranted granted.old.keys role.now }
-{
-    granted.retain(
-        |grant: &Grant| -> bool
-            ensures { result ≡ not (name_eq role.entry.now grant.now.role) }
-        { *role != grant.role },
-    );
-}
-
-/// The grant is taken back.
-fn take_back(granted: &mut IndexSet<Grant>, grant: &Grant)
-    ensures { granted.new.keys ≡ filter (λ other. not (grant_eq grant.now other)) granted.old.keys }
-{
-    granted.retain(
-        |other: &Grant| -> bool
-            ensures { result ≡ not (grant_eq grant.entry.now other.now) }
-        { *grant != *other },
-    );
+    ghost invariant = { λ p. AreHeld (role_names p.roles.value) p.granted p.holders.value.items };
 }
 
 /// The masks of each operation, shared.
 fn shared_holders(
     alloc: Global,
     roles: &Roles,
-    granted: &[Grant],
+    granted: &Grants,
 ) -> Result<Arc<Vec<SharedHolders>>, AllocError>
     ensures { IfOk result (λ all. AreHeld (role_names roles.now) granted.now all.value.items) }
 {
-    Ok(Arc::new(alloc, all_holders(alloc, roles, granted)?)?)
+    Ok(Arc::new(alloc, all_holders(alloc, roles, granted.blocks())?)?)
 }
 
-/// The masks of each operation after one grant more.
-fn shared_holders_with(
+/// The masks of each operation after one grant more or less.
+fn shared_holders_after(
     roles: &Roles,
     all: &[SharedHolders],
     grant: &Grant,
+    more: bool,
 ) -> Result<Arc<Vec<SharedHolders>>, AllocError>
     requires { length all.now ≡ 11 }
-    ensures { IfOk result (λ next. AreHeldMore (role_names roles.now) grant.now all.now next.value.items) }
+    ensures { IfOk result (λ next. AreHeldAfter more (role_names roles.now) grant.now all.now next.value.items) }
 {
-    Ok(Arc::new(roles.allocator(), holders_with(roles, all, grant)?)?)
-}
-
-/// The same grant.
-fn copied_grant(grant: &Grant) -> Result<Grant, AllocError>
-    ensures { IfOk result (λ copy. copy ≡ grant.now) }
-{
-    grant.clone()
-}
-
-/// The grants with one more.
-fn granted_with(granted: &IndexSet<Grant>, grant: &Grant) -> Result<IndexSet<Grant>, AllocError>
-    ensures { IfOk result (λ next. next.keys ≡ insert_key grant_eq granted.now.keys grant.now) }
-{
-    let mut table = copied(granted)?;
-    table.insert(copied_grant(grant)?)?;
-    Ok(table)
-}
-
-/// The grants with one more, shared.
-fn shared_granted_with(
-    granted: &IndexSet<Grant>,
-    grant: &Grant,
-) -> Result<Arc<IndexSet<Grant>>, AllocError>
-    ensures { IfOk result (λ next. next.value.keys ≡ insert_key grant_eq granted.now.keys grant.now) }
-{
-    Ok(Arc::new(*granted.allocator(), granted_with(granted, grant)?)?)
+    Ok(Arc::new(roles.allocator(), holders_after(roles, all, grant, more)?)?)
 }
 
 impl Permissions {
     /// These roles and grants.
-    fn of(
-        alloc: Global,
-        roles: Arc<Roles>,
-        granted: Arc<IndexSet<Grant>>,
-    ) -> Result<Permissions, AllocError>
-        ensures { IfOk result (λ next. next ≡ record { roles = roles.value; granted = granted.value.keys }) }
+    fn of(alloc: Global, roles: Arc<Roles>, granted: Grants) -> Result<Permissions, AllocError>
+        ensures { IfOk result (λ next. next ≡ record { roles = roles.value; granted = granted }) }
     {
-        let holders = shared_holders(alloc, &roles, granted.as_slice())?;
+        let holders = shared_holders(alloc, &roles, &granted)?;
         Ok(Permissions {
             roles,
             granted,
@@ -140,16 +81,12 @@ impl Permissions {
         })
     }
 
-    /// These roles and grants.
-    pub(crate) fn new(
-        alloc: Global,
-        roles: Roles,
-        granted: IndexSet<Grant>,
-    ) -> Result<Permissions, AllocError>
-        ensures { IfOk result (λ next. next ≡ record { roles = roles; granted = granted.keys }) }
+    /// These roles, and one grant.
+    pub(crate) fn new(alloc: Global, roles: Roles, grant: &Grant) -> Result<Permissions, AllocError>
+        ensures { IfOk result (λ next. next ≡ record { roles = roles; granted = grant.now ∷ [] }) }
     {
         let roles = Arc::new(alloc, roles)?;
-        let granted = Arc::new(alloc, granted)?;
+        let granted = Grants::one(alloc, grant)?;
         Permissions::of(alloc, roles, granted)
     }
 
@@ -160,11 +97,18 @@ impl Permissions {
         &self.roles
     }
 
-    /// The grants in their order.
-    pub(crate) fn grants(&self) -> &IndexSet<Grant>
-        ensures { result.now.keys ≡ self.now.granted }
+    /// Whether there are fewer grants than so many.
+    pub(crate) fn has_room(&self, limit: usize) -> bool
+        ensures { result ≡ nat_lt (length self.now.granted) limit }
     {
-        &self.granted
+        self.granted.is_shorter(limit)
+    }
+
+    /// Whether that was granted.
+    pub(crate) fn has_grant(&self, grant: &Grant) -> bool
+        ensures { result ≡ list_any (grant_eq grant.now) self.now.granted }
+    {
+        self.granted.contains(grant)
     }
 
     /// Whether the operation on the object was granted to one of the roles of a mask: a look-up, and an `and` of eight
@@ -182,7 +126,7 @@ impl Permissions {
     {
         let alloc = roles.allocator();
         let roles = Arc::new(alloc, roles)?;
-        Permissions::of(alloc, roles, self.granted.clone()?)
+        Permissions::of(alloc, roles, self.granted.copy()?)
     }
 
     /// The grants with the same roles in the same order, which have other pairs: the masks stay.
@@ -192,7 +136,7 @@ impl Permissions {
     {
         let alloc = roles.allocator();
         let roles = Arc::new(alloc, roles)?;
-        let granted = self.granted.clone()?;
+        let granted = self.granted.copy()?;
         let holders = self.holders.clone()?;
         Ok(Permissions {
             roles,
@@ -201,21 +145,12 @@ impl Permissions {
         })
     }
 
-    /// The roles with other grants.
-    fn with_grants(&self, granted: IndexSet<Grant>) -> Result<Permissions, AllocError>
-        ensures { IfOk result (λ next. next ≡ record self.now { granted = granted.keys }) }
-    {
-        let alloc = *granted.allocator();
-        let granted = Arc::new(alloc, granted)?;
-        Permissions::of(alloc, self.roles.clone()?, granted)
-    }
-
-    /// With one more grant: a copy of the grants, and of the masks of its operation.
+    /// With one more grant: a copy of a block of the grants, and of a bucket of the masks of its operation.
     pub(crate) fn with(&self, grant: &Grant) -> Result<Permissions, AllocError>
-        ensures { IfOk result (λ next. next ≡ record self.now { granted = insert_key grant_eq self.now.granted grant.now }) }
+        ensures { IfOk result (λ next. next ≡ record self.now { granted = self.now.granted ++ grant.now ∷ [] }) }
     {
-        let holders = shared_holders_with(&self.roles, &self.holders, grant)?;
-        let granted = shared_granted_with(&self.granted, grant)?;
+        let holders = shared_holders_after(&self.roles, &self.holders, grant, true)?;
+        let granted = self.granted.with(self.roles.allocator(), grant)?;
         let roles = self.roles.clone()?;
         Ok(Permissions {
             roles,
@@ -224,22 +159,28 @@ impl Permissions {
         })
     }
 
-    /// Without a grant.
+    /// Without a grant: a copy of a block of the grants, and of a bucket of the masks of its operation.
     pub(crate) fn without(&self, grant: &Grant) -> Result<Permissions, AllocError>
-        ensures { IfOk result (λ next. next ≡ record self.now { granted = filter (λ other. not (grant_eq grant.now other)) self.now.granted }) }
+        ensures { IfOk result (λ next. next ≡ record self.now { granted = without_grant self.now.granted grant.now }) }
     {
-        let mut table = copied(&self.granted)?;
-        take_back(&mut table, grant);
-        self.with_grants(table)
+        let holders = shared_holders_after(&self.roles, &self.holders, grant, false)?;
+        let granted = self.granted.without(self.roles.allocator(), grant)?;
+        let roles = self.roles.clone()?;
+        Ok(Permissions {
+            roles,
+            granted,
+            holders,
+        })
     }
 
     /// With other roles, and without the grants to a role.
     pub(crate) fn without_role(&self, roles: Roles, role: &Name) -> Result<Permissions, AllocError>
         ensures { IfOk result (λ next. next ≡ record { roles = roles; granted = ungranted self.now.granted role.now }) }
     {
-        let mut table = copied(&self.granted)?;
-        ungrant(&mut table, role);
-        Permissions::new(roles.allocator(), roles, table)
+        let alloc = roles.allocator();
+        let granted = self.granted.ungranted(alloc, role)?;
+        let roles = Arc::new(alloc, roles)?;
+        Permissions::of(alloc, roles, granted)
     }
 
     /// The same roles and grants: three counts.
@@ -247,7 +188,7 @@ impl Permissions {
         ensures { IfOk result (λ copy. copy ≡ self.now) }
     {
         let roles = self.roles.clone()?;
-        let granted = self.granted.clone()?;
+        let granted = self.granted.copy()?;
         let holders = self.holders.clone()?;
         Ok(Permissions {
             roles,

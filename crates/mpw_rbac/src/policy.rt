@@ -14,7 +14,7 @@ ghost use Rattle.mpw_rbac.specs.Table.{value_at};
 use crate::permissions::Permissions;
 use crate::users::Users;
 use crate::{Digest, Grant, Identity, Object, Operation, PolicyFault, Refusal, Session, User};
-use indexmap::{IndexMap, IndexSet};
+use indexmap::IndexMap;
 use mpw_geom::{Name, Names};
 use mpw_roles::Roles;
 use mpw_separation::Sets;
@@ -90,7 +90,7 @@ impl Policy {
     pub(crate) fn has_grant(&self, grant: &Grant) -> bool
         ensures { result ≡ list_any (grant_eq grant.now) self.now.granted }
     {
-        self.permissions.grants().contains(grant)
+        self.permissions.has_grant(grant)
     }
 
     /// Whether one more user fits.
@@ -104,7 +104,7 @@ impl Policy {
     pub(crate) fn has_room_for_grant(&self) -> bool
         ensures { result ≡ nat_lt (length self.now.granted) max_grants }
     {
-        self.permissions.grants().len() < MAX_GRANTS
+        self.permissions.has_room(MAX_GRANTS)
     }
 
     /// Whether some acting role of the connection's session was granted the operation on the object. It takes no
@@ -205,17 +205,15 @@ fn first_users(
     Users::new(alloc, table)
 }
 
-/// The grants of a new desk: that the officer may administer it.
-fn first_grants(alloc: Global, role: Name) -> Result<IndexSet<Grant>, AllocError>
-    ensures { IfOk result (λ grants. grants.keys ≡ record { operation = Operation.Admin; object = Object.Desk; role = role } ∷ []) }
+/// The grant of a new desk: that the officer may administer it.
+fn first_grant(role: Name) -> Grant
+    ensures { result ≡ record { operation = Operation.Admin; object = Object.Desk; role = role } }
 {
-    let mut table = IndexSet::new(alloc);
-    table.insert(Grant {
+    Grant {
         operation: Operation::Admin,
         object: Object::Desk,
         role,
-    })?;
-    Ok(table)
+    }
 }
 
 /// The roles and grants of a new desk.
@@ -224,8 +222,8 @@ fn first_permissions(alloc: Global, role: Name) -> Result<Permissions, PolicyFau
     ensures memory { IfErr result (λ fault. fault ≡ PolicyFault.Memory) }
 {
     let roles = first_roles(alloc, &role)?;
-    let granted = first_grants(alloc, role)?;
-    Ok(Permissions::new(alloc, roles, granted)?)
+    let grant = first_grant(role);
+    Ok(Permissions::new(alloc, roles, &grant)?)
 }
 
 /// The same sessions.

@@ -15,7 +15,7 @@ pub returns : goal.returns
 returns c = λ seniors acts.
     let in' = c.self.inside in
     let h = in'.roles.value in
-    let granted = in'.granted.value.keys in
+    let granted = in'.granted in
     let tables = in'.holders.value.items in
     let k = c.index-place.result in
     let op = c.args.operation in

@@ -1,8 +1,7 @@
 -- A new grant goes last.
-use Rattle.std.proofs.Common.{◌≡◌, ◌∙◌, sym, ap, true, false, cond, [], ◌∷◌, ◌++◌, length}
+use Rattle.std.proofs.Common.{◌≡◌, ◌∙◌, sym, ap, true, false, [], ◌∷◌, ◌++◌, length}
 use Rattle.std.specs.Prelude.{nat_lt}
 use Rattle.std.specs.List.{list_any}
-use Rattle.indexmap.specs.IndexSet.{insert_key}
 use Rattle.mpw_roles.specs.Hierarchy.{is_role}
 use Rattle.mpw_rbac.specs.Grant.{grant_eq}
 use Rattle.mpw_rbac.specs.Holders.{Permissions}
@@ -19,9 +18,7 @@ returns-clause-ok c =
     let room : nat_lt (length p.granted) 4096 ≡ true = sym c.has_room_for_grant.ensures ∙ c.if-not-has_room_for_grant.false in
     let next = c.in_ok-with.field-0 in
     let is : next.granted ≡ p.granted ++ new ∷ [] =
-    ap (λ (q : Permissions). q.granted) c.in_ok-with.ensures
-    ∙ ap (λ (q : Policy). insert_key grant_eq q.granted new) c.self.view_is
-    ∙ ap (λ b. cond b p.granted (p.granted ++ new ∷ [])) unknown in
+    ap (λ (q : Permissions). q.granted) c.in_ok-with.ensures ∙ ap (λ (q : Policy). q.granted ++ new ∷ []) c.self.view_is in
     grant-ok p c.args.conn c.in_ok-administers.ensures.ok new next.granted known unknown room is
 
 pub returns-clause-same : goal.returns-clause-same

@@ -1,0 +1,13 @@
+-- The bucket of the others, and of the object's mask.
+use Rattle.std.proofs.Common.{◌∙◌, ap, filter, not}
+use Rattle.mpw_roles.specs.declared.mask.Mask.{Mask}
+use Rattle.mpw_rbac.specs.Grant.{object_eq}
+use Rattle.mpw_rbac.specs.Holders.{holds_in}
+use Rattle.mpw_rbac.specs.declared.permission.Object.{Object}
+use Rattle.mpw_rbac.proofs.bucket.Bucket.with.Goals as goal
+
+pub returns : goal.returns
+returns c = λ other place.
+    ap (λ l. holds_in l other place) c.in_ok-bucket.ensures
+    ∙ c.in_ok-keep.ensures c.args.self.now
+    (c.in_ok-masks.ensures ∙ ap (filter (λ (entry : Object × Mask). not (object_eq c.args.object.now entry.0))) c.as_slice.ensures) other place

@@ -1,0 +1,13 @@
+-- Each block is kept by itself.
+use Rattle.std.proofs.Common.{◌∙◌, ◌++◌, not}
+use Rattle.mpw_geom.specs.Names.{name_eq}
+use Rattle.mpw_rbac.specs.Grant.{grant_eq}
+use Rattle.mpw_rbac.specs.declared.permission.Grant.{Grant}
+use Rattle.mpw_rbac.proofs.BlockLemmas.{kept-next}
+use Rattle.mpw_rbac.proofs.grants.blocks_without.Goals as goal
+
+pub loop-block-preserved : goal.loop-block-preserved
+loop-block-preserved c =
+    c.in_ok-keep.ensures
+    ∙ (λ i. c.loop-block.invariant i ++ c.in_ok-without.ensures i)
+    ∙ kept-next (λ other. not (grant_eq c.args.grant.now other)) c.args.blocks.now c.loop-block.block-index c.block-item.result c.block-item.result c.loop-block-test.true c.block-item.is

@@ -1,0 +1,167 @@
+//! Where the masks of an object stand: objects by a hash of their names.
+//!
+//! A bucket never changes: a change of one object's mask makes a bucket anew, and every other one stays shared. The hash
+//! is no secret, so names can be chosen that share a bucket; a look-up among n such names costs n comparisons.
+ghost use Rattle.std.specs.Prelude.{◌≡◌, ℕ, ◌<◌, not, filter, List, length, IfOk, OnOk, true, false, [], if◌then◌else◌};
+ghost use Rattle.mpw_roles.specs.Mask.{has};
+ghost use Rattle.mpw_roles.specs.declared.mask.Mask.{Mask as MaskState};
+ghost use Rattle.mpw_rbac.specs.Grant.{object_eq};
+ghost use Rattle.mpw_rbac.specs.Holders.{slot, bucket_of, holds_in};
+ghost use Rattle.mpw_rbac.specs.declared.permission.Object.{Object as ObjectState};
+
+use crate::Object;
+use mpw_roles::Mask;
+use std::alloc::{AllocError, Global};
+use std::hash::{FoldHasher, Hash, Hasher};
+use std::marker::Model;
+use std::sync::Arc;
+
+/// The number of slots: as many as a [`Mask`] has places.
+const SLOTS: u64 = 512;
+
+/// The number of buckets.
+pub(crate) const BUCKETS: usize = 128;
+
+/// The slot of an object: a hash of its name.
+#[tactic(auto, unfolding(crate::specs::Holders::slot))]
+pub(crate) fn slot(object: &Object) -> usize
+    ensures slot { result ≡ slot object.now }
+    ensures within { result < 512 }
+{
+    match object {
+        Object::Desk => 0,
+        Object::Cell(name) => {
+            let mut state = FoldHasher::default();
+            name.hash(&mut state);
+            (state.finish() % SLOTS) as usize
+        }
+    }
+}
+
+/// The bucket of an object, by its slot.
+#[tactic(auto, unfolding(crate::specs::Holders::bucket_of))]
+pub(crate) fn bucket_of(object: &Object) -> usize
+    ensures bucket { result ≡ bucket_of object.now }
+    ensures within { result < 128 }
+{
+    slot(object) % BUCKETS
+}
+
+/// The same object.
+pub(crate) fn copied(object: &Object) -> Result<Object, AllocError>
+    ensures { IfOk result (λ copy. copy ≡ object.now) }
+{
+    object.clone()
+}
+
+/// The masks of some objects, which copies share.
+#[derive(Drop)]
+pub(crate) struct Bucket {
+    masks: Arc<Vec<(Object, Mask)>>,
+}
+
+impl Model for Bucket {
+    ghost use Rattle.std.specs.Prelude.{List};
+    ghost use Rattle.mpw_rbac.specs.declared.permission.Object.{Object};
+    ghost use Rattle.mpw_roles.specs.declared.mask.Mask.{Mask};
+
+    ghost Value = { List (Object × Mask) };
+
+    ghost view = { λ bucket. bucket.masks.value.items };
+}
+
+/// The mask of an object among some.
+fn mask_of(masks: &[(Object, Mask)], object: &Object) -> Mask
+    ensures { (place : ℕ) → has result place ≡ holds_in masks.now object.now place }
+{
+    for (other, mask) in masks {
+        if *object == *other {
+            return *mask;
+        }
+    }
+    Mask::new()
+}
+
+/// The masks of all objects but one.
+fn others(
+    alloc: Global,
+    masks: &[(Object, Mask)],
+    object: &Object,
+) -> Result<Vec<(Object, Mask)>, AllocError>
+    ensures { IfOk result (λ left. left.items ≡ filter (λ (entry : ObjectState × MaskState). not (object_eq object.now entry.0)) masks.now) }
+{
+    let mut left = Vec::with_capacity(alloc, masks.len())?;
+    for (other, mask) in masks {
+        if *object != *other {
+            left.push((copied(other)?, *mask))?;
+        }
+    }
+    Ok(left)
+}
+
+/// Adds the mask of an object to those of all others, where it isn't empty.
+fn keep(masks: &mut Vec<(Object, Mask)>, object: &Object, mask: &Mask) -> Result<(), AllocError>
+    ensures { OnOk result ((all : List (ObjectState × MaskState)) → masks.old.items ≡ filter (λ (entry : ObjectState × MaskState). not (object_eq object.now entry.0)) all → (other : ObjectState) (place : ℕ) → holds_in masks.new.items other place ≡ (if object_eq object.now other then has mask.now place else holds_in all other place)) }
+{
+    if !mask.meets(mask) {
+        return Ok(());
+    }
+    masks.push((copied(object)?, *mask))?;
+    Ok(())
+}
+
+impl Bucket {
+    /// The masks in a bucket.
+    fn of_masks(alloc: Global, masks: Vec<(Object, Mask)>) -> Result<Bucket, AllocError>
+        ensures { IfOk result (λ bucket. bucket ≡ masks.items) }
+    {
+        Ok(Bucket {
+            masks: Arc::new(alloc, masks)?,
+        })
+    }
+
+    /// A bucket without objects.
+    pub(crate) fn new(alloc: Global) -> Result<Bucket, AllocError>
+        ensures { IfOk result (λ bucket. bucket ≡ []) }
+    {
+        Bucket::of_masks(alloc, Vec::new(alloc))
+    }
+
+    /// The same bucket: one count.
+    pub(crate) fn copy(&self) -> Result<Bucket, AllocError>
+        ensures { IfOk result (λ bucket. bucket ≡ self.now) }
+    {
+        Ok(Bucket {
+            masks: self.masks.clone()?,
+        })
+    }
+
+    /// Its masks.
+    fn as_slice(&self) -> &[(Object, Mask)]
+        ensures { result.now ≡ self.now }
+    {
+        self.masks.as_slice()
+    }
+
+    /// The mask of an object: a comparison for each object of the bucket.
+    pub(crate) fn of(&self, object: &Object) -> Mask
+        ensures { (place : ℕ) → has result place ≡ holds_in self.now object.now place }
+    {
+        mask_of(self.as_slice(), object)
+    }
+
+    /// The bucket with another mask of an object, which isn't kept where it is empty: a copy of the bucket.
+    pub(crate) fn with(
+        &self,
+        alloc: Global,
+        object: &Object,
+        mask: &Mask,
+    ) -> Result<Bucket, AllocError>
+        ensures { IfOk result (λ bucket. (other : ObjectState) (place : ℕ) → holds_in bucket other place ≡ (if object_eq object.now other then has mask.now place else holds_in self.now other place)) }
+    {
+        let mut masks = others(alloc, self.as_slice(), object)?;
+        keep(&mut masks, object, mask)?;
+        let bucket = Bucket::of_masks(alloc, masks)?;
+        Ok(bucket)
+    }
+}
