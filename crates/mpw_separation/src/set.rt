@@ -8,6 +8,7 @@ use mpw_geom::{Name, Names};
 use mpw_roles::{Below, Roles};
 use std::alloc::AllocError;
 use std::marker::Model;
+use std::sync::Arc;
 
 /// What a set holds for.
 #[derive(Clone, Copy, Debug, PartialEq, Eq)]
@@ -18,13 +19,63 @@ pub enum Kind {
     Dynamic,
 }
 
+/// The roles of a set, which its copies share.
+#[derive(Drop)]
+struct SharedRoles {
+    names: Arc<Names>,
+}
+
+impl Model for SharedRoles {
+    ghost use Rattle.std.specs.Prelude.{ℕ, List};
+
+    ghost Value = { List (List ℕ) };
+
+    ghost view = { λ shared. shared.names.value };
+}
+
+impl SharedRoles {
+    /// These roles. One allocation.
+    fn new(names: Names) -> Result<SharedRoles, AllocError>
+        ensures { IfOk result (λ shared. shared ≡ names) }
+    {
+        let items = names.into_vec();
+        let alloc = *items.allocator();
+        Ok(SharedRoles {
+            names: Arc::new(alloc, Names::from_vec(items))?,
+        })
+    }
+
+    /// The roles as a slice.
+    fn as_slice(&self) -> &[Name]
+        ensures { result.now ≡ self.now }
+    {
+        self.names.as_slice()
+    }
+
+    /// Whether the role is one of them.
+    fn contains(&self, role: &Name) -> bool
+        ensures { result ≡ contains_name self.now role.now }
+    {
+        self.names.contains(role)
+    }
+
+    /// The same roles: one count.
+    fn copy(&self) -> Result<SharedRoles, AllocError>
+        ensures { IfOk result (λ shared. shared ≡ self.now) }
+    {
+        Ok(SharedRoles {
+            names: self.names.clone()?,
+        })
+    }
+}
+
 /// Roles of which nobody may have `cardinality` or more. The cardinality is from 2 to the number of the roles, and no role
 /// stands twice.
 #[derive(Drop)]
 pub struct SeparationSet {
     name: Name,
     cardinality: usize,
-    roles: Names,
+    roles: SharedRoles,
 }
 
 impl Model for SeparationSet {
@@ -52,7 +103,7 @@ impl SeparationSet {
     /// roles, or a role stands twice. It costs n log n comparisons.
     ///
     /// # Errors
-    /// Where there is no room to sort the roles.
+    /// Where there is no room for the roles, or to sort them.
     pub fn new(
         name: Name,
         cardinality: usize,
@@ -63,6 +114,7 @@ impl SeparationSet {
         if cardinality < 2 || cardinality > roles.as_slice().len() || !are_distinct(&roles)? {
             return Ok(None);
         }
+        let roles = SharedRoles::new(roles)?;
         Ok(Some(SeparationSet {
             name,
             cardinality,
@@ -99,7 +151,7 @@ impl SeparationSet {
         self.roles.as_slice()
     }
 
-    /// The same set. The names share their text.
+    /// The same set: a count for its name, and one for its roles.
     ///
     /// # Errors
     /// Where there is no room.

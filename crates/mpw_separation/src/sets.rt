@@ -184,7 +184,7 @@ impl Sets {
         least_reached(self.of_kind(kind), &roles.below(seniors))
     }
 
-    /// The same sets. The names share their text.
+    /// The same sets: two counts for each.
     ///
     /// # Errors
     /// Where there is no room.
