@@ -1,5 +1,5 @@
 -- Which rows administer, and which tell no set of separation of duty.
-use Rattle.std.proofs.Common.{◌≡◌, ℕ, true, List, [], ◌∷◌, Ok, Err, None, Some, Option}
+use Rattle.std.proofs.Common.{◌≡◌, ℕ, true, List, [], ◌∷◌, Ok}
 use Rattle.mpw_roles.specs.Decided.{decided}
 use Rattle.mpw_roles.specs.Hierarchy.{Name}
 use Rattle.mpw_separation.specs.Set.{SeparationSet}
@@ -9,11 +9,10 @@ use Rattle.mpw_rbac.specs.declared.permission.Object.{Object}
 use Rattle.mpw_rbac.specs.declared.permission.Object.TheVariants.{Desk}
 use Rattle.mpw_rbac.specs.declared.permission.Operation.{Operation}
 use Rattle.mpw_rbac.specs.declared.permission.Operation.TheVariants.{Admin}
-use Rattle.mpw_rbac.specs.declared.refusal.Refusal.{Refusal}
 use Rattle.mpw_rbac.specs.declared.refusal.Refusal.TheVariants.{Opened, Login, NotPermitted, NotAuthorized, Ssd, Dsd}
 use Rattle.mpw_rbac.specs.Policy.{Policy, permits, trim}
 use Rattle.mpw_rbac.specs.Rows as rows
-use Rattle.mpw_rbac.proofs.DenialLemmas.{none-denied, permission-plain, dsd-permission, ssd-plain, dsd-plain, dsd-static, ssd-dynamic, admin-static, admin-dynamic, activation-dynamic}
+use Rattle.mpw_rbac.proofs.DenialLemmas.{none-denied, permission-plain, dsd-permission, ssd-plain, dsd-plain, dsd-static, ssd-dynamic, admin-static, admin-dynamic}
 use Rattle.mpw_rbac.proofs.RowLemmas.{all-pass}
 use Rattle.mpw_rbac.proofs.RowTests as row
 

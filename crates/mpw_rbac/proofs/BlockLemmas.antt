@@ -1,5 +1,5 @@
 -- Grants in blocks, and the slots of their objects.
-use Rattle.std.proofs.Common.{◌≡◌, ℕ, zero, suc, ◌+◌, ◌<◌, ◌≤◌, take, get_or, arith, Bool, true, false, cond, not, ◌||◌, ◌&&◌, ◌==◌, eqb, eq-eqb, List, [], ◌∷◌, ◌++◌, filter, length, refl, sym, ap, ◌∙◌, true≢false, append_assoc, append-nil}
+use Rattle.std.proofs.Common.{◌≡◌, ℕ, zero, suc, ◌+◌, ◌<◌, ◌≤◌, take, get_or, arith, Bool, true, false, cond, not, ◌||◌, ◌&&◌, eqb, eq-eqb, List, [], ◌∷◌, ◌++◌, filter, length, refl, sym, ap, ◌∙◌, true≢false, append_assoc, append-nil}
 use Rattle.std.specs.Prelude.{nat_lt}
 use Rattle.std.specs.List.{list_any, list_all, flat_map}
 use Rattle.std.proofs.lemmas.Bool.{ltb-true}

@@ -1,5 +1,5 @@
 -- The tables of a policy name users and roles that are there, and keep their limits.
-use Rattle.std.proofs.Common.{◌≡◌, ◌≤◌, ◌<◌, ◌+◌, ℕ, Bool, true, false, cond, not, ◌&&◌, Some, List, [], ◌∷◌, ◌++◌, map, filter, length, Ok, refl, sym, ap, ◌∙◌, subst, arith}
+use Rattle.std.proofs.Common.{◌≡◌, ◌≤◌, ℕ, Bool, true, false, cond, not, Some, List, [], ◌∷◌, ◌++◌, map, filter, length, refl, sym, ap, ◌∙◌, arith}
 use Rattle.std.specs.Prelude.{nat_lt}
 use Rattle.std.specs.List.{list_all}
 use Rattle.std.specs.Option.{option_map_or}
@@ -7,19 +7,18 @@ use Rattle.std.proofs.lemmas.Bool.{ltb-true}
 use Rattle.std.proofs.lemmas.List.{length-append, length-map}
 use Rattle.mpw_geom.specs.Links.{linked}
 use Rattle.mpw_geom.specs.Names.{name_eq, contains_name, without_name}
-use Rattle.mpw_roles.specs.Hierarchy.{Name, Hierarchy, is_role, immediate_juniors, with_juniors, with_role, without_role, with_pair, without_pair, entries_without}
-use Rattle.mpw_roles.proofs.CallerLemmas.{names-with_juniors, roles-left, roles-with_role, contains-roles_below}
-use Rattle.mpw_separation.specs.Separation.{without_set}
+use Rattle.mpw_roles.specs.Hierarchy.{Name, Hierarchy, is_role, with_juniors, without_role, entries_without}
+use Rattle.mpw_roles.proofs.CallerLemmas.{names-with_juniors, roles-left, contains-roles_below}
 use Rattle.mpw_separation.specs.Set.{SeparationSet}
 use Rattle.mpw_rbac.specs.declared.permission.Grant.{Grant}
 use Rattle.mpw_rbac.specs.declared.session.User.{User}
 use Rattle.mpw_rbac.specs.declared.session.Session.{Session}
-use Rattle.mpw_rbac.specs.Existing.{assigns_roles, leads_to_roles, grants_roles, sets_name_roles, is_session_there, NamesAreThere, KeepsLimits}
+use Rattle.mpw_rbac.specs.Existing.{assigns_roles, leads_to_roles, grants_roles, sets_name_roles, is_session_there, NamesAreThere}
 use Rattle.mpw_rbac.specs.Policy.{Policy, assigned_roles, authorized, is_user}
 use Rattle.mpw_rbac.specs.Rows as rows
 use Rattle.mpw_rbac.specs.Sound.{Sound, is_authorized_session, is_proper}
-use Rattle.mpw_rbac.specs.Table.{value_at, with_value, without_key}
-use Rattle.mpw_rbac.proofs.SeparationLemmas.{both, parts, all-append, all-filter, all_imply, not_true}
+use Rattle.mpw_rbac.specs.Table.{value_at, with_value}
+use Rattle.mpw_rbac.proofs.SeparationLemmas.{both, parts, all-filter, all_imply}
 
 -- ---- what a sound policy has
 

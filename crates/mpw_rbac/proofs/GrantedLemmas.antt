@@ -1,5 +1,5 @@
 -- The masks of an operation, one grant after the other, and what they answer.
-use Rattle.std.proofs.Common.{◌≡◌, ℕ, zero, suc, ◌<◌, Bool, true, false, cond, not, ◌||◌, ◌&&◌, inl, inr, List, [], ◌∷◌, ◌++◌, filter, length, get_or, eqb, eq-eqb, Option, None, Some, refl, sym, ap, ◌∙◌, true≢false, arith}
+use Rattle.std.proofs.Common.{◌≡◌, ℕ, zero, suc, ◌+◌, ◌<◌, Bool, true, false, cond, not, ◌||◌, ◌&&◌, inl, inr, List, [], ◌∷◌, ◌++◌, filter, length, get_or, eqb, eq-eqb, None, Some, refl, sym, ap, ◌∙◌, true≢false, arith}
 use Rattle.std.specs.Prelude.{nat_lt, position}
 use Rattle.std.specs.List.{list_any, position_or_len}
 use Rattle.std.specs.Cmp.{both_ways}
@@ -236,6 +236,53 @@ held-less roles done g operation old new step held = record {
 pub held-none : (roles : List Name) (operation : ℕ) (table : Buckets) → ((object : Object) (place : ℕ) → holds table object place ≡ false) → IsHeld roles [] operation table
 held-none roles operation table none = record { exact = λ object place. none object place ∙ sym (and_false (nat_lt place (length roles))) }
 
+get-first : (xs : List Name) (x : Name) (i : ℕ) → i < length xs → get_or xs i [] ≡ get_or (xs ++ x ∷ []) i []
+get-first [] x i inside = absurd (omega arith)
+get-first (y ∷ ys) x zero inside = refl
+get-first (y ∷ ys) x (suc i) inside = get-first ys x i (omega arith)
+
+get-last : (xs : List Name) (x : Name) → get_or (xs ++ x ∷ []) (length xs) [] ≡ x
+get-last [] x = refl
+get-last (y ∷ ys) x = get-last ys x
+
+length-last : (xs : List Name) (x : Name) → length (xs ++ x ∷ []) ≡ length xs + 1
+length-last [] x = refl
+length-last (y ∷ ys) x = let rest = length-last ys x in omega (arith, rest)
+
+none-fewer : {X : Type 0} (p q : X → Bool) → ((x : X) → q x ≡ true → p x ≡ true) → (xs : List X) → list_any p xs ≡ false → list_any q xs ≡ false
+none-fewer p q more xs none = refuted (list_any q xs) (λ is. let found = any-found q xs is in true≢false (sym (found.2 p (more found.0 found.1)) ∙ none))
+
+-- a role more, to which nothing was granted
+held-role : (roles : List Name) (r : Name) (granted : List Grant) (operation : ℕ) (table : Buckets) → list_any (λ (g : Grant). name_eq r g.role) granted ≡ false
+    → IsHeld roles granted operation table → IsHeld (roles ++ r ∷ []) granted operation table
+held-role roles r granted operation table none held = record {
+  exact = λ object place.
+      let long = length-last roles r in
+      held.exact object place ∙ elim (cases_lt place (length roles)) [
+        | inl less ↦
+            let inside : place < length (roles ++ r ∷ []) = omega (arith, long, less) in
+            λ j. (lt-ltb place (length roles) less ∙ sym (lt-ltb place (length (roles ++ r ∷ [])) inside)) j && list_any (is_grant_of operation object (get-first roles r place less j)) granted
+        | inr far ↦
+            let out : nat_lt place (length roles) ≡ false = refuted _ (λ is. let less = ltb-true place (length roles) is in omega (arith, far, less)) in
+            ap (λ b. b && list_any (is_grant_of operation object (get_or roles place [])) granted) out
+            ∙ elim (cases_eq place (length roles)) [
+              | inl same ↦
+                  let at : get_or (roles ++ r ∷ []) place [] ≡ r = ap (λ k. get_or (roles ++ r ∷ []) k []) same ∙ get-last roles r in
+                  let gone : list_any (is_grant_of operation object r) granted ≡ false = none-fewer (λ (g : Grant). name_eq r g.role) (is_grant_of operation object r) (λ g is. (parts (object_eq object g.object) _ (parts (eqb operation (operation_index g.operation)) _ is).1).1) granted none in
+                  sym (ap (λ n. nat_lt place (length (roles ++ r ∷ [])) && list_any (is_grant_of operation object n) granted) at ∙ ap (λ b. nat_lt place (length (roles ++ r ∷ [])) && b) gone ∙ and_false (nat_lt place (length (roles ++ r ∷ []))))
+              | inr past ↦
+                  let beyond : nat_lt place (length (roles ++ r ∷ [])) ≡ false = refuted _ (λ is. let less = ltb-true place (length (roles ++ r ∷ [])) is in past (omega (arith, far, less, long))) in
+                  sym (ap (λ b. b && list_any (is_grant_of operation object (get_or (roles ++ r ∷ []) place [])) granted) beyond)
+            ]
+      ];
+}
+
+pub all-held-role : (roles : List Name) (r : Name) (granted : List Grant) (tables : List Buckets) → list_any (λ (g : Grant). name_eq r g.role) granted ≡ false → AreHeld roles granted tables → AreHeld (roles ++ r ∷ []) granted tables
+all-held-role roles r granted tables none held = record {
+  all = held.all;
+  exact = λ operation inside. held-role roles r granted operation (get_or tables operation []) none (held.exact operation inside);
+}
+
 -- a grant of another operation, or to no role, changes no mask
 unchanged : (more : Bool) (roles : List Name) (g : Grant) (operation : ℕ) (table : Buckets)
     → ((object : Object) (place : ℕ) → (nat_lt place (length roles) && is_grant_of operation object (get_or roles place []) g) ≡ false)
@@ -329,6 +376,14 @@ meets-granted h granted seniors operation object acting holding false acts holds
     sym (refuted _ (λ is.
     let at = place-of-granted h granted seniors operation object is in
     true≢false (sym (both (has holding at.0) (has acting at.0) (holds_it at.0 ∙ at.2) (acts at.0 ∙ at.1)) ∙ none refl at.0)))
+
+-- the bit of a role's place says whether the role was granted it
+pub granted-bit : (names : List Name) (granted : List Grant) (g : Grant) (k i : ℕ) → k ≡ operation_index g.operation → Some i ≡ position (name_eq g.role) names
+    → is_place_granted names granted k g.object i ≡ list_any (grant_eq g) granted
+granted-bit names granted g k i of found =
+    let at = position-Some (name_eq g.role) names i [] (sym found) in
+    ap (λ b. b && list_any (is_grant_of k g.object (get_or names i [])) granted) (lt-ltb i (length names) at.0)
+    ∙ (λ j. list_any (is_grant_of (of j) g.object (sym (same_name g.role (get_or names i []) at.1) j)) granted)
 
 -- a name without a place is none of them
 pub unplaced : (names : List Name) (r : Name) → None ≡ position (name_eq r) names → contains_name names r ≡ false

@@ -1,13 +1,12 @@
 -- What an accepted row leaves keeps its tables.
-use Rattle.std.proofs.Common.{◌≡◌, ◌≤◌, ℕ, Ok, true, not, ◌||◌, refl, sym, subst, List, [], ◌∷◌, ◌++◌, arith}
-use Rattle.std.specs.List.{list_all}
+use Rattle.std.proofs.Common.{◌≡◌, ℕ, Ok, true, not, refl, sym, subst, List, [], ◌∷◌, ◌++◌, arith}
 use Rattle.mpw_geom.specs.Names.{name_eq, without_name}
 use Rattle.mpw_roles.specs.Decided.{decided}
-use Rattle.mpw_roles.specs.Hierarchy.{is_role, immediate_juniors, with_role, with_juniors, max_roles}
+use Rattle.mpw_roles.specs.Hierarchy.{is_role, immediate_juniors, with_role, with_juniors}
 use Rattle.mpw_roles.proofs.CallerLemmas.{roles-with_role}
 use Rattle.mpw_separation.specs.Set.{SeparationSet}
 use Rattle.mpw_rbac.specs.declared.permission.Grant.{Grant}
-use Rattle.mpw_rbac.specs.Existing.{assigns_roles, leads_to_roles, grants_roles, NamesAreThere, KeepsLimits, IsKept, KeepsTables}
+use Rattle.mpw_rbac.specs.Existing.{assigns_roles, leads_to_roles, grants_roles, KeepsLimits, IsKept, KeepsTables}
 use Rattle.mpw_rbac.specs.Grant.{grant_eq}
 use Rattle.mpw_rbac.specs.Policy.{Policy, new_policy, assigned_roles, trim}
 use Rattle.mpw_rbac.specs.Rows as rows

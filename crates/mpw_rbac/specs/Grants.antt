@@ -1,5 +1,5 @@
 -- Grants in blocks, each with the slots of its objects.
-use Rattle.std.specs.Prelude.{◌≡◌, Bool, true, not, List, filter}
+use Rattle.std.specs.Prelude.{◌≡◌, true, not, List, filter}
 use Rattle.std.specs.List.{list_all}
 use Rattle.mpw_roles.specs.Mask.{has}
 use Rattle.mpw_roles.specs.declared.mask.Mask.{Mask}

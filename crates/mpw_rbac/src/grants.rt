@@ -8,6 +8,7 @@ ghost use Rattle.mpw_geom.specs.Names.{name_eq};
 ghost use Rattle.mpw_rbac.specs.Grant.{grant_eq};
 ghost use Rattle.mpw_rbac.specs.Grants.{IsCovered, without_grant};
 ghost use Rattle.mpw_rbac.specs.Rows.{ungranted};
+ghost use Rattle.mpw_rbac.specs.declared.permission.Grant.{Grant as GrantState};
 
 use crate::Grant;
 use crate::bucket::slot;
@@ -243,6 +244,29 @@ fn is_among(blocks: &[Block], grant: &Grant) -> bool
     false
 }
 
+/// Whether one of the grants is to the role.
+fn is_named(grants: &[Grant], role: &Name) -> bool
+    ensures { result ≡ list_any (λ (grant : GrantState). name_eq role.now grant.role) grants.now }
+{
+    grants.iter().any(
+        |grant: &Grant| -> bool
+            ensures { result ≡ name_eq role.entry.now grant.now.role }
+        { *role == grant.role },
+    )
+}
+
+/// Whether a grant of one of the blocks is to the role.
+fn is_named_among(blocks: &[Block], role: &Name) -> bool
+    ensures { result ≡ list_any (λ (grant : GrantState). name_eq role.now grant.role) (flat_map (λ block. block) blocks.now) }
+{
+    for block in blocks {
+        if is_named(block.as_slice(), role) {
+            return true;
+        }
+    }
+    false
+}
+
 /// The same blocks, each by a count, with room for one more.
 fn blocks_copied(alloc: Global, blocks: &[Block]) -> Result<Vec<Block>, AllocError>
     ensures { IfOk result (λ copy. copy.items ≡ blocks.now) }
@@ -323,6 +347,13 @@ impl Grants {
         ensures { result ≡ list_any (grant_eq grant.now) self.now }
     {
         is_among(&self.blocks, grant)
+    }
+
+    /// Whether one of the grants is to the role: a comparison for each grant.
+    pub(crate) fn names(&self, role: &Name) -> bool
+        ensures { result ≡ list_any (λ (grant : GrantState). name_eq role.now grant.role) self.now }
+    {
+        is_named_among(&self.blocks, role)
     }
 
     /// The grants with one more: a count for each block, and a copy of the last.

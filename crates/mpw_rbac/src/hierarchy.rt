@@ -22,8 +22,8 @@ pub(crate) fn with_role(permissions: &Permissions, role: Name) -> Result<Permiss
     ensures refused { IfErr result (IsHierarchyFault (hierarchy.add permissions.now.roles role)) }
 {
     let mut roles = permissions.roles().copy()?;
-    roles.add(role)?;
-    Ok(permissions.with_roles(roles)?)
+    roles.add(role.copy()?)?;
+    Ok(permissions.with_role(roles, &role)?)
 }
 
 /// Without a role, and the grants to it.

@@ -104,11 +104,15 @@ impl Permissions {
         self.granted.is_shorter(limit)
     }
 
-    /// Whether that was granted.
+    /// Whether that was granted: a look-up and a bit, where its role is one.
     pub(crate) fn has_grant(&self, grant: &Grant) -> bool
         ensures { result ≡ list_any (grant_eq grant.now) self.now.granted }
     {
-        self.granted.contains(grant)
+        let Some(place) = self.roles.place(&grant.role) else {
+            return self.granted.contains(grant);
+        };
+        let operation = index(grant.operation);
+        self.holders[operation].of(&grant.object).contains(place)
     }
 
     /// Whether the operation on the object was granted to one of the roles of a mask: a look-up, and an `and` of eight
@@ -120,13 +124,24 @@ impl Permissions {
         self.holders[place].of(object).meets(roles)
     }
 
-    /// The grants with other roles.
-    pub(crate) fn with_roles(&self, roles: Roles) -> Result<Permissions, AllocError>
+    /// The grants with one more role, which goes last: the masks stay, unless something was granted to its name.
+    pub(crate) fn with_role(&self, roles: Roles, role: &Name) -> Result<Permissions, AllocError>
+        requires { role_names roles ≡ role_names self.now.roles ++ role.now ∷ [] }
         ensures { IfOk result (λ next. next ≡ record self.now { roles = roles }) }
     {
         let alloc = roles.allocator();
         let roles = Arc::new(alloc, roles)?;
-        Permissions::of(alloc, roles, self.granted.copy()?)
+        let granted = self.granted.copy()?;
+        if self.granted.names(role) {
+            let anew = Permissions::of(alloc, roles, granted)?;
+            return Ok(anew);
+        }
+        let holders = self.holders.clone()?;
+        Ok(Permissions {
+            roles,
+            granted,
+            holders,
+        })
     }
 
     /// The grants with the same roles in the same order, which have other pairs: the masks stay.
@@ -180,7 +195,8 @@ impl Permissions {
         let alloc = roles.allocator();
         let granted = self.granted.ungranted(alloc, role)?;
         let roles = Arc::new(alloc, roles)?;
-        Permissions::of(alloc, roles, granted)
+        let left = Permissions::of(alloc, roles, granted)?;
+        Ok(left)
     }
 
     /// The same roles and grants: three counts.

@@ -1,5 +1,5 @@
 -- The other objects keep their masks.
-use Rattle.std.proofs.Common.{◌≡◌, ◌∙◌, [], ◌∷◌, ◌++◌, ap}
+use Rattle.std.proofs.Common.{◌∙◌, [], ◌∷◌, ◌++◌, ap}
 use Rattle.mpw_rbac.specs.Holders.{holds_in}
 use Rattle.mpw_rbac.proofs.BucketLemmas.{in-put, in-gone, both-false}
 use Rattle.mpw_rbac.proofs.bucket.keep.Goals as goal

@@ -1,8 +1,6 @@
 -- Each block is kept by itself.
 use Rattle.std.proofs.Common.{◌∙◌, ◌++◌, not}
-use Rattle.mpw_geom.specs.Names.{name_eq}
 use Rattle.mpw_rbac.specs.Grant.{grant_eq}
-use Rattle.mpw_rbac.specs.declared.permission.Grant.{Grant}
 use Rattle.mpw_rbac.proofs.BlockLemmas.{kept-next}
 use Rattle.mpw_rbac.proofs.grants.blocks_without.Goals as goal
 

@@ -1,5 +1,5 @@
 -- A block that doesn't fit leaves no room.
-use Rattle.std.proofs.Common.{◌≡◌, ◌≤◌, ◌+◌, sym, ap, length, take, arith, ◌<◌}
+use Rattle.std.proofs.Common.{sym, ap, length, arith}
 use Rattle.std.specs.List.{flat_map}
 use Rattle.mpw_rbac.proofs.BlockLemmas.{flat-long, not_less}
 use Rattle.mpw_rbac.proofs.grants.is_shorter.Goals as goal

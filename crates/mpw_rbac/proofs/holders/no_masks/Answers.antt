@@ -1,4 +1,4 @@
-use Rattle.std.proofs.Common.{◌≡◌, ◌∙◌, ℕ, [], ◌∷◌, ◌++◌, sym, ap, get_or}
+use Rattle.std.proofs.Common.{◌∙◌, [], ap, get_or}
 use Rattle.mpw_rbac.proofs.BucketLemmas.{pushed-empty, pushed-length}
 use Rattle.mpw_rbac.proofs.holders.no_masks.Goals as goal
 

@@ -1,5 +1,5 @@
 -- A grant of the operation to a role is a place more or less; others change nothing.
-use Rattle.std.proofs.Common.{◌≡◌, ◌∙◌, sym, ap, ◌||◌, ◌&&◌, ◌==◌, not}
+use Rattle.std.proofs.Common.{◌∙◌, sym, ap, ◌||◌, ◌&&◌, ◌==◌, not}
 use Rattle.mpw_roles.specs.Hierarchy.{role_names}
 use Rattle.mpw_rbac.proofs.GrantedLemmas.{changed-other, changed-stranger, changed-place, unplaced}
 use Rattle.mpw_rbac.proofs.holders.Holders.change.Goals as goal
