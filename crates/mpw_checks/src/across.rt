@@ -1,7 +1,8 @@
 //! Boxes that reach across a window from side to side, made into as few as have their rows.
 //!
-//! Of the boxes in a strip only those that begin or end in it bound its bands from left to right. The others are
-//! whole rows, and however many there are, they are few once those that overlap or touch are one.
+//! Of the boxes in a strip only those that begin or end in it bound its bands from left to right.
+//! The others are whole rows, and however many there are, they are few once those that overlap or
+//! touch are one.
 
 ghost use Rattle.std.specs.Prelude.{◌≡◌, ◌↔◌, ◌⊎◌, ◌<ℤ◌, ℤ, All, IfOk, OnOk, IsTrue};
 ghost use Rattle.mpw_region.specs.Runs.{IsFilled};
@@ -94,8 +95,8 @@ pub(crate) fn are_many(boxes: &[Box2], window: &Box2) -> bool {
     across > 1 && across >= boxes.len() / 4
 }
 
-/// The squares of the boxes, by boxes of which no two that reach across the window overlap or touch. A sort of
-/// their rows.
+/// The squares of the boxes, by boxes of which no two that reach across the window overlap or
+/// touch. A sort of their rows.
 pub(crate) fn merged(alloc: Global, boxes: &[Box2], window: &Box2) -> Result<Vec<Box2>, AllocError>
     ensures { IfOk result (λ v. (i j : ℤ) → covers v.items i j ≡ covers boxes.now i j) }
 {

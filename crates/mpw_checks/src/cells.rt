@@ -1,9 +1,9 @@
 //! A core in strips: halves of halves, each with bands of its own.
 //!
-//! Looking along rows, a core is halved left and right of the middle of its rectangles while the halves are
-//! less work together. So a strip has few rectangles in a row, however many it has from below to above;
-//! rectangles that all share a place are not divided for nothing, and the passes over a rectangle are about as
-//! many as the halvings.
+//! Looking along rows, a core is halved left and right of the middle of its rectangles while the
+//! halves are less work together. So a strip has few rectangles in a row, however many it has from
+//! below to above; rectangles that all share a place are not divided for nothing, and the passes
+//! over a rectangle are about as many as the halvings.
 
 ghost use Rattle.std.specs.Prelude.{◌≡◌, ◌↔◌, ◌≤◌, ℤ, IfOk, OnOk, All, Contains, AllPairs};
 ghost use Rattle.mpw_geom.specs.Plane.{IsBoxInPlane};
@@ -126,12 +126,13 @@ fn along_columns(
     along_rows(alloc, distance, first.as_slice(), second.as_slice(), core)
 }
 
-/// The half-open core in strips, with the bands of two layers, from rectangles in any order that may overlap. They serve
-/// each rule up to that distance whose first layer has the rectangles of `first` and whose second has those of
-/// `second`; a check of one layer ignores `second`.
+/// The half-open core in strips, with the bands of two layers, from rectangles in any order that
+/// may overlap. They serve each rule up to that distance whose first layer has the rectangles of
+/// `first` and whose second has those of `second`; a check of one layer ignores `second`.
 ///
-/// Along rows and along columns the core is halved into strips with few rectangles side by side. The cost is a pass
-/// over the rectangles a halving, and the bands of each strip, which stay in memory.
+/// Along rows and along columns the core is halved into strips with few rectangles side by side.
+/// The cost is a pass over the rectangles a halving, and the bands of each strip, which stay in
+/// memory.
 ///
 /// # Errors
 /// Where there is no room.
@@ -150,9 +151,9 @@ pub fn strips_of(
     Ok(Strips::of(rows, columns))
 }
 
-/// What the rule finds in the half-open core, as [`mpw_edges::pieces`] tells it, from rectangles in any
-/// order that may overlap. `first` are those of the check's first layer, `second` those of its second; a
-/// check of one layer ignores `second`, which is then best empty.
+/// What the rule finds in the half-open core, as [`mpw_edges::pieces`] tells it, from rectangles in
+/// any order that may overlap. `first` are those of the check's first layer, `second` those of its
+/// second; a check of one layer ignores `second`, which is then best empty.
 ///
 /// The cost is that of [`strips_of`] and of [`pieces_in`]. The only error is that memory ran out.
 pub fn pieces(

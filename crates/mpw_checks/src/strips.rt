@@ -1,7 +1,7 @@
 //! The strips of a core, and what rules find in them.
 //!
-//! The bands of a strip are made once, and serve each rule of the same layers whose distance the strip's window
-//! allows for.
+//! The bands of a strip are made once, and serve each rule of the same layers whose distance the
+//! strip's window allows for.
 
 ghost use Rattle.std.specs.Prelude.{◌≡◌, ◌↔◌, ◌≤◌, ℕ, ℤ, IfOk, OnOk, All, Contains, AllPairs};
 ghost use Rattle.mpw_geom.specs.declared.plane.Box2.{Box2 as BoxValue};
@@ -28,8 +28,8 @@ pub struct Strip {
     pub(crate) second: Vec<Box2>,
 }
 
-/// A core in strips, along rows and along columns, with the bands of two layers. [`pieces_in`] looks for what rules
-/// find in it.
+/// A core in strips, along rows and along columns, with the bands of two layers. [`pieces_in`]
+/// looks for what rules find in it.
 #[derive(Drop)]
 pub struct Strips {
     rows: Vec<Strip>,
@@ -105,8 +105,8 @@ fn runs_in(alloc: Global, rule: &Rule, strips: &[Strip]) -> Result<Vec<Run>, All
     joined(alloc, found)
 }
 
-/// What the rule finds in a core, as [`mpw_edges::pieces`] tells it, where these are the core's strips of the squares
-/// of its layers for distances as great as the rule's.
+/// What the rule finds in a core, as [`mpw_edges::pieces`] tells it, where these are the core's
+/// strips of the squares of its layers for distances as great as the rule's.
 ///
 /// The cost is that of pairs in each strip, and a sort of what is found.
 ///

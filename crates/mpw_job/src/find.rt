@@ -1,4 +1,5 @@
-//! Finding the markers of a tile: the runs of each rule in the core, and then what all of them meet.
+//! Finding the markers of a tile: the runs of each rule in the core, and then what all of them
+//! meet.
 
 ghost use Rattle.std.specs.Prelude.{◌≡◌, ◌++◌, IfOk, OnOk, map};
 ghost use Rattle.mpw_geom.specs.declared.plane.Box2.{Box2 as BoxValue};

@@ -1,6 +1,7 @@
 //! The rectangles of a window by layer.
 //!
-//! They are put in order once for all rules, and each rule takes those of its layers, which stand together.
+//! They are put in order once for all rules, and those of a layer, which stand together, are taken for the
+//! rules that look at it.
 
 ghost use Rattle.std.specs.Prelude.{◌≡◌, ◌≤◌, ◌<◌, ◌^◌, ℤ, All, IfOk, take, drop, length};
 ghost use Rattle.std.specs.List.Sorted.{IsPermutation};

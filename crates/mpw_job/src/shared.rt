@@ -1,7 +1,8 @@
 //! Strips of a tile that rules share.
 //!
-//! Rules that follow one another often look at the same layers: widths and spaces of a layer, and what lies near it on
-//! another. The core is cut into strips once for them, with bands for the greatest of their distances.
+//! Rules that follow one another often look at the same layers: widths and spaces of a layer, and
+//! what lies near it on another. The core is cut into strips once for them, with bands for the
+//! greatest of their distances.
 
 ghost use Rattle.std.specs.Prelude.{◌≡◌, ◌↔◌, Some, ℤ, IfOk, IfSome, IsTrue};
 ghost use Rattle.mpw_geom.specs.Plane.{IsBoxInPlane};
@@ -17,8 +18,8 @@ use mpw_geom::{Box2, Layer};
 use mpw_tiles::Rectangle;
 use std::alloc::{AllocError, Global};
 
-/// The strips of a core with the bands of a first layer, and of a second where there is one, for rules up to a distance
-/// in nm.
+/// The strips of a core with the bands of a first layer, and of a second where there is one, for
+/// rules up to a distance in nm.
 #[derive(Drop)]
 pub(crate) struct Shared {
     pub(crate) first: Layer,
@@ -56,7 +57,8 @@ fn looks_at(check: Check, first: Layer, second: Option<Layer>) -> bool
     }
 }
 
-/// The second layer of the first rule that has one, among those at the front that look at the layer.
+/// The second layer of the first rule that has one, among those at the front that look at the
+/// layer.
 fn partner(layer: Layer, rules: &[Rule]) -> Option<Layer> {
     for rule in rules {
         match rule.check {
@@ -82,8 +84,8 @@ fn widest(rules: &[Rule], first: Layer, second: Option<Layer>) -> u32 {
     greatest
 }
 
-/// The layers that the check looks at. A check of one layer gets the second layer of the rules behind it, so that they
-/// can share its strips.
+/// The layers that the check looks at. A check of one layer gets the second layer of the rules
+/// behind it, so that they can share its strips.
 fn layers_for(check: Check, rules: &[Rule]) -> (Layer, Option<Layer>)
     ensures { LooksAt check result.0 result.1 }
 {
@@ -112,15 +114,16 @@ fn second_areas(
 }
 
 impl Shared {
-    /// Whether the strips serve the rule: they have its layers, and its distance is not too great for them.
+    /// Whether the strips serve the rule: they have its layers, and its distance is not too great
+    /// for them.
     fn serves(&self, rule: &Rule) -> bool
         ensures { IsTrue result → Serves self.now rule.now }
     {
         (rule.distance <= self.distance) & looks_at(rule.check, self.first, self.second)
     }
 
-    /// The strips for a rule and for those that follow, of rectangles by layer: what [`mpw_checks::strips_of`] takes for
-    /// those on its layers. An error is want of memory.
+    /// The strips for a rule and for those that follow, of rectangles by layer: what
+    /// [`mpw_checks::strips_of`] takes for those on its layers. An error is want of memory.
     fn of(
         alloc: Global,
         rule: &Rule,
@@ -153,8 +156,8 @@ impl Shared {
     }
 }
 
-/// The strips that are held, where they serve the rule, or else new ones for it and the rules that follow. An error is
-/// want of memory.
+/// The strips that are held, where they serve the rule, or else new ones for it and the rules that
+/// follow. An error is want of memory.
 pub(crate) fn shared_for(
     alloc: Global,
     held: Option<Shared>,

@@ -77,12 +77,21 @@ fn add_all(all: &mut Vec<Marker>, markers: &[Marker]) -> Result<(), AllocError>
     Ok(())
 }
 
+/// How many markers the lists have together.
+fn count_of(lists: &[TileMarkers]) -> usize {
+    let mut count = 0usize;
+    for list in lists {
+        count = count.saturating_add(list.len());
+    }
+    count
+}
+
 /// The markers of all lists, one list after another.
 fn gathered(alloc: Global, lists: &[TileMarkers]) -> Result<Vec<Marker>, AllocError>
     ensures markers { IfOk result (λ v. v.items ≡ flat_map (λ list. list) lists.now) }
     ensures filled { IfOk result (λ v. All IsFilled v.items) }
 {
-    let mut all = Vec::new(alloc);
+    let mut all = Vec::with_capacity(alloc, count_of(lists))?;
     for list in lists {
         add_all(&mut all, list.as_slice())?;
     }

@@ -202,6 +202,20 @@ Collects-apart common done b numbers r h apart = record { exact = λ origin. (λ
     from origin (inl c) = (h.exact origin).1 (inl c)
     from origin (inr m) = elim (met_cases done r b origin m) [ inl l ↦ (h.exact origin).1 (inr l) | inr n ↦ absurd (apart n.1) ]
 
+pub Collects-told : (common : List ℕ) (done : List Rectangle) (b : Box2) (numbers : List ℕ) (r : Rectangle) → Collects common done b numbers → Contains numbers r.origin → Collects common (done ++ r ∷ []) b numbers
+Collects-told common done b numbers r h told = record { exact = λ origin. (λ c. to origin ((h.exact origin).0 c), from origin) }
+  where
+    to : (origin : ℕ) → IsAnswer common done b origin → IsAnswer common (done ++ r ∷ []) b origin
+    to origin (inl c) = inl c
+    to origin (inr m) = inr (met_left done r b origin m)
+
+    from : (origin : ℕ) → IsAnswer common (done ++ r ∷ []) b origin → Contains numbers origin
+    from origin (inl c) = (h.exact origin).1 (inl c)
+    from origin (inr m) = elim (met_cases done r b origin m) [
+      | inl l ↦ (h.exact origin).1 (inr l)
+      | inr n ↦ subst (λ (k : ℕ). Contains numbers k) n.0 told
+    ]
+
 -- ---- along the code's list
 
 abbrev pub no_rectangle : Rectangle
@@ -238,6 +252,14 @@ collects_met common rs n b numbers new l h s e =
 pub collects_apart : (common : List ℕ) (rs : List Rectangle) (n : ℕ) (b : Box2) (numbers new : List ℕ) → n < length rs → Collects common (take n rs) b numbers → (SharePoint (rectangle_at rs n).area b → ⊥) → new ≡ numbers → Collects common (take (n + 1) rs) b new
 collects_apart common rs n b numbers new l h s e =
     subst (Collects common (take (n + 1) rs) b) (sym e) (subst (λ (ys : List Rectangle). Collects common ys b numbers) (sym (take_more rs n no_rectangle l)) (Collects-apart common (take n rs) b numbers (rectangle_at rs n) h s))
+
+pub collects_passed : (common : List ℕ) (rs : List Rectangle) (n : ℕ) (b : Box2) (numbers seen new : List ℕ) → n < length rs → Collects common (take n rs) b numbers → seen ≡ numbers
+    → Contains seen (rectangle_at rs n).origin ⊎ (SharePoint (rectangle_at rs n).area b → ⊥) → new ≡ numbers → Collects common (take (n + 1) rs) b new
+collects_passed common rs n b numbers seen new l h same (inl told) e =
+    subst (Collects common (take (n + 1) rs) b) (sym e)
+    (subst (λ (ys : List Rectangle). Collects common ys b numbers) (sym (take_more rs n no_rectangle l))
+    (Collects-told common (take n rs) b numbers (rectangle_at rs n) h (subst (λ (ns : List ℕ). Contains ns (rectangle_at rs n).origin) same told)))
+collects_passed common rs n b numbers seen new l h same (inr apart) e = collects_apart common rs n b numbers new l h apart e
 
 pub collects_end : (common : List ℕ) (rs : List Rectangle) (n : ℕ) (b : Box2) (numbers : List ℕ) → length rs ≤ n → Collects common (take n rs) b numbers → Collects common rs b numbers
 collects_end common rs n b numbers l h = subst (λ (ys : List Rectangle). Collects common ys b numbers) (take_all n rs l) h

@@ -20,7 +20,7 @@ use std::alloc::{AllocError, Global};
 const DEPTH: u32 = 40;
 
 /// So few boxes, or rectangles, are not divided further.
-const FEW: usize = 8;
+const FEW: usize = 16;
 
 /// Puts the answer of one box in its place.
 fn fill_one(

@@ -1,8 +1,8 @@
 //! Rectangles that boxes may meet, as far as they matter to a part of the boxes.
 
-ghost use Rattle.std.specs.Prelude.{◌≡◌, ◌≤ℤ◌, true, ℕ, Contains, IfOk};
+ghost use Rattle.std.specs.Prelude.{◌≡◌, ◌⊎◌, ◌≤ℤ◌, true, ℕ, Contains, IfOk, IsTrue, MatchBool};
 ghost use Rattle.mpw_origins.specs.declared.search.Item.{Item as ItemValue};
-ghost use Rattle.mpw_origins.specs.Search.{IsWithin, AreAlikeIn, Answers};
+ghost use Rattle.mpw_origins.specs.Search.{SharePoint, IsWithin, AreAlikeIn, Answers};
 
 use mpw_geom::Box2;
 use mpw_markers::Met;
@@ -105,6 +105,24 @@ pub(crate) fn parts_near(
     })
 }
 
+/// Whether the number is the last of them.
+fn is_last(numbers: &[u32], number: u32) -> bool
+    ensures { IsTrue result → Contains numbers.now number }
+{
+    match numbers.last() {
+        Some(last) => *last == number,
+        None => false,
+    }
+}
+
+/// Whether the rectangle meets the box, and its origin isn't the last number already.
+fn is_needed(numbers: &[u32], rectangle: &Rectangle, b: &Box2) -> bool
+    ensures { MatchBool result (SharePoint rectangle.now.area b.now)
+        (Contains numbers.now rectangle.now.origin ⊎ (SharePoint rectangle.now.area b.now → ⊥)) }
+{
+    !is_last(numbers, rectangle.origin) && rectangle.area.meets(*b)
+}
+
 /// The origins that the box meets.
 pub(crate) fn answer(
     alloc: Global,
@@ -116,7 +134,7 @@ pub(crate) fn answer(
 {
     let mut numbers = Vec::from_slice(alloc, common)?;
     for rectangle in rectangles {
-        if rectangle.area.meets(*b) {
+        if is_needed(numbers.as_slice(), rectangle, b) {
             numbers.push(rectangle.origin)?;
         }
     }
