@@ -10,8 +10,10 @@ use mpw_replies::{
     Reply,
 };
 
-/// The most cells that a marker's line tells, and the most rules of a listing.
+/// The most cells that a marker's line tells, and the most markers and rules of a listing.
 const MOST_CELLS: usize = 1024;
+
+const MOST_MARKERS: usize = 1024;
 
 const MOST_RULES: usize = 1024;
 
@@ -76,10 +78,13 @@ fn tell_marker(rt: &impl Print, marker: MarkerView<'_>) -> Result<()> {
 /// Tells the markers that are shown in full.
 fn tell_full(rt: &impl Print, views: MarkerViews<'_>) -> Result<()> {
     let mut views = views;
-    while let Some(marker) = views.next() {
+    for _ in 0..MOST_MARKERS {
+        let Some(marker) = views.next() else {
+            return Ok(());
+        };
         tell_marker(rt, marker)?;
     }
-    Ok(())
+    bail!("fewer markers")
 }
 
 /// Tells how many markers are masked, by rule.
