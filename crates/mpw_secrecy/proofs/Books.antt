@@ -69,7 +69,7 @@ abbrev told_by : Option Name → MarkerSeen → List Listed
 told_by None seen = []
 told_by (Some rule) seen = marker rule seen.key seen.cells ∷ []
 
-abbrev names_of : List Rule → List Name
+abbrev pub names_of : List Rule → List Name
 names_of rules = map (λ (rule : Rule). rule.name) rules
 
 abbrev told_in : List Name → MarkerSeen → List Listed
@@ -111,7 +111,7 @@ unfolding masked_lines masked_number rules_seen
 masked_from seen book place [] = refl
 masked_from seen book place (rule ∷ rules) = ap (λ l. masked_line rule.name (masked_number seen book place) ++ l) (masked_from seen book (place + 1) rules)
 
-names_from : (seen : List Bool) (book : List Marker) (place : ℕ) (rules : List Rule) → names_of rules ≡ map (λ (rule : RuleSeen). rule.name) (rules_seen seen book place rules)
+pub names_from : (seen : List Bool) (book : List Marker) (place : ℕ) (rules : List Rule) → names_of rules ≡ map (λ (rule : RuleSeen). rule.name) (rules_seen seen book place rules)
 unfolding rules_seen
 names_from seen book place [] = refl
 names_from seen book place (rule ∷ rules) = ap (λ l. rule.name ∷ l) (names_from seen book (place + 1) rules)

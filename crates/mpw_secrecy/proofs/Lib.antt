@@ -1,5 +1,10 @@
+pub mod Answered
 pub mod Books
 pub mod Cells
 pub mod Listings
 pub mod Names
 pub mod Parts
+pub mod Places
+pub mod Signers
+pub mod Signing
+pub mod Waived

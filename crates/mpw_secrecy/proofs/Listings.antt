@@ -83,7 +83,7 @@ run_reply : (s : State) (row : Result (List Listed) Ending) → (over_run s (che
 run_reply s (Ok lines) = refl
 run_reply s (Err why) = refl
 
-run_left : (s : State) (row : Result (List Listed) Ending) → Leaves s (over_run s (checking.listed s.run row))
+pub run_left : (s : State) (row : Result (List Listed) Ending) → Leaves s (over_run s (checking.listed s.run row))
 run_left s (Ok lines) = (refl, refl)
 run_left s (Err why) = (refl, refl)
 
@@ -120,7 +120,7 @@ whoami_at : (policy : Policy) (o : Option Session)
 whoami_at policy None = refl
 whoami_at policy (Some s) = refl
 
-asked_left : (s : State) (row : Result Identity Refusal) → Leaves s (asked s identity_lines row)
+pub asked_left : (s : State) (row : Result Identity Refusal) → Leaves s (asked s identity_lines row)
 asked_left s (Ok who) = (refl, refl)
 asked_left s (Err why) = (refl, refl)
 

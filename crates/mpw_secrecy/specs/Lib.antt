@@ -1,3 +1,4 @@
+pub mod Apart
 pub mod Questions
 pub mod Secrecy
 pub mod Views

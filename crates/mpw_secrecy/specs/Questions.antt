@@ -1,4 +1,4 @@
--- The requests that list what a session may know.
+-- The requests that list what a session may know, and those that a view decides.
 use Rattle.std.specs.Prelude.{Bool, true, false}
 use Rattle.mpw_requests.specs.declared.layouts.LayoutRequest.{LayoutRequest}
 use Rattle.mpw_requests.specs.declared.layouts.LayoutRequest.TheVariants.{Submit, Cells, Shapes}
@@ -35,3 +35,19 @@ is_listing (ask.Wafer request) = false
 is_listing (ask.Run request) = is_of_run request
 is_listing (ask.SignOff request) = lists_waivers request
 is_listing ask.Trail = false
+
+-- These, and `waive` and `sign`.
+abbrev pub is_of_waivers : SignOffRequest → Bool
+is_of_waivers (Waive marker) = true
+is_of_waivers (Sign marker) = true
+is_of_waivers Waivers = true
+is_of_waivers Verdict = false
+
+abbrev pub is_of_view : Request → Bool
+is_of_view (ask.Policy request) = false
+is_of_view ask.Whoami = true
+is_of_view (ask.Layout request) = is_of_cells request
+is_of_view (ask.Wafer request) = false
+is_of_view (ask.Run request) = is_of_run request
+is_of_view (ask.SignOff request) = is_of_waivers request
+is_of_view ask.Trail = false

@@ -1,11 +1,20 @@
 -- The law of secrecy: what a session is told depends on its view alone.
-use Rattle.std.specs.Prelude.{◌≡◌, ℕ, Bool, true, List, [], ◌∷◌}
+use Rattle.std.specs.Prelude.{◌≡◌, ℕ, Bool, true, List, [], ◌∷◌, length}
 use Rattle.mpw_requests.specs.declared.request.Request.{Request}
+use Rattle.mpw_run.specs.Step.{IsRun, book_size}
 use Rattle.mpw_core.specs.declared.event.Event.TheVariants as event
 use Rattle.mpw_core.specs.declared.event.Response.{Response}
 use Rattle.mpw_core.specs.Step.{State, after, response_of}
-use Rattle.mpw_secrecy.specs.Questions.{is_listing}
+use Rattle.mpw_secrecy.specs.Questions.{is_listing, is_of_view}
 use Rattle.mpw_secrecy.specs.Views.{SameView}
+
+-- ---- what is true of the state of each desk
+
+-- Its run is what runs are, so that no two markers of a book have one key, and a run that is finished has a place for a waiver of each
+-- of its markers.
+pub record IsOrderly (state : State) : Type 0 where
+  pub run : IsRun state.run
+  pub places : length state.waivers ≡ book_size state.run.phase
 
 -- ---- one request
 
@@ -21,6 +30,20 @@ abbrev pub ListingsLeaveTheViews : Type 0
 ListingsLeaveTheViews =
     (conn : ℕ) (a b : State) (request : Request) (kept : Bool)
     → SameView conn a b → is_listing request ≡ true
+    → SameView conn (after a (event.Ask conn request) kept) (after b (event.Ask conn request) kept)
+
+-- Requests that a view decides, `waive` and `sign` too, are answered alike of two desks with the same view.
+abbrev pub EqualViewsGiveEqualAnswers : Type 0
+EqualViewsGiveEqualAnswers =
+    (conn : ℕ) (a b : State) (request : Request) (kept : Bool)
+    → IsOrderly a → IsOrderly b → SameView conn a b → is_of_view request ≡ true
+    → response_of a (event.Ask conn request) kept ≡ response_of b (event.Ask conn request) kept
+
+-- Behind them the views are the same again, with the waiver that was asked for or signed.
+abbrev pub EqualViewsStayEqual : Type 0
+EqualViewsStayEqual =
+    (conn : ℕ) (a b : State) (request : Request) (kept : Bool)
+    → IsOrderly a → IsOrderly b → SameView conn a b → is_of_view request ≡ true
     → SameView conn (after a (event.Ask conn request) kept) (after b (event.Ask conn request) kept)
 
 -- ---- lists of requests
@@ -52,3 +75,12 @@ AreListings (asked ∷ rest) = (is_listing asked.request ≡ true) × AreListing
 abbrev pub EqualViewsGiveEqualLists : Type 0
 EqualViewsGiveEqualLists =
     (conn : ℕ) (a b : State) (requests : List Asked) → SameView conn a b → AreListings requests → SameBehind conn a b requests
+
+abbrev pub AreOfView : List Asked → Type 0
+AreOfView [] = Unit {0}
+AreOfView (asked ∷ rest) = (is_of_view asked.request ≡ true) × AreOfView rest
+
+abbrev pub EqualViewsGiveEqualAnswersToLists : Type 0
+EqualViewsGiveEqualAnswersToLists =
+    (conn : ℕ) (a b : State) (requests : List Asked)
+    → IsOrderly a → IsOrderly b → SameView conn a b → AreOfView requests → SameBehind conn a b requests

@@ -1,7 +1,13 @@
 //! Laws of the definitions alone. Each function calls at most the laws that its own rests on: its contract is the law.
-ghost use Rattle.mpw_secrecy.specs.Secrecy.{EqualViewsGiveEqualListings, EqualViewsGiveEqualLists, ListingsLeaveTheViews};
+ghost use Rattle.mpw_secrecy.specs.Apart.{EveryStateIsSignedApart};
+ghost use Rattle.mpw_secrecy.specs.Secrecy.{EqualViewsGiveEqualAnswers, EqualViewsGiveEqualAnswersToLists, EqualViewsGiveEqualListings, EqualViewsGiveEqualLists, EqualViewsStayEqual, ListingsLeaveTheViews};
 
 use mpw_hier::shelves_have_their_numbers;
+use mpw_markers::places_are_of_their_keys;
+use mpw_signoff::{
+    places_are_left, signers_stand_apart, waivers_are_left_unless_a_request_is_accepted,
+    waivers_are_of_shown_markers,
+};
 
 /// Two desks of which a connection's sessions have the same view list the same to it, and the views are the same again
 /// behind that: for each of `whoami`, `cells`, `shapes`, `status`, `markers` and `waivers`, and so for every list of them.
@@ -11,4 +17,27 @@ pub fn equal_views_give_equal_listings()
     ensures lists { EqualViewsGiveEqualLists }
 {
     shelves_have_their_numbers();
+}
+
+/// The same of `waive` and `sign` too: two desks of which a connection's sessions have the same view answer them alike, and the
+/// views are the same again behind them, with the waiver that was asked for or signed; and so for every list of these requests.
+/// That the states are orderly is true of every desk.
+pub fn equal_views_give_equal_answers()
+    ensures told { EqualViewsGiveEqualAnswers }
+    ensures left { EqualViewsStayEqual }
+    ensures lists { EqualViewsGiveEqualAnswersToLists }
+{
+    shelves_have_their_numbers();
+    places_are_of_their_keys();
+    places_are_left();
+}
+
+/// In every state that calls lead to, each waiver that is signed is of a marker of a finished run, and was signed by one who
+/// neither asked for it nor submitted a submission that the marker meets.
+pub fn every_state_is_signed_apart()
+    ensures { EveryStateIsSignedApart }
+{
+    signers_stand_apart();
+    waivers_are_left_unless_a_request_is_accepted();
+    waivers_are_of_shown_markers();
 }
