@@ -84,3 +84,7 @@ abbrev pub EqualViewsGiveEqualAnswersToLists : Type 0
 EqualViewsGiveEqualAnswersToLists =
     (conn : ℕ) (a b : State) (requests : List Asked)
     → IsOrderly a → IsOrderly b → SameView conn a b → AreOfView requests → SameBehind conn a b requests
+
+-- Of two states: what every list of these requests is answered.
+abbrev pub EqualViewsAreAnsweredAlike : State → State → Type 0
+EqualViewsAreAnsweredAlike a b = (conn : ℕ) (requests : List Asked) → SameView conn a b → AreOfView requests → SameBehind conn a b requests

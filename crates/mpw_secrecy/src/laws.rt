@@ -1,7 +1,9 @@
 //! Laws of the definitions alone. Each function calls at most the laws that its own rests on: its contract is the law.
+ghost use Rattle.mpw_core.specs.History.{state_of};
 ghost use Rattle.mpw_secrecy.specs.Apart.{EveryStateIsSignedApart};
-ghost use Rattle.mpw_secrecy.specs.Secrecy.{EqualViewsGiveEqualAnswers, EqualViewsGiveEqualAnswersToLists, EqualViewsGiveEqualListings, EqualViewsGiveEqualLists, EqualViewsStayEqual, ListingsLeaveTheViews};
+ghost use Rattle.mpw_secrecy.specs.Secrecy.{EqualViewsAreAnsweredAlike, EqualViewsGiveEqualAnswers, EqualViewsGiveEqualAnswersToLists, EqualViewsGiveEqualListings, EqualViewsGiveEqualLists, EqualViewsStayEqual, ListingsLeaveTheViews};
 
+use mpw_core::{Core, every_state_has_a_place_for_each_marker};
 use mpw_hier::shelves_have_their_numbers;
 use mpw_markers::places_are_of_their_keys;
 use mpw_signoff::{
@@ -30,6 +32,17 @@ pub fn equal_views_give_equal_answers()
     shelves_have_their_numbers();
     places_are_of_their_keys();
     places_are_left();
+}
+
+/// So it is of any two desks: over every list of these requests they give the same answers to a connection's sessions that have
+/// the same view, and the views are the same again behind it.
+pub fn desks_of_equal_views_answer_alike(first: &Core, second: &Core)
+    ensures { EqualViewsAreAnsweredAlike (state_of first.now) (state_of second.now) }
+{
+    first.run_is_sound();
+    second.run_is_sound();
+    every_state_has_a_place_for_each_marker();
+    equal_views_give_equal_answers();
 }
 
 /// In every state that calls lead to, each waiver that is signed is of a marker of a finished run, and was signed by one who

@@ -17,5 +17,6 @@
 mod laws;
 
 pub use laws::{
-    equal_views_give_equal_answers, equal_views_give_equal_listings, every_state_is_signed_apart,
+    desks_of_equal_views_answer_alike, equal_views_give_equal_answers,
+    equal_views_give_equal_listings, every_state_is_signed_apart,
 };
