@@ -125,7 +125,8 @@ held K [] = Err held_fault
 held K (Err f ∷ all) = Err f
 held K (Ok r ∷ all) = K r all
 
--- a reader of a record at hand refuses where nothing goes on, and can begin with a record of that type
+-- a reader of a record at hand refuses where nothing goes on, and can begin with a record of that
+-- type
 pub record Ahead {V : Type 0} (first : ℕ) (K : RawRecord → List Outcome → Reading V)
     (Good : V → Type 0) : Type 0 where
   pub reads : (r : RawRecord) (all : List Outcome) (x : V × List Outcome) → K r all ≡ Ok x

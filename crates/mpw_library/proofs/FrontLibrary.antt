@@ -123,7 +123,8 @@ structures_refuse all offset x o r =
 library_fails : (all : List Outcome) (offset : ℕ) → length all ≤ 2 ^ 64 → IsEnded all
     → library all ≡ Err (unexpected_at offset) → LibraryRefuses all offset
 library_fails all offset few h e =
-    elim (bind_err (opening all) structures_then (unexpected_at offset) (sym (library_is all) ∙ e)) [
+    let either = bind_err (opening all) structures_then (unexpected_at offset) (sym (library_is all) ∙ e) in
+    elim either [
       | inl f ↦ opening_refuses all offset (opening_local.fails all offset h f)
       | inr x ↦
           let o = opening_local.reads all x.0 x.1 in

@@ -15,7 +15,8 @@ pub length_then : (rs : List RawRecord) (rest : List Outcome)
 length_then [] rest = omega arith
 length_then (r ∷ rs) rest = let h = length_then rs rest in omega (arith, h)
 
--- a loop: from a state a step reads an item; one of the items ends the loop, and of the others each gives a next state
+-- a loop: from a state a step reads an item; one of the items ends the loop, and each other one gives
+-- a next state
 pub record Loop {S I : Type 0} (step : S → List Outcome → Reading I) (is_end : I → Bool)
     (next : S → I → S) (loop : ℕ → S → List Outcome → Reading S) : Type 0 where
   pub none : (s : S) (x : S × List Outcome) (os : List Outcome) → loop zero s os ≡ Ok x → ⊥

@@ -1,4 +1,5 @@
--- Readers that refuse at the first record with which nothing goes on, and how they follow each other.
+-- Readers that refuse at the first record with which nothing goes on, and how they follow each
+-- other.
 use Rattle.std.proofs.Common.{◌≡◌, ℕ, true, false, eqb, List, [], ◌∷◌, ◌++◌, Result, Ok, Err, refl, sym, ap, subst, ◌∙◌, inl, inr}
 use Rattle.std.specs.Prelude.{◌⊎◌}
 use Rattle.std.specs.List.{list_all}

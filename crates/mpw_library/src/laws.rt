@@ -12,9 +12,9 @@ pub fn libraries_are_derived()
     ensures once { OneDerivation }
 {}
 
-/// Where reading a text of less than 2^64 bytes tells an unexpected record, the records before it are the front of some
-/// library's records, and with it of none's: the offset told is that of the first record with which no text goes on. This is
-/// said by the syntax, the relation by cases.
+/// Where reading a text of less than 2^64 bytes tells an unexpected record, the records before it are
+/// the front of some library's records, and with it of none's: the offset told is that of the first
+/// record with which no text goes on. This is said by the syntax, the relation by cases.
 pub fn unexpected_is_first()
     ensures { UnexpectedIsFirst }
 {}

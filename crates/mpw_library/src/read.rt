@@ -243,8 +243,8 @@ fn read_whole(alloc: Global, bytes: &[u8]) -> Result<Library, ReadError>
 /// names.
 ///
 /// # Errors
-/// The first fault by offset, with the first code in the order of the tests; or want of memory. An unexpected record is told
-/// by the offset of the first record with which no text goes on.
+/// The first fault by offset, with the first code in the order of the tests; or want of memory. An
+/// unexpected record is told by the offset of the first record with which no text goes on.
 pub fn read_library(alloc: Global, bytes: &[u8]) -> Result<Library, ReadError>
     ensures library { GivesValue (λ library. library) result (library_of bytes.now) }
     ensures derived { IfOk result (IsTextOf bytes.now) }
