@@ -71,7 +71,17 @@ taken_none corners h = record {
   within = height_at corners (length corners - 1) (omega arith);
 }
 
-pub taken_more : (corners : List Point) (k : ℕ) (from to : Point) (edges new : List Edge) → Taken corners k from edges → k < length corners → to ≡ get_or corners k no_point → ((s : Square) → count_by (rises_left s) new ≡ count_by (rises_left s) edges + cond (rises_across s from to) 1 0) → ((s : Square) → count_by (falls_left s) new ≡ count_by (falls_left s) edges + cond (rises_across s to from) 1 0) → ((heights : List ℤ) → Contains heights from.y → Contains heights to.y → All (HasEndsAmong heights) edges → All (HasEndsAmong heights) new) → Taken corners (k + 1) to new
+pub taken_more : (corners : List Point) (k : ℕ) (from to : Point) (edges new : List Edge)
+    → Taken corners k from edges → k < length corners → to ≡ get_or corners k no_point
+    → ((s : Square)
+    → count_by (rises_left s) new
+    ≡ count_by (rises_left s) edges + cond (rises_across s from to) 1 0)
+    → ((s : Square)
+    → count_by (falls_left s) new
+    ≡ count_by (falls_left s) edges + cond (rises_across s to from) 1 0)
+    → ((heights : List ℤ) → Contains heights from.y → Contains heights to.y
+    → All (HasEndsAmong heights) edges → All (HasEndsAmong heights) new)
+    → Taken corners (k + 1) to new
 taken_more corners k from to edges new t h e up down ends =
     let more : take (k + 1) corners ≡ take k corners ++ to ∷ [] = rw e (take_more corners k no_point h) in
     let here : Contains (heights_of corners) to.y = rw e (height_at corners k h) in

@@ -70,18 +70,36 @@ no_box_left half before end [] s h = refl
 no_box_left half before end (p ∷ []) s h = refl
 no_box_left half before end (p ∷ q ∷ ps) s h = absurd (omega (arith, h))
 
-pub laid_more : (path : Path) (wire wire' : Wire) (rest : List Point) (boxes boxes' : List Box2) (b : Box2) → Laid path wire rest boxes → IsPath path → 2 < length rest → b ≡ wire_box wire.half wire.before wire.behind (get_or rest 0 no_point) (get_or rest 1 no_point) → wire' ≡ record { half = wire.half; before = wire.half; behind = wire.behind } → ((s : Square) → any_has_square boxes' s ≡ (any_has_square boxes s || has_square b s)) → All HasArea boxes' → Laid path wire' (drop 1 rest) boxes'
+pub laid_more : (path : Path) (wire wire' : Wire) (rest : List Point) (boxes boxes' : List Box2)
+    (b : Box2) → Laid path wire rest boxes → IsPath path → 2 < length rest
+    → b
+    ≡ wire_box wire.half wire.before wire.behind (get_or rest 0 no_point) (get_or rest 1 no_point)
+    → wire' ≡ record { half = wire.half; before = wire.half; behind = wire.behind }
+    → ((s : Square) → any_has_square boxes' s ≡ (any_has_square boxes s || has_square b s))
+    → All HasArea boxes' → Laid path wire' (drop 1 rest) boxes'
 laid_more path wire wire' rest boxes boxes' b t h more e f added area = rw f (record {
   half = t.half;
   behind = t.behind;
   before = rw t.half (half_reach path h);
   points = All-drop IsPointWithinReach 1 rest t.points;
   squares = λ s.
-      rw (added s, e, t.half, t.behind) (or_group (any_has_square boxes s) (has_square (wire_box (half_of path) wire.before (half_of path) (get_or rest 0 no_point) (get_or rest 1 no_point)) s) (any_has_square (wire_boxes (half_of path) (half_of path) path.end (drop 1 rest)) s) ∙ rw (first_box (half_of path) wire.before path.end rest s more) at (t.squares s));
+      rw (added s, e, t.half, t.behind)
+      (or_group (any_has_square boxes s)
+      (has_square
+      (wire_box (half_of path) wire.before (half_of path) (get_or rest 0 no_point)
+      (get_or rest 1 no_point)) s)
+      (any_has_square (wire_boxes (half_of path) (half_of path) path.end (drop 1 rest)) s)
+      ∙ rw (first_box (half_of path) wire.before path.end rest s more) at (t.squares s));
   area = area;
 })
 
-pub laid_last : (path : Path) (wire : Wire) (last : Wire) (rest : List Point) (boxes boxes' : List Box2) (b : Box2) → Laid path wire rest boxes → length rest ≡ 2 → b ≡ wire_box last.half last.before last.behind (get_or rest 0 no_point) (get_or rest 1 no_point) → last ≡ record { half = wire.half; before = wire.before; behind = path.end } → ((s : Square) → any_has_square boxes' s ≡ (any_has_square boxes s || has_square b s)) → (s : Square) → any_has_square boxes' s ≡ path_has path s
+pub laid_last : (path : Path) (wire : Wire) (last : Wire) (rest : List Point)
+    (boxes boxes' : List Box2) (b : Box2) → Laid path wire rest boxes → length rest ≡ 2
+    → b
+    ≡ wire_box last.half last.before last.behind (get_or rest 0 no_point) (get_or rest 1 no_point)
+    → last ≡ record { half = wire.half; before = wire.before; behind = path.end }
+    → ((s : Square) → any_has_square boxes' s ≡ (any_has_square boxes s || has_square b s))
+    → (s : Square) → any_has_square boxes' s ≡ path_has path s
 laid_last path wire last rest boxes boxes' b t two e f added s =
     rw (added s, e, f, t.half) (rw (last_box (half_of path) wire.before path.end rest s two, or_false (has_square (wire_box (half_of path) wire.before path.end (get_or rest 0 no_point) (get_or rest 1 no_point)) s)) at (t.squares s))
 

@@ -73,7 +73,14 @@ turned_by_tests s p q =
 mirrored_by_tests : (s : Square) (p q : Point) → rises_across (mirrored_square s) (mirrored_point p) (mirrored_point q) ≡ (left s p && (above s p && not (above s q)))
 unfolding rises_across
 mirrored_by_tests s p q =
-    rw (same_le_lt (neg_ℤ p.y) (neg_ℤ s.row -ℤ pos 1) s.row p.y (λ h. omega (arith, ints)) (λ h. omega (arith, ints)), same_lt_le (neg_ℤ s.row -ℤ pos 1) (neg_ℤ q.y) q.y s.row (λ h. omega (arith, ints)) (λ h. omega (arith, ints)), le_or_gt s.row q.y) (ap (λ (b : Bool). left s p && (above s p && b)) (twice (int_le q.y s.row)))
+    rw (
+      same_le_lt (neg_ℤ p.y) (neg_ℤ s.row -ℤ pos 1) s.row p.y (λ h. omega (arith, ints))
+          (λ h. omega (arith, ints)),
+      same_lt_le (neg_ℤ s.row -ℤ pos 1) (neg_ℤ q.y) q.y s.row (λ h. omega (arith, ints))
+          (λ h. omega (arith, ints)),
+      le_or_gt s.row q.y,
+    )
+    (ap (λ (b : Bool). left s p && (above s p && b)) (twice (int_le q.y s.row)))
   where
     twice : (b : Bool) → b ≡ not (not b)
     twice true = refl
@@ -133,7 +140,11 @@ mirror_bits false false false false h = refl
 unfoldable corner_bit : Square → Point → ℕ
 corner_bit s p = cond (above s p && left s p) 1 0
 
-turned_step : (s : Square) (p q : Point) → is_manhattan_step p q ≡ true → cond (rises_across (turned_square s) (turned_point p) (turned_point q)) 1 0 + cond (rises_across s q p) 1 0 + corner_bit s q ≡ cond (rises_across s p q) 1 0 + cond (rises_across (turned_square s) (turned_point q) (turned_point p)) 1 0 + corner_bit s p
+turned_step : (s : Square) (p q : Point) → is_manhattan_step p q ≡ true
+    → cond (rises_across (turned_square s) (turned_point p) (turned_point q)) 1 0
+    + cond (rises_across s q p) 1 0 + corner_bit s q
+    ≡ cond (rises_across s p q) 1 0
+    + cond (rises_across (turned_square s) (turned_point q) (turned_point p)) 1 0 + corner_bit s p
 unfolding corner_bit
 turned_step s p q h =
     rw (turned_by_tests s p q, turned_by_tests s q p, rises_by_tests s p q, rises_by_tests s q p) (turn_bits (left s p) (left s q) (above s p) (above s q) (same_side s p q h))
@@ -142,7 +153,13 @@ mirrored_step : (s : Square) (p q : Point) → is_manhattan_step p q ≡ true �
 mirrored_step s p q h =
     rw (mirrored_by_tests s p q, rises_by_tests s q p) (mirror_bits (left s p) (left s q) (above s p) (above s q) (same_side s p q h))
 
-turned_chain : (s : Square) (p : Point) (ps : List Point) → each_step is_manhattan_step (p ∷ ps) ≡ true → count_steps (λ p q. rises_across (turned_square s) (turned_point p) (turned_point q)) (p ∷ ps) + count_steps (λ p q. rises_across s q p) (p ∷ ps) + corner_bit s (last_of p ps) ≡ count_steps (λ p q. rises_across s p q) (p ∷ ps) + count_steps (λ p q. rises_across (turned_square s) (turned_point q) (turned_point p)) (p ∷ ps) + corner_bit s p
+turned_chain : (s : Square) (p : Point) (ps : List Point)
+    → each_step is_manhattan_step (p ∷ ps) ≡ true
+    → count_steps (λ p q. rises_across (turned_square s) (turned_point p) (turned_point q)) (p ∷ ps)
+    + count_steps (λ p q. rises_across s q p) (p ∷ ps) + corner_bit s (last_of p ps)
+    ≡ count_steps (λ p q. rises_across s p q) (p ∷ ps)
+    + count_steps (λ p q. rises_across (turned_square s) (turned_point q) (turned_point p)) (p ∷ ps)
+    + corner_bit s p
 unfolding count_steps
 turned_chain s p [] h = refl
 turned_chain s p (q ∷ ps) h =

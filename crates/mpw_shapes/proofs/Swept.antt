@@ -32,7 +32,11 @@ pub record Swept (edges : List Edge) (row : ℤ) (k : ℕ) (ups downs : ℕ) (st
   pub begun : (m : ℕ) (d : Edge) → ups ≢ downs → k ≤ m → m < length edges → start ≤ℤ (get_or edges m d).x
 
 -- left of the edge nothing changes; from the edge on every edge so far counts
-at_edge : (edges : List Edge) (row : ℤ) (k : ℕ) (d : Edge) (c : ℤ) → AreFromLeft edges → k < length edges → (get_or edges k d).x ≤ℤ c → (p : ℤ → Edge → Bool) (q : Square → Edge → Bool) → ((e : Edge) → e.x ≤ℤ c → q (at c row) e ≡ p row e) → (n : ℕ) → n ≤ k + 1 → count_by (q (at c row)) (take n edges) ≡ count_by (p row) (take n edges)
+at_edge : (edges : List Edge) (row : ℤ) (k : ℕ) (d : Edge) (c : ℤ) → AreFromLeft edges
+    → k < length edges → (get_or edges k d).x ≤ℤ c
+    → (p : ℤ → Edge → Bool) (q : Square → Edge → Bool)
+    → ((e : Edge) → e.x ≤ℤ c → q (at c row) e ≡ p row e) → (n : ℕ) → n ≤ k + 1
+    → count_by (q (at c row)) (take n edges) ≡ count_by (p row) (take n edges)
 at_edge edges row k d c sorted h le p q agree n nk =
     count_by_agree (q (at c row)) (p row) (take n edges) (λ i e l.
     let m : i < n = omega (arith, length-take n edges) in
@@ -58,7 +62,13 @@ unfolding falls_left
 falls_right_of s e h = rw (not_le_test e.x s.column h)
 
 -- what the step lemmas of a column ask
-passes : (edges : List Edge) (row : ℤ) (k : ℕ) (d : Edge) (c : ℤ) (ups downs ups' downs' : ℕ) → AreFromLeft edges → k < length edges → ups ≡ count_by (rises_in row) (take k edges) → downs ≡ count_by (falls_in row) (take k edges) → ups' ≡ count_by (rises_in row) (take (k + 1) edges) → downs' ≡ count_by (falls_in row) (take (k + 1) edges) → Passes (ups_at edges row k c) (downs_at edges row k c) (ups_at edges row (k + 1) c) (downs_at edges row (k + 1) c) ups downs ups' downs' (get_or edges k d).x c
+passes : (edges : List Edge) (row : ℤ) (k : ℕ) (d : Edge) (c : ℤ) (ups downs ups' downs' : ℕ)
+    → AreFromLeft edges → k < length edges → ups ≡ count_by (rises_in row) (take k edges)
+    → downs ≡ count_by (falls_in row) (take k edges)
+    → ups' ≡ count_by (rises_in row) (take (k + 1) edges)
+    → downs' ≡ count_by (falls_in row) (take (k + 1) edges)
+    → Passes (ups_at edges row k c) (downs_at edges row k c) (ups_at edges row (k + 1) c)
+    (downs_at edges row (k + 1) c) ups downs ups' downs' (get_or edges k d).x c
 passes edges row k d c ups downs ups' downs' sorted h u v u' v' = record {
   left_up = λ lt. count_by_next (rises_left (at c row)) edges k d h ∙ rw (rises_right_of (at c row) (get_or edges k d) lt) (omega arith);
   left_down = λ lt. count_by_next (falls_left (at c row)) edges k d h ∙ rw (falls_right_of (at c row) (get_or edges k d) lt) (omega arith);
@@ -82,7 +92,10 @@ swept_none edges row start has none = record {
 }
 
 -- an edge that doesn't cross the row
-pub swept_past : (edges : List Edge) (row : ℤ) (k : ℕ) (d : Edge) (ups downs : ℕ) (start : ℤ) (has has' : ℤ → Bool) → Swept edges row k ups downs start has → k < length edges → rises_in row (get_or edges k d) ≡ false → falls_in row (get_or edges k d) ≡ false → ((c : ℤ) → has' c ≡ has c) → Swept edges row (k + 1) ups downs start has'
+pub swept_past : (edges : List Edge) (row : ℤ) (k : ℕ) (d : Edge) (ups downs : ℕ) (start : ℤ)
+    (has has' : ℤ → Bool) → Swept edges row k ups downs start has → k < length edges
+    → rises_in row (get_or edges k d) ≡ false → falls_in row (get_or edges k d) ≡ false
+    → ((c : ℤ) → has' c ≡ has c) → Swept edges row (k + 1) ups downs start has'
 unfolding rises_left falls_left
 swept_past edges row k d ups downs start has has' w h r f same =
     let same_up : (c : ℤ) → ups_at edges row (k + 1) c ≡ ups_at edges row k c = λ c. count_by_next (rises_left (at c row)) edges k d h ∙ rw (r, and_nothing (int_le (get_or edges k d).x c)) (omega arith) in

@@ -120,20 +120,46 @@ turned_missed rows from to e node boxes h built area =
     }
 
 -- an edge that crosses all the rows, where none opens or closes
-pub turned_hidden : (rows : List ℤ) (from to : ℕ) (e : Edge) (node node' : Rows) (boxes : List Box2) → e.low ≤ℤ get_or rows from (pos 0) → get_or rows to (pos 0) ≤ℤ e.high → ((row : ℤ) → state_at node' rows from to row ≡ raised (turn_of e) (state_at node rows from to row)) → ((row : ℤ) → (state_at node rows from to row).winding ≢ pos 0) → ((row : ℤ) → ((state_at node rows from to row).winding +ℤ (turn_of e).winding) ≢ pos 0) → IsBuilt node' rows from to → reach node' ≤ℤ (reach node +ℤ pos 1) → All HasArea boxes → Turned rows from to e node node' boxes boxes
+pub turned_hidden : (rows : List ℤ) (from to : ℕ) (e : Edge) (node node' : Rows) (boxes : List Box2)
+    → e.low ≤ℤ get_or rows from (pos 0) → get_or rows to (pos 0) ≤ℤ e.high
+    → ((row : ℤ)
+    → state_at node' rows from to row ≡ raised (turn_of e) (state_at node rows from to row))
+    → ((row : ℤ) → (state_at node rows from to row).winding ≢ pos 0)
+    → ((row : ℤ) → ((state_at node rows from to row).winding +ℤ (turn_of e).winding) ≢ pos 0)
+    → IsBuilt node' rows from to → reach node' ≤ℤ (reach node +ℤ pos 1) → All HasArea boxes
+    → Turned rows from to e node node' boxes boxes
 turned_hidden rows from to e node node' boxes a b states before after built near area =
     let y0 = get_or rows from (pos 0) in
     let y1 = get_or rows to (pos 0) in
     record {
       states = λ row l u. states row ∙ sym (right_of_all e row (state_at node rows from to row) (crosses_all e y0 y1 row a b l u) ∙ past_hidden e (state_at node rows from to row) (before row) (after row));
-      squares = λ s. or_nothing (any_has_square boxes s) ∙ ap (λ (b : Bool). any_has_square boxes s || b) (sym (where_between y0 y1 s.row (crosses e s.row && closes e (state_at node rows from to s.row) s.column) false (λ l u. rw (crosses_all e y0 y1 s.row a b l u, closes_none e (state_at node rows from to s.row) s.column (after s.row))) ∙ and_nothing (is_between y0 y1 s.row)));
+      squares =
+          λ s. or_nothing (any_has_square boxes s)
+          ∙ ap (λ (b : Bool). any_has_square boxes s || b)
+          (sym
+          (where_between y0 y1 s.row
+          (crosses e s.row && closes e (state_at node rows from to s.row) s.column) false
+          (λ l u.
+          rw (
+            crosses_all e y0 y1 s.row a b l u,
+            closes_none e (state_at node rows from to s.row) s.column (after s.row),
+          ))
+          ∙ and_nothing (is_between y0 y1 s.row)));
       built = built;
       near = near;
       area = area;
     }
 
 -- an edge that crosses all the rows, which are alike
-pub turned_alike : (rows : List ℤ) (from to : ℕ) (e : Edge) (node : Rows) (s after : State) (boxes boxes' : List Box2) → e.low ≤ℤ get_or rows from (pos 0) → get_or rows to (pos 0) ≤ℤ e.high → node ≡ Alike s → after ≡ past e s → ((t : Square) → any_has_square boxes' t ≡ (any_has_square boxes t || (is_between (get_or rows from (pos 0)) (get_or rows to (pos 0)) t.row && closes e s t.column))) → All HasArea boxes' → Turned rows from to e node (Alike after) boxes boxes'
+pub turned_alike : (rows : List ℤ) (from to : ℕ) (e : Edge) (node : Rows) (s after : State)
+    (boxes boxes' : List Box2) → e.low ≤ℤ get_or rows from (pos 0)
+    → get_or rows to (pos 0) ≤ℤ e.high → node ≡ Alike s → after ≡ past e s
+    → ((t : Square)
+    → any_has_square boxes' t
+    ≡ (any_has_square boxes t
+    || (is_between (get_or rows from (pos 0)) (get_or rows to (pos 0)) t.row
+    && closes e s t.column))) → All HasArea boxes'
+    → Turned rows from to e node (Alike after) boxes boxes'
 turned_alike rows from to e node s after boxes boxes' a b is f squares area =
     let y0 = get_or rows from (pos 0) in
     let y1 = get_or rows to (pos 0) in
@@ -158,7 +184,13 @@ halved y0 q y1 row f g h a b u v =
       | inr le ↦ rw (v le, not_lt_test row q le, test_from_le q row le, test_from_le y0 row (omega (arith, ints)))
     ]
 
-module _ (rows : List ℤ) (from to : ℕ) (e : Edge) (node node' below above below' above' : Rows) (b0 b1 b2 : List Box2) (less : from + 1 < to) (sorted : AreFromBelow rows) (range : to < length rows) (whole : (row : ℤ) → half_at below above rows from to row ≡ state_at node rows from to row) (whole' : (row : ℤ) → state_at node' rows from to row ≡ half_at below' above' rows from to row) (t : Turned rows from (middle from to) e below below' b0 b1) (u : Turned rows (middle from to) to e above above' b1 b2) where
+module _ (rows : List ℤ) (from to : ℕ) (e : Edge) (node node' below above below' above' : Rows)
+    (b0 b1 b2 : List Box2) (less : from + 1 < to) (sorted : AreFromBelow rows)
+    (range : to < length rows)
+    (whole : (row : ℤ) → half_at below above rows from to row ≡ state_at node rows from to row)
+    (whole' : (row : ℤ) → state_at node' rows from to row ≡ half_at below' above' rows from to row)
+    (t : Turned rows from (middle from to) e below below' b0 b1)
+    (u : Turned rows (middle from to) to e above above' b1 b2) where
   half_below : (x y : Rows) (row : ℤ) → row <ℤ get_or rows (middle from to) (pos 0) → half_at x y rows from to row ≡ state_at x rows from (middle from to) row
   half_below x y row lt = rw (test_from_lt row (get_or rows (middle from to) (pos 0)) lt)
 
@@ -189,7 +221,13 @@ module _ (rows : List ℤ) (from to : ℕ) (e : Edge) (node node' below above be
             u.squares s
             ∙ ap (λ (b : Bool). b || (is_between m y1 s.row && (crosses e s.row && closes e (state_at above rows (middle from to) to s.row) s.column))) (t.squares s)
             ∙ or_group (any_has_square b0 s) (is_between y0 m s.row && (crosses e s.row && closes e (state_at below rows from (middle from to) s.row) s.column)) (is_between m y1 s.row && (crosses e s.row && closes e (state_at above rows (middle from to) to s.row) s.column))
-            ∙ ap (λ (b : Bool). any_has_square b0 s || b) (halved y0 m y1 s.row _ _ (crosses e s.row && closes e (state_at node rows from to s.row) s.column) lo hi (λ lt. ap (λ (x : State). crosses e s.row && closes e x s.column) (state_below s.row lt)) (λ le. ap (λ (x : State). crosses e s.row && closes e x s.column) (state_above s.row le)));
+            ∙ ap (λ (b : Bool). any_has_square b0 s || b)
+            (halved y0 m y1 s.row
+            _ _ (crosses e s.row && closes e (state_at node rows from to s.row) s.column) lo hi
+            (λ lt. ap (λ (x : State). crosses e s.row && closes e x s.column)
+            (state_below s.row lt))
+            (λ le. ap (λ (x : State). crosses e s.row && closes e x s.column)
+            (state_above s.row le)));
         built = built;
         near = let x = t.near in let y = u.near in omega (arith, ints, clamps, p, q, r, x, y);
         area = u.area;

@@ -20,7 +20,12 @@ turn-returns-then-hides t c =
     let node = c.args.node.now in
     let across = rw c.between-band.ensures at (c.is_crossed_by.ensures.0 c.if-not-is_crossed_by.false) in
     let outside = c.gap.ensures rows from to c.requires.built in
-    turned_hidden rows from to c.args.edge node _ _ across.0 across.1 (λ row. rw (c.turn-then-hides.ensures) at (c.raise.ensures.states rows from to row)) (λ row. c.hides.ensures.before c.if-hides.true _ (outside row)) (λ row. rw c.turn.ensures at (c.hides.ensures.after c.if-hides.true _ (outside row))) (c.raise.ensures.built rows from to c.requires.built) (rw (c.turn-then-hides.ensures, size_turn c.args.edge) at c.raise.ensures.reach) c.requires.area
+    turned_hidden rows from to c.args.edge node _ _ across.0 across.1
+    (λ row. rw (c.turn-then-hides.ensures) at (c.raise.ensures.states rows from to row))
+    (λ row. c.hides.ensures.before c.if-hides.true _ (outside row))
+    (λ row. rw c.turn.ensures at (c.hides.ensures.after c.if-hides.true _ (outside row)))
+    (c.raise.ensures.built rows from to c.requires.built)
+    (rw (c.turn-then-hides.ensures, size_turn c.args.edge) at c.raise.ensures.reach) c.requires.area
 
 pub turn-turn_state-requires-clause-fits : goal.turn-turn_state-requires-clause-fits
 turn-turn_state-requires-clause-fits t c =
@@ -61,4 +66,12 @@ turn_halves-returns t c =
     let below = rw c.deref_mut.ensures.value at c.in_ok-turn.ensures in
     let above = rw (c.deref_mut-2.ensures.value, c.deref_mut.ensures.value) at c.in_ok-turn-2.ensures in
     let built = rw c.deref_mut-2.ensures.value at c.joined.ensures.built in
-    turned_halves rows from to c.args.edge c.args.node.now c.joined.result c.in_ok-halves.halves.value.below c.in_ok-halves.halves.value.above c.turn.new.node c.turn-2.new.node c.args.boxes.now.items c.turn.new.boxes.items c.turn-2.new.boxes.items c.requires.order c.requires.from_below c.requires.in_range (λ row. rw e at (c.in_ok-halves.ensures.states rows from to row)) (λ row. rw c.deref_mut-2.ensures.value at (c.joined.ensures.states rows from to row)) below above (built rows from to c.requires.order below.built above.built) (rw e at c.in_ok-halves.ensures.below) (rw e at c.in_ok-halves.ensures.above) (rw c.deref_mut-2.ensures.value at c.joined.ensures.reach)
+    turned_halves rows from to c.args.edge c.args.node.now c.joined.result
+    c.in_ok-halves.halves.value.below c.in_ok-halves.halves.value.above c.turn.new.node
+    c.turn-2.new.node c.args.boxes.now.items c.turn.new.boxes.items c.turn-2.new.boxes.items
+    c.requires.order c.requires.from_below c.requires.in_range
+    (λ row. rw e at (c.in_ok-halves.ensures.states rows from to row))
+    (λ row. rw c.deref_mut-2.ensures.value at (c.joined.ensures.states rows from to row)) below
+    above (built rows from to c.requires.order below.built above.built)
+    (rw e at c.in_ok-halves.ensures.below) (rw e at c.in_ok-halves.ensures.above)
+    (rw c.deref_mut-2.ensures.value at c.joined.ensures.reach)
