@@ -96,7 +96,13 @@ partitioned_by_row edges y h i j d l b t = elim (cases_lt i j) [
   | inr more ↦ subst (λ (m : ℕ). int_le (get_or edges m d).y0 y ≡ true) (let e : j ≡ i = omega arith in e) t
 ]
 
-pub computed : (test : Edge → Bool) {F : Type 0} {g : Mut F (Bor Edge × Unit {0}) Bool} {f : F} (edges : List Edge) (r : ℕ) → ((p : Edge → Bool) → ComputesKey g p f → IsPartitionedBy p edges → IsPartitionPoint (λ y. p y ≡ true) (λ y. p y ≡ false) edges r) → ((a : Bor Edge × Unit {0}) (b : Bool) (f' : F) → Called g f a b f' → (b ≡ test a.0.now) × (f' ≡ f)) → IsPartitionedBy test edges → IsPartitionPoint (λ y. test y ≡ true) (λ y. test y ≡ false) edges r
+pub computed : (test : Edge → Bool) {F : Type 0} {g : Mut F (Bor Edge × Unit {0}) Bool} {f : F}
+    (edges : List Edge) (r : ℕ)
+    → ((p : Edge → Bool) → ComputesKey g p f → IsPartitionedBy p edges
+    → IsPartitionPoint (λ y. p y ≡ true) (λ y. p y ≡ false) edges r)
+    → ((a : Bor Edge × Unit {0}) (b : Bool) (f' : F) → Called g f a b f'
+    → (b ≡ test a.0.now) × (f' ≡ f)) → IsPartitionedBy test edges
+    → IsPartitionPoint (λ y. test y ≡ true) (λ y. test y ≡ false) edges r
 computed test {g = g} {f = f} edges r h calls parted = h test (always_returns_same g (λ a b. b ≡ test a.0.now) f calls) parted
 
 pub left_of_place : (edges : List Edge) (x : ℤ) (r : ℕ) → IsPartitionPoint (λ e. int_lt e.x x ≡ true) (λ e. int_lt e.x x ≡ false) edges r → All (λ e. e.x <ℤ x) (take r edges)
@@ -180,7 +186,11 @@ pub pairs_from_start : (side : ℕ) (limits : Limits) (from : Edge) (tos : List 
 pairs_from_start side limits from tos runs n h = Adds-none runs (IsPairFrom side limits (take n tos) from) (none_left side limits from (take n tos) h)
 
 -- what lies behind an edge that is too far is too far
-pub pairs_from_past : (side : ℕ) (limits : Limits) (from : Edge) (tos : List Edge) (old new : List Run) (n : ℕ) → AllPairs IsLeftOf tos → n < length tos → pos limits.distance ≤ℤ ((get_or tos n no_edge).x -ℤ from.x) → Adds old new (IsPairFrom side limits (take n tos) from) → Adds old new (IsPairFrom side limits tos from)
+pub pairs_from_past : (side : ℕ) (limits : Limits) (from : Edge) (tos : List Edge)
+    (old new : List Run) (n : ℕ) → AllPairs IsLeftOf tos → n < length tos
+    → pos limits.distance ≤ℤ ((get_or tos n no_edge).x -ℤ from.x)
+    → Adds old new (IsPairFrom side limits (take n tos) from)
+    → Adds old new (IsPairFrom side limits tos from)
 pairs_from_past side limits from tos old new n ordered b far h =
     Adds-same old new (IsPairFrom side limits (take n tos) from) (IsPairFrom side limits tos from) h
     (λ line j p. held_take (λ to. IsPairPlace side limits from to line j) tos n p)
@@ -250,14 +260,23 @@ above_in : (edges : List Edge) (n : ℕ) (e : Edge) → IsBand edges n → Conta
 above_in edges n e h c = All-contains (λ (x : Edge). (get_or edges 0 no_edge).y1 ≤ℤ x.y0) (drop n edges) e (h.above no_edge) c
 
 -- bands without a row in common have no pairs
-pub no_band_pairs : (side : ℕ) (limits : Limits) (froms tos : List Edge) (m n : ℕ) → IsBand froms m → IsBand tos n → ((get_or tos 0 no_edge).y1 ≤ℤ (get_or froms 0 no_edge).y0) ⊎ ((get_or froms 0 no_edge).y1 ≤ℤ (get_or tos 0 no_edge).y0) → (line : Line) (j : ℤ) → IsPairOf side limits (take m froms) (take n tos) line j → ⊥
+pub no_band_pairs : (side : ℕ) (limits : Limits) (froms tos : List Edge) (m n : ℕ) → IsBand froms m
+    → IsBand tos n
+    → ((get_or tos 0 no_edge).y1 ≤ℤ (get_or froms 0 no_edge).y0)
+    ⊎ ((get_or froms 0 no_edge).y1 ≤ℤ (get_or tos 0 no_edge).y0) → (line : Line) (j : ℤ)
+    → IsPairOf side limits (take m froms) (take n tos) line j → ⊥
 no_band_pairs side limits froms tos m n f t none line j p =
     let a = rows_in froms m p.0 f p.1 in
     let b = rows_in tos n p.2.0 t p.2.1 in
     apart side limits p.0 p.2.0 line j p.2.2 (elim none [ inl e ↦ inl (omega (arith, ints, e, a.0, b.1)) | inr e ↦ inr (omega (arith, ints, e, a.1, b.0)) ])
 
 -- the band of the first list that ends first has no pairs above the other band
-pub past_from : (old mid new : List Run) (P : Line → ℤ → Type 0) (side : ℕ) (limits : Limits) (froms tos : List Edge) (m n : ℕ) → IsBand froms m → IsBand tos n → (get_or froms 0 no_edge).y1 ≤ℤ (get_or tos 0 no_edge).y1 → Moves old P mid (IsPairOf side limits froms tos) → Adds mid new (IsPairOf side limits (take m froms) (take n tos)) → Moves old P new (IsPairOf side limits (drop m froms) tos)
+pub past_from : (old mid new : List Run) (P : Line → ℤ → Type 0) (side : ℕ) (limits : Limits)
+    (froms tos : List Edge) (m n : ℕ) → IsBand froms m → IsBand tos n
+    → (get_or froms 0 no_edge).y1 ≤ℤ (get_or tos 0 no_edge).y1
+    → Moves old P mid (IsPairOf side limits froms tos)
+    → Adds mid new (IsPairOf side limits (take m froms) (take n tos))
+    → Moves old P new (IsPairOf side limits (drop m froms) tos)
 past_from old mid new P side limits froms tos m n f t first h g =
     Moves-more old mid new P (IsPairOf side limits froms tos) (IsPairOf side limits (take m froms) (take n tos)) (IsPairOf side limits (drop m froms) tos) h g parts whole
   where
@@ -275,7 +294,12 @@ past_from old mid new P side limits froms tos m n f t first h g =
     whole line j (inr p) = held_drop (λ from. IsPairFrom side limits tos from line j) froms m p
 
 -- the same for the second list
-pub past_to : (old mid new : List Run) (P : Line → ℤ → Type 0) (side : ℕ) (limits : Limits) (froms tos : List Edge) (m n : ℕ) → IsBand froms m → IsBand tos n → (get_or tos 0 no_edge).y1 ≤ℤ (get_or froms 0 no_edge).y1 → Moves old P mid (IsPairOf side limits froms tos) → Adds mid new (IsPairOf side limits (take m froms) (take n tos)) → Moves old P new (IsPairOf side limits froms (drop n tos))
+pub past_to : (old mid new : List Run) (P : Line → ℤ → Type 0) (side : ℕ) (limits : Limits)
+    (froms tos : List Edge) (m n : ℕ) → IsBand froms m → IsBand tos n
+    → (get_or tos 0 no_edge).y1 ≤ℤ (get_or froms 0 no_edge).y1
+    → Moves old P mid (IsPairOf side limits froms tos)
+    → Adds mid new (IsPairOf side limits (take m froms) (take n tos))
+    → Moves old P new (IsPairOf side limits froms (drop n tos))
 past_to old mid new P side limits froms tos m n f t first h g =
     Moves-more old mid new P (IsPairOf side limits froms tos) (IsPairOf side limits (take m froms) (take n tos)) (IsPairOf side limits froms (drop n tos)) h g parts whole
   where
@@ -296,7 +320,11 @@ past_to old mid new P side limits froms tos m n f t first h g =
 pub Adds-apart : (runs : List Run) (side : ℕ) (limits : Limits) (froms tos : List Edge) (m n : ℕ) → IsBand froms m → IsBand tos n → ((get_or tos 0 no_edge).y1 ≤ℤ (get_or froms 0 no_edge).y0) ⊎ ((get_or froms 0 no_edge).y1 ≤ℤ (get_or tos 0 no_edge).y0) → Adds runs runs (IsPairOf side limits (take m froms) (take n tos))
 Adds-apart runs side limits froms tos m n f t none = Adds-none runs (IsPairOf side limits (take m froms) (take n tos)) (no_band_pairs side limits froms tos m n f t none)
 
-pub Moves-on : (old mid new : List Run) (P : Line → ℤ → Type 0) (side : ℕ) (limits : Limits) (froms tos F T : List Edge) (i j m n : ℕ) → F ≡ drop i froms → T ≡ drop j tos → Moves old P mid (IsPairOf side limits (drop i froms) (drop j tos)) → Moves mid (IsPairOf side limits F T) new (IsPairOf side limits (drop m F) (drop n T)) → Moves old P new (IsPairOf side limits (drop (i + m) froms) (drop (j + n) tos))
+pub Moves-on : (old mid new : List Run) (P : Line → ℤ → Type 0) (side : ℕ) (limits : Limits)
+    (froms tos F T : List Edge) (i j m n : ℕ) → F ≡ drop i froms → T ≡ drop j tos
+    → Moves old P mid (IsPairOf side limits (drop i froms) (drop j tos))
+    → Moves mid (IsPairOf side limits F T) new (IsPairOf side limits (drop m F) (drop n T))
+    → Moves old P new (IsPairOf side limits (drop (i + m) froms) (drop (j + n) tos))
 Moves-on old mid new P side limits froms tos F T i j m n e f h g = record {
   places = λ line at. (λ p. (h.places line at).0 (back line at ((told.places line at).0 p)), λ p. (told.places line at).1 (on line at ((h.places line at).1 p)));
   filled = λ a. told.filled (h.filled a);

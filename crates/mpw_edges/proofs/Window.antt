@@ -91,7 +91,10 @@ vertical_same rule greatest a b a' b' core d f g side x1 x2 j s = (
 exchanged_same : (core : Box2) (n : ℕ) (a a' : Squares) → AreSameIn (widened core n) a a' → AreSameIn (widened (exchanged_box core) n) (exchanged a) (exchanged a')
 exchanged_same core n a a' h i j l u low high = h j i low high l u
 
-pub step_same : (rule : Rule) (greatest : ℕ) (a b a' b' : Squares) (core : Box2) → rule.distance ≤ greatest → AreSameIn (widened core (greatest + 1)) a a' → AreSameIn (widened core (greatest + 1)) b b' → (axis : Axis) (side : ℕ) (x1 x2 j : ℤ) → HasStep rule a b core axis side x1 x2 j → HasStep rule a' b' core axis side x1 x2 j
+pub step_same : (rule : Rule) (greatest : ℕ) (a b a' b' : Squares) (core : Box2)
+    → rule.distance ≤ greatest → AreSameIn (widened core (greatest + 1)) a a'
+    → AreSameIn (widened core (greatest + 1)) b b' → (axis : Axis) (side : ℕ) (x1 x2 j : ℤ)
+    → HasStep rule a b core axis side x1 x2 j → HasStep rule a' b' core axis side x1 x2 j
 step_same rule greatest a b a' b' core d f g V side x1 x2 j s = vertical_same rule greatest a b a' b' core d f g side x1 x2 j s
 step_same rule greatest a b a' b' core d f g H side x1 x2 j s =
     vertical_same rule greatest (exchanged a) (exchanged b) (exchanged a') (exchanged b') (exchanged_box core) d (exchanged_same core (greatest + 1) a a' f) (exchanged_same core (greatest + 1) b b' g) side x1 x2 j s

@@ -18,7 +18,12 @@ returns-then-ends_first-clause-moves c =
       | then-share_rows+in_ok-add_band_pairs w ↦ rw w.runs-is w.in_ok-add_band_pairs.ensures
       | else-share_rows w ↦ rw w.runs-is (Adds-apart c.args.runs.now.items c.args.side c.args.limits.now c.args.froms.now c.args.tos.now m n c.band_length-band.ensures c.band_length-other.ensures (when_false _ _ w.if-share_rows.false c.share_rows.ensures))
     ] in
-    past_from c.args.runs.now.items c.args.runs.now.items c.if-share_rows.runs.items (IsPairOf c.args.side c.args.limits.now c.args.froms.now c.args.tos.now) c.args.side c.args.limits.now c.args.froms.now c.args.tos.now m n c.band_length-band.ensures c.band_length-other.ensures (when_true _ _ c.if-ends_first.true c.ends_first.ensures) (Moves-start c.args.runs.now.items (IsPairOf c.args.side c.args.limits.now c.args.froms.now c.args.tos.now)) added
+    past_from c.args.runs.now.items c.args.runs.now.items c.if-share_rows.runs.items
+    (IsPairOf c.args.side c.args.limits.now c.args.froms.now c.args.tos.now) c.args.side
+    c.args.limits.now c.args.froms.now c.args.tos.now m n c.band_length-band.ensures
+    c.band_length-other.ensures (when_true _ _ c.if-ends_first.true c.ends_first.ensures)
+    (Moves-start c.args.runs.now.items
+    (IsPairOf c.args.side c.args.limits.now c.args.froms.now c.args.tos.now)) added
 
 pub returns-else-ends_first-clause-moves : goal.returns-else-ends_first-clause-moves
 returns-else-ends_first-clause-moves c =
@@ -29,4 +34,9 @@ returns-else-ends_first-clause-moves c =
       | then-share_rows+in_ok-add_band_pairs w ↦ rw w.runs-is w.in_ok-add_band_pairs.ensures
       | else-share_rows w ↦ rw w.runs-is (Adds-apart c.args.runs.now.items c.args.side c.args.limits.now c.args.froms.now c.args.tos.now m n c.band_length-band.ensures c.band_length-other.ensures (when_false _ _ w.if-share_rows.false c.share_rows.ensures))
     ] in
-    past_to c.args.runs.now.items c.args.runs.now.items c.if-share_rows.runs.items (IsPairOf c.args.side c.args.limits.now c.args.froms.now c.args.tos.now) c.args.side c.args.limits.now c.args.froms.now c.args.tos.now m n c.band_length-band.ensures c.band_length-other.ensures (when_false _ _ c.if-ends_first.false c.ends_first.ensures) (Moves-start c.args.runs.now.items (IsPairOf c.args.side c.args.limits.now c.args.froms.now c.args.tos.now)) added
+    past_to c.args.runs.now.items c.args.runs.now.items c.if-share_rows.runs.items
+    (IsPairOf c.args.side c.args.limits.now c.args.froms.now c.args.tos.now) c.args.side
+    c.args.limits.now c.args.froms.now c.args.tos.now m n c.band_length-band.ensures
+    c.band_length-other.ensures (when_false _ _ c.if-ends_first.false c.ends_first.ensures)
+    (Moves-start c.args.runs.now.items
+    (IsPairOf c.args.side c.args.limits.now c.args.froms.now c.args.tos.now)) added

@@ -18,7 +18,13 @@ pub returns-clause-exact : goal.returns-clause-exact
 returns-clause-exact c =
     IfOk-weaker c.pieces_of.result _ _
     (λ v e p.
-    subst (λ (ps : List Piece). Contains ps p ↔ IsPiece c.args.rule.now (covers c.args.first.now) (covers c.args.second.now) c.args.core p) (sym (both_lists v.items c.as_slice.result.now c.in_ok-vertical.vertical.items c.as_slice-2.result.now c.in_ok-horizontal.horizontal.items e c.as_slice.ensures.value c.as_slice-2.ensures.value))
+    subst
+    (λ (ps : List Piece). Contains ps p
+    ↔ IsPiece c.args.rule.now (covers c.args.first.now) (covers c.args.second.now) c.args.core p)
+    (sym
+    (both_lists v.items c.as_slice.result.now c.in_ok-vertical.vertical.items
+    c.as_slice-2.result.now c.in_ok-horizontal.horizontal.items e c.as_slice.ensures.value
+    c.as_slice-2.ensures.value))
     (exact_pieces c.args.rule.now (covers c.args.first.now) (covers c.args.second.now) c.args.core c.in_ok-vertical.vertical.items c.in_ok-horizontal.horizontal.items c.in_ok-vertical.ensures.apart c.in_ok-horizontal.ensures.apart c.in_ok-vertical.ensures.places c.in_ok-horizontal.ensures.places p))
     c.pieces_of.ensures
 
