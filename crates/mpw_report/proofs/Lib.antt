@@ -1,0 +1,2 @@
+mod Escaped
+pub mod Adding

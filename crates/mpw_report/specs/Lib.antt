@@ -1,0 +1,5 @@
+pub mod Escapes
+pub mod Lengths
+pub mod Parts
+pub mod Report
+pub mod Writing

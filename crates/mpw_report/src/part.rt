@@ -1,0 +1,71 @@
+//! The parts of a report that are the same in each.
+ghost use Rattle.std.specs.Prelude.{◌≡◌};
+ghost use Rattle.mpw_report.specs.Parts.{part_text};
+ghost use Rattle.mpw_report.specs.Writing.{Adds};
+
+use crate::put::put;
+use std::io::{self, Write};
+
+/// A part of a report that is the same in each.
+#[derive(Clone, Copy)]
+pub(crate) enum Part {
+    /// Before the name in the description.
+    Head,
+    /// Before the name of the top.
+    Generator,
+    /// Before the categories.
+    Categories,
+    /// Before the name of a category.
+    CategoryName,
+    /// Before its description.
+    Description,
+    /// Behind its description.
+    CategoryEnd,
+    /// Before the name of the cell.
+    Cells,
+    /// Before the items.
+    Items,
+    /// Before the path of an item's category.
+    ItemPath,
+    /// Before the name of its cell.
+    ItemCell,
+    /// Before its value.
+    Value,
+    /// Behind its value.
+    ItemEnd,
+    /// Behind the items.
+    End,
+}
+
+/// The text of a part.
+#[tactic(auto, unfolding(crate::specs::Parts::part_text))]
+fn text(part: Part) -> &'static str
+    ensures { result.now ≡ part_text part }
+{
+    match part {
+        Part::Head =>
+            "<?xml version=\"1.0\" encoding=\"utf-8\"?>\n<report-database>\n <description>Markers of ",
+        Part::Generator =>
+            "</description>\n <original-file/>\n <generator>mpw check</generator>\n <top-cell>",
+        Part::Categories => "</top-cell>\n <tags>\n </tags>\n <categories>\n",
+        Part::CategoryName => "  <category>\n   <name>",
+        Part::Description => "</name>\n   <description>",
+        Part::CategoryEnd => "</description>\n   <categories>\n   </categories>\n  </category>\n",
+        Part::Cells => " </categories>\n <cells>\n  <cell>\n   <name>",
+        Part::Items =>
+            "</name>\n   <variant/>\n   <references>\n   </references>\n  </cell>\n </cells>\n <items>\n",
+        Part::ItemPath => "  <item>\n   <tags/>\n   <category>",
+        Part::ItemCell => "</category>\n   <cell>",
+        Part::Value =>
+            "</cell>\n   <visited>false</visited>\n   <multiplicity>1</multiplicity>\n   <image/>\n   <values>\n    <value>",
+        Part::ItemEnd => "</value>\n   </values>\n  </item>\n",
+        Part::End => " </items>\n</report-database>\n",
+    }
+}
+
+/// Writes a part.
+pub(crate) fn put_part<W: Write>(writer: &mut W, part: Part) -> io::Result<()>
+    ensures { Adds W.contents writer.old writer.new result (part_text part) }
+{
+    put(writer, &[text(part)])
+}
