@@ -3,6 +3,8 @@
 use crate::fault::FirmFault;
 use crate::listing::write_markers;
 use crate::options::Options;
+use crate::progress::{tell_checking, tiles_of};
+use crate::report::report;
 use crate::told::{check_fault, deck_fault, device_fault};
 use mpw_check::{check_layout, read_layout};
 use mpw_deck::{Deck, read_deck};
@@ -76,10 +78,7 @@ fn tell_summary(
     markers: &[Marker],
     start: &Instant,
 ) -> io::Result<()> {
-    let tiles = match snapshot.plan() {
-        Some(plan) => plan.tiles(),
-        None => 0,
-    };
+    let tiles = tiles_of(snapshot);
     let shapes = snapshot.shelf().count(0);
     eprint!(rt; "{shapes} shapes, {tiles} tiles, {} markers", markers.len())?;
     for (place, rule) in snapshot.deck().rules().as_slice().iter().enumerate() {
@@ -104,10 +103,10 @@ fn print(rt: &HostRuntime, snapshot: &Snapshot, book: mpw_markers::Book) -> Resu
     }
 }
 
-/// Checks what the command line asks for, prints its markers and tells how many there are.
+/// Checks what the command line asks for, prints its markers, writes its report and tells how many markers there are.
 ///
 /// # Errors
-/// A file that can't be read, a library or a deck with a fault, a device that failed, or want of memory.
+/// A file that can't be read or written, a library or a deck with a fault, a device that failed, or want of memory.
 pub fn check(
     rt: &HostRuntime,
     threads: &(impl Threads + Sync),
@@ -117,12 +116,14 @@ pub fn check(
         return Err(device_fault(rt.alloc(), "the clock"));
     };
     let snapshot = snapshot_of(rt, options)?;
+    tell_checking(rt, &snapshot);
     let book = match check_layout(threads, rt.alloc(), &snapshot) {
         Ok(book) => book,
         Err(fault) => return Err(refused(rt, options, &fault)),
     };
     let found = book.len();
     let _ = tell_summary(rt, &snapshot, book.as_slice(), &start);
-    print(rt, &snapshot, book)?;
+    print(rt, &snapshot, book.copy()?)?;
+    report(rt, options, &snapshot, &book)?;
     Ok(found)
 }

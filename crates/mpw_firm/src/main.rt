@@ -1,17 +1,19 @@
 //! The program of a firm: `mpw check --deck DECK --top STRUCTURE FILE` checks a structure of a GDSII library under a deck, and
-//! prints its markers as a desk lists them.
+//! prints its markers as a desk lists them; with `--report OUT` it writes them to a file too, as a report database of KLayout's.
 #![tactic(auto)]
 
 mod asked;
 mod fault;
 mod listing;
 mod options;
+mod progress;
+mod report;
 mod sentences;
 mod told;
 
 use asked::check;
 use fault::{FirmFault, exit_status};
-use options::read_options;
+use options::{Asked, read_options};
 use std::process::ExitCode;
 use std::thread::Threads;
 use std::{env, io};
@@ -28,16 +30,30 @@ fn words(rt: &HostRuntime) -> Result<Vec<String>, FirmFault> {
     }
 }
 
+/// Prints the help or the version.
+fn print_told(rt: &HostRuntime, text: &str) -> Result<usize, FirmFault> {
+    match print!(rt; "{text}") {
+        Ok(()) => Ok(0),
+        Err(_) => Err(FirmFault::Device(String::from_str(
+            rt.alloc(),
+            "the standard output failed",
+        )?)),
+    }
+}
+
 /// Reads the command line, checks, and tells how many markers there are.
 fn run(rt: &HostRuntime, threads: &(impl Threads + Sync)) -> Result<usize, FirmFault> {
     let words = words(rt)?;
     let words: Vec<&str> = words.iter().map(|word| word.as_str()).collect(rt.alloc())?;
-    let options = read_options(rt.alloc(), words.as_slice())?;
-    check(rt, threads, &options)
+    match read_options(rt.alloc(), words.as_slice())? {
+        Asked::Check(options) => check(rt, threads, &options),
+        Asked::Told(text) => print_told(rt, text.as_str()),
+    }
 }
 
 /// Exits with 0 without markers and 1 with some, 2 at a usage fault, 3 where a file or a device failed, 4 where the library
-/// or the deck has a fault, and 5 where memory was wanting. A fault is told on the standard error.
+/// or the deck has a fault, and 5 where memory was wanting; with 0 behind the help and the version too. A fault is told on the
+/// standard error.
 fn main(rt: HostRuntime) -> ExitCode {
     let ended = run(&rt, &rt);
     if let Err(fault) = &ended {

@@ -6,7 +6,10 @@ use clap::{Arg, ArgAction, ArgMatches, Command};
 use mpw_geom::{Name, NameFault};
 use std::alloc::{AllocError, Global};
 
-/// What the command line asks for. A file `-` is the standard input.
+/// The version that `--version` tells.
+const VERSION: &str = "1";
+
+/// A check that the command line asks for. A file `-` is the standard input.
 #[derive(Drop)]
 pub struct Options {
     /// The file of the deck.
@@ -15,6 +18,17 @@ pub struct Options {
     pub top: Name,
     /// The file of the library.
     pub file: String,
+    /// The file that the report is written to, if one is wanted.
+    pub report: Option<String>,
+}
+
+/// What the command line asks for.
+#[derive(Drop)]
+pub enum Asked {
+    /// A check.
+    Check(Options),
+    /// The help or the version, with its text.
+    Told(String),
 }
 
 /// An option that has to be given, with one value.
@@ -41,10 +55,17 @@ fn command<'a>(alloc: Global) -> Result<Command<'a>, AllocError> {
         .required(true)
         .action(ArgAction::Set)
         .help("The GDSII library, - for the standard input");
+    let report = Arg::new(alloc, "report")
+        .long("report")
+        .value_name("OUT")
+        .action(ArgAction::Set)
+        .help("A file for the markers as a report database, which KLayout opens");
     Command::new(alloc, "mpw check")
+        .version(VERSION)
         .about("Checks a structure of a GDSII library under a deck, and lists its markers")
         .arg(deck)?
         .arg(top)?
+        .arg(report)?
         .arg(file)
 }
 
@@ -68,6 +89,30 @@ fn read_top(alloc: Global, text: &str) -> Result<Name, FirmFault> {
     }
 }
 
+/// The file of the report.
+fn read_report(
+    alloc: Global,
+    report: Option<&str>,
+    inputs: [&str; 2],
+) -> Result<Option<String>, FirmFault> {
+    let Some(report) = report else {
+        return Ok(None);
+    };
+    if report == "-" {
+        return Err(usage(
+            alloc,
+            "error: --report takes a file, and not the standard output",
+        ));
+    }
+    if report == inputs[0] || report == inputs[1] {
+        return Err(usage(
+            alloc,
+            "error: the report can't be written over the deck or the library",
+        ));
+    }
+    Ok(Some(String::from_str(alloc, report)?))
+}
+
 /// What the command line's words give.
 fn given(alloc: Global, matches: &ArgMatches<'_>) -> Result<Options, FirmFault> {
     let words = (
@@ -88,6 +133,7 @@ fn given(alloc: Global, matches: &ArgMatches<'_>) -> Result<Options, FirmFault> 
         deck: String::from_str(alloc, deck)?,
         top: read_top(alloc, top)?,
         file: String::from_str(alloc, file)?,
+        report: read_report(alloc, matches.get_str("report"), [deck, file])?,
     })
 }
 
@@ -95,10 +141,11 @@ fn given(alloc: Global, matches: &ArgMatches<'_>) -> Result<Options, FirmFault> 
 ///
 /// # Errors
 /// `Usage`, with a text that says what is wrong and what is accepted; and `Memory`.
-pub fn read_options<'a>(alloc: Global, words: &'a [&'a str]) -> Result<Options, FirmFault> {
+pub fn read_options<'a>(alloc: Global, words: &'a [&'a str]) -> Result<Asked, FirmFault> {
     match command(alloc)?.try_get_matches_from(words) {
-        Ok(matches) => given(alloc, &matches),
+        Ok(matches) => Ok(Asked::Check(given(alloc, &matches)?)),
         Err(error) if error.kind() == ErrorKind::OutOfMemory => Err(FirmFault::Memory),
+        Err(error) if !error.use_stderr() => Ok(Asked::Told(error.to_string(alloc)?)),
         Err(error) => Err(FirmFault::Usage(error.to_string(alloc)?)),
     }
 }

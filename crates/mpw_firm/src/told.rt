@@ -71,3 +71,11 @@ pub fn device_fault(alloc: Global, file: &str) -> FirmFault {
         Err(_) => FirmFault::Memory,
     }
 }
+
+/// What is told of a file that can't be written.
+pub fn unwritten(alloc: Global, file: &str) -> FirmFault {
+    match format!(in alloc; "{file}: can't be written") {
+        Ok(text) => FirmFault::Device(text),
+        Err(_) => FirmFault::Memory,
+    }
+}
