@@ -6,7 +6,7 @@ use crate::options::Options;
 use crate::progress::{tell_checking, tiles_of};
 use crate::report::report;
 use crate::told::{check_fault, deck_fault, device_fault};
-use mpw_check::{check_layout, read_layout};
+use mpw_check::{CheckFault, check_layout, read_layout};
 use mpw_deck::{Deck, read_deck};
 use mpw_markers::Marker;
 use mpw_tiles::Snapshot;
@@ -53,14 +53,14 @@ fn snapshot_of(rt: &HostRuntime, options: &Options) -> Result<Snapshot, FirmFaul
     let text = read_file(rt, options.file.as_str())?;
     match read_layout(rt.alloc(), deck, &options.top, &text) {
         Ok(snapshot) => Ok(snapshot),
-        Err(fault) => Err(refused(rt, options, &fault)),
+        Err(fault) => Err(refused(rt, options, &fault, &text)),
     }
 }
 
-/// What is told of a library that isn't checked.
-fn refused(rt: &HostRuntime, options: &Options, fault: &mpw_check::CheckFault) -> FirmFault {
+/// What is told of a library of that text that isn't checked.
+fn refused(rt: &HostRuntime, options: &Options, fault: &CheckFault, text: &[u8]) -> FirmFault {
     let (file, top) = (options.file.as_str(), options.top.as_str());
-    check_fault(rt.alloc(), file, top, fault)
+    check_fault(rt.alloc(), file, top, fault, text)
 }
 
 /// How many of the markers are of the rule with that place in its deck.
@@ -119,7 +119,7 @@ pub fn check(
     tell_checking(rt, &snapshot);
     let book = match check_layout(threads, rt.alloc(), &snapshot) {
         Ok(book) => book,
-        Err(fault) => return Err(refused(rt, options, &fault)),
+        Err(fault) => return Err(refused(rt, options, &fault, &[])),
     };
     let found = book.len();
     let _ = tell_summary(rt, &snapshot, book.as_slice(), &start);

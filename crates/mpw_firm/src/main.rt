@@ -3,6 +3,7 @@
 #![tactic(auto)]
 
 mod asked;
+mod cause;
 mod fault;
 mod listing;
 mod options;

@@ -1,8 +1,9 @@
 //! What a fault of a library or a deck means, and what to do.
 
+use crate::cause::{Cause, cause_of};
 use mpw_deck::DeckKind;
 use mpw_hier::HierFault;
-use mpw_records::Code;
+use mpw_records::{Code, ReadFault};
 
 /// What a fault of a library's records means and what to do, for records as such.
 fn of_record(code: Code) -> &'static str {
@@ -11,9 +12,8 @@ fn of_record(code: Code) -> &'static str {
         Code::BadLength =>
             "a record's length is odd or below 4: the file is damaged, or is no GDSII",
         Code::BadType => "a record has data of another type: the file is damaged, or is no GDSII",
-        Code::Unexpected => {
-            "a record stands where the format doesn't have it: nodes, text with paths and several XY records in an element              aren't read; export polygons of at most 8191 points without multi-XY records (KLayout: switch off 'Multi-XY              record mode for boundaries'; gdspy: max_points=8190)"
-        }
+        Code::Unexpected =>
+            "a record stands where the format doesn't have it: export without what isn't geometry, as properties",
         Code::BadSize =>
             "a record has too much or too little data: polygons of more than 8191 points have to be split",
         Code::BadName => {
@@ -28,13 +28,13 @@ fn of_record(code: Code) -> &'static str {
 fn of_shape(code: Code) -> &'static str {
     match code {
         Code::Unit =>
-            "the database unit isn't one of 1 to 1000 nm: export with a unit of 1 nm (KLayout: 'Database unit' 0.001)",
+            "the database unit isn't a whole number of nm from 1 to 1000, as 0.5 isn't: export with a unit of 1 nm (KLayout: 'Database unit' 0.001)",
         Code::Magnification =>
             "a reference is magnified: resolve it before the export (KLayout: 'Flatten' that instance)",
         Code::Angle =>
-            "an angle isn't a multiple of 90 degrees from -360 to 360: resolve the reference before the export",
+            "an angle isn't a multiple of 90 degrees, or is beyond -360 to 360: resolve the reference before the export (KLayout: 'Flatten' that instance)",
         Code::NotManhattan =>
-            "an edge is neither horizontal nor vertical: only such layouts are checked",
+            "an edge is neither horizontal nor vertical, as one at 45 degrees: only such edges are checked; draw it in steps, or export without that shape",
         Code::RoundPath =>
             "a path has round ends (type 1): export it with ends of type 0, 2 or 4, or as a polygon",
         Code::OddWidth =>
@@ -49,9 +49,17 @@ fn of_shape(code: Code) -> &'static str {
     }
 }
 
-/// What a fault of a library's text means and what to do.
-pub fn of_library(code: Code) -> &'static str {
-    of_record(code)
+/// What a fault of a library of that text means and what to do.
+pub fn of_library(fault: ReadFault, text: &[u8]) -> &'static str {
+    match cause_of(fault, text) {
+        Cause::Code => of_record(fault.code),
+        Cause::Split =>
+            "an element's points stand in several XY records: export polygons and paths of at most 8191 points, each in one XY record (KLayout: switch off 'Multi-XY record mode for boundaries'; gdspy: max_points=8190)",
+        Cause::Property =>
+            "a property of the library stands behind UNITS or between structures: export without it (KLayout: switch off 'Write file properties')",
+        Cause::Foreign =>
+            "the file doesn't begin as GDSII does: where it is compressed or another format (OASIS), export it as GDSII",
+    }
 }
 
 /// What a fault of a top's structures means and what to do.

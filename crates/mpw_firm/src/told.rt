@@ -37,12 +37,18 @@ fn outside(alloc: Global, file: &str, names: &Names) -> Result<String, FirmFault
     )?)
 }
 
-/// What is told of a library's fault.
-fn text_of(alloc: Global, file: &str, top: &str, fault: &CheckFault) -> Result<String, FirmFault> {
+/// What is told of the fault of a library of that text.
+fn text_of(
+    alloc: Global,
+    file: &str,
+    top: &str,
+    fault: &CheckFault,
+    text: &[u8],
+) -> Result<String, FirmFault> {
     match fault {
         CheckFault::Memory => Err(FirmFault::Memory),
         CheckFault::Library(fault) => {
-            let sentence = of_library(fault.code);
+            let sentence = of_library(*fault, text);
             Ok(format!(in alloc; "{file}: {fault}: {sentence}")?)
         }
         CheckFault::Outside(names) => outside(alloc, file, names),
@@ -56,9 +62,15 @@ fn text_of(alloc: Global, file: &str, top: &str, fault: &CheckFault) -> Result<S
     }
 }
 
-/// What is told of what keeps from checking.
-pub fn check_fault(alloc: Global, file: &str, top: &str, fault: &CheckFault) -> FirmFault {
-    match text_of(alloc, file, top, fault) {
+/// What is told of what keeps a library of that text from being checked.
+pub fn check_fault(
+    alloc: Global,
+    file: &str,
+    top: &str,
+    fault: &CheckFault,
+    text: &[u8],
+) -> FirmFault {
+    match text_of(alloc, file, top, fault, text) {
         Ok(text) => FirmFault::Refused(text),
         Err(fault) => fault,
     }
