@@ -1,2 +1,3 @@
 mod Escaped
 pub mod Adding
+mod Exact

@@ -1,0 +1,5 @@
+use Rattle.mpw_report.proofs.Exact.{length_is}
+use Rattle.mpw_report.proofs.laws.lengths_are_exact.Goals as goal
+
+pub returns : goal.returns
+returns c = length_is
