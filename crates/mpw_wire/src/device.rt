@@ -1,8 +1,9 @@
 //! Devices: what gives bytes and what takes them.
 //!
 //! A [`Source`] tells which bytes it has left and a [`Sink`] which it holds, where that is known, and both count their
-//! failures. [`Counted`] makes them of std's readers and writers.
-ghost use Rattle.std.specs.Prelude.{◌≡◌, ℕ, List, ◌+◌, ◌<◌, ◌≤◌, length, IfOk, Option};
+//! failures; a sink also tells whether it was handed bytes since it was flushed. [`Counted`] makes them of std's readers
+//! and writers.
+ghost use Rattle.std.specs.Prelude.{◌≡◌, ℕ, Bool, true, false, List, ◌+◌, ◌<◌, ◌≤◌, length, IfOk, Option};
 ghost use Rattle.std.specs.Io.KnownBytes.{Keeps, ReadConsumes, WriteAppends};
 ghost use Rattle.std.specs.Io.Iter.{u64_saturate};
 ghost use Rattle.std.specs.Io.{ReadsAtMost, WritesAtMost};
@@ -29,41 +30,48 @@ pub trait Source {
         ensures failures { failures self.new ≡ failures_after result (failures self.old) };
 }
 
-/// A writer by the bytes that it holds, where they are known, and by the number of its failures.
+/// A writer by the bytes that it holds, where they are known, by the number of its failures, and by whether bytes are
+/// pending: they were taken, and no flush succeeded since.
 pub trait Sink {
     ghost contents: { Self → Option (List ℕ) };
 
     ghost failures: { Self → ℕ };
+
+    ghost pending: { Self → Bool };
 
     /// Takes bytes off the front, at least one where there is one, and says how many.
     fn write(&mut self, bytes: &[u8]) -> Result<usize, DeviceFault>
         ensures bound { IfOk result (λ taken. taken ≤ length bytes.now) }
         ensures some { IfOk result (λ taken. 0 < length bytes.now → 0 < taken) }
         ensures bytes { WriteAppends (contents self.old) (contents self.new) result bytes.now }
+        ensures pending { IfOk result (λ taken. 0 < taken → pending self.new ≡ true) }
         ensures failures { failures self.new ≡ failures_after result (failures self.old) };
 
     /// Hands on what was taken.
     fn flush(&mut self) -> Result<(), DeviceFault>
         ensures bytes { Keeps (contents self.old) (contents self.new) }
+        ensures handed { IfOk result (λ _. pending self.new ≡ false) }
         ensures failures { failures self.new ≡ failures_after result (failures self.old) };
 }
 
-/// A reader or a writer of std's with the number of its failures. A call that a signal interrupts is made again and
-/// is no failure; a write that takes nothing of some bytes is one.
+/// A reader or a writer of std's with the number of its failures, and whether it took bytes since it was flushed. A call
+/// that a signal interrupts is made again and is no failure; a write that takes nothing of some bytes is one.
 #[derive(Drop)]
 pub struct Counted<D> {
     device: D,
     failures: u64,
+    is_pending: bool,
 }
 
 impl<D> Counted<D> {
     /// The device, with no failure so far.
     pub fn new(device: D) -> Counted<D>
-        ensures { result ≡ record { device = device; failures = 0 } }
+        ensures { result ≡ record { device = device; failures = 0; is_pending = false } }
     {
         Counted {
             device,
             failures: 0,
+            is_pending: false,
         }
     }
 
@@ -125,17 +133,26 @@ impl<W: Write> Sink for Counted<W> {
 
     ghost failures = { λ counted. counted.failures };
 
+    ghost pending = { λ counted. counted.is_pending };
+
     fn write(&mut self, bytes: &[u8]) -> Result<usize, DeviceFault> {
         match write_again(&mut self.device, bytes) {
             Ok(0) if !bytes.is_empty() => Err(self.fail()),
-            Ok(taken) => Ok(taken),
+            Ok(0) => Ok(0),
+            Ok(taken) => {
+                self.is_pending = true;
+                Ok(taken)
+            }
             Err(_) => Err(self.fail()),
         }
     }
 
     fn flush(&mut self) -> Result<(), DeviceFault> {
         match self.device.flush() {
-            Ok(()) => Ok(()),
+            Ok(()) => {
+                self.is_pending = false;
+                Ok(())
+            }
             Err(_) => Err(self.fail()),
         }
     }

@@ -1,5 +1,5 @@
 //! The text of replies.
-ghost use Rattle.std.specs.Prelude.{◌≡◌};
+ghost use Rattle.std.specs.Prelude.{◌≡◌, IfOk, false};
 ghost use Rattle.std.specs.List.{flat_map};
 ghost use Rattle.mpw_wire.specs.Reply.{line_text, listed_text, accepted_text, refusal_words, refusal_text, reply_text, AreLedByVerdicts};
 ghost use Rattle.mpw_wire.specs.Writing.{Writes};
@@ -74,7 +74,8 @@ fn refusal_words(refusal: Refusal) -> &'static str
 /// Writes a refusal, and has the sink hand it on.
 #[tactic(auto, unfolding(crate::specs::Reply::refusal_text))]
 pub fn write_refusal<W: Sink>(refusal: Refusal, writer: &mut W) -> Result<(), WireFault>
-    ensures { Writes W.contents W.failures writer.old writer.new result (refusal_text refusal) }
+    ensures text { Writes W.contents W.failures writer.old writer.new result (refusal_text refusal) }
+    ensures handed { IfOk result (λ _. W.pending writer.new ≡ false) }
 {
     write_set(writer, Setting::Line, &["REFUSED ", refusal_words(refusal)])?;
     flush(writer)
@@ -98,7 +99,8 @@ fn write_text<W: Sink>(reply: &Reply, writer: &mut W) -> Result<(), WireFault>
 /// # Errors
 /// `Write` where the sink failed; it then holds a front of the text.
 pub fn write_reply<W: Sink>(reply: &Reply, writer: &mut W) -> Result<(), WireFault>
-    ensures { Writes W.contents W.failures writer.old writer.new result (reply_text reply.now) }
+    ensures text { Writes W.contents W.failures writer.old writer.new result (reply_text reply.now) }
+    ensures handed { IfOk result (λ _. W.pending writer.new ≡ false) }
 {
     write_text(reply, writer)?;
     flush(writer)

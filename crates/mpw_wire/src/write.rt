@@ -1,5 +1,5 @@
 //! Writing all of some bytes to a sink.
-ghost use Rattle.std.specs.Prelude.{◌≡◌, [], ◌++◌};
+ghost use Rattle.std.specs.Prelude.{◌≡◌, [], ◌++◌, IfOk, false};
 ghost use Rattle.std.specs.List.{flat_map};
 ghost use Rattle.mpw_wire.specs.Writing.{Writes};
 
@@ -34,7 +34,8 @@ pub(crate) fn write_parts<W: Sink>(writer: &mut W, parts: &[&str]) -> Result<(),
 
 /// Has the sink hand on what it took.
 pub(crate) fn flush<W: Sink>(writer: &mut W) -> Result<(), WireFault>
-    ensures { Writes W.contents W.failures writer.old writer.new result [] }
+    ensures text { Writes W.contents W.failures writer.old writer.new result [] }
+    ensures handed { IfOk result (λ _. W.pending writer.new ≡ false) }
 {
     match writer.flush() {
         Ok(()) => Ok(()),

@@ -4,9 +4,9 @@ use Rattle.mpw_wire.specs.Writing.{fault_of, WritesKnown}
 use Rattle.mpw_wire.proofs.WritingLemmas.{Writes_both}
 use Rattle.mpw_wire.proofs.reply.write_refusal.Goals as goal
 
-pub returns : goal.returns
+pub returns-clause-text : goal.returns-clause-text
 unfolding refusal_text
-returns g c =
+returns-clause-text g c =
     let text = refusal_text c.args.refusal in
     subst (WritesKnown _ _ _ _ _) (append-nil text)
-    (Writes_both _ _ _ _ _ _ _ _ text [] (ap fault_of c.in_ok-write_set.was) (search rules) c.flush.ensures)
+    (Writes_both _ _ _ _ _ _ _ _ text [] (ap fault_of c.in_ok-write_set.was) (search rules) c.flush.ensures.text)
