@@ -1,6 +1,6 @@
 -- Serving line by line.
-use Rattle.std.proofs.Common.{◌≡◌, ◌∙◌, ◌<◌, ℕ, ◌+◌, List, [], ◌∷◌, ◌++◌, length, Option, Some, None, Result, Ok, Err, refl, sym, ap, subst, append_assoc, append-nil, length-append, arith, inl, inr}
-use Rattle.std.specs.Prelude.{⊤, IfOk, OnErr}
+use Rattle.std.proofs.Common.{◌≡◌, ◌∙◌, ◌<◌, ℕ, ◌+◌, List, [], ◌∷◌, ◌++◌, length, Option, Some, None, Result, Ok, Err, refl, sym, ap, subst, append_assoc, append-nil, length-append, arith, Bool, true, false}
+use Rattle.std.specs.Prelude.{⊤, IfOk, OnErr, is_ok}
 use Rattle.std.specs.List.{flat_map}
 use Rattle.std.proofs.KnownBytes.{Appends-trans, Appends-nil}
 use Rattle.std.specs.Io.KnownBytes.{Appends}
@@ -12,9 +12,10 @@ use Rattle.mpw_wire.specs.declared.fault.WireFault.{WireFault}
 use Rattle.mpw_wire.specs.declared.fault.WireFault.TheVariants.{Read, Write, Memory}
 use Rattle.mpw_serve.specs.declared.serve.End.{End}
 use Rattle.mpw_serve.specs.declared.serve.End.TheVariants as end
+use Rattle.mpw_serve.specs.declared.serve.Served.{Served}
 use Rattle.mpw_wire.specs.Writing.{WritesKnown, fault_of}
 use Rattle.mpw_work.specs.Laws.{WorkGoesOn}
-use Rattle.mpw_serve.specs.Serving.{Answer, Turn, Stop, IsTrace, IsTurn, IsStop, Written, HasText, ServesLine, ServesLines, IsGone, Serves, max_lines, turn_text, stop_text, end_of, told}
+use Rattle.mpw_serve.specs.Serving.{Answer, Turn, Stop, IsTrace, IsTurn, IsStop, Written, HasText, ServesLine, ServesLines, IsGone, LeavesNothingPending, Serves, max_lines, turn_text, stop_text, end_of, told}
 
 flat_map-push : (f : Turn → List ℕ) (turns : List Turn) (turn : Turn) → flat_map f (turns ++ turn ∷ []) ≡ flat_map f turns ++ f turn
 flat_map-push f [] turn = append-nil (f turn)
@@ -123,6 +124,15 @@ finish conn input mid input' output between output' desk middle desk' count p lt
   written = written_after output between output' (Some f) (flat_map turn_text p.turns) (stop_text s.stop) p.written s.written;
 })
 
+-- the last line of the connection, where no device failed
+pub finish_at : (conn : ℕ) (input mid input' output between output' : Option (List ℕ)) (desk middle desk' : KeptDesk) (count : ℕ)
+    → Progress conn input mid output between desk middle count → count < max_lines
+    → (result : Result (Option End) WireFault) (e : End) → result ≡ Ok (Some e)
+    → ServesLine conn mid input' between output' middle desk' result
+    → ServesLines conn input input' output output' desk desk' (Ok e)
+finish_at conn input mid input' output between output' desk middle desk' count p lt result e is s =
+    finish conn input mid input' output between output' desk middle desk' count p lt (Ok (Some e)) (Ok e) refl (subst (ServesLine conn mid input' between output' middle desk') is s)
+
 -- as many lines as one connection may have were answered
 pub spent : (conn : ℕ) (input input' output output' : Option (List ℕ)) (desk desk' : KeptDesk) (count : ℕ)
     → Progress conn input input' output output' desk desk' count → count ≡ max_lines
@@ -139,9 +149,34 @@ spent conn input input' output output' desk desk' count p e = record {
 }
 
 -- the end of a connection was handled, or memory was wanting
-pub gone_cases : {E : Type 0} (conn : ℕ) (d d' : KeptDesk) (result : Result Response E) → IfOk result (λ response. IsHandled d (event.Gone conn) response d') → OnErr result (d' ≡ d) → IsGone conn d d'
-gone_cases conn d d' (Ok response) ok err = inl (response, ok)
-gone_cases conn d d' (Err e) ok err = inr err
+pub gone_cases : {E : Type 0} (conn : ℕ) (d d' : KeptDesk) (result : Result Response E) (is_gone : Bool) → is_gone ≡ is_ok result
+    → IfOk result (λ response. IsHandled d (event.Gone conn) response d') → OnErr result (d' ≡ d) → IsGone conn d is_gone d'
+gone_cases conn d d' (Ok response) is_gone is ok err = subst (λ gone. IsGone conn d gone d') (sym is) (response, ok)
+gone_cases conn d d' (Err e) is_gone is ok err = subst (λ gone. IsGone conn d gone d') (sym is) err
+
+-- ---- what is pending
+
+-- a text that was written and handed on, or at which the sink failed
+pub handed_leaves : (old new : Option (List ℕ)) (failed failed' : ℕ) (text : List ℕ) (written : Result ⊤ WireFault) (before behind : Bool)
+    → WritesKnown old new failed failed' (fault_of written) text → IfOk written (λ _. behind ≡ false) → LeavesNothingPending (fault_of written) before behind
+handed_leaves old new failed failed' text (Ok u) before behind w handed = λ _. handed
+handed_leaves old new failed failed' text (Err Read) before behind w handed = absurd w
+handed_leaves old new failed failed' text (Err Write) before behind w handed = tt
+handed_leaves old new failed failed' text (Err Memory) before behind w handed = absurd w
+
+-- what is told of a line leaves pending what writing for it left
+pub told_leaves : (e : Option End) (written : Result ⊤ WireFault) (result : Result (Option End) WireFault) (before behind : Bool)
+    → result ≡ told e written → LeavesNothingPending (fault_of written) before behind → LeavesNothingPending (fault_of result) before behind
+told_leaves e (Ok u) result before behind is leaves = subst (λ r. LeavesNothingPending (fault_of r) before behind) (sym is) leaves
+told_leaves e (Err fault) result before behind is leaves = subst (λ r. LeavesNothingPending (fault_of r) before behind) (sym is) leaves
+
+-- and behind what left nothing pending
+pub leaves_behind : (fault : Option WireFault) (before mid behind : Bool) → (before ≡ false → mid ≡ false)
+    → LeavesNothingPending fault mid behind → LeavesNothingPending fault before behind
+leaves_behind None before mid behind first more = λ is. more (first is)
+leaves_behind (Some Read) before mid behind first more = λ is. more (first is)
+leaves_behind (Some Write) before mid behind first more = tt
+leaves_behind (Some Memory) before mid behind first more = λ is. more (first is)
 
 -- ---- what the keeper has of it
 
@@ -173,10 +208,10 @@ module _
     stop_on conn lines input input' d d' Stop.spent is = unmoved d d' is.2
     stop_on conn lines input input' d d' (Stop.unwritten turn) is = turn_on conn input input' d d' turn is.1
 
-    gone_on : (conn : ℕ) (d d' : KeptDesk) → IsGone conn d d' → GoesOnTo d d'
-    gone_on conn d d' (inl is) = goes d d' (event.Gone conn) is.0 is.1
-    gone_on conn d d' (inr same) = unmoved d d' same
+    gone_on : (conn : ℕ) (d : KeptDesk) (is_gone : Bool) (d' : KeptDesk) → IsGone conn d is_gone d' → GoesOnTo d d'
+    gone_on conn d true d' is = goes d d' (event.Gone conn) is.0 is.1
+    gone_on conn d false d' same = unmoved d d' same
 
-    pub served_on : (conn : ℕ) (input left output written : Option (List ℕ)) (d d' : KeptDesk) (result : Result End WireFault) → Serves conn input left output written d d' result → GoesOnTo d d'
-    served_on conn input left output written d d' result (reached, lines, gone) =
-        on d reached d' (on d lines.reached reached (trace_on conn input d lines.turns lines.left lines.reached lines.answered) (stop_on conn (length lines.turns) lines.left left lines.reached reached lines.stop lines.stopped)) (gone_on conn reached d' gone)
+    pub served_on : (conn : ℕ) (input left output written : Option (List ℕ)) (d d' : KeptDesk) (served : Served) → Serves conn input left output written d d' served → GoesOnTo d d'
+    served_on conn input left output written d d' served (reached, lines, gone) =
+        on d reached d' (on d lines.reached reached (trace_on conn input d lines.turns lines.left lines.reached lines.answered) (stop_on conn (length lines.turns) lines.left left lines.reached reached lines.stop lines.stopped)) (gone_on conn reached served.is_gone d' gone)

@@ -1,5 +1,5 @@
 -- What serving a connection does: the lines that were answered, one by one, and what ended it.
-use Rattle.std.specs.Prelude.{◌≡◌, ◌<◌, ◌⊎◌, ⊤, ℕ, ◌+◌, List, [], ◌∷◌, ◌++◌, length, Option, None, Some, Result, Ok, Err}
+use Rattle.std.specs.Prelude.{◌≡◌, ◌<◌, ⊤, ℕ, Bool, true, false, ◌+◌, List, [], ◌∷◌, ◌++◌, length, Option, None, Some, Result, Ok, Err}
 use Rattle.std.specs.List.{flat_map}
 use Rattle.std.specs.Io.KnownBytes.{Appends}
 use Rattle.std.specs.Io.Iter.{u64_saturate}
@@ -12,6 +12,7 @@ use Rattle.mpw_wire.specs.declared.fault.WireFault.{WireFault}
 use Rattle.mpw_wire.specs.declared.fault.WireFault.TheVariants.{Read, Write, Memory}
 use Rattle.mpw_serve.specs.declared.serve.End.{End}
 use Rattle.mpw_serve.specs.declared.serve.End.TheVariants as end
+use Rattle.mpw_serve.specs.declared.serve.Served.{Served}
 use Rattle.mpw_wire.specs.declared.reply.Refusal.TheVariants as refusal
 use Rattle.mpw_wire.specs.Reading.{TakesLine, TakesTooLong, TakesCut, TakesNothing, BreaksRead, BreaksMemory, IsText}
 use Rattle.mpw_wire.specs.Reply.{reply_text, refusal_text}
@@ -156,14 +157,23 @@ pub record ServesLines (conn : ℕ) (input input' output output' : Option (List 
   pub told : Tells stop result
   pub written : Written output output' (fault_of result) (flat_map turn_text turns) (stop_text stop)
 
--- the end of the connection is handed to the desk; or the desk is left, as where memory is wanting
-abbrev pub IsGone : ℕ → KeptDesk → KeptDesk → Type 0
-IsGone conn desk desk' = ((response : Response) × IsHandled desk (event.Gone conn) response desk') ⊎ (desk' ≡ desk)
+-- whether the end of the connection was handed to the desk: it was, with the desk's response; or there was no memory, and
+-- the desk is left
+abbrev pub IsGone : ℕ → KeptDesk → Bool → KeptDesk → Type 0
+IsGone conn desk true desk' = (response : Response) × IsHandled desk (event.Gone conn) response desk'
+IsGone conn desk false desk' = desk' ≡ desk
 
--- a connection: its lines, and its end
-abbrev pub Serves : ℕ → Option (List ℕ) → Option (List ℕ) → Option (List ℕ) → Option (List ℕ) → KeptDesk → KeptDesk → Result End WireFault → Type 0
-Serves conn input input' output output' desk desk' result =
-    (reached : KeptDesk) × ServesLines conn input input' output output' desk reached result × IsGone conn reached desk'
+-- a connection: its lines, and then its end, however the lines ended
+abbrev pub Serves : ℕ → Option (List ℕ) → Option (List ℕ) → Option (List ℕ) → Option (List ℕ) → KeptDesk → KeptDesk → Served → Type 0
+Serves conn input input' output output' desk desk' served =
+    (reached : KeptDesk) × ServesLines conn input input' output output' desk reached served.ended × IsGone conn reached served.is_gone desk'
+
+-- where nothing was pending in the sink, nothing is, unless the sink failed
+abbrev pub LeavesNothingPending : Option WireFault → Bool → Bool → Type 0
+LeavesNothingPending None before behind = before ≡ false → behind ≡ false
+LeavesNothingPending (Some Read) before behind = before ≡ false → behind ≡ false
+LeavesNothingPending (Some Write) before behind = ⊤
+LeavesNothingPending (Some Memory) before behind = before ≡ false → behind ≡ false
 
 -- the end, where what is written for it was written
 abbrev pub told : {A : Type 0} → Option End → Result A WireFault → Result (Option End) WireFault

@@ -3,4 +3,4 @@
 
 mod serve;
 
-pub use serve::{End, MAX_LINES, serve_core, served_changes_are_kept_in_order};
+pub use serve::{End, MAX_LINES, Served, serve_core, served_changes_are_kept_in_order};

@@ -1,9 +1,9 @@
 //! Serving a connection: each line gets its reply, in order, until the connection ends.
-ghost use Rattle.std.specs.Prelude.{◌≡◌, ℕ, List, Option, Result};
+ghost use Rattle.std.specs.Prelude.{◌≡◌, ℕ, List, Option};
 ghost use Rattle.mpw_core.specs.History.{KeptDesk, GoesOnTo, kept_desk};
 ghost use Rattle.mpw_wire.specs.Reading.{read_failures};
 ghost use Rattle.mpw_wire.specs.Writing.{Writes, fault_of};
-ghost use Rattle.mpw_serve.specs.Serving.{Answer, told, IsAnswer, answer_of, answer_text, response_text, ServesLine, ServesLines, IsGone, Serves, write_failures};
+ghost use Rattle.mpw_serve.specs.Serving.{Answer, told, IsAnswer, answer_of, answer_text, response_text, ServesLine, ServesLines, IsGone, LeavesNothingPending, Serves, write_failures};
 
 use mpw_core::{Core, Event, Keeper, Response, keepers_have_the_changes_in_order};
 use mpw_requests::SharedRequest;
@@ -30,9 +30,19 @@ pub enum End {
     Spent,
 }
 
+/// What came of a connection.
+#[derive(Clone, Copy, Debug, PartialEq, Eq)]
+pub struct Served {
+    /// How it ended, or the device that failed: `Read` the source, and `Write` the sink.
+    pub ended: Result<End, WireFault>,
+    /// Whether the desk was handed the connection's end; it isn't where memory is wanting.
+    pub is_gone: bool,
+}
+
 /// Writes what is told of a request.
 fn write_response<W: Sink>(response: &Response, writer: &mut W) -> Result<(), WireFault>
-    ensures { Writes W.contents W.failures writer.old writer.new result (response_text response.now) }
+    ensures text { Writes W.contents W.failures writer.old writer.new result (response_text response.now) }
+    ensures handed { LeavesNothingPending (fault_of result) (W.pending writer.old) (W.pending writer.new) }
 {
     match response {
         Response::Told(reply) => write_reply(reply, writer),
@@ -67,7 +77,8 @@ fn answer<K: Keeper, W: Sink>(
     request: SharedRequest,
     writer: &mut W,
 ) -> Result<(), WireFault>
-    ensures { (answer : Answer) × IsAnswer conn request (kept_desk core.old (K.kept keeper.old) (K.failures keeper.old)) answer (kept_desk core.new (K.kept keeper.new) (K.failures keeper.new)) × Writes W.contents W.failures writer.old writer.new result (answer_text answer) }
+    ensures answer { (answer : Answer) × IsAnswer conn request (kept_desk core.old (K.kept keeper.old) (K.failures keeper.old)) answer (kept_desk core.new (K.kept keeper.new) (K.failures keeper.new)) × Writes W.contents W.failures writer.old writer.new result (answer_text answer) }
+    ensures handed { LeavesNothingPending (fault_of result) (W.pending writer.old) (W.pending writer.new) }
 {
     match handle(rt, alloc, core, keeper, conn, request) {
         Some(response) => write_response(&response, writer),
@@ -98,6 +109,7 @@ fn serve_line<K: Keeper, R: Source, W: Sink>(
     ensures line { ServesLine conn (R.remaining reader.old) (R.remaining reader.new) (W.contents writer.old) (W.contents writer.new) (kept_desk core.old (K.kept keeper.old) (K.failures keeper.old)) (kept_desk core.new (K.kept keeper.new) (K.failures keeper.new)) result }
     ensures reader { R.failures reader.new ≡ read_failures (fault_of result) (R.failures reader.old) }
     ensures writer { W.failures writer.new ≡ write_failures (fault_of result) (W.failures writer.old) }
+    ensures handed { LeavesNothingPending (fault_of result) (W.pending writer.old) (W.pending writer.new) }
 {
     match read_request(alloc, reader) {
         Ok(Asked::Request(request)) => told(
@@ -129,6 +141,7 @@ fn serve_lines<K: Keeper, R: Source, W: Sink>(
     ensures lines { ServesLines conn (R.remaining reader.old) (R.remaining reader.new) (W.contents writer.old) (W.contents writer.new) (kept_desk core.old (K.kept keeper.old) (K.failures keeper.old)) (kept_desk core.new (K.kept keeper.new) (K.failures keeper.new)) result }
     ensures reader { R.failures reader.new ≡ read_failures (fault_of result) (R.failures reader.old) }
     ensures writer { W.failures writer.new ≡ write_failures (fault_of result) (W.failures writer.old) }
+    ensures handed { LeavesNothingPending (fault_of result) (W.pending writer.old) (W.pending writer.new) }
 {
     for _ in 0..MAX_LINES {
         match serve_line(rt, alloc, core, keeper, conn, reader, writer) {
@@ -140,21 +153,18 @@ fn serve_lines<K: Keeper, R: Source, W: Sink>(
     Ok(End::Spent)
 }
 
-/// Hands the desk the connection's end, which leaves it only where memory is wanting.
-fn hand_end<K: Keeper>(core: &mut Core, keeper: &mut K, conn: u32)
-    ensures { IsGone conn (kept_desk core.old (K.kept keeper.old) (K.failures keeper.old)) (kept_desk core.new (K.kept keeper.new) (K.failures keeper.new)) }
+/// Hands the desk the connection's end, and tells whether it was handed; it isn't where memory is wanting.
+fn hand_end<K: Keeper>(core: &mut Core, keeper: &mut K, conn: u32) -> bool
+    ensures { IsGone conn (kept_desk core.old (K.kept keeper.old) (K.failures keeper.old)) result (kept_desk core.new (K.kept keeper.new) (K.failures keeper.new)) }
 {
-    let _ = core.handle(keeper, Event::Gone { conn });
+    core.handle(keeper, Event::Gone { conn }).is_ok()
 }
 
 /// Serves a connection: the lines of the reader get their replies on the writer, in order, until the input ends, a
-/// line is too long, the bytes that it asks to submit are too many or cut off, there is no room for a request, or 4096
-/// lines were answered. Then the desk is handed the
-/// connection's end. What is accepted is handed to the keeper first. It costs the lines, and for each request what the
-/// core's step costs.
-///
-/// # Errors
-/// `Read` where the source failed and `Write` where the sink failed; what was accepted before stays accepted.
+/// line is too long, the bytes that it asks to submit are too many or cut off, there is no room for a request, 4096
+/// lines were answered, or a device failed; what was accepted before stays accepted. Then the desk is handed the
+/// connection's end. What is accepted is handed to the keeper first, and each reply is flushed. It costs the lines, and
+/// for each request what the core's step costs.
 pub fn serve_core<K: Keeper, R: Source, W: Sink>(
     rt: &(impl Threads + Sync),
     alloc: Global,
@@ -163,20 +173,21 @@ pub fn serve_core<K: Keeper, R: Source, W: Sink>(
     conn: u32,
     reader: &mut R,
     writer: &mut W,
-) -> Result<End, WireFault>
+) -> Served
     ensures served { Serves conn (R.remaining reader.old) (R.remaining reader.new) (W.contents writer.old) (W.contents writer.new) (kept_desk core.old (K.kept keeper.old) (K.failures keeper.old)) (kept_desk core.new (K.kept keeper.new) (K.failures keeper.new)) result }
-    ensures reader { R.failures reader.new ≡ read_failures (fault_of result) (R.failures reader.old) }
-    ensures writer { W.failures writer.new ≡ write_failures (fault_of result) (W.failures writer.old) }
+    ensures reader { R.failures reader.new ≡ read_failures (fault_of result.ended) (R.failures reader.old) }
+    ensures writer { W.failures writer.new ≡ write_failures (fault_of result.ended) (W.failures writer.old) }
+    ensures handed { LeavesNothingPending (fault_of result.ended) (W.pending writer.old) (W.pending writer.new) }
 {
-    let end = serve_lines(rt, alloc, core, keeper, conn, reader, writer);
-    hand_end(core, keeper, conn);
-    end
+    let ended = serve_lines(rt, alloc, core, keeper, conn, reader, writer);
+    let is_gone = hand_end(core, keeper, conn);
+    Served { ended, is_gone }
 }
 
 /// A connection that was served leads the desk on by calls, and a keeper whose list is known has just their changes behind
 /// those before, in order.
 pub fn served_changes_are_kept_in_order()
-    ensures { (conn : ℕ) (input left output written : Option (List ℕ)) (desk reached : KeptDesk) (result : Result End WireFault) → Serves conn input left output written desk reached result → GoesOnTo desk reached }
+    ensures { (conn : ℕ) (input left output written : Option (List ℕ)) (desk reached : KeptDesk) (served : Served) → Serves conn input left output written desk reached served → GoesOnTo desk reached }
 {
     keepers_have_the_changes_in_order();
     work_goes_on();
