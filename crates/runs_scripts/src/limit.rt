@@ -25,6 +25,7 @@ fn whoami(alloc: Global, core: &mut Core) -> Result<Vec<u8>, AllocError> {
         bytes: Vec::new(alloc),
         room: usize::MAX,
         failures: 0,
+        is_pending: false,
     };
     if let Response::Told(reply) = &response {
         let _ = write_reply(reply, &mut paper);

@@ -18,11 +18,12 @@ mod serving;
 mod transcript;
 
 use anyhow::Result;
+use devices::tell_flushes;
 use digests::tell_digests;
 use keeper::Fails;
 use limit::fill_a_history;
 use restart::restart_desks;
-use serving::{Devices, Served, is_closed, is_front, serve};
+use serving::{Devices, Served, gone_words, is_closed, is_front, pending_words, serve};
 use std::fs;
 use std::thread::Threads;
 use transcript::{Transcript, read_transcript};
@@ -89,8 +90,13 @@ fn tell(
     let served = serve(threads, rt.alloc(), script.input.as_slice(), devices)?;
     if served.text.as_slice() == script.replies.as_slice() {
         println!(rt;
-            "{}: answered as written; {}; {} calls, {} changes",
-            case.name, served.end, served.calls, served.kept
+            "{}: answered as written, {}; {}, {}; {} calls, {} changes",
+            case.name,
+            pending_words(&served),
+            served.end,
+            gone_words(&served),
+            served.calls,
+            served.kept
         )?;
     } else {
         let line = first_difference(served.text.as_slice(), script.replies.as_slice());
@@ -162,19 +168,21 @@ fn tell_failing(
         "NO front"
     };
     println!(rt;
-        "{}, the {} fails at {place}: {} bytes, {front} of the replies; {}; {} calls",
+        "{}, the {} fails at {place}: {} bytes, {front} of the replies; {}, {}; {} calls",
         case.name,
         case.device,
         served.text.len(),
         served.end,
+        gone_words(&served),
         served.calls
     )?;
     Ok(())
 }
 
-/// Whether the replies end in a front of those that are written, and the fault is told.
+/// Whether the replies end in a front of those that are written, the fault is told, and the desk was handed the end.
 fn is_told(served: &Served, script: &Transcript, device: &str) -> bool {
-    is_front(served, script) && served.end == (if device == "source" { "Read" } else { "Write" })
+    let is_fault = served.end == (if device == "source" { "Read" } else { "Write" });
+    is_fault & served.is_gone && is_front(served, script)
 }
 
 /// Tells of a script over a device that fails at each byte in turn.
@@ -202,7 +210,7 @@ fn tell_each(
         }
     }
     println!(rt;
-        "{}, the {} fails at each of {places} bytes: {told} times a front of the replies and the fault",
+        "{}, the {} fails at each of {places} bytes: {told} times a front of the replies, the fault, and the end handed in",
         case.name, case.device
     )?;
     Ok(())
@@ -236,6 +244,7 @@ fn main(rt: HostRuntime) -> Result<()> {
             run_case(&rt, &rt, line.as_str())?;
         }
     }
+    tell_flushes(&rt)?;
     tell_digests(&rt)?;
     fill_a_history(&rt)?;
     restart_desks(&rt)

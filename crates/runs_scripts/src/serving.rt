@@ -18,11 +18,14 @@ pub struct Devices {
     pub keeper: Fails,
 }
 
-/// What came of a connection: the text, the end, and the numbers of calls in the history and of changes that were kept.
+/// What came of a connection: the text, the end, whether the desk was handed it, whether the sink has bytes pending, and
+/// the numbers of calls in the history and of changes that were kept.
 #[derive(Drop)]
 pub struct Served {
     pub text: Vec<u8>,
     pub end: &'static str,
+    pub is_gone: bool,
+    pub is_pending: bool,
     pub calls: usize,
     pub kept: usize,
 }
@@ -76,6 +79,7 @@ pub fn serve(
         bytes: Vec::new(alloc),
         room: devices.sink,
         failures: 0,
+        is_pending: false,
     };
     let mut keeper = MemoryKeeper {
         kept: Vec::new(alloc),
@@ -83,7 +87,7 @@ pub fn serve(
         asked: 0,
         failures: 0,
     };
-    let end = serve_core(
+    let served = serve_core(
         threads,
         alloc,
         &mut core,
@@ -94,10 +98,30 @@ pub fn serve(
     );
     Ok(Served {
         text: writer.bytes,
-        end: end_word(end),
+        end: end_word(served.ended),
+        is_gone: served.is_gone,
+        is_pending: writer.is_pending,
         calls: core.history().len(),
         kept: keeper.kept.len(),
     })
+}
+
+/// Whether the desk was handed the connection's end, in words.
+pub fn gone_words(served: &Served) -> &'static str {
+    if served.is_gone {
+        "its end handed in"
+    } else {
+        "its end NOT handed in"
+    }
+}
+
+/// Whether the sink has bytes pending, in words.
+pub fn pending_words(served: &Served) -> &'static str {
+    if served.is_pending {
+        "bytes pending"
+    } else {
+        "none pending"
+    }
 }
 
 /// Whether what was written is a front of the replies of a script.

@@ -2,8 +2,8 @@ use Rattle.std.proofs.Common.{◌∙◌, sym, ap, refl, codes, inr, option_map, 
 use Rattle.std.proofs.lemmas.Result.{err_from_is_err_and}
 use Rattle.clap.specs.Words.{found_of, rows_of}
 use Rattle.mpw_wire.proofs.DigestLemmas.{spelt-sized, unspelt}
-use Rattle.mpw_main.proofs.SettingsLemmas.{first_is_value, bad-digits, bad-officer, no-digits, no-officer, told-more}
-use Rattle.mpw_main.proofs.settings.script_settings.Goals as goal
+use Rattle.mpw_script.proofs.SettingsLemmas.{first_is_value, bad-digits, bad-officer, no-digits, no-officer, told-more}
+use Rattle.mpw_script.proofs.settings.script_settings.Goals as goal
 
 pub returns-in_default-clause-refused : goal.returns-in_default-clause-refused
 returns-in_default-clause-refused c =

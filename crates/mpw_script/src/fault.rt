@@ -1,7 +1,7 @@
 //! Why the program ends early.
 ghost use Rattle.std.specs.Prelude.{◌≡◌};
-ghost use Rattle.mpw_main.specs.declared.fault.ProgramFault.TheVariants.{Usage, Wire, Memory};
-ghost use Rattle.mpw_main.specs.Status.{exit_of, status_of};
+ghost use Rattle.mpw_script.specs.declared.fault.ProgramFault.TheVariants.{Usage, Wire, Memory};
+ghost use Rattle.mpw_script.specs.Status.{exit_of, status_of};
 
 use mpw_wire::WireFault;
 use std::alloc::{AllocError, AllocFailed};

@@ -2,8 +2,8 @@ use Rattle.std.proofs.Common.{ap, ap₂, ◌∙◌, ◌≡◌, codes, true}
 use Rattle.std.proofs.lemmas.Result.{IfOk-weaker}
 use Rattle.clap.specs.Words.{App, app_of, new_app, with_subcommand}
 use Rattle.clap.specs.Simple.{app_of_fields}
-use Rattle.mpw_main.specs.Settings.{program_app, top_app}
-use Rattle.mpw_main.proofs.settings.program_command.Goals as goal
+use Rattle.mpw_script.specs.Settings.{program_app, top_app}
+use Rattle.mpw_script.proofs.settings.program_command.Goals as goal
 
 pub returns : goal.returns
 unfolding program_app

@@ -3,9 +3,9 @@ use Rattle.std.proofs.lemmas.Result.{IfOk-weaker}
 use Rattle.clap.specs.Words.{App, HasKind, kind_of, fault_of, is_simple, is_simple_and_free, subcommand_of}
 use Rattle.clap.specs.declared.error.kind.ErrorKind.TheVariants.{OutOfMemory}
 use Rattle.clap.proofs.OnLiterals.{clap_on_literals}
-use Rattle.mpw_main.specs.Settings.{program_app}
-use Rattle.mpw_main.proofs.SettingsLemmas.{no-kind, refused-more}
-use Rattle.mpw_main.proofs.settings.read_settings.Goals as goal
+use Rattle.mpw_script.specs.Settings.{program_app}
+use Rattle.mpw_script.proofs.SettingsLemmas.{no-kind, refused-more}
+use Rattle.mpw_script.proofs.settings.read_settings.Goals as goal
 
 is_ready : is_simple program_app ≡ true
 unfolding clap_on_literals program_app

@@ -3,7 +3,7 @@ use Rattle.std.proofs.lemmas.Result.{IfOk-weaker}
 use Rattle.clap.specs.Words.{app_of, new_app, with_rule}
 use Rattle.clap.specs.declared.builder.command.Command.TheViews.{out-Command as fields_of}
 use Rattle.clap.specs.Simple.{app_of_fields}
-use Rattle.mpw_main.proofs.settings.script_command.Goals as goal
+use Rattle.mpw_script.proofs.settings.script_command.Goals as goal
 
 pub returns : goal.returns
 returns c =

@@ -1,15 +1,14 @@
 //! A script: one connection over a new desk.
 ghost use Rattle.std.specs.Prelude.{◌≡◌};
-ghost use Rattle.mpw_main.specs.Script.{ServesScript};
+ghost use Rattle.mpw_script.specs.Script.{ServesScript, fault_told};
 ghost use Rattle.mpw_wire.specs.Reading.{read_failures};
-ghost use Rattle.mpw_serve.specs.Serving.{write_failures};
-ghost use Rattle.mpw_wire.specs.Writing.{fault_of};
+ghost use Rattle.mpw_serve.specs.Serving.{LeavesNothingPending, write_failures};
 
 use crate::settings::Settings;
 use mpw_core::{Core, NoKeeper};
-use mpw_serve::{End, serve_core};
-use mpw_wire::{Sink, Source, WireFault};
-use std::alloc::Global;
+use mpw_serve::{Served, serve_core};
+use mpw_wire::{Sink, Source};
+use std::alloc::{AllocError, Global};
 use std::thread::Threads;
 
 /// The connection of a script.
@@ -19,21 +18,22 @@ const CONNECTION: u32 = 1;
 /// processors.
 ///
 /// # Errors
-/// As `serve_core`, and `Memory` where there is no room for the new desk.
+/// Where there is no room for the new desk; nothing is read or written then.
 pub fn serve_script<R: Source, W: Sink>(
     rt: &(impl Threads + Sync),
     alloc: Global,
     settings: Settings,
     reader: &mut R,
     writer: &mut W,
-) -> Result<End, WireFault>
+) -> Result<Served, AllocError>
     ensures served { ServesScript settings (R.remaining reader.old) (R.remaining reader.new) (W.contents writer.old) (W.contents writer.new) result }
-    ensures reader { R.failures reader.new ≡ read_failures (fault_of result) (R.failures reader.old) }
-    ensures writer { W.failures writer.new ≡ write_failures (fault_of result) (W.failures writer.old) }
+    ensures reader { R.failures reader.new ≡ read_failures (fault_told result) (R.failures reader.old) }
+    ensures writer { W.failures writer.new ≡ write_failures (fault_told result) (W.failures writer.old) }
+    ensures handed { LeavesNothingPending (fault_told result) (W.pending writer.old) (W.pending writer.new) }
 {
     let Settings::Script { officer, digest } = settings;
     let mut core = Core::new(alloc, officer, digest)?;
-    serve_core(
+    Ok(serve_core(
         rt,
         alloc,
         &mut core,
@@ -41,5 +41,5 @@ pub fn serve_script<R: Source, W: Sink>(
         CONNECTION,
         reader,
         writer,
-    )
+    ))
 }

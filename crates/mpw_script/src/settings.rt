@@ -3,7 +3,7 @@ ghost use Rattle.std.specs.Prelude.{◌≡◌, IfOk, IfErr, map, codes, false, L
 ghost use Rattle.mpw_geom.specs.Name.{IsName};
 ghost use Rattle.clap.specs.Words.{Row, app_of, found_of, rows_of, rule_of, subcommand_rows_of};
 ghost use Rattle.clap.specs.declared.builder.command.Command.TheViews.{out-Command as fields_of};
-ghost use Rattle.mpw_main.specs.Settings.{AreGiven, AreOptions, GiveNone, GiveNoOptions, IsFaultOf, required_option, script_app, program_app};
+ghost use Rattle.mpw_script.specs.Settings.{AreGiven, AreOptions, GiveNone, GiveNoOptions, IsFaultOf, required_option, script_app, program_app};
 
 use crate::fault::ProgramFault;
 use clap::error::ErrorKind;

@@ -4,10 +4,10 @@ use Rattle.clap.specs.declared.builder.action.ArgAction.TheVariants.{Set}
 use Rattle.clap.specs.Words.{App, Row, Rule, Text, fault_of, first_of, new_app, new_rule, subcommand_of, with_rule, with_subcommand}
 use Rattle.mpw_wire.specs.Digest.{Spells}
 use Rattle.mpw_geom.specs.Name.{IsName}
-use Rattle.mpw_main.specs.declared.fault.ProgramFault.{ProgramFault}
-use Rattle.mpw_main.specs.declared.fault.ProgramFault.TheVariants.{Memory}
-use Rattle.mpw_main.specs.declared.settings.Settings.{Settings}
-use Rattle.mpw_main.specs.declared.settings.Settings.TheVariants.{Script}
+use Rattle.mpw_script.specs.declared.fault.ProgramFault.{ProgramFault}
+use Rattle.mpw_script.specs.declared.fault.ProgramFault.TheVariants.{Memory}
+use Rattle.mpw_script.specs.declared.settings.Settings.{Settings}
+use Rattle.mpw_script.specs.declared.settings.Settings.TheVariants.{Script}
 
 -- an option that has to be given, with one value
 abbrev pub required_option : Text → Rule

@@ -1,8 +1,8 @@
 -- The exit status of the program.
 use Rattle.std.specs.Prelude.{⊤, ℕ, Result, Ok, Err}
 use Rattle.mpw_wire.specs.declared.fault.WireFault.TheVariants as wire
-use Rattle.mpw_main.specs.declared.fault.ProgramFault.{ProgramFault}
-use Rattle.mpw_main.specs.declared.fault.ProgramFault.TheVariants.{Usage, Wire, Memory}
+use Rattle.mpw_script.specs.declared.fault.ProgramFault.{ProgramFault}
+use Rattle.mpw_script.specs.declared.fault.ProgramFault.TheVariants.{Usage, Wire, Memory}
 
 -- 2 where the command line isn't one, 3 where a device failed, 5 where memory was wanting
 abbrev pub status_of : ProgramFault → ℕ

@@ -12,9 +12,9 @@ use Rattle.clap.specs.declared.error.Error.{Error}
 use Rattle.clap.specs.declared.error.kind.ErrorKind.TheVariants.{OutOfMemory}
 use Rattle.mpw_geom.specs.Name.{IsName}
 use Rattle.mpw_wire.specs.Digest.{Spells}
-use Rattle.mpw_main.specs.Settings.{GiveNoOptions, IsFaultOf}
-use Rattle.mpw_main.specs.declared.fault.ProgramFault.{ProgramFault}
-use Rattle.mpw_main.specs.declared.settings.Settings.TheVariants.{Script}
+use Rattle.mpw_script.specs.Settings.{GiveNoOptions, IsFaultOf}
+use Rattle.mpw_script.specs.declared.fault.ProgramFault.{ProgramFault}
+use Rattle.mpw_script.specs.declared.settings.Settings.TheVariants.{Script}
 
 find-map : {X Y : Type 0} (f : X → Y) (p : Y → Bool) (xs : List X) → find p (map f xs) ≡ option_map f (find (λ x. p (f x)) xs)
 find-map f p [] = refl
