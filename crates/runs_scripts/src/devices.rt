@@ -104,6 +104,9 @@ fn flushes_of_three() -> usize {
 
 /// Tells how many flushes a counted writer hands on.
 pub fn tell_flushes(rt: &HostRuntime) -> Told<()> {
-    println!(rt; "of 3 flushes a counted writer hands on {}", flushes_of_three())?;
+    println!(rt;
+        "of 3 flushes a counted writer hands on {}",
+        flushes_of_three()
+    )?;
     Ok(())
 }
