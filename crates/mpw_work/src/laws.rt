@@ -1,7 +1,8 @@
 //! Laws of the definitions alone. The contract of each function is the law.
-ghost use Rattle.mpw_work.specs.Laws.{WorkGoesOn};
+ghost use Rattle.mpw_work.specs.Laws.{WorkEnds, WorkGoesOn};
 
 use mpw_core::keepers_have_the_changes_in_order;
+use mpw_run::tests_are_exact;
 
 /// A desk on which a run is worked off goes on by calls, and a keeper whose list is known has just their changes behind
 /// those before, in order.
@@ -9,4 +10,12 @@ pub fn work_goes_on()
     ensures { WorkGoesOn }
 {
     keepers_have_the_changes_in_order();
+}
+
+/// The work behind an accepted `run` goes on until the run is finished, or the desk answers no event of a run any more,
+/// unless memory is wanting.
+pub fn work_ends()
+    ensures { WorkEnds }
+{
+    tests_are_exact();
 }

@@ -5,5 +5,5 @@
 mod laws;
 mod working;
 
-pub use laws::work_goes_on;
+pub use laws::{work_ends, work_goes_on};
 pub use working::work_behind;
