@@ -7,4 +7,5 @@ pub mod Parts
 pub mod Places
 pub mod Signers
 pub mod Signing
+pub mod Started
 pub mod Waived

@@ -1,4 +1,5 @@
 pub mod Apart
+pub mod Clean
 pub mod Questions
 pub mod Secrecy
 pub mod Views

@@ -1,9 +1,10 @@
 //! Laws of the definitions alone. Each function calls at most the laws that its own rests on: its contract is the law.
 ghost use Rattle.mpw_core.specs.History.{state_of};
 ghost use Rattle.mpw_secrecy.specs.Apart.{EveryStateIsSignedApart};
+ghost use Rattle.mpw_secrecy.specs.Clean.{CleanWafersMayStart};
 ghost use Rattle.mpw_secrecy.specs.Secrecy.{EqualViewsAreAnsweredAlike, EqualViewsGiveEqualAnswers, EqualViewsGiveEqualAnswersToLists, EqualViewsGiveEqualListings, EqualViewsGiveEqualLists, EqualViewsStayEqual, ListingsLeaveTheViews};
 
-use mpw_core::{Core, every_state_has_a_place_for_each_marker};
+use mpw_core::{Core, clean_runs_are_signed_off, every_state_has_a_place_for_each_marker};
 use mpw_hier::shelves_have_their_numbers;
 use mpw_markers::places_are_of_their_keys;
 use mpw_signoff::{
@@ -53,4 +54,16 @@ pub fn every_state_is_signed_apart()
     signers_stand_apart();
     waivers_are_left_unless_a_request_is_accepted();
     waivers_are_of_shown_markers();
+}
+
+/// A wafer may start where the verdict of its desk is `clean`, whoever asks: the run is finished, deck and placings are those that it
+/// looked at, its book has just the markers of the flat layout of these, and each of them has a waiver that was signed by one
+/// who neither asked for it nor submitted what the marker meets.
+pub fn clean_wafers_may_start(core: &Core)
+    ensures { CleanWafersMayStart (state_of core.now) }
+{
+    core.run_is_sound();
+    every_state_has_a_place_for_each_marker();
+    every_state_is_signed_apart();
+    clean_runs_are_signed_off();
 }

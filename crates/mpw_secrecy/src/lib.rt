@@ -11,12 +11,12 @@
 //! the requests of all users.
 //!
 //! A second law is of every state of a desk: a waiver that is signed was signed by one who neither asked for it nor submitted what
-//! its marker meets.
+//! its marker meets. A third is of the verdict: a wafer that is told to be clean may start ([`clean_wafers_may_start`]).
 #![tactic(auto)]
 
 mod laws;
 
 pub use laws::{
-    desks_of_equal_views_answer_alike, equal_views_give_equal_answers,
+    clean_wafers_may_start, desks_of_equal_views_answer_alike, equal_views_give_equal_answers,
     equal_views_give_equal_listings, every_state_is_signed_apart,
 };
