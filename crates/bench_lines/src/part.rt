@@ -1,0 +1,38 @@
+//! The lines of a connection, and its replies.
+
+use std::alloc::{AllocError, Global};
+
+/// The lines of a connection.
+#[derive(Drop)]
+pub struct Part {
+    pub name: String,
+    pub text: String,
+    pub lines: usize,
+}
+
+impl Part {
+    /// A connection without lines.
+    pub fn new(alloc: Global, name: &str) -> Result<Part, AllocError> {
+        Ok(Part {
+            name: String::from_str(alloc, name)?,
+            text: String::new(alloc),
+            lines: 0,
+        })
+    }
+
+    /// One line more.
+    pub fn push(&mut self, line: &str) -> Result<(), AllocError> {
+        self.text.push_str(line)?;
+        self.text.push_str("\n")?;
+        self.lines = self.lines.saturating_add(1);
+        Ok(())
+    }
+}
+
+/// How many of the replies' lines begin as those of accepted requests do.
+pub fn accepted(replies: &[u8]) -> usize {
+    replies
+        .split(|byte: &u8| -> bool { *byte == b'\n' })
+        .filter(|line: &&[u8]| -> bool { line.starts_with(b"OK ") })
+        .count()
+}
