@@ -1,11 +1,11 @@
 -- Answers in their places.
-use Rattle.std.proofs.Common.{◌≡◌, ℕ, ◌+◌, ◌<◌, ◌≤◌, pos, List, [], ◌∷◌, ◌++◌, length, get_or, take, drop, ◌⊎◌, inl, inr, refl, sym, subst, ap, ◌∙◌, arith, get_or-set_same, get_or-set_other}
+use Rattle.std.proofs.Common.{◌≡◌, ℕ, ◌+◌, ◌<◌, ◌≤◌, pos, List, [], ◌∷◌, ◌++◌, length, get_or, take, ◌⊎◌, inl, inr, refl, sym, subst, ap, ◌∙◌, arith, get_or-set_same, get_or-set_other}
 use Rattle.std.specs.Prelude.{Contains, All, ◌↔◌, slice_set}
 use Rattle.std.specs.List.Sorted.{IsPermutation}
 use Rattle.std.proofs.lemmas.Int.{ints}
 use Rattle.std.proofs.lemmas.List.Sorted.{Contains-permutation, IsPermutation-sym}
 use Rattle.std.proofs.lemmas.Bool.{cases_eq}
-use Rattle.std.proofs.lemmas.List.{take_more, take_all, take-append-drop, get_or_default}
+use Rattle.std.proofs.lemmas.List.{take_more, take_all, get_or_default}
 use Rattle.std.proofs.lemmas.List.Elements.{Contains-get_or, Contains-append_left, Contains-append_right, Contains-append_cases, Contains-push, Contains-push_cases}
 use Rattle.std.proofs.Math.ListN.{length-set}
 use Rattle.mpw_geom.specs.declared.plane.Box2.{Box2}
@@ -152,17 +152,17 @@ Fills-more common rectangles items n a b c l f g =
 pub can_at : (count now : ℕ) (items : List Item) (n : ℕ) → n < length items → now ≡ count → CanBeFilled count items → (get_or items n no_item).place < now
 can_at count now items n l e can = let c = (can (get_or items n no_item) (Contains-get_or items n no_item l)).0 in omega (arith, c)
 
-pub halves_are : (items ordered seen low high a b : List Item) (n : ℕ) → IsPermutation items ordered → seen ≡ ordered → low ≡ take n seen → high ≡ drop n seen → a ≡ low → b ≡ high → (i : Item) → Contains items i ↔ (Contains a i ⊎ Contains b i)
-halves_are items ordered seen low high a b n p e f g h k i = (to, from)
+pub halves_are : (items low high a b : List Item) (median : Item) → IsPermutation items (low ++ median ∷ high) → a ≡ low → b ≡ median ∷ high → (i : Item) → Contains items i ↔ (Contains a i ⊎ Contains b i)
+halves_are items low high a b median p h k i = (to, from)
   where
-    whole : a ++ b ≡ ordered
-    whole = ap (λ (xs : List Item). xs ++ b) (h ∙ f) ∙ ap (λ (xs : List Item). take n seen ++ xs) (k ∙ g) ∙ take-append-drop n seen ∙ e
+    whole : a ++ b ≡ low ++ median ∷ high
+    whole = rw (h, k) refl
 
     to : Contains items i → Contains a i ⊎ Contains b i
-    to c = Contains-append_cases a b i (subst (λ (xs : List Item). Contains xs i) (sym whole) (Contains-permutation items ordered i p c))
+    to c = Contains-append_cases a b i (subst (λ (xs : List Item). Contains xs i) (sym whole) (Contains-permutation items (low ++ median ∷ high) i p c))
 
     back : Contains (a ++ b) i → Contains items i
-    back c = Contains-permutation ordered items i (IsPermutation-sym items ordered p) (subst (λ (xs : List Item). Contains xs i) whole c)
+    back c = Contains-permutation (low ++ median ∷ high) items i (IsPermutation-sym items (low ++ median ∷ high) p) (subst (λ (xs : List Item). Contains xs i) whole c)
 
     from : Contains a i ⊎ Contains b i → Contains items i
     from (inl c) = back (Contains-append_left a b i c)

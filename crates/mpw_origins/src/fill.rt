@@ -1,10 +1,10 @@
 //! Boxes that are halved, and each part answered by itself.
 //!
-//! A part of the boxes is ordered along the longer side of the box around it and divided in the middle. Rectangles
+//! A part of the boxes is divided at its median along the longer side of the box around it. Rectangles
 //! that meet no box of a part are left out, and of those around all of it only the origins stay. So a rectangle is
 //! looked at where its border passes: an edge along an axis passes about the square root of the parts.
 
-ghost use Rattle.std.specs.Prelude.{◌≡◌, ◌↔◌, ◌⊎◌, ◌<◌, [], ◌∷◌, length, All, Contains, IfOk, OnOk};
+ghost use Rattle.std.specs.Prelude.{◌≡◌, ◌↔◌, ◌⊎◌, ◌<◌, [], ◌∷◌, ◌++◌, length, All, Contains, IfOk, OnOk};
 ghost use Rattle.std.specs.List.Sorted.{IsPermutation};
 ghost use Rattle.mpw_geom.specs.Plane.{IsOrdered, HasArea};
 ghost use Rattle.mpw_origins.specs.declared.search.Item.{Item as ItemValue};
@@ -55,17 +55,20 @@ fn fill_each(
     Ok(())
 }
 
-/// The items along one side of the box around them.
-fn in_order(items: Vec<Item>, around: &Box2) -> Vec<Item>
-    ensures { IsPermutation items.items result.items }
+/// The items below a median along one side of the box around them, it, and the others.
+fn divided<'a>(
+    items: &'a mut [Item],
+    around: &Box2,
+) -> (&'a mut [Item], &'a mut Item, &'a mut [Item])
+    requires { 0 < length items.old }
+    ensures { IsPermutation items.old (result.0.now ++ result.1.now ∷ result.2.now) }
 {
-    let mut items = items;
+    let middle = items.len() / 2;
     if around.x1.abs_diff(around.x0) >= around.y1.abs_diff(around.y0) {
-        items.sort_unstable_by_key(|item| item.area.x0);
+        items.select_nth_unstable_by_key(middle, |item| item.area.x0)
     } else {
-        items.sort_unstable_by_key(|item| item.area.y0);
+        items.select_nth_unstable_by_key(middle, |item| item.area.y0)
     }
-    items
 }
 
 /// The items in two halves, along one side of the box around them.
@@ -74,12 +77,17 @@ fn halves(
     items: Vec<Item>,
     around: &Box2,
 ) -> Result<(Vec<Item>, Vec<Item>), AllocError>
+    requires { 0 < length items.items }
     ensures { IfOk result (λ r. (i : ItemValue) →
         Contains items.items i ↔ (Contains r.0.items i ⊎ Contains r.1.items i)) }
 {
-    let items = in_order(items, around);
-    let (low, high) = items.as_slice().split_at(items.len() / 2);
-    Ok((Vec::from_slice(alloc, low)?, Vec::from_slice(alloc, high)?))
+    let mut items = items;
+    let (low, median, high) = divided(items.as_mut_slice(), around);
+    let low = Vec::from_slice(alloc, low)?;
+    let mut rest = Vec::with_capacity(alloc, high.len().saturating_add(1))?;
+    rest.push(*median)?;
+    rest.extend_from_slice(high)?;
+    Ok((low, rest))
 }
 
 /// Puts the answer of each box in its place, dividing them at most `depth` times.
@@ -130,7 +138,7 @@ fn none(alloc: Global, count: usize) -> Result<Vec<Met>, AllocError>
 /// For each closed box the origins of the rectangles of which a closed unit square shares a point with it, ascending,
 /// each once, in the order of the boxes.
 ///
-/// For `n` boxes and `m` rectangles the cost is about `n log n` for each halving, a test a rectangle for each part of the
+/// For `n` boxes and `m` rectangles the cost is about `n` for the halvings of each depth, a test a rectangle for each part of the
 /// boxes that its border passes, and a sort of what is answered for each box. On even input that is `(n + m) log n`. A
 /// rectangle across all boxes is looked at in about the square root of `n` parts; boxes that all lie on one another
 /// cannot be told apart, and then each is tested with each rectangle whose border passes them.

@@ -1,6 +1,18 @@
+use Rattle.std.proofs.Common.{◌≡◌, List, [], ◌∷◌, ◌++◌, subst, ap, ◌∙◌}
+use Rattle.std.specs.List.Sorted.{IsPermutation}
+use Rattle.mpw_origins.specs.declared.search.Item.{Item}
 use Rattle.mpw_origins.proofs.fill.halves.Goals as goal
 use Rattle.mpw_origins.proofs.Filled.{halves_are}
 
 pub returns : goal.returns
 returns c =
-    halves_are c.args.items.items c.in_order-items.result.items c.as_slice.result.now c.split_at.result.0.now c.split_at.result.1.now c.in_ok-from_slice.field-0.items c.in_ok-from_slice-2.field-0.items _ c.in_order-items.ensures c.as_slice.ensures.value c.split_at.ensures.front c.split_at.ensures.back c.in_ok-from_slice.ensures.items c.in_ok-from_slice-2.ensures.items
+    let low : List Item = c.divided-low.result.0.now in
+    let median : Item = c.divided-low.result.1.now in
+    let high : List Item = c.divided-low.result.2.now in
+    let before : List Item = c.in_ok-rest.rest.items in
+    let one : before ++ median ∷ [] ≡ median ∷ [] = ap (λ (xs : List Item). xs ++ median ∷ []) c.in_ok-rest.ensures.items in
+    let pushed = c.in_ok-push.ensures.items ∙ one in
+    halves_are c.args.items.items low high c.in_ok-low.low.items c.extend_from_slice.new.self.items median
+    (subst (λ (xs : List Item). IsPermutation xs (low ++ median ∷ high)) c.as_mut_slice.ensures.value c.divided-low.ensures)
+    c.in_ok-low.ensures.items
+    (c.in_ok-extend_from_slice.ensures.items ∙ ap (λ (xs : List Item). xs ++ high) pushed)
