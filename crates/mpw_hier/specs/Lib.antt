@@ -17,4 +17,5 @@ pub mod SizeParts
 pub mod Reach
 pub mod Shelved
 pub mod Holding
+pub mod Placed
 pub mod Named

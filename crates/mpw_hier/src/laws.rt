@@ -8,6 +8,7 @@ ghost use Rattle.mpw_hier.specs.declared.submission.Submission.{Submission};
 ghost use Rattle.mpw_hier.specs.Values.{flats};
 ghost use Rattle.mpw_hier.specs.Named.{OwnNamesAreShown, OuterNamesAreShown, LastNodesAreTops, OwnNamesAreListed, OuterNamesAreListed, TopsAreListed};
 ghost use Rattle.mpw_hier.specs.Holding.{ExtentsAreOrdered, ExtentsHoldItems, ExtentsAreLeast, ExtentsAreJoined, ExtentsArePlaced};
+ghost use Rattle.mpw_hier.specs.Placed.{BoxesArePlacedAgain, UnmovedShapesHaveTheirBoxes};
 ghost use Rattle.mpw_hier.specs.Shelved.{PresentAreOfTheirCell, LastIsPresent, ShapesAreOfEarlier, ShelvesAreLimited, EarlierStay};
 
 /// The tests that compute tell what the relations say: of cycles below a top, of the names outside a library, of which
@@ -41,6 +42,13 @@ pub fn extents_are_least_boxes()
     ensures least { ExtentsAreLeast }
     ensures joined { ExtentsAreJoined }
     ensures placed { ExtentsArePlaced }
+{}
+
+/// A box that is placed twice is placed by the placing that is the one and then the other, as a shape is. A shape that
+/// is neither turned nor moved has the box of its element.
+pub fn boxes_are_placed()
+    ensures again { BoxesArePlacedAgain }
+    ensures unmoved { UnmovedShapesHaveTheirBoxes }
 {}
 
 /// A name of a submission's library shows what its structure does from the names to which it refers, and its node has the size

@@ -30,7 +30,7 @@ mod table;
 pub use bindings::{Binding, Bindings};
 pub use fault::HierFault;
 pub use laws::{
-    earlier_submissions_stay, extents_are_least_boxes, names_list_their_targets,
+    boxes_are_placed, earlier_submissions_stay, extents_are_least_boxes, names_list_their_targets,
     names_show_their_targets, reaching_is_decided, shelves_have_their_numbers,
 };
 pub use node::{Child, Node, Nodes, Target};

@@ -1,0 +1,25 @@
+-- Boxes that are placed: one placing behind another, and none.
+use Rattle.std.specs.Prelude.{◌≡◌, ℕ, pos}
+use Rattle.mpw_geom.specs.declared.plane.Box2.{Box2}
+use Rattle.mpw_geom.specs.declared.plane.Orient.TheVariants.{R0}
+use Rattle.mpw_geom.specs.declared.placing.Placing.{Placing}
+use Rattle.mpw_elements.specs.declared.element.Element.{Element}
+use Rattle.mpw_hier.specs.Items.{placed_again}
+use Rattle.mpw_hier.specs.Boxes.{placed_box, element_box, item_box}
+
+-- A placing and then another take a box where the two of them in one take it.
+abbrev pub BoxesArePlacedAgain : Type 0
+BoxesArePlacedAgain =
+    (t u : Placing) (b : Box2)
+    → placed_box (placed_again t u) b ≡ placed_box t (placed_box u b)
+
+-- A shape that is neither turned nor moved has the box of its element.
+abbrev pub UnmovedShapesHaveTheirBoxes : Type 0
+UnmovedShapesHaveTheirBoxes =
+    (number : ℕ) (e : Element)
+    → item_box (record {
+      origin = number;
+      placing = record { orient = R0; by = record { x = pos 0; y = pos 0 } };
+      element = e;
+    })
+    ≡ element_box e
