@@ -19,13 +19,14 @@ max_comm : (a b : ℤ) → int_max a b ≡ int_max b a
 max_comm a b = omega (arith, ints, clamps)
 
 joined_assoc : (a b c : Box2) → joined (joined a b) c ≡ joined a (joined b c)
-joined_assoc a b c = same_box _ _ (min_assoc a.x0 b.x0 c.x0) (min_assoc a.y0 b.y0 c.y0) (max_assoc a.x1 b.x1 c.x1) (max_assoc a.y1 b.y1 c.y1)
+joined_assoc a b c =
+    same_box _ _ (min_assoc a.x0 b.x0 c.x0) (min_assoc a.y0 b.y0 c.y0)
+    (max_assoc a.x1 b.x1 c.x1) (max_assoc a.y1 b.y1 c.y1)
 
 joined_comm : (a b : Box2) → joined a b ≡ joined b a
-joined_comm a b = same_box _ _ (min_comm a.x0 b.x0) (min_comm a.y0 b.y0) (max_comm a.x1 b.x1) (max_comm a.y1 b.y1)
-
-pub joined_self : (b : Box2) → joined b b ≡ b
-joined_self b = same_box _ _ (omega (arith, ints, clamps)) (omega (arith, ints, clamps)) (omega (arith, ints, clamps)) (omega (arith, ints, clamps))
+joined_comm a b =
+    same_box _ _ (min_comm a.x0 b.x0) (min_comm a.y0 b.y0) (max_comm a.x1 b.x1)
+    (max_comm a.y1 b.y1)
 
 pub hull_assoc : (a b c : Option Box2) → hull (hull a b) c ≡ hull a (hull b c)
 hull_assoc None b c = refl
@@ -45,8 +46,11 @@ hull_none (Some a) = refl
 
 -- the second before the first and the third
 pub hull_swap : (a b c : Option Box2) → hull a (hull b c) ≡ hull b (hull a c)
-hull_swap a b c = sym (hull_assoc a b c) ∙ ap (λ o. hull o c) (hull_comm a b) ∙ hull_assoc b a c
+hull_swap a b c =
+    sym (hull_assoc a b c) ∙ ap (λ o. hull o c) (hull_comm a b) ∙ hull_assoc b a c
 
 -- what a sum, a least or a greatest of numbers that fit is, as code shows it
-pub fitting : (f : ℤ → ℤ → ℤ) (a b r : ℤ) → SFits w64 a → SFits w64 b → SFits w64 r → r ≡ f (to_z w64 (of_z w64 a)) (to_z w64 (of_z w64 b)) → to_z w64 (of_z w64 r) ≡ f a b
-fitting f a b r h k m e = rw (to_z-of_z w64 r m, e, to_z-of_z w64 a h, to_z-of_z w64 b k) refl
+pub fitting : (f : ℤ → ℤ → ℤ) (a b r : ℤ) → SFits w64 a → SFits w64 b → SFits w64 r
+    → r ≡ f (to_z w64 (of_z w64 a)) (to_z w64 (of_z w64 b)) → to_z w64 (of_z w64 r) ≡ f a b
+fitting f a b r h k m e =
+    rw (to_z-of_z w64 r m, e, to_z-of_z w64 a h, to_z-of_z w64 b k) refl

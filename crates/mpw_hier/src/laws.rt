@@ -44,8 +44,8 @@ pub fn extents_are_least_boxes()
     ensures placed { ExtentsArePlaced }
 {}
 
-/// A box that is placed twice is placed by the placing that is the one and then the other, as a shape is. A shape that
-/// is neither turned nor moved has the box of its element.
+/// A box that is placed twice is placed by the placing that is the one and then the other, as a
+/// shape is. A shape that is neither turned nor moved has the box of its element.
 pub fn boxes_are_placed()
     ensures again { BoxesArePlacedAgain }
     ensures unmoved { UnmovedShapesHaveTheirBoxes }
