@@ -83,7 +83,7 @@ module _ (law : NamesAreWalked) (window : Option Box2) (ss : List Submission) (r
         → turns_to_come ss f
         ≡ enter extent_there ∷ map (placed_turn placing) (named_turns ss f.submission r.name)
         ++ turns_to_come ss (behind_instance f r)
-    next_turns over = instance_next ss f last.0 target r x over some_turns
+    next_turns over = instance_next law.extents.again ss f last.0 target r x over some_turns
 
     placing_short : length f.node.now.shapes.items ≤ f.shape → (g : Frame)
         → ShowsName ss f.submission (λ _. r.name) g → IsWithin placing.by
@@ -256,8 +256,9 @@ module _ (law : NamesAreWalked) (window : Option Box2) (ss : List Submission) (r
           let rest = left_of ss roots root (frames ++ behind ∷ []) in
           let none : taken window (enter extent_there ∷ shown) ≡ [] =
           taken_out window (enter extent_there) shown missed
-          ∙ missed_taken window placing names
-          (named_holds ss f.submission last.0.submission last.0.is r.name) missed in
+          ∙ missed_taken law.extents window placing names
+          (named_holds law.extents.placed ss f.submission last.0.submission last.0.is r.name)
+          missed in
           ap (taken window) missed_left ∙ taken_append window (enter extent_there ∷ shown) rest
           ∙ ap (λ turns. turns ++ taken window rest) none
 

@@ -238,7 +238,8 @@ module _ (law : NamesAreWalked) (window : Option Box2) (ss : List Submission) (r
           let rest = left_of ss roots (root + 1) [] in
           let none : taken window (enter root_there ∷ shown) ≡ [] =
           taken_out window (enter root_there) shown missed
-          ∙ missed_taken window r.placing names (number_holds ss r.submission) missed in
+          ∙ missed_taken law.extents window r.placing names
+          (number_holds law.extents.placed ss r.submission) missed in
           ap (taken window) missed_root ∙ taken_append window (enter root_there ∷ shown) rest
           ∙ ap (λ turns. turns ++ taken window rest) none
 

@@ -1,148 +1,244 @@
 -- What a turn enters or gives lies in the extent of the whole.
-use Rattle.std.proofs.Common.{◌≡◌, ℕ, List, [], ◌∷◌, ◌++◌, length, map, take, Option, Some, None, refl, sym, ap, subst, ◌∙◌}
-use Rattle.std.specs.Prelude.{All, slice_get, option_map}
+use Rattle.std.proofs.Common.{◌≡◌, ℕ, List, [], ◌∷◌, ◌++◌, length, map, take, Option, Some, None, refl, sym, ap, subst, ◌∙◌, append-nil, append_assoc}
+use Rattle.std.specs.Prelude.{All, IfSome, slice_get, option_map}
 use Rattle.std.specs.List.{flat_map}
+use Rattle.std.proofs.lemmas.List.{map-append}
 use Rattle.std.proofs.lemmas.List.Elements.{All-nil, All-cons, All-append, All-map, All-weaker}
 use Rattle.mpw_geom.specs.declared.plane.Box2.{Box2}
 use Rattle.mpw_geom.specs.declared.placing.Placing.{Placing}
+use Rattle.mpw_geom.specs.Plane.{IsOrdered}
 use Rattle.mpw_elements.specs.declared.element.Reference.{Reference}
 use Rattle.mpw_library.specs.declared.structures.Structure.{Structure}
 use Rattle.mpw_hier.specs.declared.submission.Submission.{Submission}
 use Rattle.mpw_hier.specs.Structures.{references}
-use Rattle.mpw_hier.specs.Items.{Item, own_items, instances}
+use Rattle.mpw_hier.specs.Items.{Item, own_items, placed_item, instances}
 use Rattle.mpw_hier.specs.Levels.{levels_of}
-use Rattle.mpw_hier.specs.Boxes.{hull, placed_box, element_box, item_box, extent_of}
+use Rattle.mpw_hier.specs.Boxes.{hull, placed_box, item_box, extent_of}
+use Rattle.mpw_hier.specs.Holding.{IsHeld, ExtentsArePlaced}
 use Rattle.mpw_hier.specs.Values.{at_number, bound_number}
-use Rattle.mpw_hier.proofs.Hulls.{joined_self, hull_assoc, hull_swap, hull_none}
-use Rattle.mpw_hier.proofs.Placings.{placed_ordered, placed_joined}
-use Rattle.mpw_hier.proofs.Extents.{AreOrdered, extent_ordered, extent_append, extent_placed}
 use Rattle.mpw_walk.specs.Turns.{Turn, enter, give, given, placed_turn, entered, placed_turns, shown_turns, structure_turns, submission_turns, all_turns, turns_of}
+use Rattle.mpw_walk.specs.Extents.{ExtentsAreWalked}
 use Rattle.mpw_walk.specs.Frames.{named_turns}
 use Rattle.mpw_walk.specs.Window.{turn_box}
 use Rattle.mpw_walk.proofs.Entered.{named_is}
 use Rattle.mpw_walk.proofs.Given.{given_append, given_placed}
-use Rattle.mpw_walk.proofs.Placings.{again_some}
+use Rattle.mpw_walk.proofs.Reach.{all_left, all_right}
 use Rattle.mpw_walk.proofs.Related.{Related, none, related_at, numbers_related, levels_related, firsts_related}
 
--- ---- boxes in boxes
+-- ---- items in a row
 
--- a box, if there is one, adds nothing to another
-pub record IsHeldIn (inner outer : Option Box2) : Type 0 where
-  pub ordered : AreOrdered inner
-  pub within : hull inner outer ≡ outer
+-- a box is the extent of some of the items, one behind another
+pub record IsPart (box : Option Box2) (items : List Item) : Type 0 where
+  pub before : List Item
+  pub shown : List Item
+  pub behind : List Item
+  pub whole : items ≡ before ++ (shown ++ behind)
+  pub extent : box ≡ extent_of shown
 
-hull_self : (o : Option Box2) → hull o o ≡ o
-hull_self None = refl
-hull_self (Some b) = ap Some (joined_self b)
-
-held_self : (o : Option Box2) → AreOrdered o → IsHeldIn o o
-held_self o h = record { ordered = h; within = hull_self o }
-
-held_first : (a x y : Option Box2) → IsHeldIn a x → IsHeldIn a (hull x y)
-held_first a x y h = record { ordered = h.ordered; within = sym (hull_assoc a x y) ∙ ap (λ o. hull o y) h.within }
-
-held_second : (a x y : Option Box2) → IsHeldIn a y → IsHeldIn a (hull x y)
-held_second a x y h = record { ordered = h.ordered; within = hull_swap a x y ∙ ap (hull x) h.within }
-
-placed_is_ordered : (t : Placing) (o : Option Box2) → AreOrdered (option_map (placed_box t) o)
-placed_is_ordered t None = tt
-placed_is_ordered t (Some b) = placed_ordered t b
-
-placed_hull : (t : Placing) (a b : Option Box2) → AreOrdered a → AreOrdered b → option_map (placed_box t) (hull a b) ≡ hull (option_map (placed_box t) a) (option_map (placed_box t) b)
-placed_hull t None b h k = refl
-placed_hull t (Some a) None h k = refl
-placed_hull t (Some a) (Some b) h k = ap Some (placed_joined t a b h k)
-
-held_placed : (t : Placing) (a b : Option Box2) → AreOrdered b → IsHeldIn a b → IsHeldIn (option_map (placed_box t) a) (option_map (placed_box t) b)
-held_placed t a b k h = record {
-  ordered = placed_is_ordered t a;
-  within = sym (placed_hull t a b h.ordered k) ∙ ap (option_map (placed_box t)) h.within;
+part_all : (items : List Item) → IsPart (extent_of items) items
+part_all items = record {
+  before = [];
+  shown = items;
+  behind = [];
+  whole = sym (append-nil items);
+  extent = refl;
 }
 
-pub placed_turn_box : (t : Placing) (turn : Turn) → turn_box (placed_turn t turn) ≡ option_map (placed_box t) (turn_box turn)
-placed_turn_box t (enter e) = refl
-placed_turn_box t (give i) = again_some t i.placing (element_box i.element)
+part_first : (box : Option Box2) (xs ys : List Item) → IsPart box xs → IsPart box (xs ++ ys)
+part_first box xs ys h = record {
+  before = h.before;
+  shown = h.shown;
+  behind = h.behind ++ ys;
+  whole =
+      ap (λ items. items ++ ys) h.whole ∙ append_assoc h.before (h.shown ++ h.behind) ys
+      ∙ ap (λ items. h.before ++ items) (append_assoc h.shown h.behind ys);
+  extent = h.extent;
+}
+
+part_second : (box : Option Box2) (xs ys : List Item) → IsPart box ys → IsPart box (xs ++ ys)
+part_second box xs ys h = record {
+  before = xs ++ h.before;
+  shown = h.shown;
+  behind = h.behind;
+  whole =
+      ap (λ items. xs ++ items) h.whole ∙ sym (append_assoc xs h.before (h.shown ++ h.behind));
+  extent = h.extent;
+}
+
+one_extent : (i : Item) → extent_of (i ∷ []) ≡ item_box i
+unfolding extent_of
+one_extent i = go (item_box i)
+  where
+    go : (o : Option Box2) → hull o None ≡ o
+    go None = refl
+    go (Some b) = refl
+
+part_one : (i : Item) → IsPart (item_box i) (i ∷ [])
+part_one i = record {
+  before = [];
+  shown = i ∷ [];
+  behind = [];
+  whole = refl;
+  extent = sym (one_extent i);
+}
 
 -- ---- lists of turns
 
-abbrev pub Holds : List Turn → Type 0
-Holds turns = All (λ turn. IsHeldIn (turn_box turn) (extent_of (given turns))) turns
+abbrev In : List Item → Turn → Type 0
+In items turn = IsPart (turn_box turn) items
 
-abbrev In : Option Box2 → Turn → Type 0
-In outer turn = IsHeldIn (turn_box turn) outer
+-- each turn's box is the extent of some of what all of them give
+abbrev pub Holds : List Turn → Type 0
+Holds turns = All (In (given turns)) turns
 
 holds_nil : Holds []
-holds_nil = All-nil (In (extent_of []))
+holds_nil = All-nil (In [])
 
 holds_append : (a b : List Turn) → Holds a → Holds b → Holds (a ++ b)
 holds_append a b h k =
-    let x = extent_of (given a) in
-    let y = extent_of (given b) in
-    let whole : extent_of (given (a ++ b)) ≡ hull x y = ap extent_of (given_append a b) ∙ extent_append (given a) (given b) in
-    subst (λ o. All (In o) (a ++ b)) (sym whole) (All-append (In (hull x y)) a b (All-weaker (In x) (In (hull x y)) (λ turn h. held_first (turn_box turn) x y h) a h) (All-weaker (In y) (In (hull x y)) (λ turn h. held_second (turn_box turn) x y h) b k))
+    let x = given a in
+    let y = given b in
+    let first =
+    All-weaker (In x) (In (x ++ y)) (λ turn h. part_first (turn_box turn) x y h) a h in
+    let second =
+    All-weaker (In y) (In (x ++ y)) (λ turn h. part_second (turn_box turn) x y h) b k in
+    subst (λ items. All (In items) (a ++ b)) (sym (given_append a b))
+    (All-append (In (x ++ y)) a b first second)
 
-holds_flat : {X : Type 0} (f : X → List Turn) (xs : List X) → ((x : X) → Holds (f x)) → Holds (flat_map f xs)
+holds_flat : {X : Type 0} (f : X → List Turn) (xs : List X) → ((x : X) → Holds (f x))
+    → Holds (flat_map f xs)
 holds_flat f [] h = holds_nil
 holds_flat f (x ∷ xs) h = holds_append (f x) (flat_map f xs) (h x) (holds_flat f xs h)
 
-pub holds_placed : (t : Placing) (a : List Turn) → Holds a → Holds (map (placed_turn t) a)
-holds_placed t a h =
-    let x = extent_of (given a) in
-    let there = option_map (placed_box t) x in
-    let whole : extent_of (given (map (placed_turn t) a)) ≡ there = ap extent_of (given_placed t a) ∙ extent_placed t (given a) in
-    let each : All (λ turn. In there (placed_turn t turn)) a = All-weaker (In x) (λ turn. In there (placed_turn t turn)) (λ turn h. subst (λ o. IsHeldIn o there) (sym (placed_turn_box t turn)) (held_placed t (turn_box turn) x (extent_ordered (given a)) h)) a h in
-    subst (λ o. All (In o) (map (placed_turn t) a)) (sym whole) (All-map (In there) (placed_turn t) a each)
-
 -- what is entered is the whole
-pub holds_enter : (a : List Turn) → Holds a → Holds (enter (extent_of (given a)) ∷ a)
+holds_enter : (a : List Turn) → Holds a → Holds (enter (extent_of (given a)) ∷ a)
 holds_enter a h =
-    All-cons (In (extent_of (given a))) (enter (extent_of (given a))) a (held_self (extent_of (given a)) (extent_ordered (given a))) h
-
-holds_entered : (a : List Turn) (t : Placing) → Holds a → Holds (entered a t)
-holds_entered [] t h = holds_nil
-holds_entered (turn ∷ turns) t h =
-    holds_placed t (enter (extent_of (given (turn ∷ turns))) ∷ turn ∷ turns) (holds_enter (turn ∷ turns) h)
+    All-cons (In (given a)) (enter (extent_of (given a))) a (part_all (given a)) h
 
 holds_give : (items : List Item) → Holds (map give items)
-unfolding extent_of
 holds_give [] = holds_nil
 holds_give (i ∷ items) =
-    let box = item_box i in
-    let one : Holds (give i ∷ []) = All-cons (In (hull box None)) (give i) [] (subst (IsHeldIn box) (sym (hull_none box)) (held_self box (placed_is_ordered i.placing (element_box i.element)))) (All-nil (In (hull box None))) in
+    let one : Holds (give i ∷ []) =
+    All-cons (In (i ∷ [])) (give i) [] (part_one i) (All-nil (In (i ∷ []))) in
     holds_append (give i ∷ []) (map give items) one (holds_give items)
 
--- ---- submissions
+-- ---- what is placed
 
--- the first of three lists, as lemmas on what is shown have it
-abbrev AreHeld : List Turn → List Turn → List Turn → Type 0
-AreHeld a b c = Holds a
+module _ (placed : ExtentsArePlaced) where
+  item_placed : (t : Placing) (i : Item)
+      → item_box (placed_item t i) ≡ option_map (placed_box t) (item_box i)
+  item_placed t i =
+      sym (one_extent (placed_item t i)) ∙ placed t (i ∷ [])
+      ∙ ap (option_map (placed_box t)) (one_extent i)
 
-holds_shown : (n : ℕ) (s : Structure) (below : List ℕ → List Turn) → ((target : List ℕ) → Holds (below target)) → Holds (shown_turns n s below)
-holds_shown n s below down =
-    holds_append (map give (own_items n s.elements)) _ (holds_give (own_items n s.elements)) (holds_flat (λ (r : Reference). placed_turns r (below r.name)) (references s.elements) (λ r. holds_flat (entered (below r.name)) (instances r) (λ t. holds_entered (below r.name) t (down r.name))))
+  turn_placed : (t : Placing) (turn : Turn)
+      → turn_box (placed_turn t turn) ≡ option_map (placed_box t) (turn_box turn)
+  turn_placed t (enter e) = refl
+  turn_placed t (give i) = item_placed t i
 
-names_held : (xs ys zs : List (List Turn)) (s : Submission) → Related AreHeld xs ys zs → (name : List ℕ) → AreHeld (structure_turns xs s name) (structure_turns ys s name) (structure_turns zs s name)
-names_held xs ys zs s r name =
-    levels_related AreHeld (shown_turns (length xs)) (shown_turns (length ys))
-    (shown_turns (length zs)) [] [] [] (λ outside. at_number [] xs (bound_number s.bound outside))
-    (λ outside. at_number [] ys (bound_number s.bound outside))
-    (λ outside. at_number [] zs (bound_number s.bound outside))
-    (λ t x y z down. holds_shown (length xs) t x down) holds_nil
-    (λ outside. numbers_related AreHeld xs ys zs [] [] [] holds_nil r
-    (bound_number s.bound outside)) (levels_of s.library) s.library name
+  part_placed : (t : Placing) (turn : Turn) (items : List Item) → In items turn
+      → In (map (placed_item t) items) (placed_turn t turn)
+  part_placed t turn items h =
+      let there = map (placed_item t) in record {
+        before = there h.before;
+        shown = there h.shown;
+        behind = there h.behind;
+        whole =
+            ap there h.whole ∙ map-append (placed_item t) h.before (h.shown ++ h.behind)
+            ∙ ap (λ items. there h.before ++ items)
+            (map-append (placed_item t) h.shown h.behind);
+        extent =
+            turn_placed t turn ∙ ap (option_map (placed_box t)) h.extent
+            ∙ sym (placed t h.shown);
+      }
 
-all_held : (ss : List Submission) → Related AreHeld (all_turns ss) (all_turns ss) (all_turns ss)
-unfolding all_turns
-all_held ss =
-    firsts_related AreHeld submission_turns submission_turns submission_turns (λ xs ys zs s r. names_held xs ys zs s r s.top) [] [] [] none ss
+  pub holds_placed : (t : Placing) (a : List Turn) → Holds a → Holds (map (placed_turn t) a)
+  holds_placed t a h =
+      let x = given a in
+      let there = In (map (placed_item t) x) in
+      let each : All (λ turn. there (placed_turn t turn)) a =
+      All-weaker (In x) (λ turn. there (placed_turn t turn)) (λ turn h. part_placed t turn x h)
+      a h in
+      subst (λ items. All (In items) (map (placed_turn t) a)) (sym (given_placed t a))
+      (All-map there (placed_turn t) a each)
 
-pub structure_holds : (ss : List Submission) (s : Submission) (name : List ℕ) → Holds (structure_turns (all_turns ss) s name)
-structure_holds ss s name =
-    names_held (all_turns ss) (all_turns ss) (all_turns ss) s (all_held ss) name
+  holds_entered : (a : List Turn) (t : Placing) → Holds a → Holds (entered a t)
+  holds_entered [] t h = holds_nil
+  holds_entered (turn ∷ turns) t h =
+      holds_placed t (enter (extent_of (given (turn ∷ turns))) ∷ turn ∷ turns)
+      (holds_enter (turn ∷ turns) h)
 
-pub number_holds : (ss : List Submission) (number : ℕ) → Holds (turns_of ss number)
-number_holds ss number = related_at (all_held ss) [] [] [] holds_nil number
+  -- ---- submissions
 
-pub named_holds : (ss : List Submission) (n : ℕ) (s : Submission) → slice_get ss n ≡ Some s → (name : List ℕ) → Holds (named_turns ss n name)
-named_holds ss n s is name =
-    subst Holds (sym (named_is ss n s is name)) (structure_holds (take n ss) s name)
+  -- the first of three lists, as lemmas on what is shown have it
+  abbrev AreHeld : List Turn → List Turn → List Turn → Type 0
+  AreHeld a b c = Holds a
+
+  holds_shown : (n : ℕ) (s : Structure) (below : List ℕ → List Turn)
+      → ((target : List ℕ) → Holds (below target)) → Holds (shown_turns n s below)
+  holds_shown n s below down =
+      holds_append (map give (own_items n s.elements)) _ (holds_give (own_items n s.elements))
+      (holds_flat (λ (r : Reference). placed_turns r (below r.name)) (references s.elements)
+      (λ r. holds_flat (entered (below r.name)) (instances r)
+      (λ t. holds_entered (below r.name) t (down r.name))))
+
+  names_held : (xs ys zs : List (List Turn)) (s : Submission) → Related AreHeld xs ys zs
+      → (name : List ℕ)
+      → AreHeld (structure_turns xs s name) (structure_turns ys s name)
+      (structure_turns zs s name)
+  names_held xs ys zs s r name =
+      levels_related AreHeld (shown_turns (length xs)) (shown_turns (length ys))
+      (shown_turns (length zs)) [] [] []
+      (λ outside. at_number [] xs (bound_number s.bound outside))
+      (λ outside. at_number [] ys (bound_number s.bound outside))
+      (λ outside. at_number [] zs (bound_number s.bound outside))
+      (λ t x y z down. holds_shown (length xs) t x down) holds_nil
+      (λ outside. numbers_related AreHeld xs ys zs [] [] [] holds_nil r
+      (bound_number s.bound outside)) (levels_of s.library) s.library name
+
+  all_held : (ss : List Submission) → Related AreHeld (all_turns ss) (all_turns ss) (all_turns ss)
+  unfolding all_turns
+  all_held ss =
+      firsts_related AreHeld submission_turns submission_turns submission_turns
+      (λ xs ys zs s r. names_held xs ys zs s r s.top) [] [] [] none ss
+
+  pub structure_holds : (ss : List Submission) (s : Submission) (name : List ℕ)
+      → Holds (structure_turns (all_turns ss) s name)
+  structure_holds ss s name =
+      names_held (all_turns ss) (all_turns ss) (all_turns ss) s (all_held ss) name
+
+  pub number_holds : (ss : List Submission) (number : ℕ) → Holds (turns_of ss number)
+  number_holds ss number = related_at (all_held ss) [] [] [] holds_nil number
+
+  pub named_holds : (ss : List Submission) (n : ℕ) (s : Submission) → slice_get ss n ≡ Some s
+      → (name : List ℕ) → Holds (named_turns ss n name)
+  named_holds ss n s is name =
+      subst Holds (sym (named_is ss n s is name)) (structure_holds (take n ss) s name)
+
+-- ---- boxes in the extent of the whole
+
+-- a turn's box lies in another, and has its first corner at the lower left
+abbrev pub IsTurnIn : Option Box2 → Turn → Type 0
+IsTurnIn outer turn = IsHeld (turn_box turn) outer × IfSome (turn_box turn) IsOrdered
+
+module _ (law : ExtentsAreWalked) where
+  part_held : (box : Option Box2) (items : List Item) → IsPart box items
+      → IsHeld box (extent_of items)
+  part_held box items h =
+      let Inside : Item → Type 0 = λ i. IsHeld (item_box i) (extent_of items) in
+      let all = subst (All Inside) h.whole (law.holds items) in
+      let shown =
+      all_left Inside h.shown h.behind (all_right Inside h.before (h.shown ++ h.behind) all) in
+      subst (λ o. IsHeld o (extent_of items)) (sym h.extent)
+      (law.least h.shown (extent_of items) shown)
+
+  part_ordered : (box : Option Box2) (items : List Item) → IsPart box items → IfSome box IsOrdered
+  part_ordered box items h =
+      subst (λ o. IfSome o IsOrdered) (sym h.extent) (law.ordered h.shown)
+
+  pub turns_held : (turns : List Turn) → Holds turns
+      → All (IsTurnIn (extent_of (given turns))) turns
+  turns_held turns h =
+      let x = given turns in
+      All-weaker (In x) (IsTurnIn (extent_of x))
+      (λ turn h. (part_held (turn_box turn) x h, part_ordered (turn_box turn) x h)) turns h

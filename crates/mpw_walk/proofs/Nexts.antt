@@ -18,6 +18,7 @@ use Rattle.mpw_hier.specs.Structures.{is_shape}
 use Rattle.mpw_hier.specs.Items.{instance, placed_again}
 use Rattle.mpw_hier.specs.Boxes.{placed_box, extent_of}
 use Rattle.mpw_hier.specs.Nodes.{shape_places}
+use Rattle.mpw_hier.specs.Placed.{BoxesArePlacedAgain}
 use Rattle.mpw_hier.specs.Values.{flats}
 use Rattle.mpw_walk.specs.declared.frame.Frame.{Frame}
 use Rattle.mpw_walk.specs.Turns.{Turn, enter, give, given, entered, placed_turn}
@@ -149,11 +150,13 @@ frame_over ss f h none =
     shapes_over ss f h ∙ rw (drop_all f.child f.node.now.children.items (none_past f.node.now.children.items f.child none)) refl
 
 -- an instance is entered that shows something
-pub instance_next : (ss : List Submission) (f : Frame) (q : IsFrame ss f) (target : Target) (r : Reference) → IsNext f target r → length f.node.now.shapes.items ≤ f.shape
+pub instance_next : (again : BoxesArePlacedAgain) (ss : List Submission) (f : Frame)
+    (q : IsFrame ss f) (target : Target) (r : Reference) → IsNext f target r
+    → length f.node.now.shapes.items ≤ f.shape
     → 0 < length (named_turns ss f.submission r.name)
     → turns_to_come ss f ≡ enter (option_map (placed_box (placed_again f.placing (instance r f.row f.column))) (extent_of (given (named_turns ss f.submission r.name)))) ∷ map (placed_turn (placed_again f.placing (instance r f.row f.column))) (named_turns ss f.submission r.name)
     ++ turns_to_come ss (behind_instance f r)
-instance_next ss f q target r x over some =
+instance_next again ss f q target r x over some =
     let ts = named_turns ss f.submission r.name in
     let t = instance r f.row f.column in
     let whole = shapes_over ss f over ∙ ap (map (placed_turn f.placing)) (child_next ss f q target r x) ∙ map-append (placed_turn f.placing) (entered ts t) (children_of ss (behind_instance f r)) in
@@ -166,4 +169,4 @@ instance_next ss f q target r x over some =
     go : (ts : List Turn) → 0 < length ts → map (placed_turn f.placing) (entered ts (instance r f.row f.column)) ≡ enter (option_map (placed_box (placed_again f.placing (instance r f.row f.column))) (extent_of (given ts))) ∷ map (placed_turn (placed_again f.placing (instance r f.row f.column))) ts
     go [] h = absurd (omega (arith, h))
     go (turn ∷ turns) h =
-        turns_again f.placing (instance r f.row f.column) (enter (extent_of (given (turn ∷ turns))) ∷ turn ∷ turns)
+        turns_again again f.placing (instance r f.row f.column) (enter (extent_of (given (turn ∷ turns))) ∷ turn ∷ turns)

@@ -11,7 +11,7 @@ use Rattle.mpw_geom.specs.Placing.{by_orient, times, mirrored_point, turned_poin
 use Rattle.mpw_geom.proofs.Chains.{same_point, placed-placed_point}
 use Rattle.mpw_hier.specs.Items.{Item, mirrored, turned, placed_again, placed_item}
 use Rattle.mpw_hier.specs.Boxes.{placed_box}
-use Rattle.mpw_hier.proofs.Placings.{again_box}
+use Rattle.mpw_hier.specs.Placed.{BoxesArePlacedAgain}
 use Rattle.mpw_walk.specs.Turns.{Turn, enter, give, placed_turn}
 
 -- ---- orientations
@@ -151,14 +151,21 @@ pub items_again : (p q : Placing) (is : List Item) → map (placed_item p) (map 
 items_again p q [] = refl
 items_again p q (i ∷ is) = rw (placed_item_again p q i, items_again p q is) refl
 
-pub again_some : (t u : Placing) (o : Option Box2) → option_map (placed_box (placed_again t u)) o ≡ option_map (placed_box t) (option_map (placed_box u) o)
-again_some t u None = refl
-again_some t u (Some b) = ap Some (again_box t u b)
+module _ (again : BoxesArePlacedAgain) where
+  again_some : (t u : Placing) (o : Option Box2)
+      → option_map (placed_box (placed_again t u)) o
+      ≡ option_map (placed_box t) (option_map (placed_box u) o)
+  again_some t u None = refl
+  again_some t u (Some b) = ap Some (again t u b)
 
-pub placed_turn_again : (p q : Placing) (turn : Turn) → placed_turn p (placed_turn q turn) ≡ placed_turn (placed_again p q) turn
-placed_turn_again p q (enter e) = ap enter (sym (again_some p q e))
-placed_turn_again p q (give i) = ap give (placed_item_again p q i)
+  placed_turn_again : (p q : Placing) (turn : Turn)
+      → placed_turn p (placed_turn q turn) ≡ placed_turn (placed_again p q) turn
+  placed_turn_again p q (enter e) = ap enter (sym (again_some p q e))
+  placed_turn_again p q (give i) = ap give (placed_item_again p q i)
 
-pub turns_again : (p q : Placing) (turns : List Turn) → map (placed_turn p) (map (placed_turn q) turns) ≡ map (placed_turn (placed_again p q)) turns
-turns_again p q [] = refl
-turns_again p q (turn ∷ turns) = rw (placed_turn_again p q turn, turns_again p q turns) refl
+  pub turns_again : (p q : Placing) (turns : List Turn)
+      → map (placed_turn p) (map (placed_turn q) turns)
+      ≡ map (placed_turn (placed_again p q)) turns
+  turns_again p q [] = refl
+  turns_again p q (turn ∷ turns) =
+      rw (placed_turn_again p q turn, turns_again p q turns) refl

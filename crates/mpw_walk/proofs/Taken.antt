@@ -11,12 +11,13 @@ use Rattle.mpw_geom.specs.declared.placing.Placing.{Placing}
 use Rattle.mpw_geom.specs.Plane.{has_point}
 use Rattle.mpw_geom.proofs.Meets.{common_point, spans_from_point}
 use Rattle.mpw_geom.proofs.Tests.{le_from_test, test_from_le}
-use Rattle.mpw_hier.specs.Boxes.{joined, placed_box, item_box, extent_of}
-use Rattle.mpw_hier.proofs.Extents.{extent_placed}
+use Rattle.mpw_hier.specs.Boxes.{placed_box, item_box, extent_of}
+use Rattle.mpw_hier.specs.Holding.{IsInside, IsHeld}
+use Rattle.mpw_walk.specs.Extents.{ExtentsAreWalked}
 use Rattle.mpw_walk.specs.Turns.{Turn, enter, give, given, placed_turn}
 use Rattle.mpw_walk.specs.Window.{do_meet, is_met, turn_box, items_met, turns_met, is_taken, taken}
 use Rattle.mpw_walk.proofs.Given.{given_placed}
-use Rattle.mpw_walk.proofs.Held.{IsHeldIn, Holds, holds_placed}
+use Rattle.mpw_walk.proofs.Held.{IsTurnIn, Holds, holds_placed, turns_held}
 
 -- ---- boxes that meet
 
@@ -42,30 +43,28 @@ same_test false false P e f = refl
 pub told_meeting : (a b : Box2) (x : Bool) → IsTrue x ↔ Meet a b → x ≡ do_meet a b
 told_meeting a b x h = same_test x (do_meet a b) (Meet a b) h (meeting a b)
 
-wider : (a b w : Box2) → joined a b ≡ b → do_meet a w ≡ true → do_meet b w ≡ true
+wider : (a b w : Box2) → IsInside a b → do_meet a w ≡ true → do_meet b w ≡ true
 unfolding do_meet
-wider a b w e h =
+wider a b w inside h =
     let f = and_parts _ _ h in
     let x = le_from_test (int_max a.x0 w.x0) (int_min a.x1 w.x1) f.0 in
     let y = le_from_test (int_max a.y0 w.y0) (int_min a.y1 w.y1) f.1 in
-    let x0 : int_min a.x0 b.x0 ≡ b.x0 = ap (λ (c : Box2). c.x0) e in
-    let y0 : int_min a.y0 b.y0 ≡ b.y0 = ap (λ (c : Box2). c.y0) e in
-    let x1 : int_max a.x1 b.x1 ≡ b.x1 = ap (λ (c : Box2). c.x1) e in
-    let y1 : int_max a.y1 b.y1 ≡ b.y1 = ap (λ (c : Box2). c.y1) e in
-    both _ _ (test_from_le (int_max b.x0 w.x0) (int_min b.x1 w.x1) (omega (arith, ints, clamps, x, x0, x1))) (test_from_le (int_max b.y0 w.y0) (int_min b.y1 w.y1) (omega (arith, ints, clamps, y, y0, y1)))
+    both _ _
+    (test_from_le (int_max b.x0 w.x0) (int_min b.x1 w.x1)
+    (omega (arith, ints, clamps, x, inside.left, inside.right)))
+    (test_from_le (int_max b.y0 w.y0) (int_min b.y1 w.y1)
+    (omega (arith, ints, clamps, y, inside.bottom, inside.top)))
 
 -- what lies in a box that misses the window misses it
-pub missed_within : (w : Box2) (inner outer : Option Box2) → IsHeldIn inner outer → is_met w outer ≡ false → is_met w inner ≡ false
+missed_within : (w : Box2) (inner outer : Option Box2) → IsHeld inner outer
+    → is_met w outer ≡ false → is_met w inner ≡ false
 missed_within w None outer h missed = refl
-missed_within w (Some a) None h missed = absurd (let e : Some a ≡ None = h.within in cc)
+missed_within w (Some a) None h missed = absurd h
 missed_within w (Some a) (Some b) h missed = go (do_meet a w) refl
   where
-    same : Some (joined a b) ≡ Some b → joined a b ≡ b
-    same e = cc
-
     go : (x : Bool) → do_meet a w ≡ x → x ≡ false
     go false e = refl
-    go true e = sym (wider a b w (same h.within) e) ∙ missed
+    go true e = sym (wider a b w h e) ∙ missed
 
 -- ---- lists of turns
 
@@ -92,18 +91,26 @@ pub taken_all : (turns : List Turn) → taken None turns ≡ turns
 taken_all [] = refl
 taken_all (turn ∷ turns) = ap (λ ts. turn ∷ ts) (taken_all turns)
 
-none_taken : (w : Box2) (outer : Option Box2) → is_met w outer ≡ false → (turns : List Turn) → All (λ turn. IsHeldIn (turn_box turn) outer) turns → taken (Some w) turns ≡ []
+none_taken : (w : Box2) (outer : Option Box2) → is_met w outer ≡ false → (turns : List Turn)
+    → All (IsTurnIn outer) turns → taken (Some w) turns ≡ []
 none_taken w outer missed [] h = refl
 none_taken w outer missed (turn ∷ turns) h =
-    let P : Turn → Type 0 = λ turn. IsHeldIn (turn_box turn) outer in
-    taken_out (Some w) turn turns (missed_within w (turn_box turn) outer (All-head P turn turns h) missed) ∙ none_taken w outer missed turns (All-tail P turn turns h)
+    let inside = (All-head (IsTurnIn outer) turn turns h).0 in
+    taken_out (Some w) turn turns (missed_within w (turn_box turn) outer inside missed)
+    ∙ none_taken w outer missed turns (All-tail (IsTurnIn outer) turn turns h)
 
 -- what an instance shows that isn't entered
-pub missed_taken : (window : Option Box2) (t : Placing) (turns : List Turn) → Holds turns → is_taken window (enter (option_map (placed_box t) (extent_of (given turns)))) ≡ false → taken window (map (placed_turn t) turns) ≡ []
-missed_taken None t turns h missed = absurd (let e : true ≡ false = missed in cc)
-missed_taken (Some w) t turns h missed =
-    let whole : extent_of (given (map (placed_turn t) turns)) ≡ option_map (placed_box t) (extent_of (given turns)) = ap extent_of (given_placed t turns) ∙ extent_placed t (given turns) in
-    none_taken w (extent_of (given (map (placed_turn t) turns))) (ap (is_met w) whole ∙ missed) (map (placed_turn t) turns) (holds_placed t turns h)
+pub missed_taken : (law : ExtentsAreWalked) (window : Option Box2) (t : Placing)
+    (turns : List Turn) → Holds turns
+    → is_taken window (enter (option_map (placed_box t) (extent_of (given turns)))) ≡ false
+    → taken window (map (placed_turn t) turns) ≡ []
+missed_taken law None t turns h missed = absurd (let e : true ≡ false = missed in cc)
+missed_taken law (Some w) t turns h missed =
+    let there = map (placed_turn t) turns in
+    let whole : extent_of (given there) ≡ option_map (placed_box t) (extent_of (given turns)) =
+    ap extent_of (given_placed t turns) ∙ law.placed t (given turns) in
+    none_taken w (extent_of (given there)) (ap (is_met w) whole ∙ missed) there
+    (turns_held law there (holds_placed law.placed t turns h))
 
 -- the turns that meet a window give the shapes that do
 pub given_met : (w : Box2) (turns : List Turn) → given (turns_met w turns) ≡ items_met w (given turns)

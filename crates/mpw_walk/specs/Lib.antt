@@ -7,4 +7,5 @@ pub mod Way
 pub mod Walk
 pub mod Roots
 pub mod Missed
+pub mod Extents
 pub mod Named

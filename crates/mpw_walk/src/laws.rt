@@ -11,6 +11,7 @@ ghost use Rattle.mpw_hier.specs.Limits.{IsShelf};
 ghost use Rattle.mpw_hier.specs.Structures.{is_shape};
 ghost use Rattle.mpw_hier.specs.Values.{flat, height};
 ghost use Rattle.mpw_hier.specs.declared.submission.Submission.{Submission};
+ghost use Rattle.mpw_walk.specs.Extents.{ExtentsAreWalked};
 ghost use Rattle.mpw_walk.specs.Missed.{RootsCarryTheirExtents, InstancesCarryTheirExtents, MissedRootsShowNothing, MissedInstancesShowNothing};
 ghost use Rattle.mpw_walk.specs.Named.{NamesAreWalked};
 ghost use Rattle.mpw_walk.specs.Roots.{unmoved_root, roots_extent, roots_count};
@@ -20,7 +21,7 @@ ghost use Rattle.mpw_walk.specs.Window.{do_meet};
 ghost use Rattle.mpw_walk.specs.declared.root.Root.{Root};
 
 use mpw_hier::{
-    earlier_submissions_stay, extents_are_least_boxes, names_list_their_targets,
+    boxes_are_placed, earlier_submissions_stay, extents_are_least_boxes, names_list_their_targets,
     names_show_their_targets, shelves_have_their_numbers,
 };
 use std::marker::Model;
@@ -88,7 +89,17 @@ pub fn missed_instances_show_nothing_met()
     ensures carried_by_instances { InstancesCarryTheirExtents }
     ensures missed_roots { MissedRootsShowNothing }
     ensures missed_instances { MissedInstancesShowNothing }
-{}
+{
+    extents_are_walked();
+}
+
+/// Extents are least boxes, and are placed with what they hold.
+pub fn extents_are_walked()
+    ensures { ExtentsAreWalked }
+{
+    extents_are_least_boxes();
+    boxes_are_placed();
+}
 
 /// A turn, which laws of lists of any kind are called with. There is no value of it.
 #[derive(Drop)]
@@ -104,10 +115,11 @@ impl Model for Turning {
 }
 
 /// What a name shows to a submission, and the turns of that, is what its structure does, or the top of the submission to which it
-/// is bound.
+/// is bound. Extents are least boxes.
 pub fn names_are_walked()
     ensures { NamesAreWalked }
 {
     names_show_their_targets();
     names_list_their_targets::<Turning>();
+    extents_are_walked();
 }

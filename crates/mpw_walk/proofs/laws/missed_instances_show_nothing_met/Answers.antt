@@ -7,6 +7,6 @@ returns c = record {
   points = meeting;
   carried_by_roots = roots_carry;
   carried_by_instances = instances_carry;
-  missed_roots = roots_missed;
-  missed_instances = instances_missed;
+  missed_roots = roots_missed c.extents_are_walked.ensures;
+  missed_instances = instances_missed c.extents_are_walked.ensures;
 }

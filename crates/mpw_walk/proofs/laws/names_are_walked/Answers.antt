@@ -13,4 +13,5 @@ returns c =
       own_turns_are = lists.own own_turns placed_turns;
       outer_turns_are = lists.outer own_turns placed_turns;
       top_turns_are = lists.tops own_turns placed_turns;
+      extents = c.extents_are_walked.ensures;
     }
