@@ -38,7 +38,7 @@ fn serve(
     let mut input = Counted::new(part.text.as_bytes());
     let mut output = Counted::new(&mut replies);
     let start = Instant::now(rt)?;
-    let whole = serve_core(
+    let served = serve_core(
         threads,
         alloc,
         core,
@@ -46,9 +46,9 @@ fn serve(
         conn,
         &mut input,
         &mut output,
-    )
-    .is_ok();
+    );
     let taken = start.elapsed(rt)?.as_nanos();
+    let whole = served.ended.is_ok();
     let count = accepted(replies.as_slice());
     let (name, lines) = (part.name.as_str(), part.lines);
     if still {
