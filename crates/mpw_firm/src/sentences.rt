@@ -43,8 +43,7 @@ fn of_shape(code: Code) -> &'static str {
         Code::Columns =>
             "an array has fewer than one column or row: remove it, or export its elements",
         Code::Pitch => "an array's step isn't a whole number of nm: export its elements one by one",
-        Code::Absolute =>
-            "an angle or a magnification is absolute: export it relative to the reference",
+        Code::Absolute => "an angle is absolute: export it relative to the reference",
         _ => "the library has a fault",
     }
 }
