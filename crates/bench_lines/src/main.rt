@@ -9,7 +9,7 @@ mod part;
 
 use desk::new_desk;
 use mpw_core::{Core, NoKeeper};
-use mpw_serve::serve_core;
+use mpw_serve::{Silent, serve_core};
 use mpw_wire::Counted;
 use part::{Part, accepted};
 use std::thread::Threads;
@@ -46,6 +46,7 @@ fn serve(
         conn,
         &mut input,
         &mut output,
+        &mut Silent,
     );
     let taken = start.elapsed(rt)?.as_nanos();
     let whole = served.ended.is_ok();

@@ -3,6 +3,7 @@
 use crate::fault::{ProgramFault, exit_status};
 use crate::script::serve_script;
 use crate::settings::{Settings, read_settings};
+use mpw_serve::Progress;
 use mpw_wire::{Counted, WireFault};
 use std::env;
 use std::io::{self, BufReader, BufWriter, Read, Write};
@@ -22,12 +23,13 @@ fn words(rt: &HostRuntime) -> Result<Vec<String>, ProgramFault> {
 }
 
 /// Serves the input to the output as the settings say, and works runs off in these threads.
-fn serve<R: Read + Drop, W: Write + Drop>(
+fn serve<R: Read + Drop, W: Write + Drop, P: Progress>(
     rt: &HostRuntime,
     threads: &(impl Threads + Sync),
     settings: Settings,
     input: R,
     output: W,
+    progress: &mut P,
 ) -> Result<(), ProgramFault> {
     let alloc = rt.alloc();
     let Ok(input) = BufReader::new(alloc, input) else {
@@ -42,6 +44,7 @@ fn serve<R: Read + Drop, W: Write + Drop>(
         settings,
         &mut Counted::new(input),
         &mut Counted::new(output),
+        progress,
     )?;
     match served.ended {
         Ok(_) => Ok(()),
@@ -50,30 +53,32 @@ fn serve<R: Read + Drop, W: Write + Drop>(
 }
 
 /// Reads the command line, and serves.
-fn serve_words<R: Read + Drop, W: Write + Drop>(
+fn serve_words<R: Read + Drop, W: Write + Drop, P: Progress>(
     rt: &HostRuntime,
     threads: &(impl Threads + Sync),
     input: R,
     output: W,
+    progress: &mut P,
 ) -> Result<(), ProgramFault> {
     let words = words(rt)?;
     let words: Vec<&str> = words.iter().map(|word| word.as_str()).collect(rt.alloc())?;
     let settings = read_settings(rt.alloc(), words.as_slice())?;
-    serve(rt, threads, settings, input, output)
+    serve(rt, threads, settings, input, output, progress)
 }
 
 /// Reads the command line, and serves the input to the output as it says; both are buffered here. A fault is told on the
-/// standard error.
+/// standard error, and progress is told how far a run that is worked off came.
 ///
 /// The exit status is 0 where the connection ended, 2 at a usage fault, 3 where a device failed, and 5 where memory was
 /// wanting.
-pub fn run<R: Read + Drop, W: Write + Drop>(
+pub fn run<R: Read + Drop, W: Write + Drop, P: Progress>(
     rt: &HostRuntime,
     threads: &(impl Threads + Sync),
     input: R,
     output: W,
+    progress: &mut P,
 ) -> ExitCode {
-    let ended = serve_words(rt, threads, input, output);
+    let ended = serve_words(rt, threads, input, output, progress);
     if let Err(fault) = &ended {
         let _ = eprintln!(rt; "{fault}");
     }

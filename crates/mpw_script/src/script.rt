@@ -6,7 +6,7 @@ ghost use Rattle.mpw_serve.specs.Serving.{LeavesNothingPending, write_failures};
 
 use crate::settings::Settings;
 use mpw_core::{Core, NoKeeper};
-use mpw_serve::{Served, serve_core};
+use mpw_serve::{Progress, Served, serve_core};
 use mpw_wire::{Sink, Source};
 use std::alloc::{AllocError, Global};
 use std::thread::Threads;
@@ -15,16 +15,17 @@ use std::thread::Threads;
 const CONNECTION: u32 = 1;
 
 /// Serves the reader to the writer as connection 1 of a new desk. A run is worked off in as many threads as there are
-/// processors.
+/// processors, and progress is told meanwhile; it takes part in no clause.
 ///
 /// # Errors
 /// Where there is no room for the new desk; nothing is read or written then.
-pub fn serve_script<R: Source, W: Sink>(
+pub fn serve_script<R: Source, W: Sink, P: Progress>(
     rt: &(impl Threads + Sync),
     alloc: Global,
     settings: Settings,
     reader: &mut R,
     writer: &mut W,
+    progress: &mut P,
 ) -> Result<Served, AllocError>
     ensures served { ServesScript settings (R.remaining reader.old) (R.remaining reader.new) (W.contents writer.old) (W.contents writer.new) result }
     ensures reader { R.failures reader.new ≡ read_failures (fault_told result) (R.failures reader.old) }
@@ -41,5 +42,6 @@ pub fn serve_script<R: Source, W: Sink>(
         CONNECTION,
         reader,
         writer,
+        progress,
     ))
 }

@@ -3,4 +3,5 @@
 
 mod serve;
 
+pub use mpw_work::{Progress, Silent};
 pub use serve::{End, MAX_LINES, Served, serve_core, served_changes_are_kept_in_order};

@@ -8,7 +8,7 @@ ghost use Rattle.mpw_serve.specs.Serving.{Answer, told, IsAnswer, answer_of, ans
 use mpw_core::{Core, Event, Keeper, Response, keepers_have_the_changes_in_order};
 use mpw_requests::SharedRequest;
 use mpw_wire::{Asked, Refusal, Sink, Source, WireFault, read_request, write_refusal, write_reply};
-use mpw_work::{work_behind, work_goes_on};
+use mpw_work::{Progress, work_behind, work_goes_on};
 use std::alloc::Global;
 use std::thread::Threads;
 
@@ -51,24 +51,25 @@ fn write_response<W: Sink>(response: &Response, writer: &mut W) -> Result<(), Wi
 }
 
 /// Has the desk answer a request, and works a run off that is accepted; none where memory is wanting.
-fn handle<K: Keeper>(
+fn handle<K: Keeper, P: Progress>(
     rt: &(impl Threads + Sync),
     alloc: Global,
     core: &mut Core,
     keeper: &mut K,
     conn: u32,
     request: SharedRequest,
+    progress: &mut P,
 ) -> Option<Response>
     ensures { IsAnswer conn request (kept_desk core.old (K.kept keeper.old) (K.failures keeper.old)) (answer_of result) (kept_desk core.new (K.kept keeper.new) (K.failures keeper.new)) }
 {
     let asked = request.copy().ok()?;
     let response = core.handle(keeper, Event::Ask { conn, request }).ok()?;
-    work_behind(rt, alloc, core, keeper, asked.get(), &response);
+    work_behind(rt, alloc, core, keeper, asked.get(), &response, progress);
     Some(response)
 }
 
 /// Answers a request.
-fn answer<K: Keeper, W: Sink>(
+fn answer<K: Keeper, W: Sink, P: Progress>(
     rt: &(impl Threads + Sync),
     alloc: Global,
     core: &mut Core,
@@ -76,11 +77,12 @@ fn answer<K: Keeper, W: Sink>(
     conn: u32,
     request: SharedRequest,
     writer: &mut W,
+    progress: &mut P,
 ) -> Result<(), WireFault>
     ensures answer { (answer : Answer) × IsAnswer conn request (kept_desk core.old (K.kept keeper.old) (K.failures keeper.old)) answer (kept_desk core.new (K.kept keeper.new) (K.failures keeper.new)) × Writes W.contents W.failures writer.old writer.new result (answer_text answer) }
     ensures handed { LeavesNothingPending (fault_of result) (W.pending writer.old) (W.pending writer.new) }
 {
-    match handle(rt, alloc, core, keeper, conn, request) {
+    match handle(rt, alloc, core, keeper, conn, request, progress) {
         Some(response) => write_response(&response, writer),
         None => write_refusal(Refusal::Memory, writer),
     }
@@ -97,7 +99,7 @@ fn told(end: Option<End>, written: Result<(), WireFault>) -> Result<Option<End>,
 }
 
 /// Serves one line. It answers `None` where the connection goes on.
-fn serve_line<K: Keeper, R: Source, W: Sink>(
+fn serve_line<K: Keeper, R: Source, W: Sink, P: Progress>(
     rt: &(impl Threads + Sync),
     alloc: Global,
     core: &mut Core,
@@ -105,6 +107,7 @@ fn serve_line<K: Keeper, R: Source, W: Sink>(
     conn: u32,
     reader: &mut R,
     writer: &mut W,
+    progress: &mut P,
 ) -> Result<Option<End>, WireFault>
     ensures line { ServesLine conn (R.remaining reader.old) (R.remaining reader.new) (W.contents writer.old) (W.contents writer.new) (kept_desk core.old (K.kept keeper.old) (K.failures keeper.old)) (kept_desk core.new (K.kept keeper.new) (K.failures keeper.new)) result }
     ensures reader { R.failures reader.new ≡ read_failures (fault_of result) (R.failures reader.old) }
@@ -114,7 +117,7 @@ fn serve_line<K: Keeper, R: Source, W: Sink>(
     match read_request(alloc, reader) {
         Ok(Asked::Request(request)) => told(
             None,
-            answer(rt, alloc, core, keeper, conn, request, writer),
+            answer(rt, alloc, core, keeper, conn, request, writer, progress),
         ),
         Ok(Asked::Form) => told(None, write_refusal(Refusal::Form, writer)),
         Ok(Asked::Long) => told(Some(End::Long), write_refusal(Refusal::Long, writer)),
@@ -129,7 +132,7 @@ fn serve_line<K: Keeper, R: Source, W: Sink>(
 }
 
 /// Serves lines until the connection ends.
-fn serve_lines<K: Keeper, R: Source, W: Sink>(
+fn serve_lines<K: Keeper, R: Source, W: Sink, P: Progress>(
     rt: &(impl Threads + Sync),
     alloc: Global,
     core: &mut Core,
@@ -137,6 +140,7 @@ fn serve_lines<K: Keeper, R: Source, W: Sink>(
     conn: u32,
     reader: &mut R,
     writer: &mut W,
+    progress: &mut P,
 ) -> Result<End, WireFault>
     ensures lines { ServesLines conn (R.remaining reader.old) (R.remaining reader.new) (W.contents writer.old) (W.contents writer.new) (kept_desk core.old (K.kept keeper.old) (K.failures keeper.old)) (kept_desk core.new (K.kept keeper.new) (K.failures keeper.new)) result }
     ensures reader { R.failures reader.new ≡ read_failures (fault_of result) (R.failures reader.old) }
@@ -144,7 +148,7 @@ fn serve_lines<K: Keeper, R: Source, W: Sink>(
     ensures handed { LeavesNothingPending (fault_of result) (W.pending writer.old) (W.pending writer.new) }
 {
     for _ in 0..MAX_LINES {
-        match serve_line(rt, alloc, core, keeper, conn, reader, writer) {
+        match serve_line(rt, alloc, core, keeper, conn, reader, writer, progress) {
             Ok(None) => {}
             Ok(Some(end)) => return Ok(end),
             Err(fault) => return Err(fault),
@@ -163,9 +167,10 @@ fn hand_end<K: Keeper>(core: &mut Core, keeper: &mut K, conn: u32) -> bool
 /// Serves a connection: the lines of the reader get their replies on the writer, in order, until the input ends, a
 /// line is too long, the bytes that it asks to submit are too many or cut off, there is no room for a request, 4096
 /// lines were answered, or a device failed; what was accepted before stays accepted. Then the desk is handed the
-/// connection's end. What is accepted is handed to the keeper first, and each reply is flushed. It costs the lines, and
-/// for each request what the core's step costs.
-pub fn serve_core<K: Keeper, R: Source, W: Sink>(
+/// connection's end. What is accepted is handed to the keeper first, and each reply is flushed. While an accepted `run` is
+/// worked off, progress is told; it takes part in no clause. It costs the lines, and for each request what the core's step
+/// costs.
+pub fn serve_core<K: Keeper, R: Source, W: Sink, P: Progress>(
     rt: &(impl Threads + Sync),
     alloc: Global,
     core: &mut Core,
@@ -173,13 +178,14 @@ pub fn serve_core<K: Keeper, R: Source, W: Sink>(
     conn: u32,
     reader: &mut R,
     writer: &mut W,
+    progress: &mut P,
 ) -> Served
     ensures served { Serves conn (R.remaining reader.old) (R.remaining reader.new) (W.contents writer.old) (W.contents writer.new) (kept_desk core.old (K.kept keeper.old) (K.failures keeper.old)) (kept_desk core.new (K.kept keeper.new) (K.failures keeper.new)) result }
     ensures reader { R.failures reader.new ≡ read_failures (fault_of result.ended) (R.failures reader.old) }
     ensures writer { W.failures writer.new ≡ write_failures (fault_of result.ended) (W.failures writer.old) }
     ensures handed { LeavesNothingPending (fault_of result.ended) (W.pending writer.old) (W.pending writer.new) }
 {
-    let ended = serve_lines(rt, alloc, core, keeper, conn, reader, writer);
+    let ended = serve_lines(rt, alloc, core, keeper, conn, reader, writer, progress);
     let is_gone = hand_end(core, keeper, conn);
     Served { ended, is_gone }
 }

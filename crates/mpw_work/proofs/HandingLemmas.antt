@@ -6,10 +6,9 @@ use Rattle.std.proofs.lemmas.Option.{slice_get_within, get_or_from_slice_get}
 use Rattle.mpw_core.specs.History.{KeptDesk}
 use Rattle.mpw_core.specs.declared.event.Event.{Event}
 use Rattle.mpw_core.specs.declared.event.Event.TheVariants as event
-use Rattle.mpw_core.specs.declared.event.Response.{Response}
 use Rattle.mpw_job.specs.Jobs.{CutWindows}
 use Rattle.mpw_job.specs.declared.job.CutJob.{CutJob}
-use Rattle.mpw_work.specs.Working.{CameOf, CallsFor, HandsCut, HandsOver, HandsTile, HandsTiles, WorksCut, WorksOff, WorksTiles, cut_called, own_worker}
+use Rattle.mpw_work.specs.Working.{CallsFor, HandsCut, HandsOver, HandsTile, HandsTiles, WorksCut, WorksOff, WorksTiles, cut_called, own_worker}
 
 -- the item at a place stands first of what is left there
 pub drop_item : {X : Type 0} (xs : List X) (k : ℕ) (x : X) → slice_get xs k ≡ Some x → drop k xs ≡ x ∷ drop (k + 1) xs

@@ -1,3 +1,4 @@
+mod BatchLemmas
 mod EndLemmas
 mod HandingLemmas
 mod WorkLemmas

@@ -1,5 +1,5 @@
 -- A desk on which a run is worked off goes on by calls.
-use Rattle.std.proofs.Common.{◌≡◌, ◌&&◌, ℕ, Bool, true, false, List, Option, None, Some, sym, subst}
+use Rattle.std.proofs.Common.{◌&&◌, Bool, true, false, List, Option, None, Some, sym, subst}
 use Rattle.mpw_core.specs.History.{KeptDesk, IsHandled, GoesOnTo}
 use Rattle.mpw_core.specs.declared.event.Event.{Event}
 use Rattle.mpw_core.specs.declared.event.Event.TheVariants as event

@@ -1,10 +1,10 @@
 //! The program of the desk on an output that is full after 8 bytes: it exits with 3.
 #![tactic(auto)]
 
-use mpw_script::run;
+use mpw_script::{Silent, run};
 use std::process::ExitCode;
 
 fn main(rt: HostRuntime) -> ExitCode {
     let mut room = [0u8; 8];
-    run(&rt, &rt, rt.stdin(), &mut room[..])
+    run(&rt, &rt, rt.stdin(), &mut room[..], &mut Silent)
 }

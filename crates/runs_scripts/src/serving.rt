@@ -5,7 +5,7 @@ use crate::keeper::{Fails, MemoryKeeper};
 use crate::transcript::Transcript;
 use mpw_core::Core;
 use mpw_geom::Name;
-use mpw_serve::{End, serve_core};
+use mpw_serve::{End, Silent, serve_core};
 use mpw_wire::{WireFault, digest_of};
 use std::alloc::{AllocError, Global};
 use std::thread::Threads;
@@ -95,6 +95,7 @@ pub fn serve(
         1,
         &mut reader,
         &mut writer,
+        &mut Silent,
     );
     Ok(Served {
         text: writer.bytes,

@@ -1,9 +1,9 @@
 //! The program of the desk on a command line that isn't one: it reads and writes nothing, and exits with 2.
 #![tactic(auto)]
 
-use mpw_script::run;
+use mpw_script::{Silent, run};
 use std::process::ExitCode;
 
 fn main(rt: HostRuntime) -> ExitCode {
-    run(&rt, &rt, rt.stdin(), rt.stdout())
+    run(&rt, &rt, rt.stdin(), rt.stdout(), &mut Silent)
 }
