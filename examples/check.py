@@ -1,0 +1,63 @@
+#!/usr/bin/env python3
+"""Compares what the programs print for the examples with what is expected, and tells which differ.
+
+  examples/check.py            NAME.gds under NAME.deck by mpw check, for each NAME.markers
+  examples/check.py --desk     then also NAME.txt by mpw script, for each NAME.replies
+
+The exit status is 0 where all are the same, else 1. A program that isn't built is proved and built
+first.
+"""
+import difflib
+import glob
+import os
+import subprocess
+import sys
+
+HERE = os.path.dirname(os.path.abspath(__file__))
+MPW = os.path.join(os.path.dirname(HERE), "mpw")
+# Of the officer's token abc.
+DIGEST = "ba7816bf8f01cfea414140de5dae2223b00361a396177a9cb410ff61f20015ad"
+
+
+def of_check(name, expected):
+    """What mpw check prints, its status, and the expected status: 0 without markers, else 1."""
+    words = [MPW, "check", "--deck", f"{name}.deck", "--top", "TOP", f"{name}.gds"]
+    ended = subprocess.run(words, stdout=subprocess.PIPE, stderr=subprocess.DEVNULL)
+    return ended.stdout, ended.returncode, 0 if expected == b"OK 0\n" else 1
+
+
+def of_script(name, _):
+    with open(f"{name}.txt", "rb") as script:
+        words = [MPW, "script", "--officer", "root", "--digest", DIGEST]
+        ended = subprocess.run(words, stdin=script, stdout=subprocess.PIPE)
+    return ended.stdout, ended.returncode, 0
+
+
+def is_same(path, run):
+    """Whether the program of an example prints what its file has; tells what differs."""
+    with open(path, "rb") as file:
+        expected = file.read()
+    found, status, wanted = run(os.path.splitext(path)[0], expected)
+    same = found == expected and status == wanted
+    print(f"{os.path.basename(path)}: {'as expected' if same else 'differs'}", flush=True)
+    if status != wanted:
+        print(f"  status {status}, expected {wanted}")
+    texts = [text.decode().splitlines() for text in (expected, found)]
+    for line in difflib.unified_diff(*texts, "expected", "found", lineterm=""):
+        print(f"  {line}")
+    return same
+
+
+def main(words):
+    if words not in ([], ["--desk"]):
+        sys.exit(__doc__)
+    kinds = [("markers", of_check)] + [("replies", of_script)] * len(words)
+    told = []
+    for kind, run in kinds:
+        for path in sorted(glob.glob(os.path.join(HERE, f"*.{kind}"))):
+            told.append(is_same(path, run))
+    return 0 if told and all(told) else 1
+
+
+if __name__ == "__main__":
+    sys.exit(main(sys.argv[1:]))
