@@ -133,7 +133,7 @@ pub fn keepers_have_the_changes_in_order()
 {}
 
 /// Whatever the request, a line of its reply that tells of a cell, or shows a shape of one, is of a cell that the connection's
-/// session may read.
+/// session may read. Rows of the trail and lines of waivers are no part of this.
 pub fn lines_are_of_readable_cells()
     ensures { (state : State) (conn : ℕ) (request : AnyRequest) (kept : Bool) (lines : List Listed) → response_of state (event.Ask conn request) kept ≡ response.Told (Reply.Ok lines) → All (IsOfReadable state.policy conn) lines }
 {
@@ -204,7 +204,7 @@ pub fn own_requests_are_never_denied_a_permission()
 }
 
 /// The trail behind an event is that before it and, behind a request, an entry of it: its user, and what its reply says first.
-/// So it has each request that was answered so far, in order, and nothing else.
+/// So it has each request that is a call of the history, in order, and nothing else.
 pub fn the_trail_has_each_request()
     ensures { (state : State) (event : Event) (kept : Bool) → (after state event kept).trail ≡ state.trail ++ entries_of state.policy (after state event kept).policy event (response_of state event kept) }
 {}

@@ -5,7 +5,8 @@
 //! run is; and of a run that is finished the markers that are shown in full, each with the cells that it meets, those of which the
 //! user submitted what it meets and its waiver, and per rule how many are masked. Two desks of which a connection's sessions
 //! have the same view give the same answers to `whoami`, `cells`, `shapes`, `status`, `markers`, `waivers`, `waive` and `sign`,
-//! whatever else they hold, and the views are the same again behind them.
+//! whatever else they hold, where neither desk is closed or at its limit and both or neither keep each change. The views are the
+//! same again behind them.
 //!
 //! Two requests tell more than the view, each to those with a permission of its own: `verdict` counts all markers, and `trail` shows
 //! the requests of all users.

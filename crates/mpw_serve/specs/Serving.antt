@@ -32,7 +32,7 @@ pub data Turn : Type 0 where
   malformed : List ℕ → Turn
 
 -- what ended the connection: the end of the input (`closed`, which says nothing of the desk), a line that is too long or
--- asks to submit too much, an input that ends before what is to follow a line, no room for a request, a source that failed,
+-- asks for too large a payload, an input that ends before what is to follow a line, no room for a request, a source that failed,
 -- as many lines as one connection may have, or a sink that failed at the text of a line
 pub data Stop : Type 0 where
   closed : Stop

@@ -165,7 +165,7 @@ fn hand_end<K: Keeper>(core: &mut Core, keeper: &mut K, conn: u32) -> bool
 }
 
 /// Serves a connection: the lines of the reader get their replies on the writer, in order, until the input ends, a
-/// line is too long, the bytes that it asks to submit are too many or cut off, there is no room for a request, 4096
+/// line is too long, the payload that it asks for is too large or cut off, there is no room for a request, 4096
 /// lines were answered, or a device failed; what was accepted before stays accepted. Then the desk is handed the
 /// connection's end. What is accepted is handed to the keeper first, and each reply is flushed. While an accepted `run` is
 /// worked off, progress is told; it takes part in no clause. It costs the lines, and for each request what the core's step
