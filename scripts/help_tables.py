@@ -1,0 +1,193 @@
+#!/usr/bin/env python3
+"""Makes docs/specification/help.md from the table of `mpw help` (crates/mpw_help/src), and what its stored run has to print.
+
+  scripts/help_tables.py            writes both
+  scripts/help_tables.py --check    tells what differs, and which request, denial or code of the sources the table lacks
+"""
+import os
+import re
+import sys
+
+TOP = os.path.dirname(os.path.dirname(os.path.abspath(__file__)))
+PAGE = "docs/specification/help.md"
+RUN = "crates/runs_help/stdout"
+# how a kind of entry stands in a table: its columns, and the fields behind the meaning
+KINDS = {
+    "Request": (("Request", "What it does", "Tests in order", "Reply"), ("tests", "reply")),
+    "Command": (("Command", "What it does", "Exit status"), ("statuses",)),
+    "Denial": (("Denial", "When", "What to do"), ("remedy",)),
+    "Refusal": (("Code", "When", "What to do"), ("remedy",)),
+}
+HEAD = """# What requests, denials and codes mean
+
+The words of `mpw help CODE-OR-REQUEST`. `scripts/help_tables.py` makes this page from the table that the command prints
+(`crates/mpw_help/src`), and its `--check` tells whether both are the same, and whether a request, a denial or a code is
+missing: change the table, and not this page. The tests of a request are made in their order, and the first that fails
+answers; what comes before them is in `desk.md`, and the words of the forms are in `requests.md`.
+"""
+
+
+def read(path):
+    with open(f"{TOP}/{path}", encoding="utf-8") as file:
+        return file.read()
+
+
+def entries_of(module, name):
+    """The entries of a list of the table: each field's text by its name, and the kind."""
+    text = read(f"crates/mpw_help/src/{module}.rt")
+    static = re.search(rf"fn {name}\(\) -> &'static \[Entry\] {{\n    &(\w+)\n", text)[1]
+    start = text.index(f"static {static}: [Entry;")
+    parts = re.split(r"\bEntry \{\n", text[start : text.index("\n];\n", start)])[1:]
+    return [dict(re.findall(r'(\w+):\s*"([^"]*)"', part), kind=re.search(r"Detail::(\w+)", part)[1]) for part in parts]
+
+
+def tables():
+    """The tables in their order, each a title with its entries."""
+    listed = re.findall(r'title: "([^"]*)",\s*entries: (\w+)::(\w+)\(\)', read("crates/mpw_help/src/lib.rt"))
+    return [(title, entries_of(module, name)) for title, module, name in listed]
+
+
+def table_of(title, entries):
+    head, columns = KINDS[entries[0]["kind"]]
+    rows = ["", "## " + title, "", "| " + " | ".join(head) + " |", "|" + "-|" * len(head)]
+    for entry in entries:
+        cells = [f"`{entry['form']}`", entry["meaning"], *(entry[column] for column in columns)]
+        rows.append("| " + " | ".join(cells) + " |")
+    return "\n".join(rows) + "\n"
+
+
+def body_of(path, enum):
+    """What stands between the braces of an enum."""
+    text = read(path)
+    start = text.index(f"enum {enum} {{")
+    return text[start : text.index("\n}\n", start)]
+
+
+def variants(path, enum):
+    return re.findall(r"^    ([A-Z]\w*)", body_of(path, enum), re.MULTILINE)
+
+
+def told(path):
+    """The variants of `Code`s that a file gives a number and a word, and these."""
+    return re.findall(r'(\w+)::(\w+)(?:\(_(?:, _)?\))? => "(\d+) (\w+)"', read(path))
+
+
+def spelled(variant):
+    return {"DropRole": "drop"}.get(variant, variant.lower())
+
+
+def lacking_requests(words):
+    groups = (("policy", "PolicyRequest"), ("layouts", "LayoutRequest"), ("wafer", "WaferRequest"))
+    groups += (("run", "RunRequest"), ("sign_off", "SignOffRequest"), ("request", "Request"))
+    asked = {
+        spelled(variant)
+        for file, enum in groups
+        for variant in variants(f"crates/mpw_requests/src/{file}.rt", enum)
+        if enum != "Request" or variant in ("Whoami", "Trail")
+    }
+    for file in ("form", "request"):
+        asked |= set(re.findall(r'is\(verb, "(\w+)"\)', read(f"crates/mpw_wire/src/{file}.rt")))
+    return [f"request {word}" for word in sorted(asked ^ words)]
+
+
+def lacking_codes(codes):
+    """What the enums have and the wire or the table doesn't, and what the table has besides."""
+    wire = told("crates/mpw_wire/src/first_line.rt") + told("crates/mpw_wire/src/reply.rt")
+    enums = (
+        ("TextFault", "crates/mpw_records/src/fault.rt", "Code"),
+        ("DeckKind", "crates/mpw_deck/src/deck.rt", "DeckKind"),
+        ("Code", "crates/mpw_replies/src/reply.rt", "Code"),
+        ("Refusal", "crates/mpw_wire/src/reply.rt", "Refusal"),
+    )
+    named = {(kind, variant) for kind, variant, _, _ in wire}
+    lost = [
+        f"{path} {variant}, which the wire doesn't tell"
+        for kind, path, enum in enums
+        for variant in variants(path, enum)
+        if (kind, variant) not in named and (kind, variant) not in {("Code", "Read"), ("Code", "Deck")}
+    ]
+    words = {(number, word) for _, _, number, word in wire}
+    lost += [f"code {number} {word}" for number, word in sorted(words ^ codes)]
+    return lost
+
+
+def lacking_faults(words):
+    """The faults of `mpw check` besides those of texts, and of what a top shows, by their words."""
+    hier = {v.lower() for v in variants("crates/mpw_hier/src/fault.rt", "HierFault")}
+    check = {v.lower() for v in variants("crates/mpw_check/src/fault.rt", "CheckFault")}
+    # a library's and a structure's faults have words of their own, and names outside the library are told in `check`
+    return [f"fault {word}" for word in sorted(hier | check - {"library", "structure", "outside"}) if word not in words]
+
+
+def lacking_denials(forms):
+    wire = read("crates/mpw_wire/src/first_line.rt")
+    words = re.findall(r'Denial::\w+(?:\(_(?:, _)?\))? => "(DENIED [^"]*)"', wire)
+    enum = variants("crates/mpw_replies/src/reply.rt", "Denial")
+    lost = [] if len(words) == len(enum) else ["a denial that the wire doesn't tell"]
+    lost += [f"denial {word}" for word in words if not any(is_form(form, word) for form in forms)]
+    return lost + ([] if len(forms) == len(words) else ["denials: the table has others"])
+
+
+def is_form(form, word):
+    """Whether a form is that of a denial that begins so: the words, and operands behind them."""
+    if not form.startswith(word):
+        return False
+    behind = form[len(word) :].split()
+    return word.endswith(" ") == bool(behind) and "activate" not in behind
+
+
+def unlike_sentences(entries):
+    """The sentences of `mpw check` that aren't those of the table."""
+    text = read("crates/mpw_firm/src/sentences.rt")
+    told = re.findall(r'(?:Code|HierFault|DeckKind)::\w+ =>\s*(?:\{\s*)?"([^"]*)"', text)
+    return [f"sentence: {sentence}" for sentence in told if not any(is_said(sentence, e) for e in entries)]
+
+
+def is_said(sentence, entry):
+    """Whether a sentence is an entry's: its meaning and its remedy or the first part of that, or the first part alone."""
+    meaning, remedy = entry["meaning"], entry["remedy"]
+    rest = sentence.removeprefix(meaning + ": ")
+    return remedy == rest or re.match(re.escape(rest) + "[,;]", remedy) is not None or sentence == "there is no room for it"
+
+
+def unlike_forms(entries):
+    """The entries whose form doesn't begin as their word says, and the words that one table has twice."""
+    begins = {"Request": "{word} ", "Command": "mpw {word} ", "Denial": "DENIED {word} ", "Refusal": "REFUSED {number} {word} "}
+    return [
+        f"form: {entry['form']}"
+        for entry in entries
+        if not (entry["form"] + " ").startswith(begins[entry["kind"]].format(**entry))
+    ]
+
+
+def lacking():
+    """What the sources have and the table doesn't, and the other way round."""
+    entries = [entry for _, listed in tables() for entry in listed]
+    kinds = {kind: [entry for entry in entries if entry["kind"] == kind] for kind in KINDS}
+    codes = {(entry["number"], entry["word"]) for entry in kinds["Refusal"]}
+    lost = lacking_requests({entry["word"] for entry in kinds["Request"]})
+    lost += lacking_codes(codes) + lacking_denials([entry["form"] for entry in kinds["Denial"]])
+    lost += lacking_faults({word for _, word in codes}) + unlike_forms(entries)
+    return lost + unlike_sentences(kinds["Refusal"])
+
+
+def main(words):
+    if words not in ([], ["--check"]):
+        print(__doc__, file=sys.stderr)
+        return 2
+    made = "".join(table_of(*table) for table in tables())
+    texts = {PAGE: HEAD + made, RUN: made}
+    if not words:
+        for path, text in texts.items():
+            with open(f"{TOP}/{path}", "w", encoding="utf-8") as file:
+                file.write(text)
+    wrong = [f"{path} isn't what the table makes" for path, text in texts.items() if read(path) != text]
+    wrong += [f"not in both: {what}" for what in lacking()]
+    for line in wrong:
+        print(f"help: {line}")
+    print("help: docs, run and sources are as the table says" if not wrong else f"help: {len(wrong)} differ")
+    return 1 if wrong else 0
+
+
+if __name__ == "__main__":
+    sys.exit(main(sys.argv[1:]))
