@@ -1,0 +1,10 @@
+mod WordLemmas
+mod Adding
+mod AllOf
+mod Splitting
+mod Words
+mod ReadBack
+mod PartLemmas
+mod Following
+mod Ending
+mod Subjects

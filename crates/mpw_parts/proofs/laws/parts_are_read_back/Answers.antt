@@ -1,0 +1,5 @@
+use Rattle.mpw_parts.proofs.PartLemmas.{parts_are_read_back}
+use Rattle.mpw_parts.proofs.laws.parts_are_read_back.Goals as goal
+
+pub returns : goal.returns
+returns c = parts_are_read_back

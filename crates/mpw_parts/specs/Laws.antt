@@ -1,0 +1,9 @@
+-- Laws of parts.
+use Rattle.std.specs.Prelude.{◌≡◌, Some}
+use Rattle.mpw_parts.specs.Parts.{Found, IsPart}
+use Rattle.mpw_parts.specs.Text.{part_text}
+use Rattle.mpw_parts.specs.Reading.{part_of}
+
+-- The text of a part is read as that part.
+abbrev pub PartsAreReadBack : Type 0
+PartsAreReadBack = (part : Found) → IsPart part → part_of (part_text part) ≡ Some part

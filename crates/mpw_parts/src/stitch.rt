@@ -1,0 +1,116 @@
+//! Parts put together.
+//!
+//! Parts are put in the order of their first tiles; each then has to begin where the one before ends. So each tile of the plan
+//! has one list, and no table of tiles is needed.
+ghost use Rattle.std.specs.Prelude.{◌≡◌, ◌++◌, length, All, IfOk, IfErr};
+ghost use Rattle.std.specs.List.Sorted.{IsPermutation};
+ghost use Rattle.mpw_parts.specs.Stitching.{lists_of, FollowOn, IsBookOf, IsFaultOf, IsOther, IsOfTiles, difference_of};
+
+use crate::fault::{Difference, PartsFault};
+use crate::part::{Part, Subject};
+use mpw_markers::{Book, TileMarkers, stitch};
+use std::alloc::{AllocError, Global};
+
+/// What a check doesn't share with another.
+#[tactic(auto, unfolding(crate::specs::Stitching::difference_of))]
+fn difference(first: &Subject, other: &Subject) -> Option<Difference>
+    ensures { result ≡ difference_of first.now other.now }
+{
+    if first.library().as_slice() != other.library().as_slice() {
+        Some(Difference::Library)
+    } else if first.deck() != other.deck() {
+        Some(Difference::Deck)
+    } else if first.top().as_bytes() != other.top().as_bytes() {
+        Some(Difference::Top)
+    } else if first.tiles() != other.tiles() {
+        Some(Difference::Plan)
+    } else {
+        None
+    }
+}
+
+/// Whether all parts are of one check.
+///
+/// # Errors
+/// The first that isn't.
+fn are_of_one(first: &Subject, parts: &[Part]) -> Result<(), PartsFault>
+    ensures same { IfOk result (λ _. All (λ part. part.subject ≡ first.now) parts.now) }
+    ensures other { IfErr result (IsOther first.now parts.now) }
+{
+    for (place, part) in parts.iter().enumerate() {
+        if let Some(what) = difference(first, part.subject()) {
+            return Err(PartsFault::Other(place, what));
+        }
+    }
+    Ok(())
+}
+
+/// The parts in the order of their first tiles.
+fn in_order(parts: Vec<Part>) -> Result<Vec<Part>, AllocError>
+    ensures { IfOk result (λ ordered. IsPermutation parts.items ordered.items) }
+{
+    let mut parts = parts;
+    parts.sort_by_key(|part| (part.first(), part.lists().len()))?;
+    Ok(parts)
+}
+
+/// Adds the lists.
+fn add_lists(lists: &mut Vec<TileMarkers>, more: &[TileMarkers]) -> Result<(), AllocError>
+    ensures { IfOk result (λ _. lists.new.items ≡ lists.old.items ++ more.now) }
+{
+    for list in more {
+        lists.push(list.copy()?)?;
+    }
+    Ok(())
+}
+
+/// What keeps a part from beginning at the tile, where it begins at another.
+fn fault_at(tile: usize, first: usize) -> PartsFault
+    ensures { IsOfTiles result }
+{
+    if first < tile {
+        PartsFault::Doubled(first)
+    } else {
+        PartsFault::Missing(tile)
+    }
+}
+
+/// The lists of parts that follow on one another from tile 0 on.
+fn lists_in(alloc: Global, parts: &[Part]) -> Result<Vec<TileMarkers>, PartsFault>
+    ensures lists { IfOk result (λ lists. lists.items ≡ lists_of parts.now) }
+    ensures once { IfOk result (λ lists. FollowOn 0 parts.now (length lists.items)) }
+    ensures faults { IfErr result IsOfTiles }
+{
+    let mut lists = Vec::new(alloc);
+    for part in parts {
+        let first = part.first() as usize;
+        if first != lists.len() {
+            return Err(fault_at(lists.len(), first));
+        }
+        add_lists(&mut lists, part.lists())?;
+    }
+    Ok(lists)
+}
+
+/// The book of the parts' markers, each run of rows that goes on from one tile to the next as one marker. The parts may come in
+/// any order. It costs a sort of the parts and what [`stitch`] does.
+///
+/// # Errors
+/// `NoPart` without parts, `Other` at the first that isn't of the first part's check, `Missing` and `Doubled` at the first tile
+/// that no part has or that two have, or `Memory`.
+pub fn stitch_parts(alloc: Global, parts: Vec<Part>) -> Result<Book, PartsFault>
+    ensures ok { IfOk result (IsBookOf parts.items) }
+    ensures faults { IfErr result (IsFaultOf parts.items) }
+{
+    let [first, ..] = parts.as_slice() else {
+        return Err(PartsFault::NoPart);
+    };
+    let tiles = first.subject().tiles() as usize;
+    are_of_one(first.subject(), parts.as_slice())?;
+    let ordered = in_order(parts)?;
+    let lists = lists_in(alloc, ordered.as_slice())?;
+    if lists.len() != tiles {
+        return Err(PartsFault::Missing(lists.len()));
+    }
+    Ok(stitch(alloc, &lists)?)
+}
