@@ -7,6 +7,9 @@ Two runs of the toolchain in one tree wait for each other, so each crate is prov
 crates below it. What was proved is put back at once: a run that was broken off goes on where it stood. The way is told
 on the standard error.
 """
+import functools
+import importlib.machinery
+import importlib.util
 import os
 import shutil
 import subprocess
@@ -18,6 +21,8 @@ from concurrent.futures import FIRST_COMPLETED, ThreadPoolExecutor, wait
 TOP = os.path.dirname(os.path.dirname(os.path.abspath(__file__)))
 # The memory that a check may take, in bytes.
 NEED = 4_500_000_000
+# The first word that makes this file the toolchain's rt.
+AS_RT = "rt"
 
 
 def say(text):
@@ -55,14 +60,28 @@ def is_proved(crates, name):
     return all(newest(part) <= made for part in parts)
 
 
-def copy_crate(name, tree, with_out):
-    for part in ("src", "specs", "proofs", *with_out):
+def link_or_copy(source, target):
+    """A second name of a file that is only read; a copy where the folders are of two file systems."""
+    try:
+        os.link(source, target, follow_symlinks=False)
+    except OSError:
+        shutil.copy2(source, target, follow_symlinks=False)
+
+
+def copy_crate(name, tree, with_out, copy):
+    for part in ("src", "specs", "proofs"):
         if os.path.isdir(f"{TOP}/crates/{name}/{part}"):
             shutil.copytree(f"{TOP}/crates/{name}/{part}", f"{tree}/crates/{name}/{part}", symlinks=True)
+    # A program's files of words and status are in the sum of its texts.
+    for it in ("args", "status"):
+        if os.path.isfile(f"{TOP}/crates/{name}/{it}"):
+            shutil.copy2(f"{TOP}/crates/{name}/{it}", f"{tree}/crates/{name}/{it}")
+    if os.path.isdir(f"{TOP}/crates/{name}/{with_out}"):
+        shutil.copytree(f"{TOP}/crates/{name}/{with_out}", f"{tree}/crates/{name}/{with_out}", symlinks=True, copy_function=copy)
 
 
-def prove(crates, name, jobs):
-    """Proves a crate, and returns what was said where that failed."""
+def prove(crates, name, words):
+    """Proves a crate by a command of the toolchain, and returns whether that was done and what it said."""
     with tempfile.TemporaryDirectory(prefix="mpw-build-") as tree:
         wanted = [*below(crates, name), name]
         with open(f"{TOP}/crates.txt", encoding="utf-8") as file:
@@ -70,16 +89,29 @@ def prove(crates, name, jobs):
         with open(f"{tree}/crates.txt", "w", encoding="utf-8") as file:
             file.writelines(lines)
         for it in wanted[:-1]:
-            copy_crate(it, tree, ["out/rlib"])
-        copy_crate(name, tree, ["out"])
-        words = ["rt", "lib", "--jobs", str(jobs)]
+            copy_crate(it, tree, "out/rlib", link_or_copy)
+        copy_crate(name, tree, "out", shutil.copy2)
         how = {"cwd": f"{tree}/crates/{name}", "stdin": subprocess.DEVNULL, "stdout": subprocess.PIPE}
-        ran = subprocess.run(words, **how, stderr=subprocess.STDOUT, errors="replace")
+        ran = subprocess.run([sys.executable, __file__, AS_RT, *words], **how, stderr=subprocess.STDOUT, errors="replace")
         out = f"{TOP}/crates/{name}/out"
         if os.path.isdir(f"{tree}/crates/{name}/out"):
             shutil.rmtree(out, ignore_errors=True)
             shutil.move(f"{tree}/crates/{name}/out", out)
-        return "" if ran.returncode == 0 else ran.stdout
+        return ran.returncode == 0, ran.stdout
+
+
+def as_rt(words):
+    """Runs the toolchain's rt, which then sums up each crate's texts once, and not once for each way that leads to it: of
+    those there are thousands. A tree that nobody else writes in stays as it was summed. A rt of another form runs as it is."""
+    sys.dont_write_bytecode = True
+    loader = importlib.machinery.SourceFileLoader("toolchain", os.path.realpath(shutil.which("rt")))
+    made = importlib.util.module_from_spec(importlib.util.spec_from_loader("toolchain", loader))
+    try:
+        loader.exec_module(made)
+        made.rtlib.Crate.stamp = functools.cache(made.rtlib.Crate.stamp)
+    except (AttributeError, SyntaxError, UnicodeError, ValueError):
+        os.execvp("rt", ["rt", *words])
+    return made.main(words)
 
 
 def lanes():
@@ -99,11 +131,12 @@ def prove_all(crates, wanted):
             for name in ready[: most - len(running)]:
                 left.remove(name)
                 began[name] = time.monotonic()
-                running[pool.submit(prove, crates, name, most)] = name
+                running[pool.submit(prove, crates, name, ["lib", "--jobs", str(most)])] = name
             for done in wait(running, return_when=FIRST_COMPLETED).done:
                 name = running.pop(done)
-                if done.result():
-                    say(f"{name} could not be proved:\n{done.result()[-4000:]}")
+                proved, said = done.result()
+                if not proved:
+                    say(f"{name} could not be proved:\n{said[-4000:]}")
                     return False
                 say(f"{total - len(left) - len(running)} of {total} crates proved: {name}, {time.monotonic() - began[name]:.0f} s")
     return True
@@ -117,13 +150,12 @@ def main(words):
     if not prove_all(crates, wanted):
         return 1
     say(f"proving {program} itself")
-    how = {"cwd": f"{TOP}/crates/{program}", "stdin": subprocess.DEVNULL, "stdout": subprocess.PIPE}
-    ran = subprocess.run(["rt", "run", "--", "--help"], **how, stderr=subprocess.STDOUT, errors="replace")
+    said = prove(crates, program, ["run", "--", "--help"])[1]
     if not os.path.isfile(f"{TOP}/crates/{program}/out/{program}"):
-        say(f"the program could not be built:\n{ran.stdout[-4000:]}")
+        say(f"the program could not be built:\n{said[-4000:]}")
         return 1
     return 0
 
 
 if __name__ == "__main__":
-    sys.exit(main(sys.argv[1:]))
+    sys.exit(as_rt(sys.argv[2:]) if sys.argv[1:2] == [AS_RT] else main(sys.argv[1:]))
