@@ -12,9 +12,11 @@ use Rattle.mpw_rbac.specs.declared.permission.Object.{Object}
 use Rattle.mpw_rbac.specs.declared.permission.Operation.{Operation}
 use Rattle.mpw_rbac.specs.declared.session.Session.{Session}
 
-none-granted : (operation : Operation) (object : Object) (granted : List Grant) → list_any (is_granted_to [] operation object) granted ≡ false
+none-granted : (operation : Operation) (object : Object) (granted : List Grant)
+    → list_any (is_granted_to [] operation object) granted ≡ false
 none-granted operation object [] = refl
-none-granted operation object (g ∷ gs) = λ i. none (operation_eq operation g.operation) (object_eq object g.object) i || none-granted operation object gs i
+none-granted operation object (g ∷ gs) = λ i. none (operation_eq operation g.operation)
+    (object_eq object g.object) i || none-granted operation object gs i
   where
     none : (a b : Bool) → (a && (b && false)) ≡ false
     none true true = refl
@@ -26,13 +28,19 @@ none-below h [] = refl
 none-below h (n ∷ ns) = none-below h ns
 
 pub permits-acting : (p : Policy) (conn : ℕ) (operation : Operation) (object : Object)
-    → list_any (is_granted_to (roles_below p.roles (rows.active_roles p conn)) operation object) p.granted ≡ permits p conn operation object
+    → list_any (is_granted_to (roles_below p.roles (rows.active_roles p conn)) operation object)
+    p.granted ≡ permits p conn operation object
 permits-acting p conn operation object =
-    elim (session_of p conn) as (λ o. list_any (is_granted_to (roles_below p.roles (option_map_or (λ (s : Session). s.active) o [])) operation object) p.granted ≡ option_map_or (λ (s : Session). session_permits p s operation object) o false) [
-      | None ↦ ap (λ l. list_any (is_granted_to l operation object) p.granted) (none-below p.roles (role_names p.roles)) ∙ none-granted operation object p.granted
+    elim (session_of p conn) as (λ o. list_any
+    (is_granted_to (roles_below p.roles (option_map_or (λ (s : Session). s.active) o []))
+    operation object) p.granted ≡ option_map_or
+    (λ (s : Session). session_permits p s operation object) o false) [
+      | None ↦ ap (λ l. list_any (is_granted_to l operation object) p.granted)
+          (none-below p.roles (role_names p.roles)) ∙ none-granted operation object p.granted
       | Some s ↦ refl
     ]
 
 -- where every session ended, nothing is permitted
-pub nothing-permitted : (p : Policy) (conn : ℕ) (operation : Operation) (object : Object) → permits (rows.end_sessions p) conn operation object ≡ false
+pub nothing-permitted : (p : Policy) (conn : ℕ) (operation : Operation) (object : Object)
+    → permits (rows.end_sessions p) conn operation object ≡ false
 nothing-permitted p conn operation object = refl

@@ -22,28 +22,40 @@ all-part (x ∷ xs) all part =
     both (contains_name all x) _ (part x (ap (λ b. b || contains_name xs x) (name_eq-refl x)))
     (all-part xs all (λ r there. part r (or_right (name_eq r x) (contains_name xs r) there)))
 
-less-session : (e : ℕ × Session) (active : List Name) → IsPart active e.1.active → is_session_of (e.0, record { user = e.1.user; active = active }) e ≡ true
-less-session e active part = both (e.0 == e.0) _ (eq-eqb e.0 e.0 refl) (both (name_eq e.1.user e.1.user) _ (name_eq-refl e.1.user) (all-part active e.1.active part))
+less-session : (e : ℕ × Session) (active : List Name) → IsPart active e.1.active
+    → is_session_of (e.0, record { user = e.1.user; active = active }) e ≡ true
+less-session e active part = both (e.0 == e.0) _ (eq-eqb e.0 e.0 refl)
+    (both (name_eq e.1.user e.1.user) _ (name_eq-refl e.1.user) (all-part active e.1.active part))
 
 -- each session, changed to one that it has been
-was-there : (f : ℕ × Session → ℕ × Session) (keep : ℕ × Session → Bool) → ((e : ℕ × Session) → is_session_of (f e) e ≡ true) → (es : List (ℕ × Session)) → list_all (λ (new : ℕ × Session). list_any (is_session_of new) es) (map f (filter keep es)) ≡ true
+was-there : (f : ℕ × Session → ℕ × Session) (keep : ℕ × Session → Bool)
+    → ((e : ℕ × Session) → is_session_of (f e) e ≡ true) → (es : List (ℕ × Session))
+    → list_all (λ (new : ℕ × Session). list_any (is_session_of new) es) (map f (filter keep es))
+    ≡ true
 was-there f keep each [] = refl
 was-there f keep each (e ∷ es) =
-    let rest = all_imply (λ (new : ℕ × Session). list_any (is_session_of new) es) (λ (new : ℕ × Session). list_any (is_session_of new) (e ∷ es)) (λ new there. or_right (is_session_of new e) (list_any (is_session_of new) es) there) (map f (filter keep es)) (was-there f keep each es) in
-    elim (keep e) as (λ b. list_all (λ (new : ℕ × Session). list_any (is_session_of new) (e ∷ es)) (map f (cond b (e ∷ filter keep es) (filter keep es))) ≡ true) [
-      | true ↦ both (list_any (is_session_of (f e)) (e ∷ es)) _ (ap (λ b. b || list_any (is_session_of (f e)) es) (each e)) rest
+    let rest = all_imply (λ (new : ℕ × Session). list_any (is_session_of new) es)
+    (λ (new : ℕ × Session). list_any (is_session_of new) (e ∷ es))
+    (λ new there. or_right (is_session_of new e) (list_any (is_session_of new) es) there)
+    (map f (filter keep es)) (was-there f keep each es) in
+    elim (keep e) as (λ b. list_all (λ (new : ℕ × Session). list_any (is_session_of new) (e ∷ es))
+    (map f (cond b (e ∷ filter keep es) (filter keep es))) ≡ true) [
+      | true ↦ both (list_any (is_session_of (f e)) (e ∷ es)) _
+          (ap (λ b. b || list_any (is_session_of (f e)) es) (each e)) rest
       | false ↦ rest
     ]
 
 abbrev Stays : List (ℕ × Session) → List (ℕ × Session) → Type 0
-Stays before after = list_all (λ (new : ℕ × Session). list_any (is_session_of new) before) after ≡ true
+Stays before after =
+    list_all (λ (new : ℕ × Session). list_any (is_session_of new) before) after ≡ true
 
 unmapped : (es : List (ℕ × Session)) → map (λ (e : ℕ × Session). e) es ≡ es
 unmapped [] = refl
 unmapped (e ∷ es) = ap (λ l. e ∷ l) (unmapped es)
 
 stays-filter : (keep : ℕ × Session → Bool) (es : List (ℕ × Session)) → Stays es (filter keep es)
-stays-filter keep es = subst (Stays es) (unmapped (filter keep es)) (was-there (λ e. e) keep (λ e. less-session e e.1.active (λ r is. is)) es)
+stays-filter keep es = subst (Stays es) (unmapped (filter keep es))
+    (was-there (λ e. e) keep (λ e. less-session e e.1.active (λ r is. is)) es)
 
 all-kept : (es : List (ℕ × Session)) → filter (λ (e : ℕ × Session). true) es ≡ es
 all-kept [] = refl
@@ -53,61 +65,91 @@ stays-same : (es : List (ℕ × Session)) → Stays es es
 stays-same es = subst (Stays es) (all-kept es) (stays-filter (λ e. true) es)
 
 kept-part : (q : Policy) (s : Session) → IsPart (kept_roles q s).active s.active
-kept-part q s r is = (parts (contains_name s.active r) (contains_name (authorized q s.user) r) (sym (contains-filter (contains_name (authorized q s.user)) s.active r) ∙ is)).0
+kept-part q s r is = (parts (contains_name s.active r) (contains_name (authorized q s.user) r)
+    (sym (contains-filter (contains_name (authorized q s.user)) s.active r) ∙ is)).0
 
 stays-trim : (q : Policy) → Stays q.sessions (trim q).sessions
-stays-trim q = was-there (λ (e : ℕ × Session). (e.0, kept_roles q e.1)) (λ (e : ℕ × Session). is_user q e.1.user) (λ e. less-session e (kept_roles q e.1).active (kept-part q e.1)) q.sessions
+stays-trim q = was-there (λ (e : ℕ × Session). (e.0, kept_roles q e.1))
+    (λ (e : ℕ × Session). is_user q e.1.user)
+    (λ e. less-session e (kept_roles q e.1).active (kept-part q e.1)) q.sessions
 
-stays : (p : Policy) (tests : List rows.Test) (next q : Policy) → decided tests next ≡ Ok q → Stays p.sessions next.sessions → Stays p.sessions q.sessions
-stays p tests next q is there = subst (λ (k : Policy). Stays p.sessions k.sessions) (decided-value tests next q is) there
+stays : (p : Policy) (tests : List rows.Test) (next q : Policy) → decided tests next ≡ Ok q
+    → Stays p.sessions next.sessions → Stays p.sessions q.sessions
+stays p tests next q is there =
+    subst (λ (k : Policy). Stays p.sessions k.sessions) (decided-value tests next q is) there
 
 pub adds-end_session : (conn : ℕ) → AddsNoActive (λ p. Ok (rows.end_session p conn))
-adds-end_session conn p q is = stays p [] (rows.end_session p conn) q is (stays-filter (λ (e : ℕ × Session). not (conn == e.0)) p.sessions)
+adds-end_session conn p q is = stays p [] (rows.end_session p conn) q is
+    (stays-filter (λ (e : ℕ × Session). not (conn == e.0)) p.sessions)
 
 pub adds-end_sessions : AddsNoActive (λ p. Ok (rows.end_sessions p))
 adds-end_sessions p q is = stays p [] (rows.end_sessions p) q is refl
 
 pub adds-close_session : (conn : ℕ) → AddsNoActive (λ p. rows.close_session p conn)
-adds-close_session conn p q is = stays p (rows.in_session p conn ∷ []) (rows.end_session p conn) q is (stays-filter (λ (e : ℕ × Session). not (conn == e.0)) p.sessions)
+adds-close_session conn p q is = stays p (rows.in_session p conn ∷ []) (rows.end_session p conn) q
+    is (stays-filter (λ (e : ℕ × Session). not (conn == e.0)) p.sessions)
 
-pub adds-adduser : (conn : ℕ) (user digest : List ℕ) → AddsNoActive (λ p. rows.adduser p conn user digest)
-adds-adduser conn user digest p q is = stays p (row.administer-tests p conn (row.adduser-tests p user)) (row.user_added p user digest) q is (stays-same p.sessions)
+pub adds-adduser : (conn : ℕ) (user digest : List ℕ)
+    → AddsNoActive (λ p. rows.adduser p conn user digest)
+adds-adduser conn user digest p q is =
+    stays p (row.administer-tests p conn (row.adduser-tests p user)) (row.user_added p user digest)
+    q is (stays-same p.sessions)
 
 pub adds-deluser : (conn : ℕ) (user : List ℕ) → AddsNoActive (λ p. rows.deluser p conn user)
-adds-deluser conn user p q is = stays p (row.administer-tests p conn (row.deluser-tests p user)) (trim (row.user_deleted p user)) q is (stays-trim (row.user_deleted p user))
+adds-deluser conn user p q is = stays p (row.administer-tests p conn (row.deluser-tests p user))
+    (trim (row.user_deleted p user)) q is (stays-trim (row.user_deleted p user))
 
 pub adds-addrole : (conn : ℕ) (role : List ℕ) → AddsNoActive (λ p. rows.addrole p conn role)
-adds-addrole conn role p q is = stays p (row.administer-tests p conn (row.addrole-tests p role)) (row.role_added p role) q is (stays-same p.sessions)
+adds-addrole conn role p q is = stays p (row.administer-tests p conn (row.addrole-tests p role))
+    (row.role_added p role) q is (stays-same p.sessions)
 
 pub adds-delrole : (conn : ℕ) (role : List ℕ) → AddsNoActive (λ p. rows.delrole p conn role)
-adds-delrole conn role p q is = stays p (row.administer-tests p conn (row.delrole-tests p role)) (trim (rows.without_role_of p role)) q is (stays-trim (rows.without_role_of p role))
+adds-delrole conn role p q is = stays p (row.administer-tests p conn (row.delrole-tests p role))
+    (trim (rows.without_role_of p role)) q is (stays-trim (rows.without_role_of p role))
 
 pub adds-assign : (conn : ℕ) (user role : List ℕ) → AddsNoActive (λ p. rows.assign p conn user role)
-adds-assign conn user role p q is = stays p (row.administer-tests p conn (row.assign-tests p user role)) (row.assigned p user role) q is (stays-same p.sessions)
+adds-assign conn user role p q is =
+    stays p (row.administer-tests p conn (row.assign-tests p user role)) (row.assigned p user role)
+    q is (stays-same p.sessions)
 
-pub adds-deassign : (conn : ℕ) (user role : List ℕ) → AddsNoActive (λ p. rows.deassign p conn user role)
-adds-deassign conn user role p q is = stays p (row.administer-tests p conn (row.deassign-tests p user role)) (trim (row.deassigned p user role)) q is (stays-trim (row.deassigned p user role))
+pub adds-deassign : (conn : ℕ) (user role : List ℕ)
+    → AddsNoActive (λ p. rows.deassign p conn user role)
+adds-deassign conn user role p q is =
+    stays p (row.administer-tests p conn (row.deassign-tests p user role))
+    (trim (row.deassigned p user role)) q is (stays-trim (row.deassigned p user role))
 
 pub adds-grant : (conn : ℕ) (new : Grant) → AddsNoActive (λ p. rows.grant p conn new)
-adds-grant conn new p q is = stays p (row.administer-tests p conn (row.grant-tests p new)) (row.grant_added p new) q is (stays-same p.sessions)
+adds-grant conn new p q is = stays p (row.administer-tests p conn (row.grant-tests p new))
+    (row.grant_added p new) q is (stays-same p.sessions)
 
 pub adds-revoke : (conn : ℕ) (old : Grant) → AddsNoActive (λ p. rows.revoke p conn old)
-adds-revoke conn old p q is = stays p (row.administer-tests p conn (row.revoke-tests p old)) (row.grant_revoked p old) q is (stays-same p.sessions)
+adds-revoke conn old p q is = stays p (row.administer-tests p conn (row.revoke-tests p old))
+    (row.grant_revoked p old) q is (stays-same p.sessions)
 
-pub adds-inherit : (conn : ℕ) (senior junior : List ℕ) → AddsNoActive (λ p. rows.inherit p conn senior junior)
-adds-inherit conn senior junior p q is = stays p (row.administer-tests p conn (row.inherit-tests p senior junior)) (row.inherited p senior junior) q is (stays-same p.sessions)
+pub adds-inherit : (conn : ℕ) (senior junior : List ℕ)
+    → AddsNoActive (λ p. rows.inherit p conn senior junior)
+adds-inherit conn senior junior p q is =
+    stays p (row.administer-tests p conn (row.inherit-tests p senior junior))
+    (row.inherited p senior junior) q is (stays-same p.sessions)
 
-pub adds-uninherit : (conn : ℕ) (senior junior : List ℕ) → AddsNoActive (λ p. rows.uninherit p conn senior junior)
-adds-uninherit conn senior junior p q is = stays p (row.administer-tests p conn (row.uninherit-tests p senior junior)) (trim (row.uninherited p senior junior)) q is (stays-trim (row.uninherited p senior junior))
+pub adds-uninherit : (conn : ℕ) (senior junior : List ℕ)
+    → AddsNoActive (λ p. rows.uninherit p conn senior junior)
+adds-uninherit conn senior junior p q is =
+    stays p (row.administer-tests p conn (row.uninherit-tests p senior junior))
+    (trim (row.uninherited p senior junior)) q is (stays-trim (row.uninherited p senior junior))
 
 pub adds-ssd : (conn : ℕ) (set : SeparationSet) → AddsNoActive (λ p. rows.ssd p conn set)
-adds-ssd conn set p q is = stays p (row.administer-tests p conn (row.ssd-tests p set)) (row.ssd_made p set) q is (stays-same p.sessions)
+adds-ssd conn set p q is = stays p (row.administer-tests p conn (row.ssd-tests p set))
+    (row.ssd_made p set) q is (stays-same p.sessions)
 
 pub adds-dsd : (conn : ℕ) (set : SeparationSet) → AddsNoActive (λ p. rows.dsd p conn set)
-adds-dsd conn set p q is = stays p (row.administer-tests p conn (row.dsd-tests p set)) (row.dsd_made p set) q is (stays-same p.sessions)
+adds-dsd conn set p q is = stays p (row.administer-tests p conn (row.dsd-tests p set))
+    (row.dsd_made p set) q is (stays-same p.sessions)
 
 pub adds-unssd : (conn : ℕ) (name : List ℕ) → AddsNoActive (λ p. rows.unssd p conn name)
-adds-unssd conn name p q is = stays p (row.administer-tests p conn (row.unssd-tests p name)) (row.ssd_removed p name) q is (stays-same p.sessions)
+adds-unssd conn name p q is = stays p (row.administer-tests p conn (row.unssd-tests p name))
+    (row.ssd_removed p name) q is (stays-same p.sessions)
 
 pub adds-undsd : (conn : ℕ) (name : List ℕ) → AddsNoActive (λ p. rows.undsd p conn name)
-adds-undsd conn name p q is = stays p (row.administer-tests p conn (row.undsd-tests p name)) (row.dsd_removed p name) q is (stays-same p.sessions)
+adds-undsd conn name p q is = stays p (row.administer-tests p conn (row.undsd-tests p name))
+    (row.dsd_removed p name) q is (stays-same p.sessions)

@@ -8,28 +8,36 @@ use Rattle.std.proofs.lemmas.List.Folds.{list_any-append}
 use Rattle.mpw_roles.specs.declared.mask.Mask.{Mask}
 use Rattle.mpw_roles.specs.Mask.{has}
 use Rattle.mpw_rbac.specs.Grant.{operation_eq, object_eq, grant_eq}
-use Rattle.mpw_rbac.specs.Grants.{IsCovered, without_grant}
-use Rattle.mpw_rbac.specs.Holders.{slot}
+use Rattle.mpw_rbac.specs.Internal.Grants.{IsCovered, without_grant}
+use Rattle.mpw_rbac.specs.Internal.Holders.{slot}
 use Rattle.mpw_geom.specs.Names.{name_eq}
 use Rattle.mpw_rbac.specs.declared.permission.Grant.{Grant}
-use Rattle.mpw_rbac.proofs.GrantedLemmas.{same_object}
+use Rattle.mpw_rbac.proofs.ObjectLemmas.{same_object}
 use Rattle.mpw_rbac.proofs.SeparationLemmas.{refuted, both, parts}
 
 -- a grant whose slot isn't there is none of them
-pub not-covered : (slots : Mask) (grants : List Grant) (g : Grant) → IsCovered slots grants → has slots (slot g.object) ≡ false → list_any (grant_eq g) grants ≡ false
+pub not-covered : (slots : Mask) (grants : List Grant) (g : Grant) → IsCovered slots grants
+    → has slots (slot g.object) ≡ false → list_any (grant_eq g) grants ≡ false
 not-covered slots [] g covered none = refl
 not-covered slots (x ∷ xs) g covered none =
-    let p = parts (has slots (slot x.object)) (list_all (λ (y : Grant). has slots (slot y.object)) xs) covered in
+    let p = parts (has slots (slot x.object))
+    (list_all (λ (y : Grant). has slots (slot y.object)) xs) covered in
     ap (λ b. b || list_any (grant_eq g) xs)
     (refuted (grant_eq g x) (λ is.
-    let f = parts (operation_eq g.operation x.operation) (object_eq g.object x.object && name_eq g.role x.role) is in
+    let f = parts (operation_eq g.operation x.operation) (object_eq g.object x.object
+    && name_eq g.role x.role) is in
     let s = parts (object_eq g.object x.object) (name_eq g.role x.role) f.1 in
-    true≢false (sym p.0 ∙ ap (λ o. has slots (slot o)) (sym (same_object g.object x.object s.0)) ∙ none)))
+    true≢false (sym p.0 ∙ ap (λ o. has slots (slot o)) (sym (same_object g.object x.object s.0))
+    ∙ none)))
     ∙ not-covered slots xs g p.1 none
 
 -- one slot and one grant more
-pub covered-more : (slots wider : Mask) (grants : List Grant) (g : Grant) → ((q : ℕ) → has wider q ≡ (has slots q || eqb q (slot g.object))) → IsCovered slots grants → IsCovered wider (grants ++ g ∷ [])
-covered-more slots wider [] g is covered = both (has wider (slot g.object)) true (is (slot g.object) ∙ right (has slots (slot g.object)) (eqb (slot g.object) (slot g.object)) (eqb-refl (slot g.object))) refl
+pub covered-more : (slots wider : Mask) (grants : List Grant) (g : Grant)
+    → ((q : ℕ) → has wider q ≡ (has slots q || eqb q (slot g.object))) → IsCovered slots grants
+    → IsCovered wider (grants ++ g ∷ [])
+covered-more slots wider [] g is covered = both (has wider (slot g.object)) true
+    (is (slot g.object) ∙ right (has slots (slot g.object)) (eqb (slot g.object) (slot g.object))
+    (eqb-refl (slot g.object))) refl
   where
     right : (a b : Bool) → b ≡ true → (a || b) ≡ true
     right true b t = refl
@@ -38,54 +46,73 @@ covered-more slots wider [] g is covered = both (has wider (slot g.object)) true
     eqb-refl : (n : ℕ) → eqb n n ≡ true
     eqb-refl n = eq-eqb n n refl
 covered-more slots wider (x ∷ xs) g is covered =
-    let p = parts (has slots (slot x.object)) (list_all (λ (y : Grant). has slots (slot y.object)) xs) covered in
-    both (has wider (slot x.object)) _ (is (slot x.object) ∙ ap (λ b. b || eqb (slot x.object) (slot g.object)) p.0) (covered-more slots wider xs g is p.1)
+    let p = parts (has slots (slot x.object))
+    (list_all (λ (y : Grant). has slots (slot y.object)) xs) covered in
+    both (has wider (slot x.object)) _
+    (is (slot x.object) ∙ ap (λ b. b || eqb (slot x.object) (slot g.object)) p.0)
+    (covered-more slots wider xs g is p.1)
 
 -- fewer grants
-pub covered-less : (slots : Mask) (k : Grant → Bool) (grants : List Grant) → IsCovered slots grants → IsCovered slots (filter k grants)
+pub covered-less : (slots : Mask) (k : Grant → Bool) (grants : List Grant) → IsCovered slots grants
+    → IsCovered slots (filter k grants)
 covered-less slots k [] covered = refl
 covered-less slots k (x ∷ xs) covered =
-    let p = parts (has slots (slot x.object)) (list_all (λ (y : Grant). has slots (slot y.object)) xs) covered in
+    let p = parts (has slots (slot x.object))
+    (list_all (λ (y : Grant). has slots (slot y.object)) xs) covered in
     elim (k x) as (λ b. IsCovered slots (cond b (x ∷ filter k xs) (filter k xs))) [
       | true ↦ both (has slots (slot x.object)) _ p.0 (covered-less slots k xs p.1)
       | false ↦ covered-less slots k xs p.1
     ]
 
 -- a filter that nothing falls through
-pub without-none : (grants : List Grant) (g : Grant) → list_any (grant_eq g) grants ≡ false → grants ≡ without_grant grants g
+pub without-none : (grants : List Grant) (g : Grant) → list_any (grant_eq g) grants ≡ false
+    → grants ≡ without_grant grants g
 without-none [] g none = refl
 without-none (x ∷ xs) g none =
-    elim (grant_eq g x) as (λ b. (b || list_any (grant_eq g) xs) ≡ false → x ∷ xs ≡ cond (not b) (x ∷ without_grant xs g) (without_grant xs g)) [
+    elim (grant_eq g x) as (λ b. (b || list_any (grant_eq g) xs) ≡ false
+    → x ∷ xs ≡ cond (not b) (x ∷ without_grant xs g) (without_grant xs g)) [
       | true ↦ λ is. absurd (true≢false is)
       | false ↦ λ later. ap (λ l. x ∷ l) (without-none xs g later)
     ] none
 
 -- a block more at the end
-pub flat_last : (blocks : List (List Grant)) (block : List Grant) → flat_map (λ b. b) (blocks ++ block ∷ []) ≡ flat_map (λ b. b) blocks ++ block
+pub flat_last : (blocks : List (List Grant)) (block : List Grant)
+    → flat_map (λ b. b) (blocks ++ block ∷ []) ≡ flat_map (λ b. b) blocks ++ block
 flat_last [] block = append-nil block
-flat_last (b ∷ bs) block = ap (λ l. b ++ l) (flat_last bs block) ∙ sym (append_assoc b (flat_map (λ x. x) bs) block)
+flat_last (b ∷ bs) block =
+    ap (λ l. b ++ l) (flat_last bs block) ∙ sym (append_assoc b (flat_map (λ x. x) bs) block)
 
-pub filter_append : (k : Grant → Bool) (xs ys : List Grant) → filter k (xs ++ ys) ≡ filter k xs ++ filter k ys
+pub filter_append : (k : Grant → Bool) (xs ys : List Grant) → filter k (xs ++ ys) ≡ filter k xs
+    ++ filter k ys
 filter_append k [] ys = refl
-filter_append k (x ∷ xs) ys = elim (k x) as (λ b. cond b (x ∷ filter k (xs ++ ys)) (filter k (xs ++ ys)) ≡ cond b (x ∷ filter k xs) (filter k xs) ++ filter k ys) [
-  | true ↦ ap (λ l. x ∷ l) (filter_append k xs ys)
-  | false ↦ filter_append k xs ys
-]
+filter_append k (x ∷ xs) ys = elim (k x) as
+    (λ b. cond b (x ∷ filter k (xs ++ ys)) (filter k (xs ++ ys)) ≡ cond b (x ∷ filter k xs)
+    (filter k xs) ++ filter k ys) [
+      | true ↦ ap (λ l. x ∷ l) (filter_append k xs ys)
+      | false ↦ filter_append k xs ys
+    ]
 
 -- what is in a block is in all
-pub among : (p : Grant → Bool) (blocks : List (List Grant)) (i : ℕ) (b d : List Grant) → i < length blocks → b ≡ get_or blocks i d → list_any p b ≡ true → list_any p (flat_map (λ x. x) blocks) ≡ true
+pub among : (p : Grant → Bool) (blocks : List (List Grant)) (i : ℕ) (b d : List Grant)
+    → i < length blocks → b ≡ get_or blocks i d → list_any p b ≡ true
+    → list_any p (flat_map (λ x. x) blocks) ≡ true
 among p [] i b d inside at is = absurd (omega arith)
-among p (x ∷ xs) zero b d inside at is = list_any-append p x (flat_map (λ y. y) xs) ∙ ap (λ t. t || list_any p (flat_map (λ y. y) xs)) (ap (list_any p) (sym at) ∙ is)
-among p (x ∷ xs) (suc i) b d inside at is = list_any-append p x (flat_map (λ y. y) xs) ∙ ap (λ t. list_any p x || t) (among p xs i b d (omega arith) at is) ∙ or_true (list_any p x)
+among p (x ∷ xs) zero b d inside at is = list_any-append p x (flat_map (λ y. y) xs)
+    ∙ ap (λ t. t || list_any p (flat_map (λ y. y) xs)) (ap (list_any p) (sym at) ∙ is)
+among p (x ∷ xs) (suc i) b d inside at is = list_any-append p x (flat_map (λ y. y) xs)
+    ∙ ap (λ t. list_any p x || t) (among p xs i b d (omega arith) at is) ∙ or_true (list_any p x)
   where
     or_true : (t : Bool) → (t || true) ≡ true
     or_true true = refl
     or_true false = refl
 
 -- and all are as many as it and those before it, at least
-pub flat-long : (blocks : List (List Grant)) (i : ℕ) (b d : List Grant) → i < length blocks → b ≡ get_or blocks i d → length (flat_map (λ x. x) (take i blocks)) + length b ≤ length (flat_map (λ x. x) blocks)
+pub flat-long : (blocks : List (List Grant)) (i : ℕ) (b d : List Grant) → i < length blocks
+    → b ≡ get_or blocks i d → length (flat_map (λ x. x) (take i blocks)) + length b ≤ length
+    (flat_map (λ x. x) blocks)
 flat-long [] i b d inside at = absurd (omega arith)
-flat-long (x ∷ xs) zero b d inside at = let same = ap length at in let sum = length-append x (flat_map (λ y. y) xs) in omega (arith, same, sum)
+flat-long (x ∷ xs) zero b d inside at = let same = ap length at in let sum =
+    length-append x (flat_map (λ y. y) xs) in omega (arith, same, sum)
 flat-long (x ∷ xs) (suc i) b d inside at =
     let rest = flat-long xs i b d (omega arith) at in
     let one = length-append x (flat_map (λ y. y) xs) in
@@ -96,8 +123,10 @@ pub not_less : (a b : ℕ) → b ≤ a → nat_lt a b ≡ false
 not_less a b le = refuted (nat_lt a b) (λ is. let less = ltb-true a b is in omega (arith, le, less))
 
 -- what is kept of one block more
-kept-suc : (k : Grant → Bool) (blocks : List (List Grant)) (i : ℕ) (b d : List Grant) → i < length blocks → b ≡ get_or blocks i d
-    → filter k (flat_map (λ x. x) (take i blocks)) ++ filter k b ≡ filter k (flat_map (λ x. x) (take (suc i) blocks))
+kept-suc : (k : Grant → Bool) (blocks : List (List Grant)) (i : ℕ) (b d : List Grant)
+    → i < length blocks → b ≡ get_or blocks i d
+    → filter k (flat_map (λ x. x) (take i blocks))
+    ++ filter k b ≡ filter k (flat_map (λ x. x) (take (suc i) blocks))
 kept-suc k [] i b d inside at = absurd (omega arith)
 kept-suc k (x ∷ xs) zero b d inside at = ap (filter k) (at ∙ sym (append-nil x))
 kept-suc k (x ∷ xs) (suc i) b d inside at =
@@ -106,8 +135,10 @@ kept-suc k (x ∷ xs) (suc i) b d inside at =
     ∙ ap (λ l. filter k x ++ l) (kept-suc k xs i b d (omega arith) at)
     ∙ sym (filter_append k x (flat_map (λ y. y) (take (suc i) xs)))
 
-pub kept-next : (k : Grant → Bool) (blocks : List (List Grant)) (i : ℕ) (b d : List Grant) → i < length blocks → b ≡ get_or blocks i d
-    → filter k (flat_map (λ x. x) (take i blocks)) ++ filter k b ≡ filter k (flat_map (λ x. x) (take (i + 1) blocks))
+pub kept-next : (k : Grant → Bool) (blocks : List (List Grant)) (i : ℕ) (b d : List Grant)
+    → i < length blocks → b ≡ get_or blocks i d
+    → filter k (flat_map (λ x. x) (take i blocks))
+    ++ filter k b ≡ filter k (flat_map (λ x. x) (take (i + 1) blocks))
 kept-next k blocks i b d inside at =
     let next : suc i ≡ i + 1 = omega arith in
     kept-suc k blocks i b d inside at ∙ ap (λ n. filter k (flat_map (λ x. x) (take n blocks))) next

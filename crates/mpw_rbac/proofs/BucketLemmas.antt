@@ -1,94 +1,103 @@
 -- Masks in buckets: where the mask of one object is written, those of the others stay.
-use Rattle.std.proofs.Common.{◌≡◌, ℕ, zero, suc, ◌+◌, ◌<◌, ◌&&◌, arith, Bool, true, false, cond, not, List, [], ◌∷◌, ◌++◌, filter, length, get_or, set, inl, inr, Option, None, Some, refl, sym, ap, ◌∙◌, true≢false, get_or-set_same, get_or-set_other, append-nil}
+use Rattle.std.proofs.Common.{◌≡◌, ℕ, zero, suc, ◌+◌, ◌&&◌, arith, Bool, true, false, cond, not, List, [], ◌∷◌, ◌++◌, filter, length, get_or, Option, None, Some, refl, sym, ap, ◌∙◌, true≢false, append-nil}
 use Rattle.std.specs.Option.{option_map_or}
-use Rattle.std.proofs.lemmas.Bool.{cases_eq}
 use Rattle.mpw_roles.specs.declared.mask.Mask.{Mask}
 use Rattle.mpw_roles.specs.Mask.{has}
 use Rattle.mpw_rbac.specs.Grant.{object_eq}
-use Rattle.mpw_rbac.specs.Holders.{Buckets, bucket_of, holds_in, holds}
+use Rattle.mpw_rbac.specs.Internal.Holders.{holds_in}
 use Rattle.mpw_rbac.specs.Table.{value_at}
 use Rattle.mpw_rbac.specs.declared.permission.Object.{Object}
-use Rattle.mpw_rbac.proofs.GrantedLemmas.{same_object, other_way}
+use Rattle.mpw_rbac.proofs.ObjectLemmas.{same_object, other_way}
 
 apart_from : Object → Object × Mask → Bool
 apart_from object entry = not (object_eq object entry.0)
 
 -- the others, and behind them what is made for the object
-value-put : (object : Object) (made : Option Mask) (tail : List (Object × Mask)) → ((other : Object) → value_at object_eq tail other ≡ cond (object_eq object other) made None)
-    → (es : List (Object × Mask)) (other : Object) → value_at object_eq (filter (λ (entry : Object × Mask). not (object_eq object entry.0)) es ++ tail) other ≡ cond (object_eq object other) made (value_at object_eq es other)
+value-put : (object : Object) (made : Option Mask) (tail : List (Object × Mask))
+    → ((other : Object) → value_at object_eq tail other ≡ cond (object_eq object other) made None)
+    → (es : List (Object × Mask)) (other : Object)
+    → value_at object_eq (filter (λ (entry : Object × Mask). not (object_eq object entry.0)) es
+    ++ tail) other ≡ cond (object_eq object other) made (value_at object_eq es other)
 value-put object made tail only [] other = only other
 value-put object made tail only (e ∷ es) other =
     let rest = value-put object made tail only es other in
     let left = filter (λ (entry : Object × Mask). not (object_eq object entry.0)) es in
-    elim (object_eq object e.0) as (λ b. object_eq object e.0 ≡ b → value_at object_eq (cond (not b) (e ∷ left) left ++ tail) other ≡ cond (object_eq object other) made (cond (object_eq other e.0) (Some e.1) (value_at object_eq es other))) [
-      | true ↦ λ here. rest ∙ elim (object_eq object other) as (λ b. object_eq object other ≡ b → cond b made (value_at object_eq es other) ≡ cond b made (cond (object_eq other e.0) (Some e.1) (value_at object_eq es other))) [
-        | true ↦ λ _. refl
-        | false ↦ λ apart. ap (λ b. cond b (Some e.1) (value_at object_eq es other)) (sym (ap (object_eq other) (sym (same_object object e.0 here)) ∙ sym (other_way object other) ∙ apart))
-      ] refl
-      | false ↦ λ away. ap (λ (o : Option Mask). cond (object_eq other e.0) (Some e.1) o) rest ∙ elim (object_eq object other) as (λ b. object_eq object other ≡ b → cond (object_eq other e.0) (Some e.1) (cond b made (value_at object_eq es other)) ≡ cond b made (cond (object_eq other e.0) (Some e.1) (value_at object_eq es other))) [
-        | true ↦ λ here. ap (λ b. cond b (Some e.1) made) (ap (λ o. object_eq o e.0) (sym (same_object object other here)) ∙ away)
-        | false ↦ λ _. refl
-      ] refl
+    elim (object_eq object e.0) as (λ b. object_eq object e.0 ≡ b
+    → value_at object_eq (cond (not b) (e ∷ left) left ++ tail) other
+    ≡ cond (object_eq object other) made
+    (cond (object_eq other e.0) (Some e.1) (value_at object_eq es other))) [
+      | true ↦ λ here. rest ∙ elim (object_eq object other) as (λ b. object_eq object other ≡ b
+          → cond b made (value_at object_eq es other) ≡ cond b made
+          (cond (object_eq other e.0) (Some e.1) (value_at object_eq es other))) [
+            | true ↦ λ _. refl
+            | false ↦ λ apart. ap (λ b. cond b (Some e.1) (value_at object_eq es other))
+                (sym (ap (object_eq other) (sym (same_object object e.0 here))
+                ∙ sym (other_way object other) ∙ apart))
+          ] refl
+      | false ↦ λ away. ap (λ (o : Option Mask). cond (object_eq other e.0) (Some e.1) o) rest
+          ∙ elim (object_eq object other) as (λ b. object_eq object other ≡ b
+          → cond (object_eq other e.0) (Some e.1) (cond b made (value_at object_eq es other))
+          ≡ cond b made (cond (object_eq other e.0) (Some e.1) (value_at object_eq es other))) [
+            | true ↦ λ here. ap (λ b. cond b (Some e.1) made)
+                (ap (λ o. object_eq o e.0) (sym (same_object object other here)) ∙ away)
+            | false ↦ λ _. refl
+          ] refl
     ] refl
 
-held-put : (object : Object) (mask : Mask) (v : Option Mask) (b : Bool) (q : ℕ) → option_map_or (λ m. has m q) (cond b (Some mask) v) false ≡ cond b (has mask q) (option_map_or (λ m. has m q) v false)
+held-put : (object : Object) (mask : Mask) (v : Option Mask) (b : Bool) (q : ℕ)
+    → option_map_or (λ m. has m q) (cond b (Some mask) v) false ≡ cond b (has mask q)
+    (option_map_or (λ m. has m q) v false)
 held-put object mask v true q = refl
 held-put object mask v false q = refl
 
-held-none : (mask : Mask) (v : Option Mask) (b : Bool) (q : ℕ) → has mask q ≡ false → option_map_or (λ m. has m q) (cond b None v) false ≡ cond b (has mask q) (option_map_or (λ m. has m q) v false)
+held-none : (mask : Mask) (v : Option Mask) (b : Bool) (q : ℕ) → has mask q ≡ false
+    → option_map_or (λ m. has m q) (cond b None v) false ≡ cond b (has mask q)
+    (option_map_or (λ m. has m q) v false)
 held-none mask v true q none = sym none
 held-none mask v false q none = refl
 
 -- a bucket with another mask of an object
-pub in-put : (object key : Object) (mask : Mask) (es : List (Object × Mask)) → key ≡ object → (other : Object) (q : ℕ)
-    → holds_in (filter (λ (entry : Object × Mask). not (object_eq object entry.0)) es ++ (key, mask) ∷ []) other q ≡ cond (object_eq object other) (has mask q) (holds_in es other q)
+pub in-put : (object key : Object) (mask : Mask) (es : List (Object × Mask)) → key ≡ object
+    → (other : Object) (q : ℕ)
+    → holds_in (filter (λ (entry : Object × Mask). not (object_eq object entry.0)) es ++ (key, mask)
+    ∷ []) other q ≡ cond (object_eq object other) (has mask q) (holds_in es other q)
 in-put object key mask es at other q =
-    ap (λ o. option_map_or (λ m. has m q) o false) (value-put object (Some mask) ((key, mask) ∷ []) (λ o. ap (λ k. cond (object_eq o k) (Some mask) None) at ∙ ap (λ b. cond b (Some mask) None) (other_way o object)) es other)
+    ap (λ o. option_map_or (λ m. has m q) o false)
+    (value-put object (Some mask) ((key, mask) ∷ [])
+    (λ o. ap (λ k. cond (object_eq o k) (Some mask) None) at
+    ∙ ap (λ b. cond b (Some mask) None) (other_way o object)) es other)
     ∙ held-put object mask (value_at object_eq es other) (object_eq object other) q
 
 -- and one without a mask, which would be empty
-pub in-gone : (object : Object) (mask : Mask) (es : List (Object × Mask)) → ((q : ℕ) → has mask q ≡ false) → (other : Object) (q : ℕ)
-    → holds_in (filter (λ (entry : Object × Mask). not (object_eq object entry.0)) es) other q ≡ cond (object_eq object other) (has mask q) (holds_in es other q)
+pub in-gone : (object : Object) (mask : Mask) (es : List (Object × Mask))
+    → ((q : ℕ) → has mask q ≡ false) → (other : Object) (q : ℕ)
+    → holds_in (filter (λ (entry : Object × Mask). not (object_eq object entry.0)) es) other q
+    ≡ cond (object_eq object other) (has mask q) (holds_in es other q)
 in-gone object mask es none other q =
     let left = filter (λ (entry : Object × Mask). not (object_eq object entry.0)) es in
     ap (λ l. holds_in l other q) (sym (append-nil left))
-    ∙ ap (λ o. option_map_or (λ m. has m q) o false) (value-put object None [] (λ o. nothing (object_eq object o) None) es other)
+    ∙ ap (λ o. option_map_or (λ m. has m q) o false)
+    (value-put object None [] (λ o. nothing (object_eq object o) None) es other)
     ∙ held-none mask (value_at object_eq es other) (object_eq object other) q (none q)
   where
     nothing : (b : Bool) (n : Option Mask) → n ≡ cond b n n
     nothing true n = refl
     nothing false n = refl
 
--- the buckets after one of them is written
-pub put-bucket : (old : Buckets) (bucket : List (Object × Mask)) (object : Object) (mask : Mask) → bucket_of object < length old
-    → ((other : Object) (q : ℕ) → holds_in bucket other q ≡ cond (object_eq object other) (has mask q) (holds_in (get_or old (bucket_of object) []) other q))
-    → (other : Object) (q : ℕ) → holds (set old (bucket_of object) bucket) other q ≡ cond (object_eq object other) (has mask q) (holds old other q)
-put-bucket old bucket object mask inside put other q = elim (cases_eq (bucket_of other) (bucket_of object)) [
-  | inl same ↦
-      ap (λ k. holds_in (get_or (set old (bucket_of object) bucket) k []) other q) same
-      ∙ ap (λ l. holds_in l other q) (get_or-set_same old (bucket_of object) bucket [] inside)
-      ∙ put other q
-      ∙ ap (λ k. cond (object_eq object other) (has mask q) (holds_in (get_or old k []) other q)) (sym same)
-  | inr far ↦
-      ap (λ l. holds_in l other q) (get_or-set_other old (bucket_of object) (bucket_of other) bucket [] far)
-      ∙ elim (object_eq object other) as (λ b. object_eq object other ≡ b → holds old other q ≡ cond b (has mask q) (holds old other q)) [
-        | true ↦ λ here. absurd (far (ap bucket_of (sym (same_object object other here))))
-        | false ↦ λ _. refl
-      ] refl
-]
-
 pub both-false : (b : Bool) → (b && b) ≡ false → b ≡ false
 both-false true is = absurd (true≢false is)
 both-false false is = refl
 
 -- an empty bucket more
-pub pushed-empty : {X : Type 0} (xs : List (List X)) (x : List X) → x ≡ [] → ((k : ℕ) → get_or xs k [] ≡ []) → (k : ℕ) → get_or (xs ++ x ∷ []) k [] ≡ []
+pub pushed-empty : {X : Type 0} (xs : List (List X)) (x : List X) → x ≡ []
+    → ((k : ℕ) → get_or xs k [] ≡ []) → (k : ℕ) → get_or (xs ++ x ∷ []) k [] ≡ []
 pushed-empty [] x none all zero = none
 pushed-empty [] x none all (suc k) = refl
 pushed-empty (y ∷ ys) x none all zero = all zero
 pushed-empty (y ∷ ys) x none all (suc k) = pushed-empty ys x none (λ j. all (suc j)) k
 
-pub pushed-length : {X : Type 0} (xs : List X) (x : X) (new : List X) (n : ℕ) → new ≡ xs ++ x ∷ [] → length xs ≡ n → length new ≡ n + 1
+pub pushed-length : {X : Type 0} (xs : List X) (x : X) (new : List X) (n : ℕ) → new ≡ xs ++ x ∷ []
+    → length xs ≡ n → length new ≡ n + 1
 pushed-length {X = X} xs x new n is long = ap length is ∙ by xs ∙ ap (λ k. k + 1) long
   where
     by : (ys : List X) → length (ys ++ x ∷ []) ≡ length ys + 1

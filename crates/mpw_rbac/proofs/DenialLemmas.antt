@@ -28,24 +28,33 @@ use Rattle.mpw_rbac.proofs.LawLemmas.{static-holds}
 use Rattle.mpw_rbac.proofs.RowLemmas.{AllPass}
 use Rattle.mpw_rbac.proofs.RowTests as row
 
-and_three : (a b c d : Bool) → (c ≡ true → d ≡ true) → (a && (b && c)) ≡ true → (a && (b && d)) ≡ true
+and_three : (a b c d : Bool) → (c ≡ true → d ≡ true) → (a && (b && c)) ≡ true
+    → (a && (b && d)) ≡ true
 and_three true true c d more is = more is
 and_three true false c d more is = is
 and_three false b c d more is = is
 
-any-more : {X : Type 0} (p q : X → Bool) → ((x : X) → p x ≡ true → q x ≡ true) → (xs : List X) → list_any p xs ≡ true → list_any q xs ≡ true
+any-more : {X : Type 0} (p q : X → Bool) → ((x : X) → p x ≡ true → q x ≡ true) → (xs : List X)
+    → list_any p xs ≡ true → list_any q xs ≡ true
 any-more p q more [] is = is
 any-more p q more (x ∷ xs) is = elim (or_cases (p x) (list_any p xs) is) [
   | inl here ↦ ap (λ b. b || list_any q xs) (more x here)
   | inr later ↦ or_right (q x) (list_any q xs) (any-more p q more xs later)
 ]
 
-pub permits-more : (policy : Policy) (user : Name) (few many : List Name) (operation : Operation) (object : Object) → ((role : Name) → contains_name few role ≡ true → contains_name many role ≡ true)
-    → session_permits policy (record { user = user; active = few }) operation object ≡ true → session_permits policy (record { user = user; active = many }) operation object ≡ true
+pub permits-more : (policy : Policy) (user : Name) (few many : List Name) (operation : Operation)
+    (object : Object) → ((role : Name) → contains_name few role ≡ true
+    → contains_name many role ≡ true)
+    → session_permits policy (record { user = user; active = few }) operation object ≡ true
+    → session_permits policy (record { user = user; active = many }) operation object ≡ true
 permits-more policy user few many operation object more is =
-    any-more (is_granted_to (roles_below policy.roles few) operation object) (is_granted_to (roles_below policy.roles many) operation object)
-    (λ g. and_three (operation_eq operation g.operation) (object_eq object g.object) (contains_name (roles_below policy.roles few) g.role) (contains_name (roles_below policy.roles many) g.role)
-    (λ was. roles_below-grows policy.roles policy.roles few many (λ a b p. p) (λ r p. p) more g.role was))
+    any-more (is_granted_to (roles_below policy.roles few) operation object)
+    (is_granted_to (roles_below policy.roles many) operation object)
+    (λ g. and_three (operation_eq operation g.operation) (object_eq object g.object)
+    (contains_name (roles_below policy.roles few) g.role)
+    (contains_name (roles_below policy.roles many) g.role)
+    (λ was. roles_below-grows policy.roles policy.roles few many (λ a b p. p) (λ r p. p) more g.role
+    was))
     policy.granted is
 
 abbrev pub refused : Refusal → Result Policy Refusal
@@ -59,7 +68,8 @@ abbrev pub NoneDenies : Refusal → List rows.Test → Type 0
 NoneDenies denial [] = Unit {0}
 NoneDenies denial (t ∷ ts) = (t.1 ≡ denial → ⊥) × NoneDenies denial ts
 
-pub none-denied : (denial : Refusal) (tests : List rows.Test) (next : Policy) → NoneDenies denial tests → decided tests next ≡ refused denial → ⊥
+pub none-denied : (denial : Refusal) (tests : List rows.Test) (next : Policy)
+    → NoneDenies denial tests → decided tests next ≡ refused denial → ⊥
 none-denied denial [] next none is = cc
 none-denied denial (t ∷ ts) next none is =
     elim t.0 as (λ b. cond b (decided ts next) (Err t.1) ≡ refused denial → ⊥) [
@@ -67,20 +77,28 @@ none-denied denial (t ∷ ts) next none is =
       | false ↦ λ here. none.0 (refusal-same t.1 denial here)
     ] is
 
-admin-denied : (p : Policy) (conn : ℕ) (operation : Operation) (object : Object) (tests : List rows.Test) (next : Policy) → NoneDenies (NotPermitted operation object) tests
-    → decided (rows.in_session p conn ∷ rows.administers p conn ∷ tests) next ≡ Err (NotPermitted operation object) → permits p conn operation object ≡ false
-admin-denied p conn operation object tests next none is = by (rows.in_session p conn).0 (permits p conn Admin Desk) refl is
+admin-denied : (p : Policy) (conn : ℕ) (operation : Operation) (object : Object)
+    (tests : List rows.Test) (next : Policy) → NoneDenies (NotPermitted operation object) tests
+    → decided (rows.in_session p conn ∷ rows.administers p conn ∷ tests) next
+    ≡ Err (NotPermitted operation object) → permits p conn operation object ≡ false
+admin-denied p conn operation object tests next none is =
+    by (rows.in_session p conn).0 (permits p conn Admin Desk) refl is
   where
-    by : (a b : Bool) → permits p conn Admin Desk ≡ b → cond a (cond b (decided tests next) (refused (NotPermitted Admin Desk))) (refused NoSession) ≡ refused (NotPermitted operation object) → permits p conn operation object ≡ false
+    by : (a b : Bool) → permits p conn Admin Desk ≡ b
+        → cond a (cond b (decided tests next) (refused (NotPermitted Admin Desk)))
+        (refused NoSession) ≡ refused (NotPermitted operation object)
+        → permits p conn operation object ≡ false
     by true true e f = absurd (none-denied (NotPermitted operation object) tests next none f)
     by true false e f = cc
     by false b e f = cc
 
 -- refusals of other kinds
 abbrev pub IsPlain : Refusal → Type 0
-IsPlain denial = (Known ≡ denial → ⊥) × (Unknown ≡ denial → ⊥) × (Full ≡ denial → ⊥) × (Used ≡ denial → ⊥) × (Loop ≡ denial → ⊥) × (NoSession ≡ denial → ⊥)
+IsPlain denial = (Known ≡ denial → ⊥) × (Unknown ≡ denial → ⊥) × (Full ≡ denial → ⊥)
+    × (Used ≡ denial → ⊥) × (Loop ≡ denial → ⊥) × (NoSession ≡ denial → ⊥)
 
-pub permission-plain : (operation : Operation) (object : Object) → IsPlain (NotPermitted operation object)
+pub permission-plain : (operation : Operation) (object : Object)
+    → IsPlain (NotPermitted operation object)
 permission-plain operation object = (λ e. cc, λ e. cc, λ e. cc, λ e. cc, λ e. cc, λ e. cc)
 
 activation-plain : (role : Name) → IsPlain (NotAuthorized role)
@@ -92,15 +110,18 @@ ssd-plain name = (λ e. cc, λ e. cc, λ e. cc, λ e. cc, λ e. cc, λ e. cc)
 pub dsd-plain : (name : Name) → IsPlain (Dsd name)
 dsd-plain name = (λ e. cc, λ e. cc, λ e. cc, λ e. cc, λ e. cc, λ e. cc)
 
-ssd-permission : (operation : Operation) (object : Object) (o : Option Name) → (rows.none_broken Ssd o).1 ≡ NotPermitted operation object → ⊥
+ssd-permission : (operation : Operation) (object : Object) (o : Option Name)
+    → (rows.none_broken Ssd o).1 ≡ NotPermitted operation object → ⊥
 ssd-permission operation object None e = cc
 ssd-permission operation object (Some n) e = cc
 
-pub dsd-permission : (operation : Operation) (object : Object) (o : Option Name) → (rows.none_broken Dsd o).1 ≡ NotPermitted operation object → ⊥
+pub dsd-permission : (operation : Operation) (object : Object) (o : Option Name)
+    → (rows.none_broken Dsd o).1 ≡ NotPermitted operation object → ⊥
 dsd-permission operation object None e = cc
 dsd-permission operation object (Some n) e = cc
 
-dsd-activation : (role : Name) (o : Option Name) → (rows.none_broken Dsd o).1 ≡ NotAuthorized role → ⊥
+dsd-activation : (role : Name) (o : Option Name) → (rows.none_broken Dsd o).1 ≡ NotAuthorized role
+    → ⊥
 dsd-activation role None e = cc
 dsd-activation role (Some n) e = cc
 
@@ -121,65 +142,81 @@ admin-dynamic name e = cc
 pub activation-dynamic : (role name : Name) → NotAuthorized role ≡ Dsd name → ⊥
 activation-dynamic role name e = cc
 
-pub denies-adduser : (conn : ℕ) (user digest : List ℕ) → DeniesRightly conn (λ p. rows.adduser p conn user digest)
+pub denies-adduser : (conn : ℕ) (user digest : List ℕ)
+    → DeniesRightly conn (λ p. rows.adduser p conn user digest)
 denies-adduser conn user digest p op obj is =
     let f = permission-plain op obj in
-    admin-denied p conn op obj (row.adduser-tests p user) (row.user_added p user digest) (f.0, (f.2, tt)) is
+    admin-denied p conn op obj (row.adduser-tests p user) (row.user_added p user digest)
+    (f.0, (f.2, tt)) is
 
 pub denies-deluser : (conn : ℕ) (user : List ℕ) → DeniesRightly conn (λ p. rows.deluser p conn user)
 denies-deluser conn user p op obj is =
     let f = permission-plain op obj in
-    admin-denied p conn op obj (row.deluser-tests p user) (trim (row.user_deleted p user)) (f.1, tt) is
+    admin-denied p conn op obj (row.deluser-tests p user) (trim (row.user_deleted p user)) (f.1, tt)
+    is
 
 pub denies-addrole : (conn : ℕ) (role : List ℕ) → DeniesRightly conn (λ p. rows.addrole p conn role)
 denies-addrole conn role p op obj is =
     let f = permission-plain op obj in
-    admin-denied p conn op obj (row.addrole-tests p role) (row.role_added p role) (f.0, (f.2, tt)) is
+    admin-denied p conn op obj (row.addrole-tests p role) (row.role_added p role) (f.0, (f.2, tt))
+    is
 
 pub denies-delrole : (conn : ℕ) (role : List ℕ) → DeniesRightly conn (λ p. rows.delrole p conn role)
 denies-delrole conn role p op obj is =
     let f = permission-plain op obj in
-    admin-denied p conn op obj (row.delrole-tests p role) (trim (rows.without_role_of p role)) (f.1, (f.3, tt)) is
+    admin-denied p conn op obj (row.delrole-tests p role) (trim (rows.without_role_of p role))
+    (f.1, (f.3, tt)) is
 
-pub denies-assign : (conn : ℕ) (user role : List ℕ) → DeniesRightly conn (λ p. rows.assign p conn user role)
+pub denies-assign : (conn : ℕ) (user role : List ℕ)
+    → DeniesRightly conn (λ p. rows.assign p conn user role)
 denies-assign conn user role p op obj is =
     let f = permission-plain op obj in
-    admin-denied p conn op obj (row.assign-tests p user role) (row.assigned p user role) (f.1, (f.0, (ssd-permission op obj _, tt))) is
+    admin-denied p conn op obj (row.assign-tests p user role) (row.assigned p user role)
+    (f.1, (f.0, (ssd-permission op obj _, tt))) is
 
-pub denies-deassign : (conn : ℕ) (user role : List ℕ) → DeniesRightly conn (λ p. rows.deassign p conn user role)
+pub denies-deassign : (conn : ℕ) (user role : List ℕ)
+    → DeniesRightly conn (λ p. rows.deassign p conn user role)
 denies-deassign conn user role p op obj is =
     let f = permission-plain op obj in
-    admin-denied p conn op obj (row.deassign-tests p user role) (trim (row.deassigned p user role)) (f.1, tt) is
+    admin-denied p conn op obj (row.deassign-tests p user role) (trim (row.deassigned p user role))
+    (f.1, tt) is
 
 pub denies-grant : (conn : ℕ) (new : Grant) → DeniesRightly conn (λ p. rows.grant p conn new)
 denies-grant conn new p op obj is =
     let f = permission-plain op obj in
-    admin-denied p conn op obj (row.grant-tests p new) (row.grant_added p new) (f.1, (f.0, (f.2, tt))) is
+    admin-denied p conn op obj (row.grant-tests p new) (row.grant_added p new)
+    (f.1, (f.0, (f.2, tt))) is
 
 pub denies-revoke : (conn : ℕ) (old : Grant) → DeniesRightly conn (λ p. rows.revoke p conn old)
 denies-revoke conn old p op obj is =
     let f = permission-plain op obj in
     admin-denied p conn op obj (row.revoke-tests p old) (row.grant_revoked p old) (f.1, tt) is
 
-pub denies-inherit : (conn : ℕ) (senior junior : List ℕ) → DeniesRightly conn (λ p. rows.inherit p conn senior junior)
+pub denies-inherit : (conn : ℕ) (senior junior : List ℕ)
+    → DeniesRightly conn (λ p. rows.inherit p conn senior junior)
 denies-inherit conn senior junior p op obj is =
     let f = permission-plain op obj in
-    admin-denied p conn op obj (row.inherit-tests p senior junior) (row.inherited p senior junior) (f.1, (f.0, (f.4, (ssd-permission op obj _, (dsd-permission op obj _, tt))))) is
+    admin-denied p conn op obj (row.inherit-tests p senior junior) (row.inherited p senior junior)
+    (f.1, (f.0, (f.4, (ssd-permission op obj _, (dsd-permission op obj _, tt))))) is
 
-pub denies-uninherit : (conn : ℕ) (senior junior : List ℕ) → DeniesRightly conn (λ p. rows.uninherit p conn senior junior)
+pub denies-uninherit : (conn : ℕ) (senior junior : List ℕ)
+    → DeniesRightly conn (λ p. rows.uninherit p conn senior junior)
 denies-uninherit conn senior junior p op obj is =
     let f = permission-plain op obj in
-    admin-denied p conn op obj (row.uninherit-tests p senior junior) (trim (row.uninherited p senior junior)) (f.1, tt) is
+    admin-denied p conn op obj (row.uninherit-tests p senior junior)
+    (trim (row.uninherited p senior junior)) (f.1, tt) is
 
 pub denies-ssd : (conn : ℕ) (set : SeparationSet) → DeniesRightly conn (λ p. rows.ssd p conn set)
 denies-ssd conn set p op obj is =
     let f = permission-plain op obj in
-    admin-denied p conn op obj (row.ssd-tests p set) (row.ssd_made p set) (f.0, (f.1, (ssd-permission op obj _, (f.2, tt)))) is
+    admin-denied p conn op obj (row.ssd-tests p set) (row.ssd_made p set)
+    (f.0, (f.1, (ssd-permission op obj _, (f.2, tt)))) is
 
 pub denies-dsd : (conn : ℕ) (set : SeparationSet) → DeniesRightly conn (λ p. rows.dsd p conn set)
 denies-dsd conn set p op obj is =
     let f = permission-plain op obj in
-    admin-denied p conn op obj (row.dsd-tests p set) (row.dsd_made p set) (f.0, (f.1, (dsd-permission op obj _, (f.2, tt)))) is
+    admin-denied p conn op obj (row.dsd-tests p set) (row.dsd_made p set)
+    (f.0, (f.1, (dsd-permission op obj _, (f.2, tt)))) is
 
 pub denies-unssd : (conn : ℕ) (name : List ℕ) → DeniesRightly conn (λ p. rows.unssd p conn name)
 denies-unssd conn name p op obj is =
@@ -192,51 +229,65 @@ denies-undsd conn name p op obj is =
     admin-denied p conn op obj (row.undsd-tests p name) (row.dsd_removed p name) (f.1, tt) is
 
 -- a denial that only one of the tests tells
-told-by : (denial : Refusal) (before : List rows.Test) (t : rows.Test) (later : List rows.Test) (next : Policy) → NoneDenies denial before → NoneDenies denial later
+told-by : (denial : Refusal) (before : List rows.Test) (t : rows.Test) (later : List rows.Test)
+    (next : Policy) → NoneDenies denial before → NoneDenies denial later
     → decided (before ++ t ∷ later) next ≡ refused denial → (t.0 ≡ false) × (t.1 ≡ denial)
 told-by denial [] t later next none after is =
-    elim t.0 as (λ b. cond b (decided later next) (Err t.1) ≡ refused denial → (b ≡ false) × (t.1 ≡ denial)) [
+    elim t.0 as (λ b. cond b (decided later next) (Err t.1) ≡ refused denial
+    → (b ≡ false) × (t.1 ≡ denial)) [
       | true ↦ λ e. absurd (none-denied denial later next after e)
       | false ↦ λ e. (refl, refusal-same t.1 denial e)
     ] is
 told-by denial (x ∷ xs) t later next none after is =
-    elim x.0 as (λ b. cond b (decided (xs ++ t ∷ later) next) (Err x.1) ≡ refused denial → (t.0 ≡ false) × (t.1 ≡ denial)) [
+    elim x.0 as (λ b. cond b (decided (xs ++ t ∷ later) next) (Err x.1) ≡ refused denial
+    → (t.0 ≡ false) × (t.1 ≡ denial)) [
       | true ↦ λ e. told-by denial xs t later next none.1 after e
       | false ↦ λ e. absurd (none.0 (refusal-same x.1 denial e))
     ] is
 
 -- and the tests before it have passed
-passed-before : (denial : Refusal) (before later : List rows.Test) (next : Policy) → NoneDenies denial before → decided (before ++ later) next ≡ refused denial → AllPass before
+passed-before : (denial : Refusal) (before later : List rows.Test) (next : Policy)
+    → NoneDenies denial before → decided (before ++ later) next ≡ refused denial → AllPass before
 passed-before denial [] later next none is = tt
 passed-before denial (x ∷ xs) later next none is =
-    elim x.0 as (λ b. cond b (decided (xs ++ later) next) (Err x.1) ≡ refused denial → (b ≡ true) × AllPass xs) [
+    elim x.0 as (λ b. cond b (decided (xs ++ later) next) (Err x.1) ≡ refused denial
+    → (b ≡ true) × AllPass xs) [
       | true ↦ λ e. (refl, passed-before denial xs later next none.1 e)
       | false ↦ λ e. absurd (none.0 (refusal-same x.1 denial e))
     ] is
 
-static-named : (o : Option Name) (name : Name) → (rows.none_broken Ssd o).0 ≡ false → (rows.none_broken Ssd o).1 ≡ Ssd name → o ≡ Some name
+static-named : (o : Option Name) (name : Name) → (rows.none_broken Ssd o).0 ≡ false
+    → (rows.none_broken Ssd o).1 ≡ Ssd name → o ≡ Some name
 static-named None name is told = absurd (true≢false is)
 static-named (Some n) name is told = cc
 
-dynamic-named : (o : Option Name) (name : Name) → (rows.none_broken Dsd o).0 ≡ false → (rows.none_broken Dsd o).1 ≡ Dsd name → o ≡ Some name
+dynamic-named : (o : Option Name) (name : Name) → (rows.none_broken Dsd o).0 ≡ false
+    → (rows.none_broken Dsd o).1 ≡ Dsd name → o ≡ Some name
 dynamic-named None name is told = absurd (true≢false is)
 dynamic-named (Some n) name is told = cc
 
-least-static : (p : Policy) (name : Name) → ((rows.ssd_holds p).0 ≡ false) × ((rows.ssd_holds p).1 ≡ Ssd name) → IsLeastStatic p name
+least-static : (p : Policy) (name : Name) → ((rows.ssd_holds p).0 ≡ false)
+    × ((rows.ssd_holds p).1 ≡ Ssd name) → IsLeastStatic p name
 least-static p name told =
     let names = broken_names p.roles p.ssd (assigned_lists p.users) in
     subst (IsLeast names) (static-named (least_name names) name told.0 told.1) (least-is names)
 
-least-dynamic : (p : Policy) (name : Name) → ((rows.dsd_holds p).0 ≡ false) × ((rows.dsd_holds p).1 ≡ Dsd name) → IsLeastDynamic p name
+least-dynamic : (p : Policy) (name : Name) → ((rows.dsd_holds p).0 ≡ false)
+    × ((rows.dsd_holds p).1 ≡ Dsd name) → IsLeastDynamic p name
 least-dynamic p name told =
     let names = broken_names p.roles p.dsd (active_lists p.sessions) in
     subst (IsLeast names) (dynamic-named (least_name names) name told.0 told.1) (least-is names)
 
-pub least-assign : (p : Policy) (conn : ℕ) (user role name : List ℕ) → rows.assign p conn user role ≡ Err (Ssd name) → IsLeastStatic (row.assigned p user role) name
+pub least-assign : (p : Policy) (conn : ℕ) (user role name : List ℕ)
+    → rows.assign p conn user role ≡ Err (Ssd name) → IsLeastStatic (row.assigned p user role) name
 least-assign p conn user role name is =
     let f = ssd-plain name in
-    let before : List rows.Test = rows.in_session p conn ∷ rows.administers p conn ∷ (is_user p user && is_role p.roles role, Unknown) ∷ (not (contains_name (assigned_roles p user) role), Known) ∷ [] in
-    least-static (row.assigned p user role) name (told-by (Ssd name) before (rows.ssd_holds (row.assigned p user role)) [] (row.assigned p user role) (f.5, (admin-static name, (f.1, (f.0, tt)))) tt is)
+    let before : List rows.Test = rows.in_session p conn ∷ rows.administers p conn
+    ∷ (is_user p user && is_role p.roles role, Unknown)
+    ∷ (not (contains_name (assigned_roles p user) role), Known) ∷ [] in
+    least-static (row.assigned p user role) name
+    (told-by (Ssd name) before (rows.ssd_holds (row.assigned p user role)) []
+    (row.assigned p user role) (f.5, (admin-static name, (f.1, (f.0, tt)))) tt is)
 
 abbrev inherit-before : Policy → ℕ → Name → Name → List rows.Test
 inherit-before p conn senior junior =
@@ -247,89 +298,143 @@ inherit-before p conn senior junior =
     ∷ (not (at_least p.roles junior senior), Loop)
     ∷ []
 
-pub least-inherit_static : (p : Policy) (conn : ℕ) (senior junior name : List ℕ) → rows.inherit p conn senior junior ≡ Err (Ssd name) → IsLeastStatic (row.inherited p senior junior) name
+pub least-inherit_static : (p : Policy) (conn : ℕ) (senior junior name : List ℕ)
+    → rows.inherit p conn senior junior ≡ Err (Ssd name)
+    → IsLeastStatic (row.inherited p senior junior) name
 least-inherit_static p conn senior junior name is =
     let f = ssd-plain name in
     let next = row.inherited p senior junior in
-    least-static next name (told-by (Ssd name) (inherit-before p conn senior junior) (rows.ssd_holds next) (rows.dsd_holds next ∷ []) next (f.5, (admin-static name, (f.1, (f.0, (f.4, tt))))) (dsd-static name _, tt) is)
+    least-static next name (told-by (Ssd name) (inherit-before p conn senior junior)
+    (rows.ssd_holds next) (rows.dsd_holds next ∷ []) next
+    (f.5, (admin-static name, (f.1, (f.0, (f.4, tt))))) (dsd-static name _, tt) is)
 
-pub least-inherit_dynamic : (p : Policy) (conn : ℕ) (senior junior name : List ℕ) → rows.inherit p conn senior junior ≡ Err (Dsd name) → IsLeastDynamic (row.inherited p senior junior) name
+pub least-inherit_dynamic : (p : Policy) (conn : ℕ) (senior junior name : List ℕ)
+    → rows.inherit p conn senior junior ≡ Err (Dsd name)
+    → IsLeastDynamic (row.inherited p senior junior) name
 least-inherit_dynamic p conn senior junior name is =
     let f = dsd-plain name in
     let next = row.inherited p senior junior in
-    least-dynamic next name (told-by (Dsd name) (inherit-before p conn senior junior ++ rows.ssd_holds next ∷ []) (rows.dsd_holds next) [] next (f.5, (admin-dynamic name, (f.1, (f.0, (f.4, (ssd-dynamic name _, tt)))))) tt is)
+    least-dynamic next name (told-by (Dsd name) (inherit-before p conn senior junior
+    ++ rows.ssd_holds next ∷ []) (rows.dsd_holds next) [] next
+    (f.5, (admin-dynamic name, (f.1, (f.0, (f.4, (ssd-dynamic name _, tt)))))) tt is)
 
 -- where a dynamic set is told, the static ones hold
-pub static-first : (p : Policy) (conn : ℕ) (senior junior name : List ℕ) → rows.inherit p conn senior junior ≡ Err (Dsd name) → sets_hold (row.inherited p senior junior).roles p.ssd (assigned_lists p.users) ≡ true
+pub static-first : (p : Policy) (conn : ℕ) (senior junior name : List ℕ)
+    → rows.inherit p conn senior junior ≡ Err (Dsd name)
+    → sets_hold (row.inherited p senior junior).roles p.ssd (assigned_lists p.users) ≡ true
 static-first p conn senior junior name is =
     let f = dsd-plain name in
     let next = row.inherited p senior junior in
-    let t = passed-before (Dsd name) (inherit-before p conn senior junior ++ rows.ssd_holds next ∷ []) (rows.dsd_holds next ∷ []) next (f.5, (admin-dynamic name, (f.1, (f.0, (f.4, (ssd-dynamic name _, tt)))))) is in
+    let t = passed-before (Dsd name) (inherit-before p conn senior junior ++ rows.ssd_holds next
+    ∷ []) (rows.dsd_holds next ∷ []) next
+    (f.5, (admin-dynamic name, (f.1, (f.0, (f.4, (ssd-dynamic name _, tt)))))) is in
     static-holds next t.1.1.1.1.1.0
 
-pub least-activate : (p : Policy) (conn : ℕ) (role name : List ℕ) → rows.activate p conn role ≡ Err (Dsd name) → IsLeastDynamic (row.activated p conn role) name
+pub least-activate : (p : Policy) (conn : ℕ) (role name : List ℕ)
+    → rows.activate p conn role ≡ Err (Dsd name) → IsLeastDynamic (row.activated p conn role) name
 least-activate p conn role name is =
     let f = dsd-plain name in
-    let before : List rows.Test = rows.in_session p conn ∷ (contains_name (authorized p (rows.user_of p conn)) role, NotAuthorized role) ∷ (not (contains_name (rows.active_roles p conn) role), Known) ∷ [] in
-    least-dynamic (row.activated p conn role) name (told-by (Dsd name) before (rows.dsd_holds (row.activated p conn role)) [] (row.activated p conn role) (f.5, (activation-dynamic role name, (f.0, tt))) tt is)
+    let before : List rows.Test = rows.in_session p conn
+    ∷ (contains_name (authorized p (rows.user_of p conn)) role, NotAuthorized role)
+    ∷ (not (contains_name (rows.active_roles p conn) role), Known) ∷ [] in
+    least-dynamic (row.activated p conn role) name
+    (told-by (Dsd name) before (rows.dsd_holds (row.activated p conn role)) []
+    (row.activated p conn role) (f.5, (activation-dynamic role name, (f.0, tt))) tt is)
 
-pub least-ssd : (p : Policy) (conn : ℕ) (set : SeparationSet) (name : List ℕ) → rows.ssd p conn set ≡ Err (Ssd name) → IsLeastStatic (row.ssd_made p set) name
+pub least-ssd : (p : Policy) (conn : ℕ) (set : SeparationSet) (name : List ℕ)
+    → rows.ssd p conn set ≡ Err (Ssd name) → IsLeastStatic (row.ssd_made p set) name
 least-ssd p conn set name is =
     let f = ssd-plain name in
-    let before : List rows.Test = rows.in_session p conn ∷ rows.administers p conn ∷ (not (has_set p.ssd set.name), Known) ∷ (list_all (is_role p.roles) set.roles, Unknown) ∷ [] in
-    least-static (row.ssd_made p set) name (told-by (Ssd name) before (rows.ssd_holds (row.ssd_made p set)) ((nat_lt (length p.ssd) 64, Full) ∷ []) (row.ssd_made p set) (f.5, (admin-static name, (f.0, (f.1, tt)))) (f.2, tt) is)
+    let before : List rows.Test = rows.in_session p conn ∷ rows.administers p conn
+    ∷ (not (has_set p.ssd set.name), Known) ∷ (list_all (is_role p.roles) set.roles, Unknown)
+    ∷ [] in
+    least-static (row.ssd_made p set) name
+    (told-by (Ssd name) before (rows.ssd_holds (row.ssd_made p set))
+    ((nat_lt (length p.ssd) 64, Full) ∷ []) (row.ssd_made p set)
+    (f.5, (admin-static name, (f.0, (f.1, tt)))) (f.2, tt) is)
 
-pub least-dsd : (p : Policy) (conn : ℕ) (set : SeparationSet) (name : List ℕ) → rows.dsd p conn set ≡ Err (Dsd name) → IsLeastDynamic (row.dsd_made p set) name
+pub least-dsd : (p : Policy) (conn : ℕ) (set : SeparationSet) (name : List ℕ)
+    → rows.dsd p conn set ≡ Err (Dsd name) → IsLeastDynamic (row.dsd_made p set) name
 least-dsd p conn set name is =
     let f = dsd-plain name in
-    let before : List rows.Test = rows.in_session p conn ∷ rows.administers p conn ∷ (not (has_set p.dsd set.name), Known) ∷ (list_all (is_role p.roles) set.roles, Unknown) ∷ [] in
-    least-dynamic (row.dsd_made p set) name (told-by (Dsd name) before (rows.dsd_holds (row.dsd_made p set)) ((nat_lt (length p.dsd) 64, Full) ∷ []) (row.dsd_made p set) (f.5, (admin-dynamic name, (f.0, (f.1, tt)))) (f.2, tt) is)
+    let before : List rows.Test = rows.in_session p conn ∷ rows.administers p conn
+    ∷ (not (has_set p.dsd set.name), Known) ∷ (list_all (is_role p.roles) set.roles, Unknown)
+    ∷ [] in
+    least-dynamic (row.dsd_made p set) name
+    (told-by (Dsd name) before (rows.dsd_holds (row.dsd_made p set))
+    ((nat_lt (length p.dsd) 64, Full) ∷ []) (row.dsd_made p set)
+    (f.5, (admin-dynamic name, (f.0, (f.1, tt)))) (f.2, tt) is)
 
 activation-same : (role other : Name) → NotAuthorized role ≡ NotAuthorized other → other ≡ role
 activation-same role other e = cc
 
 -- an activation is denied for the role that was asked for
-pub denies-activate : (p : Policy) (conn : ℕ) (role other : List ℕ) → rows.activate p conn role ≡ Err (NotAuthorized other) → (other ≡ role) × (contains_name (authorized p (rows.user_of p conn)) role ≡ false)
+pub denies-activate : (p : Policy) (conn : ℕ) (role other : List ℕ)
+    → rows.activate p conn role ≡ Err (NotAuthorized other)
+    → (other ≡ role) × (contains_name (authorized p (rows.user_of p conn)) role ≡ false)
 denies-activate p conn role other is =
     let f = activation-plain other in
-    let told = told-by (NotAuthorized other) (rows.in_session p conn ∷ []) (contains_name (authorized p (rows.user_of p conn)) role, NotAuthorized role) ((not (contains_name (rows.active_roles p conn) role), Known) ∷ rows.dsd_holds (row.activated p conn role) ∷ []) (row.activated p conn role) (f.5, tt) (f.0, (dsd-activation other _, tt)) is in
+    let told = told-by (NotAuthorized other) (rows.in_session p conn ∷ [])
+    (contains_name (authorized p (rows.user_of p conn)) role, NotAuthorized role)
+    ((not (contains_name (rows.active_roles p conn) role), Known)
+    ∷ rows.dsd_holds (row.activated p conn role) ∷ []) (row.activated p conn role) (f.5, tt)
+    (f.0, (dsd-activation other _, tt)) is in
     (activation-same role other told.1, told.0)
 
 -- the requests of a session want no permission
-opened-permission : (operation : Operation) (object : Object) → Opened ≡ NotPermitted operation object → ⊥
+opened-permission : (operation : Operation) (object : Object)
+    → Opened ≡ NotPermitted operation object → ⊥
 opened-permission operation object e = cc
 
-login-permission : (operation : Operation) (object : Object) → Login ≡ NotPermitted operation object → ⊥
+login-permission : (operation : Operation) (object : Object) → Login ≡ NotPermitted operation object
+    → ⊥
 login-permission operation object e = cc
 
-activation-permission : (role : Name) (operation : Operation) (object : Object) → NotAuthorized role ≡ NotPermitted operation object → ⊥
+activation-permission : (role : Name) (operation : Operation) (object : Object)
+    → NotAuthorized role ≡ NotPermitted operation object → ⊥
 activation-permission role operation object e = cc
 
-pub denies-open_session : (conn : ℕ) (user digest : List ℕ) → DeniesRightly conn (λ p. rows.open_session p conn user digest)
+pub denies-open_session : (conn : ℕ) (user digest : List ℕ)
+    → DeniesRightly conn (λ p. rows.open_session p conn user digest)
 denies-open_session conn user digest p op obj is =
-    absurd (none-denied (NotPermitted op obj) (row.open-tests p conn user digest) (row.opened p conn user) (opened-permission op obj, (login-permission op obj, tt)) is)
+    absurd (none-denied (NotPermitted op obj) (row.open-tests p conn user digest)
+    (row.opened p conn user) (opened-permission op obj, (login-permission op obj, tt)) is)
 
 pub denies-close_session : (conn : ℕ) → DeniesRightly conn (λ p. rows.close_session p conn)
 denies-close_session conn p op obj is =
     let f = permission-plain op obj in
-    absurd (none-denied (NotPermitted op obj) (rows.in_session p conn ∷ []) (rows.end_session p conn) (f.5, tt) is)
+    absurd (none-denied (NotPermitted op obj) (rows.in_session p conn ∷ [])
+    (rows.end_session p conn) (f.5, tt) is)
 
-pub denies-drop_role : (conn : ℕ) (role : List ℕ) → DeniesRightly conn (λ p. rows.drop_role p conn role)
+pub denies-drop_role : (conn : ℕ) (role : List ℕ)
+    → DeniesRightly conn (λ p. rows.drop_role p conn role)
 denies-drop_role conn role p op obj is =
     let f = permission-plain op obj in
-    absurd (none-denied (NotPermitted op obj) (row.drop-tests p conn role) (row.dropped p conn role) (f.5, (f.1, tt)) is)
+    absurd (none-denied (NotPermitted op obj) (row.drop-tests p conn role) (row.dropped p conn role)
+    (f.5, (f.1, tt)) is)
 
-pub denies-activation : (conn : ℕ) (role : List ℕ) → DeniesRightly conn (λ p. rows.activate p conn role)
+pub denies-activation : (conn : ℕ) (role : List ℕ)
+    → DeniesRightly conn (λ p. rows.activate p conn role)
 denies-activation conn role p op obj is =
     let f = permission-plain op obj in
-    absurd (none-denied (NotPermitted op obj) (row.activate-tests p conn role) (row.activated p conn role) (f.5, (activation-permission role op obj, (f.0, (dsd-permission op obj _, tt)))) is)
+    absurd (none-denied (NotPermitted op obj) (row.activate-tests p conn role)
+    (row.activated p conn role) (
+      f.5,
+      (activation-permission role op obj, (f.0, (dsd-permission op obj _, tt))),
+    ) is)
 
 abbrev untold : Refusal → Result Identity Refusal
 untold r = Err r
 
-pub denies-whoami : (p : Policy) (conn : ℕ) (operation : Operation) (object : Object) → rows.whoami p conn ≡ Err (NotPermitted operation object) → ⊥
+pub denies-whoami : (p : Policy) (conn : ℕ) (operation : Operation) (object : Object)
+    → rows.whoami p conn ≡ Err (NotPermitted operation object) → ⊥
 denies-whoami p conn operation object is = by (rows.in_session p conn).0 is
   where
-    by : (a : Bool) → cond a (Ok (identity_of p (record { user = rows.user_of p conn; active = rows.active_roles p conn }))) (untold NoSession) ≡ untold (NotPermitted operation object) → ⊥
+    by : (a : Bool)
+        → cond a
+        (Ok (identity_of p (record {
+          user = rows.user_of p conn;
+          active = rows.active_roles p conn;
+        }))) (untold NoSession) ≡ untold (NotPermitted operation object) → ⊥
     by true e = cc
     by false e = cc

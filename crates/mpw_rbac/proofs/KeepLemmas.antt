@@ -26,23 +26,37 @@ abbrev active_of : ℕ × Session → List Name
 active_of e = e.1.active
 
 -- a set that somebody's roles break, before and after
-users-less : (h k : Hierarchy) (set : SeparationSet) (f : Name × User → List Name) (us vs : List (Name × User))
-    → (list_any (λ e. breaks h (f e) set) us ≡ true → list_any (λ e. breaks k (roles_of e) set) vs ≡ true) → is_broken h (map f us) set ≡ true → is_broken k (map roles_of vs) set ≡ true
-users-less h k set f us vs less is = any-map roles_of (λ l. breaks k l set) vs ∙ less (sym (any-map f (λ l. breaks h l set) us) ∙ is)
+users-less : (h k : Hierarchy) (set : SeparationSet) (f : Name × User → List Name)
+    (us vs : List (Name × User))
+    → (list_any (λ e. breaks h (f e) set) us ≡ true
+    → list_any (λ e. breaks k (roles_of e) set) vs ≡ true) → is_broken h (map f us) set ≡ true
+    → is_broken k (map roles_of vs) set ≡ true
+users-less h k set f us vs less is =
+    any-map roles_of (λ l. breaks k l set) vs ∙ less (sym (any-map f (λ l. breaks h l set) us) ∙ is)
 
 sessions-less : (h k : Hierarchy) (set : SeparationSet) (es ds : List (ℕ × Session))
-    → (list_any (λ e. breaks h (active_of e) set) es ≡ true → list_any (λ e. breaks k (active_of e) set) ds ≡ true) → is_broken h (map active_of es) set ≡ true → is_broken k (map active_of ds) set ≡ true
-sessions-less h k set es ds less is = any-map active_of (λ l. breaks k l set) ds ∙ less (sym (any-map active_of (λ l. breaks h l set) es) ∙ is)
+    → (list_any (λ e. breaks h (active_of e) set) es ≡ true
+    → list_any (λ e. breaks k (active_of e) set) ds ≡ true)
+    → is_broken h (map active_of es) set ≡ true → is_broken k (map active_of ds) set ≡ true
+sessions-less h k set es ds less is = any-map active_of (λ l. breaks k l set) ds
+    ∙ less (sym (any-map active_of (λ l. breaks h l set) es) ∙ is)
 
 -- after a trim every active role is authorized
 pub trim-authorized : (q : Policy) → active_authorized (trim q) ≡ true
 trim-authorized q = by q.sessions
   where
-    by : (es : List (ℕ × Session)) → list_all (λ (e : ℕ × Session). is_authorized_session q e.1) (map (λ (e : ℕ × Session). (e.0, kept_roles q e.1)) (filter (λ (e : ℕ × Session). is_user q e.1.user) es)) ≡ true
+    by : (es : List (ℕ × Session)) → list_all (λ (e : ℕ × Session). is_authorized_session q e.1)
+        (map (λ (e : ℕ × Session). (e.0, kept_roles q e.1))
+        (filter (λ (e : ℕ × Session). is_user q e.1.user) es)) ≡ true
     by [] = refl
     by (e ∷ es) = elim (is_user q e.1.user) as (λ b. is_user q e.1.user ≡ b
-        → list_all (λ (x : ℕ × Session). is_authorized_session q x.1) (map (λ (x : ℕ × Session). (x.0, kept_roles q x.1)) (cond b (e ∷ filter (λ (x : ℕ × Session). is_user q x.1.user) es) (filter (λ (x : ℕ × Session). is_user q x.1.user) es))) ≡ true) [
-          | true ↦ λ is. both (is_authorized_session q (kept_roles q e.1)) _ (both (is_user q e.1.user) _ is (all-filter_self (contains_name (authorized q e.1.user)) e.1.active)) (by es)
+        → list_all (λ (x : ℕ × Session). is_authorized_session q x.1)
+        (map (λ (x : ℕ × Session). (x.0, kept_roles q x.1))
+        (cond b (e ∷ filter (λ (x : ℕ × Session). is_user q x.1.user) es)
+        (filter (λ (x : ℕ × Session). is_user q x.1.user) es))) ≡ true) [
+          | true ↦ λ is. both (is_authorized_session q (kept_roles q e.1)) _
+              (both (is_user q e.1.user) _ is
+              (all-filter_self (contains_name (authorized q e.1.user)) e.1.active)) (by es)
           | false ↦ λ _. by es
         ] refl
 
@@ -50,13 +64,24 @@ filter-part : (p : Name → Bool) (xs : List Name) → IsPart (filter p xs) xs
 filter-part p xs r is = (parts (contains_name xs r) (p r) (sym (contains-filter p xs r) ∙ is)).0
 
 -- and no session has more roles
-trim-less : (q : Policy) (test : List Name → Bool) → ((few many : List Name) → IsPart few many → test few ≡ true → test many ≡ true) → (es : List (ℕ × Session))
-    → list_any (λ e. test (active_of e)) (map (λ (e : ℕ × Session). (e.0, kept_roles q e.1)) (filter (λ (e : ℕ × Session). is_user q e.1.user) es)) ≡ true → list_any (λ e. test (active_of e)) es ≡ true
+trim-less : (q : Policy) (test : List Name → Bool)
+    → ((few many : List Name) → IsPart few many → test few ≡ true → test many ≡ true)
+    → (es : List (ℕ × Session))
+    → list_any (λ e. test (active_of e))
+    (map (λ (e : ℕ × Session). (e.0, kept_roles q e.1))
+    (filter (λ (e : ℕ × Session). is_user q e.1.user) es)) ≡ true
+    → list_any (λ e. test (active_of e)) es ≡ true
 trim-less q test more es is =
     let kept = filter (λ (e : ℕ × Session). is_user q e.1.user) es in
-    let a : list_any (λ (e : ℕ × Session). test (kept_roles q e.1).active) kept ≡ true = sym (any-map (λ (e : ℕ × Session). (e.0, kept_roles q e.1)) (λ e. test (active_of e)) kept) ∙ is in
-    let b : list_any (λ (e : ℕ × Session). test (kept_roles q e.1).active) es ≡ true = any-filter (λ (e : ℕ × Session). test (kept_roles q e.1).active) (λ (e : ℕ × Session). is_user q e.1.user) es a in
-    any-more (λ (e : ℕ × Session). test (kept_roles q e.1).active) (λ e. test (active_of e)) (λ e t. more (kept_roles q e.1).active e.1.active (filter-part (contains_name (authorized q e.1.user)) e.1.active) t) es b
+    let a : list_any (λ (e : ℕ × Session). test (kept_roles q e.1).active) kept ≡ true =
+    sym (any-map (λ (e : ℕ × Session). (e.0, kept_roles q e.1)) (λ e. test (active_of e)) kept)
+    ∙ is in
+    let b : list_any (λ (e : ℕ × Session). test (kept_roles q e.1).active) es ≡ true =
+    any-filter (λ (e : ℕ × Session). test (kept_roles q e.1).active)
+    (λ (e : ℕ × Session). is_user q e.1.user) es a in
+    any-more (λ (e : ℕ × Session). test (kept_roles q e.1).active) (λ e. test (active_of e))
+    (λ e t. more (kept_roles q e.1).active e.1.active
+    (filter-part (contains_name (authorized q e.1.user)) e.1.active) t) es b
 
 abbrev Pairs : Hierarchy → Hierarchy → Type 0
 Pairs h k = (a b : Name) → is_immediate h a b ≡ true → is_immediate k a b ≡ true
@@ -65,119 +90,190 @@ abbrev Roles : Hierarchy → Hierarchy → Type 0
 Roles h k = (r : Name) → is_role h r ≡ true → is_role k r ≡ true
 
 -- fewer users, roles, pairs and assignments, and a trim
-keep-trim : (p : Policy) (users : List (Name × User)) (h : Hierarchy) (granted : List Grant) → Pairs h p.roles → Roles h p.roles
-    → ((set : SeparationSet) → is_broken h (map roles_of users) set ≡ true → is_broken p.roles (assigned_lists p.users) set ≡ true)
+keep-trim : (p : Policy) (users : List (Name × User)) (h : Hierarchy) (granted : List Grant)
+    → Pairs h p.roles → Roles h p.roles
+    → ((set : SeparationSet) → is_broken h (map roles_of users) set ≡ true
+    → is_broken p.roles (assigned_lists p.users) set ≡ true)
     → list_all (is_proper h) p.ssd ≡ true → list_all (is_proper h) p.dsd ≡ true
     → Sound p → Sound (trim (record p { users = users; roles = h; granted = granted }))
 keep-trim p users h granted pairs roles less ssd_proper dsd_proper s =
     let q : Policy = record p { users = users; roles = h; granted = granted } in
     record {
       sessions = trim-authorized q;
-      static = holds-less h p.roles (map roles_of users) (assigned_lists p.users) less p.ssd s.static;
+      static =
+          holds-less h p.roles (map roles_of users) (assigned_lists p.users) less p.ssd s.static;
       dynamic = holds-less h p.roles (active_lists (trim q).sessions) (active_lists p.sessions)
           (λ set. sessions-less h p.roles set (trim q).sessions p.sessions (λ is.
-          any-more (λ e. breaks h (active_of e) set) (λ e. breaks p.roles (active_of e) set) (λ e t. breaks-more h p.roles e.1.active e.1.active set pairs roles (λ r there. there) t) p.sessions
-          (trim-less q (λ l. breaks h l set) (λ few many part t. breaks-more h h few many set (λ a b is. is) (λ r is. is) part t) p.sessions is)))
+          any-more (λ e. breaks h (active_of e) set) (λ e. breaks p.roles (active_of e) set)
+          (λ e t. breaks-more h p.roles e.1.active e.1.active set pairs roles (λ r there. there)
+          t) p.sessions
+          (trim-less q (λ l. breaks h l set)
+          (λ few many part t. breaks-more h h few many set (λ a b is. is) (λ r is. is) part t)
+          p.sessions is)))
           p.dsd s.dynamic;
       static_proper = ssd_proper;
       dynamic_proper = dsd_proper;
     }
 
-pub keep-deluser : (p : Policy) (user : Name) → Sound p → Sound (trim (record p { users = without_key name_eq p.users user }))
+pub keep-deluser : (p : Policy) (user : Name) → Sound p
+    → Sound (trim (record p { users = without_key name_eq p.users user }))
 keep-deluser p user s =
     keep-trim p (without_key name_eq p.users user) p.roles p.granted (λ a b is. is) (λ r is. is)
-    (λ set. users-less p.roles p.roles set roles_of (without_key name_eq p.users user) p.users (any-filter (λ e. breaks p.roles (roles_of e) set) (λ (e : Name × User). not (name_eq user e.0)) p.users))
+    (λ set. users-less p.roles p.roles set roles_of (without_key name_eq p.users user) p.users
+    (any-filter (λ e. breaks p.roles (roles_of e) set)
+    (λ (e : Name × User). not (name_eq user e.0)) p.users))
     s.static_proper s.dynamic_proper s
 
 without-part : (xs : List Name) (r : Name) → IsPart (without_name xs r) xs
 without-part xs r q is = (contains-without xs r q is).0
 
-left-roles : (h : Hierarchy) (role : Name) (xs : List Name) → contains_name xs role ≡ false → list_all (is_role h) xs ≡ true → list_all (is_role (without_role h role)) xs ≡ true
+apart : (a b : Bool) → (a || b) ≡ false → (a ≡ false) × (b ≡ false)
+apart true b e = absurd (true≢false e)
+apart false b e = (refl, e)
+
+left-roles : (h : Hierarchy) (role : Name) (xs : List Name) → contains_name xs role ≡ false
+    → list_all (is_role h) xs ≡ true → list_all (is_role (without_role h role)) xs ≡ true
 left-roles h role [] none all = refl
 left-roles h role (x ∷ xs) none all =
     let t = parts (is_role h x) (list_all (is_role h) xs) all in
     let n = apart (name_eq role x) (contains_name xs role) none in
-    both (is_role (without_role h role) x) _ (roles-left h role x t.0 n.0) (left-roles h role xs n.1 t.1)
-  where
-    apart : (a b : Bool) → (a || b) ≡ false → (a ≡ false) × (b ≡ false)
-    apart true b e = absurd (true≢false e)
-    apart false b e = (refl, e)
+    both (is_role (without_role h role) x) _ (roles-left h role x t.0 n.0)
+    (left-roles h role xs n.1 t.1)
 
-left-proper : (h : Hierarchy) (role : Name) (sets : List SeparationSet) → uses_role sets role ≡ false → list_all (is_proper h) sets ≡ true → list_all (is_proper (without_role h role)) sets ≡ true
+left-proper : (h : Hierarchy) (role : Name) (sets : List SeparationSet)
+    → uses_role sets role ≡ false → list_all (is_proper h) sets ≡ true
+    → list_all (is_proper (without_role h role)) sets ≡ true
 left-proper h role [] none all = refl
 left-proper h role (x ∷ xs) none all =
     let t = parts (is_proper h x) (list_all (is_proper h) xs) all in
     let n = apart (has_role role x) (uses_role xs role) none in
     let is = parts (nat_lt 0 x.cardinality) (list_all (is_role h) x.roles) t.0 in
-    both (is_proper (without_role h role) x) _ (both (nat_lt 0 x.cardinality) _ is.0 (left-roles h role x.roles n.0 is.1)) (left-proper h role xs n.1 t.1)
-  where
-    apart : (a b : Bool) → (a || b) ≡ false → (a ≡ false) × (b ≡ false)
-    apart true b e = absurd (true≢false e)
-    apart false b e = (refl, e)
+    both (is_proper (without_role h role) x) _
+    (both (nat_lt 0 x.cardinality) _ is.0 (left-roles h role x.roles n.0 is.1))
+    (left-proper h role xs n.1 t.1)
 
-pub keep-delrole : (p : Policy) (role : Name) → uses_role p.ssd role ≡ false → uses_role p.dsd role ≡ false → Sound p → Sound (trim (rows.without_role_of p role))
+pub keep-delrole : (p : Policy) (role : Name) → uses_role p.ssd role ≡ false
+    → uses_role p.dsd role ≡ false → Sound p → Sound (trim (rows.without_role_of p role))
 keep-delrole p role no_ssd no_dsd s =
     let h = without_role p.roles role in
-    let f : Name × User → Name × User = λ e. (e.0, record e.1 { roles = without_name e.1.roles role }) in
-    let fewer : Roles h p.roles = λ r is. (contains-without (map (λ (e : Name × List Name). e.0) p.roles) role r (ap (λ l. contains_name l r) (sym (names-without_role p.roles role)) ∙ is)).0 in
-    keep-trim p (map f p.users) h (filter (λ (g : Grant). not (name_eq role g.role)) p.granted) (pairs-without_role p.roles role) fewer
+    let f : Name × User → Name × User =
+    λ e. (e.0, record e.1 { roles = without_name e.1.roles role }) in
+    let fewer : Roles h p.roles = λ r is. (contains-without
+    (map (λ (e : Name × List Name). e.0) p.roles) role r
+    (ap (λ l. contains_name l r) (sym (names-without_role p.roles role)) ∙ is)).0 in
+    keep-trim p (map f p.users) h (filter (λ (g : Grant). not (name_eq role g.role)) p.granted)
+    (pairs-without_role p.roles role) fewer
     (λ set is.
     users-less h p.roles set (λ e. roles_of (f e)) p.users p.users
-    (any-more (λ e. breaks h (roles_of (f e)) set) (λ e. breaks p.roles (roles_of e) set) (λ e t. breaks-more h p.roles (without_name e.1.roles role) e.1.roles set (pairs-without_role p.roles role) fewer (without-part e.1.roles role) t) p.users)
-    (any-map (λ e. roles_of (f e)) (λ l. breaks h l set) p.users ∙ sym (any-map f (λ e. breaks h (roles_of e) set) p.users) ∙ sym (any-map roles_of (λ l. breaks h l set) (map f p.users)) ∙ is))
-    (left-proper p.roles role p.ssd no_ssd s.static_proper) (left-proper p.roles role p.dsd no_dsd s.dynamic_proper) s
+    (any-more (λ e. breaks h (roles_of (f e)) set) (λ e. breaks p.roles (roles_of e) set)
+    (λ e t. breaks-more h p.roles (without_name e.1.roles role) e.1.roles set
+    (pairs-without_role p.roles role) fewer (without-part e.1.roles role) t) p.users)
+    (any-map (λ e. roles_of (f e)) (λ l. breaks h l set) p.users
+    ∙ sym (any-map f (λ e. breaks h (roles_of e) set) p.users)
+    ∙ sym (any-map roles_of (λ l. breaks h l set) (map f p.users)) ∙ is))
+    (left-proper p.roles role p.ssd no_ssd s.static_proper)
+    (left-proper p.roles role p.dsd no_dsd s.dynamic_proper) s
 
 -- one user's roles are fewer
-assigned-less : (test : List Name → Bool) (role : Name) (digest : List ℕ) (user : Name) → ((few many : List Name) → IsPart few many → test few ≡ true → test many ≡ true) → (es : List (Name × User))
-    → list_any (λ e. test (roles_of e)) (with_value name_eq es user (record { digest = digest; roles = without_name (option_map_or (λ (x : User). x.roles) (value_at name_eq es user) []) role })) ≡ true → list_any (λ e. test (roles_of e)) es ≡ true
+assigned-less : (test : List Name → Bool) (role : Name) (digest : List ℕ) (user : Name)
+    → ((few many : List Name) → IsPart few many → test few ≡ true → test many ≡ true)
+    → (es : List (Name × User))
+    → list_any (λ e. test (roles_of e))
+    (with_value name_eq es user (record {
+      digest = digest;
+      roles = without_name
+          (option_map_or (λ (x : User). x.roles) (value_at name_eq es user) []) role;
+    })) ≡ true
+    → list_any (λ e. test (roles_of e)) es ≡ true
 assigned-less test role digest user more [] is = is
 assigned-less test role digest user more (e ∷ es) is =
     elim (name_eq user e.0) as (λ b.
-    list_any (λ x. test (roles_of x)) (cond b ((e.0, record { digest = digest; roles = without_name (option_map_or (λ (x : User). x.roles) (cond b (Some e.1) (value_at name_eq es user)) []) role }) ∷ es) (e ∷ with_value name_eq es user (record { digest = digest; roles = without_name (option_map_or (λ (x : User). x.roles) (cond b (Some e.1) (value_at name_eq es user)) []) role }))) ≡ true
+    list_any (λ x. test (roles_of x)) (cond b
+    ((
+      e.0,
+      record {
+        digest = digest;
+        roles = without_name
+            (option_map_or (λ (x : User). x.roles) (cond b (Some e.1) (value_at name_eq es user))
+            [])
+            role;
+      },
+    ) ∷ es)
+    (e ∷ with_value name_eq es user (record {
+      digest = digest;
+      roles = without_name
+          (option_map_or (λ (x : User). x.roles) (cond b (Some e.1) (value_at name_eq es user)) [])
+          role;
+    }))) ≡ true
     → (test e.1.roles || list_any (λ x. test (roles_of x)) es) ≡ true) [
-      | true ↦ λ t. elim (or_cases (test (without_name e.1.roles role)) (list_any (λ x. test (roles_of x)) es) t) [
-        | inl here ↦ ap (λ b. b || list_any (λ x. test (roles_of x)) es) (more (without_name e.1.roles role) e.1.roles (without-part e.1.roles role) here)
-        | inr later ↦ or_right (test e.1.roles) _ later
-      ]
+      | true ↦ λ t. elim (or_cases (test (without_name e.1.roles role))
+          (list_any (λ x. test (roles_of x)) es) t) [
+            | inl here ↦ ap (λ b. b || list_any (λ x. test (roles_of x)) es)
+                (more (without_name e.1.roles role) e.1.roles (without-part e.1.roles role) here)
+            | inr later ↦ or_right (test e.1.roles) _ later
+          ]
       | false ↦ λ t. elim (or_cases (test e.1.roles) _ t) [
         | inl here ↦ ap (λ b. b || list_any (λ x. test (roles_of x)) es) here
-        | inr later ↦ or_right (test e.1.roles) _ (assigned-less test role digest user more es later)
+        | inr later ↦ or_right (test e.1.roles) _
+            (assigned-less test role digest user more es later)
       ]
     ] is
 
-pub keep-deassign : (p : Policy) (user role : Name) → Sound p → Sound (trim (rows.with_assigned p user (without_name (assigned_roles p user) role)))
+pub keep-deassign : (p : Policy) (user role : Name) → Sound p
+    → Sound (trim (rows.with_assigned p user (without_name (assigned_roles p user) role)))
 keep-deassign p user role s =
-    let us = with_value name_eq p.users user (record { digest = rows.digest_of_user p user; roles = without_name (assigned_roles p user) role }) in
+    let us = with_value name_eq p.users user
+    (record {
+      digest = rows.digest_of_user p user;
+      roles = without_name (assigned_roles p user)
+          role;
+    }) in
     keep-trim p us p.roles p.granted (λ a b is. is) (λ r is. is)
-    (λ set. users-less p.roles p.roles set roles_of us p.users (assigned-less (λ l. breaks p.roles l set) role (rows.digest_of_user p user) user (λ few many part t. breaks-more p.roles p.roles few many set (λ a b is. is) (λ r is. is) part t) p.users))
+    (λ set. users-less p.roles p.roles set roles_of us p.users
+    (assigned-less (λ l. breaks p.roles l set) role (rows.digest_of_user p user) user
+    (λ few many part t. breaks-more p.roles p.roles few many set (λ a b is. is) (λ r is. is)
+    part t) p.users))
     s.static_proper s.dynamic_proper s
 
-pub keep-uninherit : (p : Policy) (senior junior : Name) → is_immediate p.roles senior junior ≡ true → Sound p → Sound (trim (record p { roles = without_pair p.roles senior junior }))
+pub keep-uninherit : (p : Policy) (senior junior : Name) → is_immediate p.roles senior junior ≡ true
+    → Sound p → Sound (trim (record p { roles = without_pair p.roles senior junior }))
 keep-uninherit p senior junior there s =
     let h = without_pair p.roles senior junior in
-    let names = names-with_juniors p.roles senior (without_name (immediate_juniors p.roles senior) junior) in
+    let names = names-with_juniors p.roles senior
+    (without_name (immediate_juniors p.roles senior) junior) in
     let known = first_role p.roles senior junior there in
     let fewer = pairs-without_pair p.roles senior junior known in
     let less_roles : Roles h p.roles = λ r is. ap (λ l. contains_name l r) (sym names) ∙ is in
     let more_roles : Roles p.roles h = λ r is. ap (λ l. contains_name l r) names ∙ is in
     keep-trim p p.users h p.granted fewer less_roles
-    (λ set. users-less h p.roles set roles_of p.users p.users (any-more (λ e. breaks h (roles_of e) set) (λ e. breaks p.roles (roles_of e) set) (λ e t. breaks-more h p.roles e.1.roles e.1.roles set fewer less_roles (λ r is. is) t) p.users))
-    (proper-more p.roles h more_roles p.ssd s.static_proper) (proper-more p.roles h more_roles p.dsd s.dynamic_proper) s
+    (λ set. users-less h p.roles set roles_of p.users p.users
+    (any-more (λ e. breaks h (roles_of e) set) (λ e. breaks p.roles (roles_of e) set)
+    (λ e t. breaks-more h p.roles e.1.roles e.1.roles set fewer less_roles (λ r is. is) t)
+    p.users))
+    (proper-more p.roles h more_roles p.ssd s.static_proper)
+    (proper-more p.roles h more_roles p.dsd s.dynamic_proper) s
 
-pub authorized-inherit : (p : Policy) (senior junior : Name) → is_role p.roles senior ≡ true → active_authorized p ≡ true → active_authorized (record p { roles = with_pair p.roles senior junior }) ≡ true
+pub authorized-inherit : (p : Policy) (senior junior : Name) → is_role p.roles senior ≡ true
+    → active_authorized p ≡ true → active_authorized
+    (record p { roles = with_pair p.roles senior junior }) ≡ true
 authorized-inherit p senior junior known sound =
     let h = with_pair p.roles senior junior in
-    let names = names-with_juniors p.roles senior (immediate_juniors p.roles senior ++ junior ∷ []) in
+    let names =
+    names-with_juniors p.roles senior (immediate_juniors p.roles senior ++ junior ∷ []) in
     sound-grows p (record p { roles = h }) refl (λ u is. is)
-    (λ u r there. roles_below-grows p.roles h (assigned_roles p u) (assigned_roles p u) (pairs-with_pair p.roles senior junior known) (λ q is. ap (λ l. contains_name l q) names ∙ is) (λ q is. is) r there)
+    (λ u r there. roles_below-grows p.roles h (assigned_roles p u) (assigned_roles p u)
+    (pairs-with_pair p.roles senior junior known) (λ q is. ap (λ l. contains_name l q) names
+    ∙ is) (λ q is. is) r there)
     sound
 
 pub keep-inherit : (p : Policy) (senior junior : Name) → is_role p.roles senior ≡ true
-    → sets_hold (with_pair p.roles senior junior) p.ssd (assigned_lists p.users) ≡ true → sets_hold (with_pair p.roles senior junior) p.dsd (active_lists p.sessions) ≡ true
+    → sets_hold (with_pair p.roles senior junior) p.ssd (assigned_lists p.users) ≡ true
+    → sets_hold (with_pair p.roles senior junior) p.dsd (active_lists p.sessions) ≡ true
     → Sound p → Sound (record p { roles = with_pair p.roles senior junior })
 keep-inherit p senior junior known static dynamic s =
     let h = with_pair p.roles senior junior in
-    let names = names-with_juniors p.roles senior (immediate_juniors p.roles senior ++ junior ∷ []) in
+    let names =
+    names-with_juniors p.roles senior (immediate_juniors p.roles senior ++ junior ∷ []) in
     let more : Roles p.roles h = λ r is. ap (λ l. contains_name l r) names ∙ is in
     record {
       sessions = authorized-inherit p senior junior known s.sessions;
@@ -188,13 +284,17 @@ keep-inherit p senior junior known static dynamic s =
     }
 
 -- a user without roles breaks no set, and so does a session without active ones
-pub keep-adduser : (p : Policy) (user : Name) (digest : List ℕ) → Sound p → Sound (record p { users = p.users ++ (user, record { digest = digest; roles = [] }) ∷ [] })
+pub keep-adduser : (p : Policy) (user : Name) (digest : List ℕ) → Sound p
+    → Sound (record p { users = p.users ++ (user, record { digest = digest; roles = [] }) ∷ [] })
 keep-adduser p user digest s = record {
   sessions = sound-adduser p user digest s.sessions;
-  static = holds-proper p.roles p.roles (map roles_of (p.users ++ new ∷ [])) (assigned_lists p.users) p.ssd
-      (λ set proper. users-less p.roles p.roles set roles_of (p.users ++ new ∷ []) p.users (λ is. elim (any-append (λ e. breaks p.roles (roles_of e) set) p.users new is) [
+  static = holds-proper p.roles p.roles (map roles_of (p.users ++ new ∷ []))
+      (assigned_lists p.users) p.ssd
+      (λ set proper. users-less p.roles p.roles set roles_of (p.users ++ new ∷ []) p.users
+      (λ is. elim (any-append (λ e. breaks p.roles (roles_of e) set) p.users new is) [
         | inl among ↦ among
-        | inr last ↦ absurd (not_both (breaks p.roles [] set) last (nobody-breaks p.roles set proper))
+        | inr last ↦ absurd (not_both (breaks p.roles [] set) last
+            (nobody-breaks p.roles set proper))
       ])) s.static_proper s.static;
   dynamic = s.dynamic;
   static_proper = s.static_proper;
@@ -204,16 +304,20 @@ keep-adduser p user digest s = record {
     new : Name × User
     new = (user, record { digest = digest; roles = [] })
 
-pub keep-open : (p : Policy) (conn : ℕ) (user : Name) → is_user p user ≡ true → Sound p → Sound (record p { sessions = p.sessions ++ (conn, record { user = user; active = [] }) ∷ [] })
+pub keep-open : (p : Policy) (conn : ℕ) (user : Name) → is_user p user ≡ true → Sound p
+    → Sound (record p { sessions = p.sessions ++ (conn, record { user = user; active = [] }) ∷ [] })
 keep-open p conn user there s =
     let new : ℕ × Session = (conn, record { user = user; active = [] }) in
     record {
       sessions = sound-open p conn user there s.sessions;
       static = s.static;
-      dynamic = holds-proper p.roles p.roles (map active_of (p.sessions ++ new ∷ [])) (active_lists p.sessions) p.dsd
-          (λ set proper. sessions-less p.roles p.roles set (p.sessions ++ new ∷ []) p.sessions (λ is. elim (any-append (λ e. breaks p.roles (active_of e) set) p.sessions new is) [
+      dynamic = holds-proper p.roles p.roles (map active_of (p.sessions ++ new ∷ []))
+          (active_lists p.sessions) p.dsd
+          (λ set proper. sessions-less p.roles p.roles set (p.sessions ++ new ∷ []) p.sessions
+          (λ is. elim (any-append (λ e. breaks p.roles (active_of e) set) p.sessions new is) [
             | inl among ↦ among
-            | inr last ↦ absurd (not_both (breaks p.roles [] set) last (nobody-breaks p.roles set proper))
+            | inr last ↦ absurd (not_both (breaks p.roles [] set) last
+                (nobody-breaks p.roles set proper))
           ])) s.dynamic_proper s.dynamic;
       static_proper = s.static_proper;
       dynamic_proper = s.dynamic_proper;
@@ -223,8 +327,11 @@ pub keep-end : (p : Policy) (conn : ℕ) → Sound p → Sound (rows.end_session
 keep-end p conn s = record {
   sessions = sound-end p conn s.sessions;
   static = s.static;
-  dynamic = holds-less p.roles p.roles (active_lists (rows.end_session p conn).sessions) (active_lists p.sessions)
-      (λ set. sessions-less p.roles p.roles set (rows.end_session p conn).sessions p.sessions (any-filter (λ e. breaks p.roles (active_of e) set) (λ (e : ℕ × Session). not (conn == e.0)) p.sessions)) p.dsd s.dynamic;
+  dynamic = holds-less p.roles p.roles (active_lists (rows.end_session p conn).sessions)
+      (active_lists p.sessions)
+      (λ set. sessions-less p.roles p.roles set (rows.end_session p conn).sessions p.sessions
+      (any-filter (λ e. breaks p.roles (active_of e) set)
+      (λ (e : ℕ × Session). not (conn == e.0)) p.sessions)) p.dsd s.dynamic;
   static_proper = s.static_proper;
   dynamic_proper = s.dynamic_proper;
 }
@@ -234,21 +341,37 @@ holds-nobody h [] = refl
 holds-nobody h (x ∷ xs) = holds-nobody h xs
 
 pub keep-end_all : (p : Policy) → Sound p → Sound (rows.end_sessions p)
-keep-end_all p s = record { sessions = refl; static = s.static; dynamic = holds-nobody p.roles p.dsd; static_proper = s.static_proper; dynamic_proper = s.dynamic_proper }
+keep-end_all p s = record {
+  sessions = refl;
+  static = s.static;
+  dynamic = holds-nobody p.roles
+      p.dsd;
+  static_proper = s.static_proper;
+  dynamic_proper = s.dynamic_proper;
+}
 
 -- a role without pairs breaks nothing
-pub keep-addrole : (p : Policy) (role : Name) → Sound p → Sound (record p { roles = with_role p.roles role })
+pub keep-addrole : (p : Policy) (role : Name) → Sound p
+    → Sound (record p { roles = with_role p.roles role })
 keep-addrole p role s =
     let h = with_role p.roles role in
     record {
       sessions = sound-addrole p role s.sessions;
-      static = holds-proper h p.roles (assigned_lists p.users) (assigned_lists p.users) p.ssd (λ set proper is. sym (any-same (λ l. breaks h l set) (λ l. breaks p.roles l set) (λ l. breaks-with_role p.roles role l set proper) (assigned_lists p.users)) ∙ is) s.static_proper s.static;
-      dynamic = holds-proper h p.roles (active_lists p.sessions) (active_lists p.sessions) p.dsd (λ set proper is. sym (any-same (λ l. breaks h l set) (λ l. breaks p.roles l set) (λ l. breaks-with_role p.roles role l set proper) (active_lists p.sessions)) ∙ is) s.dynamic_proper s.dynamic;
+      static = holds-proper h p.roles (assigned_lists p.users) (assigned_lists p.users) p.ssd
+          (λ set proper is. sym (any-same (λ l. breaks h l set) (λ l. breaks p.roles l set)
+          (λ l. breaks-with_role p.roles role l set proper) (assigned_lists p.users)) ∙ is)
+          s.static_proper s.static;
+      dynamic = holds-proper h p.roles (active_lists p.sessions) (active_lists p.sessions) p.dsd
+          (λ set proper is. sym (any-same (λ l. breaks h l set) (λ l. breaks p.roles l set)
+          (λ l. breaks-with_role p.roles role l set proper) (active_lists p.sessions)) ∙ is)
+          s.dynamic_proper s.dynamic;
       static_proper = proper-more p.roles h (roles-with_role p.roles role) p.ssd s.static_proper;
       dynamic_proper = proper-more p.roles h (roles-with_role p.roles role) p.dsd s.dynamic_proper;
     }
 
-pub keep-assign : (p : Policy) (user role : Name) → sets_hold p.roles p.ssd (assigned_lists (rows.with_assigned p user (assigned_roles p user ++ role ∷ [])).users) ≡ true
+pub keep-assign : (p : Policy) (user role : Name)
+    → sets_hold p.roles p.ssd (assigned_lists
+    (rows.with_assigned p user (assigned_roles p user ++ role ∷ [])).users) ≡ true
     → Sound p → Sound (rows.with_assigned p user (assigned_roles p user ++ role ∷ []))
 keep-assign p user role static s = record {
   sessions = sound-assign p user role s.sessions;
@@ -258,8 +381,10 @@ keep-assign p user role static s = record {
   dynamic_proper = s.dynamic_proper;
 }
 
-pub keep-activate : (p : Policy) (conn : ℕ) (role : Name) → contains_name (authorized p (rows.user_of p conn)) role ≡ true
-    → sets_hold p.roles p.dsd (active_lists (rows.with_active p conn (rows.active_roles p conn ++ role ∷ [])).sessions) ≡ true
+pub keep-activate : (p : Policy) (conn : ℕ) (role : Name)
+    → contains_name (authorized p (rows.user_of p conn)) role ≡ true
+    → sets_hold p.roles p.dsd (active_lists
+    (rows.with_active p conn (rows.active_roles p conn ++ role ∷ [])).sessions) ≡ true
     → Sound p → Sound (rows.with_active p conn (rows.active_roles p conn ++ role ∷ []))
 keep-activate p conn role there dynamic s = record {
   sessions = sound-activate p conn role there s.sessions;
@@ -271,117 +396,204 @@ keep-activate p conn role there dynamic s = record {
 
 -- one session's active roles are fewer
 abbrev dropped : List (ℕ × Session) → ℕ → Name → Session
-dropped es conn role = record { user = option_map_or (λ (s : Session). s.user) (value_at (λ a b. a == b) es conn) []; active = without_name (option_map_or (λ (s : Session). s.active) (value_at (λ a b. a == b) es conn) []) role }
+dropped es conn role = record {
+  user = option_map_or (λ (s : Session). s.user)
+      (value_at (λ a b. a == b) es conn) [];
+  active = without_name (option_map_or (λ (s : Session). s.active)
+      (value_at (λ a b. a == b) es conn) []) role;
+}
 
-pub authorized-drop : (p : Policy) (conn : ℕ) (role : Name) → active_authorized p ≡ true → active_authorized (rows.with_active p conn (without_name (rows.active_roles p conn) role)) ≡ true
+pub authorized-drop : (p : Policy) (conn : ℕ) (role : Name) → active_authorized p ≡ true
+    → active_authorized (rows.with_active p conn (without_name (rows.active_roles p conn) role))
+    ≡ true
 authorized-drop p conn role sound = by p.sessions sound
   where
-    by : (es : List (ℕ × Session)) → list_all (λ (e : ℕ × Session). is_authorized_session p e.1) es ≡ true → list_all (λ (e : ℕ × Session). is_authorized_session p e.1) (with_value (λ a b. a == b) es conn (dropped es conn role)) ≡ true
+    by : (es : List (ℕ × Session)) → list_all (λ (e : ℕ × Session). is_authorized_session p e.1) es
+        ≡ true → list_all (λ (e : ℕ × Session). is_authorized_session p e.1)
+        (with_value (λ a b. a == b) es conn (dropped es conn role)) ≡ true
     by [] all = refl
     by (e ∷ es) all =
-        let t = parts (is_authorized_session p e.1) (list_all (λ (x : ℕ × Session). is_authorized_session p x.1) es) all in
-        elim (conn == e.0) as (λ b. list_all (λ (x : ℕ × Session). is_authorized_session p x.1) (cond b ((e.0, record { user = option_map_or (λ (s : Session). s.user) (cond b (Some e.1) (value_at (λ a b. a == b) es conn)) []; active = without_name (option_map_or (λ (s : Session). s.active) (cond b (Some e.1) (value_at (λ a b. a == b) es conn)) []) role }) ∷ es) (e ∷ with_value (λ a b. a == b) es conn (record { user = option_map_or (λ (s : Session). s.user) (cond b (Some e.1) (value_at (λ a b. a == b) es conn)) []; active = without_name (option_map_or (λ (s : Session). s.active) (cond b (Some e.1) (value_at (λ a b. a == b) es conn)) []) role }))) ≡ true) [
+        let t = parts (is_authorized_session p e.1)
+        (list_all (λ (x : ℕ × Session). is_authorized_session p x.1) es) all in
+        elim (conn == e.0) as (λ b. list_all (λ (x : ℕ × Session). is_authorized_session p x.1)
+        (cond b
+        ((
+          e.0,
+          record {
+            user = option_map_or (λ (s : Session). s.user)
+                (cond b (Some e.1) (value_at (λ a b. a == b) es conn)) [];
+            active = without_name (option_map_or (λ (s : Session). s.active)
+                (cond b (Some e.1) (value_at (λ a b. a == b) es conn)) []) role;
+          },
+        ) ∷ es)
+        (e ∷ with_value (λ a b. a == b) es conn
+        (record {
+          user = option_map_or (λ (s : Session). s.user)
+              (cond b (Some e.1) (value_at (λ a b. a == b) es conn)) [];
+          active = without_name (option_map_or (λ (s : Session). s.active)
+              (cond b (Some e.1) (value_at (λ a b. a == b) es conn)) []) role;
+        }))) ≡ true) [
           | true ↦
-              let session = parts (is_user p e.1.user) (list_all (contains_name (authorized p e.1.user)) e.1.active) t.0 in
-              both _ _ (both (is_user p e.1.user) _ session.0 (all-filter (contains_name (authorized p e.1.user)) (λ (o : Name). not (name_eq role o)) e.1.active session.1)) t.1
+              let session = parts (is_user p e.1.user)
+              (list_all (contains_name (authorized p e.1.user)) e.1.active) t.0 in
+              both _ _ (both (is_user p e.1.user) _ session.0
+              (all-filter (contains_name (authorized p e.1.user))
+              (λ (o : Name). not (name_eq role o)) e.1.active session.1)) t.1
           | false ↦ both (is_authorized_session p e.1) _ t.0 (by es t.1)
         ]
 
-dropped-less : (test : List Name → Bool) (conn : ℕ) (role : Name) → ((few many : List Name) → IsPart few many → test few ≡ true → test many ≡ true) → (es : List (ℕ × Session))
-    → list_any (λ e. test (active_of e)) (with_value (λ a b. a == b) es conn (dropped es conn role)) ≡ true → list_any (λ e. test (active_of e)) es ≡ true
+dropped-less : (test : List Name → Bool) (conn : ℕ) (role : Name)
+    → ((few many : List Name) → IsPart few many → test few ≡ true → test many ≡ true)
+    → (es : List (ℕ × Session))
+    → list_any (λ e. test (active_of e)) (with_value (λ a b. a == b) es conn (dropped es conn role))
+    ≡ true → list_any (λ e. test (active_of e)) es ≡ true
 dropped-less test conn role more [] is = is
 dropped-less test conn role more (e ∷ es) is =
-    elim (conn == e.0) as (λ b. list_any (λ x. test (active_of x)) (cond b ((e.0, record { user = option_map_or (λ (s : Session). s.user) (cond b (Some e.1) (value_at (λ a b. a == b) es conn)) []; active = without_name (option_map_or (λ (s : Session). s.active) (cond b (Some e.1) (value_at (λ a b. a == b) es conn)) []) role }) ∷ es) (e ∷ with_value (λ a b. a == b) es conn (record { user = option_map_or (λ (s : Session). s.user) (cond b (Some e.1) (value_at (λ a b. a == b) es conn)) []; active = without_name (option_map_or (λ (s : Session). s.active) (cond b (Some e.1) (value_at (λ a b. a == b) es conn)) []) role }))) ≡ true
+    elim (conn == e.0) as (λ b. list_any (λ x. test (active_of x))
+    (cond b
+    ((
+      e.0,
+      record {
+        user = option_map_or (λ (s : Session). s.user)
+            (cond b (Some e.1) (value_at (λ a b. a == b) es conn)) [];
+        active = without_name (option_map_or (λ (s : Session). s.active)
+            (cond b (Some e.1) (value_at (λ a b. a == b) es conn)) []) role;
+      },
+    ) ∷ es)
+    (e ∷ with_value (λ a b. a == b) es conn
+    (record {
+      user = option_map_or (λ (s : Session). s.user)
+          (cond b (Some e.1) (value_at (λ a b. a == b) es conn)) [];
+      active = without_name (option_map_or (λ (s : Session). s.active)
+          (cond b (Some e.1) (value_at (λ a b. a == b) es conn)) []) role;
+    }))) ≡ true
     → (test e.1.active || list_any (λ x. test (active_of x)) es) ≡ true) [
-      | true ↦ λ t. elim (or_cases (test (without_name e.1.active role)) (list_any (λ x. test (active_of x)) es) t) [
-        | inl here ↦ ap (λ b. b || list_any (λ x. test (active_of x)) es) (more (without_name e.1.active role) e.1.active (without-part e.1.active role) here)
-        | inr later ↦ or_right (test e.1.active) _ later
-      ]
+      | true ↦ λ t. elim (or_cases (test (without_name e.1.active role))
+          (list_any (λ x. test (active_of x)) es) t) [
+            | inl here ↦ ap (λ b. b || list_any (λ x. test (active_of x)) es)
+                (more (without_name e.1.active role) e.1.active (without-part e.1.active role) here)
+            | inr later ↦ or_right (test e.1.active) _ later
+          ]
       | false ↦ λ t. elim (or_cases (test e.1.active) _ t) [
         | inl here ↦ ap (λ b. b || list_any (λ x. test (active_of x)) es) here
         | inr later ↦ or_right (test e.1.active) _ (dropped-less test conn role more es later)
       ]
     ] is
 
-pub keep-drop : (p : Policy) (conn : ℕ) (role : Name) → Sound p → Sound (rows.with_active p conn (without_name (rows.active_roles p conn) role))
+pub keep-drop : (p : Policy) (conn : ℕ) (role : Name) → Sound p
+    → Sound (rows.with_active p conn (without_name (rows.active_roles p conn) role))
 keep-drop p conn role s =
     let q = rows.with_active p conn (without_name (rows.active_roles p conn) role) in
     record {
       sessions = authorized-drop p conn role s.sessions;
       static = s.static;
       dynamic = holds-less p.roles p.roles (active_lists q.sessions) (active_lists p.sessions)
-          (λ set. sessions-less p.roles p.roles set q.sessions p.sessions (dropped-less (λ l. breaks p.roles l set) conn role (λ few many part t. breaks-more p.roles p.roles few many set (λ a b is. is) (λ r is. is) part t) p.sessions)) p.dsd s.dynamic;
+          (λ set. sessions-less p.roles p.roles set q.sessions p.sessions
+          (dropped-less (λ l. breaks p.roles l set) conn role
+          (λ few many part t. breaks-more p.roles p.roles few many set (λ a b is. is)
+          (λ r is. is) part t) p.sessions)) p.dsd s.dynamic;
       static_proper = s.static_proper;
       dynamic_proper = s.dynamic_proper;
     }
 
 -- a set that holds for somebody forbids no one to have nothing
-somebody-positive : {X : Type 0} (h : Hierarchy) (f : X → List Name) (xs : List X) (set : SeparationSet) → (xs ≡ [] → ⊥) → is_broken h (map f xs) set ≡ false → nat_lt 0 set.cardinality ≡ true
+somebody-positive : {X : Type 0} (h : Hierarchy) (f : X → List Name) (xs : List X)
+    (set : SeparationSet) → (xs ≡ [] → ⊥) → is_broken h (map f xs) set ≡ false
+    → nat_lt 0 set.cardinality ≡ true
 somebody-positive h f [] set some apart = absurd (some refl)
-somebody-positive h f (x ∷ xs) set some apart = unbroken-positive h (f x) set (first (breaks h (f x) set) (is_broken h (map f xs) set) apart)
+somebody-positive h f (x ∷ xs) set some apart =
+    unbroken-positive h (f x) set (first (breaks h (f x) set) (is_broken h (map f xs) set) apart)
   where
     first : (a b : Bool) → (a || b) ≡ false → a ≡ false
     first true b e = absurd (true≢false e)
     first false b e = refl
 
 some-session : (p : Policy) (conn : ℕ) → is_some (session_of p conn) ≡ true → p.sessions ≡ [] → ⊥
-some-session p conn is none = true≢false (sym is ∙ ap (λ (es : List (ℕ × Session)). is_some (value_at (λ a b. a == b) es conn)) none)
+some-session p conn is none = true≢false
+    (sym is ∙ ap (λ (es : List (ℕ × Session)). is_some (value_at (λ a b. a == b) es conn)) none)
 
-some-user : (p : Policy) (conn : ℕ) → is_some (session_of p conn) ≡ true → active_authorized p ≡ true → p.users ≡ [] → ⊥
+some-user : (p : Policy) (conn : ℕ) → is_some (session_of p conn) ≡ true
+    → active_authorized p ≡ true → p.users ≡ [] → ⊥
 some-user p conn is sound none = by p.sessions is sound
   where
-    by : (es : List (ℕ × Session)) → is_some (value_at (λ a b. a == b) es conn) ≡ true → list_all (λ (e : ℕ × Session). is_authorized_session p e.1) es ≡ true → ⊥
+    by : (es : List (ℕ × Session)) → is_some (value_at (λ a b. a == b) es conn) ≡ true
+        → list_all (λ (e : ℕ × Session). is_authorized_session p e.1) es ≡ true → ⊥
     by [] there all = true≢false (sym there)
     by (e ∷ es) there all =
-        let first = (parts (is_authorized_session p e.1) (list_all (λ (x : ℕ × Session). is_authorized_session p x.1) es) all).0 in
-        let user = (parts (is_user p e.1.user) (list_all (contains_name (authorized p e.1.user)) e.1.active) first).0 in
+        let first = (parts (is_authorized_session p e.1)
+        (list_all (λ (x : ℕ × Session). is_authorized_session p x.1) es) all).0 in
+        let user = (parts (is_user p e.1.user)
+        (list_all (contains_name (authorized p e.1.user)) e.1.active) first).0 in
         true≢false (sym user ∙ ap (λ (us : List (Name × User)). has_key name_eq us e.1.user) none)
 
-pub keep-ssd : (p : Policy) (conn : ℕ) (set : SeparationSet) → is_some (session_of p conn) ≡ true → list_all (is_role p.roles) set.roles ≡ true → sets_hold p.roles (p.ssd ++ set ∷ []) (assigned_lists p.users) ≡ true
+pub keep-ssd : (p : Policy) (conn : ℕ) (set : SeparationSet) → is_some (session_of p conn) ≡ true
+    → list_all (is_role p.roles) set.roles ≡ true
+    → sets_hold p.roles (p.ssd ++ set ∷ []) (assigned_lists p.users) ≡ true
     → Sound p → Sound (record p { ssd = p.ssd ++ set ∷ [] })
 keep-ssd p conn set there roles static s =
-    let apart = not_true (is_broken p.roles (assigned_lists p.users) set) (all-last (λ (x : SeparationSet). not (is_broken p.roles (assigned_lists p.users) x)) p.ssd set static) in
-    let positive = somebody-positive p.roles roles_of p.users set (some-user p conn there s.sessions) apart in
+    let apart = not_true (is_broken p.roles (assigned_lists p.users) set)
+    (all-last (λ (x : SeparationSet). not (is_broken p.roles (assigned_lists p.users) x)) p.ssd
+    set static) in
+    let positive =
+    somebody-positive p.roles roles_of p.users set (some-user p conn there s.sessions) apart in
     record {
       sessions = s.sessions;
       static = static;
       dynamic = s.dynamic;
-      static_proper = all-append (is_proper p.roles) p.ssd (set ∷ []) s.static_proper (both (is_proper p.roles set) true (both (nat_lt 0 set.cardinality) _ positive roles) refl);
+      static_proper = all-append (is_proper p.roles) p.ssd (set ∷ []) s.static_proper
+          (both (is_proper p.roles set) true (both (nat_lt 0 set.cardinality) _ positive roles)
+          refl);
       dynamic_proper = s.dynamic_proper;
     }
 
-pub keep-dsd : (p : Policy) (conn : ℕ) (set : SeparationSet) → is_some (session_of p conn) ≡ true → list_all (is_role p.roles) set.roles ≡ true → sets_hold p.roles (p.dsd ++ set ∷ []) (active_lists p.sessions) ≡ true
+pub keep-dsd : (p : Policy) (conn : ℕ) (set : SeparationSet) → is_some (session_of p conn) ≡ true
+    → list_all (is_role p.roles) set.roles ≡ true
+    → sets_hold p.roles (p.dsd ++ set ∷ []) (active_lists p.sessions) ≡ true
     → Sound p → Sound (record p { dsd = p.dsd ++ set ∷ [] })
 keep-dsd p conn set there roles dynamic s =
-    let apart = not_true (is_broken p.roles (active_lists p.sessions) set) (all-last (λ (x : SeparationSet). not (is_broken p.roles (active_lists p.sessions) x)) p.dsd set dynamic) in
-    let positive = somebody-positive p.roles active_of p.sessions set (some-session p conn there) apart in
+    let apart = not_true (is_broken p.roles (active_lists p.sessions) set)
+    (all-last (λ (x : SeparationSet). not (is_broken p.roles (active_lists p.sessions) x)) p.dsd
+    set dynamic) in
+    let positive =
+    somebody-positive p.roles active_of p.sessions set (some-session p conn there) apart in
     record {
       sessions = s.sessions;
       static = s.static;
       dynamic = dynamic;
       static_proper = s.static_proper;
-      dynamic_proper = all-append (is_proper p.roles) p.dsd (set ∷ []) s.dynamic_proper (both (is_proper p.roles set) true (both (nat_lt 0 set.cardinality) _ positive roles) refl);
+      dynamic_proper = all-append (is_proper p.roles) p.dsd (set ∷ []) s.dynamic_proper
+          (both (is_proper p.roles set) true (both (nat_lt 0 set.cardinality) _ positive roles)
+          refl);
     }
 
-pub keep-unssd : (p : Policy) (name : Name) → Sound p → Sound (record p { ssd = without_set p.ssd name })
+pub keep-unssd : (p : Policy) (name : Name) → Sound p
+    → Sound (record p { ssd = without_set p.ssd name })
 keep-unssd p name s = record {
   sessions = s.sessions;
-  static = all-filter (λ (set : SeparationSet). not (is_broken p.roles (assigned_lists p.users) set)) (λ (set : SeparationSet). not (name_eq name set.name)) p.ssd s.static;
+  static = all-filter (λ (set : SeparationSet).
+      not (is_broken p.roles (assigned_lists p.users) set))
+      (λ (set : SeparationSet). not (name_eq name set.name)) p.ssd s.static;
   dynamic = s.dynamic;
-  static_proper = all-filter (is_proper p.roles) (λ (set : SeparationSet). not (name_eq name set.name)) p.ssd s.static_proper;
+  static_proper = all-filter (is_proper p.roles)
+      (λ (set : SeparationSet). not (name_eq name set.name)) p.ssd s.static_proper;
   dynamic_proper = s.dynamic_proper;
 }
 
-pub keep-undsd : (p : Policy) (name : Name) → Sound p → Sound (record p { dsd = without_set p.dsd name })
+pub keep-undsd : (p : Policy) (name : Name) → Sound p
+    → Sound (record p { dsd = without_set p.dsd name })
 keep-undsd p name s = record {
   sessions = s.sessions;
   static = s.static;
-  dynamic = all-filter (λ (set : SeparationSet). not (is_broken p.roles (active_lists p.sessions) set)) (λ (set : SeparationSet). not (name_eq name set.name)) p.dsd s.dynamic;
+  dynamic = all-filter (λ (set : SeparationSet).
+      not (is_broken p.roles (active_lists p.sessions) set))
+      (λ (set : SeparationSet). not (name_eq name set.name)) p.dsd s.dynamic;
   static_proper = s.static_proper;
-  dynamic_proper = all-filter (is_proper p.roles) (λ (set : SeparationSet). not (name_eq name set.name)) p.dsd s.dynamic_proper;
+  dynamic_proper = all-filter (is_proper p.roles)
+      (λ (set : SeparationSet). not (name_eq name set.name)) p.dsd s.dynamic_proper;
 }
 
-pub keep-granted : (p : Policy) (granted : List Grant) → Sound p → Sound (record p { granted = granted })
+pub keep-granted : (p : Policy) (granted : List Grant) → Sound p
+    → Sound (record p { granted = granted })
 keep-granted p granted s = record {
   sessions = s.sessions;
   static = s.static;

@@ -6,7 +6,7 @@ use Rattle.mpw_roles.specs.Hierarchy.{is_role, immediate_juniors, with_role, wit
 use Rattle.mpw_roles.proofs.CallerLemmas.{roles-with_role}
 use Rattle.mpw_separation.specs.Set.{SeparationSet}
 use Rattle.mpw_rbac.specs.declared.permission.Grant.{Grant}
-use Rattle.mpw_rbac.specs.Existing.{assigns_roles, leads_to_roles, grants_roles, KeepsLimits, IsKept, KeepsTables}
+use Rattle.mpw_rbac.specs.Existing.{assigns_roles, leads_to_roles, grants_roles, KeepsLimits, AreTablesSound, KeepsTables}
 use Rattle.mpw_rbac.specs.Grant.{grant_eq}
 use Rattle.mpw_rbac.specs.Policy.{Policy, new_policy, assigned_roles, trim}
 use Rattle.mpw_rbac.specs.Rows as rows
@@ -19,125 +19,394 @@ use Rattle.mpw_rbac.proofs.SeparationLemmas.{parts, both, all-append, all-filter
 
 -- the policy that a row leaves is its next one, which names what is there and keeps the limits
 kept : (tests : List rows.Test) (next q : Policy) → decided tests next ≡ Ok q → Sound q
-    → assigns_roles next.roles next.users ≡ true → leads_to_roles next.roles next.roles ≡ true → grants_roles next.roles next.granted ≡ true → KeepsLimits next → IsKept q
+    → assigns_roles next.roles next.users ≡ true → leads_to_roles next.roles next.roles ≡ true
+    → grants_roles next.roles next.granted ≡ true → KeepsLimits next → AreTablesSound q
 kept tests next q is sound assignments pairs grants limits =
     let same = decided-value tests next q is in
     let s : Sound next = subst Sound (sym same) sound in
-    subst IsKept same (record { sound = s; names = there.names-there next s assignments pairs grants; limits = limits })
+    subst AreTablesSound same (record {
+      sound = s;
+      names = there.names-there next s assignments
+          pairs grants;
+      limits = limits;
+    })
 
-pub kept-new_desk : (officer digest : List ℕ) → IsKept (new_policy officer digest)
+pub kept-new_desk : (officer digest : List ℕ) → AreTablesSound (new_policy officer digest)
 kept-new_desk officer digest =
     let p = new_policy officer digest in
     let s = law.sound-new_desk officer digest in
-    record { sound = s; names = there.names-there p s refl refl refl; limits = record { users = omega arith; roles = omega arith; grants = omega arith; static = omega arith; dynamic = omega arith } }
+    record {
+      sound = s;
+      names = there.names-there p s refl refl refl;
+      limits = record {
+        users = omega arith;
+        roles = omega arith;
+        grants = omega arith;
+        static = omega arith;
+        dynamic = omega arith;
+      };
+    }
 
 pub kept-end_session : (conn : ℕ) → KeepsTables (λ p. Ok (rows.end_session p conn))
 kept-end_session conn p q is k =
     kept [] (rows.end_session p conn) q is (law.sound-end_session conn p q is k.sound)
-    (k.names.assignments) (k.names.pairs) (k.names.grants) (record { users = k.limits.users; roles = k.limits.roles; grants = k.limits.grants; static = k.limits.static; dynamic = k.limits.dynamic })
+    (k.names.assignments) (k.names.pairs) (k.names.grants)
+    (record {
+      users = k.limits.users;
+      roles = k.limits.roles;
+      grants = k.limits.grants;
+      static = k.limits.static;
+      dynamic = k.limits.dynamic;
+    })
 
 pub kept-end_sessions : KeepsTables (λ p. Ok (rows.end_sessions p))
 kept-end_sessions p q is k =
     kept [] (rows.end_sessions p) q is (law.sound-end_sessions p q is k.sound)
-    (k.names.assignments) (k.names.pairs) (k.names.grants) (record { users = k.limits.users; roles = k.limits.roles; grants = k.limits.grants; static = k.limits.static; dynamic = k.limits.dynamic })
+    (k.names.assignments) (k.names.pairs) (k.names.grants)
+    (record {
+      users = k.limits.users;
+      roles = k.limits.roles;
+      grants = k.limits.grants;
+      static = k.limits.static;
+      dynamic = k.limits.dynamic;
+    })
 
-pub kept-open_session : (conn : ℕ) (user digest : List ℕ) → KeepsTables (λ p. rows.open_session p conn user digest)
+pub kept-open_session : (conn : ℕ) (user digest : List ℕ)
+    → KeepsTables (λ p. rows.open_session p conn user digest)
 kept-open_session conn user digest p q is k =
-    kept (row.open-tests p conn user digest) (row.opened p conn user) q is (law.sound-open_session conn user digest p q is k.sound)
-    (k.names.assignments) (k.names.pairs) (k.names.grants) (record { users = k.limits.users; roles = k.limits.roles; grants = k.limits.grants; static = k.limits.static; dynamic = k.limits.dynamic })
+    kept (row.open-tests p conn user digest) (row.opened p conn user) q is
+    (law.sound-open_session conn user digest p q is k.sound)
+    (k.names.assignments) (k.names.pairs) (k.names.grants)
+    (record {
+      users = k.limits.users;
+      roles = k.limits.roles;
+      grants = k.limits.grants;
+      static = k.limits.static;
+      dynamic = k.limits.dynamic;
+    })
 
 pub kept-close_session : (conn : ℕ) → KeepsTables (λ p. rows.close_session p conn)
 kept-close_session conn p q is k =
-    kept (rows.in_session p conn ∷ []) (rows.end_session p conn) q is (law.sound-close_session conn p q is k.sound)
-    (k.names.assignments) (k.names.pairs) (k.names.grants) (record { users = k.limits.users; roles = k.limits.roles; grants = k.limits.grants; static = k.limits.static; dynamic = k.limits.dynamic })
+    kept (rows.in_session p conn ∷ []) (rows.end_session p conn) q is
+    (law.sound-close_session conn p q is k.sound)
+    (k.names.assignments) (k.names.pairs) (k.names.grants)
+    (record {
+      users = k.limits.users;
+      roles = k.limits.roles;
+      grants = k.limits.grants;
+      static = k.limits.static;
+      dynamic = k.limits.dynamic;
+    })
 
 pub kept-activate : (conn : ℕ) (role : List ℕ) → KeepsTables (λ p. rows.activate p conn role)
 kept-activate conn role p q is k =
-    kept (row.activate-tests p conn role) (row.activated p conn role) q is (law.sound-activate_row conn role p q is k.sound)
-    (k.names.assignments) (k.names.pairs) (k.names.grants) (record { users = k.limits.users; roles = k.limits.roles; grants = k.limits.grants; static = k.limits.static; dynamic = k.limits.dynamic })
+    kept (row.activate-tests p conn role) (row.activated p conn role) q is
+    (law.sound-activate_row conn role p q is k.sound)
+    (k.names.assignments) (k.names.pairs) (k.names.grants)
+    (record {
+      users = k.limits.users;
+      roles = k.limits.roles;
+      grants = k.limits.grants;
+      static = k.limits.static;
+      dynamic = k.limits.dynamic;
+    })
 
 pub kept-drop_role : (conn : ℕ) (role : List ℕ) → KeepsTables (λ p. rows.drop_role p conn role)
 kept-drop_role conn role p q is k =
-    kept (row.drop-tests p conn role) (row.dropped p conn role) q is (law.sound-drop_role conn role p q is k.sound)
-    (k.names.assignments) (k.names.pairs) (k.names.grants) (record { users = k.limits.users; roles = k.limits.roles; grants = k.limits.grants; static = k.limits.static; dynamic = k.limits.dynamic })
+    kept (row.drop-tests p conn role) (row.dropped p conn role) q is
+    (law.sound-drop_role conn role p q is k.sound)
+    (k.names.assignments) (k.names.pairs) (k.names.grants)
+    (record {
+      users = k.limits.users;
+      roles = k.limits.roles;
+      grants = k.limits.grants;
+      static = k.limits.static;
+      dynamic = k.limits.dynamic;
+    })
 
-pub kept-adduser : (conn : ℕ) (user digest : List ℕ) → KeepsTables (λ p. rows.adduser p conn user digest)
+pub kept-adduser : (conn : ℕ) (user digest : List ℕ)
+    → KeepsTables (λ p. rows.adduser p conn user digest)
 kept-adduser conn user digest p q is k =
-    let t = all-pass (row.administer-tests p conn (row.adduser-tests p user)) (row.user_added p user digest) q is in
-    kept (row.administer-tests p conn (row.adduser-tests p user)) (row.user_added p user digest) q is (law.sound-adduser_row conn user digest p q is k.sound)
-    (all-append _ p.users ((user, record { digest = digest; roles = [] }) ∷ []) k.names.assignments refl) (k.names.pairs) (k.names.grants) (record { users = there.one_more p.users (user, record { digest = digest; roles = [] }) 512 t.1.1.1.0; roles = k.limits.roles; grants = k.limits.grants; static = k.limits.static; dynamic = k.limits.dynamic })
+    let t = all-pass (row.administer-tests p conn (row.adduser-tests p user))
+    (row.user_added p user digest) q is in
+    kept (row.administer-tests p conn (row.adduser-tests p user)) (row.user_added p user digest) q
+    is (law.sound-adduser_row conn user digest p q is k.sound)
+    (all-append _ p.users ((user, record { digest = digest; roles = [] }) ∷ []) k.names.assignments
+    refl)
+    (k.names.pairs)
+    (k.names.grants)
+    (record {
+      users = there.one_more p.users (user, record { digest = digest; roles = [] }) 512
+          t.1.1.1.0;
+      roles = k.limits.roles;
+      grants = k.limits.grants;
+      static = k.limits.static;
+      dynamic = k.limits.dynamic;
+    })
 
 pub kept-deluser : (conn : ℕ) (user : List ℕ) → KeepsTables (λ p. rows.deluser p conn user)
 kept-deluser conn user p q is k =
-    kept (row.administer-tests p conn (row.deluser-tests p user)) (trim (row.user_deleted p user)) q is (law.sound-deluser conn user p q is k.sound)
-    (all-filter _ (λ e. not (name_eq user e.0)) p.users k.names.assignments) (k.names.pairs) (k.names.grants) (record { users = omega (arith, there.fewer (λ e. not (name_eq user e.0)) p.users, k.limits.users); roles = k.limits.roles; grants = k.limits.grants; static = k.limits.static; dynamic = k.limits.dynamic })
+    kept (row.administer-tests p conn (row.deluser-tests p user)) (trim (row.user_deleted p user)) q
+    is (law.sound-deluser conn user p q is k.sound)
+    (all-filter _ (λ e. not (name_eq user e.0)) p.users k.names.assignments) (k.names.pairs)
+    (k.names.grants) (record {
+      users = omega
+          (arith, there.fewer (λ e. not (name_eq user e.0)) p.users, k.limits.users);
+      roles = k.limits.roles;
+      grants = k.limits.grants;
+      static = k.limits.static;
+      dynamic = k.limits.dynamic;
+    })
 
 pub kept-addrole : (conn : ℕ) (role : List ℕ) → KeepsTables (λ p. rows.addrole p conn role)
 kept-addrole conn role p q is k =
-    let t = all-pass (row.administer-tests p conn (row.addrole-tests p role)) (row.role_added p role) q is in
-    kept (row.administer-tests p conn (row.addrole-tests p role)) (row.role_added p role) q is (law.sound-addrole_row conn role p q is k.sound)
-    (there.assigns-more p.roles (with_role p.roles role) (roles-with_role p.roles role) p.users k.names.assignments) (all-append _ p.roles ((role, []) ∷ []) (there.leads-more p.roles (with_role p.roles role) (roles-with_role p.roles role) p.roles k.names.pairs) refl) (there.grants-more p.roles (with_role p.roles role) (roles-with_role p.roles role) p.granted k.names.grants) (record { users = k.limits.users; roles = there.one_more p.roles (role, []) 512 t.1.1.1.0; grants = k.limits.grants; static = k.limits.static; dynamic = k.limits.dynamic })
+    let t = all-pass (row.administer-tests p conn (row.addrole-tests p role))
+    (row.role_added p role) q is in
+    kept (row.administer-tests p conn (row.addrole-tests p role)) (row.role_added p role) q is
+    (law.sound-addrole_row conn role p q is k.sound)
+    (there.assigns-more p.roles (with_role p.roles role) (roles-with_role p.roles role) p.users
+    k.names.assignments)
+    (all-append _ p.roles ((role, []) ∷ [])
+    (there.leads-more p.roles (with_role p.roles role) (roles-with_role p.roles role) p.roles
+    k.names.pairs) refl)
+    (there.grants-more p.roles (with_role p.roles role) (roles-with_role p.roles role) p.granted
+    k.names.grants)
+    (record {
+      users = k.limits.users;
+      roles = there.one_more p.roles (role, []) 512 t.1.1.1.0;
+      grants = k.limits.grants;
+      static = k.limits.static;
+      dynamic = k.limits.dynamic;
+    })
 
 pub kept-delrole : (conn : ℕ) (role : List ℕ) → KeepsTables (λ p. rows.delrole p conn role)
 kept-delrole conn role p q is k =
-    kept (row.administer-tests p conn (row.delrole-tests p role)) (trim (rows.without_role_of p role)) q is (law.sound-delrole conn role p q is k.sound)
-    (there.assigns-left p.roles role p.users k.names.assignments) (there.leads-left p.roles role k.names.pairs) (there.grants-left p.roles role p.granted k.names.grants) (record { users = omega (arith, there.same-unassigned p.users role, k.limits.users); roles = omega (arith, there.fewer-roles p.roles role, k.limits.roles); grants = omega (arith, there.fewer (λ (g : Grant). not (name_eq role g.role)) p.granted, k.limits.grants); static = k.limits.static; dynamic = k.limits.dynamic })
+    kept (row.administer-tests p conn (row.delrole-tests p role))
+    (trim (rows.without_role_of p role)) q is (law.sound-delrole conn role p q is k.sound)
+    (there.assigns-left p.roles role p.users k.names.assignments)
+    (there.leads-left p.roles role k.names.pairs)
+    (there.grants-left p.roles role p.granted k.names.grants)
+    (record {
+      users = omega (arith, there.same-unassigned p.users role, k.limits.users);
+      roles = omega (arith, there.fewer-roles p.roles role, k.limits.roles);
+      grants = omega (
+        arith,
+        there.fewer (λ (g : Grant). not (name_eq role g.role)) p.granted,
+        k.limits.grants,
+      );
+      static = k.limits.static;
+      dynamic = k.limits.dynamic;
+    })
 
 pub kept-assign : (conn : ℕ) (user role : List ℕ) → KeepsTables (λ p. rows.assign p conn user role)
 kept-assign conn user role p q is k =
-    let t = all-pass (row.administer-tests p conn (row.assign-tests p user role)) (row.assigned p user role) q is in
-    kept (row.administer-tests p conn (row.assign-tests p user role)) (row.assigned p user role) q is (law.sound-assign_row conn user role p q is k.sound)
-    (there.assigns-with p.roles p.users user _ k.names.assignments (all-append (is_role p.roles) (assigned_roles p user) (role ∷ []) (there.roles-assigned p.roles p.users user k.names.assignments) (both (is_role p.roles role) true (parts _ (is_role p.roles role) t.1.1.0).1 refl))) (k.names.pairs) (k.names.grants) (record { users = omega (arith, there.same-users p.users user (record { digest = rows.digest_of_user p user; roles = assigned_roles p user ++ role ∷ [] }), k.limits.users); roles = k.limits.roles; grants = k.limits.grants; static = k.limits.static; dynamic = k.limits.dynamic })
+    let t = all-pass (row.administer-tests p conn (row.assign-tests p user role))
+    (row.assigned p user role) q is in
+    kept (row.administer-tests p conn (row.assign-tests p user role)) (row.assigned p user role) q
+    is (law.sound-assign_row conn user role p q is k.sound)
+    (there.assigns-with p.roles p.users user _ k.names.assignments
+    (all-append (is_role p.roles) (assigned_roles p user) (role ∷ [])
+    (there.roles-assigned p.roles p.users user k.names.assignments)
+    (both (is_role p.roles role) true (parts _ (is_role p.roles role) t.1.1.0).1 refl)))
+    (k.names.pairs)
+    (k.names.grants)
+    (record {
+      users = omega (
+        arith,
+        there.same-users p.users user
+            (record {
+              digest = rows.digest_of_user p user;
+              roles = assigned_roles p user ++ role
+                  ∷ [];
+            }),
+        k.limits.users,
+      );
+      roles = k.limits.roles;
+      grants = k.limits.grants;
+      static = k.limits.static;
+      dynamic = k.limits.dynamic;
+    })
 
-pub kept-deassign : (conn : ℕ) (user role : List ℕ) → KeepsTables (λ p. rows.deassign p conn user role)
+pub kept-deassign : (conn : ℕ) (user role : List ℕ)
+    → KeepsTables (λ p. rows.deassign p conn user role)
 kept-deassign conn user role p q is k =
-    kept (row.administer-tests p conn (row.deassign-tests p user role)) (trim (row.deassigned p user role)) q is (law.sound-deassign conn user role p q is k.sound)
-    (there.assigns-with p.roles p.users user _ k.names.assignments (there.all-without p.roles (assigned_roles p user) role (there.roles-assigned p.roles p.users user k.names.assignments))) (k.names.pairs) (k.names.grants) (record { users = omega (arith, there.same-users p.users user (record { digest = rows.digest_of_user p user; roles = without_name (assigned_roles p user) role }), k.limits.users); roles = k.limits.roles; grants = k.limits.grants; static = k.limits.static; dynamic = k.limits.dynamic })
+    kept (row.administer-tests p conn (row.deassign-tests p user role))
+    (trim (row.deassigned p user role)) q is (law.sound-deassign conn user role p q is k.sound)
+    (there.assigns-with p.roles p.users user _ k.names.assignments
+    (there.all-without p.roles (assigned_roles p user) role
+    (there.roles-assigned p.roles p.users user k.names.assignments)))
+    (k.names.pairs)
+    (k.names.grants)
+    (record {
+      users = omega (
+        arith,
+        there.same-users p.users user
+            (record {
+              digest = rows.digest_of_user p user;
+              roles = without_name (assigned_roles p user)
+                  role;
+            }),
+        k.limits.users,
+      );
+      roles = k.limits.roles;
+      grants = k.limits.grants;
+      static = k.limits.static;
+      dynamic = k.limits.dynamic;
+    })
 
 pub kept-grant : (conn : ℕ) (new : Grant) → KeepsTables (λ p. rows.grant p conn new)
 kept-grant conn new p q is k =
-    let t = all-pass (row.administer-tests p conn (row.grant-tests p new)) (row.grant_added p new) q is in
-    kept (row.administer-tests p conn (row.grant-tests p new)) (row.grant_added p new) q is (law.sound-grant conn new p q is k.sound)
-    (k.names.assignments) (k.names.pairs) (all-append _ p.granted (new ∷ []) k.names.grants (both (is_role p.roles new.role) true t.1.1.0 refl)) (record { users = k.limits.users; roles = k.limits.roles; grants = there.one_more p.granted new 4096 t.1.1.1.1.0; static = k.limits.static; dynamic = k.limits.dynamic })
+    let t = all-pass (row.administer-tests p conn (row.grant-tests p new)) (row.grant_added p new) q
+    is in
+    kept (row.administer-tests p conn (row.grant-tests p new)) (row.grant_added p new) q is
+    (law.sound-grant conn new p q is k.sound)
+    (k.names.assignments) (k.names.pairs)
+    (all-append _ p.granted (new ∷ []) k.names.grants
+    (both (is_role p.roles new.role) true t.1.1.0 refl))
+    (record {
+      users = k.limits.users;
+      roles = k.limits.roles;
+      grants = there.one_more p.granted
+          new 4096 t.1.1.1.1.0;
+      static = k.limits.static;
+      dynamic = k.limits.dynamic;
+    })
 
 pub kept-revoke : (conn : ℕ) (old : Grant) → KeepsTables (λ p. rows.revoke p conn old)
 kept-revoke conn old p q is k =
-    kept (row.administer-tests p conn (row.revoke-tests p old)) (row.grant_revoked p old) q is (law.sound-revoke conn old p q is k.sound)
-    (k.names.assignments) (k.names.pairs) (all-filter _ (λ other. not (grant_eq old other)) p.granted k.names.grants) (record { users = k.limits.users; roles = k.limits.roles; grants = omega (arith, there.fewer (λ other. not (grant_eq old other)) p.granted, k.limits.grants); static = k.limits.static; dynamic = k.limits.dynamic })
+    kept (row.administer-tests p conn (row.revoke-tests p old)) (row.grant_revoked p old) q is
+    (law.sound-revoke conn old p q is k.sound)
+    (k.names.assignments)
+    (k.names.pairs)
+    (all-filter _ (λ other. not (grant_eq old other)) p.granted k.names.grants)
+    (record {
+      users = k.limits.users;
+      roles = k.limits.roles;
+      grants = omega (
+        arith,
+        there.fewer (λ other. not (grant_eq old other)) p.granted,
+        k.limits.grants,
+      );
+      static = k.limits.static;
+      dynamic = k.limits.dynamic;
+    })
 
-pub kept-inherit : (conn : ℕ) (senior junior : List ℕ) → KeepsTables (λ p. rows.inherit p conn senior junior)
+pub kept-inherit : (conn : ℕ) (senior junior : List ℕ)
+    → KeepsTables (λ p. rows.inherit p conn senior junior)
 kept-inherit conn senior junior p q is k =
-    let t = all-pass (row.administer-tests p conn (row.inherit-tests p senior junior)) (row.inherited p senior junior) q is in
+    let t = all-pass (row.administer-tests p conn (row.inherit-tests p senior junior))
+    (row.inherited p senior junior) q is in
     let juniors = immediate_juniors p.roles senior ++ junior ∷ [] in
     let more = there.same-roles p.roles senior juniors in
-    kept (row.administer-tests p conn (row.inherit-tests p senior junior)) (row.inherited p senior junior) q is (law.sound-inherit conn senior junior p q is k.sound)
-    (there.assigns-more p.roles (with_juniors p.roles senior juniors) more p.users k.names.assignments) (there.leads-juniors p.roles senior juniors k.names.pairs (all-append (is_role p.roles) (immediate_juniors p.roles senior) (junior ∷ []) (there.roles-linked p.roles p.roles senior k.names.pairs) (both (is_role p.roles junior) true (parts (is_role p.roles senior) (is_role p.roles junior) t.1.1.0).1 refl))) (there.grants-more p.roles (with_juniors p.roles senior juniors) more p.granted k.names.grants) (record { users = k.limits.users; roles = omega (arith, there.same-pairs p.roles senior juniors, k.limits.roles); grants = k.limits.grants; static = k.limits.static; dynamic = k.limits.dynamic })
+    kept (row.administer-tests p conn (row.inherit-tests p senior junior))
+    (row.inherited p senior junior) q is (law.sound-inherit conn senior junior p q is k.sound)
+    (there.assigns-more p.roles (with_juniors p.roles senior juniors) more p.users
+    k.names.assignments)
+    (there.leads-juniors p.roles senior juniors k.names.pairs
+    (all-append (is_role p.roles) (immediate_juniors p.roles senior) (junior ∷ [])
+    (there.roles-linked p.roles p.roles senior k.names.pairs)
+    (both (is_role p.roles junior) true
+    (parts (is_role p.roles senior) (is_role p.roles junior) t.1.1.0).1 refl)))
+    (there.grants-more p.roles (with_juniors p.roles senior juniors) more p.granted k.names.grants)
+    (record {
+      users = k.limits.users;
+      roles = omega (
+        arith,
+        there.same-pairs p.roles senior juniors,
+        k.limits.roles,
+      );
+      grants = k.limits.grants;
+      static = k.limits.static;
+      dynamic = k.limits.dynamic;
+    })
 
-pub kept-uninherit : (conn : ℕ) (senior junior : List ℕ) → KeepsTables (λ p. rows.uninherit p conn senior junior)
+pub kept-uninherit : (conn : ℕ) (senior junior : List ℕ)
+    → KeepsTables (λ p. rows.uninherit p conn senior junior)
 kept-uninherit conn senior junior p q is k =
     let juniors = without_name (immediate_juniors p.roles senior) junior in
     let more = there.same-roles p.roles senior juniors in
-    kept (row.administer-tests p conn (row.uninherit-tests p senior junior)) (trim (row.uninherited p senior junior)) q is (law.sound-uninherit conn senior junior p q is k.sound)
-    (there.assigns-more p.roles (with_juniors p.roles senior juniors) more p.users k.names.assignments) (there.leads-juniors p.roles senior juniors k.names.pairs (there.all-without p.roles (immediate_juniors p.roles senior) junior (there.roles-linked p.roles p.roles senior k.names.pairs))) (there.grants-more p.roles (with_juniors p.roles senior juniors) more p.granted k.names.grants) (record { users = k.limits.users; roles = omega (arith, there.same-pairs p.roles senior juniors, k.limits.roles); grants = k.limits.grants; static = k.limits.static; dynamic = k.limits.dynamic })
+    kept (row.administer-tests p conn (row.uninherit-tests p senior junior))
+    (trim (row.uninherited p senior junior)) q is
+    (law.sound-uninherit conn senior junior p q is k.sound)
+    (there.assigns-more p.roles (with_juniors p.roles senior juniors) more p.users
+    k.names.assignments)
+    (there.leads-juniors p.roles senior juniors k.names.pairs
+    (there.all-without p.roles (immediate_juniors p.roles senior) junior
+    (there.roles-linked p.roles p.roles senior k.names.pairs)))
+    (there.grants-more p.roles (with_juniors p.roles senior juniors) more p.granted k.names.grants)
+    (record {
+      users = k.limits.users;
+      roles = omega (
+        arith,
+        there.same-pairs p.roles senior juniors,
+        k.limits.roles,
+      );
+      grants = k.limits.grants;
+      static = k.limits.static;
+      dynamic = k.limits.dynamic;
+    })
 
 pub kept-ssd : (conn : ℕ) (set : SeparationSet) → KeepsTables (λ p. rows.ssd p conn set)
 kept-ssd conn set p q is k =
-    let t = all-pass (row.administer-tests p conn (row.ssd-tests p set)) (row.ssd_made p set) q is in
-    kept (row.administer-tests p conn (row.ssd-tests p set)) (row.ssd_made p set) q is (law.sound-ssd conn set p q is k.sound)
-    (k.names.assignments) (k.names.pairs) (k.names.grants) (record { users = k.limits.users; roles = k.limits.roles; grants = k.limits.grants; static = there.one_more p.ssd set 64 t.1.1.1.1.1.0; dynamic = k.limits.dynamic })
+    let t =
+    all-pass (row.administer-tests p conn (row.ssd-tests p set)) (row.ssd_made p set) q is in
+    kept (row.administer-tests p conn (row.ssd-tests p set)) (row.ssd_made p set) q is
+    (law.sound-ssd conn set p q is k.sound)
+    (k.names.assignments) (k.names.pairs) (k.names.grants)
+    (record {
+      users = k.limits.users;
+      roles = k.limits.roles;
+      grants = k.limits.grants;
+      static = there.one_more p.ssd set 64 t.1.1.1.1.1.0;
+      dynamic = k.limits.dynamic;
+    })
 
 pub kept-dsd : (conn : ℕ) (set : SeparationSet) → KeepsTables (λ p. rows.dsd p conn set)
 kept-dsd conn set p q is k =
-    let t = all-pass (row.administer-tests p conn (row.dsd-tests p set)) (row.dsd_made p set) q is in
-    kept (row.administer-tests p conn (row.dsd-tests p set)) (row.dsd_made p set) q is (law.sound-dsd conn set p q is k.sound)
-    (k.names.assignments) (k.names.pairs) (k.names.grants) (record { users = k.limits.users; roles = k.limits.roles; grants = k.limits.grants; static = k.limits.static; dynamic = there.one_more p.dsd set 64 t.1.1.1.1.1.0 })
+    let t =
+    all-pass (row.administer-tests p conn (row.dsd-tests p set)) (row.dsd_made p set) q is in
+    kept (row.administer-tests p conn (row.dsd-tests p set)) (row.dsd_made p set) q is
+    (law.sound-dsd conn set p q is k.sound)
+    (k.names.assignments) (k.names.pairs) (k.names.grants)
+    (record {
+      users = k.limits.users;
+      roles = k.limits.roles;
+      grants = k.limits.grants;
+      static = k.limits.static;
+      dynamic = there.one_more p.dsd set 64 t.1.1.1.1.1.0;
+    })
 
 pub kept-unssd : (conn : ℕ) (name : List ℕ) → KeepsTables (λ p. rows.unssd p conn name)
 kept-unssd conn name p q is k =
-    kept (row.administer-tests p conn (row.unssd-tests p name)) (row.ssd_removed p name) q is (law.sound-unssd conn name p q is k.sound)
-    (k.names.assignments) (k.names.pairs) (k.names.grants) (record { users = k.limits.users; roles = k.limits.roles; grants = k.limits.grants; static = omega (arith, there.fewer (λ (set : SeparationSet). not (name_eq name set.name)) p.ssd, k.limits.static); dynamic = k.limits.dynamic })
+    kept (row.administer-tests p conn (row.unssd-tests p name)) (row.ssd_removed p name) q is
+    (law.sound-unssd conn name p q is k.sound)
+    (k.names.assignments) (k.names.pairs) (k.names.grants)
+    (record {
+      users = k.limits.users;
+      roles = k.limits.roles;
+      grants = k.limits.grants;
+      static = omega (
+        arith,
+        there.fewer (λ (set : SeparationSet). not (name_eq name set.name))
+            p.ssd,
+        k.limits.static,
+      );
+      dynamic = k.limits.dynamic;
+    })
 
 pub kept-undsd : (conn : ℕ) (name : List ℕ) → KeepsTables (λ p. rows.undsd p conn name)
 kept-undsd conn name p q is k =
-    kept (row.administer-tests p conn (row.undsd-tests p name)) (row.dsd_removed p name) q is (law.sound-undsd conn name p q is k.sound)
-    (k.names.assignments) (k.names.pairs) (k.names.grants) (record { users = k.limits.users; roles = k.limits.roles; grants = k.limits.grants; static = k.limits.static; dynamic = omega (arith, there.fewer (λ (set : SeparationSet). not (name_eq name set.name)) p.dsd, k.limits.dynamic) })
+    kept (row.administer-tests p conn (row.undsd-tests p name)) (row.dsd_removed p name) q is
+    (law.sound-undsd conn name p q is k.sound)
+    (k.names.assignments) (k.names.pairs) (k.names.grants)
+    (record {
+      users = k.limits.users;
+      roles = k.limits.roles;
+      grants = k.limits.grants;
+      static = k.limits.static;
+      dynamic = omega (
+        arith,
+        there.fewer (λ (set : SeparationSet). not (name_eq name set.name)) p.dsd,
+        k.limits.dynamic,
+      );
+    })

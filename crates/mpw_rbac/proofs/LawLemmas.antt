@@ -16,19 +16,27 @@ use Rattle.mpw_rbac.proofs.RowTests as row
 use Rattle.mpw_rbac.proofs.SeparationLemmas.{parts, not_true, holds-of_none, test-none}
 use Rattle.mpw_rbac.proofs.SoundLemmas.{sound-adduser, sound-addrole, sound-assign, sound-open, sound-end, sound-activate}
 
-keeps : (tests : List rows.Test) (next q : Policy) → decided tests next ≡ Ok q → active_authorized next ≡ true → active_authorized q ≡ true
-keeps tests next q is sound = subst (λ (k : Policy). active_authorized k ≡ true) (decided-value tests next q is) sound
+keeps : (tests : List rows.Test) (next q : Policy) → decided tests next ≡ Ok q
+    → active_authorized next ≡ true → active_authorized q ≡ true
+keeps tests next q is sound =
+    subst (λ (k : Policy). active_authorized k ≡ true) (decided-value tests next q is) sound
 
-sound : (tests : List rows.Test) (next q : Policy) → decided tests next ≡ Ok q → Sound next → Sound q
+sound : (tests : List rows.Test) (next q : Policy) → decided tests next ≡ Ok q → Sound next
+    → Sound q
 sound tests next q is s = subst Sound (decided-value tests next q is) s
 
-pub static-holds : (p : Policy) → (rows.ssd_holds p).0 ≡ true → sets_hold p.roles p.ssd (assigned_lists p.users) ≡ true
-static-holds p t = holds-of_none p.roles p.ssd (assigned_lists p.users) (test-none Ssd (least_broken p.roles p.ssd (assigned_lists p.users)) t)
+pub static-holds : (p : Policy) → (rows.ssd_holds p).0 ≡ true
+    → sets_hold p.roles p.ssd (assigned_lists p.users) ≡ true
+static-holds p t = holds-of_none p.roles p.ssd (assigned_lists p.users)
+    (test-none Ssd (least_broken p.roles p.ssd (assigned_lists p.users)) t)
 
-pub dynamic-holds : (p : Policy) → (rows.dsd_holds p).0 ≡ true → sets_hold p.roles p.dsd (active_lists p.sessions) ≡ true
-dynamic-holds p t = holds-of_none p.roles p.dsd (active_lists p.sessions) (test-none Dsd (least_broken p.roles p.dsd (active_lists p.sessions)) t)
+pub dynamic-holds : (p : Policy) → (rows.dsd_holds p).0 ≡ true
+    → sets_hold p.roles p.dsd (active_lists p.sessions) ≡ true
+dynamic-holds p t = holds-of_none p.roles p.dsd (active_lists p.sessions)
+    (test-none Dsd (least_broken p.roles p.dsd (active_lists p.sessions)) t)
 
-pub keeps-new_desk : (officer digest : List ℕ) → active_authorized (new_policy officer digest) ≡ true
+pub keeps-new_desk : (officer digest : List ℕ)
+    → active_authorized (new_policy officer digest) ≡ true
 keeps-new_desk officer digest = refl
 
 pub sound-new_desk : (officer digest : List ℕ) → Sound (new_policy officer digest)
@@ -52,133 +60,208 @@ keeps-end_sessions p q is s = keeps [] (rows.end_sessions p) q is refl
 pub sound-end_sessions : KeepsSound (λ p. Ok (rows.end_sessions p))
 sound-end_sessions p q is s = sound [] (rows.end_sessions p) q is (keep.keep-end_all p s)
 
-pub keeps-open_session : (conn : ℕ) (user digest : List ℕ) → KeepsAuthorization (λ p. rows.open_session p conn user digest)
+pub keeps-open_session : (conn : ℕ) (user digest : List ℕ)
+    → KeepsAuthorization (λ p. rows.open_session p conn user digest)
 keeps-open_session conn user digest p q is s =
     let t = all-pass (row.open-tests p conn user digest) (row.opened p conn user) q is in
-    keeps (row.open-tests p conn user digest) (row.opened p conn user) q is (sound-open p conn user (login-user p user digest t.1.0) s)
+    keeps (row.open-tests p conn user digest) (row.opened p conn user) q is
+    (sound-open p conn user (login-user p user digest t.1.0) s)
 
-pub sound-open_session : (conn : ℕ) (user digest : List ℕ) → KeepsSound (λ p. rows.open_session p conn user digest)
+pub sound-open_session : (conn : ℕ) (user digest : List ℕ)
+    → KeepsSound (λ p. rows.open_session p conn user digest)
 sound-open_session conn user digest p q is s =
     let t = all-pass (row.open-tests p conn user digest) (row.opened p conn user) q is in
-    sound (row.open-tests p conn user digest) (row.opened p conn user) q is (keep.keep-open p conn user (login-user p user digest t.1.0) s)
+    sound (row.open-tests p conn user digest) (row.opened p conn user) q is
+    (keep.keep-open p conn user (login-user p user digest t.1.0) s)
 
 pub keeps-close_session : (conn : ℕ) → KeepsAuthorization (λ p. rows.close_session p conn)
-keeps-close_session conn p q is s = keeps (rows.in_session p conn ∷ []) (rows.end_session p conn) q is (sound-end p conn s)
+keeps-close_session conn p q is s =
+    keeps (rows.in_session p conn ∷ []) (rows.end_session p conn) q is (sound-end p conn s)
 
 pub sound-close_session : (conn : ℕ) → KeepsSound (λ p. rows.close_session p conn)
-sound-close_session conn p q is s = sound (rows.in_session p conn ∷ []) (rows.end_session p conn) q is (keep.keep-end p conn s)
+sound-close_session conn p q is s =
+    sound (rows.in_session p conn ∷ []) (rows.end_session p conn) q is (keep.keep-end p conn s)
 
-pub keeps-activate : (conn : ℕ) (role : List ℕ) → KeepsAuthorization (λ p. rows.activate p conn role)
+pub keeps-activate : (conn : ℕ) (role : List ℕ)
+    → KeepsAuthorization (λ p. rows.activate p conn role)
 keeps-activate conn role p q is s =
     let t = all-pass (row.activate-tests p conn role) (row.activated p conn role) q is in
-    keeps (row.activate-tests p conn role) (row.activated p conn role) q is (sound-activate p conn role t.1.0 s)
+    keeps (row.activate-tests p conn role) (row.activated p conn role) q is
+    (sound-activate p conn role t.1.0 s)
 
 pub sound-activate_row : (conn : ℕ) (role : List ℕ) → KeepsSound (λ p. rows.activate p conn role)
 sound-activate_row conn role p q is s =
     let t = all-pass (row.activate-tests p conn role) (row.activated p conn role) q is in
-    sound (row.activate-tests p conn role) (row.activated p conn role) q is (keep.keep-activate p conn role t.1.0 (dynamic-holds (row.activated p conn role) t.1.1.1.0) s)
+    sound (row.activate-tests p conn role) (row.activated p conn role) q is
+    (keep.keep-activate p conn role t.1.0 (dynamic-holds (row.activated p conn role) t.1.1.1.0)
+    s)
 
-pub keeps-drop_role : (conn : ℕ) (role : List ℕ) → KeepsAuthorization (λ p. rows.drop_role p conn role)
-keeps-drop_role conn role p q is s = keeps (row.drop-tests p conn role) (row.dropped p conn role) q is (keep.authorized-drop p conn role s)
+pub keeps-drop_role : (conn : ℕ) (role : List ℕ)
+    → KeepsAuthorization (λ p. rows.drop_role p conn role)
+keeps-drop_role conn role p q is s = keeps (row.drop-tests p conn role) (row.dropped p conn role) q
+    is (keep.authorized-drop p conn role s)
 
 pub sound-drop_role : (conn : ℕ) (role : List ℕ) → KeepsSound (λ p. rows.drop_role p conn role)
-sound-drop_role conn role p q is s = sound (row.drop-tests p conn role) (row.dropped p conn role) q is (keep.keep-drop p conn role s)
+sound-drop_role conn role p q is s =
+    sound (row.drop-tests p conn role) (row.dropped p conn role) q is (keep.keep-drop p conn role s)
 
-pub keeps-adduser : (conn : ℕ) (user digest : List ℕ) → KeepsAuthorization (λ p. rows.adduser p conn user digest)
-keeps-adduser conn user digest p q is s = keeps (row.administer-tests p conn (row.adduser-tests p user)) (row.user_added p user digest) q is (sound-adduser p user digest s)
+pub keeps-adduser : (conn : ℕ) (user digest : List ℕ)
+    → KeepsAuthorization (λ p. rows.adduser p conn user digest)
+keeps-adduser conn user digest p q is s =
+    keeps (row.administer-tests p conn (row.adduser-tests p user)) (row.user_added p user digest) q
+    is (sound-adduser p user digest s)
 
-pub sound-adduser_row : (conn : ℕ) (user digest : List ℕ) → KeepsSound (λ p. rows.adduser p conn user digest)
-sound-adduser_row conn user digest p q is s = sound (row.administer-tests p conn (row.adduser-tests p user)) (row.user_added p user digest) q is (keep.keep-adduser p user digest s)
+pub sound-adduser_row : (conn : ℕ) (user digest : List ℕ)
+    → KeepsSound (λ p. rows.adduser p conn user digest)
+sound-adduser_row conn user digest p q is s =
+    sound (row.administer-tests p conn (row.adduser-tests p user)) (row.user_added p user digest) q
+    is (keep.keep-adduser p user digest s)
 
 pub keeps-deluser : (conn : ℕ) (user : List ℕ) → KeepsAuthorization (λ p. rows.deluser p conn user)
-keeps-deluser conn user p q is s = keeps (row.administer-tests p conn (row.deluser-tests p user)) (trim (row.user_deleted p user)) q is (keep.trim-authorized (row.user_deleted p user))
+keeps-deluser conn user p q is s = keeps (row.administer-tests p conn (row.deluser-tests p user))
+    (trim (row.user_deleted p user)) q is (keep.trim-authorized (row.user_deleted p user))
 
 pub sound-deluser : (conn : ℕ) (user : List ℕ) → KeepsSound (λ p. rows.deluser p conn user)
-sound-deluser conn user p q is s = sound (row.administer-tests p conn (row.deluser-tests p user)) (trim (row.user_deleted p user)) q is (keep.keep-deluser p user s)
+sound-deluser conn user p q is s = sound (row.administer-tests p conn (row.deluser-tests p user))
+    (trim (row.user_deleted p user)) q is (keep.keep-deluser p user s)
 
 pub keeps-addrole : (conn : ℕ) (role : List ℕ) → KeepsAuthorization (λ p. rows.addrole p conn role)
-keeps-addrole conn role p q is s = keeps (row.administer-tests p conn (row.addrole-tests p role)) (row.role_added p role) q is (sound-addrole p role s)
+keeps-addrole conn role p q is s = keeps (row.administer-tests p conn (row.addrole-tests p role))
+    (row.role_added p role) q is (sound-addrole p role s)
 
 pub sound-addrole_row : (conn : ℕ) (role : List ℕ) → KeepsSound (λ p. rows.addrole p conn role)
-sound-addrole_row conn role p q is s = sound (row.administer-tests p conn (row.addrole-tests p role)) (row.role_added p role) q is (keep.keep-addrole p role s)
+sound-addrole_row conn role p q is s =
+    sound (row.administer-tests p conn (row.addrole-tests p role)) (row.role_added p role) q is
+    (keep.keep-addrole p role s)
 
 pub keeps-delrole : (conn : ℕ) (role : List ℕ) → KeepsAuthorization (λ p. rows.delrole p conn role)
-keeps-delrole conn role p q is s = keeps (row.administer-tests p conn (row.delrole-tests p role)) (trim (rows.without_role_of p role)) q is (keep.trim-authorized (rows.without_role_of p role))
+keeps-delrole conn role p q is s = keeps (row.administer-tests p conn (row.delrole-tests p role))
+    (trim (rows.without_role_of p role)) q is (keep.trim-authorized (rows.without_role_of p role))
 
 pub sound-delrole : (conn : ℕ) (role : List ℕ) → KeepsSound (λ p. rows.delrole p conn role)
 sound-delrole conn role p q is s =
-    let t = all-pass (row.administer-tests p conn (row.delrole-tests p role)) (trim (rows.without_role_of p role)) q is in
-    sound (row.administer-tests p conn (row.delrole-tests p role)) (trim (rows.without_role_of p role)) q is (keep.keep-delrole p role (keep.unused (not_true (uses_role p.ssd role || uses_role p.dsd role) t.1.1.1.0)).0 (keep.unused (not_true (uses_role p.ssd role || uses_role p.dsd role) t.1.1.1.0)).1 s)
+    let t = all-pass (row.administer-tests p conn (row.delrole-tests p role))
+    (trim (rows.without_role_of p role)) q is in
+    sound (row.administer-tests p conn (row.delrole-tests p role))
+    (trim (rows.without_role_of p role)) q is
+    (keep.keep-delrole p role (keep.unused
+    (not_true (uses_role p.ssd role || uses_role p.dsd role) t.1.1.1.0)).0
+    (keep.unused (not_true (uses_role p.ssd role || uses_role p.dsd role) t.1.1.1.0)).1 s)
 
-pub keeps-assign : (conn : ℕ) (user role : List ℕ) → KeepsAuthorization (λ p. rows.assign p conn user role)
-keeps-assign conn user role p q is s = keeps (row.administer-tests p conn (row.assign-tests p user role)) (row.assigned p user role) q is (sound-assign p user role s)
+pub keeps-assign : (conn : ℕ) (user role : List ℕ)
+    → KeepsAuthorization (λ p. rows.assign p conn user role)
+keeps-assign conn user role p q is s =
+    keeps (row.administer-tests p conn (row.assign-tests p user role)) (row.assigned p user role) q
+    is (sound-assign p user role s)
 
-pub sound-assign_row : (conn : ℕ) (user role : List ℕ) → KeepsSound (λ p. rows.assign p conn user role)
+pub sound-assign_row : (conn : ℕ) (user role : List ℕ)
+    → KeepsSound (λ p. rows.assign p conn user role)
 sound-assign_row conn user role p q is s =
-    let t = all-pass (row.administer-tests p conn (row.assign-tests p user role)) (row.assigned p user role) q is in
-    sound (row.administer-tests p conn (row.assign-tests p user role)) (row.assigned p user role) q is (keep.keep-assign p user role (static-holds (row.assigned p user role) t.1.1.1.1.0) s)
+    let t = all-pass (row.administer-tests p conn (row.assign-tests p user role))
+    (row.assigned p user role) q is in
+    sound (row.administer-tests p conn (row.assign-tests p user role)) (row.assigned p user role) q
+    is (keep.keep-assign p user role (static-holds (row.assigned p user role) t.1.1.1.1.0) s)
 
-pub keeps-deassign : (conn : ℕ) (user role : List ℕ) → KeepsAuthorization (λ p. rows.deassign p conn user role)
-keeps-deassign conn user role p q is s = keeps (row.administer-tests p conn (row.deassign-tests p user role)) (trim (row.deassigned p user role)) q is (keep.trim-authorized (row.deassigned p user role))
+pub keeps-deassign : (conn : ℕ) (user role : List ℕ)
+    → KeepsAuthorization (λ p. rows.deassign p conn user role)
+keeps-deassign conn user role p q is s =
+    keeps (row.administer-tests p conn (row.deassign-tests p user role))
+    (trim (row.deassigned p user role)) q is (keep.trim-authorized (row.deassigned p user role))
 
-pub sound-deassign : (conn : ℕ) (user role : List ℕ) → KeepsSound (λ p. rows.deassign p conn user role)
-sound-deassign conn user role p q is s = sound (row.administer-tests p conn (row.deassign-tests p user role)) (trim (row.deassigned p user role)) q is (keep.keep-deassign p user role s)
+pub sound-deassign : (conn : ℕ) (user role : List ℕ)
+    → KeepsSound (λ p. rows.deassign p conn user role)
+sound-deassign conn user role p q is s =
+    sound (row.administer-tests p conn (row.deassign-tests p user role))
+    (trim (row.deassigned p user role)) q is (keep.keep-deassign p user role s)
 
 pub keeps-grant : (conn : ℕ) (new : Grant) → KeepsAuthorization (λ p. rows.grant p conn new)
-keeps-grant conn new p q is s = keeps (row.administer-tests p conn (row.grant-tests p new)) (row.grant_added p new) q is s
+keeps-grant conn new p q is s =
+    keeps (row.administer-tests p conn (row.grant-tests p new)) (row.grant_added p new) q is s
 
 pub sound-grant : (conn : ℕ) (new : Grant) → KeepsSound (λ p. rows.grant p conn new)
-sound-grant conn new p q is s = sound (row.administer-tests p conn (row.grant-tests p new)) (row.grant_added p new) q is (keep.keep-granted p (row.grant_added p new).granted s)
+sound-grant conn new p q is s = sound (row.administer-tests p conn (row.grant-tests p new))
+    (row.grant_added p new) q is (keep.keep-granted p (row.grant_added p new).granted s)
 
 pub keeps-revoke : (conn : ℕ) (old : Grant) → KeepsAuthorization (λ p. rows.revoke p conn old)
-keeps-revoke conn old p q is s = keeps (row.administer-tests p conn (row.revoke-tests p old)) (row.grant_revoked p old) q is s
+keeps-revoke conn old p q is s =
+    keeps (row.administer-tests p conn (row.revoke-tests p old)) (row.grant_revoked p old) q is s
 
 pub sound-revoke : (conn : ℕ) (old : Grant) → KeepsSound (λ p. rows.revoke p conn old)
-sound-revoke conn old p q is s = sound (row.administer-tests p conn (row.revoke-tests p old)) (row.grant_revoked p old) q is (keep.keep-granted p (row.grant_revoked p old).granted s)
+sound-revoke conn old p q is s = sound (row.administer-tests p conn (row.revoke-tests p old))
+    (row.grant_revoked p old) q is (keep.keep-granted p (row.grant_revoked p old).granted s)
 
-pub keeps-inherit : (conn : ℕ) (senior junior : List ℕ) → KeepsAuthorization (λ p. rows.inherit p conn senior junior)
+pub keeps-inherit : (conn : ℕ) (senior junior : List ℕ)
+    → KeepsAuthorization (λ p. rows.inherit p conn senior junior)
 keeps-inherit conn senior junior p q is s =
-    let t = all-pass (row.administer-tests p conn (row.inherit-tests p senior junior)) (row.inherited p senior junior) q is in
-    keeps (row.administer-tests p conn (row.inherit-tests p senior junior)) (row.inherited p senior junior) q is (keep.authorized-inherit p senior junior (parts (is_role p.roles senior) (is_role p.roles junior) t.1.1.0).0 s)
+    let t = all-pass (row.administer-tests p conn (row.inherit-tests p senior junior))
+    (row.inherited p senior junior) q is in
+    keeps (row.administer-tests p conn (row.inherit-tests p senior junior))
+    (row.inherited p senior junior) q is
+    (keep.authorized-inherit p senior junior
+    (parts (is_role p.roles senior) (is_role p.roles junior) t.1.1.0).0 s)
 
-pub sound-inherit : (conn : ℕ) (senior junior : List ℕ) → KeepsSound (λ p. rows.inherit p conn senior junior)
+pub sound-inherit : (conn : ℕ) (senior junior : List ℕ)
+    → KeepsSound (λ p. rows.inherit p conn senior junior)
 sound-inherit conn senior junior p q is s =
-    let t = all-pass (row.administer-tests p conn (row.inherit-tests p senior junior)) (row.inherited p senior junior) q is in
-    sound (row.administer-tests p conn (row.inherit-tests p senior junior)) (row.inherited p senior junior) q is
-    (keep.keep-inherit p senior junior (parts (is_role p.roles senior) (is_role p.roles junior) t.1.1.0).0 (static-holds (row.inherited p senior junior) t.1.1.1.1.1.0) (dynamic-holds (row.inherited p senior junior) t.1.1.1.1.1.1.0) s)
+    let t = all-pass (row.administer-tests p conn (row.inherit-tests p senior junior))
+    (row.inherited p senior junior) q is in
+    sound (row.administer-tests p conn (row.inherit-tests p senior junior))
+    (row.inherited p senior junior) q is
+    (keep.keep-inherit p senior junior
+    (parts (is_role p.roles senior) (is_role p.roles junior) t.1.1.0).0
+    (static-holds (row.inherited p senior junior) t.1.1.1.1.1.0)
+    (dynamic-holds (row.inherited p senior junior) t.1.1.1.1.1.1.0) s)
 
-pub keeps-uninherit : (conn : ℕ) (senior junior : List ℕ) → KeepsAuthorization (λ p. rows.uninherit p conn senior junior)
-keeps-uninherit conn senior junior p q is s = keeps (row.administer-tests p conn (row.uninherit-tests p senior junior)) (trim (row.uninherited p senior junior)) q is (keep.trim-authorized (row.uninherited p senior junior))
+pub keeps-uninherit : (conn : ℕ) (senior junior : List ℕ)
+    → KeepsAuthorization (λ p. rows.uninherit p conn senior junior)
+keeps-uninherit conn senior junior p q is s =
+    keeps (row.administer-tests p conn (row.uninherit-tests p senior junior))
+    (trim (row.uninherited p senior junior)) q is
+    (keep.trim-authorized (row.uninherited p senior junior))
 
-pub sound-uninherit : (conn : ℕ) (senior junior : List ℕ) → KeepsSound (λ p. rows.uninherit p conn senior junior)
+pub sound-uninherit : (conn : ℕ) (senior junior : List ℕ)
+    → KeepsSound (λ p. rows.uninherit p conn senior junior)
 sound-uninherit conn senior junior p q is s =
-    let t = all-pass (row.administer-tests p conn (row.uninherit-tests p senior junior)) (trim (row.uninherited p senior junior)) q is in
-    sound (row.administer-tests p conn (row.uninherit-tests p senior junior)) (trim (row.uninherited p senior junior)) q is (keep.keep-uninherit p senior junior t.1.1.0 s)
+    let t = all-pass (row.administer-tests p conn (row.uninherit-tests p senior junior))
+    (trim (row.uninherited p senior junior)) q is in
+    sound (row.administer-tests p conn (row.uninherit-tests p senior junior))
+    (trim (row.uninherited p senior junior)) q is
+    (keep.keep-uninherit p senior junior t.1.1.0 s)
 
 pub keeps-ssd : (conn : ℕ) (set : SeparationSet) → KeepsAuthorization (λ p. rows.ssd p conn set)
-keeps-ssd conn set p q is s = keeps (row.administer-tests p conn (row.ssd-tests p set)) (row.ssd_made p set) q is s
+keeps-ssd conn set p q is s =
+    keeps (row.administer-tests p conn (row.ssd-tests p set)) (row.ssd_made p set) q is s
 
 pub sound-ssd : (conn : ℕ) (set : SeparationSet) → KeepsSound (λ p. rows.ssd p conn set)
 sound-ssd conn set p q is s =
-    let t = all-pass (row.administer-tests p conn (row.ssd-tests p set)) (row.ssd_made p set) q is in
-    sound (row.administer-tests p conn (row.ssd-tests p set)) (row.ssd_made p set) q is (keep.keep-ssd p conn set t.0 t.1.1.1.0 (static-holds (row.ssd_made p set) t.1.1.1.1.0) s)
+    let t =
+    all-pass (row.administer-tests p conn (row.ssd-tests p set)) (row.ssd_made p set) q is in
+    sound (row.administer-tests p conn (row.ssd-tests p set)) (row.ssd_made p set) q is
+    (keep.keep-ssd p conn set t.0 t.1.1.1.0 (static-holds (row.ssd_made p set) t.1.1.1.1.0) s)
 
 pub keeps-dsd : (conn : ℕ) (set : SeparationSet) → KeepsAuthorization (λ p. rows.dsd p conn set)
-keeps-dsd conn set p q is s = keeps (row.administer-tests p conn (row.dsd-tests p set)) (row.dsd_made p set) q is s
+keeps-dsd conn set p q is s =
+    keeps (row.administer-tests p conn (row.dsd-tests p set)) (row.dsd_made p set) q is s
 
 pub sound-dsd : (conn : ℕ) (set : SeparationSet) → KeepsSound (λ p. rows.dsd p conn set)
 sound-dsd conn set p q is s =
-    let t = all-pass (row.administer-tests p conn (row.dsd-tests p set)) (row.dsd_made p set) q is in
-    sound (row.administer-tests p conn (row.dsd-tests p set)) (row.dsd_made p set) q is (keep.keep-dsd p conn set t.0 t.1.1.1.0 (dynamic-holds (row.dsd_made p set) t.1.1.1.1.0) s)
+    let t =
+    all-pass (row.administer-tests p conn (row.dsd-tests p set)) (row.dsd_made p set) q is in
+    sound (row.administer-tests p conn (row.dsd-tests p set)) (row.dsd_made p set) q is
+    (keep.keep-dsd p conn set t.0 t.1.1.1.0 (dynamic-holds (row.dsd_made p set) t.1.1.1.1.0) s)
 
 pub keeps-unssd : (conn : ℕ) (name : List ℕ) → KeepsAuthorization (λ p. rows.unssd p conn name)
-keeps-unssd conn name p q is s = keeps (row.administer-tests p conn (row.unssd-tests p name)) (row.ssd_removed p name) q is s
+keeps-unssd conn name p q is s =
+    keeps (row.administer-tests p conn (row.unssd-tests p name)) (row.ssd_removed p name) q is s
 
 pub sound-unssd : (conn : ℕ) (name : List ℕ) → KeepsSound (λ p. rows.unssd p conn name)
-sound-unssd conn name p q is s = sound (row.administer-tests p conn (row.unssd-tests p name)) (row.ssd_removed p name) q is (keep.keep-unssd p name s)
+sound-unssd conn name p q is s = sound (row.administer-tests p conn (row.unssd-tests p name))
+    (row.ssd_removed p name) q is (keep.keep-unssd p name s)
 
 pub keeps-undsd : (conn : ℕ) (name : List ℕ) → KeepsAuthorization (λ p. rows.undsd p conn name)
-keeps-undsd conn name p q is s = keeps (row.administer-tests p conn (row.undsd-tests p name)) (row.dsd_removed p name) q is s
+keeps-undsd conn name p q is s =
+    keeps (row.administer-tests p conn (row.undsd-tests p name)) (row.dsd_removed p name) q is s
 
 pub sound-undsd : (conn : ℕ) (name : List ℕ) → KeepsSound (λ p. rows.undsd p conn name)
-sound-undsd conn name p q is s = sound (row.administer-tests p conn (row.undsd-tests p name)) (row.dsd_removed p name) q is (keep.keep-undsd p name s)
+sound-undsd conn name p q is s = sound (row.administer-tests p conn (row.undsd-tests p name))
+    (row.dsd_removed p name) q is (keep.keep-undsd p name s)

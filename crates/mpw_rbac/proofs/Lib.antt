@@ -6,8 +6,11 @@ pub mod BucketLemmas
 pub mod DenialLemmas
 pub mod GrantedLemmas
 pub mod HolderLemmas
+pub mod InheritLemmas
 pub mod KeepLemmas
 pub mod LawLemmas
+pub mod MaskedLemmas
+pub mod ObjectLemmas
 pub mod RowLemmas
 pub mod RowTests
 pub mod SeparationLemmas

@@ -27,7 +27,7 @@ use Rattle.mpw_separation.specs.Rows.{make, remove}
 use Rattle.mpw_separation.specs.declared.fault.SetsFault.{SetsFault}
 use Rattle.mpw_separation.specs.declared.fault.SetsFault.TheVariants as set_faults
 use Rattle.mpw_separation.specs.Set.{SeparationSet}
-use Rattle.mpw_rbac.specs.Fault.{fault_of_sets}
+use Rattle.mpw_rbac.specs.Internal.Fault.{fault_of_sets}
 use Rattle.mpw_rbac.specs.Sound.{Sound}
 use Rattle.mpw_rbac.specs.Table.{has_key, value_at, without_key}
 use Rattle.mpw_rbac.proofs.HolderLemmas.{least-changed, least-new}
@@ -38,66 +38,100 @@ abbrev ok_policy : Policy → Result Policy Refusal
 ok_policy p = Ok p
 
 -- the two tests that every administrative request begins with
-pub administered-facts : (p : Policy) (conn : ℕ) → rows.administered p conn ≡ Ok p → (is_some (session_of p conn) ≡ true) × (permits p conn Admin Desk ≡ true)
+pub administered-facts : (p : Policy) (conn : ℕ) → rows.administered p conn ≡ Ok p
+    → (is_some (session_of p conn) ≡ true) × (permits p conn Admin Desk ≡ true)
 administered-facts p conn ok = by (is_some (session_of p conn)) (permits p conn Admin Desk) ok
   where
-    by : (a b : Bool) → cond a (cond b (Ok p) (Err (NotPermitted Admin Desk))) (Err NoSession) ≡ Ok p → (a ≡ true) × (b ≡ true)
+    by : (a b : Bool) → cond a (cond b (Ok p) (Err (NotPermitted Admin Desk))) (Err NoSession)
+        ≡ Ok p → (a ≡ true) × (b ≡ true)
     by true true e = (refl, refl)
     by true false e = cc
     by false b e = cc
 
 -- a test for broken sets that finds none passes
-pub none-passes : (told : Name → Refusal) (o : Option Name) → o ≡ None → (rows.none_broken told o).0 ≡ true
+pub none-passes : (told : Name → Refusal) (o : Option Name) → o ≡ None
+    → (rows.none_broken told o).0 ≡ true
 none-passes told o none = ap (λ n. (rows.none_broken told n).0) none
 
 module _ (p : Policy) (conn : ℕ) (ok : rows.administered p conn ≡ Ok p) where
-  pub adduser-ok : (user : Name) (digest : List ℕ) (users : List (Name × User)) → is_user p user ≡ false → nat_lt (length p.users) 512 ≡ true
-      → users ≡ insert_entry name_eq p.users user (record { digest = digest; roles = [] }) → rows.adduser p conn user digest ≡ Ok (record p { users = users })
+  pub adduser-ok : (user : Name) (digest : List ℕ) (users : List (Name × User))
+      → is_user p user ≡ false → nat_lt (length p.users) 512 ≡ true
+      → users ≡ insert_entry name_eq p.users user (record { digest = digest; roles = [] })
+      → rows.adduser p conn user digest ≡ Ok (record p { users = users })
   adduser-ok user digest users new room is =
       let f = administered-facts p conn ok in
-      rw (f.0, f.1, new, room) (ap (λ us. Ok (record p { users = us })) (sym (is ∙ insert-new name_eq p.users user _ new)))
+      rw (f.0, f.1, new, room) (ap (λ us. Ok (record p { users = us }))
+      (sym (is ∙ insert-new name_eq p.users user _ new)))
 
-  pub assign-ok : (user role : Name) (users : List (Name × User)) → is_user p user ≡ true → is_role p.roles role ≡ true → contains_name (assigned_roles p user) role ≡ false
-      → least_broken p.roles p.ssd (assigned_lists (rows.with_assigned p user (assigned_roles p user ++ role ∷ [])).users) ≡ None
-      → users ≡ insert_entry name_eq p.users user (record { digest = rows.digest_of_user p user; roles = assigned_roles p user ++ role ∷ [] }) → rows.assign p conn user role ≡ Ok (record p { users = users })
+  pub assign-ok : (user role : Name) (users : List (Name × User)) → is_user p user ≡ true
+      → is_role p.roles role ≡ true → contains_name (assigned_roles p user) role ≡ false
+      → least_broken p.roles p.ssd (assigned_lists
+      (rows.with_assigned p user (assigned_roles p user ++ role ∷ [])).users) ≡ None
+      → users ≡ insert_entry name_eq p.users user
+      (record {
+        digest = rows.digest_of_user p user;
+        roles = assigned_roles p user ++ role
+            ∷ [];
+      }) → rows.assign p conn user role ≡ Ok (record p { users = users })
   assign-ok user role users known role_known new none is =
       let f = administered-facts p conn ok in
-      let holds = none-passes Ssd (least_broken p.roles p.ssd (assigned_lists (rows.with_assigned p user (assigned_roles p user ++ role ∷ [])).users)) none in
-      rw (f.0, f.1, known, role_known, new, holds) (ap (λ us. Ok (record p { users = us })) (sym (is ∙ insert-present name_eq p.users user _ known)))
+      let holds = none-passes Ssd (least_broken p.roles p.ssd
+      (assigned_lists (rows.with_assigned p user (assigned_roles p user ++ role ∷ [])).users))
+      none in
+      rw (f.0, f.1, known, role_known, new, holds)
+      (ap (λ us. Ok (record p { users = us }))
+      (sym (is ∙ insert-present name_eq p.users user _ known)))
 
-  pub assign-broken : (user role name : Name) → is_user p user ≡ true → is_role p.roles role ≡ true → contains_name (assigned_roles p user) role ≡ false
-      → least_broken p.roles p.ssd (assigned_lists (rows.with_assigned p user (assigned_roles p user ++ role ∷ [])).users) ≡ Some name → rows.assign p conn user role ≡ Err (Ssd name)
+  pub assign-broken : (user role name : Name) → is_user p user ≡ true → is_role p.roles role ≡ true
+      → contains_name (assigned_roles p user) role ≡ false
+      → least_broken p.roles p.ssd (assigned_lists
+      (rows.with_assigned p user (assigned_roles p user ++ role ∷ [])).users) ≡ Some name
+      → rows.assign p conn user role ≡ Err (Ssd name)
   assign-broken user role name known role_known new some =
       let f = administered-facts p conn ok in
       rw (f.0, f.1, known, role_known, new, some)
 
-  pub grant-ok : (new : Grant) (granted : List Grant) → is_role p.roles new.role ≡ true → list_any (grant_eq new) p.granted ≡ false → nat_lt (length p.granted) 4096 ≡ true
-      → granted ≡ p.granted ++ new ∷ [] → rows.grant p conn new ≡ Ok (record p { granted = granted })
+  pub grant-ok : (new : Grant) (granted : List Grant) → is_role p.roles new.role ≡ true
+      → list_any (grant_eq new) p.granted ≡ false → nat_lt (length p.granted) 4096 ≡ true
+      → granted ≡ p.granted ++ new ∷ []
+      → rows.grant p conn new ≡ Ok (record p { granted = granted })
   grant-ok new granted role_known unknown room is =
       let f = administered-facts p conn ok in
       rw (f.0, f.1, role_known, unknown, room) (ap (λ gs. Ok (record p { granted = gs })) (sym is))
 
-  pub revoke-ok : (old : Grant) (granted : List Grant) → list_any (grant_eq old) p.granted ≡ true → granted ≡ filter (λ other. not (grant_eq old other)) p.granted → rows.revoke p conn old ≡ Ok (record p { granted = granted })
+  pub revoke-ok : (old : Grant) (granted : List Grant) → list_any (grant_eq old) p.granted ≡ true
+      → granted ≡ filter (λ other. not (grant_eq old other)) p.granted
+      → rows.revoke p conn old ≡ Ok (record p { granted = granted })
   revoke-ok old granted known is =
       let f = administered-facts p conn ok in
       rw (f.0, f.1, known) (ap (λ gs. Ok (record p { granted = gs })) (sym is))
 
-  pub deluser-ok : (user : Name) → is_user p user ≡ true → rows.deluser p conn user ≡ Ok (trim (record p { users = without_key name_eq p.users user }))
+  pub deluser-ok : (user : Name) → is_user p user ≡ true
+      → rows.deluser p conn user ≡ Ok (trim (record p { users = without_key name_eq p.users user }))
   deluser-ok user known = let f = administered-facts p conn ok in rw (f.0, f.1, known)
 
-  pub delrole-ok : (role : Name) → is_role p.roles role ≡ true → (uses_role p.ssd role || uses_role p.dsd role) ≡ false → rows.delrole p conn role ≡ Ok (trim (rows.without_role_of p role))
-  delrole-ok role known unused = let f = administered-facts p conn ok in rw (f.0, f.1, known, unused)
+  pub delrole-ok : (role : Name) → is_role p.roles role ≡ true
+      → (uses_role p.ssd role || uses_role p.dsd role) ≡ false
+      → rows.delrole p conn role ≡ Ok (trim (rows.without_role_of p role))
+  delrole-ok role known unused = let f = administered-facts p conn ok in
+      rw (f.0, f.1, known, unused)
 
-  pub deassign-ok : (user role : Name) → contains_name (assigned_roles p user) role ≡ true → rows.deassign p conn user role ≡ Ok (trim (rows.with_assigned p user (without_name (assigned_roles p user) role)))
+  pub deassign-ok : (user role : Name) → contains_name (assigned_roles p user) role ≡ true
+      → rows.deassign p conn user role ≡ Ok
+      (trim (rows.with_assigned p user (without_name (assigned_roles p user) role)))
   deassign-ok user role known = let f = administered-facts p conn ok in rw (f.0, f.1, known)
 
-  pub uninherit-ok : (senior junior : Name) → is_immediate p.roles senior junior ≡ true → rows.uninherit p conn senior junior ≡ Ok (trim (record p { roles = without_pair p.roles senior junior }))
+  pub uninherit-ok : (senior junior : Name) → is_immediate p.roles senior junior ≡ true
+      → rows.uninherit p conn senior junior
+      ≡ Ok (trim (record p { roles = without_pair p.roles senior junior }))
   uninherit-ok senior junior known = let f = administered-facts p conn ok in rw (f.0, f.1, known)
 
-  pub unssd-ok : (name : Name) → has_set p.ssd name ≡ true → rows.unssd p conn name ≡ Ok (record p { ssd = without_set p.ssd name })
+  pub unssd-ok : (name : Name) → has_set p.ssd name ≡ true
+      → rows.unssd p conn name ≡ Ok (record p { ssd = without_set p.ssd name })
   unssd-ok name known = let f = administered-facts p conn ok in rw (f.0, f.1, known)
 
-  pub undsd-ok : (name : Name) → has_set p.dsd name ≡ true → rows.undsd p conn name ≡ Ok (record p { dsd = without_set p.dsd name })
+  pub undsd-ok : (name : Name) → has_set p.dsd name ≡ true
+      → rows.undsd p conn name ≡ Ok (record p { dsd = without_set p.dsd name })
   undsd-ok name known = let f = administered-facts p conn ok in rw (f.0, f.1, known)
 
 -- what an accepted command leaves
@@ -107,7 +141,8 @@ done a = Ok a
 done-same : {A F : Type 0} (a b : A) → done {F = F} a ≡ Ok b → a ≡ b
 done-same a b e = cc
 
-pub left-value : {A F : Type 0} (tests : List (Bool × F)) (next q : A) → decided tests next ≡ Ok q → next ≡ q
+pub left-value : {A F : Type 0} (tests : List (Bool × F)) (next q : A) → decided tests next ≡ Ok q
+    → next ≡ q
 left-value [] next q e = done-same next q e
 left-value {A = A} {F = F} (t ∷ ts) next q e =
     elim t.0 as (λ b. cond {A = Result A F} b (decided ts next) (Err t.1) ≡ Ok q → next ≡ q) [
@@ -115,60 +150,88 @@ left-value {A = A} {F = F} (t ∷ ts) next q e =
       | false ↦ λ f. cc
     ] e
 
-pub first-pass : {A F : Type 0} (t : Bool × F) (tests : List (Bool × F)) (next q : A) → decided (t ∷ tests) next ≡ Ok q → t.0 ≡ true
+pub first-pass : {A F : Type 0} (t : Bool × F) (tests : List (Bool × F)) (next q : A)
+    → decided (t ∷ tests) next ≡ Ok q → t.0 ≡ true
 first-pass {A = A} {F = F} t tests next q e =
     elim t.0 as (λ b. cond {A = Result A F} b (decided tests next) (Err t.1) ≡ Ok q → b ≡ true) [
       | true ↦ λ f. refl
       | false ↦ λ f. cc
     ] e
 
-pub inherited-pair : (h : Hierarchy) (senior junior : Name) (after : Hierarchy) → roles.inherit h senior junior ≡ Ok after → (is_role h senior ≡ true) × (after ≡ with_pair h senior junior)
+pub inherited-pair : (h : Hierarchy) (senior junior : Name) (after : Hierarchy)
+    → roles.inherit h senior junior ≡ Ok after → (is_role h senior ≡ true)
+    × (after ≡ with_pair h senior junior)
 inherited-pair h senior junior after e =
     let a : Bool × RolesFault = (is_role h senior && is_role h junior, faults.NoRole) in
     let b : Bool × RolesFault = (not (is_immediate h senior junior), faults.Known) in
-    let d : Bool × RolesFault = (not (at_least h junior senior), faults.Cycle) in
-    ((parts (is_role h senior) (is_role h junior) (first-pass a (b ∷ d ∷ []) (with_pair h senior junior) after e)).0, sym (left-value (a ∷ b ∷ d ∷ []) (with_pair h senior junior) after e))
+    let d : Bool × RolesFault = (not (at_least h junior senior), faults.Cycle) in (
+      (parts (is_role h senior) (is_role h junior)
+          (first-pass a (b ∷ d ∷ []) (with_pair h senior junior) after e)).0,
+      sym (left-value (a ∷ b ∷ d ∷ []) (with_pair h senior junior) after e),
+    )
 
-inherited-tests : (h : Hierarchy) (senior junior : Name) (after : Hierarchy) → roles.inherit h senior junior ≡ Ok after
-    → ((is_role h senior && is_role h junior) ≡ true) × (not (is_immediate h senior junior) ≡ true) × (not (at_least h junior senior) ≡ true)
-inherited-tests h senior junior after e = by (is_role h senior && is_role h junior) (not (is_immediate h senior junior)) (not (at_least h junior senior)) e
+inherited-tests : (h : Hierarchy) (senior junior : Name) (after : Hierarchy)
+    → roles.inherit h senior junior ≡ Ok after
+    → ((is_role h senior && is_role h junior) ≡ true) × (not (is_immediate h senior junior) ≡ true)
+    × (not (at_least h junior senior) ≡ true)
+inherited-tests h senior junior after e = by (is_role h senior && is_role h junior)
+    (not (is_immediate h senior junior)) (not (at_least h junior senior)) e
   where
-    by : (x y z : Bool) → decided ((x, faults.NoRole) ∷ (y, faults.Known) ∷ (z, faults.Cycle) ∷ []) (with_pair h senior junior) ≡ Ok after → (x ≡ true) × (y ≡ true) × (z ≡ true)
+    by : (x y z : Bool) → decided ((x, faults.NoRole) ∷ (y, faults.Known) ∷ (z, faults.Cycle) ∷ [])
+        (with_pair h senior junior) ≡ Ok after → (x ≡ true) × (y ≡ true) × (z ≡ true)
     by true true true f = (refl, refl, refl)
     by true true false f = cc
     by true false z f = cc
     by false y z f = cc
 
 -- a pair that would break a set
-module _ (p : Policy) (conn : ℕ) (ok : rows.administered p conn ≡ Ok p) (senior junior name : Name) (after : Hierarchy) (made : roles.inherit p.roles senior junior ≡ Ok after) where
-  pub inherit-static : least_broken after p.ssd (assigned_lists p.users) ≡ Some name → rows.inherit p conn senior junior ≡ Err (Ssd name)
+module _ (p : Policy) (conn : ℕ) (ok : rows.administered p conn ≡ Ok p) (senior junior name : Name)
+    (after : Hierarchy) (made : roles.inherit p.roles senior junior ≡ Ok after) where
+  pub inherit-static : least_broken after p.ssd (assigned_lists p.users) ≡ Some name
+      → rows.inherit p conn senior junior ≡ Err (Ssd name)
   inherit-static broken =
       let f = administered-facts p conn ok in
       let t = inherited-tests p.roles senior junior after made in
-      let some : least_broken (with_pair p.roles senior junior) p.ssd (assigned_lists p.users) ≡ Some name = ap (λ h. least_broken h p.ssd (assigned_lists p.users)) (sym (inherited-pair p.roles senior junior after made).1) ∙ broken in
+      let some : least_broken (with_pair p.roles senior junior) p.ssd (assigned_lists p.users)
+      ≡ Some name = ap (λ h. least_broken h p.ssd (assigned_lists p.users))
+      (sym (inherited-pair p.roles senior junior after made).1) ∙ broken in
       rw (f.0, f.1, t.0, t.1, t.2, some)
 
-  pub inherit-dynamic : least_broken after p.ssd (assigned_lists p.users) ≡ None → least_broken after p.dsd (active_lists p.sessions) ≡ Some name → rows.inherit p conn senior junior ≡ Err (Dsd name)
+  pub inherit-dynamic : least_broken after p.ssd (assigned_lists p.users) ≡ None
+      → least_broken after p.dsd (active_lists p.sessions) ≡ Some name
+      → rows.inherit p conn senior junior ≡ Err (Dsd name)
   inherit-dynamic kept broken =
       let f = administered-facts p conn ok in
       let t = inherited-tests p.roles senior junior after made in
       let pair = inherited-pair p.roles senior junior after made in
-      let none : least_broken (with_pair p.roles senior junior) p.ssd (assigned_lists p.users) ≡ None = ap (λ h. least_broken h p.ssd (assigned_lists p.users)) (sym pair.1) ∙ kept in
-      let some : least_broken (with_pair p.roles senior junior) p.dsd (active_lists p.sessions) ≡ Some name = ap (λ h. least_broken h p.dsd (active_lists p.sessions)) (sym pair.1) ∙ broken in
+      let none : least_broken (with_pair p.roles senior junior) p.ssd (assigned_lists p.users)
+      ≡ None = ap (λ h. least_broken h p.ssd (assigned_lists p.users)) (sym pair.1) ∙ kept in
+      let some : least_broken (with_pair p.roles senior junior) p.dsd (active_lists p.sessions)
+      ≡ Some name = ap (λ h. least_broken h p.dsd (active_lists p.sessions)) (sym pair.1)
+      ∙ broken in
       rw (f.0, f.1, t.0, t.1, t.2, none, some)
 
-pub uninherited-pair : (h : Hierarchy) (senior junior : Name) (after : Hierarchy) → roles.uninherit h senior junior ≡ Ok after → (is_immediate h senior junior ≡ true) × (after ≡ without_pair h senior junior)
+pub uninherited-pair : (h : Hierarchy) (senior junior : Name) (after : Hierarchy)
+    → roles.uninherit h senior junior ≡ Ok after → (is_immediate h senior junior ≡ true)
+    × (after ≡ without_pair h senior junior)
 uninherited-pair h senior junior after e =
-    let a : Bool × RolesFault = (is_immediate h senior junior, faults.NoPair) in
-    (first-pass a [] (without_pair h senior junior) after e, sym (left-value (a ∷ []) (without_pair h senior junior) after e))
+    let a : Bool × RolesFault = (is_immediate h senior junior, faults.NoPair) in (
+      first-pass a [] (without_pair h senior junior) after e,
+      sym (left-value (a ∷ []) (without_pair h senior junior) after e),
+    )
 
-pub removed-role : (h : Hierarchy) (role : Name) (after : Hierarchy) → roles.remove h role ≡ Ok after → after ≡ without_role h role
+pub removed-role : (h : Hierarchy) (role : Name) (after : Hierarchy)
+    → roles.remove h role ≡ Ok after → after ≡ without_role h role
 removed-role h role after e =
     let a : Bool × RolesFault = (is_role h role, faults.NoRole) in
     sym (left-value (a ∷ []) (without_role h role) after e)
 
-pub made-set : (sets : List SeparationSet) (set : SeparationSet) (after : List SeparationSet) → make sets set ≡ Ok after → (nat_lt (length sets) 64 ≡ true) × (after ≡ sets ++ set ∷ [])
-made-set sets set after e = (by (has_set sets set.name) (nat_lt (length sets) 64) e, sym (left-value (a ∷ b ∷ []) (sets ++ set ∷ []) after e))
+pub made-set : (sets : List SeparationSet) (set : SeparationSet) (after : List SeparationSet)
+    → make sets set ≡ Ok after → (nat_lt (length sets) 64 ≡ true) × (after ≡ sets ++ set ∷ [])
+made-set sets set after e = (
+  by (has_set sets set.name) (nat_lt (length sets) 64) e,
+  sym (left-value (a ∷ b ∷ []) (sets ++ set ∷ []) after e),
+)
   where
     a : Bool × SetsFault
     a = (not (has_set sets set.name), set_faults.Known)
@@ -176,161 +239,245 @@ made-set sets set after e = (by (has_set sets set.name) (nat_lt (length sets) 64
     b : Bool × SetsFault
     b = (nat_lt (length sets) 64, set_faults.Full)
 
-    by : (x y : Bool) → decided ((not x, set_faults.Known) ∷ (y, set_faults.Full) ∷ []) (sets ++ set ∷ []) ≡ Ok after → y ≡ true
+    by : (x y : Bool) → decided ((not x, set_faults.Known) ∷ (y, set_faults.Full) ∷ [])
+        (sets ++ set ∷ []) ≡ Ok after → y ≡ true
     by true y f = cc
     by false true f = refl
     by false false f = cc
 
-pub removed-set : (sets : List SeparationSet) (name : Name) (after : List SeparationSet) → remove sets name ≡ Ok after → after ≡ without_set sets name
+pub removed-set : (sets : List SeparationSet) (name : Name) (after : List SeparationSet)
+    → remove sets name ≡ Ok after → after ≡ without_set sets name
 removed-set sets name after e =
     let a : Bool × SetsFault = (has_set sets name, set_faults.Unknown) in
     sym (left-value (a ∷ []) (without_set sets name) after e)
 
 -- who is assigned a role is a user
-pub assigned-user : (p : Policy) (user role : Name) → contains_name (assigned_roles p user) role ≡ true → is_user p user ≡ true
-assigned-user p user role there = sym (is_some-value_at name_eq p.users user) ∙ by (value_at name_eq p.users user) there
+pub assigned-user : (p : Policy) (user role : Name)
+    → contains_name (assigned_roles p user) role ≡ true → is_user p user ≡ true
+assigned-user p user role there =
+    sym (is_some-value_at name_eq p.users user) ∙ by (value_at name_eq p.users user) there
   where
-    by : (o : Option User) → contains_name (option_map_or (λ (u : User). u.roles) o []) role ≡ true → is_some o ≡ true
+    by : (o : Option User) → contains_name (option_map_or (λ (u : User). u.roles) o []) role ≡ true
+        → is_some o ≡ true
     by None e = cc
     by (Some u) e = refl
 
 -- only the roles that change are asked about
 pub assign-same : (p : Policy) (user role : Name) → Sound p → is_user p user ≡ true
-    → least_broken p.roles p.ssd (assigned_lists (rows.with_assigned p user (assigned_roles p user ++ role ∷ [])).users) ≡ least_broken p.roles p.ssd ((assigned_roles p user ++ role ∷ []) ∷ [])
-assign-same p user role s known = least-changed name_eq (λ (u : User). u.roles) p.roles p.ssd p.users user (record { digest = rows.digest_of_user p user; roles = assigned_roles p user ++ role ∷ [] }) known s.static
+    → least_broken p.roles p.ssd (assigned_lists
+    (rows.with_assigned p user (assigned_roles p user ++ role ∷ [])).users) ≡ least_broken
+    p.roles p.ssd ((assigned_roles p user ++ role ∷ []) ∷ [])
+assign-same p user role s known = least-changed name_eq (λ (u : User). u.roles) p.roles p.ssd
+    p.users user (record {
+      digest = rows.digest_of_user p user;
+      roles = assigned_roles p user
+          ++ role ∷ [];
+    }) known s.static
 
-pub activate-same : (p : Policy) (conn : ℕ) (role : Name) → Sound p → is_some (session_of p conn) ≡ true
-    → least_broken p.roles p.dsd (active_lists (rows.with_active p conn (rows.active_roles p conn ++ role ∷ [])).sessions) ≡ least_broken p.roles p.dsd ((rows.active_roles p conn ++ role ∷ []) ∷ [])
+pub activate-same : (p : Policy) (conn : ℕ) (role : Name) → Sound p
+    → is_some (session_of p conn) ≡ true
+    → least_broken p.roles p.dsd (active_lists
+    (rows.with_active p conn (rows.active_roles p conn ++ role ∷ [])).sessions) ≡ least_broken
+    p.roles p.dsd ((rows.active_roles p conn ++ role ∷ []) ∷ [])
 activate-same p conn role s there =
-    least-changed (λ a b. a == b) (λ (x : Session). x.active) p.roles p.dsd p.sessions conn (record { user = rows.user_of p conn; active = rows.active_roles p conn ++ role ∷ [] })
+    least-changed (λ a b. a == b) (λ (x : Session). x.active) p.roles p.dsd p.sessions conn
+    (record { user = rows.user_of p conn; active = rows.active_roles p conn ++ role ∷ [] })
     (sym (is_some-value_at (λ a b. a == b) p.sessions conn) ∙ there) s.dynamic
 
 -- a new name is refused only where there is no room
-full-fault : (sets : List SeparationSet) (set : SeparationSet) (fault : SetsFault) → has_set sets set.name ≡ false → make sets set ≡ Err fault → (nat_lt (length sets) 64 ≡ false) × (fault ≡ set_faults.Full)
+full-fault : (sets : List SeparationSet) (set : SeparationSet) (fault : SetsFault)
+    → has_set sets set.name ≡ false → make sets set ≡ Err fault → (nat_lt (length sets) 64 ≡ false)
+    × (fault ≡ set_faults.Full)
 full-fault sets set fault new e = by (has_set sets set.name) (nat_lt (length sets) 64) new e
   where
-    by : (x y : Bool) → x ≡ false → decided ((not x, set_faults.Known) ∷ (y, set_faults.Full) ∷ []) (sets ++ set ∷ []) ≡ Err fault → (y ≡ false) × (fault ≡ set_faults.Full)
+    by : (x y : Bool) → x ≡ false → decided ((not x, set_faults.Known) ∷ (y, set_faults.Full) ∷ [])
+        (sets ++ set ∷ []) ≡ Err fault → (y ≡ false) × (fault ≡ set_faults.Full)
     by true y n f = cc
     by false true n f = cc
     by false false n f = (refl, cc)
 
 -- a new set
-module _ (p : Policy) (conn : ℕ) (ok : rows.administered p conn ≡ Ok p) (s : Sound p) (set : SeparationSet) (roles_known : list_all (is_role p.roles) set.roles ≡ true) where
-  pub ssd-ok : has_set p.ssd set.name ≡ false → is_broken p.roles (assigned_lists p.users) set ≡ false → nat_lt (length p.ssd) 64 ≡ true → rows.ssd p conn set ≡ Ok (record p { ssd = p.ssd ++ set ∷ [] })
+module _ (p : Policy) (conn : ℕ) (ok : rows.administered p conn ≡ Ok p) (s : Sound p)
+    (set : SeparationSet) (roles_known : list_all (is_role p.roles) set.roles ≡ true) where
+  pub ssd-ok : has_set p.ssd set.name ≡ false
+      → is_broken p.roles (assigned_lists p.users) set ≡ false → nat_lt (length p.ssd) 64 ≡ true
+      → rows.ssd p conn set ≡ Ok (record p { ssd = p.ssd ++ set ∷ [] })
   ssd-ok new apart room =
       let f = administered-facts p conn ok in
-      let none : least_broken p.roles (p.ssd ++ set ∷ []) (assigned_lists p.users) ≡ None = least-new p.roles p.ssd set (assigned_lists p.users) s.static ∙ ap (λ b. cond b (Some set.name) None) apart in
+      let none : least_broken p.roles (p.ssd ++ set ∷ []) (assigned_lists p.users) ≡ None =
+      least-new p.roles p.ssd set (assigned_lists p.users) s.static
+      ∙ ap (λ b. cond b (Some set.name) None) apart in
       rw (f.0, f.1, new, roles_known, none, room)
 
-  pub ssd-broken : has_set p.ssd set.name ≡ false → is_broken p.roles (assigned_lists p.users) set ≡ true → rows.ssd p conn set ≡ Err (Ssd set.name)
+  pub ssd-broken : has_set p.ssd set.name ≡ false → is_broken p.roles (assigned_lists p.users) set
+      ≡ true → rows.ssd p conn set ≡ Err (Ssd set.name)
   ssd-broken new broken =
       let f = administered-facts p conn ok in
-      let some : least_broken p.roles (p.ssd ++ set ∷ []) (assigned_lists p.users) ≡ Some set.name = least-new p.roles p.ssd set (assigned_lists p.users) s.static ∙ ap (λ b. cond b (Some set.name) None) broken in
+      let some : least_broken p.roles (p.ssd ++ set ∷ []) (assigned_lists p.users) ≡ Some set.name =
+      least-new p.roles p.ssd set (assigned_lists p.users) s.static
+      ∙ ap (λ b. cond b (Some set.name) None) broken in
       rw (f.0, f.1, new, roles_known, some)
 
-  ssd-full : has_set p.ssd set.name ≡ false → is_broken p.roles (assigned_lists p.users) set ≡ false → nat_lt (length p.ssd) 64 ≡ false → rows.ssd p conn set ≡ Err Full
+  ssd-full : has_set p.ssd set.name ≡ false → is_broken p.roles (assigned_lists p.users) set ≡ false
+      → nat_lt (length p.ssd) 64 ≡ false → rows.ssd p conn set ≡ Err Full
   ssd-full new apart full =
       let f = administered-facts p conn ok in
-      let none : least_broken p.roles (p.ssd ++ set ∷ []) (assigned_lists p.users) ≡ None = least-new p.roles p.ssd set (assigned_lists p.users) s.static ∙ ap (λ b. cond b (Some set.name) None) apart in
+      let none : least_broken p.roles (p.ssd ++ set ∷ []) (assigned_lists p.users) ≡ None =
+      least-new p.roles p.ssd set (assigned_lists p.users) s.static
+      ∙ ap (λ b. cond b (Some set.name) None) apart in
       rw (f.0, f.1, new, roles_known, none, full)
 
-  pub ssd-refused : has_set p.ssd set.name ≡ false → is_broken p.roles (assigned_lists p.users) set ≡ false → (fault : SetsFault) → (fault ≡ set_faults.Memory) ⊎ (make p.ssd set ≡ Err fault) → rows.IsFaultOf (rows.ssd p conn set) (fault_of_sets fault)
-  ssd-refused new apart fault (inl memory) = subst (λ f. rows.IsFaultOf (rows.ssd p conn set) (fault_of_sets f)) (sym memory) tt
+  pub ssd-refused : has_set p.ssd set.name ≡ false → is_broken p.roles (assigned_lists p.users) set
+      ≡ false → (fault : SetsFault) → (fault ≡ set_faults.Memory) ⊎ (make p.ssd set ≡ Err fault)
+      → rows.IsFaultOf (rows.ssd p conn set) (fault_of_sets fault)
+  ssd-refused new apart fault (inl memory) =
+      subst (λ f. rows.IsFaultOf (rows.ssd p conn set) (fault_of_sets f)) (sym memory) tt
   ssd-refused new apart fault (inr refused) =
       let is = full-fault p.ssd set fault new refused in
-      subst (λ f. rows.IsFaultOf (rows.ssd p conn set) (fault_of_sets f)) (sym is.1) (ssd-full new apart is.0)
+      subst (λ f. rows.IsFaultOf (rows.ssd p conn set) (fault_of_sets f)) (sym is.1)
+      (ssd-full new apart is.0)
 
-  pub dsd-ok : has_set p.dsd set.name ≡ false → is_broken p.roles (active_lists p.sessions) set ≡ false → nat_lt (length p.dsd) 64 ≡ true → rows.dsd p conn set ≡ Ok (record p { dsd = p.dsd ++ set ∷ [] })
+  pub dsd-ok : has_set p.dsd set.name ≡ false → is_broken p.roles (active_lists p.sessions) set
+      ≡ false → nat_lt (length p.dsd) 64 ≡ true
+      → rows.dsd p conn set ≡ Ok (record p { dsd = p.dsd ++ set ∷ [] })
   dsd-ok new apart room =
       let f = administered-facts p conn ok in
-      let none : least_broken p.roles (p.dsd ++ set ∷ []) (active_lists p.sessions) ≡ None = least-new p.roles p.dsd set (active_lists p.sessions) s.dynamic ∙ ap (λ b. cond b (Some set.name) None) apart in
+      let none : least_broken p.roles (p.dsd ++ set ∷ []) (active_lists p.sessions) ≡ None =
+      least-new p.roles p.dsd set (active_lists p.sessions) s.dynamic
+      ∙ ap (λ b. cond b (Some set.name) None) apart in
       rw (f.0, f.1, new, roles_known, none, room)
 
-  pub dsd-broken : has_set p.dsd set.name ≡ false → is_broken p.roles (active_lists p.sessions) set ≡ true → rows.dsd p conn set ≡ Err (Dsd set.name)
+  pub dsd-broken : has_set p.dsd set.name ≡ false → is_broken p.roles (active_lists p.sessions) set
+      ≡ true → rows.dsd p conn set ≡ Err (Dsd set.name)
   dsd-broken new broken =
       let f = administered-facts p conn ok in
-      let some : least_broken p.roles (p.dsd ++ set ∷ []) (active_lists p.sessions) ≡ Some set.name = least-new p.roles p.dsd set (active_lists p.sessions) s.dynamic ∙ ap (λ b. cond b (Some set.name) None) broken in
+      let some : least_broken p.roles (p.dsd ++ set ∷ []) (active_lists p.sessions)
+      ≡ Some set.name = least-new p.roles p.dsd set (active_lists p.sessions) s.dynamic
+      ∙ ap (λ b. cond b (Some set.name) None) broken in
       rw (f.0, f.1, new, roles_known, some)
 
-  dsd-full : has_set p.dsd set.name ≡ false → is_broken p.roles (active_lists p.sessions) set ≡ false → nat_lt (length p.dsd) 64 ≡ false → rows.dsd p conn set ≡ Err Full
+  dsd-full : has_set p.dsd set.name ≡ false → is_broken p.roles (active_lists p.sessions) set
+      ≡ false → nat_lt (length p.dsd) 64 ≡ false → rows.dsd p conn set ≡ Err Full
   dsd-full new apart full =
       let f = administered-facts p conn ok in
-      let none : least_broken p.roles (p.dsd ++ set ∷ []) (active_lists p.sessions) ≡ None = least-new p.roles p.dsd set (active_lists p.sessions) s.dynamic ∙ ap (λ b. cond b (Some set.name) None) apart in
+      let none : least_broken p.roles (p.dsd ++ set ∷ []) (active_lists p.sessions) ≡ None =
+      least-new p.roles p.dsd set (active_lists p.sessions) s.dynamic
+      ∙ ap (λ b. cond b (Some set.name) None) apart in
       rw (f.0, f.1, new, roles_known, none, full)
 
-  pub dsd-refused : has_set p.dsd set.name ≡ false → is_broken p.roles (active_lists p.sessions) set ≡ false → (fault : SetsFault) → (fault ≡ set_faults.Memory) ⊎ (make p.dsd set ≡ Err fault) → rows.IsFaultOf (rows.dsd p conn set) (fault_of_sets fault)
-  dsd-refused new apart fault (inl memory) = subst (λ f. rows.IsFaultOf (rows.dsd p conn set) (fault_of_sets f)) (sym memory) tt
+  pub dsd-refused : has_set p.dsd set.name ≡ false → is_broken p.roles (active_lists p.sessions) set
+      ≡ false → (fault : SetsFault) → (fault ≡ set_faults.Memory) ⊎ (make p.dsd set ≡ Err fault)
+      → rows.IsFaultOf (rows.dsd p conn set) (fault_of_sets fault)
+  dsd-refused new apart fault (inl memory) =
+      subst (λ f. rows.IsFaultOf (rows.dsd p conn set) (fault_of_sets f)) (sym memory) tt
   dsd-refused new apart fault (inr refused) =
       let is = full-fault p.dsd set fault new refused in
-      subst (λ f. rows.IsFaultOf (rows.dsd p conn set) (fault_of_sets f)) (sym is.1) (dsd-full new apart is.0)
+      subst (λ f. rows.IsFaultOf (rows.dsd p conn set) (fault_of_sets f)) (sym is.1)
+      (dsd-full new apart is.0)
 
 -- what the hierarchy is where a role was added
-pub added-role : (h : Hierarchy) (role : Name) (after : Hierarchy) → roles.add h role ≡ Ok after → after ≡ with_role h role
+pub added-role : (h : Hierarchy) (role : Name) (after : Hierarchy) → roles.add h role ≡ Ok after
+    → after ≡ with_role h role
 added-role h role after ok = by (is_role h role) (nat_lt (length h) 512) ok
   where
-    by : (a b : Bool) → decided ((not a, faults.Known) ∷ (b, faults.Full) ∷ []) (with_role h role) ≡ Ok after → after ≡ with_role h role
+    by : (a b : Bool) → decided ((not a, faults.Known) ∷ (b, faults.Full) ∷ []) (with_role h role)
+        ≡ Ok after → after ≡ with_role h role
     by true b e = cc
     by false true e = cc
     by false false e = cc
 
 -- a session begins
-pub open-ok : (p : Policy) (conn : ℕ) (user : Name) (digest : List ℕ) (sessions : List (ℕ × Session)) → is_some (session_of p conn) ≡ false → rows.is_login p user digest ≡ true
-    → sessions ≡ insert_entry (λ a b. a == b) p.sessions conn (record { user = user; active = [] }) → rows.open_session p conn user digest ≡ Ok (record p { sessions = sessions })
+pub open-ok : (p : Policy) (conn : ℕ) (user : Name) (digest : List ℕ)
+    (sessions : List (ℕ × Session)) → is_some (session_of p conn) ≡ false
+    → rows.is_login p user digest ≡ true
+    → sessions ≡ insert_entry (λ a b. a == b) p.sessions conn (record { user = user; active = [] })
+    → rows.open_session p conn user digest ≡ Ok (record p { sessions = sessions })
 open-ok p conn user digest sessions closed login is =
     let none : is_none (session_of p conn) ≡ true = by (session_of p conn) closed in
-    let new : has_key (λ a b. a == b) p.sessions conn ≡ false = sym (is_some-value_at (λ a b. a == b) p.sessions conn) ∙ closed in
-    rw (none, login) (ap (λ s. Ok (record p { sessions = s })) (sym (is ∙ insert-new (λ a b. a == b) p.sessions conn _ new)))
+    let new : has_key (λ a b. a == b) p.sessions conn ≡ false =
+    sym (is_some-value_at (λ a b. a == b) p.sessions conn) ∙ closed in
+    rw (none, login) (ap (λ s. Ok (record p { sessions = s }))
+    (sym (is ∙ insert-new (λ a b. a == b) p.sessions conn _ new)))
   where
     by : (o : Option Session) → is_some o ≡ false → is_none o ≡ true
     by None e = refl
     by (Some s) e = cc
 
 -- where there is no session nothing ends
-pub end-absent : (p : Policy) (conn : ℕ) → is_some (session_of p conn) ≡ false → rows.end_session p conn ≡ p
+pub end-absent : (p : Policy) (conn : ℕ) → is_some (session_of p conn) ≡ false
+    → rows.end_session p conn ≡ p
 end-absent p conn none = ap (λ s. record p { sessions = s }) (by p.sessions none)
   where
-    by : (es : List (ℕ × Session)) → is_some (value_at (λ a b. a == b) es conn) ≡ false → without_key (λ a b. a == b) es conn ≡ es
+    by : (es : List (ℕ × Session)) → is_some (value_at (λ a b. a == b) es conn) ≡ false
+        → without_key (λ a b. a == b) es conn ≡ es
     by [] n = refl
-    by (e ∷ es) n = elim (conn == e.0) as (λ b. is_some (cond b (Some e.1) (value_at (λ a b. a == b) es conn)) ≡ false → cond (not b) (e ∷ without_key (λ a b. a == b) es conn) (without_key (λ a b. a == b) es conn) ≡ e ∷ es) [
-      | true ↦ λ there. cc
-      | false ↦ λ later. ap (λ l. e ∷ l) (by es later)
-    ] n
+    by (e ∷ es) n = elim (conn == e.0) as
+        (λ b. is_some (cond b (Some e.1) (value_at (λ a b. a == b) es conn)) ≡ false
+        → cond (not b) (e ∷ without_key (λ a b. a == b) es conn)
+        (without_key (λ a b. a == b) es conn) ≡ e ∷ es) [
+          | true ↦ λ there. cc
+          | false ↦ λ later. ap (λ l. e ∷ l) (by es later)
+        ] n
 
 -- a login is of a user
-pub login-user : (p : Policy) (user : Name) (digest : List ℕ) → rows.is_login p user digest ≡ true → is_user p user ≡ true
-login-user p user digest login = sym (is_some-value_at name_eq p.users user) ∙ by (value_at name_eq p.users user) login
+pub login-user : (p : Policy) (user : Name) (digest : List ℕ) → rows.is_login p user digest ≡ true
+    → is_user p user ≡ true
+login-user p user digest login =
+    sym (is_some-value_at name_eq p.users user) ∙ by (value_at name_eq p.users user) login
   where
-    by : (o : Option User) → option_map_or (λ (u : User). pointwise nat_eq u.digest digest) o false ≡ true → is_some o ≡ true
+    by : (o : Option User) → option_map_or (λ (u : User). pointwise nat_eq u.digest digest) o false
+        ≡ true → is_some o ≡ true
     by None e = cc
     by (Some u) e = refl
 
 -- a role becomes active
-pub activate-ok : (p : Policy) (conn : ℕ) (role : Name) (sessions : List (ℕ × Session)) → is_some (session_of p conn) ≡ true
-    → contains_name (authorized p (rows.user_of p conn)) role ≡ true → contains_name (rows.active_roles p conn) role ≡ false
-    → least_broken p.roles p.dsd (active_lists (rows.with_active p conn (rows.active_roles p conn ++ role ∷ [])).sessions) ≡ None
-    → sessions ≡ insert_entry (λ a b. a == b) p.sessions conn (record { user = rows.user_of p conn; active = rows.active_roles p conn ++ role ∷ [] }) → rows.activate p conn role ≡ Ok (record p { sessions = sessions })
+pub activate-ok : (p : Policy) (conn : ℕ) (role : Name) (sessions : List (ℕ × Session))
+    → is_some (session_of p conn) ≡ true
+    → contains_name (authorized p (rows.user_of p conn)) role ≡ true
+    → contains_name (rows.active_roles p conn) role ≡ false
+    → least_broken p.roles p.dsd (active_lists
+    (rows.with_active p conn (rows.active_roles p conn ++ role ∷ [])).sessions) ≡ None
+    → sessions ≡ insert_entry (λ a b. a == b) p.sessions conn
+    (record { user = rows.user_of p conn; active = rows.active_roles p conn ++ role ∷ [] })
+    → rows.activate p conn role ≡ Ok (record p { sessions = sessions })
 activate-ok p conn role sessions there may new none is =
-    let holds = none-passes Dsd (least_broken p.roles p.dsd (active_lists (rows.with_active p conn (rows.active_roles p conn ++ role ∷ [])).sessions)) none in
-    let known : has_key (λ a b. a == b) p.sessions conn ≡ true = sym (is_some-value_at (λ a b. a == b) p.sessions conn) ∙ there in
-    rw (there, may, new, holds) (ap (λ s. Ok (record p { sessions = s })) (sym (is ∙ insert-present (λ a b. a == b) p.sessions conn _ known)))
+    let holds = none-passes Dsd (least_broken p.roles p.dsd
+    (active_lists (rows.with_active p conn (rows.active_roles p conn ++ role ∷ [])).sessions))
+    none in
+    let known : has_key (λ a b. a == b) p.sessions conn ≡ true =
+    sym (is_some-value_at (λ a b. a == b) p.sessions conn) ∙ there in
+    rw (there, may, new, holds) (ap (λ s. Ok (record p { sessions = s }))
+    (sym (is ∙ insert-present (λ a b. a == b) p.sessions conn _ known)))
 
-pub activate-broken : (p : Policy) (conn : ℕ) (role name : Name) → is_some (session_of p conn) ≡ true
-    → contains_name (authorized p (rows.user_of p conn)) role ≡ true → contains_name (rows.active_roles p conn) role ≡ false
-    → least_broken p.roles p.dsd (active_lists (rows.with_active p conn (rows.active_roles p conn ++ role ∷ [])).sessions) ≡ Some name → rows.activate p conn role ≡ Err (Dsd name)
+pub activate-broken : (p : Policy) (conn : ℕ) (role name : Name)
+    → is_some (session_of p conn) ≡ true
+    → contains_name (authorized p (rows.user_of p conn)) role ≡ true
+    → contains_name (rows.active_roles p conn) role ≡ false
+    → least_broken p.roles p.dsd (active_lists
+    (rows.with_active p conn (rows.active_roles p conn ++ role ∷ [])).sessions) ≡ Some name
+    → rows.activate p conn role ≡ Err (Dsd name)
 activate-broken p conn role name there may new some = rw (there, may, new, some)
 
 -- and is active no longer
-pub drop-ok : (p : Policy) (conn : ℕ) (role : Name) (sessions : List (ℕ × Session)) → is_some (session_of p conn) ≡ true → contains_name (rows.active_roles p conn) role ≡ true
-    → sessions ≡ insert_entry (λ a b. a == b) p.sessions conn (record { user = rows.user_of p conn; active = without_name (rows.active_roles p conn) role }) → rows.drop_role p conn role ≡ Ok (record p { sessions = sessions })
+pub drop-ok : (p : Policy) (conn : ℕ) (role : Name) (sessions : List (ℕ × Session))
+    → is_some (session_of p conn) ≡ true → contains_name (rows.active_roles p conn) role ≡ true
+    → sessions ≡ insert_entry (λ a b. a == b) p.sessions conn
+    (record {
+      user = rows.user_of p conn;
+      active = without_name (rows.active_roles p conn) role;
+    }) → rows.drop_role p conn role ≡ Ok (record p { sessions = sessions })
 drop-ok p conn role sessions there active is =
-    let known : has_key (λ a b. a == b) p.sessions conn ≡ true = sym (is_some-value_at (λ a b. a == b) p.sessions conn) ∙ there in
-    rw (there, active) (ap (λ s. Ok (record p { sessions = s })) (sym (is ∙ insert-present (λ a b. a == b) p.sessions conn _ known)))
+    let known : has_key (λ a b. a == b) p.sessions conn ≡ true =
+    sym (is_some-value_at (λ a b. a == b) p.sessions conn) ∙ there in
+    rw (there, active) (ap (λ s. Ok (record p { sessions = s }))
+    (sym (is ∙ insert-present (λ a b. a == b) p.sessions conn _ known)))
 
 pub ok-value : (p q : Policy) → ok_policy p ≡ Ok q → p ≡ q
 ok-value p q e = cc
 
 -- an accepted row leaves its new policy
-pub decided-value : (tests : List rows.Test) (next q : Policy) → decided tests next ≡ Ok q → next ≡ q
+pub decided-value : (tests : List rows.Test) (next q : Policy) → decided tests next ≡ Ok q
+    → next ≡ q
 decided-value [] next q e = ok-value next q e
 decided-value (t ∷ ts) next q e =
     elim t.0 as (λ b. cond b (decided ts next) (Err t.1) ≡ Ok q → next ≡ q) [
@@ -343,7 +490,8 @@ abbrev pub AllPass : List rows.Test → Type 0
 AllPass [] = Unit {0}
 AllPass (t ∷ ts) = (t.0 ≡ true) × AllPass ts
 
-pub all-pass : (tests : List rows.Test) (next q : Policy) → decided tests next ≡ Ok q → AllPass tests
+pub all-pass : (tests : List rows.Test) (next q : Policy) → decided tests next ≡ Ok q
+    → AllPass tests
 all-pass [] next q e = tt
 all-pass (t ∷ ts) next q e =
     elim t.0 as (λ b. cond b (decided ts next) (Err t.1) ≡ Ok q → (b ≡ true) × AllPass ts) [

@@ -15,28 +15,35 @@ use Rattle.mpw_rbac.specs.declared.permission.Grant.{Grant}
 use Rattle.mpw_rbac.specs.declared.refusal.Refusal.TheVariants.{Opened, Login, NotAuthorized, Unknown, Known, Full, Used, Loop}
 
 abbrev pub opened : Policy → ℕ → Name → Policy
-opened p conn user = record p { sessions = p.sessions ++ (conn, record { user = user; active = [] }) ∷ [] }
+opened p conn user =
+    record p { sessions = p.sessions ++ (conn, record { user = user; active = [] }) ∷ [] }
 
 abbrev pub open-tests : Policy → ℕ → Name → List ℕ → List rows.Test
-open-tests p conn user digest = (is_none (session_of p conn), Opened) ∷ (rows.is_login p user digest, Login) ∷ []
+open-tests p conn user digest =
+    (is_none (session_of p conn), Opened) ∷ (rows.is_login p user digest, Login) ∷ []
 
 abbrev pub activated : Policy → ℕ → Name → Policy
 activated p conn role = rows.with_active p conn (rows.active_roles p conn ++ role ∷ [])
 
 abbrev pub activate-tests : Policy → ℕ → Name → List rows.Test
-activate-tests p conn role = rows.in_session p conn ∷ (contains_name (authorized p (rows.user_of p conn)) role, NotAuthorized role) ∷ (not (contains_name (rows.active_roles p conn) role), Known) ∷ rows.dsd_holds (activated p conn role) ∷ []
+activate-tests p conn role = rows.in_session p conn
+    ∷ (contains_name (authorized p (rows.user_of p conn)) role, NotAuthorized role)
+    ∷ (not (contains_name (rows.active_roles p conn) role), Known)
+    ∷ rows.dsd_holds (activated p conn role) ∷ []
 
 abbrev pub dropped : Policy → ℕ → Name → Policy
 dropped p conn role = rows.with_active p conn (without_name (rows.active_roles p conn) role)
 
 abbrev pub drop-tests : Policy → ℕ → Name → List rows.Test
-drop-tests p conn role = rows.in_session p conn ∷ (contains_name (rows.active_roles p conn) role, Unknown) ∷ []
+drop-tests p conn role =
+    rows.in_session p conn ∷ (contains_name (rows.active_roles p conn) role, Unknown) ∷ []
 
 abbrev pub administer-tests : Policy → ℕ → List rows.Test → List rows.Test
 administer-tests p conn tests = rows.in_session p conn ∷ rows.administers p conn ∷ tests
 
 abbrev pub user_added : Policy → Name → List ℕ → Policy
-user_added p user digest = record p { users = p.users ++ (user, record { digest = digest; roles = [] }) ∷ [] }
+user_added p user digest =
+    record p { users = p.users ++ (user, record { digest = digest; roles = [] }) ∷ [] }
 
 abbrev pub adduser-tests : Policy → Name → List rows.Test
 adduser-tests p user = (not (is_user p user), Known) ∷ (nat_lt (length p.users) 512, Full) ∷ []
@@ -51,16 +58,20 @@ abbrev pub role_added : Policy → Name → Policy
 role_added p role = record p { roles = with_role p.roles role }
 
 abbrev pub addrole-tests : Policy → Name → List rows.Test
-addrole-tests p role = (not (is_role p.roles role), Known) ∷ (nat_lt (length p.roles) 512, Full) ∷ []
+addrole-tests p role =
+    (not (is_role p.roles role), Known) ∷ (nat_lt (length p.roles) 512, Full) ∷ []
 
 abbrev pub delrole-tests : Policy → Name → List rows.Test
-delrole-tests p role = (is_role p.roles role, Unknown) ∷ (not (uses_role p.ssd role || uses_role p.dsd role), Used) ∷ []
+delrole-tests p role = (is_role p.roles role, Unknown)
+    ∷ (not (uses_role p.ssd role || uses_role p.dsd role), Used) ∷ []
 
 abbrev pub assigned : Policy → Name → Name → Policy
 assigned p user role = rows.with_assigned p user (assigned_roles p user ++ role ∷ [])
 
 abbrev pub assign-tests : Policy → Name → Name → List rows.Test
-assign-tests p user role = (is_user p user && is_role p.roles role, Unknown) ∷ (not (contains_name (assigned_roles p user) role), Known) ∷ rows.ssd_holds (assigned p user role) ∷ []
+assign-tests p user role = (is_user p user && is_role p.roles role, Unknown)
+    ∷ (not (contains_name (assigned_roles p user) role), Known)
+    ∷ rows.ssd_holds (assigned p user role) ∷ []
 
 abbrev pub deassigned : Policy → Name → Name → Policy
 deassigned p user role = rows.with_assigned p user (without_name (assigned_roles p user) role)
@@ -72,7 +83,8 @@ abbrev pub grant_added : Policy → Grant → Policy
 grant_added p new = record p { granted = p.granted ++ new ∷ [] }
 
 abbrev pub grant-tests : Policy → Grant → List rows.Test
-grant-tests p new = (is_role p.roles new.role, Unknown) ∷ (not (list_any (grant_eq new) p.granted), Known) ∷ (nat_lt (length p.granted) 4096, Full) ∷ []
+grant-tests p new = (is_role p.roles new.role, Unknown)
+    ∷ (not (list_any (grant_eq new) p.granted), Known) ∷ (nat_lt (length p.granted) 4096, Full) ∷ []
 
 abbrev pub grant_revoked : Policy → Grant → Policy
 grant_revoked p old = record p { granted = filter (λ other. not (grant_eq old other)) p.granted }
@@ -102,13 +114,17 @@ abbrev pub ssd_made : Policy → SeparationSet → Policy
 ssd_made p set = record p { ssd = p.ssd ++ set ∷ [] }
 
 abbrev pub ssd-tests : Policy → SeparationSet → List rows.Test
-ssd-tests p set = (not (has_set p.ssd set.name), Known) ∷ (list_all (is_role p.roles) set.roles, Unknown) ∷ rows.ssd_holds (ssd_made p set) ∷ (nat_lt (length p.ssd) 64, Full) ∷ []
+ssd-tests p set = (not (has_set p.ssd set.name), Known)
+    ∷ (list_all (is_role p.roles) set.roles, Unknown) ∷ rows.ssd_holds (ssd_made p set)
+    ∷ (nat_lt (length p.ssd) 64, Full) ∷ []
 
 abbrev pub dsd_made : Policy → SeparationSet → Policy
 dsd_made p set = record p { dsd = p.dsd ++ set ∷ [] }
 
 abbrev pub dsd-tests : Policy → SeparationSet → List rows.Test
-dsd-tests p set = (not (has_set p.dsd set.name), Known) ∷ (list_all (is_role p.roles) set.roles, Unknown) ∷ rows.dsd_holds (dsd_made p set) ∷ (nat_lt (length p.dsd) 64, Full) ∷ []
+dsd-tests p set = (not (has_set p.dsd set.name), Known)
+    ∷ (list_all (is_role p.roles) set.roles, Unknown) ∷ rows.dsd_holds (dsd_made p set)
+    ∷ (nat_lt (length p.dsd) 64, Full) ∷ []
 
 abbrev pub ssd_removed : Policy → Name → Policy
 ssd_removed p name = record p { ssd = without_set p.ssd name }

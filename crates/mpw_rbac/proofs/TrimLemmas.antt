@@ -22,13 +22,22 @@ has_user p entry = is_user p entry.1.user
 abbrev is_authorized_entry : Policy → ℕ × Session → Bool
 is_authorized_entry p entry = is_authorized_session p entry.1
 
-sessions-kept : (p : Policy) (es : List (ℕ × Session)) → list_all (is_authorized_entry p) es ≡ true → kept_sessions p es ≡ es
+sessions-kept : (p : Policy) (es : List (ℕ × Session)) → list_all (is_authorized_entry p) es ≡ true
+    → kept_sessions p es ≡ es
 sessions-kept p [] all = refl
 sessions-kept p (e ∷ es) all =
     let here = parts (is_authorized_entry p e) (list_all (is_authorized_entry p) es) all in
-    let own = parts (has_user p e) (list_all (contains_name (authorized p e.1.user)) e.1.active) here.0 in
+    let own =
+    parts (has_user p e) (list_all (contains_name (authorized p e.1.user)) e.1.active) here.0 in
     ap (λ b. map (kept p) (cond b (e ∷ filter (has_user p) es) (filter (has_user p) es))) own.0
-    ∙ (λ i. (e.0, record e.1 { active = filter-all (contains_name (authorized p e.1.user)) e.1.active own.1 i }) ∷ sessions-kept p es here.1 i)
+    ∙ (λ i. (
+      e.0,
+      record e.1 {
+        active = filter-all (contains_name (authorized p e.1.user))
+            e.1.active own.1 i;
+      },
+    ) ∷ sessions-kept p es here.1 i)
 
 pub trim-sound : (p : Policy) → Sound p → trim p ≡ p
-trim-sound p sound = ap (λ (s : List (ℕ × Session)). record p { sessions = s }) (sessions-kept p p.sessions sound.sessions)
+trim-sound p sound = ap (λ (s : List (ℕ × Session)). record p { sessions = s })
+    (sessions-kept p p.sessions sound.sessions)

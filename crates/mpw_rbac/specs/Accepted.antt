@@ -15,7 +15,8 @@ NeedsAdministration conn row = (p q : Policy) → row p ≡ Ok q → permits p c
 
 -- the row denies no permission
 abbrev pub NeedsNoPermission : (Policy → Result Policy Refusal) → Type 0
-NeedsNoPermission row = (p : Policy) (operation : Operation) (object : Object) → row p ≡ Err (NotPermitted operation object) → ⊥
+NeedsNoPermission row = (p : Policy) (operation : Operation) (object : Object)
+    → row p ≡ Err (NotPermitted operation object) → ⊥
 
 -- the row tells no static set, and no dynamic one
 abbrev pub TellsNoStatic : (Policy → Result Policy Refusal) → Type 0

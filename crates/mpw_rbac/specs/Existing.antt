@@ -14,11 +14,13 @@ use Rattle.mpw_rbac.specs.Sound.{Sound}
 
 -- each assigned role of each user is a role
 abbrev pub assigns_roles : Hierarchy → List (Name × User) → Bool
-assigns_roles hierarchy users = list_all (λ (entry : Name × User). list_all (is_role hierarchy) entry.1.roles) users
+assigns_roles hierarchy users =
+    list_all (λ (entry : Name × User). list_all (is_role hierarchy) entry.1.roles) users
 
 -- each immediate junior of each of these is a role
 abbrev pub leads_to_roles : Hierarchy → Hierarchy → Bool
-leads_to_roles hierarchy pairs = list_all (λ (entry : Name × List Name). list_all (is_role hierarchy) entry.1) pairs
+leads_to_roles hierarchy pairs =
+    list_all (λ (entry : Name × List Name). list_all (is_role hierarchy) entry.1) pairs
 
 -- each grant is to a role
 abbrev pub grants_roles : Hierarchy → List Grant → Bool
@@ -26,11 +28,13 @@ grants_roles hierarchy granted = list_all (λ (grant : Grant). is_role hierarchy
 
 -- each set is of roles
 abbrev pub sets_name_roles : Hierarchy → List SeparationSet → Bool
-sets_name_roles hierarchy sets = list_all (λ (set : SeparationSet). list_all (is_role hierarchy) set.roles) sets
+sets_name_roles hierarchy sets =
+    list_all (λ (set : SeparationSet). list_all (is_role hierarchy) set.roles) sets
 
 -- each session is of a user, and its active roles are roles
 abbrev pub is_session_there : Policy → Session → Bool
-is_session_there policy session = is_user policy session.user && list_all (is_role policy.roles) session.active
+is_session_there policy session =
+    is_user policy session.user && list_all (is_role policy.roles) session.active
 
 pub record NamesAreThere (policy : Policy) : Type 0 where
   pub assignments : assigns_roles policy.roles policy.users ≡ true
@@ -38,7 +42,8 @@ pub record NamesAreThere (policy : Policy) : Type 0 where
   pub grants : grants_roles policy.roles policy.granted ≡ true
   pub static : sets_name_roles policy.roles policy.ssd ≡ true
   pub dynamic : sets_name_roles policy.roles policy.dsd ≡ true
-  pub sessions : list_all (λ (entry : ℕ × Session). is_session_there policy entry.1) policy.sessions ≡ true
+  pub sessions : list_all (λ (entry : ℕ × Session). is_session_there policy entry.1) policy.sessions
+      ≡ true
 
 pub record KeepsLimits (policy : Policy) : Type 0 where
   pub users : length policy.users ≤ max_users
@@ -48,11 +53,11 @@ pub record KeepsLimits (policy : Policy) : Type 0 where
   pub dynamic : length policy.dsd ≤ max_sets
 
 -- what a policy keeps that requests lead to
-pub record IsKept (policy : Policy) : Type 0 where
+pub record AreTablesSound (policy : Policy) : Type 0 where
   pub sound : Sound policy
   pub names : NamesAreThere policy
   pub limits : KeepsLimits policy
 
 -- where a row accepts, the policy that it leaves keeps it too
 abbrev pub KeepsTables : (Policy → Result Policy Refusal) → Type 0
-KeepsTables row = (p q : Policy) → row p ≡ Ok q → IsKept p → IsKept q
+KeepsTables row = (p q : Policy) → row p ≡ Ok q → AreTablesSound p → AreTablesSound q

@@ -31,4 +31,5 @@ object_eq Desk (Cell b) = false
 object_eq Desk Desk = true
 
 abbrev pub grant_eq : Grant → Grant → Bool
-grant_eq a b = operation_eq a.operation b.operation && (object_eq a.object b.object && name_eq a.role b.role)
+grant_eq a b =
+    operation_eq a.operation b.operation && (object_eq a.object b.object && name_eq a.role b.role)

@@ -15,7 +15,8 @@ use Rattle.mpw_rbac.specs.Sound.{active_authorized, Sound}
 
 -- where a row accepts, the policy that it leaves keeps that every active role is authorized
 abbrev pub KeepsAuthorization : (Policy → Result Policy Refusal) → Type 0
-KeepsAuthorization row = (p q : Policy) → row p ≡ Ok q → active_authorized p ≡ true → active_authorized q ≡ true
+KeepsAuthorization row =
+    (p q : Policy) → row p ≡ Ok q → active_authorized p ≡ true → active_authorized q ≡ true
 
 -- where a row accepts, the policy that it leaves is sound where the one before was
 abbrev pub KeepsSound : (Policy → Result Policy Refusal) → Type 0
@@ -24,21 +25,26 @@ KeepsSound row = (p q : Policy) → row p ≡ Ok q → Sound p → Sound q
 -- where a row denies a permission, the connection's session lacks it
 abbrev pub DeniesRightly : ℕ → (Policy → Result Policy Refusal) → Type 0
 DeniesRightly conn row =
-    (p : Policy) (operation : Operation) (object : Object) → row p ≡ Err (NotPermitted operation object) → permits p conn operation object ≡ false
+    (p : Policy) (operation : Operation) (object : Object)
+    → row p ≡ Err (NotPermitted operation object) → permits p conn operation object ≡ false
 
 -- the name is the least of the static sets that some user of the policy breaks
 abbrev pub IsLeastStatic : Policy → Name → Type 0
-IsLeastStatic policy name = IsLeast (broken_names policy.roles policy.ssd (assigned_lists policy.users)) (Some name)
+IsLeastStatic policy name =
+    IsLeast (broken_names policy.roles policy.ssd (assigned_lists policy.users)) (Some name)
 
 -- the name is the least of the dynamic sets that some session of the policy breaks
 abbrev pub IsLeastDynamic : Policy → Name → Type 0
-IsLeastDynamic policy name = IsLeast (broken_names policy.roles policy.dsd (active_lists policy.sessions)) (Some name)
+IsLeastDynamic policy name =
+    IsLeast (broken_names policy.roles policy.dsd (active_lists policy.sessions)) (Some name)
 
 -- whether a session is another one's, with no other active roles
 abbrev pub is_session_of : ℕ × Session → ℕ × Session → Bool
-is_session_of new old = (new.0 == old.0) && (name_eq new.1.user old.1.user && list_all (contains_name old.1.active) new.1.active)
+is_session_of new old = (new.0 == old.0)
+    && (name_eq new.1.user old.1.user && list_all (contains_name old.1.active) new.1.active)
 
 -- where a row accepts, each session that it leaves was there, and has no more active roles
 abbrev pub AddsNoActive : (Policy → Result Policy Refusal) → Type 0
 AddsNoActive row =
-    (p q : Policy) → row p ≡ Ok q → list_all (λ (new : ℕ × Session). list_any (is_session_of new) p.sessions) q.sessions ≡ true
+    (p q : Policy) → row p ≡ Ok q → list_all
+    (λ (new : ℕ × Session). list_any (is_session_of new) p.sessions) q.sessions ≡ true

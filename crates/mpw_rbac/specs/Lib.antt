@@ -1,12 +1,11 @@
 pub mod Accepted
 pub mod Access
 pub mod Existing
-pub mod Fault
 pub mod Grant
-pub mod Grants
-pub mod Holders
 pub mod Laws
+pub mod Masked
 pub mod Policy
 pub mod Rows
 pub mod Sound
 pub mod Table
+pub mod Internal

@@ -36,16 +36,25 @@ abbrev pub max_grants : ℕ
 max_grants = 4096
 
 -- the policy of these tables
-abbrev pub policy_of : List (Name × User) → Hierarchy → List Grant → Sets → List (ℕ × Session) → Policy
+abbrev pub policy_of : List (Name × User) → Hierarchy → List Grant → Sets → List (ℕ × Session)
+    → Policy
 policy_of users roles granted sets sessions =
-    record { users = users; roles = roles; granted = granted; ssd = sets.ssd; dsd = sets.dsd; sessions = sessions }
+    record {
+      users = users;
+      roles = roles;
+      granted = granted;
+      ssd = sets.ssd;
+      dsd = sets.dsd;
+      sessions = sessions;
+    }
 
 abbrev pub is_user : Policy → Name → Bool
 is_user policy user = has_key name_eq policy.users user
 
 -- the roles assigned to a user
 abbrev pub assigned_roles : Policy → Name → List Name
-assigned_roles policy user = option_map_or (λ (u : User). u.roles) (value_at name_eq policy.users user) []
+assigned_roles policy user =
+    option_map_or (λ (u : User). u.roles) (value_at name_eq policy.users user) []
 
 -- the roles that a user is authorized for: those at or below an assigned one (authorized_users)
 abbrev pub authorized : Policy → Name → List Name
@@ -62,30 +71,31 @@ acting policy session = roles_below policy.roles session.active
 -- whether a grant is of this operation on this object to one of the roles
 abbrev pub is_granted_to : List Name → Operation → Object → Grant → Bool
 is_granted_to roles operation object grant =
-    operation_eq operation grant.operation && (object_eq object grant.object && contains_name roles grant.role)
+    operation_eq operation grant.operation
+    && (object_eq object grant.object && contains_name roles grant.role)
 
 -- whether some acting role of the session was granted the operation on the object (check_access)
 abbrev pub session_permits : Policy → Session → Operation → Object → Bool
-session_permits policy session operation object = list_any (is_granted_to (acting policy session) operation object) policy.granted
+session_permits policy session operation object =
+    list_any (is_granted_to (acting policy session) operation object) policy.granted
 
 abbrev pub permits : Policy → ℕ → Operation → Object → Bool
 permits policy conn operation object =
-    option_map_or (λ (session : Session). session_permits policy session operation object) (session_of policy conn) false
+    option_map_or (λ (session : Session). session_permits policy session operation object)
+    (session_of policy conn) false
 
 -- a session with those of its active roles that its user is authorized for
 abbrev pub kept_roles : Policy → Session → Session
-kept_roles policy session = record session { active = filter (contains_name (authorized policy session.user)) session.active }
+kept_roles policy session = record session
+    { active = filter (contains_name (authorized policy session.user)) session.active }
 
 -- each session keeps those active roles that its user is authorized for, and a deleted user's sessions end
 abbrev pub kept_sessions : Policy → List (ℕ × Session) → List (ℕ × Session)
-kept_sessions policy sessions = map (λ entry. (entry.0, kept_roles policy entry.1)) (filter (λ (entry : ℕ × Session). is_user policy entry.1.user) sessions)
+kept_sessions policy sessions = map (λ entry. (entry.0, kept_roles policy entry.1))
+    (filter (λ (entry : ℕ × Session). is_user policy entry.1.user) sessions)
 
 abbrev pub trim : Policy → Policy
 trim policy = record policy { sessions = kept_sessions policy policy.sessions }
-
--- the policy of these users and roles, and of nothing else
-abbrev pub users_and_roles : List (Name × User) → Hierarchy → Policy
-users_and_roles users roles = record { users = users; roles = roles; granted = []; ssd = []; dsd = []; sessions = [] }
 
 -- the roles assigned to each user
 abbrev pub assigned_lists : List (Name × User) → List (List Name)

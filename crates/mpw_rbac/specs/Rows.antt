@@ -35,7 +35,8 @@ in_session policy conn = (is_some (session_of policy conn), NoSession)
 
 -- the session may do the operation
 abbrev pub is_permitted : Policy → ℕ → Operation → Object → Test
-is_permitted policy conn operation object = (permits policy conn operation object, NotPermitted operation object)
+is_permitted policy conn operation object =
+    (permits policy conn operation object, NotPermitted operation object)
 
 abbrev pub administers : Policy → ℕ → Test
 administers policy conn = is_permitted policy conn Admin Desk
@@ -56,26 +57,33 @@ none_broken told (Some name) = (false, told name)
 
 -- the static sets hold for the authorized roles of every user
 abbrev pub ssd_holds : Policy → Test
-ssd_holds policy = none_broken Ssd (least_broken policy.roles policy.ssd (assigned_lists policy.users))
+ssd_holds policy =
+    none_broken Ssd (least_broken policy.roles policy.ssd (assigned_lists policy.users))
 
 -- the dynamic sets hold for the acting roles of every session
 abbrev pub dsd_holds : Policy → Test
-dsd_holds policy = none_broken Dsd (least_broken policy.roles policy.dsd (active_lists policy.sessions))
+dsd_holds policy =
+    none_broken Dsd (least_broken policy.roles policy.dsd (active_lists policy.sessions))
 
 -- whether the user is known with this digest
 abbrev pub is_login : Policy → Name → List ℕ → Bool
-is_login policy user digest = option_map_or (λ (u : User). pointwise nat_eq u.digest digest) (value_at name_eq policy.users user) false
+is_login policy user digest = option_map_or (λ (u : User). pointwise nat_eq u.digest digest)
+    (value_at name_eq policy.users user) false
 
 -- create_session, without active roles
 abbrev pub open_session : Policy → ℕ → Name → List ℕ → Result Policy Refusal
 open_session policy conn user digest =
     decided
     ((is_none (session_of policy conn), Opened) ∷ (is_login policy user digest, Login) ∷ [])
-    (record policy { sessions = policy.sessions ++ (conn, record { user = user; active = [] }) ∷ [] })
+    (record policy {
+      sessions = policy.sessions ++ (conn, record { user = user; active = [] })
+          ∷ [];
+    })
 
 -- the connection's session ends, if it has one
 abbrev pub end_session : Policy → ℕ → Policy
-end_session policy conn = record policy { sessions = without_key (λ a b. a == b) policy.sessions conn }
+end_session policy conn =
+    record policy { sessions = without_key (λ a b. a == b) policy.sessions conn }
 
 -- every session ends
 abbrev pub end_sessions : Policy → Policy
@@ -95,7 +103,10 @@ active_roles policy conn = option_map_or (λ (s : Session). s.active) (session_o
 -- the policy in which the session has these active roles
 abbrev pub with_active : Policy → ℕ → List Name → Policy
 with_active policy conn active =
-    record policy { sessions = with_value (λ a b. a == b) policy.sessions conn (record { user = user_of policy conn; active = active }) }
+    record policy {
+      sessions = with_value (λ a b. a == b) policy.sessions conn
+          (record { user = user_of policy conn; active = active });
+    }
 
 -- add_active_role
 abbrev pub activate : Policy → ℕ → Name → Result Policy Refusal
@@ -119,7 +130,11 @@ drop_role policy conn role =
 -- what the session is told of itself
 abbrev pub whoami : Policy → ℕ → Result Identity Refusal
 whoami policy conn =
-    decided (in_session policy conn ∷ []) (identity_of policy (record { user = user_of policy conn; active = active_roles policy conn }))
+    decided (in_session policy conn ∷ [])
+    (identity_of policy (record {
+      user = user_of policy conn;
+      active = active_roles policy conn;
+    }))
 
 -- add_user, without assigned roles
 abbrev pub adduser : Policy → ℕ → Name → List ℕ → Result Policy Refusal
@@ -152,7 +167,8 @@ addrole policy conn role =
 
 -- the users without the assignments of a role, and the grants without those to it
 abbrev pub unassigned : List (Name × User) → Name → List (Name × User)
-unassigned users role = map (λ (entry : Name × User). (entry.0, record entry.1 { roles = without_name entry.1.roles role })) users
+unassigned users role = map (λ (entry : Name × User).
+    (entry.0, record entry.1 { roles = without_name entry.1.roles role })) users
 
 abbrev pub ungranted : List Grant → Name → List Grant
 ungranted granted role = filter (λ (grant : Grant). not (name_eq role grant.role)) granted
@@ -178,12 +194,16 @@ delrole policy conn role =
 
 -- the digest of a user
 abbrev pub digest_of_user : Policy → Name → List ℕ
-digest_of_user policy user = option_map_or (λ (u : User). u.digest) (value_at name_eq policy.users user) []
+digest_of_user policy user =
+    option_map_or (λ (u : User). u.digest) (value_at name_eq policy.users user) []
 
 -- the policy in which a user has these assigned roles
 abbrev pub with_assigned : Policy → Name → List Name → Policy
 with_assigned policy user roles =
-    record policy { users = with_value name_eq policy.users user (record { digest = digest_of_user policy user; roles = roles }) }
+    record policy {
+      users = with_value name_eq policy.users user
+          (record { digest = digest_of_user policy user; roles = roles });
+    }
 
 -- assign_user
 abbrev pub assign : Policy → ℕ → Name → Name → Result Policy Refusal
@@ -202,7 +222,8 @@ assign policy conn user role =
 abbrev pub deassign : Policy → ℕ → Name → Name → Result Policy Refusal
 deassign policy conn user role =
     decided
-    (in_session policy conn ∷ administers policy conn ∷ (contains_name (assigned_roles policy user) role, Unknown) ∷ [])
+    (in_session policy conn ∷ administers policy conn
+    ∷ (contains_name (assigned_roles policy user) role, Unknown) ∷ [])
     (trim (with_assigned policy user (without_name (assigned_roles policy user) role)))
 
 -- grant_permission
@@ -221,7 +242,8 @@ grant policy conn new =
 abbrev pub revoke : Policy → ℕ → Grant → Result Policy Refusal
 revoke policy conn old =
     decided
-    (in_session policy conn ∷ administers policy conn ∷ (list_any (grant_eq old) policy.granted, Unknown) ∷ [])
+    (in_session policy conn ∷ administers policy conn
+    ∷ (list_any (grant_eq old) policy.granted, Unknown) ∷ [])
     (record policy { granted = filter (λ other. not (grant_eq old other)) policy.granted })
 
 -- add_inheritance
@@ -243,7 +265,8 @@ inherit policy conn senior junior =
 abbrev pub uninherit : Policy → ℕ → Name → Name → Result Policy Refusal
 uninherit policy conn senior junior =
     decided
-    (in_session policy conn ∷ administers policy conn ∷ (is_immediate policy.roles senior junior, Unknown) ∷ [])
+    (in_session policy conn ∷ administers policy conn
+    ∷ (is_immediate policy.roles senior junior, Unknown) ∷ [])
     (trim (record policy { roles = without_pair policy.roles senior junior }))
 
 -- create_ssd_set

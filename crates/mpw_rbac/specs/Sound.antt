@@ -11,11 +11,13 @@ use Rattle.mpw_rbac.specs.declared.session.Session.{Session}
 -- whether the user of a session is there, and authorized for each of its active roles
 abbrev pub is_authorized_session : Policy → Session → Bool
 is_authorized_session policy session =
-    is_user policy session.user && list_all (contains_name (authorized policy session.user)) session.active
+    is_user policy session.user && list_all (contains_name (authorized policy session.user))
+    session.active
 
 -- each session is of a user, and every active role is authorized
 abbrev pub active_authorized : Policy → Bool
-active_authorized policy = list_all (λ (entry : ℕ × Session). is_authorized_session policy entry.1) policy.sessions
+active_authorized policy =
+    list_all (λ (entry : ℕ × Session). is_authorized_session policy entry.1) policy.sessions
 
 -- none of the sets is broken by one of these lists of seniors
 abbrev pub sets_hold : Hierarchy → List SeparationSet → List (List Name) → Bool

@@ -1,4 +1,4 @@
-//! Which objects a session has access to by one operation: its acting roles are found once, for many objects.
+//! Which objects a session has access to by one operation: its acting roles are looked up once, for many objects.
 ghost use Rattle.std.specs.Prelude.{◌≡◌, ℕ, List};
 ghost use Rattle.std.specs.List.{list_any};
 ghost use Rattle.mpw_roles.specs.Mask.{has};
@@ -11,8 +11,8 @@ use crate::{Object, Operation, Policy};
 use mpw_roles::Mask;
 use std::marker::Model;
 
-/// The access of a connection's session by one operation, of one policy. Making it takes no memory and costs a look-up for
-/// each active role; each object asked about then costs one look-up.
+/// The access of a connection's session by one operation, of one policy. Making it takes no memory and costs a look-up;
+/// each object asked about then costs another.
 #[derive(Drop)]
 pub struct Access<'a> {
     policy: &'a Policy,
@@ -63,13 +63,7 @@ impl Policy {
     fn acting(&self, conn: u32) -> Mask
         ensures { (place : ℕ) → has result place ≡ is_place_below self.now.roles (active_roles self.now conn) place }
     {
-        match self.session(conn) {
-            Some(session) => self
-                .permissions
-                .roles()
-                .mask_below(session.active.as_slice()),
-            None => self.permissions.roles().mask_below(&[]),
-        }
+        self.sessions.acting(conn)
     }
 
     /// Whether the operation on the object was granted to one of the roles of a mask.

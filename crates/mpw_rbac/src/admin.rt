@@ -11,7 +11,6 @@ ghost use Rattle.mpw_rbac.specs.Table.{without_key};
 
 use crate::hierarchy::{with_role, without_role};
 use crate::permissions::Permissions;
-use crate::trim::trim;
 use crate::{Digest, Grant, Policy, PolicyFault, Refusal, User};
 use mpw_geom::{Name, Names};
 use mpw_separation::Kind;
@@ -34,8 +33,10 @@ impl Policy {
         if !self.has_room_for_user() {
             return Err(PolicyFault::Refused(Refusal::Full));
         }
-        let roles = Names::new(*self.sessions.allocator());
-        let users = self.users.with(user, User { digest, roles })?;
+        let roles = Names::new(self.sessions.allocator());
+        let users = self
+            .users
+            .with(self.permissions.roles(), user, User { digest, roles })?;
         self.users = users;
         Ok(())
     }
@@ -53,8 +54,9 @@ impl Policy {
         if !self.is_user(user) {
             return Err(PolicyFault::Refused(Refusal::Unknown));
         }
-        let users = self.users.without(user)?;
-        trim(users.table(), self.permissions.roles(), &mut self.sessions);
+        let roles = self.permissions.roles();
+        let users = self.users.without(roles, user)?;
+        self.sessions.trim(&users, roles);
         self.users = users;
         Ok(())
     }
@@ -70,6 +72,10 @@ impl Policy {
     {
         self.administers(conn)?;
         let permissions = with_role(&self.permissions, role)?;
+        let roles = permissions.roles();
+        let users = self.users.among(roles)?;
+        self.sessions.remask(roles);
+        self.users = users;
         self.permissions = permissions;
         Ok(())
     }
@@ -92,8 +98,9 @@ impl Policy {
             return Err(PolicyFault::Refused(Refusal::Used));
         }
         let permissions = without_role(&self.permissions, role)?;
-        let users = self.users.unassigned(role)?;
-        trim(users.table(), permissions.roles(), &mut self.sessions);
+        let roles = permissions.roles();
+        let users = self.users.unassigned(roles, role)?;
+        self.sessions.trim(&users, roles);
         self.users = users;
         self.permissions = permissions;
         Ok(())
@@ -120,7 +127,9 @@ impl Policy {
         if let Some(name) = self.broken_by_assigned(assigned.roles.as_slice()) {
             return Err(PolicyFault::Refused(Refusal::Ssd(name.copy()?)));
         }
-        let users = self.users.with(user.copy()?, assigned)?;
+        let users = self
+            .users
+            .with(self.permissions.roles(), user.copy()?, assigned)?;
         self.users = users;
         Ok(())
     }
@@ -140,8 +149,9 @@ impl Policy {
             return Err(PolicyFault::Refused(Refusal::Unknown));
         }
         let assigned = self.assigned_without(user, role)?;
-        let users = self.users.with(user.copy()?, assigned)?;
-        trim(users.table(), self.permissions.roles(), &mut self.sessions);
+        let roles = self.permissions.roles();
+        let users = self.users.with(roles, user.copy()?, assigned)?;
+        self.sessions.trim(&users, roles);
         self.users = users;
         Ok(())
     }

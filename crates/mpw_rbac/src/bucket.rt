@@ -6,7 +6,7 @@ ghost use Rattle.std.specs.Prelude.{◌≡◌, ℕ, ◌<◌, not, filter, List, 
 ghost use Rattle.mpw_roles.specs.Mask.{has};
 ghost use Rattle.mpw_roles.specs.declared.mask.Mask.{Mask as MaskState};
 ghost use Rattle.mpw_rbac.specs.Grant.{object_eq};
-ghost use Rattle.mpw_rbac.specs.Holders.{slot, bucket_of, holds_in};
+ghost use Rattle.mpw_rbac.specs.Internal.Holders.{slot, bucket_of, holds_in};
 ghost use Rattle.mpw_rbac.specs.declared.permission.Object.{Object as ObjectState};
 
 use crate::Object;
@@ -23,7 +23,7 @@ const SLOTS: u64 = 512;
 pub(crate) const BUCKETS: usize = 128;
 
 /// The slot of an object: a hash of its name.
-#[tactic(auto, unfolding(crate::specs::Holders::slot))]
+#[tactic(auto, unfolding(crate::specs::Internal::Holders::slot))]
 pub(crate) fn slot(object: &Object) -> usize
     ensures slot { result ≡ slot object.now }
     ensures within { result < 512 }
@@ -39,7 +39,7 @@ pub(crate) fn slot(object: &Object) -> usize
 }
 
 /// The bucket of an object, by its slot.
-#[tactic(auto, unfolding(crate::specs::Holders::bucket_of))]
+#[tactic(auto, unfolding(crate::specs::Internal::Holders::bucket_of))]
 pub(crate) fn bucket_of(object: &Object) -> usize
     ensures bucket { result ≡ bucket_of object.now }
     ensures within { result < 128 }

@@ -6,7 +6,7 @@ ghost use Rattle.std.specs.Prelude.{◌≡◌, ◌∷◌, ◌++◌, [], true, no
 ghost use Rattle.std.specs.List.{list_any, flat_map};
 ghost use Rattle.mpw_geom.specs.Names.{name_eq};
 ghost use Rattle.mpw_rbac.specs.Grant.{grant_eq};
-ghost use Rattle.mpw_rbac.specs.Grants.{IsCovered, without_grant};
+ghost use Rattle.mpw_rbac.specs.Internal.Grants.{IsCovered, without_grant};
 ghost use Rattle.mpw_rbac.specs.Rows.{ungranted};
 ghost use Rattle.mpw_rbac.specs.declared.permission.Grant.{Grant as GrantState};
 
@@ -31,7 +31,7 @@ pub(crate) struct Block {
 impl Model for Block {
     ghost use Rattle.std.specs.Prelude.{List};
     ghost use Rattle.mpw_rbac.specs.declared.permission.Grant.{Grant};
-    ghost use Rattle.mpw_rbac.specs.Grants.{IsCovered};
+    ghost use Rattle.mpw_rbac.specs.Internal.Grants.{IsCovered};
 
     ghost Value = { List Grant };
 

@@ -3,14 +3,13 @@ ghost use Rattle.std.specs.Prelude.{◌≡◌, [], ◌∷◌, map, IfOk, IfErr, 
 ghost use Rattle.std.specs.Option.{option_copied};
 ghost use Rattle.mpw_separation.specs.Separation.{least_broken};
 ghost use Rattle.mpw_roles.specs.Rows as hierarchy;
-ghost use Rattle.mpw_rbac.specs.Fault.{IsHierarchyFault};
+ghost use Rattle.mpw_rbac.specs.Internal.Fault.{IsHierarchyFault};
 ghost use Rattle.mpw_rbac.specs.Policy.{assigned_lists, active_lists};
 ghost use Rattle.mpw_rbac.specs.Rows.{IsFaultOf, ungranted};
 ghost use Rattle.mpw_rbac.specs.Rows as rows;
 
 use crate::permissions::Permissions;
 use crate::separation::{least_dynamic, least_static};
-use crate::trim::trim;
 use crate::{Policy, PolicyFault, Refusal};
 use mpw_geom::Name;
 use mpw_roles::Roles;
@@ -83,12 +82,16 @@ impl Policy {
     {
         self.administers(conn)?;
         let next = with_pair(&self.permissions, senior, junior)?;
-        if let Some(name) = self.broken_static(next.roles()) {
+        let roles = next.roles();
+        if let Some(name) = self.broken_static(roles) {
             return Err(PolicyFault::Refused(Refusal::Ssd(name.copy()?)));
         }
-        if let Some(name) = self.broken_dynamic(next.roles()) {
+        if let Some(name) = self.broken_dynamic(roles) {
             return Err(PolicyFault::Refused(Refusal::Dsd(name.copy()?)));
         }
+        let users = self.users.among(roles)?;
+        self.sessions.remask(roles);
+        self.users = users;
         self.permissions = next;
         Ok(())
     }
@@ -105,7 +108,10 @@ impl Policy {
     {
         self.administers(conn)?;
         let permissions = without_pair(&self.permissions, senior, junior)?;
-        trim(self.users.table(), permissions.roles(), &mut self.sessions);
+        let roles = permissions.roles();
+        let users = self.users.among(roles)?;
+        self.sessions.trim(&users, roles);
+        self.users = users;
         self.permissions = permissions;
         Ok(())
     }
@@ -121,6 +127,6 @@ impl Policy {
     fn broken_dynamic(&self, roles: &Roles) -> Option<&Name>
         ensures { option_copied result ≡ least_broken roles.now self.now.dsd (active_lists self.now.sessions) }
     {
-        least_dynamic(&self.sets, roles, &self.sessions)
+        least_dynamic(&self.sets, roles, self.sessions.table())
     }
 }

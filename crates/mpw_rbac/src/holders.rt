@@ -7,7 +7,7 @@ ghost use Rattle.std.specs.List.{flat_map};
 ghost use Rattle.mpw_roles.specs.Hierarchy.{role_names};
 ghost use Rattle.mpw_roles.specs.Mask.{has};
 ghost use Rattle.mpw_rbac.specs.Grant.{operation_index, object_eq};
-ghost use Rattle.mpw_rbac.specs.Holders.{holds, IsHeld, AreHeld, IsHeldAfter, AreHeldAfter};
+ghost use Rattle.mpw_rbac.specs.Internal.Holders.{holds, IsHeld, AreHeld, IsHeldAfter, AreHeldAfter};
 ghost use Rattle.mpw_rbac.specs.declared.permission.Grant.{Grant as GrantState};
 ghost use Rattle.mpw_rbac.specs.declared.permission.Object.{Object as ObjectState};
 
@@ -30,7 +30,7 @@ pub(crate) struct Holders {
 
 impl Model for Holders {
     ghost use Rattle.std.specs.Prelude.{◌≡◌, length};
-    ghost use Rattle.mpw_rbac.specs.Holders.{Buckets};
+    ghost use Rattle.mpw_rbac.specs.Internal.Holders.{Buckets};
 
     ghost Value = { Buckets };
 
@@ -157,7 +157,7 @@ pub(crate) struct SharedHolders {
 }
 
 impl Model for SharedHolders {
-    ghost use Rattle.mpw_rbac.specs.Holders.{Buckets};
+    ghost use Rattle.mpw_rbac.specs.Internal.Holders.{Buckets};
 
     ghost Value = { Buckets };
 

@@ -7,6 +7,7 @@
 
 mod accepted;
 mod access;
+mod active;
 mod admin;
 mod bucket;
 mod grants;

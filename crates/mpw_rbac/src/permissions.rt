@@ -11,8 +11,8 @@ ghost use Rattle.mpw_roles.specs.Mask.{has};
 ghost use Rattle.mpw_roles.specs.Order.{roles_below};
 ghost use Rattle.mpw_roles.specs.Places.{is_place_below};
 ghost use Rattle.mpw_rbac.specs.Grant.{grant_eq};
-ghost use Rattle.mpw_rbac.specs.Grants.{without_grant};
-ghost use Rattle.mpw_rbac.specs.Holders.{AreHeld, AreHeldAfter};
+ghost use Rattle.mpw_rbac.specs.Internal.Grants.{without_grant};
+ghost use Rattle.mpw_rbac.specs.Internal.Holders.{AreHeld, AreHeldAfter};
 ghost use Rattle.mpw_rbac.specs.Policy.{is_granted_to};
 ghost use Rattle.mpw_rbac.specs.Rows.{ungranted};
 
@@ -35,7 +35,7 @@ pub(crate) struct Permissions {
 
 impl Model for Permissions {
     ghost use Rattle.mpw_roles.specs.Hierarchy.{role_names};
-    ghost use Rattle.mpw_rbac.specs.Holders.{Permissions as PermissionsState, AreHeld};
+    ghost use Rattle.mpw_rbac.specs.Internal.Holders.{Permissions as PermissionsState, AreHeld};
 
     ghost Value = { PermissionsState };
 

@@ -6,11 +6,13 @@ ghost use Rattle.std.specs.Option.{option_copied};
 ghost use Rattle.mpw_geom.specs.Names.{name_eq, contains_name, by_name};
 ghost use Rattle.mpw_roles.specs.Hierarchy.{is_role};
 ghost use Rattle.mpw_roles.specs.Order.{roles_below};
+ghost use Rattle.mpw_rbac.specs.Masked.{AreUsers};
 ghost use Rattle.mpw_rbac.specs.Policy.{max_users, max_grants, permits, is_user, session_of, assigned_roles, authorized, new_policy};
 ghost use Rattle.mpw_rbac.specs.Rows.{IsFaultOf, administered, user_of};
 ghost use Rattle.mpw_rbac.specs.Rows as rows;
 ghost use Rattle.mpw_rbac.specs.Table.{value_at};
 
+use crate::active::Sessions;
 use crate::permissions::Permissions;
 use crate::users::Users;
 use crate::{Digest, Grant, Identity, Object, Operation, PolicyFault, Refusal, Session, User};
@@ -33,18 +35,18 @@ pub struct Policy {
     pub(crate) users: Users,
     pub(crate) permissions: Permissions,
     pub(crate) sets: Sets,
-    pub(crate) sessions: IndexMap<u32, Session>,
+    pub(crate) sessions: Sessions,
 }
 
 impl Model for Policy {
     ghost use Rattle.mpw_rbac.specs.Policy.{Policy as PolicyState, policy_of};
-    ghost use Rattle.mpw_rbac.specs.Sound.{Sound};
+    ghost use Rattle.mpw_rbac.specs.Masked.{IsPolicy};
 
     ghost Value = { PolicyState };
 
-    ghost view = { λ p. policy_of p.users p.permissions.roles p.permissions.granted p.sets p.sessions.entries };
+    ghost view = { λ p. policy_of p.users.users p.permissions.roles p.permissions.granted p.sets p.sessions.sessions };
 
-    ghost invariant = { λ p. Sound (policy_of p.users p.permissions.roles p.permissions.granted p.sets p.sessions.entries) };
+    ghost invariant = { λ p. IsPolicy p.users p.permissions.roles p.permissions.granted p.sets p.sessions };
 }
 
 impl Policy {
@@ -52,7 +54,7 @@ impl Policy {
     pub(crate) fn session(&self, conn: u32) -> Option<&Session>
         ensures { option_copied result ≡ session_of self.now conn }
     {
-        self.sessions.get(&conn)
+        self.sessions.get(conn)
     }
 
     /// A user's digest and assigned roles.
@@ -108,7 +110,7 @@ impl Policy {
     }
 
     /// Whether some acting role of the connection's session was granted the operation on the object. It takes no
-    /// memory, and costs a look-up for each active role, one for the object, and an `and` of eight words.
+    /// memory, and costs a look-up of the session, one of the object, and an `and` of eight words.
     pub fn permits(&self, conn: u32, operation: Operation, object: &Object) -> bool
         ensures { result ≡ permits self.now conn operation object.now }
     {
@@ -149,17 +151,17 @@ impl Policy {
         ensures memory { IfErr result (λ fault. fault ≡ PolicyFault.Memory) }
     {
         let role = officer_role(alloc)?;
-        let users = first_users(alloc, officer, digest, &role)?;
-        let permissions = first_permissions(alloc, role)?;
+        let permissions = first_permissions(alloc, role.copy()?)?;
+        let users = first_users(permissions.roles(), officer, digest, role)?;
         Ok(Policy {
             users,
             permissions,
             sets: Sets::new(alloc),
-            sessions: IndexMap::new(alloc),
+            sessions: Sessions::new(alloc),
         })
     }
 
-    /// The same policy. Users, roles and grants are shared, a count each; sets and sessions are copied.
+    /// The same policy. Users, roles, grants and their masks are shared, a count each; sets and sessions are copied.
     ///
     /// # Errors
     /// Where there is no room for it.
@@ -169,7 +171,7 @@ impl Policy {
         let users = self.users.copy()?;
         let permissions = self.permissions.copy()?;
         let sets = self.sets.copy()?;
-        let sessions = copy_sessions(&self.sessions)?;
+        let sessions = self.sessions.copy()?;
         Ok(Policy {
             users,
             permissions,
@@ -191,18 +193,24 @@ fn first_roles(alloc: Global, role: &Name) -> Result<Roles, PolicyFault>
 
 /// The users of a new desk: the officer.
 fn first_users(
-    alloc: Global,
+    roles: &Roles,
     officer: Name,
     digest: Digest,
-    role: &Name,
+    role: Name,
 ) -> Result<Users, AllocError>
-    ensures { IfOk result (λ users. users ≡ (officer, record { digest = digest; roles = role.now ∷ [] }) ∷ []) }
+    ensures { IfOk result (AreUsers roles.now ((officer, record { digest = digest; roles = role ∷ [] }) ∷ [])) }
 {
-    let mut roles = Names::new(alloc);
-    roles.push(role.copy()?)?;
-    let mut table = IndexMap::new(alloc);
-    table.insert(officer, User { digest, roles })?;
-    Users::new(alloc, table)
+    let mut assigned = Names::new(roles.allocator());
+    assigned.push(role)?;
+    let mut table = IndexMap::new(roles.allocator());
+    table.insert(
+        officer,
+        User {
+            digest,
+            roles: assigned,
+        },
+    )?;
+    Users::new(roles, table)
 }
 
 /// The grant of a new desk: that the officer may administer it.
@@ -224,13 +232,6 @@ fn first_permissions(alloc: Global, role: Name) -> Result<Permissions, PolicyFau
     let roles = first_roles(alloc, &role)?;
     let grant = first_grant(role);
     Ok(Permissions::new(alloc, roles, &grant)?)
-}
-
-/// The same sessions.
-fn copy_sessions(sessions: &IndexMap<u32, Session>) -> Result<IndexMap<u32, Session>, AllocError>
-    ensures { IfOk result (λ copy. copy.entries ≡ sessions.now.entries) }
-{
-    sessions.clone()
 }
 
 /// The role of the officer.

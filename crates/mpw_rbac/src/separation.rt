@@ -4,11 +4,13 @@ ghost use Rattle.std.specs.List.{list_all};
 ghost use Rattle.std.specs.Option.{option_copied};
 ghost use Rattle.mpw_roles.specs.Hierarchy.{is_role};
 ghost use Rattle.mpw_separation.specs.Separation.{least_broken, is_broken, has_set};
+ghost use Rattle.mpw_rbac.specs.Masked.{sessions_in};
 ghost use Rattle.mpw_rbac.specs.Policy.{assigned_lists, active_lists};
 ghost use Rattle.mpw_rbac.specs.Rows.{IsFaultOf};
 ghost use Rattle.mpw_rbac.specs.Rows as rows;
 
-use crate::{Policy, PolicyFault, Refusal, Session, User};
+use crate::active::Active;
+use crate::{Policy, PolicyFault, Refusal, User};
 use indexmap::IndexMap;
 use mpw_geom::Name;
 use mpw_roles::Roles;
@@ -39,16 +41,16 @@ pub(crate) fn least_static<'a>(
 pub(crate) fn least_dynamic<'a>(
     sets: &'a Sets,
     roles: &Roles,
-    sessions: &IndexMap<u32, Session>,
+    sessions: &IndexMap<u32, Active>,
 ) -> Option<&'a Name>
-    ensures { option_copied result ≡ least_broken roles.now sets.now.dsd (active_lists sessions.now.entries) }
+    ensures { option_copied result ≡ least_broken roles.now sets.now.dsd (active_lists (sessions_in sessions.now.entries)) }
 {
     let mut least = None;
     for index in 0..sessions.len() {
-        let Some((_, session)) = sessions.get_index(index) else {
+        let Some((_, active)) = sessions.get_index(index) else {
             return least;
         };
-        let broken = sets.first_broken(Kind::Dynamic, roles, session.active.as_slice());
+        let broken = sets.first_broken(Kind::Dynamic, roles, active.session.active.as_slice());
         least = lesser(least, broken);
     }
     least
@@ -70,14 +72,14 @@ fn breaks_a_user(set: &SeparationSet, roles: &Roles, users: &IndexMap<Name, User
 }
 
 /// Whether some session breaks the set. It takes no memory, and costs a search of the hierarchy for each session.
-fn breaks_a_session(set: &SeparationSet, roles: &Roles, sessions: &IndexMap<u32, Session>) -> bool
-    ensures { result ≡ is_broken roles.now (active_lists sessions.now.entries) set.now }
+fn breaks_a_session(set: &SeparationSet, roles: &Roles, sessions: &IndexMap<u32, Active>) -> bool
+    ensures { result ≡ is_broken roles.now (active_lists (sessions_in sessions.now.entries)) set.now }
 {
     for index in 0..sessions.len() {
-        let Some((_, session)) = sessions.get_index(index) else {
+        let Some((_, active)) = sessions.get_index(index) else {
             return false;
         };
-        if set.is_broken(roles, session.active.as_slice()) {
+        if set.is_broken(roles, active.session.active.as_slice()) {
             return true;
         }
     }
@@ -197,6 +199,6 @@ impl Policy {
     fn is_broken_by_sessions(&self, set: &SeparationSet) -> bool
         ensures { result ≡ is_broken self.now.roles (active_lists self.now.sessions) set.now }
     {
-        breaks_a_session(set, self.permissions.roles(), &self.sessions)
+        breaks_a_session(set, self.permissions.roles(), self.sessions.table())
     }
 }

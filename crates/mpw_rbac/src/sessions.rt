@@ -1,14 +1,17 @@
 //! Sessions: of one connection and one user each, with the active roles that the session chose.
-ghost use Rattle.std.specs.Prelude.{◌≡◌, true, false, not, is_some, ◌==◌, [], ◌∷◌, ◌++◌, IfOk, IfErr, OnOk, OnErr, Ok, Err};
+ghost use Rattle.std.specs.Prelude.{◌≡◌, true, false, is_some, [], ◌∷◌, ◌++◌, IfOk, IfErr, OnOk, OnErr, Ok, Err};
 ghost use Rattle.std.specs.Option.{option_copied};
 ghost use Rattle.mpw_geom.specs.Names.{contains_name, without_name, by_name};
 ghost use Rattle.mpw_separation.specs.Separation.{least_broken};
+ghost use Rattle.mpw_rbac.specs.Masked.{IsBelow};
 ghost use Rattle.mpw_rbac.specs.Policy.{session_of, authorized, identity_of};
 ghost use Rattle.mpw_rbac.specs.Rows.{IsFaultOf, is_login, end_session, end_sessions, active_roles, user_of};
 ghost use Rattle.mpw_rbac.specs.Rows as rows;
 
+use crate::active::Active;
 use crate::{Digest, Identity, Policy, PolicyFault, Refusal, Session};
 use mpw_geom::{Name, Names};
+use mpw_roles::Below;
 use mpw_separation::Kind;
 use std::alloc::AllocError;
 
@@ -31,9 +34,10 @@ impl Policy {
         }
         let session = Session {
             user: user.copy()?,
-            active: Names::new(*self.sessions.allocator()),
+            active: Names::new(self.sessions.allocator()),
         };
-        self.sessions.insert(conn, session)?;
+        let active = Active::new(self.permissions.roles(), session);
+        self.sessions.insert(conn, active)?;
         Ok(())
     }
 
@@ -57,21 +61,14 @@ impl Policy {
     pub fn end(&mut self, conn: u32)
         ensures { self.new ≡ end_session self.old conn }
     {
-        self.sessions.retain(
-            |other: &u32, session: &mut Session| -> bool
-                ensures { (result ≡ not (conn == other.now)) × (session.new ≡ session.old) }
-            {
-                let _session = session;
-                *other != conn
-            },
-        );
+        self.sessions.remove(conn);
     }
 
     /// Ends every session, as a desk does that begins anew. It takes no memory.
     pub fn end_all(&mut self)
         ensures { self.new ≡ end_sessions self.old }
     {
-        self.sessions.truncate(0);
+        self.sessions.clear();
     }
 
     /// Makes a role active in the connection's session (AddActiveRole).
@@ -92,11 +89,11 @@ impl Policy {
         if self.is_active(conn, role) {
             return Err(PolicyFault::Refused(Refusal::Known));
         }
-        let session = self.activated(conn, role)?;
-        if let Some(name) = self.broken_by_active(session.active.as_slice()) {
+        let active = self.activated(conn, role)?;
+        if let Some(name) = self.broken_by_active(&active) {
             return Err(PolicyFault::Refused(Refusal::Dsd(name.copy()?)));
         }
-        self.sessions.insert(conn, session)?;
+        self.sessions.insert(conn, active)?;
         Ok(())
     }
 
@@ -115,8 +112,8 @@ impl Policy {
         if !self.is_active(conn, role) {
             return Err(PolicyFault::Refused(Refusal::Unknown));
         }
-        let session = self.dropped(conn, role)?;
-        self.sessions.insert(conn, session)?;
+        let active = self.dropped(conn, role)?;
+        self.sessions.insert(conn, active)?;
         Ok(())
     }
 
@@ -163,14 +160,7 @@ impl Policy {
     fn is_authorized(&self, user: &Name, role: &Name) -> bool
         ensures { result ≡ contains_name (authorized self.now user.now) role.now }
     {
-        match self.user(user) {
-            Some(found) => self
-                .permissions
-                .roles()
-                .below(found.roles.as_slice())
-                .contains(role),
-            None => self.permissions.roles().below(&[]).contains(role),
-        }
+        self.below_authorized(user).contains(role)
     }
 
     /// Whether the user of the connection's session is authorized for the role.
@@ -194,10 +184,11 @@ impl Policy {
         }
     }
 
-    /// The connection's session with one more active role.
-    fn activated(&self, conn: u32, role: &Name) -> Result<Session, AllocError>
+    /// The connection's session with one more active role: its juniors act too.
+    fn activated(&self, conn: u32, role: &Name) -> Result<Active, AllocError>
         requires { is_some (session_of self.now conn) ≡ true }
-        ensures { IfOk result (λ next. next ≡ record { user = user_of self.now conn; active = active_roles self.now conn ++ role.now ∷ [] }) }
+        ensures acting { IfOk result (λ next. IsBelow self.now.roles next.session.active next.acting) }
+        ensures session { IfOk result (λ next. next.session ≡ record { user = user_of self.now conn; active = active_roles self.now conn ++ role.now ∷ [] }) }
     {
         let Some(session) = self.session(conn) else {
             return Err(AllocError);
@@ -205,13 +196,19 @@ impl Policy {
         let user = session.user.copy()?;
         let mut active = session.active.copy()?;
         active.push(role.copy()?)?;
-        Ok(Session { user, active })
+        let mut acting = self.sessions.acting(conn);
+        acting.add(&self.permissions.roles().mask(role));
+        Ok(Active {
+            session: Session { user, active },
+            acting,
+        })
     }
 
     /// The connection's session with one active role less.
-    fn dropped(&self, conn: u32, role: &Name) -> Result<Session, AllocError>
+    fn dropped(&self, conn: u32, role: &Name) -> Result<Active, AllocError>
         requires { is_some (session_of self.now conn) ≡ true }
-        ensures { IfOk result (λ next. next ≡ record { user = user_of self.now conn; active = without_name (active_roles self.now conn) role.now }) }
+        ensures acting { IfOk result (λ next. IsBelow self.now.roles next.session.active next.acting) }
+        ensures session { IfOk result (λ next. next.session ≡ record { user = user_of self.now conn; active = without_name (active_roles self.now conn) role.now }) }
     {
         let Some(session) = self.session(conn) else {
             return Err(AllocError);
@@ -219,30 +216,32 @@ impl Policy {
         let user = session.user.copy()?;
         let mut active = session.active.copy()?;
         active.remove(role);
-        Ok(Session { user, active })
+        Ok(Active::new(self.permissions.roles(), Session { user, active }))
     }
 
-    /// The least name of the dynamic sets that these active roles break.
-    fn broken_by_active(&self, active: &[Name]) -> Option<&Name>
-        ensures { option_copied result ≡ least_broken self.now.roles self.now.dsd (active.now ∷ []) }
+    /// The least name of the dynamic sets that the roles break which act in a session.
+    fn broken_by_active(&self, active: &Active) -> Option<&Name>
+        ensures { IsBelow self.now.roles active.now.session.active active.now.acting → option_copied result ≡ least_broken self.now.roles self.now.dsd (active.now.session.active ∷ []) }
     {
-        self.sets
-            .first_broken(Kind::Dynamic, self.permissions.roles(), active)
+        let below = self.permissions.roles().at_places(&active.acting);
+        self.sets.first_broken_below(Kind::Dynamic, &below)
+    }
+
+    /// The roles that a user is authorized for: a look-up.
+    fn below_authorized(&self, user: &Name) -> Below<'_>
+        ensures { result ≡ authorized self.now user.now }
+    {
+        let authorized = self.users.authorized(user);
+        self.permissions.roles().at_places(&authorized)
     }
 
     /// The roles that a user is authorized for, by name.
     fn authorized_by_name(&self, user: &Name) -> Result<Names, AllocError>
         ensures { IfOk result (λ names. names ≡ by_name (authorized self.now user.now)) }
     {
-        let alloc = *self.sessions.allocator();
-        let mut names = match self.user(user) {
-            Some(found) => self
-                .permissions
-                .roles()
-                .below(found.roles.as_slice())
-                .names(alloc)?,
-            None => self.permissions.roles().below(&[]).names(alloc)?,
-        };
+        let mut names = self
+            .below_authorized(user)
+            .names(self.sessions.allocator())?;
         names.sort()?;
         Ok(names)
     }

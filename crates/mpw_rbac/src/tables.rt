@@ -1,7 +1,7 @@
 //! A law of the policy's tables. The function has an empty body: its contract is the law.
 ghost use Rattle.std.specs.Prelude.{ℕ, List, Ok};
 ghost use Rattle.mpw_separation.specs.Set.{SeparationSet};
-ghost use Rattle.mpw_rbac.specs.Existing.{IsKept, KeepsTables};
+ghost use Rattle.mpw_rbac.specs.Existing.{AreTablesSound, KeepsTables};
 ghost use Rattle.mpw_rbac.specs.Policy.{new_policy};
 ghost use Rattle.mpw_rbac.specs.Rows as rows;
 ghost use Rattle.mpw_rbac.specs.declared.permission.Grant.{Grant};
@@ -9,7 +9,7 @@ ghost use Rattle.mpw_rbac.specs.declared.permission.Grant.{Grant};
 /// The tables of the new desk name users and roles that are there, hold no more than their limits, and are sound; and those
 /// that each accepted request leaves do too.
 pub fn each_request_keeps_the_tables()
-    ensures new_desk { (officer digest : List ℕ) → IsKept (new_policy officer digest) }
+    ensures new_desk { (officer digest : List ℕ) → AreTablesSound (new_policy officer digest) }
     ensures end_session { (conn : ℕ) → KeepsTables (λ p. Ok (rows.end_session p conn)) }
     ensures end_sessions { KeepsTables (λ p. Ok (rows.end_sessions p)) }
     ensures open_session { (conn : ℕ) (user digest : List ℕ) → KeepsTables (λ p. rows.open_session p conn user digest) }

@@ -1,32 +1,43 @@
-//! The table of users, which copies of the policy share.
-ghost use Rattle.std.specs.Prelude.{◌≡◌, IfOk, length};
-ghost use Rattle.std.specs.Option.{option_copied};
+//! The table of users, which copies of the policy share, and beside it for each user the places of the roles that the user is
+//! authorized for, as a mask.
+//!
+//! The masks are made for the policy's roles, and an invariant of the policy says so. A change of users or roles makes them
+//! anew, a look-up for each assigned role.
+ghost use Rattle.std.specs.Prelude.{◌≡◌, length, IfOk};
 ghost use Rattle.indexmap.specs.IndexMap.{insert_entry};
 ghost use Rattle.mpw_geom.specs.Names.{name_eq, without_name};
 ghost use Rattle.std.specs.Prelude.{not, true};
+ghost use Rattle.mpw_roles.specs.Hierarchy.{Hierarchy};
+ghost use Rattle.mpw_rbac.specs.Masked.{AreAuthorized, AreBelow, AreUsers, IsBelow};
+ghost use Rattle.mpw_rbac.specs.Policy.{assigned_lists, assigned_roles};
+ghost use Rattle.mpw_rbac.specs.Internal.Policy.{users_and_roles};
 ghost use Rattle.mpw_rbac.specs.Rows.{unassigned};
-ghost use Rattle.mpw_rbac.specs.Table.{value_at, has_key, without_key};
+ghost use Rattle.mpw_rbac.specs.Table.{without_key};
 
 use crate::User;
 use indexmap::IndexMap;
 use mpw_geom::Name;
-use std::alloc::{AllocError, Global};
+use mpw_roles::{Mask, Roles};
+use std::alloc::AllocError;
 use std::marker::Model;
 use std::sync::Arc;
 
-/// Users in the order in which they were added. A copy is one count; a change is a table of its own.
+/// Users in the order in which they were added. A copy is two counts; a change is a table of its own.
 #[derive(Drop)]
 pub(crate) struct Users {
     table: Arc<IndexMap<Name, User>>,
+    masks: Arc<Vec<Mask>>,
 }
 
 impl Model for Users {
-    ghost use Rattle.std.specs.Prelude.{ℕ, List};
-    ghost use Rattle.mpw_rbac.specs.declared.session.User.{User};
+    ghost use Rattle.std.specs.Prelude.{◌≡◌, length};
+    ghost use Rattle.mpw_rbac.specs.Masked.{KeptUsers};
 
-    ghost Value = { List (List ℕ × User) };
+    ghost Value = { KeptUsers };
 
-    ghost view = { λ users. users.table.value.entries };
+    ghost view = { λ kept. record { users = kept.table.value.entries; masks = kept.masks.value.items } };
+
+    ghost invariant = { λ kept. length kept.masks.value.items ≡ length kept.table.value.entries };
 }
 
 /// The same users in a table of their own.
@@ -64,59 +75,106 @@ fn unassign(users: &mut IndexMap<Name, User>, role: &Name)
     );
 }
 
+/// The masks of the roles that each user is authorized for: a look-up for each assigned role.
+fn masks_of(roles: &Roles, users: &IndexMap<Name, User>) -> Result<Vec<Mask>, AllocError>
+    ensures masks { IfOk result (λ masks. AreBelow roles.now (assigned_lists users.now.entries) masks.items) }
+    ensures long { IfOk result (λ masks. length masks.items ≡ length users.now.entries) }
+{
+    let mut masks = Vec::with_capacity(roles.allocator(), users.len())?;
+    for index in 0..users.len() {
+        let Some((_, user)) = users.get_index(index) else {
+            return Err(AllocError);
+        };
+        masks.push(roles.mask_below(user.roles.as_slice()))?;
+    }
+    Ok(masks)
+}
+
+/// The mask at the place of a user among some; none where there is no such user.
+fn mask_of(users: &IndexMap<Name, User>, masks: &Vec<Mask>, user: &Name) -> Mask
+    requires { length masks.now.items ≡ length users.now.entries }
+    ensures { (h : Hierarchy) → AreBelow h (assigned_lists users.now.entries) masks.now.items → IsBelow h (assigned_roles (users_and_roles users.now.entries h) user.now) result }
+{
+    match users.get_index_of(user) {
+        Some(place) => masks[place],
+        None => Mask::new(),
+    }
+}
+
 impl Users {
-    /// These users.
-    pub(crate) fn new(alloc: Global, table: IndexMap<Name, User>) -> Result<Users, AllocError>
-        ensures { IfOk result (λ users. users ≡ table.entries) }
+    /// The users of a table, with their masks.
+    fn of(roles: &Roles, table: Arc<IndexMap<Name, User>>) -> Result<Users, AllocError>
+        ensures { IfOk result (AreUsers roles.now table.value.entries) }
     {
+        let masks = masks_of(roles, &table)?;
         Ok(Users {
-            table: Arc::new(alloc, table)?,
+            table,
+            masks: Arc::new(roles.allocator(), masks)?,
         })
+    }
+
+    /// These users.
+    pub(crate) fn new(roles: &Roles, table: IndexMap<Name, User>) -> Result<Users, AllocError>
+        ensures { IfOk result (AreUsers roles.now table.entries) }
+    {
+        Users::of(roles, Arc::new(roles.allocator(), table)?)
     }
 
     /// The users by name.
     pub(crate) fn table(&self) -> &IndexMap<Name, User>
-        ensures { result.now.entries ≡ self.now }
+        ensures { result.now.entries ≡ self.now.users }
     {
         &self.table
     }
 
+    /// The places of the roles that a user is authorized for; none where there is no such user.
+    pub(crate) fn authorized(&self, user: &Name) -> Mask
+        ensures { (h : Hierarchy) → AreAuthorized h self.now → IsBelow h (assigned_roles (users_and_roles self.now.users h) user.now) result }
+    {
+        mask_of(&self.table, &self.masks, user)
+    }
+
     /// The users with one more, or with another value of one.
-    pub(crate) fn with(&self, user: Name, value: User) -> Result<Users, AllocError>
-        ensures { IfOk result (λ users. users ≡ insert_entry name_eq self.now user value) }
+    pub(crate) fn with(&self, roles: &Roles, user: Name, value: User) -> Result<Users, AllocError>
+        ensures { IfOk result (AreUsers roles.now (insert_entry name_eq self.now.users user value)) }
     {
         let mut table = copied(&self.table)?;
         table.insert(user, value)?;
-        let alloc = *table.allocator();
-        Users::new(alloc, table)
+        Users::new(roles, table)
     }
 
     /// The users but one.
-    pub(crate) fn without(&self, user: &Name) -> Result<Users, AllocError>
-        ensures { IfOk result (λ users. users ≡ without_key name_eq self.now user.now) }
+    pub(crate) fn without(&self, roles: &Roles, user: &Name) -> Result<Users, AllocError>
+        ensures { IfOk result (AreUsers roles.now (without_key name_eq self.now.users user.now)) }
     {
         let mut table = copied(&self.table)?;
         without_user(&mut table, user);
-        let alloc = *table.allocator();
-        Users::new(alloc, table)
+        Users::new(roles, table)
     }
 
     /// The users without the assignments of a role.
-    pub(crate) fn unassigned(&self, role: &Name) -> Result<Users, AllocError>
-        ensures { IfOk result (λ users. users ≡ unassigned self.now role.now) }
+    pub(crate) fn unassigned(&self, roles: &Roles, role: &Name) -> Result<Users, AllocError>
+        ensures { IfOk result (AreUsers roles.now (unassigned self.now.users role.now)) }
     {
         let mut table = copied(&self.table)?;
         unassign(&mut table, role);
-        let alloc = *table.allocator();
-        Users::new(alloc, table)
+        Users::new(roles, table)
     }
 
-    /// The same users: one count.
+    /// The same users among other roles: other masks.
+    pub(crate) fn among(&self, roles: &Roles) -> Result<Users, AllocError>
+        ensures { IfOk result (AreUsers roles.now self.now.users) }
+    {
+        Users::of(roles, self.table.clone()?)
+    }
+
+    /// The same users with the same masks: two counts.
     pub(crate) fn copy(&self) -> Result<Users, AllocError>
         ensures { IfOk result (λ users. users ≡ self.now) }
     {
         Ok(Users {
             table: self.table.clone()?,
+            masks: self.masks.clone()?,
         })
     }
 }

@@ -9,12 +9,18 @@ use Rattle.mpw_geom.specs.Links.{same, chain}
 use Rattle.mpw_geom.proofs.Linked.{same_name, or_right, or_cases, leads-sound, leads-complete, chain-trans, weaken_link, linked-without_same, linked-without_other}
 
 -- fewer pairs, fewer chains
-pub chains-fewer : (h k : Hierarchy) → ((a b : Name) → is_immediate h a b ≡ true → is_immediate k a b ≡ true) → (a b : Name) → IsAtLeast h a b → IsAtLeast k a b
+pub chains-fewer : (h k : Hierarchy)
+    → ((a b : Name) → is_immediate h a b ≡ true → is_immediate k a b ≡ true) → (a b : Name)
+    → IsAtLeast h a b → IsAtLeast k a b
 chains-fewer h k fewer a b same = same
-chains-fewer h k fewer a b (chain {middle = m} pair rest) = chain (fewer a m pair) (chains-fewer h k fewer m b rest)
+chains-fewer h k fewer a b (chain {middle = m} pair rest) =
+    chain (fewer a m pair) (chains-fewer h k fewer m b rest)
 
-pub at_least-fewer : (h k : Hierarchy) → ((a b : Name) → is_immediate h a b ≡ true → is_immediate k a b ≡ true) → (a b : Name) → at_least h a b ≡ true → at_least k a b ≡ true
-at_least-fewer h k fewer a b is = leads-complete k a b (chains-fewer h k fewer a b (leads-sound h a b is))
+pub at_least-fewer : (h k : Hierarchy)
+    → ((a b : Name) → is_immediate h a b ≡ true → is_immediate k a b ≡ true) → (a b : Name)
+    → at_least h a b ≡ true → at_least k a b ≡ true
+at_least-fewer h k fewer a b is =
+    leads-complete k a b (chains-fewer h k fewer a b (leads-sound h a b is))
 
 -- no pair's junior is at least its senior
 abbrev IsAcyclic : Hierarchy → Type 0
@@ -24,20 +30,30 @@ refuted : (b : Bool) → (b ≡ true → ⊥) → b ≡ false
 refuted true never = absurd (never refl)
 refuted false never = refl
 
-acyclic-fewer : (h k : Hierarchy) → ((a b : Name) → is_immediate h a b ≡ true → is_immediate k a b ≡ true) → IsAcyclic k → IsAcyclic h
-acyclic-fewer h k fewer acyclic a b pair = refuted (at_least h b a) (λ up. true≢false (sym (at_least-fewer h k fewer b a up) ∙ acyclic a b (fewer a b pair)))
+acyclic-fewer : (h k : Hierarchy) → ((a b : Name) → is_immediate h a b ≡ true
+    → is_immediate k a b ≡ true) → IsAcyclic k → IsAcyclic h
+acyclic-fewer h k fewer acyclic a b pair =
+    refuted (at_least h b a) (λ up. true≢false (sym (at_least-fewer h k fewer b a up)
+    ∙ acyclic a b (fewer a b pair)))
 
-chains-antisymmetric : (h : Hierarchy) → IsAcyclic h → (a b : Name) → IsAtLeast h a b → IsAtLeast h b a → a ≡ b
+chains-antisymmetric : (h : Hierarchy) → IsAcyclic h → (a b : Name) → IsAtLeast h a b
+    → IsAtLeast h b a → a ≡ b
 chains-antisymmetric h acyclic a b same up = refl
-chains-antisymmetric h acyclic a b (chain {middle = m} pair rest) up = absurd (true≢false (sym (leads-complete h m a (chain-trans h m b a rest up)) ∙ acyclic a m pair))
+chains-antisymmetric h acyclic a b (chain {middle = m} pair rest) up =
+    absurd (true≢false (sym (leads-complete h m a (chain-trans h m b a rest up))
+    ∙ acyclic a m pair))
 
 -- no two roles are at least each other
-pub antisymmetric : (h : Hierarchy) → IsHierarchy h → (a b : Name) → at_least h a b ≡ true → at_least h b a ≡ true → a ≡ b
-antisymmetric h is a b down up = chains-antisymmetric h is.acyclic a b (leads-sound h a b down) (leads-sound h b a up)
+pub antisymmetric : (h : Hierarchy) → IsHierarchy h → (a b : Name) → at_least h a b ≡ true
+    → at_least h b a ≡ true → a ≡ b
+antisymmetric h is a b down up =
+    chains-antisymmetric h is.acyclic a b (leads-sound h a b down) (leads-sound h b a up)
 
-pub contains-append : (xs ys : List Name) (n : Name) → contains_name (xs ++ ys) n ≡ (contains_name xs n || contains_name ys n)
+pub contains-append : (xs ys : List Name) (n : Name)
+    → contains_name (xs ++ ys) n ≡ (contains_name xs n || contains_name ys n)
 contains-append [] ys n = refl
-contains-append (x ∷ xs) ys n = ap (λ b. name_eq n x || b) (contains-append xs ys n) ∙ or_assoc (name_eq n x) _ _
+contains-append (x ∷ xs) ys n =
+    ap (λ b. name_eq n x || b) (contains-append xs ys n) ∙ or_assoc (name_eq n x) _ _
   where
     or_assoc : (a b c : Bool) → (a || (b || c)) ≡ ((a || b) || c)
     or_assoc true b c = refl
@@ -48,12 +64,15 @@ or_left true b e = refl
 or_left false b e = absurd (true≢false (sym e))
 
 -- a new role
-pub names-with_role : (h : Hierarchy) (r : Name) → role_names (with_role h r) ≡ role_names h ++ r ∷ []
+pub names-with_role : (h : Hierarchy) (r : Name) → role_names (with_role h r) ≡ role_names h ++ r
+    ∷ []
 names-with_role [] r = refl
 names-with_role (e ∷ es) r = ap (λ l. e.0 ∷ l) (names-with_role es r)
 
-pub juniors-with_role : (h : Hierarchy) (r c : Name) → immediate_juniors (with_role h r) c ≡ immediate_juniors h c
-juniors-with_role [] r c = elim (name_eq c r) as (λ b. cond b [] (immediate_juniors [] c) ≡ []) [ true ↦ refl | false ↦ refl ]
+pub juniors-with_role : (h : Hierarchy) (r c : Name)
+    → immediate_juniors (with_role h r) c ≡ immediate_juniors h c
+juniors-with_role [] r c = elim (name_eq c r) as (λ b. cond b [] (immediate_juniors [] c) ≡ [])
+    [ true ↦ refl | false ↦ refl ]
 juniors-with_role (e ∷ es) r c = ap (cond (name_eq c e.0) e.1) (juniors-with_role es r c)
 
 pub IsHierarchy-empty : IsHierarchy []
@@ -67,7 +86,8 @@ IsHierarchy-empty = record {
 
 -- lists of distinct names
 name_eq-apart : (a b : Name) → name_eq a b ≡ false → name_eq b a ≡ false
-name_eq-apart a b apart = refuted (name_eq b a) (λ is. true≢false (sym ((bytes_decides a b).1 (sym (same_name b a is))) ∙ apart))
+name_eq-apart a b apart = refuted (name_eq b a)
+    (λ is. true≢false (sym ((bytes_decides a b).1 (sym (same_name b a is))) ∙ apart))
 
 and_parts : (a b : Bool) → (a && b) ≡ true → (a ≡ true) × (b ≡ true)
 and_parts true b e = (refl, e)
@@ -85,22 +105,28 @@ not_true : (a : Bool) → not a ≡ true → a ≡ false
 not_true true e = absurd (true≢false (sym e))
 not_true false e = refl
 
-distinct-append : (xs : List Name) (n : Name) → are_distinct xs ≡ true → contains_name xs n ≡ false → are_distinct (xs ++ n ∷ []) ≡ true
+distinct-append : (xs : List Name) (n : Name) → are_distinct xs ≡ true → contains_name xs n ≡ false
+    → are_distinct (xs ++ n ∷ []) ≡ true
 distinct-append [] n once new = refl
 distinct-append (x ∷ xs) n once new =
     let parts = and_parts (not (contains_name xs x)) (are_distinct xs) once in
     let apart = not_parts (name_eq n x) (contains_name xs n) new in
     let first : contains_name xs x ≡ false = not_true (contains_name xs x) parts.0 in
     let other : name_eq x n ≡ false = name_eq-apart n x apart.0 in
-    and_both (not (contains_name (xs ++ n ∷ []) x)) _ (ap not (contains-append xs (n ∷ []) x ∙ (λ i. first i || (other i || false)))) (distinct-append xs n parts.1 apart.1)
+    and_both (not (contains_name (xs ++ n ∷ []) x)) _
+    (ap not (contains-append xs (n ∷ []) x ∙ (λ i. first i || (other i || false))))
+    (distinct-append xs n parts.1 apart.1)
 
-pub IsHierarchy-with_role : (h : Hierarchy) (r : Name) → length h < 512 → is_role h r ≡ false → IsHierarchy h → IsHierarchy (with_role h r)
+pub IsHierarchy-with_role : (h : Hierarchy) (r : Name) → length h < 512 → is_role h r ≡ false
+    → IsHierarchy h → IsHierarchy (with_role h r)
 IsHierarchy-with_role h r room new is = record {
   small = omega (arith, length-append h ((r, []) ∷ []));
-  roles_once = ap are_distinct (names-with_role h r) ∙ distinct-append (role_names h) r is.roles_once new;
+  roles_once =
+      ap are_distinct (names-with_role h r) ∙ distinct-append (role_names h) r is.roles_once new;
   pairs_once = λ a. ap are_distinct (juniors-with_role h r a) ∙ is.pairs_once a;
   pairs_of_roles = λ a b pair.
-      ap (λ l. contains_name l b) (names-with_role h r) ∙ contains-append (role_names h) (r ∷ []) b ∙ or_left _ _ (is.pairs_of_roles a b (fewer a b pair));
+      ap (λ l. contains_name l b) (names-with_role h r) ∙ contains-append (role_names h) (r ∷ []) b
+      ∙ or_left _ _ (is.pairs_of_roles a b (fewer a b pair));
   acyclic = acyclic-fewer (with_role h r) h fewer is.acyclic;
 }
   where
@@ -108,61 +134,93 @@ IsHierarchy-with_role h r room new is = record {
     fewer a b pair = ap (λ l. contains_name l b) (sym (juniors-with_role h r a)) ∙ pair
 
 -- other juniors of one role
-pub names-with_juniors : (h : Hierarchy) (r : Name) (js : List Name) → role_names (with_juniors h r js) ≡ role_names h
+pub names-with_juniors : (h : Hierarchy) (r : Name) (js : List Name)
+    → role_names (with_juniors h r js) ≡ role_names h
 names-with_juniors [] r js = refl
-names-with_juniors (e ∷ es) r js = elim (name_eq r e.0) as (λ b. role_names (cond b ((e.0, js) ∷ es) (e ∷ with_juniors es r js)) ≡ e.0 ∷ role_names es) [ true ↦ refl | false ↦ ap (λ l. e.0 ∷ l) (names-with_juniors es r js) ]
+names-with_juniors (e ∷ es) r js = elim (name_eq r e.0) as
+    (λ b. role_names (cond b ((e.0, js) ∷ es) (e ∷ with_juniors es r js)) ≡ e.0 ∷ role_names es)
+    [ true ↦ refl | false ↦ ap (λ l. e.0 ∷ l) (names-with_juniors es r js) ]
 
-pub length-with_juniors : (h : Hierarchy) (r : Name) (js : List Name) → length (with_juniors h r js) ≡ length h
+pub length-with_juniors : (h : Hierarchy) (r : Name) (js : List Name)
+    → length (with_juniors h r js) ≡ length h
 length-with_juniors [] r js = refl
-length-with_juniors (e ∷ es) r js = elim (name_eq r e.0) as (λ b. length (cond b ((e.0, js) ∷ es) (e ∷ with_juniors es r js)) ≡ suc (length es)) [ true ↦ refl | false ↦ ap suc (length-with_juniors es r js) ]
+length-with_juniors (e ∷ es) r js =
+    elim (name_eq r e.0) as (λ b. length (cond b ((e.0, js) ∷ es) (e ∷ with_juniors es r js))
+    ≡ suc (length es)) [ true ↦ refl | false ↦ ap suc (length-with_juniors es r js) ]
 
-pub juniors-with_juniors : (h : Hierarchy) (r : Name) (js : List Name) (c : Name) → is_role h r ≡ true → immediate_juniors (with_juniors h r js) c ≡ cond (name_eq c r) js (immediate_juniors h c)
+pub juniors-with_juniors : (h : Hierarchy) (r : Name) (js : List Name) (c : Name)
+    → is_role h r ≡ true → immediate_juniors (with_juniors h r js) c ≡ cond (name_eq c r) js
+    (immediate_juniors h c)
 juniors-with_juniors [] r js c there = absurd (true≢false (sym there))
 juniors-with_juniors (e ∷ es) r js c there =
-    elim (name_eq r e.0) as (λ b. name_eq r e.0 ≡ b → (b || is_role es r) ≡ true → immediate_juniors (cond b ((e.0, js) ∷ es) (e ∷ with_juniors es r js)) c ≡ cond (name_eq c r) js (cond (name_eq c e.0) e.1 (immediate_juniors es c))) [
-      | true ↦ λ at _. elim (name_eq c e.0) as (λ b. name_eq c e.0 ≡ b → cond b js (immediate_juniors es c) ≡ cond (name_eq c r) js (cond b e.1 (immediate_juniors es c))) [
-        | true ↦ λ here. ap (λ b. cond b js e.1) (sym ((bytes_decides c r).1 (same_name c e.0 here ∙ sym (same_name r e.0 at))))
-        | false ↦ λ other. ap (λ b. cond b js (immediate_juniors es c)) (sym (differs c r e.0 at other))
-      ] refl
-      | false ↦ λ apart later. elim (name_eq c e.0) as (λ b. name_eq c e.0 ≡ b → cond b e.1 (immediate_juniors (with_juniors es r js) c) ≡ cond (name_eq c r) js (cond b e.1 (immediate_juniors es c))) [
-        | true ↦ λ here. ap (λ b. cond b js e.1) (sym (apart_from c r e.0 here apart))
-        | false ↦ λ _. juniors-with_juniors es r js c later
-      ] refl
+    elim (name_eq r e.0) as (λ b. name_eq r e.0 ≡ b → (b || is_role es r) ≡ true
+    → immediate_juniors (cond b ((e.0, js) ∷ es) (e ∷ with_juniors es r js)) c
+    ≡ cond (name_eq c r) js (cond (name_eq c e.0) e.1 (immediate_juniors es c))) [
+      | true ↦ λ at _. elim (name_eq c e.0) as (λ b. name_eq c e.0 ≡ b
+          → cond b js (immediate_juniors es c) ≡ cond (name_eq c r) js
+          (cond b e.1 (immediate_juniors es c))) [
+            | true ↦ λ here. ap (λ b. cond b js e.1)
+                (sym ((bytes_decides c r).1 (same_name c e.0 here ∙ sym (same_name r e.0 at))))
+            | false ↦ λ other. ap (λ b. cond b js (immediate_juniors es c))
+                (sym (differs c r e.0 at other))
+          ] refl
+      | false ↦ λ apart later. elim (name_eq c e.0) as (λ b. name_eq c e.0 ≡ b
+          → cond b e.1 (immediate_juniors (with_juniors es r js) c) ≡ cond (name_eq c r) js
+          (cond b e.1 (immediate_juniors es c))) [
+            | true ↦ λ here. ap (λ b. cond b js e.1) (sym (apart_from c r e.0 here apart))
+            | false ↦ λ _. juniors-with_juniors es r js c later
+          ] refl
     ] refl there
   where
     differs : (c r k : Name) → name_eq r k ≡ true → name_eq c k ≡ false → name_eq c r ≡ false
     differs c r k at other = elim (name_eq c r) as (λ b. name_eq c r ≡ b → b ≡ false) [
-      | true ↦ λ also. absurd (true≢false (sym ((bytes_decides c k).1 (same_name c r also ∙ same_name r k at)) ∙ other))
+      | true ↦ λ also. absurd (true≢false
+          (sym ((bytes_decides c k).1 (same_name c r also ∙ same_name r k at)) ∙ other))
       | false ↦ λ _. refl
     ] refl
 
     apart_from : (c r k : Name) → name_eq c k ≡ true → name_eq r k ≡ false → name_eq c r ≡ false
     apart_from c r k here apart = elim (name_eq c r) as (λ b. name_eq c r ≡ b → b ≡ false) [
-      | true ↦ λ also. absurd (true≢false (sym ((bytes_decides r k).1 (sym (same_name c r also) ∙ same_name c k here)) ∙ apart))
+      | true ↦ λ also. absurd (true≢false
+          (sym ((bytes_decides r k).1 (sym (same_name c r also) ∙ same_name c k here)) ∙ apart))
       | false ↦ λ _. refl
     ] refl
 
 -- a pair after `with_pair` is that pair or was there
-pub with_pair-back : (h : Hierarchy) (s j : Name) → is_role h s ≡ true → (a b : Name) → is_immediate (with_pair h s j) a b ≡ true → (is_immediate h a b ≡ true) ⊎ ((a ≡ s) × (b ≡ j))
+pub with_pair-back : (h : Hierarchy) (s j : Name) → is_role h s ≡ true → (a b : Name)
+    → is_immediate (with_pair h s j) a b ≡ true → (is_immediate h a b ≡ true) ⊎ ((a ≡ s) × (b ≡ j))
 with_pair-back h s j there a b pair =
-    let now : contains_name (cond (name_eq a s) (immediate_juniors h s ++ j ∷ []) (immediate_juniors h a)) b ≡ true = ap (λ l. contains_name l b) (sym (juniors-with_juniors h s _ a there)) ∙ pair in
-    elim (name_eq a s) as (λ t. name_eq a s ≡ t → contains_name (cond t (immediate_juniors h s ++ j ∷ []) (immediate_juniors h a)) b ≡ true → (is_immediate h a b ≡ true) ⊎ ((a ≡ s) × (b ≡ j))) [
-      | true ↦ λ at is. elim (or_cases _ _ (sym (contains-append (immediate_juniors h s) (j ∷ []) b) ∙ is)) [
-        | inl old ↦ inl (ap (λ k. is_immediate h k b) (same_name a s at) ∙ old)
-        | inr new ↦ inr (same_name a s at, same_name b j (elim (or_cases _ _ new) [ inl e ↦ e | inr e ↦ absurd (true≢false (sym e)) ]))
-      ]
+    let now : contains_name (cond (name_eq a s) (immediate_juniors h s ++ j ∷ [])
+    (immediate_juniors h a)) b ≡ true = ap (λ l. contains_name l b)
+    (sym (juniors-with_juniors h s _ a there)) ∙ pair in
+    elim (name_eq a s) as (λ t. name_eq a s ≡ t
+    → contains_name (cond t (immediate_juniors h s ++ j ∷ []) (immediate_juniors h a)) b ≡ true
+    → (is_immediate h a b ≡ true) ⊎ ((a ≡ s) × (b ≡ j))) [
+      | true ↦ λ at is. elim (or_cases _ _ (sym (contains-append (immediate_juniors h s) (j ∷ []) b)
+          ∙ is)) [
+            | inl old ↦ inl (ap (λ k. is_immediate h k b) (same_name a s at) ∙ old)
+            | inr new ↦ inr (
+              same_name a s at,
+              same_name b j (elim (or_cases _ _ new)
+                  [ inl e ↦ e | inr e ↦ absurd (true≢false (sym e)) ]),
+            )
+          ]
       | false ↦ λ _ is. inl is
     ] refl now
 
-pub pairs-with_pair : (h : Hierarchy) (s j : Name) → is_role h s ≡ true → (a b : Name) → is_immediate h a b ≡ true → is_immediate (with_pair h s j) a b ≡ true
+pub pairs-with_pair : (h : Hierarchy) (s j : Name) → is_role h s ≡ true → (a b : Name)
+    → is_immediate h a b ≡ true → is_immediate (with_pair h s j) a b ≡ true
 pairs-with_pair h s j there a b pair =
     ap (λ l. contains_name l b) (juniors-with_juniors h s _ a there)
-    ∙ elim (name_eq a s) as (λ t. name_eq a s ≡ t → contains_name (cond t (immediate_juniors h s ++ j ∷ []) (immediate_juniors h a)) b ≡ true) [
-      | true ↦ λ at. contains-append (immediate_juniors h s) (j ∷ []) b ∙ or_left _ _ (ap (λ k. is_immediate h k b) (sym (same_name a s at)) ∙ pair)
+    ∙ elim (name_eq a s) as (λ t. name_eq a s ≡ t
+    → contains_name (cond t (immediate_juniors h s ++ j ∷ []) (immediate_juniors h a)) b ≡ true) [
+      | true ↦ λ at. contains-append (immediate_juniors h s) (j ∷ []) b
+          ∙ or_left _ _ (ap (λ k. is_immediate h k b) (sym (same_name a s at)) ∙ pair)
       | false ↦ λ _. pair
     ] refl
 
-pub with_pair-chains : (h : Hierarchy) (s j : Name) → is_role h s ≡ true → (a b : Name) → IsAtLeast (with_pair h s j) a b → IsAtLeast h a b ⊎ (IsAtLeast h a s × IsAtLeast h j b)
+pub with_pair-chains : (h : Hierarchy) (s j : Name) → is_role h s ≡ true → (a b : Name)
+    → IsAtLeast (with_pair h s j) a b → IsAtLeast h a b ⊎ (IsAtLeast h a s × IsAtLeast h j b)
 with_pair-chains h s j there a b same = inl same
 with_pair-chains h s j there a b (chain {middle = m} pair rest) =
     elim (with_pair-back h s j there a m pair) [
@@ -171,104 +229,157 @@ with_pair-chains h s j there a b (chain {middle = m} pair rest) =
         | inr through ↦ inr (chain old through.0, through.1)
       ]
       | inr new ↦ elim (with_pair-chains h s j there m b rest) [
-        | inl below ↦ inr (subst (λ k. IsAtLeast h k s) (sym new.0) same, subst (λ k. IsAtLeast h k b) new.1 below)
+        | inl below ↦ inr (
+          subst (λ k. IsAtLeast h k s) (sym new.0) same,
+          subst (λ k. IsAtLeast h k b) new.1 below,
+        )
         | inr through ↦ inr (subst (λ k. IsAtLeast h k s) (sym new.0) same, through.1)
       ]
     ]
 
-pub IsHierarchy-with_pair : (h : Hierarchy) (s j : Name) → is_role h s ≡ true → is_role h j ≡ true → is_immediate h s j ≡ false → at_least h j s ≡ false → IsHierarchy h → IsHierarchy (with_pair h s j)
+pub IsHierarchy-with_pair : (h : Hierarchy) (s j : Name) → is_role h s ≡ true → is_role h j ≡ true
+    → is_immediate h s j ≡ false → at_least h j s ≡ false → IsHierarchy h
+    → IsHierarchy (with_pair h s j)
 IsHierarchy-with_pair h s j senior junior new apart is = record {
-  small = let same = length-with_juniors h s (immediate_juniors h s ++ j ∷ []) in let before = is.small in omega arith;
-  pairs_of_roles = λ a b pair. ap (λ l. contains_name l b) (names-with_juniors h s _) ∙ elim (with_pair-back h s j senior a b pair) [
-    | inl old ↦ is.pairs_of_roles a b old
-    | inr new ↦ ap (is_role h) new.1 ∙ junior
-  ];
+  small = let same = length-with_juniors h s (immediate_juniors h s ++ j ∷ []) in let before =
+      is.small in omega arith;
+  pairs_of_roles = λ a b pair. ap (λ l. contains_name l b) (names-with_juniors h s _)
+      ∙ elim (with_pair-back h s j senior a b pair) [
+        | inl old ↦ is.pairs_of_roles a b old
+        | inr new ↦ ap (is_role h) new.1 ∙ junior
+      ];
   roles_once = ap are_distinct (names-with_juniors h s _) ∙ is.roles_once;
-  pairs_once = λ a. ap are_distinct (juniors-with_juniors h s _ a senior) ∙ elim (name_eq a s) as (λ t. are_distinct (cond t (immediate_juniors h s ++ j ∷ []) (immediate_juniors h a)) ≡ true) [
-    | true ↦ distinct-append (immediate_juniors h s) j (is.pairs_once s) new
-    | false ↦ is.pairs_once a
-  ];
-  acyclic = λ a b pair. refuted (at_least (with_pair h s j) b a) (λ up. turns a b (with_pair-back h s j senior a b pair) (with_pair-chains h s j senior b a (leads-sound _ b a up)));
+  pairs_once = λ a. ap are_distinct (juniors-with_juniors h s _ a senior)
+      ∙ elim (name_eq a s) as (λ t. are_distinct
+      (cond t (immediate_juniors h s ++ j ∷ []) (immediate_juniors h a)) ≡ true) [
+        | true ↦ distinct-append (immediate_juniors h s) j (is.pairs_once s) new
+        | false ↦ is.pairs_once a
+      ];
+  acyclic = λ a b pair. refuted (at_least (with_pair h s j) b a)
+      (λ up. turns a b (with_pair-back h s j senior a b pair)
+      (with_pair-chains h s j senior b a (leads-sound _ b a up)));
 }
   where
     closed : IsAtLeast h j s → ⊥
     closed down = true≢false (sym (leads-complete h j s down) ∙ apart)
 
-    turns : (a b : Name) → (is_immediate h a b ≡ true) ⊎ ((a ≡ s) × (b ≡ j)) → IsAtLeast h b a ⊎ (IsAtLeast h b s × IsAtLeast h j a) → ⊥
+    turns : (a b : Name) → (is_immediate h a b ≡ true) ⊎ ((a ≡ s) × (b ≡ j))
+        → IsAtLeast h b a ⊎ (IsAtLeast h b s × IsAtLeast h j a) → ⊥
     turns a b (inl old) (inl up) = true≢false (sym (leads-complete h b a up) ∙ is.acyclic a b old)
     turns a b (inl old) (inr through) = closed (chain-trans h j a s through.1 (chain old through.0))
-    turns a b (inr new_pair) (inl up) = closed (subst (λ k. IsAtLeast h j k) new_pair.0 (subst (λ k. IsAtLeast h k a) new_pair.1 up))
-    turns a b (inr new_pair) (inr through) = closed (subst (λ k. IsAtLeast h k s) new_pair.1 through.0)
+    turns a b (inr new_pair) (inl up) =
+        closed (subst (λ k. IsAtLeast h j k) new_pair.0
+        (subst (λ k. IsAtLeast h k a) new_pair.1 up))
+    turns a b (inr new_pair) (inr through) =
+        closed (subst (λ k. IsAtLeast h k s) new_pair.1 through.0)
 
-pub contains-without : (xs : List Name) (r b : Name) → contains_name (without_name xs r) b ≡ true → (contains_name xs b ≡ true) × (name_eq r b ≡ false)
+pub contains-without : (xs : List Name) (r b : Name) → contains_name (without_name xs r) b ≡ true
+    → (contains_name xs b ≡ true) × (name_eq r b ≡ false)
 contains-without [] r b is = absurd (true≢false (sym is))
 contains-without (x ∷ xs) r b is =
-    elim (name_eq r x) as (λ t. name_eq r x ≡ t → contains_name (cond (not t) (x ∷ without_name xs r) (without_name xs r)) b ≡ true → ((name_eq b x || contains_name xs b) ≡ true) × (name_eq r b ≡ false)) [
-      | true ↦ λ _ later. let rest = contains-without xs r b later in (or_right (name_eq b x) (contains_name xs b) rest.0, rest.1)
-      | false ↦ λ other kept. elim (or_cases (name_eq b x) (contains_name (without_name xs r) b) kept) [
-        | inl here ↦ (or_left (name_eq b x) (contains_name xs b) here, ap (name_eq r) (same_name b x here) ∙ other)
-        | inr later ↦ let rest = contains-without xs r b later in (or_right (name_eq b x) (contains_name xs b) rest.0, rest.1)
-      ]
+    elim (name_eq r x) as (λ t. name_eq r x ≡ t
+    → contains_name (cond (not t) (x ∷ without_name xs r) (without_name xs r)) b ≡ true
+    → ((name_eq b x || contains_name xs b) ≡ true) × (name_eq r b ≡ false)) [
+      | true ↦ λ _ later. let rest = contains-without xs r b later in
+          (or_right (name_eq b x) (contains_name xs b) rest.0, rest.1)
+      | false ↦ λ other kept. elim (or_cases (name_eq b x) (contains_name (without_name xs r) b)
+          kept) [
+            | inl here ↦ (
+              or_left (name_eq b x) (contains_name xs b) here,
+              ap (name_eq r) (same_name b x here) ∙ other,
+            )
+            | inr later ↦ let rest = contains-without xs r b later in
+                (or_right (name_eq b x) (contains_name xs b) rest.0, rest.1)
+          ]
     ] refl is
 
-distinct-without : (xs : List Name) (r : Name) → are_distinct xs ≡ true → are_distinct (without_name xs r) ≡ true
+distinct-without : (xs : List Name) (r : Name) → are_distinct xs ≡ true
+    → are_distinct (without_name xs r) ≡ true
 distinct-without [] r once = refl
 distinct-without (x ∷ xs) r once =
     let parts = and_parts (not (contains_name xs x)) (are_distinct xs) once in
     let rest = distinct-without xs r parts.1 in
-    let first : contains_name (without_name xs r) x ≡ false = refuted (contains_name (without_name xs r) x) (λ is. true≢false (sym (contains-without xs r x is).0 ∙ not_true (contains_name xs x) parts.0)) in
-    elim (name_eq r x) as (λ t. are_distinct (cond (not t) (x ∷ without_name xs r) (without_name xs r)) ≡ true) [
+    let first : contains_name (without_name xs r) x ≡ false =
+    refuted (contains_name (without_name xs r) x)
+    (λ is. true≢false (sym (contains-without xs r x is).0
+    ∙ not_true (contains_name xs x) parts.0)) in
+    elim (name_eq r x) as (λ t. are_distinct
+    (cond (not t) (x ∷ without_name xs r) (without_name xs r)) ≡ true) [
       | true ↦ rest
       | false ↦ and_both (not (contains_name (without_name xs r) x)) _ (ap not first) rest
     ]
 
-pub pairs-without_pair : (h : Hierarchy) (s j : Name) → is_role h s ≡ true → (a b : Name) → is_immediate (without_pair h s j) a b ≡ true → is_immediate h a b ≡ true
-pairs-without_pair h s j there a b pair = elim (name_eq a s) as (λ t. name_eq a s ≡ t → contains_name (cond t (without_name (immediate_juniors h s) j) (immediate_juniors h a)) b ≡ true → is_immediate h a b ≡ true) [
-  | true ↦ λ at kept. ap (λ k. is_immediate h k b) (same_name a s at) ∙ (contains-without _ j b kept).0
-  | false ↦ λ _ kept. kept
-] refl (ap (λ l. contains_name l b) (sym (juniors-with_juniors h s _ a there)) ∙ pair)
+pub pairs-without_pair : (h : Hierarchy) (s j : Name) → is_role h s ≡ true → (a b : Name)
+    → is_immediate (without_pair h s j) a b ≡ true → is_immediate h a b ≡ true
+pairs-without_pair h s j there a b pair = elim (name_eq a s) as (λ t. name_eq a s ≡ t
+    → contains_name (cond t (without_name (immediate_juniors h s) j) (immediate_juniors h a)) b
+    ≡ true → is_immediate h a b ≡ true) [
+      | true ↦ λ at kept. ap (λ k. is_immediate h k b) (same_name a s at)
+          ∙ (contains-without _ j b kept).0
+      | false ↦ λ _ kept. kept
+    ] refl (ap (λ l. contains_name l b) (sym (juniors-with_juniors h s _ a there)) ∙ pair)
 
-pub IsHierarchy-without_pair : (h : Hierarchy) (s j : Name) → is_role h s ≡ true → IsHierarchy h → IsHierarchy (without_pair h s j)
+pub IsHierarchy-without_pair : (h : Hierarchy) (s j : Name) → is_role h s ≡ true → IsHierarchy h
+    → IsHierarchy (without_pair h s j)
 IsHierarchy-without_pair h s j there is = record {
-  small = let same = length-with_juniors h s (without_name (immediate_juniors h s) j) in let before = is.small in omega arith;
+  small = let same = length-with_juniors h s (without_name (immediate_juniors h s) j) in
+      let before = is.small in omega arith;
   roles_once = ap are_distinct (names-with_juniors h s _) ∙ is.roles_once;
-  pairs_once = λ a. ap are_distinct (juniors-with_juniors h s _ a there) ∙ elim (name_eq a s) as (λ t. are_distinct (cond t (without_name (immediate_juniors h s) j) (immediate_juniors h a)) ≡ true) [
-    | true ↦ distinct-without (immediate_juniors h s) j (is.pairs_once s)
-    | false ↦ is.pairs_once a
-  ];
-  pairs_of_roles = λ a b pair. ap (λ l. contains_name l b) (names-with_juniors h s _) ∙ is.pairs_of_roles a b (fewer a b pair);
+  pairs_once = λ a. ap are_distinct (juniors-with_juniors h s _ a there)
+      ∙ elim (name_eq a s) as (λ t. are_distinct
+      (cond t (without_name (immediate_juniors h s) j) (immediate_juniors h a)) ≡ true) [
+        | true ↦ distinct-without (immediate_juniors h s) j (is.pairs_once s)
+        | false ↦ is.pairs_once a
+      ];
+  pairs_of_roles = λ a b pair. ap (λ l. contains_name l b) (names-with_juniors h s _)
+      ∙ is.pairs_of_roles a b (fewer a b pair);
   acyclic = acyclic-fewer (without_pair h s j) h fewer is.acyclic;
 }
   where
     fewer : (a b : Name) → is_immediate (without_pair h s j) a b ≡ true → is_immediate h a b ≡ true
     fewer = pairs-without_pair h s j there
 
-juniors-without : (es : Hierarchy) (r c : Name) → immediate_juniors (map (λ (e : Name × List Name). (e.0, without_name e.1 r)) es) c ≡ without_name (immediate_juniors es c) r
+juniors-without : (es : Hierarchy) (r c : Name)
+    → immediate_juniors (map (λ (e : Name × List Name). (e.0, without_name e.1 r)) es) c
+    ≡ without_name (immediate_juniors es c) r
 juniors-without [] r c = refl
-juniors-without (e ∷ es) r c = elim (name_eq c e.0) as (λ b. cond b (without_name e.1 r) (immediate_juniors (map (λ (x : Name × List Name). (x.0, without_name x.1 r)) es) c) ≡ without_name (cond b e.1 (immediate_juniors es c)) r) [ true ↦ refl | false ↦ juniors-without es r c ]
+juniors-without (e ∷ es) r c = elim (name_eq c e.0) as
+    (λ b. cond b (without_name e.1 r) (immediate_juniors
+    (map (λ (x : Name × List Name). (x.0, without_name x.1 r)) es) c) ≡ without_name
+    (cond b e.1 (immediate_juniors es c)) r) [ true ↦ refl | false ↦ juniors-without es r c ]
 
-names-map : (es : Hierarchy) (r : Name) → role_names (map (λ (e : Name × List Name). (e.0, without_name e.1 r)) es) ≡ role_names es
+names-map : (es : Hierarchy) (r : Name)
+    → role_names (map (λ (e : Name × List Name). (e.0, without_name e.1 r)) es) ≡ role_names es
 names-map [] r = refl
 names-map (e ∷ es) r = ap (λ l. e.0 ∷ l) (names-map es r)
 
-role-without : (h : Hierarchy) (r b : Name) → is_role h b ≡ true → name_eq r b ≡ false → is_role (entries_without h r) b ≡ true
+role-without : (h : Hierarchy) (r b : Name) → is_role h b ≡ true → name_eq r b ≡ false
+    → is_role (entries_without h r) b ≡ true
 role-without [] r b there other = there
 role-without (e ∷ es) r b there other =
-    elim (name_eq r e.0) as (λ t. name_eq r e.0 ≡ t → is_role (cond (not t) (e ∷ entries_without es r) (entries_without es r)) b ≡ true) [
+    elim (name_eq r e.0) as (λ t. name_eq r e.0 ≡ t
+    → is_role (cond (not t) (e ∷ entries_without es r) (entries_without es r)) b ≡ true) [
       | true ↦ λ at. elim (or_cases (name_eq b e.0) (is_role es b) there) [
-        | inl here ↦ absurd (true≢false (sym ((bytes_decides r b).1 (same_name r e.0 at ∙ sym (same_name b e.0 here))) ∙ other))
+        | inl here
+            ↦
+            absurd (true≢false (sym ((bytes_decides r b).1
+            (same_name r e.0 at ∙ sym (same_name b e.0 here))) ∙ other))
         | inr later ↦ role-without es r b later other
       ]
       | false ↦ λ _. elim (or_cases (name_eq b e.0) (is_role es b) there) [
         | inl here ↦ or_left (name_eq b e.0) (is_role (entries_without es r) b) here
-        | inr later ↦ or_right (name_eq b e.0) (is_role (entries_without es r) b) (role-without es r b later other)
+        | inr later ↦ or_right (name_eq b e.0) (is_role (entries_without es r) b)
+            (role-without es r b later other)
       ]
     ] refl
 
-names-entries_without : (h : Hierarchy) (r : Name) → role_names (entries_without h r) ≡ without_name (role_names h) r
+names-entries_without : (h : Hierarchy) (r : Name)
+    → role_names (entries_without h r) ≡ without_name (role_names h) r
 names-entries_without [] r = refl
 names-entries_without (e ∷ es) r =
-    elim (name_eq r e.0) as (λ t. role_names (cond (not t) (e ∷ entries_without es r) (entries_without es r)) ≡ cond (not t) (e.0 ∷ without_name (role_names es) r) (without_name (role_names es) r)) [
+    elim (name_eq r e.0) as (λ t. role_names
+    (cond (not t) (e ∷ entries_without es r) (entries_without es r)) ≡ cond (not t)
+    (e.0 ∷ without_name (role_names es) r) (without_name (role_names es) r)) [
       | true ↦ names-entries_without es r
       | false ↦ ap (λ l. e.0 ∷ l) (names-entries_without es r)
     ]
@@ -277,67 +388,90 @@ no_longer : (h : Hierarchy) (r : Name) → length (entries_without h r) ≤ leng
 no_longer [] r = omega arith
 no_longer (e ∷ es) r =
     let rest = no_longer es r in
-    elim (name_eq r e.0) as (λ b. length (cond (not b) (e ∷ entries_without es r) (entries_without es r)) ≤ suc (length es)) [ true ↦ omega arith | false ↦ omega arith ]
+    elim (name_eq r e.0) as (λ b. length
+    (cond (not b) (e ∷ entries_without es r) (entries_without es r)) ≤ suc (length es))
+    [ true ↦ omega arith | false ↦ omega arith ]
 
 shrinks : (h : Hierarchy) (r : Name) → length (without_role h r) ≤ length h
 shrinks h r =
     let kept = no_longer h r in
-    let mapped : length (without_role h r) ≡ length (entries_without h r) = length-map (entries_without h r) (λ (e : Name × List Name). (e.0, without_name e.1 r)) in
+    let mapped : length (without_role h r) ≡ length (entries_without h r) =
+    length-map (entries_without h r) (λ (e : Name × List Name). (e.0, without_name e.1 r)) in
     omega arith
 
-juniors-left : (h : Hierarchy) (r a b : Name) → is_immediate (without_role h r) a b ≡ true → contains_name (without_name (immediate_juniors (entries_without h r) a) r) b ≡ true
-juniors-left h r a b pair = ap (λ l. contains_name l b) (sym (juniors-without (entries_without h r) r a)) ∙ pair
+juniors-left : (h : Hierarchy) (r a b : Name) → is_immediate (without_role h r) a b ≡ true
+    → contains_name (without_name (immediate_juniors (entries_without h r) a) r) b ≡ true
+juniors-left h r a b pair =
+    ap (λ l. contains_name l b) (sym (juniors-without (entries_without h r) r a)) ∙ pair
 
-pub pairs-without_role : (h : Hierarchy) (r a b : Name) → is_immediate (without_role h r) a b ≡ true → is_immediate h a b ≡ true
-pairs-without_role h r a b pair = weaken_link h r a b (contains-without _ r b (juniors-left h r a b pair)).0
+pub pairs-without_role : (h : Hierarchy) (r a b : Name) → is_immediate (without_role h r) a b ≡ true
+    → is_immediate h a b ≡ true
+pairs-without_role h r a b pair =
+    weaken_link h r a b (contains-without _ r b (juniors-left h r a b pair)).0
 
-pub names-without_role : (h : Hierarchy) (r : Name) → role_names (without_role h r) ≡ without_name (role_names h) r
+pub names-without_role : (h : Hierarchy) (r : Name)
+    → role_names (without_role h r) ≡ without_name (role_names h) r
 names-without_role h r = names-map (entries_without h r) r ∙ names-entries_without h r
 
-pub roles-left : (h : Hierarchy) (r b : Name) → is_role h b ≡ true → name_eq r b ≡ false → is_role (without_role h r) b ≡ true
-roles-left h r b there other = ap (λ l. contains_name l b) (names-map (entries_without h r) r) ∙ role-without h r b there other
+pub roles-left : (h : Hierarchy) (r b : Name) → is_role h b ≡ true → name_eq r b ≡ false
+    → is_role (without_role h r) b ≡ true
+roles-left h r b there other =
+    ap (λ l. contains_name l b) (names-map (entries_without h r) r) ∙ role-without h r b there other
 
-pub IsHierarchy-without_role : (h : Hierarchy) (r : Name) → IsHierarchy h → IsHierarchy (without_role h r)
+pub IsHierarchy-without_role : (h : Hierarchy) (r : Name) → IsHierarchy h
+    → IsHierarchy (without_role h r)
 IsHierarchy-without_role h r is = record {
   small = let fewer_roles = shrinks h r in let before = is.small in omega arith;
-  roles_once = ap are_distinct (names-map (entries_without h r) r ∙ names-entries_without h r) ∙ distinct-without (role_names h) r is.roles_once;
-  pairs_once = λ a. ap are_distinct (juniors-without (entries_without h r) r a) ∙ distinct-without (immediate_juniors (entries_without h r) a) r (left_once a);
+  roles_once = ap are_distinct (names-map (entries_without h r) r ∙ names-entries_without h r)
+      ∙ distinct-without (role_names h) r is.roles_once;
+  pairs_once = λ a. ap are_distinct (juniors-without (entries_without h r) r a)
+      ∙ distinct-without (immediate_juniors (entries_without h r) a) r (left_once a);
   pairs_of_roles = λ a b pair.
-      ap (λ l. contains_name l b) (names-map (entries_without h r) r) ∙ role-without h r b (is.pairs_of_roles a b (fewer a b pair)) (contains-without _ r b (juniors-left h r a b pair)).1;
+      ap (λ l. contains_name l b) (names-map (entries_without h r) r)
+      ∙ role-without h r b (is.pairs_of_roles a b (fewer a b pair))
+      (contains-without _ r b (juniors-left h r a b pair)).1;
   acyclic = acyclic-fewer (without_role h r) h fewer is.acyclic;
 }
   where
     left_once : (a : Name) → are_distinct (immediate_juniors (entries_without h r) a) ≡ true
-    left_once a = elim (name_eq r a) as (λ t. name_eq r a ≡ t → are_distinct (immediate_juniors (entries_without h r) a) ≡ true) [
-      | true ↦ λ at. ap (λ k. are_distinct (immediate_juniors (entries_without h r) k)) (sym (same_name r a at)) ∙ ap are_distinct (linked-without_same h r)
-      | false ↦ λ apart. ap are_distinct (linked-without_other h r a apart) ∙ is.pairs_once a
-    ] refl
+    left_once a = elim (name_eq r a) as (λ t. name_eq r a ≡ t
+        → are_distinct (immediate_juniors (entries_without h r) a) ≡ true) [
+          | true ↦ λ at. ap (λ k. are_distinct (immediate_juniors (entries_without h r) k))
+              (sym (same_name r a at)) ∙ ap are_distinct (linked-without_same h r)
+          | false ↦ λ apart. ap are_distinct (linked-without_other h r a apart) ∙ is.pairs_once a
+        ] refl
 
     fewer : (a b : Name) → is_immediate (without_role h r) a b ≡ true → is_immediate h a b ≡ true
     fewer = pairs-without_role h r
 
 -- a chain between two roles ends with a pair, so what it leads down to is a role
-pub junior_role : (h : Hierarchy) → IsHierarchy h → (a b : Name) → IsAtLeast h a b → (a ≡ b) ⊎ (is_role h b ≡ true)
+pub junior_role : (h : Hierarchy) → IsHierarchy h → (a b : Name) → IsAtLeast h a b
+    → (a ≡ b) ⊎ (is_role h b ≡ true)
 junior_role h is a b same = inl refl
 junior_role h is a b (chain {middle = m} pair rest) = elim (junior_role h is m b rest) [
   | inl end ↦ inr (ap (is_role h) (sym end) ∙ is.pairs_of_roles a m pair)
   | inr role ↦ inr role
 ]
 
-pub contains-filter : (p : Name → Bool) (xs : List Name) (b : Name) → contains_name (filter p xs) b ≡ (contains_name xs b && p b)
+pub contains-filter : (p : Name → Bool) (xs : List Name) (b : Name)
+    → contains_name (filter p xs) b ≡ (contains_name xs b && p b)
 contains-filter p [] b = refl
 contains-filter p (x ∷ xs) b =
-    elim (p x) as (λ t. p x ≡ t → contains_name (cond t (x ∷ filter p xs) (filter p xs)) b ≡ ((name_eq b x || contains_name xs b) && p b)) [
-      | true ↦ λ passes. elim (name_eq b x) as (λ t. name_eq b x ≡ t → (t || contains_name (filter p xs) b) ≡ ((t || contains_name xs b) && p b)) [
-        | true ↦ λ here. sym passes ∙ ap p (sym (same_name b x here))
-        | false ↦ λ _. contains-filter p xs b
-      ] refl
-      | false ↦ λ fails. elim (name_eq b x) as (λ t. name_eq b x ≡ t → contains_name (filter p xs) b ≡ ((t || contains_name xs b) && p b)) [
-        | true ↦ λ here.
-            let none : p b ≡ false = ap p (same_name b x here) ∙ fails in
-            contains-filter p xs b ∙ ap (λ t. contains_name xs b && t) none ∙ and_false (contains_name xs b) ∙ sym none
-        | false ↦ λ _. contains-filter p xs b
-      ] refl
+    elim (p x) as (λ t. p x ≡ t → contains_name (cond t (x ∷ filter p xs) (filter p xs)) b
+    ≡ ((name_eq b x || contains_name xs b) && p b)) [
+      | true ↦ λ passes. elim (name_eq b x) as (λ t. name_eq b x ≡ t
+          → (t || contains_name (filter p xs) b) ≡ ((t || contains_name xs b) && p b)) [
+            | true ↦ λ here. sym passes ∙ ap p (sym (same_name b x here))
+            | false ↦ λ _. contains-filter p xs b
+          ] refl
+      | false ↦ λ fails. elim (name_eq b x) as (λ t. name_eq b x ≡ t
+          → contains_name (filter p xs) b ≡ ((t || contains_name xs b) && p b)) [
+            | true ↦ λ here.
+                let none : p b ≡ false = ap p (same_name b x here) ∙ fails in
+                contains-filter p xs b ∙ ap (λ t. contains_name xs b && t) none
+                ∙ and_false (contains_name xs b) ∙ sym none
+            | false ↦ λ _. contains-filter p xs b
+          ] refl
     ] refl
   where
     and_false : (t : Bool) → (t && false) ≡ false

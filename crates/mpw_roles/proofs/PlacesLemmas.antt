@@ -12,7 +12,8 @@ use Rattle.mpw_geom.specs.Links.{same, chain}
 use Rattle.mpw_geom.proofs.Linked.{same_name, name_eq-refl, leads-sound, leads-complete, chain-trans}
 use Rattle.mpw_roles.specs.declared.mask.Mask.{Mask}
 use Rattle.mpw_roles.specs.Hierarchy.{Name, Hierarchy, role_names, is_role, is_immediate, immediate_juniors, with_role, with_pair}
-use Rattle.mpw_roles.specs.Marks.{Marks, marked, marked_names, IsReached, Keeps, IsExpanded}
+use Rattle.mpw_roles.specs.Marks.{Marks, marked_names}
+use Rattle.mpw_roles.specs.Internal.Marks.{marked, IsReached, Keeps, IsExpanded}
 use Rattle.mpw_roles.specs.Mask.{has}
 use Rattle.mpw_roles.specs.Order.{at_least, is_below, roles_below, IsAtLeast, IsHierarchy}
 use Rattle.mpw_roles.specs.Places.{name_at, is_place_under, is_place_below, marks_from, mask_at, IsMasked}
@@ -25,24 +26,30 @@ pub length-marks_from : (place n : ℕ) (m : Mask) → length (marks_from place 
 length-marks_from place zero m = refl
 length-marks_from place (suc n) m = ap suc (length-marks_from (suc place) n m)
 
-marks_from-at : (place n : ℕ) (m : Mask) (i : ℕ) → i < n → get_or (marks_from place n m) i false ≡ has m (place + i)
+marks_from-at : (place n : ℕ) (m : Mask) (i : ℕ) → i < n
+    → get_or (marks_from place n m) i false ≡ has m (place + i)
 marks_from-at place zero m i inside = absurd (omega arith)
 marks_from-at place (suc n) m zero inside = let p : place ≡ place + 0 = omega arith in ap (has m) p
-marks_from-at place (suc n) m (suc i) inside = let p : suc place + i ≡ place + suc i = omega arith in marks_from-at (suc place) n m i (omega arith) ∙ ap (has m) p
+marks_from-at place (suc n) m (suc i) inside = let p : suc place + i ≡ place + suc i =
+    omega arith in marks_from-at (suc place) n m i (omega arith) ∙ ap (has m) p
 
 pub mark-at : (n : ℕ) (m : Mask) (i : ℕ) → i < n → get_or (marks_from 0 n m) i false ≡ has m i
 mark-at n m i inside = marks_from-at 0 n m i inside ∙ ap (has m) (zero-add i)
 
 -- where the marks are a test of the name at each place, the marked names are those that pass
-pub marked_names-places : (p : Name → Bool) (h : Hierarchy) (ms : Marks) → length h ≤ length ms → ((i : ℕ) → i < length h → get_or ms i false ≡ p (name_at h i)) → marked_names h ms ≡ filter p (role_names h)
+pub marked_names-places : (p : Name → Bool) (h : Hierarchy) (ms : Marks) → length h ≤ length ms
+    → ((i : ℕ) → i < length h → get_or ms i false ≡ p (name_at h i))
+    → marked_names h ms ≡ filter p (role_names h)
 marked_names-places p [] ms long is = refl
 marked_names-places p (e ∷ es) [] long is = absurd (omega arith)
 marked_names-places p (e ∷ es) (m ∷ ms) long is =
     let rest = marked_names-places p es ms (omega arith) (λ i inside. is (suc i) (omega arith)) in
-    ap (λ b. cond b (e.0 ∷ marked_names es ms) (marked_names es ms)) (is zero (omega arith)) ∙ ap (λ l. cond (p e.0) (e.0 ∷ l) l) rest
+    ap (λ b. cond b (e.0 ∷ marked_names es ms) (marked_names es ms)) (is zero (omega arith))
+    ∙ ap (λ l. cond (p e.0) (e.0 ∷ l) l) rest
 
 -- the role at a place that was found
-pub name-found : (h : Hierarchy) (r : Name) (i : ℕ) → Some i ≡ position (name_eq r) (role_names h) → (i < length h) × (name_at h i ≡ r)
+pub name-found : (h : Hierarchy) (r : Name) (i : ℕ) → Some i ≡ position (name_eq r) (role_names h)
+    → (i < length h) × (name_at h i ≡ r)
 name-found h r i found =
     let at = position-Some (name_eq r) (role_names h) i [] (sym found) in
     let inside = at.0 in
@@ -51,7 +58,8 @@ name-found h r i found =
 pub name-is_role : (h : Hierarchy) (i : ℕ) → i < length h → is_role h (name_at h i) ≡ true
 name-is_role [] i inside = absurd (omega arith)
 name-is_role (e ∷ es) zero inside = ap (λ b. b || is_role es e.0) (name_eq-refl e.0)
-name-is_role (e ∷ es) (suc i) inside = or_later (name_eq (name_at es i) e.0) _ (name-is_role es i (omega arith))
+name-is_role (e ∷ es) (suc i) inside =
+    or_later (name_eq (name_at es i) e.0) _ (name-is_role es i (omega arith))
   where
     or_later : (a b : Bool) → b ≡ true → (a || b) ≡ true
     or_later true b e = refl
@@ -60,15 +68,18 @@ name-is_role (e ∷ es) (suc i) inside = or_later (name_eq (name_at es i) e.0) _
 -- what is no role is at least itself alone
 alone : (h : Hierarchy) (a b : Name) → is_role h a ≡ false → IsAtLeast h a b → name_eq a b ≡ true
 alone h a b none same = name_eq-refl a
-alone h a b none (chain {middle = m} pair rest) = absurd (true≢false (sym (first_role h a m pair) ∙ none))
+alone h a b none (chain {middle = m} pair rest) =
+    absurd (true≢false (sym (first_role h a m pair) ∙ none))
 
-pub stranger-above : (h : Hierarchy) (a b : Name) → is_role h a ≡ false → name_eq a b ≡ at_least h a b
+pub stranger-above : (h : Hierarchy) (a b : Name) → is_role h a ≡ false
+    → name_eq a b ≡ at_least h a b
 stranger-above h a b none = both_ways _ _
     (λ equal. leads-complete h a b (subst (IsAtLeast h a) (same_name a b equal) same))
     (λ down. alone h a b none (leads-sound h a b down))
 
 -- and only it is at least it
-pub stranger-below : (h : Hierarchy) → IsHierarchy h → (a b : Name) → is_role h b ≡ false → name_eq a b ≡ at_least h a b
+pub stranger-below : (h : Hierarchy) → IsHierarchy h → (a b : Name) → is_role h b ≡ false
+    → name_eq a b ≡ at_least h a b
 stranger-below h is a b none = both_ways _ _
     (λ equal. leads-complete h a b (subst (IsAtLeast h a) (same_name a b equal) same))
     (λ down. elim (junior_role h is a b (leads-sound h a b down)) [
@@ -77,7 +88,8 @@ stranger-below h is a b none = both_ways _ _
     ])
 
 -- a mask's bit is the order
-pub bit-at_least : (h : Hierarchy) (ms : List Mask) → IsMasked h ms → (a b : Name) (i j : ℕ) → Some i ≡ position (name_eq a) (role_names h) → Some j ≡ position (name_eq b) (role_names h)
+pub bit-at_least : (h : Hierarchy) (ms : List Mask) → IsMasked h ms → (a b : Name) (i j : ℕ)
+    → Some i ≡ position (name_eq a) (role_names h) → Some j ≡ position (name_eq b) (role_names h)
     → has (mask_at ms i) j ≡ at_least h a b
 bit-at_least h ms masked a b i j at_a at_b =
     let above = name-found h a i at_a in
@@ -87,18 +99,21 @@ bit-at_least h ms masked a b i j at_a at_b =
     ∙ (λ k. at_least h (above.1 k) (below.1 k))
 
 under-none : (h : Hierarchy) (a : Name) (p : ℕ) → is_role h a ≡ false → is_place_under h a p ≡ false
-under-none h a p none = elim (nat_lt p (length h)) as (λ b. nat_lt p (length h) ≡ b → (b && at_least h a (name_at h p)) ≡ false) [
-  | true ↦ λ inside. refuted (at_least h a (name_at h p)) (λ down.
-      let there = name-is_role h p (ltb-true p (length h) inside) in
-      true≢false (sym there ∙ ap (is_role h) (sym (same_name a (name_at h p) (stranger-above h a (name_at h p) none ∙ down))) ∙ none))
-  | false ↦ λ _. refl
-] refl
+under-none h a p none = elim (nat_lt p (length h)) as (λ b. nat_lt p (length h) ≡ b
+    → (b && at_least h a (name_at h p)) ≡ false) [
+      | true ↦ λ inside. refuted (at_least h a (name_at h p)) (λ down.
+          let there = name-is_role h p (ltb-true p (length h) inside) in
+          true≢false (sym there ∙ ap (is_role h)
+          (sym (same_name a (name_at h p) (stranger-above h a (name_at h p) none ∙ down))) ∙ none))
+      | false ↦ λ _. refl
+    ] refl
   where
     refuted : (b : Bool) → (b ≡ true → ⊥) → b ≡ false
     refuted true never = absurd (never refl)
     refuted false never = refl
 
-pub mask-none : (h : Hierarchy) (a : Name) (p : ℕ) → is_role h a ≡ false → false ≡ is_place_under h a p
+pub mask-none : (h : Hierarchy) (a : Name) (p : ℕ) → is_role h a ≡ false
+    → false ≡ is_place_under h a p
 mask-none h a p none = sym (under-none h a p none)
 
 -- one senior more, joined or no role
@@ -110,29 +125,47 @@ or_assoc : (a b c : Bool) → ((a || b) || c) ≡ (a || (b || c))
 or_assoc true b c = refl
 or_assoc false b c = refl
 
-pub below-cons : (h : Hierarchy) (s : Name) (rest : List Name) (p : ℕ) → is_place_below h (s ∷ rest) p ≡ (is_place_under h s p || is_place_below h rest p)
-below-cons h s rest p = and_or (nat_lt p (length h)) (at_least h s (name_at h p)) (is_below h rest (name_at h p))
+pub below-cons : (h : Hierarchy) (s : Name) (rest : List Name) (p : ℕ)
+    → is_place_below h (s ∷ rest) p ≡ (is_place_under h s p || is_place_below h rest p)
+below-cons h s rest p =
+    and_or (nat_lt p (length h)) (at_least h s (name_at h p)) (is_below h rest (name_at h p))
 
-pub turn-role : (h : Hierarchy) (s : Name) (rest : List Name) (p : ℕ) (old new : Bool) → new ≡ (old || is_place_under h s p) → (new || is_place_below h rest p) ≡ (old || is_place_below h (s ∷ rest) p)
-turn-role h s rest p old new is = ap (λ t. t || is_place_below h rest p) is ∙ or_assoc old _ _ ∙ ap (λ t. old || t) (sym (below-cons h s rest p))
+pub turn-role : (h : Hierarchy) (s : Name) (rest : List Name) (p : ℕ) (old new : Bool)
+    → new ≡ (old || is_place_under h s p)
+    → (new || is_place_below h rest p) ≡ (old || is_place_below h (s ∷ rest) p)
+turn-role h s rest p old new is = ap (λ t. t || is_place_below h rest p) is ∙ or_assoc old _ _
+    ∙ ap (λ t. old || t) (sym (below-cons h s rest p))
 
-pub turn-none : (h : Hierarchy) (s : Name) (rest : List Name) (p : ℕ) (old : Bool) → is_role h s ≡ false → (old || is_place_below h rest p) ≡ (old || is_place_below h (s ∷ rest) p)
-turn-none h s rest p old none = ap (λ t. old || t) (ap (λ t. t || is_place_below h rest p) (mask-none h s p none) ∙ sym (below-cons h s rest p))
+pub turn-none : (h : Hierarchy) (s : Name) (rest : List Name) (p : ℕ) (old : Bool)
+    → is_role h s ≡ false → (old || is_place_below h rest p)
+    ≡ (old || is_place_below h (s ∷ rest) p)
+turn-none h s rest p old none = ap (λ t. old || t)
+    (ap (λ t. t || is_place_below h rest p) (mask-none h s p none) ∙ sym (below-cons h s rest p))
 
-pub mask-found : (h : Hierarchy) (ms : List Mask) → IsMasked h ms → (a : Name) (i : ℕ) → Some i ≡ position (name_eq a) (role_names h) → (p : ℕ) → has (mask_at ms i) p ≡ is_place_under h a p
-mask-found h ms masked a i at p = let above = name-found h a i at in masked.exact i above.0 p ∙ ap (λ k. is_place_under h k p) above.1
+pub mask-found : (h : Hierarchy) (ms : List Mask) → IsMasked h ms → (a : Name) (i : ℕ)
+    → Some i ≡ position (name_eq a) (role_names h) → (p : ℕ)
+    → has (mask_at ms i) p ≡ is_place_under h a p
+mask-found h ms masked a i at p = let above = name-found h a i at in masked.exact i above.0 p
+    ∙ ap (λ k. is_place_under h k p) above.1
 
 -- what a search from one place leaves
-pub searched-place : (h : Hierarchy) (i : ℕ) (ms : Marks) → IsDistinct name_eq (role_names h) → i < length h → length h ≤ 512 → length h ≤ length ms
-    → IsReached h (set (replicate 512 false) i true) ms → Keeps h (set (replicate 512 false) i true) ms → IsExpanded h ms ms
+pub searched-place : (h : Hierarchy) (i : ℕ) (ms : Marks) → IsDistinct name_eq (role_names h)
+    → i < length h → length h ≤ 512 → length h ≤ length ms
+    → IsReached h (set (replicate 512 false) i true) ms
+    → Keeps h (set (replicate 512 false) i true) ms → IsExpanded h ms ms
     → (q : ℕ) → (nat_lt q (length h) && get_or ms q false) ≡ is_place_under h (name_at h i) q
 searched-place h i ms apart inside small long reached keeps closed q =
-    elim (nat_lt q (length h)) as (λ b. nat_lt q (length h) ≡ b → (b && get_or ms q false) ≡ (b && at_least h (name_at h i) (name_at h q))) [
+    elim (nat_lt q (length h)) as (λ b. nat_lt q (length h) ≡ b
+    → (b && get_or ms q false) ≡ (b && at_least h (name_at h i) (name_at h q))) [
       | true ↦ λ is.
           let within : q < length h = ltb-true q (length h) is in
           let r = name_at h q in
-          sym (sym (read-first h ms r q (omega (arith, length-names h)) (omega arith) (name_eq-refl r) (λ k below. distinct-first (role_names h) apart q k (omega (arith, length-names h)) below)))
-          ∙ search-end h ms (name_at h i ∷ []) 512 small (subst (λ (m : Marks). IsReached h m ms) start reached) (subst (λ (m : Marks). Keeps h m ms) start keeps) closed r (name-is_role h q within)
+          sym (sym (read-first h ms r q (omega (arith, length-names h)) (omega arith)
+          (name_eq-refl r) (λ k below. distinct-first (role_names h) apart q k
+          (omega (arith, length-names h)) below)))
+          ∙ search-end h ms (name_at h i ∷ []) 512 small
+          (subst (λ (m : Marks). IsReached h m ms) start reached)
+          (subst (λ (m : Marks). Keeps h m ms) start keeps) closed r (name-is_role h q within)
           ∙ or_false (at_least h (name_at h i) r)
       | false ↦ λ _. refl
     ] refl
@@ -142,13 +175,16 @@ searched-place h i ms apart inside small long reached keeps closed q =
     or_false false = refl
 
     start : set (replicate 512 false) i true ≡ marked h (replicate 512 false) (name_at h i)
-    start = set-first h (replicate 512 false) (name_at h i) i (omega (arith, length-names h)) (name_eq-refl (name_at h i)) (λ k below. distinct-first (role_names h) apart i k (omega (arith, length-names h)) below)
+    start = set-first h (replicate 512 false) (name_at h i) i (omega (arith, length-names h))
+        (name_eq-refl (name_at h i)) (λ k below. distinct-first (role_names h) apart i k
+        (omega (arith, length-names h)) below)
 
 refuted : (b : Bool) → (b ≡ true → ⊥) → b ≡ false
 refuted true never = absurd (never refl)
 refuted false never = refl
 
-name-kept : (h : Hierarchy) (r : Name) (p : ℕ) → p < length h → name_at (with_role h r) p ≡ name_at h p
+name-kept : (h : Hierarchy) (r : Name) (p : ℕ) → p < length h
+    → name_at (with_role h r) p ≡ name_at h p
 name-kept [] r p inside = absurd (omega arith)
 name-kept (e ∷ es) r zero inside = refl
 name-kept (e ∷ es) r (suc p) inside = name-kept es r p (omega arith)
@@ -159,11 +195,14 @@ name-new (e ∷ es) r = name-new es r
 
 order-with_role : (h : Hierarchy) (r a b : Name) → at_least (with_role h r) a b ≡ at_least h a b
 order-with_role h r a b = both_ways _ _
-    (at_least-fewer (with_role h r) h (λ x y pair. ap (λ l. contains_name l y) (sym (juniors-with_role h r x)) ∙ pair) a b)
-    (at_least-fewer h (with_role h r) (λ x y pair. ap (λ l. contains_name l y) (juniors-with_role h r x) ∙ pair) a b)
+    (at_least-fewer (with_role h r) h (λ x y pair. ap (λ l. contains_name l y)
+    (sym (juniors-with_role h r x)) ∙ pair) a b)
+    (at_least-fewer h (with_role h r) (λ x y pair. ap (λ l. contains_name l y)
+    (juniors-with_role h r x) ∙ pair) a b)
 
 -- the places of one role more
-under-with_role : (h : Hierarchy) (r a : Name) (q : ℕ) → IsHierarchy h → is_role h r ≡ false → is_role h a ≡ true → is_place_under h a q ≡ is_place_under (with_role h r) a q
+under-with_role : (h : Hierarchy) (r a : Name) (q : ℕ) → IsHierarchy h → is_role h r ≡ false
+    → is_role h a ≡ true → is_place_under h a q ≡ is_place_under (with_role h r) a q
 under-with_role h r a q is none there =
     let long : length (with_role h r) ≡ length h + 1 = length-append h ((r, []) ∷ []) in
     elim (cases_lt q (length h)) [
@@ -171,37 +210,56 @@ under-with_role h r a q is none there =
           (λ i. lt-ltb q (length h) inside i && at_least h a (name_at h q))
           ∙ ap (at_least h a) (sym (name-kept h r q inside))
           ∙ sym (order-with_role h r a (name_at (with_role h r) q))
-          ∙ ap (λ b. b && at_least (with_role h r) a (name_at (with_role h r) q)) (sym (lt-ltb q (length (with_role h r)) (omega arith)))
+          ∙ ap (λ b. b && at_least (with_role h r) a (name_at (with_role h r) q))
+          (sym (lt-ltb q (length (with_role h r)) (omega arith)))
       | inr past ↦
           ap (λ b. b && at_least h a (name_at h q)) (le-ltb q (length h) past)
           ∙ elim (cases_eq q (length h)) [
             | inl last ↦
-                let apart : at_least h a r ≡ false = sym (stranger-below h is a r none) ∙ refuted (name_eq a r) (λ equal. true≢false (sym there ∙ ap (is_role h) (same_name a r equal) ∙ none)) in
-                sym (and_right (nat_lt q (length (with_role h r))) _ (order-with_role h r a (name_at (with_role h r) q) ∙ ap (λ k. at_least h a (name_at (with_role h r) k)) last ∙ ap (at_least h a) (name-new h r) ∙ apart))
-            | inr more ↦ ap (λ b. b && at_least (with_role h r) a (name_at (with_role h r) q)) (sym (le-ltb q (length (with_role h r)) (omega arith)))
+                let apart : at_least h a r ≡ false = sym (stranger-below h is a r none)
+                ∙ refuted (name_eq a r) (λ equal. true≢false
+                (sym there ∙ ap (is_role h) (same_name a r equal) ∙ none)) in
+                sym (and_right (nat_lt q (length (with_role h r))) _
+                (order-with_role h r a (name_at (with_role h r) q)
+                ∙ ap (λ k. at_least h a (name_at (with_role h r) k)) last
+                ∙ ap (at_least h a) (name-new h r) ∙ apart))
+            | inr more ↦ ap (λ b. b && at_least (with_role h r) a (name_at (with_role h r) q))
+                (sym (le-ltb q (length (with_role h r)) (omega arith)))
           ]
     ]
 
 -- the places of a role without pairs
-own-with_role : (h : Hierarchy) (r : Name) (q : ℕ) → is_role h r ≡ false → eqb q (length h) ≡ is_place_under (with_role h r) r q
+own-with_role : (h : Hierarchy) (r : Name) (q : ℕ) → is_role h r ≡ false
+    → eqb q (length h) ≡ is_place_under (with_role h r) r q
 own-with_role h r q none =
     let long : length (with_role h r) ≡ length h + 1 = length-append h ((r, []) ∷ []) in
-    let order : at_least (with_role h r) r (name_at (with_role h r) q) ≡ name_eq r (name_at (with_role h r) q) = order-with_role h r r (name_at (with_role h r) q) ∙ sym (stranger-above h r (name_at (with_role h r) q) none) in
+    let order : at_least (with_role h r) r (name_at (with_role h r) q)
+    ≡ name_eq r (name_at (with_role h r) q) = order-with_role h r r (name_at (with_role h r) q)
+    ∙ sym (stranger-above h r (name_at (with_role h r) q) none) in
     elim (cases_eq q (length h)) [
       | inl last ↦
           eq-eqb q (length h) last
-          ∙ sym ((λ i. lt-ltb q (length (with_role h r)) (omega arith) i && order i) ∙ ap (λ k. name_eq r (name_at (with_role h r) k)) last ∙ ap (name_eq r) (name-new h r) ∙ name_eq-refl r)
+          ∙ sym ((λ i. lt-ltb q (length (with_role h r)) (omega arith) i && order i)
+          ∙ ap (λ k. name_eq r (name_at (with_role h r) k)) last ∙ ap (name_eq r) (name-new h r)
+          ∙ name_eq-refl r)
       | inr other ↦
           ne_eqb q (length h) other
           ∙ elim (cases_lt q (length h)) [
-            | inl inside ↦ sym (and_right (nat_lt q (length (with_role h r))) _ (order ∙ ap (name_eq r) (name-kept h r q inside) ∙ refuted (name_eq r (name_at h q)) (λ equal. true≢false (sym (name-is_role h q inside) ∙ ap (is_role h) (sym (same_name r (name_at h q) equal)) ∙ none))))
-            | inr past ↦ ap (λ b. b && at_least (with_role h r) r (name_at (with_role h r) q)) (sym (le-ltb q (length (with_role h r)) (omega arith)))
+            | inl inside ↦ sym (and_right (nat_lt q (length (with_role h r))) _
+                (order ∙ ap (name_eq r) (name-kept h r q inside) ∙ refuted (name_eq r (name_at h q))
+                (λ equal. true≢false (sym (name-is_role h q inside)
+                ∙ ap (is_role h) (sym (same_name r (name_at h q) equal)) ∙ none))))
+            | inr past ↦ ap (λ b. b && at_least (with_role h r) r (name_at (with_role h r) q))
+                (sym (le-ltb q (length (with_role h r)) (omega arith)))
           ]
     ]
 
 -- a role more: its mask is its own place
-pub IsMasked-with_role : (h : Hierarchy) (r : Name) (old new : List Mask) → is_role h r ≡ false → IsHierarchy h → IsMasked h old → length h < length new
-    → ((p : ℕ) → p < length h → mask_at new p ≡ mask_at old p) → ((q : ℕ) → has (mask_at new (length h)) q ≡ eqb q (length h)) → IsMasked (with_role h r) new
+pub IsMasked-with_role : (h : Hierarchy) (r : Name) (old new : List Mask) → is_role h r ≡ false
+    → IsHierarchy h → IsMasked h old → length h < length new
+    → ((p : ℕ) → p < length h → mask_at new p ≡ mask_at old p)
+    → ((q : ℕ) → has (mask_at new (length h)) q ≡ eqb q (length h))
+    → IsMasked (with_role h r) new
 IsMasked-with_role h r old new none is masked long others own =
     let size : length (with_role h r) ≡ length h + 1 = length-append h ((r, []) ∷ []) in
     record {
@@ -211,7 +269,8 @@ IsMasked-with_role h r old new none is masked long others own =
             ap (λ k. has (mask_at new k) q) last
             ∙ own q
             ∙ own-with_role h r q none
-            ∙ ap (λ n. is_place_under (with_role h r) n q) (sym (ap (name_at (with_role h r)) last ∙ name-new h r))
+            ∙ ap (λ n. is_place_under (with_role h r) n q)
+            (sym (ap (name_at (with_role h r)) last ∙ name-new h r))
         | inr other ↦
             let before : p < length h = omega arith in
             ap (λ m. has m q) (others p before)
@@ -221,29 +280,39 @@ IsMasked-with_role h r old new none is masked long others own =
       ];
     }
 
-with_pair-there : (h : Hierarchy) (s j : Name) → is_role h s ≡ true → is_immediate (with_pair h s j) s j ≡ true
+with_pair-there : (h : Hierarchy) (s j : Name) → is_role h s ≡ true
+    → is_immediate (with_pair h s j) s j ≡ true
 with_pair-there h s j there =
-    ap (λ l. contains_name l j) (juniors-with_juniors h s _ s there ∙ ap (λ b. cond b (immediate_juniors h s ++ j ∷ []) (immediate_juniors h s)) (name_eq-refl s))
+    ap (λ l. contains_name l j) (juniors-with_juniors h s _ s there
+    ∙ ap (λ b. cond b (immediate_juniors h s ++ j ∷ []) (immediate_juniors h s))
+    (name_eq-refl s))
     ∙ contains-append (immediate_juniors h s) (j ∷ []) j
-    ∙ or_later (contains_name (immediate_juniors h s) j) (contains_name (j ∷ []) j) (ap (λ b. b || false) (name_eq-refl j))
+    ∙ or_later (contains_name (immediate_juniors h s) j) (contains_name (j ∷ []) j)
+    (ap (λ b. b || false) (name_eq-refl j))
   where
     or_later : (a b : Bool) → b ≡ true → (a || b) ≡ true
     or_later true b e = refl
     or_later false b e = e
 
 -- a pair more: what is at least its senior is at least what its junior is at least
-pub order-with_pair : (h : Hierarchy) (s j : Name) → is_role h s ≡ true → (a b : Name) → at_least (with_pair h s j) a b ≡ (at_least h a b || (at_least h a s && at_least h j b))
+pub order-with_pair : (h : Hierarchy) (s j : Name) → is_role h s ≡ true → (a b : Name)
+    → at_least (with_pair h s j) a b ≡ (at_least h a b || (at_least h a s && at_least h j b))
 order-with_pair h s j there a b = both_ways _ _
     (λ down. elim (with_pair-chains h s j there a b (leads-sound _ a b down)) [
       | inl old ↦ ap (λ t. t || (at_least h a s && at_least h j b)) (leads-complete h a b old)
-      | inr through ↦ or_later (at_least h a b) _ (both (at_least h a s) (at_least h j b) (leads-complete h a s through.0) (leads-complete h j b through.1))
+      | inr through ↦ or_later (at_least h a b) _
+          (both (at_least h a s) (at_least h j b) (leads-complete h a s through.0)
+          (leads-complete h j b through.1))
     ])
     (λ is. elim (parts (at_least h a b) (at_least h a s) (at_least h j b) is) [
       | inl old ↦ at_least-fewer h (with_pair h s j) (pairs-with_pair h s j there) a b old
       | inr through ↦ leads-complete (with_pair h s j) a b
           (chain-trans (with_pair h s j) a s b
-          (chains-fewer h (with_pair h s j) (pairs-with_pair h s j there) a s (leads-sound h a s through.0))
-          (chain (with_pair-there h s j there) (chains-fewer h (with_pair h s j) (pairs-with_pair h s j there) j b (leads-sound h j b through.1))))
+          (chains-fewer h (with_pair h s j) (pairs-with_pair h s j there) a s
+          (leads-sound h a s through.0))
+          (chain (with_pair-there h s j there)
+          (chains-fewer h (with_pair h s j) (pairs-with_pair h s j there) j b
+          (leads-sound h j b through.1))))
     ])
   where
     or_later : (x y : Bool) → y ≡ true → (x || y) ≡ true
@@ -264,8 +333,12 @@ joined-bits true x y z = refl
 joined-bits false x true z = refl
 joined-bits false x false z = refl
 
-pub IsMasked-with_pair : (h : Hierarchy) (s j : Name) (i k : ℕ) (old new : List Mask) → is_role h s ≡ true → Some i ≡ position (name_eq s) (role_names h) → Some k ≡ position (name_eq j) (role_names h) → IsMasked h old → length new ≡ length old
-    → ((p : ℕ) → p < length old → (q : ℕ) → has (mask_at new p) q ≡ (has (mask_at old p) q || (has (mask_at old p) i && has (mask_at old k) q))) → IsMasked (with_pair h s j) new
+pub IsMasked-with_pair : (h : Hierarchy) (s j : Name) (i k : ℕ) (old new : List Mask)
+    → is_role h s ≡ true → Some i ≡ position (name_eq s) (role_names h)
+    → Some k ≡ position (name_eq j) (role_names h) → IsMasked h old → length new ≡ length old
+    → ((p : ℕ) → p < length old → (q : ℕ)
+    → has (mask_at new p) q ≡ (has (mask_at old p) q
+    || (has (mask_at old p) i && has (mask_at old k) q))) → IsMasked (with_pair h s j) new
 IsMasked-with_pair h s j i k old new there at_s at_j masked long joined =
     let size : length (with_pair h s j) ≡ length h = length-with_juniors h s _ in
     let room = masked.long in
@@ -277,21 +350,27 @@ IsMasked-with_pair h s j i k old new there at_s at_j masked long joined =
           let before : p < length h = omega arith in
           let a = name_at h p in
           let b = name_at h q in
-          let senior : has (mask_at old p) i ≡ at_least h a s = masked.exact p before i ∙ ap (λ t. t && at_least h a (name_at h i)) (lt-ltb i (length h) above.0) ∙ ap (at_least h a) above.1 in
+          let senior : has (mask_at old p) i ≡ at_least h a s = masked.exact p before i
+          ∙ ap (λ t. t && at_least h a (name_at h i)) (lt-ltb i (length h) above.0)
+          ∙ ap (at_least h a) above.1 in
           joined p (omega arith) q
           ∙ (λ t. masked.exact p before q t || (senior t && mask-found h old masked j k at_j q t))
           ∙ joined-bits (nat_lt q (length h)) (at_least h a b) (at_least h a s) (at_least h j b)
           ∙ ap (λ t. nat_lt q (length h) && t) (sym (order-with_pair h s j there a b))
-          ∙ (λ t. nat_lt q (sym size t) && at_least (with_pair h s j) (get_or (sym names t) p []) (get_or (sym names t) q []));
+          ∙ (λ t. nat_lt q (sym size t) && at_least (with_pair h s j) (get_or (sym names t) p [])
+          (get_or (sym names t) q []));
     }
 
 -- what is left from a place on begins with the item there
-pub item-cons : (xs : List Name) (i : ℕ) (x : Name) → i < length xs → x ≡ get_or xs i x → drop i xs ≡ x ∷ drop (i + 1) xs
+pub item-cons : (xs : List Name) (i : ℕ) (x : Name) → i < length xs → x ≡ get_or xs i x
+    → drop i xs ≡ x ∷ drop (i + 1) xs
 item-cons [] i x inside at = absurd (omega arith)
 item-cons (y ∷ ys) zero x inside at = ap (λ z. z ∷ ys) (sym at)
-item-cons (y ∷ ys) (suc i) x inside at = rw add-one (item-cons ys i x (omega arith) at ∙ rw add-one refl)
+item-cons (y ∷ ys) (suc i) x inside at =
+    rw add-one (item-cons ys i x (omega arith) at ∙ rw add-one refl)
 
-pub same-role : (h k : Hierarchy) (r : Name) → role_names h ≡ role_names k → is_role h r ≡ is_role k r
+pub same-role : (h k : Hierarchy) (r : Name) → role_names h ≡ role_names k
+    → is_role h r ≡ is_role k r
 same-role h k r names = ap (λ l. contains_name l r) names
 
 -- an item that is there is the one at its place, whatever stands in for none
@@ -301,14 +380,18 @@ mask-there (x ∷ xs) zero m inside = refl
 mask-there (x ∷ xs) (suc i) m inside = mask-there xs i m (omega arith)
 
 -- the names at the places of a mask
-pub below-places : (h : Hierarchy) (seniors : List Name) (m : Mask) → ((q : ℕ) → has m q ≡ is_place_below h seniors q) → marked_names h (marks_from 0 (length h) m) ≡ roles_below h seniors
+pub below-places : (h : Hierarchy) (seniors : List Name) (m : Mask)
+    → ((q : ℕ) → has m q ≡ is_place_below h seniors q)
+    → marked_names h (marks_from 0 (length h) m) ≡ roles_below h seniors
 below-places h seniors m is =
     let long = length-marks_from 0 (length h) m in
     marked_names-places (is_below h seniors) h (marks_from 0 (length h) m) (omega arith)
-    (λ i inside. mark-at (length h) m i inside ∙ is i ∙ ap (λ b. b && is_below h seniors (name_at h i)) (lt-ltb i (length h) inside))
+    (λ i inside. mark-at (length h) m i inside ∙ is i
+    ∙ ap (λ b. b && is_below h seniors (name_at h i)) (lt-ltb i (length h) inside))
 
 -- masks written through a slice of a `Vec`
-pub written-back : (new items : List Mask) (n : ℕ) → length new ≡ length items → n ≡ length items → take n (new ++ drop (length new) items) ≡ new
+pub written-back : (new items : List Mask) (n : ℕ) → length new ≡ length items → n ≡ length items
+    → take n (new ++ drop (length new) items) ≡ new
 written-back new items n long is =
     let none : drop (length new) items ≡ [] = drop_past items (length new) (omega arith) in
     ap (λ l. take n (new ++ l)) none ∙ ap (take n) (append-nil new) ∙ take_all n new (omega arith)

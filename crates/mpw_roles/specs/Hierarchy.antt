@@ -33,7 +33,8 @@ is_immediate = is_linked
 abbrev pub with_juniors : Hierarchy → Name → List Name → Hierarchy
 with_juniors [] role juniors = []
 with_juniors (entry ∷ entries) role juniors =
-    if name_eq role entry.0 then (entry.0, juniors) ∷ entries else entry ∷ with_juniors entries role juniors
+    if name_eq role entry.0 then (entry.0, juniors) ∷ entries else entry
+    ∷ with_juniors entries role juniors
 
 -- the roles but one, with the pairs that start at them
 abbrev pub entries_without : Hierarchy → Name → Hierarchy
@@ -45,7 +46,8 @@ with_role hierarchy role = hierarchy ++ (role, []) ∷ []
 
 -- a role goes with each pair that it is in
 abbrev pub without_role : Hierarchy → Name → Hierarchy
-without_role hierarchy role = map (λ entry. (entry.0, without_name entry.1 role)) (entries_without hierarchy role)
+without_role hierarchy role =
+    map (λ entry. (entry.0, without_name entry.1 role)) (entries_without hierarchy role)
 
 -- a new pair goes behind the others of its senior
 abbrev pub with_pair : Hierarchy → Name → Name → Hierarchy

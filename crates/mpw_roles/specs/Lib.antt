@@ -5,3 +5,4 @@ pub mod Mask
 pub mod Order
 pub mod Places
 pub mod Rows
+pub mod Internal

@@ -5,4 +5,5 @@ use Rattle.mpw_roles.specs.declared.mask.Mask.{Mask}
 
 -- whether the place is in the set
 unfoldable pub has : Mask → ℕ → Bool
-has mask place = nat_lt place 512 && (bit_at (slice_index mask.words (place / 64)) (place % 64) == 1)
+has mask place =
+    nat_lt place 512 && (bit_at (slice_index mask.words (place / 64)) (place % 64) == 1)

@@ -32,5 +32,7 @@ pub record IsHierarchy (hierarchy : Hierarchy) : Type 0 where
   pub small : length hierarchy ≤ max_roles
   pub roles_once : are_distinct (role_names hierarchy) ≡ true
   pub pairs_once : (senior : Name) → are_distinct (immediate_juniors hierarchy senior) ≡ true
-  pub pairs_of_roles : (senior junior : Name) → is_immediate hierarchy senior junior ≡ true → is_role hierarchy junior ≡ true
-  pub acyclic : (senior junior : Name) → is_immediate hierarchy senior junior ≡ true → at_least hierarchy junior senior ≡ false
+  pub pairs_of_roles : (senior junior : Name) → is_immediate hierarchy senior junior ≡ true
+      → is_role hierarchy junior ≡ true
+  pub acyclic : (senior junior : Name) → is_immediate hierarchy senior junior ≡ true
+      → at_least hierarchy junior senior ≡ false

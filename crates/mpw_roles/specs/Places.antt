@@ -12,7 +12,8 @@ name_at hierarchy place = slice_index_or (role_names hierarchy) place []
 
 -- whether the place is that of a role that the senior is at least
 abbrev pub is_place_under : Hierarchy → Name → ℕ → Bool
-is_place_under hierarchy senior place = nat_lt place (length hierarchy) && at_least hierarchy senior (name_at hierarchy place)
+is_place_under hierarchy senior place =
+    nat_lt place (length hierarchy) && at_least hierarchy senior (name_at hierarchy place)
 
 -- whether the place is that of a role at or below one of the seniors
 abbrev pub is_place_below : Hierarchy → List Name → ℕ → Bool
@@ -34,7 +35,8 @@ mask_at masks place = slice_index_or masks place no_mask
 -- the mask at the place of a role has the places of the roles at or below it, and no other
 pub record IsMasked (hierarchy : Hierarchy) (masks : List Mask) : Type 0 where
   pub long : length hierarchy ≤ length masks
-  pub exact : (place : ℕ) → place < length hierarchy → (other : ℕ) → has (mask_at masks place) other ≡ is_place_under hierarchy (name_at hierarchy place) other
+  pub exact : (place : ℕ) → place < length hierarchy → (other : ℕ)
+      → has (mask_at masks place) other ≡ is_place_under hierarchy (name_at hierarchy place) other
 
 -- what roles keep: a hierarchy, and its masks
 pub record IsRoles (hierarchy : Hierarchy) (masks : List Mask) : Type 0 where

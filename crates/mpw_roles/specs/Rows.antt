@@ -8,10 +8,12 @@ use Rattle.mpw_roles.specs.declared.fault.RolesFault.TheVariants.{NoRole, Known,
 
 abbrev pub add : Hierarchy → Name → Result Hierarchy RolesFault
 add hierarchy role =
-    decided ((not (is_role hierarchy role), Known) ∷ (nat_lt (length hierarchy) max_roles, Full) ∷ []) (with_role hierarchy role)
+    decided ((not (is_role hierarchy role), Known) ∷ (nat_lt (length hierarchy) max_roles, Full)
+    ∷ []) (with_role hierarchy role)
 
 abbrev pub remove : Hierarchy → Name → Result Hierarchy RolesFault
-remove hierarchy role = decided ((is_role hierarchy role, NoRole) ∷ []) (without_role hierarchy role)
+remove hierarchy role =
+    decided ((is_role hierarchy role, NoRole) ∷ []) (without_role hierarchy role)
 
 abbrev pub inherit : Hierarchy → Name → Name → Result Hierarchy RolesFault
 inherit hierarchy senior junior =
@@ -24,4 +26,5 @@ inherit hierarchy senior junior =
 
 abbrev pub uninherit : Hierarchy → Name → Name → Result Hierarchy RolesFault
 uninherit hierarchy senior junior =
-    decided ((is_immediate hierarchy senior junior, NoPair) ∷ []) (without_pair hierarchy senior junior)
+    decided ((is_immediate hierarchy senior junior, NoPair) ∷ [])
+    (without_pair hierarchy senior junior)

@@ -1,5 +1,5 @@
 //! The roles with their immediate juniors.
-ghost use Rattle.std.specs.Prelude.{◌≡◌, ◌⊎◌, ◌==◌, ◌<◌, ◌≤◌, ◌&&◌, ◌||◌, ℕ, [], ◌∷◌, ◌++◌, not, length, true, Ok, Err, IfOk, IfErr, IfSome, OnOk, OnErr, position};
+ghost use Rattle.std.specs.Prelude.{◌≡◌, ◌⊎◌, ◌==◌, ◌<◌, ◌≤◌, ◌&&◌, ◌||◌, ℕ, List, [], ◌∷◌, ◌++◌, not, length, true, Ok, Err, IfOk, IfErr, IfSome, OnOk, OnErr, position};
 ghost use Rattle.indexmap.specs.IndexMap.{insert_entry};
 ghost use Rattle.mpw_geom.specs.Names.{name_eq, without_name, by_name};
 ghost use Rattle.mpw_roles.specs.Hierarchy.{Name as RoleName, Hierarchy, role_names, with_pair, is_role, is_immediate, immediate_juniors};
@@ -316,6 +316,15 @@ impl Roles {
         let mask = self.mask_below(seniors);
         let _unique = self.table.len();
         Below::new(&self.table, mask)
+    }
+
+    /// The roles at the places of a mask. Where the mask was kept for some seniors, these are the roles at or below them. It
+    /// takes no memory.
+    pub fn at_places<'a>(&'a self, mask: &Mask) -> Below<'a>
+        ensures { (seniors : List (List ℕ)) → ((place : ℕ) → has mask.now place ≡ is_place_below self.now seniors place) → result ≡ roles_below self.now seniors }
+    {
+        let _unique = self.table.len();
+        Below::new(&self.table, *mask)
     }
 
     /// Whether the senior is the junior, or a chain of immediate pairs leads from it down to the junior: two look-ups and

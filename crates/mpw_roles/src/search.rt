@@ -6,7 +6,8 @@ ghost use Rattle.std.specs.Prelude.{◌≡◌, ◌≤◌, ◌<◌, true, false, 
 ghost use Rattle.std.specs.List.{IsDistinct};
 ghost use Rattle.mpw_geom.specs.Names.{name_eq, contains_name, by_name};
 ghost use Rattle.mpw_roles.specs.Hierarchy.{Hierarchy, role_names, is_role};
-ghost use Rattle.mpw_roles.specs.Marks.{Marks, is_marked, marked, marked_all, marked_names, IsReached, Keeps, IsExpanded, IsSearch};
+ghost use Rattle.mpw_roles.specs.Marks.{Marks, marked_names};
+ghost use Rattle.mpw_roles.specs.Internal.Marks.{is_marked, marked, marked_all, IsReached, Keeps, IsExpanded, IsSearch};
 ghost use Rattle.mpw_roles.specs.Order.{at_least, roles_below};
 ghost use Rattle.std.specs.Prelude.{nat_lt, ◌&&◌};
 ghost use Rattle.mpw_roles.specs.Mask.{has};

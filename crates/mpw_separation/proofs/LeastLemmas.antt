@@ -34,16 +34,22 @@ abbrev earlier : Name → Option Name → Option Name
 earlier n None = Some n
 earlier n (Some y) = by_order (name_cmp n y) (Some n) (Some y) (Some y)
 
-first-put : (n : Name) (placed : List (Name × Unit {0})) → first_name (map (λ (e : Name × Unit {0}). e.0) (put name_cmp n tt placed)) ≡ earlier n (first_name (map (λ (e : Name × Unit {0}). e.0) placed))
+first-put : (n : Name) (placed : List (Name × Unit {0}))
+    → first_name (map (λ (e : Name × Unit {0}). e.0) (put name_cmp n tt placed))
+    ≡ earlier n (first_name (map (λ (e : Name × Unit {0}). e.0) placed))
 first-put n [] = refl
 first-put n (e ∷ es) =
-    elim (name_cmp n e.0) as (λ o. first_name (map (λ (x : Name × Unit {0}). x.0) (by_order o ((n, tt) ∷ e ∷ es) ((e.0, tt) ∷ es) (e ∷ put name_cmp n tt es))) ≡ by_order o (Some n) (Some e.0) (Some e.0)) [
+    elim (name_cmp n e.0) as (λ o. first_name
+    (map (λ (x : Name × Unit {0}). x.0)
+    (by_order o ((n, tt) ∷ e ∷ es) ((e.0, tt) ∷ es) (e ∷ put name_cmp n tt es)))
+    ≡ by_order o (Some n) (Some e.0) (Some e.0)) [
       | Less ↦ refl
       | Equal ↦ refl
       | Greater ↦ refl
     ]
 
-least-earlier : (n : Name) (ns : List Name) (o : Option Name) → IsLeast ns o → IsLeast (n ∷ ns) (earlier n o)
+least-earlier : (n : Name) (ns : List Name) (o : Option Name) → IsLeast ns o
+    → IsLeast (n ∷ ns) (earlier n o)
 least-earlier n ns None none = (
   ap (λ b. b || contains_name ns n) (name_eq-refl n),
   λ m there. elim (or_cases (name_eq m n) (contains_name ns m) there) [
@@ -52,7 +58,8 @@ least-earlier n ns None none = (
   ],
 )
 least-earlier n ns (Some y) least =
-    elim (name_cmp n y) as (λ o. name_cmp n y ≡ o → IsLeast (n ∷ ns) (by_order o (Some n) (Some y) (Some y))) [
+    elim (name_cmp n y) as (λ o. name_cmp n y ≡ o
+    → IsLeast (n ∷ ns) (by_order o (Some n) (Some y) (Some y))) [
       | Less ↦ λ is. (
         ap (λ b. b || contains_name ns n) (name_eq-refl n),
         λ m there. elim (or_cases (name_eq m n) (contains_name ns m) there) [
@@ -75,10 +82,12 @@ least-earlier n ns (Some y) least =
 
 pub least-is : (ns : List Name) → IsLeast ns (least_name ns)
 least-is [] = λ m. refl
-least-is (n ∷ ns) = subst (IsLeast (n ∷ ns)) (sym (first-put n (placed_by_name ns))) (least-earlier n ns (least_name ns) (least-is ns))
+least-is (n ∷ ns) = subst (IsLeast (n ∷ ns)) (sym (first-put n (placed_by_name ns)))
+    (least-earlier n ns (least_name ns) (least-is ns))
 
 tied : (a b : Name) → less a b ≡ false → less b a ≡ false → a ≡ b
-tied a b p q = slice_cmp-IsAntisymmetric nat_cmp-IsAntisymmetric a b (by (name_cmp a b) (name_cmp b a) (nat_list_cmp_total.antisymm a b) p q)
+tied a b p q = slice_cmp-IsAntisymmetric nat_cmp-IsAntisymmetric a b
+    (by (name_cmp a b) (name_cmp b a) (nat_list_cmp_total.antisymm a b) p q)
   where
     by : (o r : Ordering) → o ≡ ordering_reverse r → is_lt o ≡ false → is_lt r ≡ false → o ≡ Equal
     by Less r e f g = absurd (true≢false f)
@@ -97,7 +106,9 @@ or_none : (a b : Bool) → a ≡ false → b ≡ false → (a || b) ≡ false
 or_none a b p q = λ i. (p i) || (q i)
 
 -- the least of two lists together
-pub least-both : (xs ys zs : List Name) (a b : Option Name) → ((m : Name) → contains_name zs m ≡ (contains_name xs m || contains_name ys m)) → IsLeast xs a → IsLeast ys b → IsLeast zs (lesser a b)
+pub least-both : (xs ys zs : List Name) (a b : Option Name)
+    → ((m : Name) → contains_name zs m ≡ (contains_name xs m || contains_name ys m)) → IsLeast xs a
+    → IsLeast ys b → IsLeast zs (lesser a b)
 least-both xs ys zs None None all p q = λ m. all m ∙ or_none _ _ (p m) (q m)
 least-both xs ys zs None (Some b) all p q = (
   all b ∙ or_right (contains_name xs b) _ q.0,
@@ -134,5 +145,7 @@ least-both xs ys zs (Some a) (Some b) all p q =
 pub least-one : (n : Name) → IsLeast (n ∷ []) (Some n)
 least-one n = least-earlier n [] None (λ m. refl)
 
-pub least-push : (ns : List Name) (n : Name) (o : Option Name) → IsLeast ns o → IsLeast (ns ++ n ∷ []) (lesser o (Some n))
-least-push ns n o least = least-both ns (n ∷ []) (ns ++ n ∷ []) o (Some n) (contains-append ns (n ∷ [])) least (least-one n)
+pub least-push : (ns : List Name) (n : Name) (o : Option Name) → IsLeast ns o
+    → IsLeast (ns ++ n ∷ []) (lesser o (Some n))
+least-push ns n o least = least-both ns (n ∷ []) (ns ++ n ∷ []) o (Some n)
+    (contains-append ns (n ∷ [])) least (least-one n)

@@ -23,4 +23,5 @@ lesser (Some one) (Some other) = if is_lt (name_cmp other one) then Some other e
 abbrev pub IsLeast : List Name → Option Name → Type 0
 IsLeast names None = (name : Name) → contains_name names name ≡ false
 IsLeast names (Some least) =
-    (contains_name names least ≡ true) × ((name : Name) → contains_name names name ≡ true → is_lt (name_cmp name least) ≡ false)
+    (contains_name names least ≡ true) × ((name : Name) → contains_name names name ≡ true
+    → is_lt (name_cmp name least) ≡ false)

@@ -8,7 +8,8 @@ use Rattle.mpw_separation.specs.Set.{SeparationSet}
 use Rattle.mpw_separation.specs.Separation.{max_sets, has_set, without_set}
 
 abbrev pub make : List SeparationSet → SeparationSet → Result (List SeparationSet) SetsFault
-make sets set = decided ((not (has_set sets set.name), Known) ∷ (nat_lt (length sets) max_sets, Full) ∷ []) (sets ++ set ∷ [])
+make sets set = decided ((not (has_set sets set.name), Known)
+    ∷ (nat_lt (length sets) max_sets, Full) ∷ []) (sets ++ set ∷ [])
 
 abbrev pub remove : List SeparationSet → Name → Result (List SeparationSet) SetsFault
 remove sets name = decided ((has_set sets name, Unknown) ∷ []) (without_set sets name)

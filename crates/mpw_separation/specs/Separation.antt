@@ -35,12 +35,12 @@ breaks hierarchy seniors set = is_reached (roles_below hierarchy seniors) set
 abbrev pub is_broken : Hierarchy → List (List Name) → SeparationSet → Bool
 is_broken hierarchy holders set = list_any (λ seniors. breaks hierarchy seniors set) holders
 
-abbrev pub names_of : List SeparationSet → List Name
-names_of sets = map (λ set. set.name) sets
+abbrev pub set_names : List SeparationSet → List Name
+set_names sets = map (λ set. set.name) sets
 
 -- the names of the sets that one of these lists of seniors breaks
 abbrev pub broken_names : Hierarchy → List SeparationSet → List (List Name) → List Name
-broken_names hierarchy sets holders = names_of (filter (is_broken hierarchy holders) sets)
+broken_names hierarchy sets holders = set_names (filter (is_broken hierarchy holders) sets)
 
 -- the least of them
 abbrev pub least_broken : Hierarchy → List SeparationSet → List (List Name) → Option Name

@@ -14,7 +14,8 @@ are_distinct names = length (by_name names) == length names
 
 -- the form of every set: the cardinality is from 2 to the number of the roles, and no role stands twice
 abbrev pub has_form : SeparationSet → Bool
-has_form set = nat_le 2 set.cardinality && (nat_le set.cardinality (length set.roles) && are_distinct set.roles)
+has_form set = nat_le 2 set.cardinality
+    && (nat_le set.cardinality (length set.roles) && are_distinct set.roles)
 
 -- a set of this form, or none
 abbrev pub formed : SeparationSet → Option SeparationSet

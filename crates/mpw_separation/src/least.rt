@@ -2,7 +2,7 @@
 ghost use Rattle.std.specs.Prelude.{◌≡◌, filter, map};
 ghost use Rattle.std.specs.Option.{option_copied};
 ghost use Rattle.mpw_separation.specs.Least.{lesser, least_name};
-ghost use Rattle.mpw_separation.specs.Separation.{is_reached, names_of};
+ghost use Rattle.mpw_separation.specs.Separation.{is_reached, set_names};
 
 use crate::SeparationSet;
 use mpw_geom::Name;
@@ -25,7 +25,7 @@ pub fn lesser<'a>(first: Option<&'a Name>, second: Option<&'a Name>) -> Option<&
 
 /// The least name of the sets that these roles reach.
 pub(crate) fn least_reached<'a>(sets: &'a [SeparationSet], below: &Below) -> Option<&'a Name>
-    ensures { option_copied result ≡ least_name (names_of (filter (is_reached below.now) sets.now)) }
+    ensures { option_copied result ≡ least_name (set_names (filter (is_reached below.now) sets.now)) }
 {
     let mut least = None;
     for set in sets {

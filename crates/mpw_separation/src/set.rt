@@ -1,6 +1,8 @@
 //! One set of roles, and whether it is broken.
-ghost use Rattle.std.specs.Prelude.{◌≡◌, true, nat_le, count_by, IfOk};
+ghost use Rattle.std.specs.Prelude.{◌≡◌, ℕ, List, true, nat_le, count_by, IfOk};
 ghost use Rattle.mpw_geom.specs.Names.{contains_name};
+ghost use Rattle.mpw_roles.specs.Hierarchy.{Hierarchy};
+ghost use Rattle.mpw_roles.specs.Order.{roles_below};
 ghost use Rattle.mpw_separation.specs.Separation.{breaks, is_reached, has_role};
 ghost use Rattle.mpw_separation.specs.Set.{are_distinct, formed, has_form};
 
@@ -190,6 +192,14 @@ impl SeparationSet {
         ensures { result ≡ breaks roles.now seniors.now self.now }
     {
         self.is_reached(&roles.below(seniors))
+    }
+
+    /// Whether some seniors break the set, from the roles at or below them. It takes no memory, and costs a look-up for each role
+    /// of the set.
+    pub fn is_broken_below(&self, below: &Below) -> bool
+        ensures { (h : Hierarchy) (seniors : List (List ℕ)) → below.now ≡ roles_below h seniors → result ≡ breaks h seniors self.now }
+    {
+        self.is_reached(below)
     }
 
     /// Whether the role is one of the set.

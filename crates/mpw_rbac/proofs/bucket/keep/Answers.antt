@@ -1,16 +1,18 @@
 -- The other objects keep their masks.
 use Rattle.std.proofs.Common.{◌∙◌, [], ◌∷◌, ◌++◌, ap}
-use Rattle.mpw_rbac.specs.Holders.{holds_in}
+use Rattle.mpw_rbac.specs.Internal.Holders.{holds_in}
 use Rattle.mpw_rbac.proofs.BucketLemmas.{in-put, in-gone, both-false}
 use Rattle.mpw_rbac.proofs.bucket.keep.Goals as goal
 
 pub returns-then-not-meets : goal.returns-then-not-meets
 returns-then-not-meets c = λ all is other q.
     ap (λ l. holds_in l other q) is
-    ∙ in-gone c.args.object.now c.args.mask.now all (λ p. both-false _ (c.meets.ensures.none c.if-not-meets.true p)) other q
+    ∙ in-gone c.args.object.now c.args.mask.now all
+    (λ p. both-false _ (c.meets.ensures.none c.if-not-meets.true p)) other q
 
 pub returns : goal.returns
 returns c = λ all is other q.
     let made = c.in_ok-copied.field-0 in
-    ap (λ l. holds_in l other q) (c.in_ok-push.ensures.items ∙ ap (λ l. l ++ (made, c.args.mask.now) ∷ []) is)
+    ap (λ l. holds_in l other q) (c.in_ok-push.ensures.items
+    ∙ ap (λ l. l ++ (made, c.args.mask.now) ∷ []) is)
     ∙ in-put c.args.object.now made c.args.mask.now all c.in_ok-copied.ensures other q

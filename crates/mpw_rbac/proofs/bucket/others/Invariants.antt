@@ -5,4 +5,6 @@ use Rattle.mpw_rbac.specs.declared.permission.Object.{Object}
 use Rattle.mpw_rbac.proofs.bucket.others.Given as goal
 
 abbrev pub invariant-loop-other : goal.invariant-loop-other
-invariant-loop-other l = l.left.items ≡ filter (λ (entry : Object × Mask). not (object_eq l.object entry.0)) (take l.other-index l.masks)
+invariant-loop-other l = l.left.items
+    ≡ filter (λ (entry : Object × Mask). not (object_eq l.object entry.0))
+    (take l.other-index l.masks)

@@ -9,4 +9,6 @@ pub loop-block-preserved : goal.loop-block-preserved
 loop-block-preserved c =
     c.in_ok-keep.ensures
     ∙ (λ i. c.loop-block.invariant i ++ c.in_ok-ungranted.ensures i)
-    ∙ kept-next (λ (grant : Grant). not (name_eq c.args.role.now grant.role)) c.args.blocks.now c.loop-block.block-index c.block-item.result c.block-item.result c.loop-block-test.true c.block-item.is
+    ∙ kept-next (λ (grant : Grant). not (name_eq c.args.role.now grant.role)) c.args.blocks.now
+    c.loop-block.block-index c.block-item.result c.block-item.result c.loop-block-test.true
+    c.block-item.is

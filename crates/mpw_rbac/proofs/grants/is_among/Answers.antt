@@ -6,4 +6,6 @@ use Rattle.mpw_rbac.proofs.grants.is_among.Goals as goal
 
 pub returns-then-contains : goal.returns-then-contains
 returns-then-contains c =
-    sym (among (grant_eq c.args.grant.now) c.args.blocks.now c.loop-block.block-index c.block-item.result c.block-item.result c.loop-block-test.true c.block-item.is (sym c.contains.ensures ∙ c.if-contains.true))
+    sym (among (grant_eq c.args.grant.now) c.args.blocks.now c.loop-block.block-index
+    c.block-item.result c.block-item.result c.loop-block-test.true c.block-item.is
+    (sym c.contains.ensures ∙ c.if-contains.true))

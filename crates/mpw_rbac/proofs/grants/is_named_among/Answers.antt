@@ -9,4 +9,6 @@ use Rattle.mpw_rbac.proofs.grants.is_named_among.Goals as goal
 pub returns-then-is_named : goal.returns-then-is_named
 returns-then-is_named c =
     let test = λ (grant : Grant). name_eq c.args.role.now grant.role in
-    sym (among test c.args.blocks.now c.loop-block.block-index c.block-item.result c.block-item.result c.loop-block-test.true c.block-item.is (ap (list_any test) (sym c.as_slice.ensures) ∙ sym c.is_named.ensures ∙ c.if-is_named.true))
+    sym (among test c.args.blocks.now c.loop-block.block-index c.block-item.result
+    c.block-item.result c.loop-block-test.true c.block-item.is
+    (ap (list_any test) (sym c.as_slice.ensures) ∙ sym c.is_named.ensures ∙ c.if-is_named.true))

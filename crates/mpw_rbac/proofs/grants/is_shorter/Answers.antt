@@ -6,8 +6,10 @@ use Rattle.mpw_rbac.proofs.grants.is_shorter.Goals as goal
 
 pub returns-then-count-room : goal.returns-then-count-room
 returns-then-count-room c =
-    let long = flat-long c.args.blocks.now c.loop-block.block-index c.block-item.result c.block-item.result c.loop-block-test.true c.block-item.is in
+    let long = flat-long c.args.blocks.now c.loop-block.block-index c.block-item.result
+    c.block-item.result c.loop-block-test.true c.block-item.is in
     let same = ap length c.as_slice-count.ensures in
     let over = c.if-count-room.true in
     let room = c.loop-block.invariant in
-    sym (not_less (length (flat_map (λ b. b) c.args.blocks.now)) c.args.limit (omega (arith, long, same, over, room)))
+    sym (not_less (length (flat_map (λ b. b) c.args.blocks.now)) c.args.limit
+    (omega (arith, long, same, over, room)))

@@ -5,4 +5,5 @@ use Rattle.mpw_rbac.specs.Grant.{grant_eq}
 use Rattle.mpw_rbac.proofs.grants.take_back.Goals as goal
 
 pub returns : goal.returns
-returns c = filter_same _ (λ other. not (grant_eq c.args.grant.now other)) _ (λ x b f call. search rules) _ _ c.retain.ensures.filtered
+returns c = filter_same _ (λ other. not (grant_eq c.args.grant.now other)) _
+    (λ x b f call. search rules) _ _ c.retain.ensures.filtered

@@ -6,4 +6,5 @@ use Rattle.mpw_rbac.specs.declared.permission.Grant.{Grant}
 use Rattle.mpw_rbac.proofs.grants.ungrant.Goals as goal
 
 pub returns : goal.returns
-returns c = filter_same _ (λ (grant : Grant). not (name_eq c.args.role.now grant.role)) _ (λ x b f call. search rules) _ _ c.retain.ensures.filtered
+returns c = filter_same _ (λ (grant : Grant). not (name_eq c.args.role.now grant.role)) _
+    (λ x b f call. search rules) _ _ c.retain.ensures.filtered

@@ -1,8 +1,10 @@
 use Rattle.std.proofs.Common.{List, ◌++◌, take}
 use Rattle.mpw_roles.specs.Hierarchy.{role_names}
-use Rattle.mpw_rbac.specs.Holders.{IsHeld}
+use Rattle.mpw_rbac.specs.Internal.Holders.{IsHeld}
 use Rattle.mpw_rbac.specs.declared.permission.Grant.{Grant}
 use Rattle.mpw_rbac.proofs.holders.add_all.Given as goal
 
 abbrev pub invariant-loop-grant : goal.invariant-loop-grant
-invariant-loop-grant l = (done : List Grant) → IsHeld (role_names l.roles) done l.operation l.fn.holders → IsHeld (role_names l.roles) (done ++ take l.grant-index l.grants) l.operation l.holders
+invariant-loop-grant l = (done : List Grant)
+    → IsHeld (role_names l.roles) done l.operation l.fn.holders
+    → IsHeld (role_names l.roles) (done ++ take l.grant-index l.grants) l.operation l.holders

@@ -1,9 +1,8 @@
 -- Each turn asks one holder.
-use Rattle.std.proofs.Common.{◌≡◌, ◌∙◌, ℕ, sym, ap, false, true, ◌≤◌, length, arith}
+use Rattle.std.proofs.Common.{◌≡◌, ◌∙◌, sym, ap, map, false, true, ◌≤◌, length, arith}
 use Rattle.std.proofs.lemmas.List.{take_all}
 use Rattle.mpw_separation.specs.Separation.{breaks, is_broken}
-use Rattle.mpw_rbac.specs.Policy.{active_lists}
-use Rattle.mpw_rbac.specs.declared.session.Session.{Session}
+use Rattle.mpw_rbac.proofs.MaskedLemmas.{active_in, active-lists}
 use Rattle.mpw_rbac.proofs.HolderLemmas.{unbroken-entry, broken-entry}
 use Rattle.mpw_rbac.proofs.separation.breaks_a_session.Goals as goal
 
@@ -11,18 +10,28 @@ pub loop-index-preserved : goal.loop-index-preserved
 loop-index-preserved c =
     let h = c.args.roles.now in
     let set = c.args.set.now in
-    let here : breaks h c.in-Some.session.now.active set ≡ false = ap (λ l. breaks h l set) (sym c.as_slice.ensures) ∙ sym c.is_broken.ensures ∙ c.if-is_broken.false in
-    unbroken-entry (λ (entry : ℕ × Session). entry.1.active) h set c.args.sessions.now.entries c.loop-index.index (c.in-Some.field-0-0.now, c.in-Some.session.now) (sym c.in-Some.ensures.entry) c.loop-index.invariant here
+    let here : breaks h c.in-Some.active.now.session.active set ≡ false =
+    ap (λ l. breaks h l set) (sym c.as_slice.ensures) ∙ sym c.is_broken.ensures
+    ∙ c.if-is_broken.false in
+    unbroken-entry active_in h set c.args.sessions.now.entries c.loop-index.index
+    (c.in-Some.field-0-0.now, c.in-Some.active.now) (sym c.in-Some.ensures.entry)
+    c.loop-index.invariant here
 
 pub returns-then-is_broken : goal.returns-then-is_broken
 returns-then-is_broken c =
     let h = c.args.roles.now in
     let set = c.args.set.now in
-    let here : breaks h c.in-Some.session.now.active set ≡ true = ap (λ l. breaks h l set) (sym c.as_slice.ensures) ∙ sym c.is_broken.ensures ∙ c.if-is_broken.true in
-    sym (broken-entry (λ (entry : ℕ × Session). entry.1.active) h set c.args.sessions.now.entries c.loop-index.index (c.in-Some.field-0-0.now, c.in-Some.session.now) (sym c.in-Some.ensures.entry) here)
+    let here : breaks h c.in-Some.active.now.session.active set ≡ true =
+    ap (λ l. breaks h l set) (sym c.as_slice.ensures) ∙ sym c.is_broken.ensures
+    ∙ c.if-is_broken.true in
+    sym (broken-entry active_in h set c.args.sessions.now.entries c.loop-index.index
+    (c.in-Some.field-0-0.now, c.in-Some.active.now) (sym c.in-Some.ensures.entry) here)
+    ∙ ap (λ l. is_broken h l set) (active-lists c.args.sessions.now.entries)
 
 pub returns : goal.returns
 returns c =
     let end : length c.args.sessions.now.entries ≤ c.loop-index.index = omega arith in
     let all = take_all c.loop-index.index c.args.sessions.now.entries end in
-    sym c.loop-index.invariant ∙ ap (λ es. is_broken c.args.roles.now (active_lists es) c.args.set.now) all
+    sym c.loop-index.invariant ∙ ap (λ es. is_broken c.args.roles.now (map active_in es)
+    c.args.set.now) all ∙ ap (λ l. is_broken c.args.roles.now l c.args.set.now)
+    (active-lists c.args.sessions.now.entries)

@@ -11,18 +11,27 @@ pub loop-index-preserved : goal.loop-index-preserved
 loop-index-preserved c =
     let h = c.args.roles.now in
     let set = c.args.set.now in
-    let here : breaks h c.in-Some.user.now.roles set ≡ false = ap (λ l. breaks h l set) (sym c.as_slice.ensures) ∙ sym c.is_broken.ensures ∙ c.if-is_broken.false in
-    unbroken-entry (λ (entry : List ℕ × User). entry.1.roles) h set c.args.users.now.entries c.loop-index.index (c.in-Some.field-0-0.now, c.in-Some.user.now) (sym c.in-Some.ensures.entry) c.loop-index.invariant here
+    let here : breaks h c.in-Some.user.now.roles set ≡ false =
+    ap (λ l. breaks h l set) (sym c.as_slice.ensures) ∙ sym c.is_broken.ensures
+    ∙ c.if-is_broken.false in
+    unbroken-entry (λ (entry : List ℕ × User). entry.1.roles) h set c.args.users.now.entries
+    c.loop-index.index (c.in-Some.field-0-0.now, c.in-Some.user.now)
+    (sym c.in-Some.ensures.entry) c.loop-index.invariant here
 
 pub returns-then-is_broken : goal.returns-then-is_broken
 returns-then-is_broken c =
     let h = c.args.roles.now in
     let set = c.args.set.now in
-    let here : breaks h c.in-Some.user.now.roles set ≡ true = ap (λ l. breaks h l set) (sym c.as_slice.ensures) ∙ sym c.is_broken.ensures ∙ c.if-is_broken.true in
-    sym (broken-entry (λ (entry : List ℕ × User). entry.1.roles) h set c.args.users.now.entries c.loop-index.index (c.in-Some.field-0-0.now, c.in-Some.user.now) (sym c.in-Some.ensures.entry) here)
+    let here : breaks h c.in-Some.user.now.roles set ≡ true =
+    ap (λ l. breaks h l set) (sym c.as_slice.ensures) ∙ sym c.is_broken.ensures
+    ∙ c.if-is_broken.true in
+    sym (broken-entry (λ (entry : List ℕ × User). entry.1.roles) h set c.args.users.now.entries
+    c.loop-index.index (c.in-Some.field-0-0.now, c.in-Some.user.now)
+    (sym c.in-Some.ensures.entry) here)
 
 pub returns : goal.returns
 returns c =
     let end : length c.args.users.now.entries ≤ c.loop-index.index = omega arith in
     let all = take_all c.loop-index.index c.args.users.now.entries end in
-    sym c.loop-index.invariant ∙ ap (λ es. is_broken c.args.roles.now (assigned_lists es) c.args.set.now) all
+    sym c.loop-index.invariant ∙ ap (λ es. is_broken c.args.roles.now (assigned_lists es)
+    c.args.set.now) all

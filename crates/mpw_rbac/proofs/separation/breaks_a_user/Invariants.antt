@@ -5,4 +5,5 @@ use Rattle.mpw_rbac.proofs.separation.breaks_a_user.Given as goal
 
 -- nobody so far breaks the set
 abbrev pub invariant-loop-index : goal.invariant-loop-index
-invariant-loop-index l = is_broken l.roles (assigned_lists (take l.index l.users.entries)) l.set ≡ false
+invariant-loop-index l =
+    is_broken l.roles (assigned_lists (take l.index l.users.entries)) l.set ≡ false

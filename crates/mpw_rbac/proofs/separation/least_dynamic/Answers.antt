@@ -1,10 +1,9 @@
 -- Each turn adds one holder.
-use Rattle.std.proofs.Common.{◌≡◌, ◌∙◌, ℕ, ◌+◌, sym, ap, subst, take, [], ◌∷◌, ◌≤◌, length, arith}
+use Rattle.std.proofs.Common.{◌≡◌, ◌∙◌, ℕ, ◌+◌, sym, ap, subst, take, map, [], ◌∷◌, ◌≤◌, length, arith}
 use Rattle.std.specs.Option.{option_copied}
 use Rattle.mpw_separation.specs.Least.{lesser, IsLeast}
 use Rattle.mpw_separation.specs.Separation.{broken_names, least_broken}
-use Rattle.mpw_rbac.specs.Policy.{active_lists}
-use Rattle.mpw_rbac.specs.declared.session.Session.{Session}
+use Rattle.mpw_rbac.proofs.MaskedLemmas.{active_in, active-lists}
 use Rattle.mpw_rbac.proofs.HolderLemmas.{least-entry, least-all, least-nobody}
 use Rattle.mpw_rbac.proofs.separation.least_dynamic.Goals as goal
 
@@ -16,12 +15,21 @@ loop-index-preserved c =
     let h = c.args.roles.now in
     let sets = c.args.sets.now.dsd in
     let es = c.args.sessions.now.entries in
-    let turn = least-entry (λ (entry : ℕ × Session). entry.1.active) h sets es c.loop-index.index (c.in-Some.field-0-0.now, c.in-Some.session.now) (option_copied c.loop-index.least) (sym c.in-Some.ensures.entry) c.loop-index.invariant in
-    let next : option_copied c.lesser-least.result ≡ lesser (option_copied c.loop-index.least) (least_broken h sets (c.in-Some.session.now.active ∷ [])) =
-    c.lesser-least.ensures ∙ ap (lesser (option_copied c.loop-index.least)) (c.first_broken-broken.ensures ∙ ap (λ l. least_broken h sets (l ∷ [])) c.as_slice.ensures) in
-    subst (IsLeast (broken_names h sets (active_lists (take (c.loop-index.index + 1) es)))) (sym next) turn
+    let turn = least-entry active_in h sets es c.loop-index.index
+    (c.in-Some.field-0-0.now, c.in-Some.active.now) (option_copied c.loop-index.least)
+    (sym c.in-Some.ensures.entry) c.loop-index.invariant in
+    let next : option_copied c.lesser-least.result ≡ lesser (option_copied c.loop-index.least)
+    (least_broken h sets (c.in-Some.active.now.session.active ∷ [])) =
+    c.lesser-least.ensures ∙ ap (lesser (option_copied c.loop-index.least))
+    (c.first_broken-broken.ensures ∙ ap (λ l. least_broken h sets (l ∷ []))
+    c.as_slice.ensures) in
+    subst (IsLeast (broken_names h sets (map active_in (take (c.loop-index.index + 1) es))))
+    (sym next) turn
 
 pub returns : goal.returns
 returns c =
     let end : length c.args.sessions.now.entries ≤ c.loop-index.index = omega arith in
-    least-all (λ (entry : ℕ × Session). entry.1.active) c.args.roles.now c.args.sets.now.dsd c.args.sessions.now.entries c.loop-index.index (option_copied c.loop-index.least) end c.loop-index.invariant
+    let all = least-all active_in c.args.roles.now c.args.sets.now.dsd c.args.sessions.now.entries
+    c.loop-index.index (option_copied c.loop-index.least) end c.loop-index.invariant in
+    all ∙ ap (least_broken c.args.roles.now c.args.sets.now.dsd)
+    (active-lists c.args.sessions.now.entries)

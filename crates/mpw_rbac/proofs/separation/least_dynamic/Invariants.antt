@@ -1,10 +1,11 @@
-use Rattle.std.proofs.Common.{take}
+use Rattle.std.proofs.Common.{take, map}
 use Rattle.std.specs.Option.{option_copied}
 use Rattle.mpw_separation.specs.Least.{IsLeast}
 use Rattle.mpw_separation.specs.Separation.{broken_names}
-use Rattle.mpw_rbac.specs.Policy.{active_lists}
+use Rattle.mpw_rbac.proofs.MaskedLemmas.{active_in}
 use Rattle.mpw_rbac.proofs.separation.least_dynamic.Given as goal
 
 -- the least name so far
 abbrev pub invariant-loop-index : goal.invariant-loop-index
-invariant-loop-index l = IsLeast (broken_names l.roles l.sets.dsd (active_lists (take l.index l.sessions.entries))) (option_copied l.least)
+invariant-loop-index l = IsLeast (broken_names l.roles l.sets.dsd
+    (map active_in (take l.index l.sessions.entries))) (option_copied l.least)

@@ -16,12 +16,20 @@ loop-index-preserved c =
     let h = c.args.roles.now in
     let sets = c.args.sets.now.ssd in
     let es = c.args.users.now.entries in
-    let turn = least-entry (λ (entry : List ℕ × User). entry.1.roles) h sets es c.loop-index.index (c.in-Some.field-0-0.now, c.in-Some.user.now) (option_copied c.loop-index.least) (sym c.in-Some.ensures.entry) c.loop-index.invariant in
-    let next : option_copied c.lesser-least.result ≡ lesser (option_copied c.loop-index.least) (least_broken h sets (c.in-Some.user.now.roles ∷ [])) =
-    c.lesser-least.ensures ∙ ap (lesser (option_copied c.loop-index.least)) (c.first_broken-broken.ensures ∙ ap (λ l. least_broken h sets (l ∷ [])) c.as_slice.ensures) in
-    subst (IsLeast (broken_names h sets (assigned_lists (take (c.loop-index.index + 1) es)))) (sym next) turn
+    let turn = least-entry (λ (entry : List ℕ × User). entry.1.roles) h sets es c.loop-index.index
+    (c.in-Some.field-0-0.now, c.in-Some.user.now) (option_copied c.loop-index.least)
+    (sym c.in-Some.ensures.entry) c.loop-index.invariant in
+    let next : option_copied c.lesser-least.result ≡ lesser (option_copied c.loop-index.least)
+    (least_broken h sets (c.in-Some.user.now.roles ∷ [])) =
+    c.lesser-least.ensures ∙ ap (lesser (option_copied c.loop-index.least))
+    (c.first_broken-broken.ensures ∙ ap (λ l. least_broken h sets (l ∷ []))
+    c.as_slice.ensures) in
+    subst (IsLeast (broken_names h sets (assigned_lists (take (c.loop-index.index + 1) es))))
+    (sym next) turn
 
 pub returns : goal.returns
 returns c =
     let end : length c.args.users.now.entries ≤ c.loop-index.index = omega arith in
-    least-all (λ (entry : List ℕ × User). entry.1.roles) c.args.roles.now c.args.sets.now.ssd c.args.users.now.entries c.loop-index.index (option_copied c.loop-index.least) end c.loop-index.invariant
+    least-all (λ (entry : List ℕ × User). entry.1.roles) c.args.roles.now c.args.sets.now.ssd
+    c.args.users.now.entries c.loop-index.index (option_copied c.loop-index.least) end
+    c.loop-index.invariant

@@ -9,5 +9,6 @@ use Rattle.mpw_rbac.proofs.users.unassign.Goals as goal
 pub returns : goal.returns
 returns c =
     let role = c.args.role.now in
-    retained _ (λ (u : User). true) (λ (u : User). record u { roles = without_name u.roles role }) _ (λ k v b w g call. search rules) _ _ c.retain.ensures.filtered
+    retained _ (λ (u : User). true) (λ (u : User). record u { roles = without_name u.roles role }) _
+    (λ k v b w g call. search rules) _ _ c.retain.ensures.filtered
     ∙ ap (λ us. unassigned us role) (kept-all c.args.users.now.entries)

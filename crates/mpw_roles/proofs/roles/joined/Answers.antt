@@ -13,12 +13,15 @@ loop-senior-preserved c = λ q.
     let s = c.senior-item.result in
     let i = c.loop-senior.senior-index in
     let rest = drop (i + 1) c.args.seniors.now in
-    let cons : drop i c.args.seniors.now ≡ s ∷ rest = item-cons c.args.seniors.now i s c.loop-senior-test.true c.senior-item.is in
+    let cons : drop i c.args.seniors.now ≡ s ∷ rest = item-cons c.args.seniors.now i s
+    c.loop-senior-test.true c.senior-item.is in
     let before = has c.loop-senior.mask q in
     elim c.match-get_index_of.branch [
       | in-Some w ↦
           ap (λ m. has m q || is_place_below h rest q) w.mask-is
-          ∙ turn-role h s rest q before _ (w.add.ensures q ∙ ap (λ t. before || t) (mask-found h c.args.masks.now c.requires.masked s w.in-Some.place w.in-Some.ensures.index q))
+          ∙ turn-role h s rest q before _ (w.add.ensures q
+          ∙ ap (λ t. before || t) (mask-found h c.args.masks.now c.requires.masked s
+          w.in-Some.place w.in-Some.ensures.index q))
           ∙ ap (λ l. before || is_place_below h l q) (sym cons)
           ∙ c.loop-senior.invariant q
       | in_default w ↦

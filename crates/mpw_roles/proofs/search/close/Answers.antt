@@ -18,11 +18,14 @@ loop-expanded-preserved c = record {
 }
 
 pub returns-clause-reached : goal.returns-clause-reached
-returns-clause-reached c = (c.pass.ensures.search c.args.marks.now c.loop-expanded.invariant.search).reached
+returns-clause-reached c =
+    (c.pass.ensures.search c.args.marks.now c.loop-expanded.invariant.search).reached
 
 pub returns-clause-keeps : goal.returns-clause-keeps
-returns-clause-keeps c = (c.pass.ensures.search c.args.marks.now c.loop-expanded.invariant.search).keeps
+returns-clause-keeps c =
+    (c.pass.ensures.search c.args.marks.now c.loop-expanded.invariant.search).keeps
 
 pub returns-clause-closed : goal.returns-clause-closed
 returns-clause-closed c = λ role junior is.
-    (c.pass.ensures.search c.args.marks.now c.loop-expanded.invariant.search).done role junior (c.pass.ensures.done c.loop-expanded-test.false role is)
+    (c.pass.ensures.search c.args.marks.now c.loop-expanded.invariant.search).done role junior
+    (c.pass.ensures.done c.loop-expanded-test.false role is)

@@ -1,5 +1,5 @@
 use Rattle.std.proofs.Common.{◌≤◌, not, count_by, length}
-use Rattle.mpw_roles.specs.Marks.{IsSearch}
+use Rattle.mpw_roles.specs.Internal.Marks.{IsSearch}
 use Rattle.mpw_roles.proofs.search.close.Given as goal
 
 abbrev pub invariant-loop-expanded : goal.invariant-loop-expanded

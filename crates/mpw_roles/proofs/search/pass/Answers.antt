@@ -9,7 +9,8 @@ loop-index-preserved c =
     let before = c.loop-index.invariant in
     elim c.if-expand.branch [
       | then-expand w ↦
-          let less : count_by not c.expand.new.expanded < count_by not c.loop-index.expanded = c.expand.ensures.work w.if-expand.true in
+          let less : count_by not c.expand.new.expanded < count_by not c.loop-index.expanded =
+          c.expand.ensures.work w.if-expand.true in
           record {
             marks_long = omega arith;
             expanded_long = omega arith;
@@ -21,18 +22,23 @@ loop-index-preserved c =
           }
       | else-expand w ↦
           let same = c.expand.ensures.idle w.if-expand.false in
-          let count : count_by not c.expand.new.expanded ≡ count_by not c.loop-index.expanded = ap (count_by not) same.1 in
+          let count : count_by not c.expand.new.expanded ≡ count_by not c.loop-index.expanded =
+          ap (count_by not) same.1 in
           record {
             marks_long = omega arith;
             expanded_long = omega arith;
             search = λ start s. c.expand.ensures.search start (before.search start s);
-            idle = λ still. let old = before.idle (sym w.changed-is ∙ still) in (same.0 ∙ old.0, same.1 ∙ old.1);
+            idle = λ still. let old = before.idle (sym w.changed-is ∙ still) in
+                (same.0 ∙ old.0, same.1 ∙ old.1);
             seen = λ still.
                 let old = before.idle (sym w.changed-is ∙ still) in
                 below_more _ _ (before.seen (sym w.changed-is ∙ still)) (λ is.
-                ap (λ l. get_or l c.loop-index.index false) (sym old.1) ∙ c.expand.ensures.seen w.if-expand.false (ap (λ l. get_or l c.loop-index.index false) old.0 ∙ is));
+                ap (λ l. get_or l c.loop-index.index false) (sym old.1)
+                ∙ c.expand.ensures.seen w.if-expand.false
+                (ap (λ l. get_or l c.loop-index.index false) old.0 ∙ is));
             fewer = omega arith;
-            work = λ done. let less : count_by not c.loop-index.expanded < count_by not c.args.expanded.now = before.work (sym w.changed-is ∙ done) in omega arith;
+            work = λ done. let less : count_by not c.loop-index.expanded < count_by
+                not c.args.expanded.now = before.work (sym w.changed-is ∙ done) in omega arith;
           }
     ]
 
@@ -42,5 +48,6 @@ returns-clause-done c = λ still role is.
     let h = c.args.table.now.entries in
     all-expanded h c.loop-index.marks c.loop-index.expanded (omega arith)
     (λ k inside there.
-    ap (λ l. get_or l k false) old.1 ∙ c.loop-index.invariant.seen still k (omega arith) (ap (λ l. get_or l k false) (sym old.0) ∙ there))
+    ap (λ l. get_or l k false) old.1 ∙ c.loop-index.invariant.seen still k (omega arith)
+    (ap (λ l. get_or l k false) (sym old.0) ∙ there))
     role is

@@ -7,5 +7,6 @@ use Rattle.mpw_roles.proofs.search.remask.Given as goal
 abbrev pub invariant-loop-place : goal.invariant-loop-place
 invariant-loop-place l = record {
   long : length l.table.entries ≤ length l.masks;
-  exact : (p : ℕ) → p < l.place → (q : ℕ) → has (mask_at l.masks p) q ≡ is_place_under l.table.entries (name_at l.table.entries p) q;
+  exact : (p : ℕ) → p < l.place → (q : ℕ)
+      → has (mask_at l.masks p) q ≡ is_place_under l.table.entries (name_at l.table.entries p) q;
 }

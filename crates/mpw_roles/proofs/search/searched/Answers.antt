@@ -10,4 +10,5 @@ returns c = λ q.
     let ms = c.close.new.marks in
     c.packed.ensures q
     ∙ ap (λ n. nat_lt q n && get_or ms q false) c.len-count.ensures.len
-    ∙ searched-place h c.args.place ms c.len-count.ensures.unique c.requires.within c.requires.small (omega arith) c.close.ensures.reached c.close.ensures.keeps c.close.ensures.closed q
+    ∙ searched-place h c.args.place ms c.len-count.ensures.unique c.requires.within c.requires.small
+    (omega arith) c.close.ensures.reached c.close.ensures.keeps c.close.ensures.closed q

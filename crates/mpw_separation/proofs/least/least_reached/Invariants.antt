@@ -1,9 +1,10 @@
 use Rattle.std.proofs.Common.{take, filter}
 use Rattle.std.specs.Option.{option_copied}
 use Rattle.mpw_separation.specs.Least.{IsLeast}
-use Rattle.mpw_separation.specs.Separation.{is_reached, names_of}
+use Rattle.mpw_separation.specs.Separation.{is_reached, set_names}
 use Rattle.mpw_separation.proofs.least.least_reached.Given as goal
 
 -- the least name of the sets so far
 abbrev pub invariant-loop-set : goal.invariant-loop-set
-invariant-loop-set l = IsLeast (names_of (filter (is_reached l.below) (take l.set-index l.sets))) (option_copied l.least)
+invariant-loop-set l = IsLeast (set_names (filter (is_reached l.below) (take l.set-index l.sets)))
+    (option_copied l.least)

@@ -2,7 +2,7 @@
 use Rattle.std.proofs.Common.{◌∙◌, ap, filter, not}
 use Rattle.mpw_roles.specs.declared.mask.Mask.{Mask}
 use Rattle.mpw_rbac.specs.Grant.{object_eq}
-use Rattle.mpw_rbac.specs.Holders.{holds_in}
+use Rattle.mpw_rbac.specs.Internal.Holders.{holds_in}
 use Rattle.mpw_rbac.specs.declared.permission.Object.{Object}
 use Rattle.mpw_rbac.proofs.bucket.Bucket.with.Goals as goal
 
@@ -10,4 +10,6 @@ pub returns : goal.returns
 returns c = λ other place.
     ap (λ l. holds_in l other place) c.in_ok-bucket.ensures
     ∙ c.in_ok-keep.ensures c.args.self.now
-    (c.in_ok-masks.ensures ∙ ap (filter (λ (entry : Object × Mask). not (object_eq c.args.object.now entry.0))) c.as_slice.ensures) other place
+    (c.in_ok-masks.ensures ∙ ap (filter
+    (λ (entry : Object × Mask). not (object_eq c.args.object.now entry.0))) c.as_slice.ensures)
+    other place

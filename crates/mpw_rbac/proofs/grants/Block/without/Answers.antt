@@ -1,17 +1,21 @@
 -- The slots of fewer grants are there.
 use Rattle.std.proofs.Common.{◌≡◌, ◌∙◌, sym, ap, subst, not}
 use Rattle.mpw_rbac.specs.Grant.{grant_eq}
-use Rattle.mpw_rbac.specs.Grants.{IsCovered, without_grant}
+use Rattle.mpw_rbac.specs.Internal.Grants.{IsCovered, without_grant}
 use Rattle.mpw_rbac.proofs.BlockLemmas.{covered-less, without-none}
 use Rattle.mpw_rbac.proofs.grants.Block.without.Goals as goal
 
 pub returns-then-not-contains : goal.returns-then-not-contains
-returns-then-not-contains c = c.in_ok-same.ensures ∙ without-none c.args.self.now c.args.grant.now (sym c.contains.ensures ∙ c.if-not-contains.true)
+returns-then-not-contains c = c.in_ok-same.ensures ∙ without-none c.args.self.now c.args.grant.now
+    (sym c.contains.ensures ∙ c.if-not-contains.true)
 
 pub of-requires : goal.of-requires
 of-requires c =
     let in' = c.self.inside in
     let grant = c.args.grant.now in
     let is : c.take_back.new.grants.items ≡ without_grant in'.grants.value.items grant =
-    c.take_back.ensures ∙ ap (λ l. without_grant l grant) (c.in_ok-grants.ensures ∙ c.as_slice.ensures ∙ sym c.self.view_is) in
-    subst (IsCovered in'.slots) (sym is) (covered-less in'.slots (λ other. not (grant_eq grant other)) in'.grants.value.items c.self.invariant)
+    c.take_back.ensures ∙ ap (λ l. without_grant l grant)
+    (c.in_ok-grants.ensures ∙ c.as_slice.ensures ∙ sym c.self.view_is) in
+    subst (IsCovered in'.slots) (sym is)
+    (covered-less in'.slots (λ other. not (grant_eq grant other)) in'.grants.value.items
+    c.self.invariant)

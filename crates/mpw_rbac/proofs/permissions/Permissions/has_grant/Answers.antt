@@ -5,7 +5,7 @@ use Rattle.mpw_roles.specs.Hierarchy.{Hierarchy, role_names}
 use Rattle.std.specs.Prelude.{Some, position}
 use Rattle.mpw_geom.specs.Names.{name_eq}
 use Rattle.mpw_rbac.specs.Grant.{grant_eq}
-use Rattle.mpw_rbac.specs.Holders.{Permissions, holds}
+use Rattle.mpw_rbac.specs.Internal.Holders.{Permissions, holds}
 use Rattle.mpw_rbac.proofs.GrantedLemmas.{granted-bit, there}
 use Rattle.mpw_rbac.proofs.permissions.Permissions.has_grant.Goals as goal
 
@@ -17,9 +17,13 @@ returns c =
     let k = c.index-operation.result in
     let g = c.args.grant.now in
     let i = c.in-Some.place in
-    let within : k < length tables = let all = c.self.invariant.all in let small = c.index-operation.ensures.within in omega arith in
-    let table : c.index.result.now ≡ get_or tables k [] = c.index.ensures ∙ ap (λ t. get_or t.items k c.index.result.now) c.deref-2.ensures ∙ there tables k c.index.result.now [] within in
-    let found : Some i ≡ position (name_eq g.role) names = c.in-Some.ensures.place ∙ ap (λ (h : Hierarchy). position (name_eq g.role) (role_names h)) c.deref.ensures in
+    let within : k < length tables = let all = c.self.invariant.all in let small =
+    c.index-operation.ensures.within in omega arith in
+    let table : c.index.result.now ≡ get_or tables k [] = c.index.ensures
+    ∙ ap (λ t. get_or t.items k c.index.result.now) c.deref-2.ensures
+    ∙ there tables k c.index.result.now [] within in
+    let found : Some i ≡ position (name_eq g.role) names = c.in-Some.ensures.place
+    ∙ ap (λ (h : Hierarchy). position (name_eq g.role) (role_names h)) c.deref.ensures in
     c.contains-2.ensures
     ∙ c.of.ensures i
     ∙ ap (λ t. holds t g.object i) table

@@ -6,7 +6,7 @@ use Rattle.mpw_roles.specs.Mask.{has}
 use Rattle.mpw_roles.specs.Order.{roles_below}
 use Rattle.mpw_roles.specs.Places.{is_place_below}
 use Rattle.mpw_rbac.specs.Grant.{operation_index}
-use Rattle.mpw_rbac.specs.Holders.{Permissions, holds, is_place_granted}
+use Rattle.mpw_rbac.specs.Internal.Holders.{Permissions, holds, is_place_granted}
 use Rattle.mpw_rbac.specs.Policy.{is_granted_to}
 use Rattle.mpw_rbac.proofs.GrantedLemmas.{meets-granted, there}
 use Rattle.mpw_rbac.proofs.permissions.Permissions.is_granted_to.Goals as goal
@@ -20,9 +20,13 @@ returns c = λ seniors acts.
     let k = c.index-place.result in
     let op = c.args.operation in
     let object = c.args.object.now in
-    let within : k < length tables = let all = c.self.invariant.all in let small = c.index-place.ensures.within in omega arith in
-    let table : c.index.result.now ≡ get_or tables k [] = c.index.ensures ∙ ap (λ t. get_or t.items k c.index.result.now) c.deref.ensures ∙ there tables k c.index.result.now [] within in
-    let holding : (q : ℕ) → has c.of.result q ≡ is_place_granted (role_names h) granted (operation_index op) object q = λ q.
+    let within : k < length tables = let all = c.self.invariant.all in let small =
+    c.index-place.ensures.within in omega arith in
+    let table : c.index.result.now ≡ get_or tables k [] = c.index.ensures
+    ∙ ap (λ t. get_or t.items k c.index.result.now) c.deref.ensures
+    ∙ there tables k c.index.result.now [] within in
+    let holding : (q : ℕ) → has c.of.result q ≡ is_place_granted (role_names h) granted
+    (operation_index op) object q = λ q.
     c.of.ensures q
     ∙ ap (λ t. holds t object q) table
     ∙ (c.self.invariant.exact k c.index-place.ensures.within).exact object q
@@ -30,4 +34,5 @@ returns c = λ seniors acts.
     meets-granted h granted seniors op object c.args.roles.now c.of.result c.meets.result
     (λ q. acts q ∙ ap (λ (p : Permissions). is_place_below p.roles seniors q) (sym c.self.view_is))
     holding c.meets.ensures.some c.meets.ensures.none
-    ∙ ap (λ (p : Permissions). list_any (is_granted_to (roles_below p.roles seniors) op object) p.granted) c.self.view_is
+    ∙ ap (λ (p : Permissions). list_any (is_granted_to (roles_below p.roles seniors) op object)
+    p.granted) c.self.view_is

@@ -9,26 +9,46 @@ use Rattle.mpw_rbac.specs.Sound.{Sound}
 use Rattle.mpw_rbac.proofs.RowLemmas.{adduser-ok}
 use Rattle.mpw_rbac.proofs.KeepLemmas.{keep-adduser}
 use Rattle.mpw_rbac.proofs.TableLemmas.{insert-new}
+use Rattle.mpw_rbac.specs.Masked.{AreAuthorized}
 use Rattle.mpw_rbac.proofs.policy.Policy.adduser.Goals as goal
 
 pub invariant_of-self : goal.invariant_of-self
 invariant_of-self c =
     let in' = c.self.inside in
-    let p = policy_of in'.users in'.permissions.roles in'.permissions.granted in'.sets in'.sessions.entries in
+    let p = policy_of in'.users.users in'.permissions.roles in'.permissions.granted in'.sets
+    in'.sessions.sessions in
     let user = c.args.user in
-    let new : is_user p user ≡ false = ap (λ (q : Policy). is_user q user) c.self.view_is ∙ sym c.is_user.ensures ∙ c.if-is_user.false in
-    let is : c.in_ok-users.users ≡ p.users ++ (user, record { digest = c.args.digest; roles = [] }) ∷ [] =
-    c.in_ok-users.ensures ∙ ap (λ rs. insert_entry name_eq p.users user (record { digest = c.args.digest; roles = rs })) c.new-roles.ensures ∙ insert-new name_eq p.users user _ new in
-    subst (λ us. Sound (record p { users = us })) (sym is) (keep-adduser p user c.args.digest c.self.invariant)
+    let new : is_user p user ≡ false = ap (λ (q : Policy). is_user q user) c.self.view_is
+    ∙ sym c.is_user.ensures ∙ c.if-is_user.false in
+    let is : c.in_ok-users.users.users ≡ p.users
+    ++ (user, record { digest = c.args.digest; roles = [] }) ∷ [] =
+    c.in_ok-users.ensures.same ∙ ap (λ rs. insert_entry name_eq p.users user
+    (record { digest = c.args.digest; roles = rs })) c.new-roles.ensures
+    ∙ insert-new name_eq p.users user _ new in
+    record {
+      sound = subst (λ us. Sound (record p { users = us })) (sym is)
+          (keep-adduser p user c.args.digest c.self.invariant.sound);
+      authorized = subst (λ h. AreAuthorized h c.in_ok-users.users) c.roles.ensures
+          c.in_ok-users.ensures.masks;
+      acting = c.self.invariant.acting;
+    }
 
 pub returns-clause-ok : goal.returns-clause-ok
 returns-clause-ok c =
     let in' = c.self.inside in
-    let p = policy_of in'.users in'.permissions.roles in'.permissions.granted in'.sets in'.sessions.entries in
+    let p = policy_of in'.users.users in'.permissions.roles in'.permissions.granted in'.sets
+    in'.sessions.sessions in
     let user = c.args.user in
-    let new : is_user p user ≡ false = ap (λ (q : Policy). is_user q user) c.self.view_is ∙ sym c.is_user.ensures ∙ c.if-is_user.false in
-    let room : nat_lt (length p.users) 512 ≡ true = ap (λ (q : Policy). nat_lt (length q.users) 512) c.self.view_is ∙ sym c.has_room_for_user.ensures ∙ c.if-not-has_room_for_user.false in
-    let ok : rows.administered p c.args.conn ≡ Ok p = subst (λ (q : Policy). rows.administered q c.args.conn ≡ Ok q) (sym c.self.view_is) c.in_ok-administers.ensures.ok in
-    let is : c.in_ok-users.users ≡ insert_entry name_eq p.users user (record { digest = c.args.digest; roles = [] }) =
-    c.in_ok-users.ensures ∙ ap (λ rs. insert_entry name_eq p.users user (record { digest = c.args.digest; roles = rs })) c.new-roles.ensures in
-    rw (← c.self.view_is) (adduser-ok p c.args.conn ok user c.args.digest c.in_ok-users.users new room is)
+    let new : is_user p user ≡ false = ap (λ (q : Policy). is_user q user) c.self.view_is
+    ∙ sym c.is_user.ensures ∙ c.if-is_user.false in
+    let room : nat_lt (length p.users) 512 ≡ true = ap (λ (q : Policy). nat_lt (length q.users) 512)
+    c.self.view_is ∙ sym c.has_room_for_user.ensures ∙ c.if-not-has_room_for_user.false in
+    let ok : rows.administered p c.args.conn ≡ Ok p =
+    subst (λ (q : Policy). rows.administered q c.args.conn ≡ Ok q) (sym c.self.view_is)
+    c.in_ok-administers.ensures.ok in
+    let is : c.in_ok-users.users.users ≡ insert_entry name_eq p.users user
+    (record { digest = c.args.digest; roles = [] }) =
+    c.in_ok-users.ensures.same ∙ ap (λ rs. insert_entry name_eq p.users user
+    (record { digest = c.args.digest; roles = rs })) c.new-roles.ensures in
+    rw (← c.self.view_is) (adduser-ok p c.args.conn ok user c.args.digest c.in_ok-users.users.users
+    new room is)

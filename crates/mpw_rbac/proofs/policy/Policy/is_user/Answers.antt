@@ -6,5 +6,8 @@ use Rattle.mpw_rbac.proofs.policy.Policy.is_user.Goals as goal
 
 pub returns : goal.returns
 returns c =
-    let users = c.self.inside.users in
-    rw (← c.self.view_is) (c.contains_key.ensures ∙ ap (λ us. is_some (lookup (name_eq c.args.user.now) us)) c.table.ensures ∙ ap is_some (value_at-lookup name_eq users c.args.user.now) ∙ is_some-value_at name_eq users c.args.user.now)
+    let users = c.self.inside.users.users in
+    rw (← c.self.view_is) (c.contains_key.ensures
+    ∙ ap (λ us. is_some (lookup (name_eq c.args.user.now) us)) c.table.ensures
+    ∙ ap is_some (value_at-lookup name_eq users c.args.user.now)
+    ∙ is_some-value_at name_eq users c.args.user.now)

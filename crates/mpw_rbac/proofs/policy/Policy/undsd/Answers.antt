@@ -10,8 +10,16 @@ use Rattle.mpw_rbac.proofs.policy.Policy.undsd.Goals as goal
 pub invariant_of-self-2 : goal.invariant_of-self-2
 invariant_of-self-2 c =
     let in' = c.self.inside in
-    let p = policy_of in'.users in'.permissions.roles in'.permissions.granted in'.sets in'.sessions.entries in
+    let p = policy_of in'.users.users in'.permissions.roles in'.permissions.granted in'.sets
+    in'.sessions.sessions in
     let name = c.args.name.now in
-    let left : c.remove_dsd.new.self.dsd ≡ without_set p.dsd name = removed-set p.dsd name c.remove_dsd.new.self.dsd c.in_ok-remove_dsd.ensures.ok in
-    let is : policy_of in'.users in'.permissions.roles in'.permissions.granted c.remove_dsd.new.self in'.sessions.entries ≡ record p { dsd = without_set p.dsd name } = λ i. record p { dsd = left i; ssd = c.in_ok-remove_dsd.ensures.others i } in
-    subst Sound (sym is) (keep-undsd p name c.self.invariant)
+    let left : c.remove_dsd.new.self.dsd ≡ without_set p.dsd name =
+    removed-set p.dsd name c.remove_dsd.new.self.dsd c.in_ok-remove_dsd.ensures.ok in
+    let is : policy_of in'.users.users in'.permissions.roles in'.permissions.granted
+    c.remove_dsd.new.self in'.sessions.sessions ≡ record p { dsd = without_set p.dsd name } =
+    λ i. record p { dsd = left i; ssd = c.in_ok-remove_dsd.ensures.others i } in
+    record {
+      sound = subst Sound (sym is) (keep-undsd p name c.self.invariant.sound);
+      authorized = c.self.invariant.authorized;
+      acting = c.self.invariant.acting;
+    }

@@ -10,8 +10,16 @@ use Rattle.mpw_rbac.proofs.policy.Policy.unssd.Goals as goal
 pub invariant_of-self-2 : goal.invariant_of-self-2
 invariant_of-self-2 c =
     let in' = c.self.inside in
-    let p = policy_of in'.users in'.permissions.roles in'.permissions.granted in'.sets in'.sessions.entries in
+    let p = policy_of in'.users.users in'.permissions.roles in'.permissions.granted in'.sets
+    in'.sessions.sessions in
     let name = c.args.name.now in
-    let left : c.remove_ssd.new.self.ssd ≡ without_set p.ssd name = removed-set p.ssd name c.remove_ssd.new.self.ssd c.in_ok-remove_ssd.ensures.ok in
-    let is : policy_of in'.users in'.permissions.roles in'.permissions.granted c.remove_ssd.new.self in'.sessions.entries ≡ record p { ssd = without_set p.ssd name } = λ i. record p { ssd = left i; dsd = c.in_ok-remove_ssd.ensures.others i } in
-    subst Sound (sym is) (keep-unssd p name c.self.invariant)
+    let left : c.remove_ssd.new.self.ssd ≡ without_set p.ssd name =
+    removed-set p.ssd name c.remove_ssd.new.self.ssd c.in_ok-remove_ssd.ensures.ok in
+    let is : policy_of in'.users.users in'.permissions.roles in'.permissions.granted
+    c.remove_ssd.new.self in'.sessions.sessions ≡ record p { ssd = without_set p.ssd name } =
+    λ i. record p { ssd = left i; dsd = c.in_ok-remove_ssd.ensures.others i } in
+    record {
+      sound = subst Sound (sym is) (keep-unssd p name c.self.invariant.sound);
+      authorized = c.self.invariant.authorized;
+      acting = c.self.invariant.acting;
+    }

@@ -14,7 +14,8 @@ returns-in-Some c =
     let h = c.self.inside.table.now.entries in
     let ms = marks_from 0 (length h) c.self.inside.mask in
     let r = c.args.role.now in
-    let found = position-Some (name_eq r) (role_names h) c.in-Some.place [] (sym c.in-Some.ensures.index) in
+    let found =
+    position-Some (name_eq r) (role_names h) c.in-Some.place [] (sym c.in-Some.ensures.index) in
     let long = length-marks_from 0 (length h) c.self.inside.mask in
     let inside = found.0 in
     rw (← c.self.view_is)
@@ -30,4 +31,5 @@ returns-in-None c =
     let r = c.args.role.now in
     let long = length-marks_from 0 (length h) c.self.inside.mask in
     let none : is_role h r ≡ false = sym (is_role-lookup h r) ∙ sym c.in-None.ensures.found in
-    rw (← c.self.view_is) (sym (is_marked-none h ms r none) ∙ contains-marked_names h ms r c.in-None.ensures.unique (omega arith))
+    rw (← c.self.view_is) (sym (is_marked-none h ms r none)
+    ∙ contains-marked_names h ms r c.in-None.ensures.unique (omega arith))

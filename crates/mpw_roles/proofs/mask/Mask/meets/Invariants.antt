@@ -4,4 +4,5 @@ use Rattle.mpw_roles.proofs.mask.Mask.meets.Given as goal
 
 -- the words so far have no bit in common
 abbrev pub invariant-words : goal.invariant-words
-invariant-words l = (j : ℕ) → j < l.k → bit_and (get_or l.self.words j 0) (get_or l.other.words j 0) ≡ 0
+invariant-words l =
+    (j : ℕ) → j < l.k → bit_and (get_or l.self.words j 0) (get_or l.other.words j 0) ≡ 0

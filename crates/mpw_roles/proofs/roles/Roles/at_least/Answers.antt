@@ -12,8 +12,13 @@ returns-in-Some-Some c =
     let h = c.self.inside.table.entries in
     let ms = c.self.inside.masks.items in
     c.contains.ensures
-    ∙ ap (λ m. has m c.in-Some-Some.below) (c.index.ensures ∙ mask-there ms c.in-Some-Some.above c.index.result.now (let long = c.self.invariant.masked.long in let inside = c.in-Some-Some.ensures.within in omega arith))
-    ∙ bit-at_least h ms c.self.invariant.masked c.args.senior.now c.args.junior.now c.in-Some-Some.above c.in-Some-Some.below c.in-Some-Some.ensures.index c.in-Some-Some.ensures'.index
+    ∙ ap (λ m. has m c.in-Some-Some.below)
+    (c.index.ensures ∙ mask-there ms c.in-Some-Some.above c.index.result.now
+    (let long = c.self.invariant.masked.long in let inside = c.in-Some-Some.ensures.within in
+    omega arith))
+    ∙ bit-at_least h ms c.self.invariant.masked c.args.senior.now c.args.junior.now
+    c.in-Some-Some.above c.in-Some-Some.below c.in-Some-Some.ensures.index
+    c.in-Some-Some.ensures'.index
     ∙ ap (λ k. at_least k c.args.senior.now c.args.junior.now) c.self.view_is
 
 pub returns-in_default : goal.returns-in_default
@@ -21,7 +26,11 @@ returns-in_default c =
     let h = c.self.inside.table.entries in
     c.eq.ensures
     ∙ elim c.in_default.branch [
-      | in_default-via-in-Some+in_default w ↦ stranger-below h c.self.invariant.kept c.args.senior.now c.args.junior.now (sym (is_role-lookup h c.args.junior.now) ∙ sym w.in_default.ensures'.found)
-      | in_default-via-in_default w ↦ stranger-above h c.args.senior.now c.args.junior.now (sym (is_role-lookup h c.args.senior.now) ∙ sym c.get_index_of.ensures.found ∙ ap is_some w.in_default.is-0)
+      | in_default-via-in-Some+in_default w ↦ stranger-below h c.self.invariant.kept
+          c.args.senior.now c.args.junior.now (sym (is_role-lookup h c.args.junior.now)
+          ∙ sym w.in_default.ensures'.found)
+      | in_default-via-in_default w ↦ stranger-above h c.args.senior.now c.args.junior.now
+          (sym (is_role-lookup h c.args.senior.now) ∙ sym c.get_index_of.ensures.found
+          ∙ ap is_some w.in_default.is-0)
     ]
     ∙ ap (λ k. at_least k c.args.senior.now c.args.junior.now) c.self.view_is

@@ -10,5 +10,6 @@ returns c =
     let h = c.self.inside.table.entries in
     let seniors = c.args.seniors.now in
     c.new.ensures
-    ∙ below-places h seniors c.mask_below-mask.result (λ q. c.mask_below-mask.ensures q ∙ ap (λ k. is_place_below k seniors q) (sym c.self.view_is))
+    ∙ below-places h seniors c.mask_below-mask.result (λ q. c.mask_below-mask.ensures q
+    ∙ ap (λ k. is_place_below k seniors q) (sym c.self.view_is))
     ∙ ap (λ k. roles_below k seniors) c.self.view_is

@@ -16,17 +16,25 @@ invariant_of-self-2 c =
     let s = c.args.senior.now in
     let j = c.args.junior.now in
     let senior : is_role h s ≡ true = sym c.contains.ensures ∙ c.if-not-contains.false in
-    let junior : is_role h j ≡ true = sym c.contains-else-not-contains.ensures ∙ c.if-not-contains-2.false in
+    let junior : is_role h j ≡ true = sym c.contains-else-not-contains.ensures
+    ∙ c.if-not-contains-2.false in
     let new : is_immediate h s j ≡ false = sym c.is_immediate.ensures ∙ c.if-is_immediate.false in
     let apart : at_least h j s ≡ false = sym c.at_least.ensures ∙ c.if-at_least.false in
-    let is : c.put.new.table.entries ≡ insert_entry name_eq h s (immediate_juniors h s ++ j ∷ []) = c.in_ok-put.ensures.ok ∙ (λ i. insert_entry name_eq (c.self.view_is i) (c.in_ok-copy.ensures i) (c.in_ok-juniors.ensures i)) in
-    let old : IsRoles h c.self.inside.masks.items = subst (λ k. IsRoles k c.self.inside.masks.items) c.self.view_is c.self.invariant in
+    let is : c.put.new.table.entries ≡ insert_entry name_eq h s (immediate_juniors h s ++ j ∷ []) =
+    c.in_ok-put.ensures.ok ∙ (λ i. insert_entry name_eq (c.self.view_is i)
+    (c.in_ok-copy.ensures i) (c.in_ok-juniors.ensures i)) in
+    let old : IsRoles h c.self.inside.masks.items = subst (λ k. IsRoles k c.self.inside.masks.items)
+    c.self.view_is c.self.invariant in
     let table : c.put.new.table.entries ≡ with_pair h s j = is ∙ insert-present h s _ senior in
-    let names : role_names h ≡ role_names c.put.new.table.entries = sym (ap role_names table ∙ names-with_juniors h s _) in
-    let back = written-back c.join.new.masks c.self.inside.masks.items c.self.inside.masks.len (let long = c.join.ensures.long in omega arith) (omega arith) in
-    subst (IsRoles c.put.new.table.entries) (sym back) (subst (λ k. IsRoles k c.join.new.masks) (sym table) (record {
+    let names : role_names h ≡ role_names c.put.new.table.entries =
+    sym (ap role_names table ∙ names-with_juniors h s _) in
+    let back = written-back c.join.new.masks c.self.inside.masks.items c.self.inside.masks.len
+    (let long = c.join.ensures.long in omega arith) (omega arith) in
+    subst (IsRoles c.put.new.table.entries) (sym back)
+    (subst (λ k. IsRoles k c.join.new.masks) (sym table) (record {
       kept = IsHierarchy-with_pair h s j senior junior new apart old.kept;
-      masked = c.join.ensures.masked h names senior junior (subst (IsMasked h) (sym c.deref_mut.ensures.value) old.masked);
+      masked = c.join.ensures.masked h names senior junior
+          (subst (IsMasked h) (sym c.deref_mut.ensures.value) old.masked);
     }))
 
 pub returns-clause-ok : goal.returns-clause-ok
@@ -35,10 +43,13 @@ returns-clause-ok c =
     let s = c.args.senior.now in
     let j = c.args.junior.now in
     let senior : is_role h s ≡ true = sym c.contains.ensures ∙ c.if-not-contains.false in
-    let junior : is_role h j ≡ true = sym c.contains-else-not-contains.ensures ∙ c.if-not-contains-2.false in
+    let junior : is_role h j ≡ true = sym c.contains-else-not-contains.ensures
+    ∙ c.if-not-contains-2.false in
     let new : is_immediate h s j ≡ false = sym c.is_immediate.ensures ∙ c.if-is_immediate.false in
     let apart : at_least h j s ≡ false = sym c.at_least.ensures ∙ c.if-at_least.false in
-    let is : c.put.new.table.entries ≡ insert_entry name_eq h s (immediate_juniors h s ++ j ∷ []) = c.in_ok-put.ensures.ok ∙ (λ i. insert_entry name_eq (c.self.view_is i) (c.in_ok-copy.ensures i) (c.in_ok-juniors.ensures i)) in
+    let is : c.put.new.table.entries ≡ insert_entry name_eq h s (immediate_juniors h s ++ j ∷ []) =
+    c.in_ok-put.ensures.ok ∙ (λ i. insert_entry name_eq (c.self.view_is i)
+    (c.in_ok-copy.ensures i) (c.in_ok-juniors.ensures i)) in
     inherit-ok h c.put.new.table.entries s j senior junior new apart is
 
 pub join-requires : goal.join-requires
@@ -46,8 +57,12 @@ join-requires c =
     let h = c.args.self.now in
     let s = c.args.senior.now in
     let senior : is_role h s ≡ true = sym c.contains.ensures ∙ c.if-not-contains.false in
-    let is : c.put.new.table.entries ≡ insert_entry name_eq h s (immediate_juniors h s ++ c.args.junior.now ∷ []) = c.in_ok-put.ensures.ok ∙ (λ i. insert_entry name_eq (c.self.view_is i) (c.in_ok-copy.ensures i) (c.in_ok-juniors.ensures i)) in
-    let same : length c.put.new.table.entries ≡ length h = ap length (is ∙ insert-present h s _ senior) ∙ length-with_juniors h s _ in
+    let is : c.put.new.table.entries ≡ insert_entry name_eq h s
+    (immediate_juniors h s ++ c.args.junior.now ∷ []) = c.in_ok-put.ensures.ok
+    ∙ (λ i. insert_entry name_eq (c.self.view_is i) (c.in_ok-copy.ensures i)
+    (c.in_ok-juniors.ensures i)) in
+    let same : length c.put.new.table.entries ≡ length h =
+    ap length (is ∙ insert-present h s _ senior) ∙ length-with_juniors h s _ in
     let room = c.self.invariant.masked.long in
     let view = ap length c.self.view_is in
     let value = ap length c.deref_mut.ensures.value in

@@ -16,12 +16,19 @@ invariant_of-self-2 c =
     let h = c.args.self.now in
     let s = c.args.senior.now in
     let j = c.args.junior.now in
-    let there : is_immediate h s j ≡ true = sym c.is_immediate.ensures ∙ c.if-not-is_immediate.false in
+    let there : is_immediate h s j ≡ true = sym c.is_immediate.ensures
+    ∙ c.if-not-is_immediate.false in
     let senior : is_role h s ≡ true = first_role h s j there in
-    let is : c.put.new.table.entries ≡ insert_entry name_eq h s (without_name (immediate_juniors h s) j) = c.in_ok-put.ensures.ok ∙ (λ i. insert_entry name_eq (c.self.view_is i) (c.in_ok-copy.ensures i) (c.in_ok-juniors.ensures i)) in
-    let back = written-back c.remask.new.masks c.self.inside.masks.items c.self.inside.masks.len (let long = c.remask.ensures.same in omega arith) (omega arith) in
+    let is : c.put.new.table.entries ≡ insert_entry name_eq h s
+    (without_name (immediate_juniors h s) j) = c.in_ok-put.ensures.ok
+    ∙ (λ i. insert_entry name_eq (c.self.view_is i) (c.in_ok-copy.ensures i)
+    (c.in_ok-juniors.ensures i)) in
+    let back = written-back c.remask.new.masks c.self.inside.masks.items c.self.inside.masks.len
+    (let long = c.remask.ensures.same in omega arith) (omega arith) in
     subst (IsRoles c.put.new.table.entries) (sym back) (record {
-      kept = subst IsHierarchy (sym (is ∙ insert-present h s _ senior)) (IsHierarchy-without_pair h s j senior (subst IsHierarchy c.self.view_is c.self.invariant.kept));
+      kept = subst IsHierarchy (sym (is ∙ insert-present h s _ senior))
+          (IsHierarchy-without_pair h s j senior
+          (subst IsHierarchy c.self.view_is c.self.invariant.kept));
       masked = c.remask.ensures.masked;
     })
 
@@ -30,18 +37,27 @@ returns-clause-ok c =
     let h = c.args.self.now in
     let s = c.args.senior.now in
     let j = c.args.junior.now in
-    let there : is_immediate h s j ≡ true = sym c.is_immediate.ensures ∙ c.if-not-is_immediate.false in
-    let is : c.put.new.table.entries ≡ insert_entry name_eq h s (without_name (immediate_juniors h s) j) = c.in_ok-put.ensures.ok ∙ (λ i. insert_entry name_eq (c.self.view_is i) (c.in_ok-copy.ensures i) (c.in_ok-juniors.ensures i)) in
+    let there : is_immediate h s j ≡ true = sym c.is_immediate.ensures
+    ∙ c.if-not-is_immediate.false in
+    let is : c.put.new.table.entries ≡ insert_entry name_eq h s
+    (without_name (immediate_juniors h s) j) = c.in_ok-put.ensures.ok
+    ∙ (λ i. insert_entry name_eq (c.self.view_is i) (c.in_ok-copy.ensures i)
+    (c.in_ok-juniors.ensures i)) in
     uninherit-ok h c.put.new.table.entries s j there (first_role h s j there) is
 
 pub remask-requires-clause-small : goal.remask-requires-clause-small
 remask-requires-clause-small c =
     let h = c.args.self.now in
     let s = c.args.senior.now in
-    let there : is_immediate h s c.args.junior.now ≡ true = sym c.is_immediate.ensures ∙ c.if-not-is_immediate.false in
+    let there : is_immediate h s c.args.junior.now ≡ true = sym c.is_immediate.ensures
+    ∙ c.if-not-is_immediate.false in
     let senior : is_role h s ≡ true = first_role h s c.args.junior.now there in
-    let is : c.put.new.table.entries ≡ insert_entry name_eq h s (without_name (immediate_juniors h s) c.args.junior.now) = c.in_ok-put.ensures.ok ∙ (λ i. insert_entry name_eq (c.self.view_is i) (c.in_ok-copy.ensures i) (c.in_ok-juniors.ensures i)) in
-    let same : length c.put.new.table.entries ≡ length h = ap length (is ∙ insert-present h s _ senior) ∙ length-with_juniors h s _ in
+    let is : c.put.new.table.entries ≡ insert_entry name_eq h s
+    (without_name (immediate_juniors h s) c.args.junior.now) = c.in_ok-put.ensures.ok
+    ∙ (λ i. insert_entry name_eq (c.self.view_is i) (c.in_ok-copy.ensures i)
+    (c.in_ok-juniors.ensures i)) in
+    let same : length c.put.new.table.entries ≡ length h =
+    ap length (is ∙ insert-present h s _ senior) ∙ length-with_juniors h s _ in
     let view = ap length c.self.view_is in
     let small = c.self.invariant.kept.small in
     omega arith
@@ -50,10 +66,15 @@ pub remask-requires-clause-long : goal.remask-requires-clause-long
 remask-requires-clause-long c =
     let h = c.args.self.now in
     let s = c.args.senior.now in
-    let there : is_immediate h s c.args.junior.now ≡ true = sym c.is_immediate.ensures ∙ c.if-not-is_immediate.false in
+    let there : is_immediate h s c.args.junior.now ≡ true = sym c.is_immediate.ensures
+    ∙ c.if-not-is_immediate.false in
     let senior : is_role h s ≡ true = first_role h s c.args.junior.now there in
-    let is : c.put.new.table.entries ≡ insert_entry name_eq h s (without_name (immediate_juniors h s) c.args.junior.now) = c.in_ok-put.ensures.ok ∙ (λ i. insert_entry name_eq (c.self.view_is i) (c.in_ok-copy.ensures i) (c.in_ok-juniors.ensures i)) in
-    let same : length c.put.new.table.entries ≡ length h = ap length (is ∙ insert-present h s _ senior) ∙ length-with_juniors h s _ in
+    let is : c.put.new.table.entries ≡ insert_entry name_eq h s
+    (without_name (immediate_juniors h s) c.args.junior.now) = c.in_ok-put.ensures.ok
+    ∙ (λ i. insert_entry name_eq (c.self.view_is i) (c.in_ok-copy.ensures i)
+    (c.in_ok-juniors.ensures i)) in
+    let same : length c.put.new.table.entries ≡ length h =
+    ap length (is ∙ insert-present h s _ senior) ∙ length-with_juniors h s _ in
     let view = ap length c.self.view_is in
     let room = c.self.invariant.masked.long in
     let value = ap length c.deref_mut.ensures.value in

@@ -25,5 +25,6 @@ fault_of_sets sets.Memory = Memory
 
 -- a fault is want of memory, or that of the row of the hierarchy
 abbrev pub IsHierarchyFault : Result Hierarchy RolesFault → PolicyFault → Type 0
-IsHierarchyFault row (Refused refusal) = (fault : RolesFault) × (row ≡ Err fault) × (fault_of_roles fault ≡ Refused refusal)
+IsHierarchyFault row (Refused refusal) =
+    (fault : RolesFault) × (row ≡ Err fault) × (fault_of_roles fault ≡ Refused refusal)
 IsHierarchyFault row Memory = Unit {0}

@@ -17,12 +17,14 @@ use Rattle.mpw_rbac.specs.Table.{value_at}
 -- whether the grant is of the operation with that place among all, on this object, to this role
 abbrev pub is_grant_of : ℕ → Object → Name → Grant → Bool
 is_grant_of operation object role grant =
-    (operation == operation_index grant.operation) && (object_eq object grant.object && name_eq role grant.role)
+    (operation == operation_index grant.operation)
+    && (object_eq object grant.object && name_eq role grant.role)
 
 -- whether the place is that of a role to which the operation on the object was granted
 abbrev pub is_place_granted : List Name → List Grant → ℕ → Object → ℕ → Bool
 is_place_granted roles granted operation object place =
-    nat_lt place (length roles) && list_any (is_grant_of operation object (slice_index_or roles place [])) granted
+    nat_lt place (length roles) && list_any
+    (is_grant_of operation object (slice_index_or roles place [])) granted
 
 -- where an object is looked for: a hash of its name
 unfoldable pub slot : Object → ℕ
@@ -35,7 +37,8 @@ bucket_of object = slot object % 128
 
 -- whether the place is in the mask of an object of one bucket
 abbrev pub holds_in : List (Object × Mask) → Object → ℕ → Bool
-holds_in bucket object place = option_map_or (λ mask. has mask place) (value_at object_eq bucket object) false
+holds_in bucket object place =
+    option_map_or (λ mask. has mask place) (value_at object_eq bucket object) false
 
 -- the masks of the objects in their buckets
 abbrev pub Buckets : Type 0
@@ -46,13 +49,16 @@ abbrev pub holds : Buckets → Object → ℕ → Bool
 holds buckets object place = holds_in (slice_index_or buckets (bucket_of object) []) object place
 
 -- the masks of one operation are those of its grants
-pub record IsHeld (roles : List Name) (granted : List Grant) (operation : ℕ) (buckets : Buckets) : Type 0 where
-  pub exact : (object : Object) (place : ℕ) → holds buckets object place ≡ is_place_granted roles granted operation object place
+pub record IsHeld (roles : List Name) (granted : List Grant) (operation : ℕ) (buckets : Buckets) :
+    Type 0 where
+  pub exact : (object : Object) (place : ℕ)
+      → holds buckets object place ≡ is_place_granted roles granted operation object place
 
 -- and so for each operation
 pub record AreHeld (roles : List Name) (granted : List Grant) (tables : List Buckets) : Type 0 where
   pub all : length tables ≡ 11
-  pub exact : (operation : ℕ) → operation < 11 → IsHeld roles granted operation (slice_index_or tables operation [])
+  pub exact : (operation : ℕ) → operation < 11
+      → IsHeld roles granted operation (slice_index_or tables operation [])
 
 -- the grants with one more at their end, or without one
 abbrev pub grants_after : Bool → List Grant → Grant → List Grant
@@ -60,13 +66,18 @@ grants_after more granted grant =
     if more then granted ++ grant ∷ [] else filter (λ other. not (grant_eq grant other)) granted
 
 -- whatever the grants were, the masks of one operation that were theirs are those after the change
-pub record IsHeldAfter (more : Bool) (roles : List Name) (grant : Grant) (operation : ℕ) (old new : Buckets) : Type 0 where
-  pub after : (granted : List Grant) → IsHeld roles granted operation old → IsHeld roles (grants_after more granted grant) operation new
+pub record IsHeldAfter (more : Bool) (roles : List Name) (grant : Grant) (operation : ℕ)
+    (old new : Buckets) : Type 0 where
+  pub after : (granted : List Grant) → IsHeld roles granted operation old
+      → IsHeld roles (grants_after more granted grant) operation new
 
 -- and so for each operation
-pub record AreHeldAfter (more : Bool) (roles : List Name) (grant : Grant) (old new : List Buckets) : Type 0 where
+pub record AreHeldAfter (more : Bool) (roles : List Name) (grant : Grant) (old new : List Buckets) :
+    Type 0 where
   pub all : length new ≡ 11
-  pub after : (operation : ℕ) → operation < 11 → IsHeldAfter more roles grant operation (slice_index_or old operation []) (slice_index_or new operation [])
+  pub after : (operation : ℕ) → operation < 11
+      → IsHeldAfter more roles grant operation (slice_index_or old operation [])
+      (slice_index_or new operation [])
 
 -- the roles, and the grants to them
 pub record Permissions : Type 0 where

@@ -5,7 +5,7 @@ use Rattle.mpw_roles.specs.Mask.{has}
 use Rattle.mpw_roles.specs.declared.mask.Mask.{Mask}
 use Rattle.mpw_rbac.specs.declared.permission.Grant.{Grant}
 use Rattle.mpw_rbac.specs.Grant.{grant_eq}
-use Rattle.mpw_rbac.specs.Holders.{slot}
+use Rattle.mpw_rbac.specs.Internal.Holders.{slot}
 
 -- the slot of each grant's object is in the mask
 abbrev pub IsCovered : Mask → List Grant → Type 0

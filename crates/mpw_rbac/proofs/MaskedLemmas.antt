@@ -1,0 +1,276 @@
+-- The masks beside users and sessions stay theirs.
+use Rattle.std.proofs.Common.{◌≡◌, ℕ, zero, suc, ◌+◌, ◌<◌, Bool, true, false, cond, not, ◌&&◌, ◌||◌, ◌==◌, inl, inr, List, [], ◌∷◌, ◌++◌, length, map, filter, Option, Some, is_some, option_map, refl, sym, ap, subst, ◌∙◌, true≢false, arith}
+use Rattle.std.specs.Prelude.{nat_lt, slice_get, slice_index_or}
+use Rattle.std.specs.Map.{lookup}
+use Rattle.std.specs.Map.Calls.{RetainsPairs}
+use Rattle.std.specs.Option.{option_map_or}
+use Rattle.std.proofs.lemmas.Bool.{cases_eq}
+use Rattle.indexmap.specs.IndexMap.{insert_entry}
+use Rattle.mpw_geom.specs.Names.{name_eq}
+use Rattle.mpw_roles.specs.Hierarchy.{Name, Hierarchy, role_names}
+use Rattle.mpw_roles.specs.Mask.{has}
+use Rattle.mpw_roles.specs.Order.{at_least, is_below}
+use Rattle.mpw_roles.specs.Places.{name_at, is_place_below, is_place_under, mask_at}
+use Rattle.mpw_roles.specs.declared.mask.Mask.{Mask}
+use Rattle.mpw_rbac.specs.Masked.{IsBelow, AreBelow, sessions_in, masks_in}
+use Rattle.mpw_rbac.specs.Policy.{assigned_lists, assigned_roles, active_lists}
+use Rattle.mpw_rbac.specs.Internal.Policy.{users_and_roles}
+use Rattle.mpw_rbac.specs.Table.{value_at}
+use Rattle.mpw_rbac.specs.declared.active.Active.{Active}
+use Rattle.mpw_rbac.specs.declared.session.Session.{Session}
+use Rattle.mpw_rbac.specs.declared.session.User.{User}
+
+-- masks one by one
+pub below-nil : (h : Hierarchy) → AreBelow h [] []
+below-nil h = record { long = refl; exact = λ k inside. absurd (omega arith) }
+
+pub below-cons : (h : Hierarchy) (l : List Name) (ls : List (List Name)) (m : Mask) (ms : List Mask)
+    → IsBelow h l m → AreBelow h ls ms → AreBelow h (l ∷ ls) (m ∷ ms)
+below-cons h l ls m ms here rest = record { long = ap suc rest.long; exact = by }
+  where
+    by : (k : ℕ) → k < length (l ∷ ls)
+        → IsBelow h (slice_index_or (l ∷ ls) k []) (mask_at (m ∷ ms) k)
+    by zero inside = here
+    by (suc k) inside = rest.exact k (omega arith)
+
+pub below-head : (h : Hierarchy) (l : List Name) (ls : List (List Name)) (m : Mask) (ms : List Mask)
+    → AreBelow h (l ∷ ls) (m ∷ ms) → IsBelow h l m
+below-head h l ls m ms w = w.exact 0 (omega arith)
+
+pub below-tail : (h : Hierarchy) (l : List Name) (ls : List (List Name)) (m : Mask) (ms : List Mask)
+    → AreBelow h (l ∷ ls) (m ∷ ms) → AreBelow h ls ms
+below-tail h l ls m ms w = let long = w.long in
+    record { long = omega arith; exact = λ k inside. w.exact (suc k) (omega arith) }
+
+-- a mask more at the end
+at-kept : (ms : List Mask) (m : Mask) (k : ℕ) → k < length ms
+    → mask_at (ms ++ m ∷ []) k ≡ mask_at ms k
+at-kept [] m k inside = absurd (omega arith)
+at-kept (x ∷ xs) m zero inside = refl
+at-kept (x ∷ xs) m (suc k) inside = at-kept xs m k (omega arith)
+
+at-new : (ms : List Mask) (m : Mask) → mask_at (ms ++ m ∷ []) (length ms) ≡ m
+at-new [] m = refl
+at-new (x ∷ xs) m = at-new xs m
+
+pub masks-more : (h : Hierarchy) (lists : List (List Name)) (ms : List Mask) (m : Mask) (i : ℕ)
+    → length ms ≡ i → ((k : ℕ) → k < i → IsBelow h (slice_index_or lists k []) (mask_at ms k))
+    → IsBelow h (slice_index_or lists i []) m → (k : ℕ) → k < i + 1
+    → IsBelow h (slice_index_or lists k []) (mask_at (ms ++ m ∷ []) k)
+masks-more h lists ms m i long before here k inside place = elim (cases_eq k i) [
+  | inl last ↦
+      ap (λ x. has x place) (ap (mask_at (ms ++ m ∷ [])) (last ∙ sym long) ∙ at-new ms m)
+      ∙ here place
+      ∙ ap (λ j. is_place_below h (slice_index_or lists j []) place) (sym last)
+  | inr other ↦ ap (λ x. has x place) (at-kept ms m k (omega arith)) ∙ before k (omega arith) place
+]
+
+pub roles-at : (us : List (Name × User)) (i : ℕ) (e : Name × User) → slice_get us i ≡ Some e
+    → slice_index_or (assigned_lists us) i [] ≡ e.1.roles
+roles-at [] i e at = cc
+roles-at (x ∷ xs) zero e at = let same : x ≡ e = cc in ap (λ (y : Name × User). y.1.roles) same
+roles-at (x ∷ xs) (suc i) e at = roles-at xs i e at
+
+-- the first entry of a name is the user's
+pub roles-first : (h : Hierarchy) (us : List (Name × User)) (user : Name) (i : ℕ) → i < length us
+    → name_eq user (slice_index_or (map (λ (e : Name × User). e.0) us) i []) ≡ true
+    → ((k : ℕ) → k < i → name_eq user (slice_index_or (map (λ (e : Name × User). e.0) us) k [])
+    ≡ false) → slice_index_or (assigned_lists us) i [] ≡ assigned_roles (users_and_roles us h)
+    user
+roles-first h [] user i inside here before = absurd (omega arith)
+roles-first h (e ∷ es) user zero inside here before =
+    ap (λ b. option_map_or (λ (u : User). u.roles) (cond b (Some e.1) (value_at name_eq es user))
+    []) (sym here)
+roles-first h (e ∷ es) user (suc i) inside here before =
+    roles-first h es user i (omega arith) here (λ k below. before (suc k) (omega arith))
+    ∙ ap (λ b. option_map_or (λ (u : User). u.roles) (cond b (Some e.1) (value_at name_eq es user))
+    []) (sym (before 0 (omega arith)))
+
+pub none-assigned : (h : Hierarchy) (us : List (Name × User)) (user : Name)
+    → is_some (lookup (name_eq user) us) ≡ false → [] ≡ assigned_roles (users_and_roles us h) user
+none-assigned h [] user none = refl
+none-assigned h (e ∷ es) user none =
+    elim (name_eq user e.0) as (λ b. is_some (cond b (Some e.1) (lookup (name_eq user) es)) ≡ false
+    → [] ≡ option_map_or (λ (u : User). u.roles) (cond b (Some e.1) (value_at name_eq es user))
+    []) [
+      | true ↦ λ is. absurd (true≢false is)
+      | false ↦ λ later. none-assigned h es user later
+    ] none
+
+pub assigned-length : (us : List (Name × User)) → length (assigned_lists us) ≡ length us
+assigned-length [] = refl
+assigned-length (u ∷ us) = ap suc (assigned-length us)
+
+pub names-length : (us : List (Name × User))
+    → length (map (λ (e : Name × User). e.0) us) ≡ length us
+names-length [] = refl
+names-length (u ∷ us) = ap suc (names-length us)
+
+-- nobody's roles, and one senior more
+pub none-below : (h : Hierarchy) (place : ℕ) → false ≡ is_place_below h [] place
+none-below h place = never (nat_lt place (length h))
+  where
+    never : (b : Bool) → false ≡ (b && false)
+    never true = refl
+    never false = refl
+
+pub senior-more : (h : Hierarchy) (seniors : List Name) (role : Name) (place : ℕ)
+    → (is_place_below h seniors place || is_place_under h role place) ≡ is_place_below h
+    (seniors ++ role ∷ []) place
+senior-more h seniors role place = shared (nat_lt place (length h))
+    (is_below h seniors (name_at h place)) (at_least h role (name_at h place))
+    ∙ ap (λ b. nat_lt place (length h) && b) (last seniors)
+  where
+    shared : (f a b : Bool) → ((f && a) || (f && b)) ≡ (f && (a || b))
+    shared true a b = refl
+    shared false a b = refl
+
+    or_assoc : (a b c : Bool) → ((a || b) || c) ≡ (a || (b || c))
+    or_assoc true b c = refl
+    or_assoc false b c = refl
+
+    or_false : (a : Bool) → a ≡ (a || false)
+    or_false true = refl
+    or_false false = refl
+
+    last : (ss : List Name) → (is_below h ss (name_at h place) || at_least h role (name_at h place))
+        ≡ is_below h (ss ++ role ∷ []) (name_at h place)
+    last [] = or_false (at_least h role (name_at h place))
+    last (s ∷ ss) = or_assoc (at_least h s (name_at h place)) (is_below h ss (name_at h place))
+        (at_least h role (name_at h place)) ∙ ap (λ b. at_least h s (name_at h place) || b)
+        (last ss)
+
+-- the active roles of each session
+abbrev pub active_in : ℕ × Active → List Name
+active_in entry = entry.1.session.active
+
+pub active-lists : (es : List (ℕ × Active)) → map active_in es ≡ active_lists (sessions_in es)
+active-lists [] = refl
+active-lists (e ∷ es) = ap (λ (l : List (List Name)). e.1.session.active ∷ l) (active-lists es)
+
+abbrev same_conn : ℕ → ℕ → Bool
+same_conn a b = a == b
+
+abbrev pub AreActive : Hierarchy → List (ℕ × Active) → Type 0
+AreActive h es = AreBelow h (active_lists (sessions_in es)) (masks_in es)
+
+active-cons : (h : Hierarchy) (conn : ℕ) (a : Active) (es : List (ℕ × Active))
+    → IsBelow h a.session.active a.acting → AreActive h es → AreActive h ((conn, a) ∷ es)
+active-cons h conn a es here rest =
+    below-cons h a.session.active (active_lists (sessions_in es)) a.acting (masks_in es) here rest
+
+active-head : (h : Hierarchy) (e : ℕ × Active) (es : List (ℕ × Active)) → AreActive h (e ∷ es)
+    → IsBelow h e.1.session.active e.1.acting
+active-head h e es w =
+    below-head h e.1.session.active (active_lists (sessions_in es)) e.1.acting (masks_in es) w
+
+active-tail : (h : Hierarchy) (e : ℕ × Active) (es : List (ℕ × Active)) → AreActive h (e ∷ es)
+    → AreActive h es
+active-tail h e es w =
+    below-tail h e.1.session.active (active_lists (sessions_in es)) e.1.acting (masks_in es) w
+
+-- the session of a connection
+pub session-found : (es : List (ℕ × Active)) (conn : ℕ)
+    → option_map (λ (a : Active). a.session) (lookup (same_conn conn) es) ≡ value_at same_conn
+    (sessions_in es) conn
+session-found [] conn = refl
+session-found (e ∷ es) conn = elim (conn == e.0) as
+    (λ b. option_map (λ (a : Active). a.session) (cond b (Some e.1) (lookup (same_conn conn) es))
+    ≡ cond b (Some e.1.session) (value_at same_conn (sessions_in es) conn)) [
+      | true ↦ refl
+      | false ↦ session-found es conn
+    ]
+
+pub acting-found : (h : Hierarchy) (es : List (ℕ × Active)) (conn : ℕ) (a : Active) → AreActive h es
+    → Some a ≡ lookup (same_conn conn) es → IsBelow h a.session.active a.acting
+acting-found h [] conn a w at = cc
+acting-found h (e ∷ es) conn a w at =
+    elim (conn == e.0) as (λ b. Some a ≡ cond b (Some e.1) (lookup (same_conn conn) es)
+    → IsBelow h a.session.active a.acting) [
+      | true ↦ λ is. let same : e.1 ≡ a = cc in
+          subst (λ (x : Active). IsBelow h x.session.active x.acting) same (active-head h e es w)
+      | false ↦ λ later. acting-found h es conn a (active-tail h e es w) later
+    ] at
+
+-- another session, or one more
+pub sessions-insert : (es : List (ℕ × Active)) (conn : ℕ) (a : Active)
+    → sessions_in (insert_entry same_conn es conn a) ≡ insert_entry same_conn (sessions_in es) conn
+    a.session
+sessions-insert [] conn a = refl
+sessions-insert (e ∷ es) conn a = elim (conn == e.0) as
+    (λ b. sessions_in (cond b ((e.0, a) ∷ es) (e ∷ insert_entry same_conn es conn a))
+    ≡ cond b ((e.0, a.session) ∷ sessions_in es)
+    ((e.0, e.1.session) ∷ insert_entry same_conn (sessions_in es) conn a.session)) [
+      | true ↦ refl
+      | false ↦ ap (λ (l : List (ℕ × Session)). (e.0, e.1.session) ∷ l) (sessions-insert es conn a)
+    ]
+
+pub acting-insert : (h : Hierarchy) (es : List (ℕ × Active)) (conn : ℕ) (a : Active)
+    → AreActive h es → IsBelow h a.session.active a.acting
+    → AreActive h (insert_entry same_conn es conn a)
+acting-insert h [] conn a w here = active-cons h conn a [] here (below-nil h)
+acting-insert h (e ∷ es) conn a w here =
+    elim (conn == e.0) as (λ b. AreActive h
+    (cond b ((e.0, a) ∷ es) (e ∷ insert_entry same_conn es conn a))) [
+      | true ↦ active-cons h e.0 a es here (active-tail h e es w)
+      | false ↦ active-cons h e.0 e.1 (insert_entry same_conn es conn a) (active-head h e es w)
+          (acting-insert h es conn a (active-tail h e es w) here)
+    ]
+
+-- a session less
+pub sessions-filter : (p : ℕ → Bool) (es : List (ℕ × Active))
+    → sessions_in (filter (λ (e : ℕ × Active). p e.0) es) ≡ filter (λ (e : ℕ × Session). p e.0)
+    (sessions_in es)
+sessions-filter p [] = refl
+sessions-filter p (e ∷ es) = elim (p e.0) as
+    (λ b. sessions_in (cond b (e ∷ filter (λ (x : ℕ × Active). p x.0) es)
+    (filter (λ (x : ℕ × Active). p x.0) es))
+    ≡ cond b ((e.0, e.1.session) ∷ filter (λ (x : ℕ × Session). p x.0) (sessions_in es))
+    (filter (λ (x : ℕ × Session). p x.0) (sessions_in es))) [
+      | true ↦ ap (λ (l : List (ℕ × Session)). (e.0, e.1.session) ∷ l) (sessions-filter p es)
+      | false ↦ sessions-filter p es
+    ]
+
+pub acting-filter : (h : Hierarchy) (p : ℕ → Bool) (es : List (ℕ × Active)) → AreActive h es
+    → AreActive h (filter (λ (e : ℕ × Active). p e.0) es)
+acting-filter h p [] w = below-nil h
+acting-filter h p (e ∷ es) w = elim (p e.0) as
+    (λ b. AreActive h (cond b (e ∷ filter (λ (x : ℕ × Active). p x.0) es)
+    (filter (λ (x : ℕ × Active). p x.0) es))) [
+      | true ↦ active-cons h e.0 e.1 (filter (λ (x : ℕ × Active). p x.0) es) (active-head h e es w)
+          (acting-filter h p es (active-tail h e es w))
+      | false ↦ acting-filter h p es (active-tail h e es w)
+    ]
+
+-- what `retain` leaves, where the closure changes each session by itself and writes its mask
+pub sessions-retained : {F : Type 0} (R : F → ℕ → Active → Bool → Active → F → Type 0) (p : Session
+    → Bool) (change : Session → Session) (h : Hierarchy) (f : F)
+    → ((k : ℕ) (v : Active) (b : Bool) (after : Active) (g : F) → R f k v b after g
+    → (b ≡ p v.session) × (after.session ≡ change v.session) × (g ≡ f)
+    × IsBelow h after.session.active after.acting)
+    → (es kept : List (ℕ × Active)) → RetainsPairs R f es kept
+    → (sessions_in kept ≡ map (λ (e : ℕ × Session). (e.0, change e.1))
+    (filter (λ (e : ℕ × Session). p e.1) (sessions_in es))) × AreActive h kept
+sessions-retained R p change h f says [] kept r =
+    (ap sessions_in r, subst (AreActive h) (sym r) (below-nil h))
+sessions-retained R p change h f says (e ∷ es) kept r =
+    let s = says e.0 e.1 r.0 r.1 r.2 r.4 in
+    let rest = sessions-retained R p change h f says es r.3
+    (subst (λ g. RetainsPairs R g es r.3) s.2 r.5) in
+    let left : List (ℕ × Session) = filter (λ (x : ℕ × Session). p x.1) (sessions_in es) in
+    let there : kept ≡ cond {A = List (ℕ × Active)} (p e.1.session) ((e.0, r.1) ∷ r.3) r.3 = r.6
+    ∙ ap (λ b. cond {A = List (ℕ × Active)} b ((e.0, r.1) ∷ r.3) r.3) s.0 in
+    elim (p e.1.session) as (λ b. kept ≡ cond {A = List (ℕ × Active)} b ((e.0, r.1) ∷ r.3) r.3
+    → (sessions_in kept ≡ map (λ (x : ℕ × Session). (x.0, change x.1))
+    (cond {A = List (ℕ × Session)} b ((e.0, e.1.session) ∷ left) left)) × AreActive h kept) [
+      | true ↦ λ is. (
+        ap sessions_in is ∙ (λ i. (e.0, s.1 i) ∷ rest.0 i),
+        subst (AreActive h) (sym is) (active-cons h e.0 r.1 r.3 s.3 rest.1),
+      )
+      | false ↦ λ is. (ap sessions_in is ∙ rest.0, subst (AreActive h) (sym is) rest.1)
+    ] there
+
+pub all-kept : (es : List (ℕ × Session))
+    → map (λ (e : ℕ × Session). (e.0, e.1)) (filter (λ (e : ℕ × Session). true) es) ≡ es
+all-kept [] = refl
+all-kept (e ∷ es) = ap (λ l. e ∷ l) (all-kept es)

@@ -1,0 +1,34 @@
+-- The mask, beside the session that it is of.
+use Rattle.std.proofs.Common.{◌≡◌, ◌∙◌, sym, ap, subst, option_map, Option, [], ◌==◌}
+use Rattle.std.specs.Option.{option_map_or}
+use Rattle.mpw_roles.specs.Places.{is_place_below}
+use Rattle.mpw_rbac.specs.Masked.{AreActing, KeptSessions}
+use Rattle.mpw_rbac.specs.Table.{value_at}
+use Rattle.mpw_rbac.specs.declared.active.Active.{Active}
+use Rattle.mpw_rbac.specs.declared.session.Session.{Session}
+use Rattle.mpw_rbac.proofs.MaskedLemmas.{session-found, acting-found, none-below}
+use Rattle.mpw_rbac.proofs.active.Sessions.acting.Goals as goal
+
+pub returns-in-Some : goal.returns-in-Some
+returns-in-Some c = λ h acts place.
+    let es = c.self.inside.table.entries in
+    acting-found h es c.args.conn c.in-Some.active.now
+    (subst (AreActing h) (sym c.self.view_is) acts) c.in-Some.ensures.value place
+    ∙ ap (λ (o : Option Session). is_place_below h (option_map_or (λ (s : Session). s.active) o [])
+    place) (ap (option_map (λ (a : Active). a.session)) c.in-Some.ensures.value
+    ∙ session-found es c.args.conn)
+    ∙ ap (λ (k : KeptSessions). is_place_below h
+    (option_map_or (λ (s : Session). s.active) (value_at (λ a b. a == b) k.sessions c.args.conn)
+    []) place) c.self.view_is
+
+pub returns-in-None : goal.returns-in-None
+returns-in-None c = λ h acts place.
+    let es = c.self.inside.table.entries in
+    c.new.ensures place
+    ∙ none-below h place
+    ∙ ap (λ (o : Option Session). is_place_below h (option_map_or (λ (s : Session). s.active) o [])
+    place) (ap (option_map (λ (a : Active). a.session)) c.in-None.ensures.value
+    ∙ session-found es c.args.conn)
+    ∙ ap (λ (k : KeptSessions). is_place_below h
+    (option_map_or (λ (s : Session). s.active) (value_at (λ a b. a == b) k.sessions c.args.conn)
+    []) place) c.self.view_is

@@ -1,0 +1,22 @@
+-- One session changes, or comes last.
+use Rattle.std.proofs.Common.{◌≡◌, ◌∙◌, ℕ, sym, ap, subst, List, ◌==◌}
+use Rattle.indexmap.specs.IndexMap.{insert_entry}
+use Rattle.mpw_rbac.specs.Masked.{AreActing, KeptSessions, sessions_in}
+use Rattle.mpw_rbac.specs.declared.active.Active.{Active}
+use Rattle.mpw_rbac.proofs.MaskedLemmas.{AreActive, sessions-insert, acting-insert}
+use Rattle.mpw_rbac.proofs.active.Sessions.insert.Goals as goal
+
+pub returns-clause-ok : goal.returns-clause-ok
+returns-clause-ok c =
+    let es = c.self.inside.table.entries in
+    ap sessions_in c.in_ok-insert.ensures.entries
+    ∙ sessions-insert es c.args.conn c.args.active
+    ∙ ap (λ (k : KeptSessions). insert_entry (λ a b. a == b) k.sessions c.args.conn
+    c.args.active.session) c.self.view_is
+
+pub returns-clause-acting : goal.returns-clause-acting
+returns-clause-acting c = λ h acts here.
+    let es = c.self.inside.table.entries in
+    subst (AreActive h) (sym c.in_ok-insert.ensures.entries)
+    (acting-insert h es c.args.conn c.args.active
+    (subst (AreActing h) (sym c.self.view_is) acts) here)

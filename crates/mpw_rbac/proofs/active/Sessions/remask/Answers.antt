@@ -1,0 +1,19 @@
+-- Each session stays, and its mask is written.
+use Rattle.std.proofs.Common.{rules, ◌∙◌, ap, true}
+use Rattle.mpw_rbac.specs.Masked.{KeptSessions, sessions_in}
+use Rattle.mpw_rbac.specs.declared.session.Session.{Session}
+use Rattle.mpw_rbac.proofs.MaskedLemmas.{all-kept, sessions-retained}
+use Rattle.mpw_rbac.proofs.active.Sessions.remask.Goals as goal
+
+pub returns-clause-same : goal.returns-clause-same
+returns-clause-same c =
+    let left = sessions-retained _ (λ (s : Session). true) (λ (s : Session). s) c.args.roles.now _
+    (λ k v b w g call. search rules) _ _ c.retain.ensures.filtered in
+    left.0 ∙ all-kept (sessions_in c.self.inside.table.entries)
+    ∙ ap (λ (k : KeptSessions). k.sessions) c.self.view_is
+
+pub returns-clause-acting : goal.returns-clause-acting
+returns-clause-acting c =
+    let left = sessions-retained _ (λ (s : Session). true) (λ (s : Session). s) c.args.roles.now _
+    (λ k v b w g call. search rules) _ _ c.retain.ensures.filtered in
+    left.1

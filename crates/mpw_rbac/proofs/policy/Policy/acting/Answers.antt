@@ -1,0 +1,11 @@
+-- The mask that is kept beside the session.
+use Rattle.std.proofs.Common.{◌∙◌, ap}
+use Rattle.mpw_roles.specs.Places.{is_place_below}
+use Rattle.mpw_rbac.specs.Policy.{Policy}
+use Rattle.mpw_rbac.specs.Rows.{active_roles}
+use Rattle.mpw_rbac.proofs.policy.Policy.acting.Goals as goal
+
+pub returns : goal.returns
+returns c = λ place.
+    c.acting.ensures c.self.inside.permissions.roles c.self.invariant.acting place
+    ∙ ap (λ (p : Policy). is_place_below p.roles (active_roles p c.args.conn) place) c.self.view_is

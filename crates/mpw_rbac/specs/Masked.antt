@@ -1,0 +1,61 @@
+-- The masks that stand beside users and sessions: the places of the roles that each user is authorized for, and of those that
+-- act in each session.
+use Rattle.std.specs.Prelude.{◌≡◌, ℕ, ◌<◌, List, length, map, slice_index_or, []}
+use Rattle.mpw_roles.specs.Hierarchy.{Name, Hierarchy}
+use Rattle.mpw_roles.specs.Mask.{has}
+use Rattle.mpw_roles.specs.Places.{is_place_below, mask_at}
+use Rattle.mpw_roles.specs.declared.mask.Mask.{Mask}
+use Rattle.mpw_separation.specs.Separation.{Sets}
+use Rattle.mpw_rbac.specs.declared.active.Active.{Active}
+use Rattle.mpw_rbac.specs.declared.permission.Grant.{Grant}
+use Rattle.mpw_rbac.specs.declared.session.Session.{Session}
+use Rattle.mpw_rbac.specs.declared.session.User.{User}
+use Rattle.mpw_rbac.specs.Policy.{policy_of, assigned_lists, active_lists}
+use Rattle.mpw_rbac.specs.Sound.{Sound}
+
+-- users, and a mask for each at its place
+pub record KeptUsers : Type 0 where
+  pub users : List (Name × User)
+  pub masks : List Mask
+
+-- sessions, and a mask for each at its place
+pub record KeptSessions : Type 0 where
+  pub sessions : List (ℕ × Session)
+  pub masks : List Mask
+
+abbrev pub sessions_in : List (ℕ × Active) → List (ℕ × Session)
+sessions_in entries = map (λ (entry : ℕ × Active). (entry.0, entry.1.session)) entries
+
+abbrev pub masks_in : List (ℕ × Active) → List Mask
+masks_in entries = map (λ (entry : ℕ × Active). entry.1.acting) entries
+
+-- the mask has the places of the roles at or below the seniors, and no other
+abbrev pub IsBelow : Hierarchy → List Name → Mask → Type 0
+IsBelow hierarchy seniors mask =
+    (place : ℕ) → has mask place ≡ is_place_below hierarchy seniors place
+
+-- the mask at the place of each list of seniors is theirs
+pub record AreBelow (hierarchy : Hierarchy) (lists : List (List Name)) (masks : List Mask) :
+    Type 0 where
+  pub long : length masks ≡ length lists
+  pub exact : (k : ℕ) → k < length lists
+      → IsBelow hierarchy (slice_index_or lists k []) (mask_at masks k)
+
+abbrev pub AreAuthorized : Hierarchy → KeptUsers → Type 0
+AreAuthorized hierarchy kept = AreBelow hierarchy (assigned_lists kept.users) kept.masks
+
+abbrev pub AreActing : Hierarchy → KeptSessions → Type 0
+AreActing hierarchy kept = AreBelow hierarchy (active_lists kept.sessions) kept.masks
+
+-- these users, with their masks
+pub record AreUsers (hierarchy : Hierarchy) (table : List (Name × User)) (kept : KeptUsers) :
+    Type 0 where
+  pub same : kept.users ≡ table
+  pub masks : AreAuthorized hierarchy kept
+
+-- what every policy keeps: it is sound, and the masks beside its users and its sessions are theirs
+pub record IsPolicy (users : KeptUsers) (roles : Hierarchy) (granted : List Grant) (sets : Sets)
+    (sessions : KeptSessions) : Type 0 where
+  pub sound : Sound (policy_of users.users roles granted sets sessions.sessions)
+  pub authorized : AreAuthorized roles users
+  pub acting : AreActing roles sessions

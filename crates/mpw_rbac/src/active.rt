@@ -1,0 +1,185 @@
+//! The table of sessions, each with the places of the roles that act in it as a mask.
+//!
+//! The masks are made for the policy's roles, and an invariant of the policy says so. A change of one session makes its mask;
+//! a change of users or roles makes each anew, a look-up for each active role.
+ghost use Rattle.std.specs.Prelude.{◌≡◌, true, not, ◌==◌, [], IfOk, OnOk, OnErr};
+ghost use Rattle.std.specs.Option.{option_copied, option_map_or};
+ghost use Rattle.indexmap.specs.IndexMap.{insert_entry};
+ghost use Rattle.mpw_roles.specs.Hierarchy.{Hierarchy};
+ghost use Rattle.mpw_rbac.specs.Masked.{IsBelow, AreActing, AreAuthorized, sessions_in};
+ghost use Rattle.mpw_rbac.specs.Policy.{is_user, kept_roles, kept_sessions};
+ghost use Rattle.mpw_rbac.specs.Internal.Policy.{users_and_roles};
+ghost use Rattle.mpw_rbac.specs.Table.{value_at, without_key};
+ghost use Rattle.mpw_rbac.specs.declared.session.Session.{Session as SessionState};
+
+use crate::Session;
+use crate::trim::keep;
+use crate::users::Users;
+use indexmap::IndexMap;
+use mpw_roles::{Mask, Roles};
+use std::alloc::{AllocError, Global};
+use std::marker::Model;
+
+/// A session, and the places of the roles that act in it.
+#[derive(Clone, Drop)]
+pub(crate) struct Active {
+    pub(crate) session: Session,
+    pub(crate) acting: Mask,
+}
+
+impl Active {
+    /// The session with its mask: a look-up for each active role.
+    pub(crate) fn new(roles: &Roles, session: Session) -> Active
+        ensures session { result.session ≡ session }
+        ensures acting { IsBelow roles.now result.session.active result.acting }
+    {
+        let acting = roles.mask_below(session.active.as_slice());
+        Active { session, acting }
+    }
+}
+
+/// Sessions by connection, in the order in which they were opened.
+#[derive(Drop)]
+pub(crate) struct Sessions {
+    table: IndexMap<u32, Active>,
+}
+
+impl Model for Sessions {
+    ghost use Rattle.mpw_rbac.specs.Masked.{KeptSessions, sessions_in, masks_in};
+
+    ghost Value = { KeptSessions };
+
+    ghost view = { λ kept. record { sessions = sessions_in kept.table.entries; masks = masks_in kept.table.entries } };
+}
+
+/// Writes the mask of a session anew.
+fn remask(roles: &Roles, active: &mut Active)
+    ensures session { active.new.session ≡ active.old.session }
+    ensures acting { IsBelow roles.now active.new.session.active active.new.acting }
+{
+    active.acting = roles.mask_below(active.session.active.as_slice());
+}
+
+/// Keeps those active roles of a session that its user is authorized for, and says whether the user is there.
+fn trim(users: &Users, roles: &Roles, active: &mut Active) -> bool
+    ensures user { result ≡ is_user (users_and_roles users.now.users roles.now) active.old.session.user }
+    ensures kept { AreAuthorized roles.now users.now → active.new.session ≡ kept_roles (users_and_roles users.now.users roles.now) active.old.session }
+    ensures acting { IsBelow roles.now active.new.session.active active.new.acting }
+{
+    let there = keep(users, roles, &mut active.session);
+    remask(roles, active);
+    there
+}
+
+impl Sessions {
+    /// No sessions. It takes no memory.
+    pub(crate) fn new(alloc: Global) -> Sessions
+        ensures { result ≡ record { sessions = []; masks = [] } }
+    {
+        Sessions {
+            table: IndexMap::new(alloc),
+        }
+    }
+
+    /// The allocator of the sessions.
+    pub(crate) fn allocator(&self) -> Global {
+        *self.table.allocator()
+    }
+
+    /// The sessions by connection, with their masks.
+    pub(crate) fn table(&self) -> &IndexMap<u32, Active>
+        ensures { sessions_in result.now.entries ≡ self.now.sessions }
+    {
+        &self.table
+    }
+
+    /// The session of a connection.
+    pub(crate) fn get(&self, conn: u32) -> Option<&Session>
+        ensures { option_copied result ≡ value_at (λ a b. a == b) self.now.sessions conn }
+    {
+        match self.table.get(&conn) {
+            Some(active) => Some(&active.session),
+            None => None,
+        }
+    }
+
+    /// The places of the roles that act in the session of a connection; none where it has no session.
+    pub(crate) fn acting(&self, conn: u32) -> Mask
+        ensures { (h : Hierarchy) → AreActing h self.now → IsBelow h (option_map_or (λ (s : SessionState). s.active) (value_at (λ a b. a == b) self.now.sessions conn) []) result }
+    {
+        match self.table.get(&conn) {
+            Some(active) => active.acting,
+            None => Mask::new(),
+        }
+    }
+
+    /// Another session of a connection; a new one goes last.
+    pub(crate) fn insert(&mut self, conn: u32, active: Active) -> Result<(), AllocError>
+        ensures ok { OnOk result (self.new.sessions ≡ insert_entry (λ a b. a == b) self.old.sessions conn active.session) }
+        ensures acting { OnOk result ((h : Hierarchy) → AreActing h self.old → IsBelow h active.session.active active.acting → AreActing h self.new) }
+        ensures err { OnErr result (self.new ≡ self.old) }
+    {
+        self.table.insert(conn, active)?;
+        Ok(())
+    }
+
+    /// The session of a connection goes, if it has one. It takes no memory.
+    pub(crate) fn remove(&mut self, conn: u32)
+        ensures sessions { self.new.sessions ≡ without_key (λ a b. a == b) self.old.sessions conn }
+        ensures acting { (h : Hierarchy) → AreActing h self.old → AreActing h self.new }
+    {
+        self.table.retain(
+            |other: &u32, active: &mut Active| -> bool
+                ensures { (result ≡ not (conn == other.now)) × (active.new ≡ active.old) }
+            {
+                let _active = active;
+                *other != conn
+            },
+        );
+    }
+
+    /// Every session goes. It takes no memory.
+    pub(crate) fn clear(&mut self)
+        ensures { self.new ≡ record { sessions = []; masks = [] } }
+    {
+        self.table.truncate(0);
+    }
+
+    /// The masks after a change of roles. It takes no memory, and costs a look-up for each active role.
+    pub(crate) fn remask(&mut self, roles: &Roles)
+        ensures same { self.new.sessions ≡ self.old.sessions }
+        ensures acting { AreActing roles.now self.new }
+    {
+        self.table.retain(
+            |_conn: &u32, active: &mut Active| -> bool
+                ensures { (result ≡ true) × (active.new.session ≡ active.old.session) × IsBelow roles.entry.now active.new.session.active active.new.acting }
+            {
+                remask(roles, active);
+                true
+            },
+        );
+    }
+
+    /// Each session keeps those active roles that its user is authorized for, and a deleted user's sessions end. It takes no
+    /// memory, and costs a look-up for each active role.
+    pub(crate) fn trim(&mut self, users: &Users, roles: &Roles)
+        requires { AreAuthorized roles.now users.now }
+        ensures kept { self.new.sessions ≡ kept_sessions (users_and_roles users.now.users roles.now) self.old.sessions }
+        ensures acting { AreActing roles.now self.new }
+    {
+        self.table.retain(
+            |_conn: &u32, active: &mut Active| -> bool
+                ensures { (result ≡ is_user (users_and_roles users.entry.now.users roles.entry.now) active.old.session.user) × (AreAuthorized roles.entry.now users.entry.now → active.new.session ≡ kept_roles (users_and_roles users.entry.now.users roles.entry.now) active.old.session) × IsBelow roles.entry.now active.new.session.active active.new.acting }
+            { trim(users, roles, active) },
+        );
+    }
+
+    /// The same sessions with the same masks.
+    pub(crate) fn copy(&self) -> Result<Sessions, AllocError>
+        ensures { IfOk result (λ copy. copy ≡ self.now) }
+    {
+        Ok(Sessions {
+            table: self.table.clone()?,
+        })
+    }
+}
