@@ -8,15 +8,19 @@ use Rattle.mpw_hier.specs.Limits.{IsRefused}
 use Rattle.mpw_hier.specs.Outside.{AreExternals}
 use Rattle.mpw_hier.specs.Shelf.{bound_to, present}
 use Rattle.mpw_library.specs.declared.structures.Structure.{Structure}
-use Rattle.mpw_check.specs.Drawn.{offered, IsOfTop, told}
+use Rattle.mpw_check.specs.Drawn.{offered, IsOfTop}
+use Rattle.mpw_check.specs.Internal.Drawn.{told}
 
 -- No names are bound to nothing.
-pub none-bound : (names : List (List ℕ)) (bound : List Binding) → names ≡ [] → bound ≡ [] → bound_to [] names ≡ Some bound
+pub none-bound : (names : List (List ℕ)) (bound : List Binding) → names ≡ [] → bound ≡ []
+    → bound_to [] names ≡ Some bound
 unfolding bound_to
 none-bound names bound no_names no_bound = rw (no_names, no_bound) refl
 
 -- What keeps it from an empty shelf is told.
-pub refused-alone : (top : List ℕ) (library : List Structure) (fault : HierFault) → AreExternals library top [] → IsRefused [] (offered top library) fault → IsOfTop top library (told fault)
+pub refused-alone : (top : List ℕ) (library : List Structure) (fault : HierFault)
+    → AreExternals library top [] → IsRefused [] (offered top library) fault
+    → IsOfTop top library (told fault)
 unfolding present
 refused-alone top library limits.Memory whole why = tt
 refused-alone top library limits.NoTop whole why = absurd why
@@ -28,7 +32,11 @@ refused-alone top library limits.Deep whole why = (whole, why)
 refused-alone top library limits.Full whole why = absurd (let full = why.1.1.1 in cc)
 
 -- The same of a shelf that is empty, and a submission that is the top's.
-pub refused-from-empty : (shelf : List Submission) (submission : Submission) (top : List ℕ) (library : List Structure) (fault : HierFault) → shelf ≡ [] → submission ≡ offered top library
-    → AreExternals library top [] → IsRefused shelf submission fault → IsOfTop top library (told fault)
+pub refused-from-empty : (shelf : List Submission) (submission : Submission) (top : List ℕ)
+    (library : List Structure) (fault : HierFault) → shelf ≡ [] → submission ≡ offered top library
+    → AreExternals library top [] → IsRefused shelf submission fault
+    → IsOfTop top library (told fault)
 refused-from-empty shelf submission top library fault empty offers whole why =
-    refused-alone top library fault whole (subst (λ s. IsRefused [] s fault) offers (subst (λ ss. IsRefused ss submission fault) empty why))
+    refused-alone top library fault whole
+    (subst (λ s. IsRefused [] s fault) offers
+    (subst (λ ss. IsRefused ss submission fault) empty why))

@@ -1,5 +1,5 @@
 -- A library's top, placed where it was drawn, under a deck; and why it can't be.
-use Rattle.std.specs.Prelude.{◌≡◌, ℕ, List, [], ◌∷◌, None, Result, Ok, Err}
+use Rattle.std.specs.Prelude.{◌≡◌, ℕ, List, [], ◌∷◌, None, Ok, Err}
 use Rattle.mpw_deck.specs.Decks.{Deck}
 use Rattle.mpw_hier.specs.declared.fault.HierFault.{HierFault}
 use Rattle.mpw_hier.specs.declared.fault.HierFault.TheVariants as limits
@@ -17,23 +17,20 @@ use Rattle.mpw_check.specs.declared.fault.CheckFault.TheVariants as faults
 
 -- The top of a library as a submission of a cell of the top's name, with nothing outside it.
 abbrev pub offered : List ℕ → List Structure → Submission
-offered top library = record { cell = top; version = 0; submitter = top; library = library; top = top; bound = [] }
+offered top library =
+    record { cell = top; version = 0; submitter = top; library = library; top = top; bound = [] }
 
 -- The shelf that has it alone, and what is checked: that submission, where it was drawn.
 abbrev pub drawn_shelf : List ℕ → List Structure → List Submission
 drawn_shelf top library = numbered [] (offered top library) ∷ []
 
 abbrev pub drawn : Deck → List ℕ → List Structure → Snapshot
-drawn deck top library = record { deck = deck; roots = unmoved_root 0 ∷ []; shelf = drawn_shelf top library }
-
--- A shelf with a library's top, which names nothing outside the library and keeps to the limits of a submission.
-pub record IsShelved (top : List ℕ) (library : List Structure) (shelf : List Submission) : Type 0 where
-  pub whole : AreExternals library top []
-  pub limited : KeepsLimits [] (offered top library)
-  pub shelf_is : shelf ≡ drawn_shelf top library
+drawn deck top library =
+    record { deck = deck; roots = unmoved_root 0 ∷ []; shelf = drawn_shelf top library }
 
 -- Such a library under a deck, as it is checked.
-pub record IsDrawn (deck : Deck) (top : List ℕ) (library : List Structure) (snapshot : Snapshot) : Type 0 where
+pub record IsDrawn (deck : Deck) (top : List ℕ) (library : List Structure) (snapshot : Snapshot) :
+    Type 0 where
   pub whole : AreExternals library top []
   pub limited : KeepsLimits [] (offered top library)
   pub snapshot_is : snapshot ≡ drawn deck top library
@@ -48,9 +45,12 @@ pub record IsDrawnFrom (deck : Deck) (top text : List ℕ) (snapshot : Snapshot)
 abbrev pub IsOfStructures : List ℕ → List Structure → HierFault → Type 0
 IsOfStructures top library limits.NoTop = place_of library top ≡ None
 IsOfStructures top library limits.Cycle = IsCyclic library top
-IsOfStructures top library limits.Extent = AreExternals library top [] × IsRefused [] (offered top library) limits.Extent
-IsOfStructures top library limits.Shapes = AreExternals library top [] × IsRefused [] (offered top library) limits.Shapes
-IsOfStructures top library limits.Deep = AreExternals library top [] × IsRefused [] (offered top library) limits.Deep
+IsOfStructures top library limits.Extent =
+    AreExternals library top [] × IsRefused [] (offered top library) limits.Extent
+IsOfStructures top library limits.Shapes =
+    AreExternals library top [] × IsRefused [] (offered top library) limits.Shapes
+IsOfStructures top library limits.Deep =
+    AreExternals library top [] × IsRefused [] (offered top library) limits.Deep
 IsOfStructures top library limits.Memory = ⊥
 IsOfStructures top library limits.NoCell = ⊥
 IsOfStructures top library limits.Full = ⊥
@@ -76,14 +76,3 @@ IsOfText top text (faults.Library fault) = library_of text ≡ Err fault
 IsOfText top text (faults.Outside names) = IsOfLibrary top text (faults.Outside names)
 IsOfText top text (faults.Structure fault) = IsOfLibrary top text (faults.Structure fault)
 IsOfText top text faults.Tiles = ⊥
-
--- What is told of a structure's fault.
-abbrev pub told : HierFault → CheckFault
-told limits.Memory = faults.Memory
-told limits.NoTop = faults.Structure limits.NoTop
-told limits.Cycle = faults.Structure limits.Cycle
-told limits.NoCell = faults.Structure limits.NoCell
-told limits.Extent = faults.Structure limits.Extent
-told limits.Shapes = faults.Structure limits.Shapes
-told limits.Deep = faults.Structure limits.Deep
-told limits.Full = faults.Structure limits.Full

@@ -6,7 +6,8 @@ ghost use Rattle.mpw_job.specs.Layout.{AreLayoutMarkers};
 ghost use Rattle.mpw_tiles.specs.Placed.{WindowsLieInPlane};
 ghost use Rattle.mpw_tiles.specs.Plan.{tiles};
 ghost use Rattle.mpw_tiles.specs.Snapshots.{plan_for};
-ghost use Rattle.mpw_check.specs.Tiled.{only_run, jobs_of, markers_in, IsAnswered, IsOfPlan};
+ghost use Rattle.mpw_check.specs.Tiled.{IsOfPlan};
+ghost use Rattle.mpw_check.specs.Internal.Tiled.{only_run, jobs_of, markers_in, IsAnswered};
 
 use crate::fault::CheckFault;
 use mpw_job::{Answer, Job, answers_make_the_layout, no_shapes_no_markers, tile_job, work_all};

@@ -5,7 +5,8 @@ ghost use Rattle.mpw_hier.specs.Outline.{IsOutline};
 ghost use Rattle.mpw_library.specs.Library.{IsLibrary};
 ghost use Rattle.mpw_tiles.specs.Snapshots.{AreRoots};
 ghost use Rattle.mpw_walk.specs.Roots.{unmoved_root};
-ghost use Rattle.mpw_check.specs.Drawn.{offered, drawn_shelf, IsShelved, IsDrawn, IsDrawnFrom, IsOfTop, IsOfText, told};
+ghost use Rattle.mpw_check.specs.Drawn.{offered, drawn_shelf, IsDrawn, IsDrawnFrom, IsOfTop, IsOfText};
+ghost use Rattle.mpw_check.specs.Internal.Drawn.{IsShelved, told};
 
 use crate::fault::CheckFault;
 use mpw_deck::Deck;

@@ -17,7 +17,7 @@ use Rattle.mpw_run.specs.declared.phase.Phase.TheVariants.{Idle, Cutting, Checki
 use Rattle.mpw_run.specs.Run.{Planned}
 use Rattle.mpw_run.specs.Step.{Run}
 use Rattle.mpw_checking.specs.Laws.{MarkersAreOfReadable}
-use Rattle.mpw_checking.specs.Checking.{entered, begun, left_off, status, markers, finished, checked_lines, phase_line, begun_outcome, left_off_outcome, listed}
+use Rattle.mpw_checking.specs.Checking.{entered, run_row, cancel_row, status, markers, finished, checked_lines, phase_line, begun_outcome, left_off_outcome, listed}
 use Rattle.mpw_checking.proofs.Parts.{passed}
 
 -- a reply that denies or refuses has no lines
@@ -54,9 +54,11 @@ module _ (policy : Policy) (conn : ℕ) where
   of_left run (Err why) lines e = absurd (no_reply why lines e)
 
   -- what is listed is the row's
-  of_listed : (run : Run) (row : Result (List Listed) Ending) (lines : List Listed) → ((told : List Listed) → row ≡ Ok told → Readable told)
+  of_listed : (run : Run) (row : Result (List Listed) Ending) (lines : List Listed)
+      → ((told : List Listed) → row ≡ Ok told → Readable told)
       → (listed run row).reply ≡ reply.Ok lines → Readable lines
-  of_listed run (Ok told) lines may e = let same : told ≡ lines = cc in subst Readable same (may told refl)
+  of_listed run (Ok told) lines may e = let same : told ≡ lines = cc in
+      subst Readable same (may told refl)
   of_listed run (Err why) lines may e = absurd (no_reply why lines e)
 
   of_status : (run : Run) (told : List Listed) → status policy run conn ≡ Ok told → Readable told
@@ -66,7 +68,8 @@ module _ (policy : Policy) (conn : ℕ) where
       let same : stored (phase_line run.number run.phase) ∷ [] ≡ told = cc in
       subst Readable same (of_phase run.number run.phase)
 
-  of_markers : BooksAreOfReadable → (run : Run) (told : List Listed) → markers policy run conn ≡ Ok told → Readable told
+  of_markers : BooksAreOfReadable → (run : Run) (told : List Listed)
+      → markers policy run conn ≡ Ok told → Readable told
   unfolding markers
   of_markers books run told e =
       let inside = passed (entered policy conn) _ told e in
@@ -76,8 +79,10 @@ module _ (policy : Policy) (conn : ℕ) where
       subst Readable same (books policy conn f.0.planned.snapshot.deck.rules shelf f.0.book)
 
 pub lines_may : BooksAreOfReadable → MarkersAreOfReadable
-lines_may books policy shelf wafer run conn ask.Run lines e = of_begun policy conn run (begun policy shelf wafer run conn) lines e
-lines_may books policy shelf wafer run conn ask.Cancel lines e = of_left policy conn run (left_off policy run conn) lines e
+lines_may books policy shelf wafer run conn ask.Run lines e =
+    of_begun policy conn run (run_row policy shelf wafer run conn) lines e
+lines_may books policy shelf wafer run conn ask.Cancel lines e =
+    of_left policy conn run (cancel_row policy run conn) lines e
 lines_may books policy shelf wafer run conn ask.Status lines e =
     of_listed policy conn run (status policy run conn) lines (of_status policy conn run) e
 lines_may books policy shelf wafer run conn ask.Markers lines e =

@@ -1,8 +1,5 @@
 -- What answers to requests over the checking run are.
 use Rattle.std.specs.Prelude.{◌≡◌, ⊤, Bool, true, false}
-use Rattle.mpw_replies.specs.Rows.{ended_by}
-use Rattle.mpw_replies.specs.declared.row.Fault.{Fault}
-use Rattle.mpw_replies.specs.declared.row.Fault.TheVariants as fault
 use Rattle.mpw_run.specs.Prepared.{applied, IsFitting}
 use Rattle.mpw_run.specs.Step.{Run, cancelled}
 use Rattle.mpw_checking.specs.declared.answer.NextRun.{NextRun}
@@ -33,8 +30,3 @@ pub record Gives (run : Run) (outcome : Outcome) (answer : RunAnswer) : Type 0 w
   pub left : run_after run answer.next ≡ outcome.run
   pub changes : is_change answer.next ≡ outcome.changes
   pub fits : Fits run answer.next
-
--- What ends a row is told, and leaves the run; want of memory gives no answer.
-abbrev pub IsEnd : Fault → RunAnswer → Type 0
-IsEnd fault.Memory answer = ⊥
-IsEnd (fault.Told ending) answer = (answer.reply ≡ ended_by ending) × (answer.next ≡ Same)

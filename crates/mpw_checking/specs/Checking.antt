@@ -80,16 +80,17 @@ snapshot_of deck placings shelf = record { deck = deck; roots = roots_of placing
 abbrev pub planned : Snapshot → Result Planned Ending
 planned snapshot = planned_over snapshot (shown snapshot)
 
--- What a new run looks at, with the plan of its tiles.
-unfoldable pub begun : Policy → List Submission → Wafer → Run → ℕ → Result Planned Ending
-begun policy shelf wafer run conn = do
+-- The row of `run`: what a new run looks at, with the plan of its tiles.
+unfoldable pub run_row : Policy → List Submission → Wafer → Run → ℕ → Result Planned Ending
+run_row policy shelf wafer run conn = do
   allowed ← permitted policy conn operation.Run object.Desk
   free ← at_rest run.phase
   deck ← decked wafer.deck
   planned (snapshot_of deck wafer.placings shelf)
 
-unfoldable pub left_off : Policy → Run → ℕ → Result (Unit {0}) Ending
-left_off policy run conn = do
+-- The row of `cancel`.
+unfoldable pub cancel_row : Policy → Run → ℕ → Result (Unit {0}) Ending
+cancel_row policy run conn = do
   allowed ← permitted policy conn operation.Run object.Desk
   going_on run.phase
 
@@ -100,6 +101,7 @@ phase_line number (Cutting planned) = line.Cutting number
 phase_line number (Checking c) = line.Checking number (answered c.tiles) (tiles c.planned.plan)
 phase_line number (Finished f) = line.Finished number
 
+-- The row of `status`.
 unfoldable pub status : Policy → Run → ℕ → Result (List Listed) Ending
 status policy run conn = do
   inside ← entered policy conn
@@ -111,6 +113,7 @@ checked_lines policy conn f =
     let shelf = f.planned.snapshot.shelf in
     book_lines f.planned.snapshot.deck.rules shelf (seen_by policy conn shelf) f.book
 
+-- The row of `markers`.
 unfoldable pub markers : Policy → Run → ℕ → Result (List Listed) Ending
 markers policy run conn = do
   inside ← entered policy conn
@@ -146,7 +149,9 @@ listed run (Err ending) = left (ended_by ending) run
 
 -- Each request by its row.
 abbrev pub outcome_of : Policy → List Submission → Wafer → Run → ℕ → RunRequest → Outcome
-outcome_of policy shelf wafer run conn ask.Run = begun_outcome run (begun policy shelf wafer run conn)
-outcome_of policy shelf wafer run conn ask.Cancel = left_off_outcome run (left_off policy run conn)
+outcome_of policy shelf wafer run conn ask.Run =
+    begun_outcome run (run_row policy shelf wafer run conn)
+outcome_of policy shelf wafer run conn ask.Cancel =
+    left_off_outcome run (cancel_row policy run conn)
 outcome_of policy shelf wafer run conn ask.Status = listed run (status policy run conn)
 outcome_of policy shelf wafer run conn ask.Markers = listed run (markers policy run conn)

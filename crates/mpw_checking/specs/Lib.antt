@@ -1,3 +1,4 @@
 pub mod Answers
 pub mod Checking
 pub mod Laws
+pub mod Internal

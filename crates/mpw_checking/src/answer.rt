@@ -1,6 +1,7 @@
 //! The answers to requests over the checking run.
 ghost use Rattle.std.specs.Prelude.{◌+◌, ◌<◌, ◌^◌, List, Result, IfOk};
-ghost use Rattle.mpw_checking.specs.Answers.{Gives, IsEnd};
+ghost use Rattle.mpw_checking.specs.Answers.{Gives};
+ghost use Rattle.mpw_checking.specs.Internal.Answers.{IsEnd};
 ghost use Rattle.mpw_checking.specs.Checking.{outcome_of, begun_outcome, left_off_outcome, listed};
 ghost use Rattle.mpw_placings.specs.Placements.{ArePlacings};
 ghost use Rattle.mpw_replies.specs.Listing.{Listed};

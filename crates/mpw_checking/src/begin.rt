@@ -85,7 +85,7 @@ fn plan(snapshot: Snapshot) -> Result<Planned, Fault>
 }
 
 /// What a new run looks at, with the plan of its tiles. Linear in the placings and the deck's rules.
-#[tactic(auto, unfolding(crate::specs::Checking::begun))]
+#[tactic(auto, unfolding(crate::specs::Checking::run_row))]
 pub(crate) fn begin(
     alloc: Global,
     policy: &Policy,
@@ -95,7 +95,7 @@ pub(crate) fn begin(
     conn: u32,
 ) -> Result<Planned, Fault>
     requires { ArePlacings shelf.now wafer.now.placings }
-    ensures { Answers (λ planned. planned) result (row.begun policy.now shelf.now wafer.now run.now conn) }
+    ensures { Answers (λ planned. planned) result (row.run_row policy.now shelf.now wafer.now run.now conn) }
 {
     enter(policy, conn, Operation::Run, Object::Desk)?;
     rest(run.phase())?;

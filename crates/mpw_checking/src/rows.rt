@@ -34,9 +34,9 @@ fn goes_on(phase: &Phase) -> Result<(), Fault>
 }
 
 /// Whether the run may be left: it goes on, and the session may do so.
-#[tactic(auto, unfolding(crate::specs::Checking::left_off))]
+#[tactic(auto, unfolding(crate::specs::Checking::cancel_row))]
 pub(crate) fn leave(policy: &Policy, run: &Run, conn: u32) -> Result<(), Fault>
-    ensures { Answers (λ x. x) result (row.left_off policy.now run.now conn) }
+    ensures { Answers (λ x. x) result (row.cancel_row policy.now run.now conn) }
 {
     enter(policy, conn, Operation::Run, Object::Desk)?;
     goes_on(run.phase())

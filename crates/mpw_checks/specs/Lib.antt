@@ -1,3 +1,2 @@
-pub mod Cells
-pub mod Across
 pub mod Strips
+pub mod Internal

@@ -1,5 +1,5 @@
 -- A core in strips, and what rules find in them.
-use Rattle.std.specs.Prelude.{ℕ, ◌≤◌, ℤ, List, All, Contains, ◌⊎◌, ◌↔◌}
+use Rattle.std.specs.Prelude.{ℕ, ◌≤◌, ℤ, List, Contains, ◌↔◌}
 use Rattle.mpw_geom.specs.declared.plane.Box2.{Box2}
 use Rattle.mpw_region.specs.declared.runs.Line.{Line}
 use Rattle.mpw_region.specs.Squares.{covers}
@@ -17,16 +17,12 @@ pub record IsStrip (s : Strip) : Type 0 where
 
 -- the strip's core has a pair step of the rule between vertical edges of its bands
 abbrev pub HasStepIn : Rule → Line → ℤ → Strip → Type 0
-HasStepIn rule line j s = HasVerticalStep rule (covers s.first.items) (covers s.second.items) s.core line.side line.first line.second j
+HasStepIn rule line j s = HasVerticalStep rule (covers s.first.items) (covers s.second.items) s.core
+    line.side line.first line.second j
 
 -- some strip has it
 abbrev pub FindsIn : List Strip → Rule → Line → ℤ → Type 0
 FindsIn strips rule line j = (s : Strip) × Contains strips s × HasStepIn rule line j s
-
--- to the strips were added ones with just the steps of P, for each rule up to that distance
-pub record AddsStrips (distance : ℕ) (old new : List Strip) (P : Rule → Line → ℤ → Type 0) : Type 0 where
-  pub steps : (rule : Rule) → rule.distance ≤ distance → (line : Line) (j : ℤ) → FindsIn new rule line j ↔ (FindsIn old rule line j ⊎ P rule line j)
-  pub banded : All IsStrip old → All IsStrip new
 
 -- strips along rows, and strips along columns
 pub record BothWays : Type 0 where
@@ -38,4 +34,5 @@ pub record AreStrips (distance : ℕ) (a b : Squares) (core : Box2) (strips : Bo
   pub rows : (rule : Rule) → rule.distance ≤ distance → (line : Line) (j : ℤ)
       → FindsIn strips.rows rule line j ↔ HasStep rule a b core V line.side line.first line.second j
   pub columns : (rule : Rule) → rule.distance ≤ distance → (line : Line) (j : ℤ)
-      → FindsIn strips.columns rule line j ↔ HasStep rule a b core H line.side line.first line.second j
+      → FindsIn strips.columns rule line j ↔ HasStep rule a b core H line.side line.first
+      line.second j

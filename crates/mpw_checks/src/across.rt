@@ -7,8 +7,8 @@
 ghost use Rattle.std.specs.Prelude.{◌≡◌, ◌↔◌, ◌⊎◌, ◌<ℤ◌, ℤ, All, IfOk, OnOk, IsTrue};
 ghost use Rattle.mpw_region.specs.Runs.{IsFilled};
 ghost use Rattle.mpw_region.specs.Squares.{covers};
-ghost use Rattle.mpw_region.specs.Swept.{IsCovered};
-ghost use Rattle.mpw_checks.specs.Across.{IsAcross};
+ghost use Rattle.mpw_region.specs.Internal.Swept.{IsCovered};
+ghost use Rattle.mpw_checks.specs.Internal.Across.{IsAcross};
 
 use mpw_geom::Box2;
 use mpw_region::{Line, Run, joined};

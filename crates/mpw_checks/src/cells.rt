@@ -13,8 +13,9 @@ ghost use Rattle.mpw_deck.specs.declared.rule.Rule.{Rule as RuleValue};
 ghost use Rattle.mpw_edges.specs.declared.run.Axis.TheVariants.{V, H};
 ghost use Rattle.mpw_edges.specs.declared.run.Piece.{Piece as PieceValue};
 ghost use Rattle.mpw_edges.specs.Pieces.{IsPiece, ComesBefore, exchanged_box};
-ghost use Rattle.mpw_checks.specs.Cells.{StepsIn};
-ghost use Rattle.mpw_checks.specs.Strips.{IsStrip, FindsIn, AddsStrips, AreStrips};
+ghost use Rattle.mpw_checks.specs.Internal.Cells.{StepsIn};
+ghost use Rattle.mpw_checks.specs.Strips.{IsStrip, FindsIn, AreStrips};
+ghost use Rattle.mpw_checks.specs.Internal.Strips.{AddsStrips};
 
 use crate::halves::{Layers, halves, in_window};
 use crate::strips::{Strip, Strips, pieces_in};

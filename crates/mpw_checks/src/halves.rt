@@ -2,7 +2,7 @@
 
 ghost use Rattle.std.specs.Prelude.{◌≡◌, IfOk, MatchBool};
 ghost use Rattle.mpw_geom.specs.Plane.{IsBoxInPlane, HasArea};
-ghost use Rattle.mpw_checks.specs.Cells.{
+ghost use Rattle.mpw_checks.specs.Internal.Cells.{
   window_of,
   left_of,
   right_of,

@@ -7,7 +7,8 @@ ghost use Rattle.std.specs.Prelude.{◌≡◌, ◌↔◌, ◌≤◌, ℕ, ℤ, I
 ghost use Rattle.mpw_geom.specs.declared.plane.Box2.{Box2 as BoxValue};
 ghost use Rattle.mpw_region.specs.Banded.{AreBands};
 ghost use Rattle.mpw_region.specs.declared.runs.Line.{Line as LineValue};
-ghost use Rattle.mpw_region.specs.Runs.{Adds, CoversPlace, AreApart};
+ghost use Rattle.mpw_region.specs.Runs.{CoversPlace, AreApart};
+ghost use Rattle.mpw_region.specs.Internal.Runs.{Adds};
 ghost use Rattle.mpw_edges.specs.Edges.{Squares};
 ghost use Rattle.mpw_edges.specs.declared.run.Piece.{Piece as PieceValue};
 ghost use Rattle.mpw_edges.specs.Pieces.{IsPiece, ComesBefore};

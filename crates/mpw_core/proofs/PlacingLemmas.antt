@@ -33,40 +33,55 @@ placed-changed : (s : State) (row : Result Policy Refusal) → Placed s → Plac
 placed-changed s (Ok q) placed = placed
 placed-changed s (Err r) placed = placed
 
-placed-asked : (s : State) (row : Result Identity Refusal) → Placed s → Placed (asked s identity_lines row).state
+placed-asked : (s : State) (row : Result Identity Refusal) → Placed s
+    → Placed (asked s identity_lines row).state
 placed-asked s (Ok q) placed = placed
 placed-asked s (Err r) placed = placed
 
-placed-audited : (s : State) (row : Result (Unit {0}) Ending) → Placed s → Placed (audited s row).state
+placed-audited : (s : State) (row : Result (Unit {0}) Ending) → Placed s
+    → Placed (audited s row).state
 placed-audited s (Ok allowed) placed = placed
 placed-audited s (Err ending) placed = placed
 
-placed-settled : (s : State) (event : Event) (was : Bool) (outcome : Outcome) → Placed s → Placed outcome.state → Placed (settled s event was outcome).state
+placed-settled : (s : State) (event : Event) (was : Bool) (outcome : Outcome) → Placed s
+    → Placed outcome.state → Placed (settled s event was outcome).state
 placed-settled s event was outcome before now =
-    elim (outcome.changes && not was) as (λ b. Placed (cond b (left (unkept event) (record s { closed = true })) outcome).state) [ true ↦ before | false ↦ now ]
+    elim (outcome.changes && not was) as
+    (λ b. Placed (cond b (left (unkept event) (record s { closed = true })) outcome).state)
+    [ true ↦ before | false ↦ now ]
 
-module _ (none_are : NoneArePlacings) (later_keep : LaterShelvesKeep) (changes_keep : ChangesKeepPlacings) where
-  placed-shelved : (s : State) (row : Result Submission Ending) → Placed s → ArePlacings (layouts.shelved s.shelf row).shelf s.wafer.placings
+module _ (none_are : NoneArePlacings) (later_keep : LaterShelvesKeep)
+    (changes_keep : ChangesKeepPlacings) where
+  placed-shelved : (s : State) (row : Result Submission Ending) → Placed s
+      → ArePlacings (layouts.shelved s.shelf row).shelf s.wafer.placings
   placed-shelved s (Ok new) placed = later_keep s.shelf (new ∷ []) s.wafer.placings placed
   placed-shelved s (Err ending) placed = placed
 
-  placed-listed : (s : State) (row : Result (List Listed) Ending) → Placed s → ArePlacings (layouts.listed s.shelf row).shelf s.wafer.placings
+  placed-listed : (s : State) (row : Result (List Listed) Ending) → Placed s
+      → ArePlacings (layouts.listed s.shelf row).shelf s.wafer.placings
   placed-listed s (Ok lines) placed = placed
   placed-listed s (Err ending) placed = placed
 
-  placed-layout : (s : State) (conn : ℕ) (request : LayoutRequest) → Placed s → ArePlacings (layouts.outcome_of s.policy s.shelf conn request).shelf s.wafer.placings
-  placed-layout s conn (Submit cell top text) placed = placed-shelved s (layouts.submitted s.policy s.shelf conn cell top text) placed
+  placed-layout : (s : State) (conn : ℕ) (request : LayoutRequest) → Placed s
+      → ArePlacings (layouts.outcome_of s.policy s.shelf conn request).shelf s.wafer.placings
+  placed-layout s conn (Submit cell top text) placed =
+      placed-shelved s (layouts.submitted s.policy s.shelf conn cell top text) placed
   placed-layout s conn Cells placed = placed-listed s (layouts.cells s.policy s.shelf conn) placed
-  placed-layout s conn (Shapes cell) placed = placed-listed s (layouts.shapes s.policy s.shelf conn cell) placed
+  placed-layout s conn (Shapes cell) placed =
+      placed-listed s (layouts.shapes s.policy s.shelf conn cell) placed
 
-  placed-request : (s : State) (conn : ℕ) (request : Request) → Placed s → Placed (outcome_of s conn request).state
-  placed-request s conn (ask.Policy request) placed = placed-changed s (row_of s.policy conn request) placed
+  placed-request : (s : State) (conn : ℕ) (request : Request) → Placed s
+      → Placed (outcome_of s conn request).state
+  placed-request s conn (ask.Policy request) placed =
+      placed-changed s (row_of s.policy conn request) placed
   placed-request s conn ask.Whoami placed = placed-asked s (rows.whoami s.policy conn) placed
   placed-request s conn (ask.Layout request) placed = placed-layout s conn request placed
-  placed-request s conn (ask.Wafer request) placed = changes_keep s.policy s.shelf s.wafer conn request placed
+  placed-request s conn (ask.Wafer request) placed = changes_keep s.policy s.shelf s.wafer conn
+      request placed
   placed-request s conn (ask.Run request) placed = placed
   placed-request s conn (ask.SignOff request) placed = placed
-  placed-request s conn ask.Trail placed = placed-audited s (permitted s.policy conn operation.Audit object.Desk) placed
+  placed-request s conn ask.Trail placed =
+      placed-audited s (permitted s.policy conn operation.Audit object.Desk) placed
 
   placed-wanted : (s : State) (event : Event) → Placed s → Placed (wanted s event).state
   unfolding wanted
@@ -79,12 +94,15 @@ module _ (none_are : NoneArePlacings) (later_keep : LaterShelvesKeep) (changes_k
 
   placed-step : (s : State) (event : Event) (was : Bool) → Placed s → Placed (after s event was)
   unfolding step
-  placed-step s event was placed = placed-settled s event was (wanted s event) placed (placed-wanted s event placed)
+  placed-step s event was placed = placed-settled s event was (wanted s event) placed
+      (placed-wanted s event placed)
 
   placed-calls : (s : State) (calls : List Call) → Placed s → Placed (state_after s calls)
   placed-calls s [] placed = placed
-  placed-calls s (call ∷ calls) placed = placed-calls (after s call.event call.kept) calls (placed-step s call.event call.kept placed)
+  placed-calls s (call ∷ calls) placed = placed-calls (after s call.event call.kept) calls
+      (placed-step s call.event call.kept placed)
 
-  pub placed-history : (officer digest : List ℕ) (calls : List Call) → Placed (state_after (new_state officer digest) calls)
+  pub placed-history : (officer digest : List ℕ) (calls : List Call)
+      → Placed (state_after (new_state officer digest) calls)
   unfolding new_state
   placed-history officer digest calls = placed-calls (new_state officer digest) calls (none_are [])

@@ -13,24 +13,31 @@ use Rattle.mpw_replies.specs.declared.reply.Reply.TheVariants as reply
 use Rattle.mpw_core.specs.declared.event.Response.TheVariants as response
 use Rattle.mpw_core.specs.declared.event.Event.TheVariants as event
 use Rattle.mpw_core.specs.PolicyRows.{row_of}
-use Rattle.mpw_core.specs.Step.{State, Outcome, told, changed, outcome_of, wanted, step, response_of}
+use Rattle.mpw_core.specs.Step.{State, Outcome, reply_of, changed, outcome_of, wanted, step, response_of}
 use Rattle.mpw_core.proofs.DenialLemmas.{inside, permission-changed}
 use Rattle.mpw_core.proofs.ReadableLemmas.{never_ok, told_refusal}
 use Rattle.mpw_core.proofs.RefusalLemmas.{settled-denied, settled-ok}
 
-accepted-changed : (s : State) (row : Result Policy Refusal) (lines : List Listed) → (changed s row).response ≡ response.Told (reply.Ok lines) → (q : Policy) × (row ≡ Ok q)
+accepted-changed : (s : State) (row : Result Policy Refusal) (lines : List Listed)
+    → (changed s row).response ≡ response.Told (reply.Ok lines) → (q : Policy) × (row ≡ Ok q)
 accepted-changed s (Ok q) lines e = (q, refl)
-accepted-changed s (Err r) lines e = absurd (never_ok (told r) (told_refusal r) lines (inside e))
+accepted-changed s (Err r) lines e =
+    absurd (never_ok (reply_of r) (told_refusal r) lines (inside e))
 
 -- what is accepted is what its row leaves
-pub accepted-row : (s : State) (conn : ℕ) (request : PolicyRequest) (kept : Bool) (lines : List Listed) → response_of s (event.Ask conn (ask.Policy request)) kept ≡ response.Told (reply.Ok lines)
+pub accepted-row : (s : State) (conn : ℕ) (request : PolicyRequest) (kept : Bool)
+    (lines : List Listed) → response_of s (event.Ask conn (ask.Policy request)) kept ≡ response.Told
+    (reply.Ok lines)
     → (q : Policy) × (row_of s.policy conn request ≡ Ok q)
 unfolding step wanted
 accepted-row s conn request kept lines e =
-    let same = settled-ok s (event.Ask conn (ask.Policy request)) kept (outcome_of s conn (ask.Policy request)) lines e in
-    accepted-changed s (row_of s.policy conn request) lines (ap (λ (o : Outcome). o.response) (sym same) ∙ e)
+    let same = settled-ok s (event.Ask conn (ask.Policy request)) kept
+    (outcome_of s conn (ask.Policy request)) lines e in
+    accepted-changed s (row_of s.policy conn request) lines
+    (ap (λ (o : Outcome). o.response) (sym same) ∙ e)
 
-ssd-told : (r : Refusal) (name : List ℕ) → told r ≡ reply.Denied (denial.Ssd name) → r ≡ refusal.Ssd name
+ssd-told : (r : Refusal) (name : List ℕ) → reply_of r ≡ reply.Denied (denial.Ssd name)
+    → r ≡ refusal.Ssd name
 ssd-told refusal.Opened name e = cc
 ssd-told refusal.Login name e = cc
 ssd-told refusal.NoSession name e = cc
@@ -44,19 +51,26 @@ ssd-told refusal.Known name e = cc
 ssd-told refusal.Used name e = cc
 ssd-told refusal.Full name e = cc
 
-ssd-changed : (s : State) (row : Result Policy Refusal) (name : List ℕ) → (changed s row).response ≡ response.Told (reply.Denied (denial.Ssd name)) → row ≡ Err (refusal.Ssd name)
+ssd-changed : (s : State) (row : Result Policy Refusal) (name : List ℕ)
+    → (changed s row).response ≡ response.Told (reply.Denied (denial.Ssd name))
+    → row ≡ Err (refusal.Ssd name)
 ssd-changed s (Ok q) name e = cc
 ssd-changed s (Err r) name e = ap (λ x. Err x) (ssd-told r name (inside e))
 
 -- a set that is denied is what the row tells
-pub ssd-row : (s : State) (conn : ℕ) (request : PolicyRequest) (kept : Bool) (name : List ℕ) → response_of s (event.Ask conn (ask.Policy request)) kept ≡ response.Told (reply.Denied (denial.Ssd name))
+pub ssd-row : (s : State) (conn : ℕ) (request : PolicyRequest) (kept : Bool) (name : List ℕ)
+    → response_of s (event.Ask conn (ask.Policy request)) kept ≡ response.Told
+    (reply.Denied (denial.Ssd name))
     → row_of s.policy conn request ≡ Err (refusal.Ssd name)
 unfolding step wanted
 ssd-row s conn request kept name e =
-    let same = settled-denied s (event.Ask conn (ask.Policy request)) kept (outcome_of s conn (ask.Policy request)) (denial.Ssd name) e in
-    ssd-changed s (row_of s.policy conn request) name (ap (λ (o : Outcome). o.response) (sym same) ∙ e)
+    let same = settled-denied s (event.Ask conn (ask.Policy request)) kept
+    (outcome_of s conn (ask.Policy request)) (denial.Ssd name) e in
+    ssd-changed s (row_of s.policy conn request) name (ap (λ (o : Outcome). o.response) (sym same)
+    ∙ e)
 
-dsd-told : (r : Refusal) (name : List ℕ) → told r ≡ reply.Denied (denial.Dsd name) → r ≡ refusal.Dsd name
+dsd-told : (r : Refusal) (name : List ℕ) → reply_of r ≡ reply.Denied (denial.Dsd name)
+    → r ≡ refusal.Dsd name
 dsd-told refusal.Opened name e = cc
 dsd-told refusal.Login name e = cc
 dsd-told refusal.NoSession name e = cc
@@ -70,22 +84,33 @@ dsd-told refusal.Known name e = cc
 dsd-told refusal.Used name e = cc
 dsd-told refusal.Full name e = cc
 
-dsd-changed : (s : State) (row : Result Policy Refusal) (name : List ℕ) → (changed s row).response ≡ response.Told (reply.Denied (denial.Dsd name)) → row ≡ Err (refusal.Dsd name)
+dsd-changed : (s : State) (row : Result Policy Refusal) (name : List ℕ)
+    → (changed s row).response ≡ response.Told (reply.Denied (denial.Dsd name))
+    → row ≡ Err (refusal.Dsd name)
 dsd-changed s (Ok q) name e = cc
 dsd-changed s (Err r) name e = ap (λ x. Err x) (dsd-told r name (inside e))
 
 -- a set that is denied is what the row tells
-pub dsd-row : (s : State) (conn : ℕ) (request : PolicyRequest) (kept : Bool) (name : List ℕ) → response_of s (event.Ask conn (ask.Policy request)) kept ≡ response.Told (reply.Denied (denial.Dsd name))
+pub dsd-row : (s : State) (conn : ℕ) (request : PolicyRequest) (kept : Bool) (name : List ℕ)
+    → response_of s (event.Ask conn (ask.Policy request)) kept ≡ response.Told
+    (reply.Denied (denial.Dsd name))
     → row_of s.policy conn request ≡ Err (refusal.Dsd name)
 unfolding step wanted
 dsd-row s conn request kept name e =
-    let same = settled-denied s (event.Ask conn (ask.Policy request)) kept (outcome_of s conn (ask.Policy request)) (denial.Dsd name) e in
-    dsd-changed s (row_of s.policy conn request) name (ap (λ (o : Outcome). o.response) (sym same) ∙ e)
+    let same = settled-denied s (event.Ask conn (ask.Policy request)) kept
+    (outcome_of s conn (ask.Policy request)) (denial.Dsd name) e in
+    dsd-changed s (row_of s.policy conn request) name (ap (λ (o : Outcome). o.response) (sym same)
+    ∙ e)
 
 -- a permission that is denied is what the row tells
-pub permission-row : (s : State) (conn : ℕ) (request : PolicyRequest) (kept : Bool) (operation : Operation) (object : Object)
-    → response_of s (event.Ask conn (ask.Policy request)) kept ≡ response.Told (reply.Denied (denial.Permission operation object)) → row_of s.policy conn request ≡ Err (refusal.NotPermitted operation object)
+pub permission-row : (s : State) (conn : ℕ) (request : PolicyRequest) (kept : Bool)
+    (operation : Operation) (object : Object)
+    → response_of s (event.Ask conn (ask.Policy request)) kept ≡ response.Told
+    (reply.Denied (denial.Permission operation object))
+    → row_of s.policy conn request ≡ Err (refusal.NotPermitted operation object)
 unfolding step wanted
 permission-row s conn request kept operation object e =
-    let same = settled-denied s (event.Ask conn (ask.Policy request)) kept (outcome_of s conn (ask.Policy request)) (denial.Permission operation object) e in
-    permission-changed s (row_of s.policy conn request) operation object (ap (λ (o : Outcome). o.response) (sym same) ∙ e)
+    let same = settled-denied s (event.Ask conn (ask.Policy request)) kept
+    (outcome_of s conn (ask.Policy request)) (denial.Permission operation object) e in
+    permission-changed s (row_of s.policy conn request) operation object
+    (ap (λ (o : Outcome). o.response) (sym same) ∙ e)

@@ -10,14 +10,20 @@ pub restart-told : (s : State) (kept : Bool) → response_of s event.Restart kep
 unfolding step wanted
 restart-told s kept = refl
 
-pub restart-ends : (s : State) (kept : Bool) (conn : ℕ) → session_of (after s event.Restart kept).policy conn ≡ None
+pub restart-ends : (s : State) (kept : Bool) (conn : ℕ)
+    → session_of (after s event.Restart kept).policy conn ≡ None
 unfolding step wanted
 restart-ends s kept conn = refl
 
-pub restart-cuts : (s : State) (kept : Bool) → (after s event.Restart kept).run ≡ run.restarted s.run
+pub restart-cuts : (s : State) (kept : Bool)
+    → (after s event.Restart kept).run ≡ run.restarted s.run
 unfolding step wanted
 restart-cuts s kept = refl
 
-pub restart-rest : (s : State) (kept : Bool) → record (after s event.Restart kept) { policy = record (after s event.Restart kept).policy { sessions = s.policy.sessions }; run = s.run } ≡ s
+pub restart-rest : (s : State) (kept : Bool)
+    → record (after s event.Restart kept) {
+      policy = record (after s event.Restart kept).policy { sessions = s.policy.sessions };
+      run = s.run;
+    } ≡ s
 unfolding step wanted
 restart-rest s kept = refl

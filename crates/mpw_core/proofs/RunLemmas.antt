@@ -41,27 +41,32 @@ use Rattle.mpw_core.proofs.RefusalLemmas.{settled-run}
 same-reply : {a b : RunReply} → run_response a ≡ run_response b → a ≡ b
 same-reply e = cc
 
-changed-told : (s : State) (row : Result Policy Refusal) (r : RunReply) → (changed s row).response ≡ run_response r → ⊥
+changed-told : (s : State) (row : Result Policy Refusal) (r : RunReply)
+    → (changed s row).response ≡ run_response r → ⊥
 changed-told s (Ok q) r e = cc
 changed-told s (Err why) r e = cc
 
-asked-told : (s : State) (row : Result Identity Refusal) (r : RunReply) → (asked s identity_lines row).response ≡ run_response r → ⊥
+asked-told : (s : State) (row : Result Identity Refusal) (r : RunReply)
+    → (asked s identity_lines row).response ≡ run_response r → ⊥
 asked-told s (Ok who) r e = cc
 asked-told s (Err why) r e = cc
 
-audited-told : (s : State) (row : Result (Unit {0}) Ending) (r : RunReply) → (audited s row).response ≡ run_response r → ⊥
+audited-told : (s : State) (row : Result (Unit {0}) Ending) (r : RunReply)
+    → (audited s row).response ≡ run_response r → ⊥
 audited-told s (Ok allowed) r e = cc
 audited-told s (Err ending) r e = cc
 
 -- a request is told a reply of its own
-request-told : (s : State) (conn : ℕ) (request : Request) (r : RunReply) → (outcome_of s conn request).response ≡ run_response r → ⊥
+request-told : (s : State) (conn : ℕ) (request : Request) (r : RunReply)
+    → (outcome_of s conn request).response ≡ run_response r → ⊥
 request-told s conn (ask.Policy request) r e = changed-told s (row_of s.policy conn request) r e
 request-told s conn ask.Whoami r e = asked-told s (rows.whoami s.policy conn) r e
 request-told s conn (ask.Layout request) r e = cc
 request-told s conn (ask.Wafer request) r e = cc
 request-told s conn (ask.Run request) r e = cc
 request-told s conn (ask.SignOff request) r e = cc
-request-told s conn ask.Trail r e = audited-told s (permitted s.policy conn operation.Audit object.Desk) r e
+request-told s conn ask.Trail r e =
+    audited-told s (permitted s.policy conn operation.Audit object.Desk) r e
 
 -- what is not kept finishes no run
 leaving-goes-on : (r : RunReply) → leaves r ≡ true → finishes r ≡ false
@@ -80,33 +85,43 @@ restart-told : (r : RunReply) → response.Restarted ≡ run_response r → ⊥
 restart-told r e = cc
 
 module _ (unkept_leaves : UnkeptLeavesTheRun) where
-  leaves-run : (s : State) (e : RunEvent) (r : RunReply) → leaves r ≡ true → (o : RunOutcome) → o ≡ law.step s.run e → run_response o.reply ≡ run_response r → (of_run s o).state ≡ s
+  leaves-run : (s : State) (e : RunEvent) (r : RunReply) → leaves r ≡ true → (o : RunOutcome)
+      → o ≡ law.step s.run e → run_response o.reply ≡ run_response r → (of_run s o).state ≡ s
   leaves-run s e r is o same told =
-      let leaving : leaves (law.step s.run e).reply ≡ true = ap (λ (o : RunOutcome). leaves o.reply) (sym same) ∙ ap leaves (same-reply told) ∙ is in
-      let unfinished : finishes o.reply ≡ false = leaving-goes-on o.reply (ap leaves (same-reply told) ∙ is) in
-      rw unfinished (ap (λ (run : Run). record s { run = run }) (ap (λ (o : RunOutcome). o.run) same ∙ unkept_leaves s.run e leaving))
+      let leaving : leaves (law.step s.run e).reply ≡ true = ap (λ (o : RunOutcome). leaves o.reply)
+      (sym same) ∙ ap leaves (same-reply told) ∙ is in
+      let unfinished : finishes o.reply ≡ false =
+      leaving-goes-on o.reply (ap leaves (same-reply told) ∙ is) in
+      rw unfinished (ap (λ (run : Run). record s { run = run }) (ap (λ (o : RunOutcome). o.run) same
+      ∙ unkept_leaves s.run e leaving))
 
-  leaves-wanted : (s : State) (event : Event) (r : RunReply) → leaves r ≡ true → (wanted s event).response ≡ run_response r → (wanted s event).state ≡ s
+  leaves-wanted : (s : State) (event : Event) (r : RunReply) → leaves r ≡ true
+      → (wanted s event).response ≡ run_response r → (wanted s event).state ≡ s
   unfolding wanted
   leaves-wanted s (event.Ask conn request) r is e = absurd (request-told s conn request r e)
   leaves-wanted s (event.Gone conn) r is e = absurd (gone-told r e)
   leaves-wanted s (event.Take worker) r is e = leaves-run s RunEvent.take r is (taken s.run) refl e
-  leaves-wanted s (event.Cut answer) r is e = leaves-run s (RunEvent.cut answer) r is (cut_answered s.run answer) refl e
-  leaves-wanted s (event.Tile answer) r is e = leaves-run s (RunEvent.tile answer) r is (tile_answered s.run answer) refl e
+  leaves-wanted s (event.Cut answer) r is e = leaves-run s (RunEvent.cut answer) r is
+      (cut_answered s.run answer) refl e
+  leaves-wanted s (event.Tile answer) r is e = leaves-run s (RunEvent.tile answer) r is
+      (tile_answered s.run answer) refl e
   leaves-wanted s event.Restart r is e = absurd (restart-told r e)
 
-  pub unkept-leaves : (s : State) (event : Event) (kept : Bool) (r : RunReply) → leaves r ≡ true → response_of s event kept ≡ run_response r → (step s event kept).state ≡ s
+  pub unkept-leaves : (s : State) (event : Event) (kept : Bool) (r : RunReply) → leaves r ≡ true
+      → response_of s event kept ≡ run_response r → (step s event kept).state ≡ s
   unfolding step
   unkept-leaves s event kept r is e =
       let same = settled-run s event kept (wanted s event) r e in
-      ap (λ (o : Outcome). o.state) same ∙ leaves-wanted s event r is (ap (λ (o : Outcome). o.response) (sym same) ∙ e)
+      ap (λ (o : Outcome). o.state) same
+      ∙ leaves-wanted s event r is (ap (λ (o : Outcome). o.response) (sym same) ∙ e)
 
 -- ---- the run's own events leave its number
 
 abbrev Stays : Run → RunOutcome → Type 0
 Stays run o = o.run.number ≡ run.number
 
-one_of : (run : Run) (b : Bool) (x y : RunOutcome) → Stays run x → Stays run y → Stays run (if b then x else y)
+one_of : (run : Run) (b : Bool) (x y : RunOutcome) → Stays run x → Stays run y
+    → Stays run (if b then x else y)
 one_of run true x y f g = f
 one_of run false x y f g = g
 
@@ -122,27 +137,34 @@ take_stays run (Finished f) = refl
 
 cut_stays : (run : Run) (answer : CutWindows) (phase : Phase) → Stays run (cut_in run answer phase)
 cut_stays run answer Idle = refl
-cut_stays run answer (Cutting planned) = one_of run (same_snapshot answer.job.snapshot planned.snapshot) _ _ refl refl
+cut_stays run answer (Cutting planned) =
+    one_of run (same_snapshot answer.job.snapshot planned.snapshot) _ _ refl refl
 cut_stays run answer (Checking c) = refl
 cut_stays run answer (Finished f) = refl
 
 kept_stays : (run : Run) (c : Checks) (now : List Tile) → Stays run (kept run c now)
 kept_stays run c now = one_of run (answered now == tiles c.planned.plan) _ _ refl refl
 
-compared_stays : (run : Run) (c : Checks) (answer : FoundMarkers) (tile : Tile) (a : Option (List Marker)) → Stays run (tile_compared run c answer tile a)
+compared_stays : (run : Run) (c : Checks) (answer : FoundMarkers) (tile : Tile)
+    (a : Option (List Marker)) → Stays run (tile_compared run c answer tile a)
 compared_stays run c answer tile (Some m) = refl
 compared_stays run c answer tile None =
-    one_of run (same_task answer.job (tile_task run.number c answer.job.tile)) _ _ (kept_stays run c (slice_set c.tiles answer.job.tile (answered_by answer.markers tile))) refl
+    one_of run (same_task answer.job (tile_task run.number c answer.job.tile)) _ _
+    (kept_stays run c (slice_set c.tiles answer.job.tile (answered_by answer.markers tile)))
+    refl
 
-checked_stays : (run : Run) (c : Checks) (answer : FoundMarkers) (tile : Option Tile) → Stays run (tile_checked run c answer tile)
+checked_stays : (run : Run) (c : Checks) (answer : FoundMarkers) (tile : Option Tile)
+    → Stays run (tile_checked run c answer tile)
 checked_stays run c answer None = refl
 checked_stays run c answer (Some tile) = compared_stays run c answer tile tile.answer
 
-tile_stays : (run : Run) (answer : FoundMarkers) (phase : Phase) → Stays run (tile_in run answer phase)
+tile_stays : (run : Run) (answer : FoundMarkers) (phase : Phase)
+    → Stays run (tile_in run answer phase)
 tile_stays run answer Idle = refl
 tile_stays run answer (Cutting planned) = refl
 tile_stays run answer (Checking c) = checked_stays run c answer (slice_get c.tiles answer.job.tile)
-tile_stays run answer (Finished f) = one_of run (nat_lt answer.job.tile (tiles f.planned.plan)) _ _ refl refl
+tile_stays run answer (Finished f) =
+    one_of run (nat_lt answer.job.tile (tiles f.planned.plan)) _ _ refl refl
 
 -- ---- a call counts one run at most
 
@@ -150,26 +172,31 @@ same-counts : (n m : ℕ) → n ≡ m → n ≤ m + 1
 same-counts n m e = omega (arith, e)
 
 module _ (counted : NumbersAreCounted) where
-  count-changed : (s : State) (row : Result Policy Refusal) → (changed s row).state.run.number ≤ s.run.number + 1
+  count-changed : (s : State) (row : Result Policy Refusal)
+      → (changed s row).state.run.number ≤ s.run.number + 1
   count-changed s (Ok q) = same-counts s.run.number s.run.number refl
   count-changed s (Err r) = same-counts s.run.number s.run.number refl
 
-  count-asked : (s : State) (row : Result Identity Refusal) → (asked s identity_lines row).state.run.number ≤ s.run.number + 1
+  count-asked : (s : State) (row : Result Identity Refusal)
+      → (asked s identity_lines row).state.run.number ≤ s.run.number + 1
   count-asked s (Ok q) = same-counts s.run.number s.run.number refl
   count-asked s (Err r) = same-counts s.run.number s.run.number refl
 
-  count-audited : (s : State) (row : Result (Unit {0}) Ending) → (audited s row).state.run.number ≤ s.run.number + 1
+  count-audited : (s : State) (row : Result (Unit {0}) Ending)
+      → (audited s row).state.run.number ≤ s.run.number + 1
   count-audited s (Ok allowed) = same-counts s.run.number s.run.number refl
   count-audited s (Err ending) = same-counts s.run.number s.run.number refl
 
-  count-request : (s : State) (conn : ℕ) (request : Request) → (outcome_of s conn request).state.run.number ≤ s.run.number + 1
+  count-request : (s : State) (conn : ℕ) (request : Request)
+      → (outcome_of s conn request).state.run.number ≤ s.run.number + 1
   count-request s conn (ask.Policy request) = count-changed s (row_of s.policy conn request)
   count-request s conn ask.Whoami = count-asked s (rows.whoami s.policy conn)
   count-request s conn (ask.Layout request) = same-counts s.run.number s.run.number refl
   count-request s conn (ask.Wafer request) = same-counts s.run.number s.run.number refl
   count-request s conn (ask.Run request) = counted s.policy s.shelf s.wafer s.run conn request
   count-request s conn (ask.SignOff request) = same-counts s.run.number s.run.number refl
-  count-request s conn ask.Trail = count-audited s (permitted s.policy conn operation.Audit object.Desk)
+  count-request s conn ask.Trail = count-audited s
+      (permitted s.policy conn operation.Audit object.Desk)
 
   count-wanted : (s : State) (event : Event) → (wanted s event).state.run.number ≤ s.run.number + 1
   unfolding wanted
@@ -177,26 +204,36 @@ module _ (counted : NumbersAreCounted) where
   count-wanted s (event.Gone conn) = same-counts s.run.number s.run.number refl
   count-wanted s (event.Take worker) = same-counts _ s.run.number (take_stays s.run s.run.phase)
   count-wanted s (event.Cut answer) =
-      same-counts _ s.run.number (one_of s.run (s.run.number == answer.job.run) _ _ (cut_stays s.run answer s.run.phase) refl)
+      same-counts _ s.run.number (one_of s.run (s.run.number == answer.job.run) _ _
+      (cut_stays s.run answer s.run.phase) refl)
   count-wanted s (event.Tile answer) =
-      same-counts _ s.run.number (one_of s.run (s.run.number == answer.job.run) _ _ (tile_stays s.run answer s.run.phase) refl)
+      same-counts _ s.run.number (one_of s.run (s.run.number == answer.job.run) _ _
+      (tile_stays s.run answer s.run.phase) refl)
   count-wanted s event.Restart = same-counts s.run.number s.run.number refl
 
-  count-settled : (s : State) (event : Event) (was : Bool) (outcome : Outcome) → outcome.state.run.number ≤ s.run.number + 1 → (settled s event was outcome).state.run.number ≤ s.run.number + 1
+  count-settled : (s : State) (event : Event) (was : Bool) (outcome : Outcome)
+      → outcome.state.run.number ≤ s.run.number + 1
+      → (settled s event was outcome).state.run.number ≤ s.run.number + 1
   count-settled s event was outcome now =
-      elim (outcome.changes && not was) as (λ b. (cond b (left (unkept event) (record s { closed = true })) outcome).state.run.number ≤ s.run.number + 1) [ true ↦ same-counts s.run.number s.run.number refl | false ↦ now ]
+      elim (outcome.changes && not was) as
+      (λ b. (cond b (left (unkept event) (record s { closed = true })) outcome).state.run.number
+      ≤ s.run.number + 1) [ true ↦ same-counts s.run.number s.run.number refl | false ↦ now ]
 
-  count-step : (s : State) (event : Event) (was : Bool) → (after s event was).run.number ≤ s.run.number + 1
+  count-step : (s : State) (event : Event) (was : Bool)
+      → (after s event was).run.number ≤ s.run.number + 1
   unfolding step
   count-step s event was = count-settled s event was (wanted s event) (count-wanted s event)
 
-  count-calls : (s : State) (calls : List Call) → (state_after s calls).run.number ≤ s.run.number + length calls
+  count-calls : (s : State) (calls : List Call)
+      → (state_after s calls).run.number ≤ s.run.number + length calls
   count-calls s [] = omega arith
   count-calls s (call ∷ calls) =
       let first = count-step s call.event call.kept in
       let rest = count-calls (after s call.event call.kept) calls in
       omega (arith, first, rest)
 
-  pub count-history : (officer digest : List ℕ) (calls : List Call) → (state_after (new_state officer digest) calls).run.number ≤ length calls
+  pub count-history : (officer digest : List ℕ) (calls : List Call)
+      → (state_after (new_state officer digest) calls).run.number ≤ length calls
   unfolding new_state
-  count-history officer digest calls = let all = count-calls (new_state officer digest) calls in omega (arith, all)
+  count-history officer digest calls = let all = count-calls (new_state officer digest) calls in
+      omega (arith, all)

@@ -22,7 +22,8 @@ trail-changed : (s : State) (row : Result Policy Refusal) → (changed s row).st
 trail-changed s (Ok q) = refl
 trail-changed s (Err r) = refl
 
-trail-asked : (s : State) (row : Result Identity Refusal) → (asked s identity_lines row).state.trail ≡ s.trail
+trail-asked : (s : State) (row : Result Identity Refusal)
+    → (asked s identity_lines row).state.trail ≡ s.trail
 trail-asked s (Ok who) = refl
 trail-asked s (Err r) = refl
 
@@ -30,14 +31,16 @@ trail-audited : (s : State) (row : Result (Unit {0}) Ending) → (audited s row)
 trail-audited s (Ok allowed) = refl
 trail-audited s (Err ending) = refl
 
-trail-request : (s : State) (conn : ℕ) (request : Request) → (outcome_of s conn request).state.trail ≡ s.trail
+trail-request : (s : State) (conn : ℕ) (request : Request)
+    → (outcome_of s conn request).state.trail ≡ s.trail
 trail-request s conn (ask.Policy request) = trail-changed s (row_of s.policy conn request)
 trail-request s conn ask.Whoami = trail-asked s (rows.whoami s.policy conn)
 trail-request s conn (ask.Layout request) = refl
 trail-request s conn (ask.Wafer request) = refl
 trail-request s conn (ask.Run request) = refl
 trail-request s conn (ask.SignOff request) = refl
-trail-request s conn ask.Trail = trail-audited s (permitted s.policy conn operation.Audit object.Desk)
+trail-request s conn ask.Trail =
+    trail-audited s (permitted s.policy conn operation.Audit object.Desk)
 
 trail-wanted : (s : State) (event : Event) → (wanted s event).state.trail ≡ s.trail
 unfolding wanted
@@ -48,16 +51,22 @@ trail-wanted s (event.Cut answer) = refl
 trail-wanted s (event.Tile answer) = refl
 trail-wanted s event.Restart = refl
 
-trail-settled : (s : State) (event : Event) (kept : Bool) (outcome : Outcome) → outcome.state.trail ≡ s.trail → (settled s event kept outcome).state.trail ≡ s.trail
+trail-settled : (s : State) (event : Event) (kept : Bool) (outcome : Outcome)
+    → outcome.state.trail ≡ s.trail → (settled s event kept outcome).state.trail ≡ s.trail
 trail-settled s event kept outcome now =
-    elim (outcome.changes && not kept) as (λ b. (cond b (left (unkept event) (record s { closed = true })) outcome).state.trail ≡ s.trail) [ true ↦ refl | false ↦ now ]
+    elim (outcome.changes && not kept) as
+    (λ b. (cond b (left (unkept event) (record s { closed = true })) outcome).state.trail
+    ≡ s.trail) [ true ↦ refl | false ↦ now ]
 
-pub trail-step : (s : State) (event : Event) (kept : Bool) → (step s event kept).state.trail ≡ s.trail
+pub trail-step : (s : State) (event : Event) (kept : Bool)
+    → (step s event kept).state.trail ≡ s.trail
 unfolding step
 trail-step s event kept = trail-settled s event kept (wanted s event) (trail-wanted s event)
 
 pub trail-after : (s : State) (event : Event) (kept : Bool)
-    → (after s event kept).trail ≡ s.trail ++ entries_of s.policy (after s event kept).policy event (response_of s event kept)
+    → (after s event kept).trail ≡ s.trail ++ entries_of s.policy (after s event kept).policy event
+    (response_of s event kept)
 trail-after s event kept =
     let o = step s event kept in
-    trail-grows s event o ∙ ap (λ (l : List Entry). l ++ entries_of s.policy o.state.policy event o.response) (trail-step s event kept)
+    trail-grows s event o ∙ ap (λ (l : List Entry). l ++ entries_of s.policy o.state.policy event
+    o.response) (trail-step s event kept)

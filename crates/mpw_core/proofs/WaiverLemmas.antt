@@ -31,73 +31,112 @@ use Rattle.mpw_core.proofs.RefusalLemmas.{settled-denied, settled-ok, settled-ru
 
 -- ---- with their run
 
-begun-drops : (s : State) (row : Result Planned Ending) (lines : List Listed) → (checking.begun_outcome s.run row).reply ≡ reply.Ok lines
+begun-drops : (s : State) (row : Result Planned Ending) (lines : List Listed)
+    → (checking.begun_outcome s.run row).reply ≡ reply.Ok lines
     → (over_run s (checking.begun_outcome s.run row)).state.waivers ≡ []
 begun-drops s (Ok planned) lines e = refl
-begun-drops s (Err ending) lines e = absurd (never_ok (ended_by ending) (ended_negative ending) lines e)
+begun-drops s (Err ending) lines e =
+    absurd (never_ok (ended_by ending) (ended_negative ending) lines e)
 
-pub runs-drop : (s : State) (conn : ℕ) (kept : Bool) (lines : List Listed) → response_of s (event.Ask conn (ask.Run run_ask.Run)) kept ≡ response.Told (reply.Ok lines)
+pub runs-drop : (s : State) (conn : ℕ) (kept : Bool) (lines : List Listed)
+    → response_of s (event.Ask conn (ask.Run run_ask.Run)) kept ≡ response.Told (reply.Ok lines)
     → (after s (event.Ask conn (ask.Run run_ask.Run)) kept).waivers ≡ []
 unfolding step wanted
 runs-drop s conn kept lines e =
-    let same = settled-ok s (event.Ask conn (ask.Run run_ask.Run)) kept (outcome_of s conn (ask.Run run_ask.Run)) lines e in
+    let same = settled-ok s (event.Ask conn (ask.Run run_ask.Run)) kept
+    (outcome_of s conn (ask.Run run_ask.Run)) lines e in
     ap (λ (o : Outcome). o.state.waivers) same
-    ∙ begun-drops s (checking.begun s.policy s.shelf s.wafer s.run conn) lines (inside (ap (λ (o : Outcome). o.response) (sym same) ∙ e))
+    ∙ begun-drops s (checking.run_row s.policy s.shelf s.wafer s.run conn) lines
+    (inside (ap (λ (o : Outcome). o.response) (sym same) ∙ e))
 
 same-reply : {a b : RunReply} → run_response a ≡ run_response b → a ≡ b
 same-reply e = cc
 
-finished-places : (s : State) (o : RunOutcome) → o.reply ≡ told.Finished → (of_run s o).state.waivers ≡ none_asked (book_size (of_run s o).state.run.phase)
+finished-places : (s : State) (o : RunOutcome) → o.reply ≡ told.Finished
+    → (of_run s o).state.waivers ≡ none_asked (book_size (of_run s o).state.run.phase)
 finished-places s o e = rw (ap finishes e) refl
 
-pub finishing-places : (s : State) (answer : FoundMarkers) (kept : Bool) → response_of s (event.Tile answer) kept ≡ run_response told.Finished
-    → (after s (event.Tile answer) kept).waivers ≡ none_asked (book_size (after s (event.Tile answer) kept).run.phase)
+pub finishing-places : (s : State) (answer : FoundMarkers) (kept : Bool)
+    → response_of s (event.Tile answer) kept ≡ run_response told.Finished
+    → (after s (event.Tile answer) kept).waivers
+    ≡ none_asked (book_size (after s (event.Tile answer) kept).run.phase)
 unfolding step wanted
 finishing-places s answer kept e =
-    let same = settled-run s (event.Tile answer) kept (of_run s (tile_answered s.run answer)) told.Finished e in
-    let finished : (tile_answered s.run answer).reply ≡ told.Finished = same-reply (ap (λ (o : Outcome). o.response) (sym same) ∙ e) in
+    let same = settled-run s (event.Tile answer) kept (of_run s (tile_answered s.run answer))
+    told.Finished e in
+    let finished : (tile_answered s.run answer).reply ≡ told.Finished =
+    same-reply (ap (λ (o : Outcome). o.response) (sym same) ∙ e) in
     ap (λ (o : Outcome). o.state.waivers) same
     ∙ finished-places s (tile_answered s.run answer) finished
     ∙ ap (λ (o : Outcome). none_asked (book_size o.state.run.phase)) (sym same)
 
 -- ---- who asks and who signs
 
-told-as : (s : State) (conn : ℕ) (request : SignOffRequest) (kept : Bool) (lines : List Listed) → response_of s (event.Ask conn (ask.SignOff request)) kept ≡ response.Told (reply.Ok lines)
+told-as : (s : State) (conn : ℕ) (request : SignOffRequest) (kept : Bool) (lines : List Listed)
+    → response_of s (event.Ask conn (ask.SignOff request)) kept ≡ response.Told (reply.Ok lines)
     → step s (event.Ask conn (ask.SignOff request)) kept ≡ outcome_of s conn (ask.SignOff request)
 unfolding step wanted
-told-as s conn request kept lines e = settled-ok s (event.Ask conn (ask.SignOff request)) kept (outcome_of s conn (ask.SignOff request)) lines e
+told-as s conn request kept lines e = settled-ok s (event.Ask conn (ask.SignOff request)) kept
+    (outcome_of s conn (ask.SignOff request)) lines e
 
-denied-as : (s : State) (conn : ℕ) (request : SignOffRequest) (kept : Bool) (why : Denial) → response_of s (event.Ask conn (ask.SignOff request)) kept ≡ response.Told (reply.Denied why)
+denied-as : (s : State) (conn : ℕ) (request : SignOffRequest) (kept : Bool) (why : Denial)
+    → response_of s (event.Ask conn (ask.SignOff request)) kept ≡ response.Told (reply.Denied why)
     → (signing.outcome_of s.policy s.wafer s.run s.waivers conn request).reply ≡ reply.Denied why
 unfolding step wanted
 denied-as s conn request kept why e =
-    let same = settled-denied s (event.Ask conn (ask.SignOff request)) kept (outcome_of s conn (ask.SignOff request)) why e in
+    let same = settled-denied s (event.Ask conn (ask.SignOff request)) kept
+    (outcome_of s conn (ask.SignOff request)) why e in
     inside (ap (λ (o : Outcome). o.response) (sym same) ∙ e)
 
-ok-as : (s : State) (conn : ℕ) (request : SignOffRequest) (kept : Bool) (lines : List Listed) → response_of s (event.Ask conn (ask.SignOff request)) kept ≡ response.Told (reply.Ok lines)
+ok-as : (s : State) (conn : ℕ) (request : SignOffRequest) (kept : Bool) (lines : List Listed)
+    → response_of s (event.Ask conn (ask.SignOff request)) kept ≡ response.Told (reply.Ok lines)
     → (signing.outcome_of s.policy s.wafer s.run s.waivers conn request).reply ≡ reply.Ok lines
-ok-as s conn request kept lines e = inside (ap (λ (o : Outcome). o.response) (sym (told-as s conn request kept lines e)) ∙ e)
+ok-as s conn request kept lines e =
+    inside (ap (λ (o : Outcome). o.response) (sym (told-as s conn request kept lines e)) ∙ e)
 
-pub asked-shown : AskedAreShown → (s : State) (conn : ℕ) (name : MarkerName) (kept : Bool) (lines : List Listed) → response_of s (event.Ask conn (ask.SignOff (sign_ask.Waive name))) kept ≡ response.Told (reply.Ok lines)
-    → IsAsked s.policy s.run s.waivers conn name (after s (event.Ask conn (ask.SignOff (sign_ask.Waive name))) kept).waivers
+pub asked-shown : AskedAreShown → (s : State) (conn : ℕ) (name : MarkerName) (kept : Bool)
+    (lines : List Listed) → response_of s (event.Ask conn (ask.SignOff (sign_ask.Waive name))) kept
+    ≡ response.Told (reply.Ok lines)
+    → IsAsked s.policy s.run s.waivers conn name
+    (after s (event.Ask conn (ask.SignOff (sign_ask.Waive name))) kept).waivers
 asked-shown law s conn name kept lines e =
-    subst (λ (o : Outcome). IsAsked s.policy s.run s.waivers conn name o.state.waivers) (sym (told-as s conn (sign_ask.Waive name) kept lines e))
-    (law s.policy s.wafer s.run s.waivers conn name lines (ok-as s conn (sign_ask.Waive name) kept lines e))
+    subst (λ (o : Outcome). IsAsked s.policy s.run s.waivers conn name o.state.waivers)
+    (sym (told-as s conn (sign_ask.Waive name) kept lines e))
+    (law s.policy s.wafer s.run s.waivers conn name lines
+    (ok-as s conn (sign_ask.Waive name) kept lines e))
 
-pub signed-apart : SignersStandApart → (s : State) (conn : ℕ) (name : MarkerName) (kept : Bool) (lines : List Listed) → response_of s (event.Ask conn (ask.SignOff (sign_ask.Sign name))) kept ≡ response.Told (reply.Ok lines)
-    → IsSigned s.policy s.run s.waivers conn name (after s (event.Ask conn (ask.SignOff (sign_ask.Sign name))) kept).waivers
+pub signed-apart : SignersStandApart
+    → (s : State) (conn : ℕ) (name : MarkerName) (kept : Bool) (lines : List Listed)
+    → response_of s (event.Ask conn (ask.SignOff (sign_ask.Sign name))) kept ≡ response.Told
+    (reply.Ok lines)
+    → IsSigned s.policy s.run s.waivers conn name
+    (after s (event.Ask conn (ask.SignOff (sign_ask.Sign name))) kept).waivers
 signed-apart law s conn name kept lines e =
-    subst (λ (o : Outcome). IsSigned s.policy s.run s.waivers conn name o.state.waivers) (sym (told-as s conn (sign_ask.Sign name) kept lines e))
-    (law s.policy s.wafer s.run s.waivers conn name lines (ok-as s conn (sign_ask.Sign name) kept lines e))
+    subst (λ (o : Outcome). IsSigned s.policy s.run s.waivers conn name o.state.waivers)
+    (sym (told-as s conn (sign_ask.Sign name) kept lines e))
+    (law s.policy s.wafer s.run s.waivers conn name lines
+    (ok-as s conn (sign_ask.Sign name) kept lines e))
 
-pub submitter-told : SubmittersAreTold → (s : State) (conn : ℕ) (request : SignOffRequest) (kept : Bool) (cell : List ℕ) → response_of s (event.Ask conn (ask.SignOff request)) kept ≡ response.Told (reply.Denied (denial.Submitter cell))
-    → (name : MarkerName) × (request ≡ sign_ask.Sign name) × IsSubmitter s.policy s.run conn name cell
-submitter-told law s conn request kept cell e = law s.policy s.wafer s.run s.waivers conn request cell (denied-as s conn request kept (denial.Submitter cell) e)
+pub submitter-told : SubmittersAreTold
+    → (s : State) (conn : ℕ) (request : SignOffRequest) (kept : Bool) (cell : List ℕ)
+    → response_of s (event.Ask conn (ask.SignOff request)) kept ≡ response.Told
+    (reply.Denied (denial.Submitter cell))
+    → (name : MarkerName) × (request ≡ sign_ask.Sign name)
+    × IsSubmitter s.policy s.run conn name cell
+submitter-told law s conn request kept cell e = law s.policy s.wafer s.run s.waivers conn request
+    cell (denied-as s conn request kept (denial.Submitter cell) e)
 
-pub asker-told : AskersAreTold → (s : State) (conn : ℕ) (request : SignOffRequest) (kept : Bool) → response_of s (event.Ask conn (ask.SignOff request)) kept ≡ response.Told (reply.Denied denial.Asker)
-    → (name : MarkerName) × (request ≡ sign_ask.Sign name) × IsAsker s.policy s.run s.waivers conn name
-asker-told law s conn request kept e = law s.policy s.wafer s.run s.waivers conn request (denied-as s conn request kept denial.Asker e)
+pub asker-told : AskersAreTold → (s : State) (conn : ℕ) (request : SignOffRequest) (kept : Bool)
+    → response_of s (event.Ask conn (ask.SignOff request)) kept ≡ response.Told
+    (reply.Denied denial.Asker)
+    → (name : MarkerName) × (request ≡ sign_ask.Sign name)
+    × IsAsker s.policy s.run s.waivers conn name
+asker-told law s conn request kept e =
+    law s.policy s.wafer s.run s.waivers conn request (denied-as s conn request kept denial.Asker e)
 
-pub clean-told : CleanIsSignedOff → (s : State) (conn : ℕ) (kept : Bool) → response_of s (event.Ask conn (ask.SignOff sign_ask.Verdict)) kept ≡ response.Told (reply.Ok (stored line.Clean ∷ []))
+pub clean-told : CleanIsSignedOff → (s : State) (conn : ℕ) (kept : Bool)
+    → response_of s (event.Ask conn (ask.SignOff sign_ask.Verdict)) kept ≡ response.Told
+    (reply.Ok (stored line.Clean ∷ []))
     → IsSignedOff s.wafer s.run s.waivers
-clean-told law s conn kept e = law s.policy s.wafer s.run s.waivers conn (ok-as s conn sign_ask.Verdict kept (stored line.Clean ∷ []) e)
+clean-told law s conn kept e = law s.policy s.wafer s.run s.waivers conn
+    (ok-as s conn sign_ask.Verdict kept (stored line.Clean ∷ []) e)

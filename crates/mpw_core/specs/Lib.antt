@@ -1,7 +1,7 @@
 pub mod Answer
 pub mod History
 pub mod Keeping
-pub mod Noting
 pub mod PolicyRows
 pub mod Requested
 pub mod Step
+pub mod Internal

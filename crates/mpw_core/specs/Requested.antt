@@ -31,17 +31,20 @@ is_administration (UnDsd name) = true
 abbrev pub requested : Policy → ℕ → PolicyRequest → Policy
 requested policy conn (Open user digest) = policy
 requested policy conn Close = policy
-requested policy conn (Activate role) = rows.with_active policy conn (rows.active_roles policy conn ++ role ∷ [])
+requested policy conn (Activate role) =
+    rows.with_active policy conn (rows.active_roles policy conn ++ role ∷ [])
 requested policy conn (DropRole role) = policy
 requested policy conn (AddUser user digest) = policy
 requested policy conn (DelUser user) = policy
 requested policy conn (AddRole role) = policy
 requested policy conn (DelRole role) = policy
-requested policy conn (Assign user role) = rows.with_assigned policy user (assigned_roles policy user ++ role ∷ [])
+requested policy conn (Assign user role) =
+    rows.with_assigned policy user (assigned_roles policy user ++ role ∷ [])
 requested policy conn (Deassign user role) = policy
 requested policy conn (Grant grant) = policy
 requested policy conn (Revoke grant) = policy
-requested policy conn (Inherit senior junior) = record policy { roles = with_pair policy.roles senior junior }
+requested policy conn (Inherit senior junior) =
+    record policy { roles = with_pair policy.roles senior junior }
 requested policy conn (Uninherit senior junior) = policy
 requested policy conn (Ssd set) = record policy { ssd = policy.ssd ++ set ∷ [] }
 requested policy conn (Dsd set) = record policy { dsd = policy.dsd ++ set ∷ [] }

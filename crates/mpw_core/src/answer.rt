@@ -8,21 +8,20 @@ ghost use Rattle.mpw_rbac.specs.declared.permission.Object.TheVariants.{Desk};
 ghost use Rattle.mpw_rbac.specs.declared.permission.Operation.TheVariants.{Audit};
 ghost use Rattle.mpw_checking.specs.Checking as checking;
 ghost use Rattle.mpw_layouts.specs.Layouts as layouts;
-ghost use Rattle.mpw_run.specs.Prepared.{IsPrepared};
-ghost use Rattle.mpw_run.specs.Step.{Outcome as RunOutcome};
 ghost use Rattle.mpw_wafer.specs.Wafers as wafers;
 ghost use Rattle.mpw_replies.specs.Listing.{stored};
 ghost use Rattle.mpw_replies.specs.Rows.{permitted};
 ghost use Rattle.mpw_replies.specs.Trail.{trail_lines};
 ghost use Rattle.mpw_signoff.specs.SigningOff as signing;
-ghost use Rattle.mpw_core.specs.Answer.{IsRefusal, IsReady, Gives, moved, open_state, places_for, run_response};
+ghost use Rattle.mpw_core.specs.Internal.Answer.{IsRefusal, IsReady, Gives, open_state};
 ghost use Rattle.mpw_core.specs.History.{restarts};
 ghost use Rattle.mpw_core.specs.PolicyRows.{row_of};
-ghost use Rattle.mpw_core.specs.Step.{State, told, changed, asked, audited, finishes, of_run, over_run, over_shelf, over_wafer, over_waivers, wanted, parted, outcome_of, identity_lines};
+ghost use Rattle.mpw_core.specs.Step.{State, reply_of, changed, asked, audited, over_run, over_shelf, over_wafer, over_waivers, wanted, parted, outcome_of, identity_lines};
 
 use crate::policy::make;
+use crate::run_answer::of_run;
 use crate::tables::Tables;
-use crate::{Event, Response, SharedRunReply};
+use crate::{Event, Response};
 use mpw_checking::{NextRun, RunAnswer};
 use mpw_geom::Name;
 use mpw_hier::Shelf;
@@ -32,7 +31,7 @@ use mpw_replies::{Code, Denial, Fault, Line, Lines, Reply, Trail, enter};
 use mpw_requests::{
     LayoutRequest, PolicyRequest, Request, RunRequest, SignOffRequest, WaferRequest,
 };
-use mpw_run::{Prepared, Run, RunReply};
+use mpw_run::Prepared;
 use mpw_signoff::{NextWaivers, SignOffAnswer};
 use mpw_wafer::{Wafer, WaferAnswer};
 use mpw_waiver::Waivers;
@@ -68,9 +67,9 @@ pub(crate) struct Answer {
     pub(crate) next: Next,
 }
 
-/// What a refusal is told as.
-fn told(refusal: Refusal) -> Reply
-    ensures { result ≡ told refusal }
+/// How what ends a row of the policy is told.
+fn reply_of(refusal: Refusal) -> Reply
+    ensures { result ≡ reply_of refusal }
 {
     match refusal {
         Refusal::Opened => Reply::Refused(Code::Opened),
@@ -96,7 +95,7 @@ fn refused(fault: PolicyFault) -> Result<Answer, AllocError>
 {
     match fault {
         PolicyFault::Refused(refusal) => Ok(Answer {
-            response: Response::Told(told(refusal)),
+            response: Response::Told(reply_of(refusal)),
             next: Next::Nothing,
         }),
         PolicyFault::Memory => Err(AllocError),
@@ -343,84 +342,6 @@ fn gone(policy: &Policy, conn: u32) -> Result<Answer, AllocError>
         response: Response::Gone,
         next: Next::NextPolicy(next),
     })
-}
-
-/// What the run answers, shared by its copies. One allocation, and those of a job's copy.
-///
-/// # Errors
-/// Where there is no room for it, or no more copies can be counted.
-fn run_response(alloc: Global, reply: &RunReply) -> Result<Response, AllocError>
-    ensures { IfOk result (λ response. response ≡ run_response reply.now) }
-{
-    let reply = reply.copy(alloc)?;
-    Ok(Response::Run(SharedRunReply::new(alloc, reply)?))
-}
-
-/// Whether the reply finishes a run.
-fn finishes(reply: &RunReply) -> bool
-    ensures { result ≡ finishes reply.now }
-{
-    matches!(reply, RunReply::Finished)
-}
-
-/// Places for the waivers of a run that the prepared change finishes. One allocation.
-///
-/// # Errors
-/// Where there is no room for them.
-fn places_for(alloc: Global, run: &Run, prepared: &Prepared) -> Result<Option<Waivers>, AllocError>
-    ensures { IfOk result (λ places. places ≡ places_for run.now prepared.now) }
-{
-    if !finishes(&prepared.reply) {
-        return Ok(None);
-    }
-    let size = run.next_size(prepared);
-    Ok(Some(Waivers::new(alloc, size)?))
-}
-
-/// What moves in of what was prepared for the run: what finishes the run has to be kept, and has places for waivers.
-fn moved(prepared: Prepared, places: Option<Waivers>) -> Next
-    ensures { result ≡ moved prepared places }
-{
-    match places {
-        Some(waivers) => Next::Finish(prepared, waivers),
-        None => Next::Move(prepared),
-    }
-}
-
-/// What an event of the run is answered, and the places for waivers of a run that it finishes.
-#[derive(Drop)]
-struct Answered {
-    response: Response,
-    places: Option<Waivers>,
-}
-
-/// What is made aside for an event of the run.
-///
-/// # Errors
-/// Where there is no room for it, or no more copies can be counted.
-fn prepared_answer(alloc: Global, run: &Run, prepared: &Prepared) -> Result<Answered, AllocError>
-    ensures response { IfOk result (λ made. made.response ≡ run_response prepared.now.reply) }
-    ensures places { IfOk result (λ made. made.places ≡ places_for run.now prepared.now) }
-{
-    let places = places_for(alloc, run, prepared)?;
-    let response = run_response(alloc, &prepared.reply)?;
-    Ok(Answered { response, places })
-}
-
-/// The answer to an event of the run.
-///
-/// # Errors
-/// Where there is no room for the reply's copy or for the waivers' places, or no more copies can be counted.
-fn of_run(alloc: Global, run: &Run, prepared: Prepared) -> Result<Answer, AllocError>
-    ensures { (state : State) (outcome : RunOutcome) → state.run ≡ run.now → IsPrepared prepared state.run outcome → IfOk result (λ answer. Gives state (of_run state outcome) answer.response answer.next) }
-{
-    match prepared_answer(alloc, run, &prepared) {
-        Ok(made) => Ok(Answer {
-            response: made.response,
-            next: moved(prepared, made.places),
-        }),
-        Err(error) => Err(error),
-    }
 }
 
 /// The answer to an event. A request takes the policy's size at most, and its own: a submission its library's size and the

@@ -3,7 +3,7 @@ ghost use Rattle.std.specs.Prelude.{◌≡◌, ◌≢◌, ◌≤◌, ◌∷◌, 
 ghost use Rattle.mpw_geom.specs.Names.{contains_name};
 ghost use Rattle.mpw_rbac.specs.Policy.{authorized, is_user, permits, session_of};
 ghost use Rattle.mpw_rbac.specs.Rows.{is_login, user_of};
-ghost use Rattle.mpw_rbac.specs.Existing.{IsKept};
+ghost use Rattle.mpw_rbac.specs.Existing.{AreTablesSound};
 ghost use Rattle.mpw_rbac.specs.Laws.{IsLeastDynamic, IsLeastStatic};
 ghost use Rattle.mpw_rbac.specs.Sound.{active_authorized, Sound};
 ghost use Rattle.mpw_rbac.specs.declared.permission.Object.TheVariants.{Desk};
@@ -146,7 +146,8 @@ pub fn lines_are_of_readable_cells()
 /// activation names the role that was asked for, and the session's user is not authorized for it.
 pub fn denials_name_what_the_session_lacks()
     ensures permission { (state : State) (conn : ℕ) (request : AnyRequest) (kept : Bool) (operation : Operation) (object : Object) → response_of state (event.Ask conn request) kept ≡ response.Told (Reply.Denied (denial.Permission operation object)) → permits state.policy conn operation object ≡ false }
-    ensures activation { (state : State) (conn : ℕ) (role other : List ℕ) (kept : Bool) → response_of state (event.Ask conn (ask.Policy (Request.Activate role))) kept ≡ response.Told (Reply.Denied (denial.Activation other)) → (other ≡ role) × (contains_name (authorized state.policy (user_of state.policy conn)) role ≡ false) }
+    ensures activation { (state : State) (conn : ℕ) (role other : List ℕ) (kept : Bool) → response_of state (event.Ask conn (ask.Policy (Request.Activate role))) kept ≡ response.Told (Reply.Denied (denial.Activation other)) →
+        (other ≡ role) × (contains_name (authorized state.policy (user_of state.policy conn)) role ≡ false) }
 {
     denials_of_layouts_name_what_is_lacked();
     denials_over_the_wafer_name_what_is_lacked();
@@ -158,7 +159,7 @@ pub fn denials_name_what_the_session_lacks()
 /// In every state that calls lead to, the policy's tables name users and roles that are there, and hold no more than their
 /// limits.
 pub fn every_state_keeps_its_tables()
-    ensures { (officer digest : List ℕ) (calls : List Call) → IsKept (state_after (new_state officer digest) calls).policy }
+    ensures { (officer digest : List ℕ) (calls : List Call) → AreTablesSound (state_after (new_state officer digest) calls).policy }
 {
     each_request_keeps_the_tables();
 }
@@ -226,8 +227,10 @@ pub fn every_state_has_a_place_for_each_marker()
 /// A waiver that is asked for or signed is of a marker that is shown in full to the session, and who signs neither asked for it
 /// nor submitted what the marker meets.
 pub fn waivers_are_signed_apart()
-    ensures asked { (state : State) (conn : ℕ) (name : MarkerName) (kept : Bool) (lines : List Listed) → response_of state (event.Ask conn (ask.SignOff (sign.Waive name))) kept ≡ response.Told (Reply.Ok lines) → IsAsked state.policy state.run state.waivers conn name (after state (event.Ask conn (ask.SignOff (sign.Waive name))) kept).waivers }
-    ensures signed { (state : State) (conn : ℕ) (name : MarkerName) (kept : Bool) (lines : List Listed) → response_of state (event.Ask conn (ask.SignOff (sign.Sign name))) kept ≡ response.Told (Reply.Ok lines) → IsSigned state.policy state.run state.waivers conn name (after state (event.Ask conn (ask.SignOff (sign.Sign name))) kept).waivers }
+    ensures asked { (state : State) (conn : ℕ) (name : MarkerName) (kept : Bool) (lines : List Listed) → response_of state (event.Ask conn (ask.SignOff (sign.Waive name))) kept ≡ response.Told (Reply.Ok lines) →
+        IsAsked state.policy state.run state.waivers conn name (after state (event.Ask conn (ask.SignOff (sign.Waive name))) kept).waivers }
+    ensures signed { (state : State) (conn : ℕ) (name : MarkerName) (kept : Bool) (lines : List Listed) → response_of state (event.Ask conn (ask.SignOff (sign.Sign name))) kept ≡ response.Told (Reply.Ok lines) →
+        IsSigned state.policy state.run state.waivers conn name (after state (event.Ask conn (ask.SignOff (sign.Sign name))) kept).waivers }
 {
     signers_stand_apart();
     waivers_are_of_shown_markers();
@@ -236,7 +239,8 @@ pub fn waivers_are_signed_apart()
 /// A user who is denied to sign as a submitter submitted what the marker meets, of the cell that is told and of none lesser; one
 /// who is denied as the asker asked for the waiver.
 pub fn denials_to_sign_are_true()
-    ensures submitter { (state : State) (conn : ℕ) (request : AnySignOffRequest) (kept : Bool) (cell : List ℕ) → response_of state (event.Ask conn (ask.SignOff request)) kept ≡ response.Told (Reply.Denied (denial.Submitter cell)) → (name : MarkerName) × (request ≡ sign.Sign name) × IsSubmitter state.policy state.run conn name cell }
+    ensures submitter { (state : State) (conn : ℕ) (request : AnySignOffRequest) (kept : Bool) (cell : List ℕ) → response_of state (event.Ask conn (ask.SignOff request)) kept ≡ response.Told (Reply.Denied (denial.Submitter cell)) →
+        (name : MarkerName) × (request ≡ sign.Sign name) × IsSubmitter state.policy state.run conn name cell }
     ensures asker { (state : State) (conn : ℕ) (request : AnySignOffRequest) (kept : Bool) → response_of state (event.Ask conn (ask.SignOff request)) kept ≡ response.Told (Reply.Denied denial.Asker) → (name : MarkerName) × (request ≡ sign.Sign name) × IsAsker state.policy state.run state.waivers conn name }
 {
     denials_of_separation_are_true();

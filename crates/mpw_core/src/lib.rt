@@ -14,6 +14,7 @@ mod laws;
 mod noting;
 mod policy;
 mod ready;
+mod run_answer;
 mod settling;
 mod shared;
 mod tables;

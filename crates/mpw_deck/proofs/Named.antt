@@ -29,15 +29,18 @@ Tells P (Err kind) = kind ≢ kinds.Memory
 abbrev Anything : {A : Type 0} → A → Type 0
 Anything x = Unit {0}
 
-bind_tells : {A B : Type 0} (Q : A → Type 0) (P : B → Type 0) (r : Result A DeckKind) (f : A → Result B DeckKind) → Tells Q r → ((x : A) → Q x → Tells P (f x)) → Tells P (r >>= f)
+bind_tells : {A B : Type 0} (Q : A → Type 0) (P : B → Type 0) (r : Result A DeckKind)
+    (f : A → Result B DeckKind) → Tells Q r → ((x : A) → Q x → Tells P (f x)) → Tells P (r >>= f)
 bind_tells Q P (Ok x) f q h = h x q
 bind_tells Q P (Err kind) f q h = q
 
-if_tells : {A : Type 0} (P : A → Type 0) (t : Bool) (kind : DeckKind) (r : Result A DeckKind) → kind ≢ kinds.Memory → (t ≡ false → Tells P r) → Tells P (if t then Err kind else r)
+if_tells : {A : Type 0} (P : A → Type 0) (t : Bool) (kind : DeckKind) (r : Result A DeckKind)
+    → kind ≢ kinds.Memory → (t ≡ false → Tells P r) → Tells P (if t then Err kind else r)
 if_tells P true kind r other h = other
 if_tells P false kind r other h = h refl
 
-or_tells : {A : Type 0} (o : Option A) (kind : DeckKind) → kind ≢ kinds.Memory → Tells Anything (ok_or o kind)
+or_tells : {A : Type 0} (o : Option A) (kind : DeckKind) → kind ≢ kinds.Memory
+    → Tells Anything (ok_or o kind)
 or_tells (Some x) kind other = tt
 or_tells None kind other = other
 
@@ -50,7 +53,9 @@ name_tells : (word : List ℕ) → Tells (λ name. is_rule_name name ≡ true) (
 unfolding rule_name
 name_tells word = go (is_rule_name word) refl
   where
-    go : (t : Bool) → is_rule_name word ≡ t → Tells (λ (name : List ℕ). is_rule_name name ≡ true) (if t then Ok word else Err kinds.Word)
+    go : (t : Bool) → is_rule_name word ≡ t
+        → Tells (λ (name : List ℕ). is_rule_name name ≡ true)
+        (if t then Ok word else Err kinds.Word)
     go true is = is
     go false is = λ e. cc
 
@@ -62,14 +67,16 @@ distance_tells : (word : List ℕ) → Tells Anything (distance_of word)
 unfolding distance_of
 distance_tells word = or_tells (number_of 1 65535 word) kinds.Number (λ e. cc)
 
-one_tells : (check : Layer → Check) (name layer distance : List ℕ) → Tells IsNamed (one_layer check name layer distance)
+one_tells : (check : Layer → Check) (name layer distance : List ℕ)
+    → Tells IsNamed (one_layer check name layer distance)
 unfolding one_layer
 one_tells check name layer distance =
     bind_tells (λ n. is_rule_name n ≡ true) IsNamed (rule_name name) _ (name_tells name) (λ n is.
     bind_tells Anything IsNamed (layer_of layer) _ (layer_tells layer) (λ l _.
     bind_tells Anything IsNamed (distance_of distance) _ (distance_tells distance) (λ d _. is)))
 
-two_tells : (check : Layer → Layer → Check) (name first second distance : List ℕ) → Tells IsNamed (two_layers check name first second distance)
+two_tells : (check : Layer → Layer → Check) (name first second distance : List ℕ)
+    → Tells IsNamed (two_layers check name first second distance)
 unfolding two_layers
 two_tells check name first second distance =
     bind_tells (λ n. is_rule_name n ≡ true) IsNamed (rule_name name) _ (name_tells name) (λ n is.
@@ -85,9 +92,13 @@ words_tell (a ∷ []) = λ e. cc
 words_tell (a ∷ b ∷ []) = λ e. cc
 words_tell (a ∷ b ∷ c ∷ []) = λ e. cc
 words_tell (key ∷ name ∷ layer ∷ distance ∷ []) =
-    bind_tells Anything IsNamed (ok_or (one_layer_key key) kinds.Word) _ (or_tells (one_layer_key key) kinds.Word (λ e. cc)) (λ k _. one_tells (one_check k) name layer distance)
+    bind_tells Anything IsNamed (ok_or (one_layer_key key) kinds.Word) _
+    (or_tells (one_layer_key key) kinds.Word (λ e. cc))
+    (λ k _. one_tells (one_check k) name layer distance)
 words_tell (key ∷ name ∷ first ∷ second ∷ distance ∷ []) =
-    bind_tells Anything IsNamed (ok_or (two_layer_key key) kinds.Word) _ (or_tells (two_layer_key key) kinds.Word (λ e. cc)) (λ k _. two_tells (two_check k) name first second distance)
+    bind_tells Anything IsNamed (ok_or (two_layer_key key) kinds.Word) _
+    (or_tells (two_layer_key key) kinds.Word (λ e. cc))
+    (λ k _. two_tells (two_check k) name first second distance)
 words_tell (a ∷ b ∷ c ∷ d ∷ e ∷ f ∷ words) = λ e. cc
 
 -- ---- a line behind others
@@ -100,9 +111,11 @@ line_tells : (rules : List Rule) (line : List ℕ) → Tells (IsNew rules) (next
 unfolding next_rule
 line_tells rules line =
     if_tells (IsNew rules) (is_tile_line (words_of line)) kinds.Tile _ (λ e. cc) (λ _.
-    bind_tells IsNamed (IsNew rules) (rule_of (words_of line)) _ (words_tell (words_of line)) (λ rule named.
+    bind_tells IsNamed (IsNew rules) (rule_of (words_of line)) _ (words_tell (words_of line))
+    (λ rule named.
     if_tells (IsNew rules) (has_rule rules rule.name) kinds.DoubleRule _ (λ e. cc) (λ new.
-    if_tells (IsNew rules) (nat_le 256 (length rules)) kinds.Rules _ (λ e. cc) (λ _. record { named = named; new = new }))))
+    if_tells (IsNew rules) (nat_le 256 (length rules)) kinds.Rules _ (λ e. cc)
+    (λ _. record { named = named; new = new }))))
 
 and_right : (a b : Bool) → (a && b) ≡ true → b ≡ true
 and_right true b e = e
@@ -113,16 +126,21 @@ is_plain b = (nat_le 0x21 b && nat_le b 0x7E) && not (b == 58)
 
 plain_name : (word : List ℕ) → is_rule_name word ≡ true → Contains word 58 → ⊥
 plain_name word named has =
-    true≢false (sym (All-contains (λ b. is_plain b ≡ true) word 58 (AllPass-from_list_all is_plain word (and_right _ _ named)) has))
+    true≢false (sym (All-contains (λ b. is_plain b ≡ true) word 58
+    (AllPass-from_list_all is_plain word (and_right _ _ named)) has))
 
-other_name : (rules : List Rule) (name : List ℕ) (k : ℕ) (d : Rule) → has_rule rules name ≡ false → k < length rules → (get_or rules k d).name ≢ name
+other_name : (rules : List Rule) (name : List ℕ) (k : ℕ) (d : Rule) → has_rule rules name ≡ false
+    → k < length rules → (get_or rules k d).name ≢ name
 other_name rules name k d new within = λ same.
-    let found : has_rule rules name ≡ true = list_any_at (λ r. name_eq r.name name) rules k d within ((bytes_decides (get_or rules k d).name name).1 same) in
+    let found : has_rule rules name ≡ true = list_any_at (λ r. name_eq r.name name) rules k d within
+    ((bytes_decides (get_or rules k d).name name).1 same) in
     cc
 
-one_more : (rules : List Rule) (rule : Rule) → AreNamed rules → IsNew rules rule → AreNamed (rules ++ rule ∷ [])
+one_more : (rules : List Rule) (rule : Rule) → AreNamed rules → IsNew rules rule
+    → AreNamed (rules ++ rule ∷ [])
 one_more rules rule named is = record {
-  apart = all_pairs_push DifferByName rules rule named.apart (λ k d within. other_name rules rule.name k d is.new within);
+  apart = all_pairs_push DifferByName rules rule named.apart
+      (λ k d within. other_name rules rule.name k d is.new within);
   plain = All-push HasPlainName rules rule named.plain (plain_name rule.name is.named);
 }
 
@@ -132,12 +150,20 @@ abbrev pub TellsLine : {A : Type 0} → (A → Type 0) → Result A DeckFault �
 TellsLine P (Ok x) = P x
 TellsLine P (Err fault) = fault.kind ≢ kinds.Memory
 
-rules_tell : (n : ℕ) (rules : List Rule) (lines : List (List ℕ)) → AreNamed rules → TellsLine AreNamed (rules_of n rules lines)
+rules_tell : (n : ℕ) (rules : List Rule) (lines : List (List ℕ)) → AreNamed rules
+    → TellsLine AreNamed (rules_of n rules lines)
 rules_tell n rules [] named = named
 rules_tell n rules (line ∷ lines) named =
-    go (next_rule rules line) (line_tells rules line) (λ rule more. rules_tell (n + 1) (rules ++ rule ∷ []) lines more)
+    go (next_rule rules line) (line_tells rules line)
+    (λ rule more. rules_tell (n + 1) (rules ++ rule ∷ []) lines more)
   where
-    go : (told : Result Rule DeckKind) → Tells (IsNew rules) told → ((rule : Rule) → AreNamed (rules ++ rule ∷ []) → TellsLine AreNamed (rules_of (n + 1) (rules ++ rule ∷ []) lines)) → TellsLine AreNamed (elim told [ Ok rule ↦ rules_of (n + 1) (rules ++ rule ∷ []) lines | Err kind ↦ Err (record { kind = kind; line = n }) ])
+    go : (told : Result Rule DeckKind) → Tells (IsNew rules) told
+        → ((rule : Rule) → AreNamed (rules ++ rule ∷ [])
+        → TellsLine AreNamed (rules_of (n + 1) (rules ++ rule ∷ []) lines))
+        → TellsLine AreNamed (elim told [
+          | Ok rule ↦ rules_of (n + 1) (rules ++ rule ∷ []) lines
+          | Err kind ↦ Err (record { kind = kind; line = n })
+        ])
     go (Ok rule) is rest = rest rule (one_more rules rule named is)
     go (Err kind) is rest = is
 
@@ -151,12 +177,14 @@ tile_tells (key ∷ []) = first_alone (is_tile_line (key ∷ []))
     first_alone false = λ e. cc
 tile_tells (key ∷ side ∷ []) = first_and_side (name_eq key _) (number_of 256 _ side)
   where
-    first_and_side : (t : Bool) (n : Option ℕ) → Tells {A = ℕ} Anything (if t then ok_or n kinds.Number else Err kinds.Tile)
+    first_and_side : (t : Bool) (n : Option ℕ)
+        → Tells {A = ℕ} Anything (if t then ok_or n kinds.Number else Err kinds.Tile)
     first_and_side true n = or_tells n kinds.Number (λ e. cc)
     first_and_side false n = λ e. cc
 tile_tells (key ∷ side ∷ word ∷ words) = first_of_many (is_tile_line (key ∷ side ∷ word ∷ words))
   where
-    first_of_many : (t : Bool) → Tells {A = ℕ} Anything (if t then Err kinds.Word else Err kinds.Tile)
+    first_of_many : (t : Bool) → Tells {A = ℕ} Anything
+        (if t then Err kinds.Word else Err kinds.Tile)
     first_of_many true = λ e. cc
     first_of_many false = λ e. cc
 
@@ -166,12 +194,16 @@ none_named = record {
   plain = search common;
 }
 
-deck_tells : (lines : List (List ℕ)) → TellsLine (λ (deck : Deck). AreNamed deck.rules) (deck_of_lines lines)
+deck_tells : (lines : List (List ℕ))
+    → TellsLine (λ (deck : Deck). AreNamed deck.rules) (deck_of_lines lines)
 unfolding deck_of_lines
 deck_tells [] = λ e. cc
-deck_tells (first ∷ lines) = go (tile_of (words_of first)) (tile_tells (words_of first)) (rules_of 2 [] lines) (rules_tell 2 [] lines none_named)
+deck_tells (first ∷ lines) = go (tile_of (words_of first)) (tile_tells (words_of first))
+    (rules_of 2 [] lines) (rules_tell 2 [] lines none_named)
   where
-    go : (side : Result ℕ DeckKind) → Tells Anything side → (rules : Result (List Rule) DeckFault) → TellsLine AreNamed rules → TellsLine (λ (deck : Deck). AreNamed deck.rules) (at_line 1 side >>= (λ s. rules >>= (λ r. Ok (record { tile = s; rules = r }))))
+    go : (side : Result ℕ DeckKind) → Tells Anything side → (rules : Result (List Rule) DeckFault)
+        → TellsLine AreNamed rules → TellsLine (λ (deck : Deck). AreNamed deck.rules)
+        (at_line 1 side >>= (λ s. rules >>= (λ r. Ok (record { tile = s; rules = r }))))
     go (Ok side) is (Ok rules) named = named
     go (Ok side) is (Err fault) other = other
     go (Err kind) other rules named = other
@@ -179,7 +211,10 @@ deck_tells (first ∷ lines) = go (tile_of (words_of first)) (tile_tells (words_
 -- ---- the laws
 
 pub text_named : (text : List ℕ) (deck : Deck) → deck_of text ≡ Ok deck → AreNamed deck.rules
-text_named text deck read = subst (TellsLine (λ (d : Deck). AreNamed d.rules)) read (deck_tells (lines_of text))
+text_named text deck read =
+    subst (TellsLine (λ (d : Deck). AreNamed d.rules)) read (deck_tells (lines_of text))
 
-pub text_faulty : (text : List ℕ) (fault : DeckFault) → deck_of text ≡ Err fault → fault.kind ≢ kinds.Memory
-text_faulty text fault read = subst (TellsLine (λ (d : Deck). AreNamed d.rules)) read (deck_tells (lines_of text))
+pub text_faulty : (text : List ℕ) (fault : DeckFault) → deck_of text ≡ Err fault
+    → fault.kind ≢ kinds.Memory
+text_faulty text fault read =
+    subst (TellsLine (λ (d : Deck). AreNamed d.rules)) read (deck_tells (lines_of text))

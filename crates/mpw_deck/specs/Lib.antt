@@ -1,5 +1,5 @@
 pub mod Decks
 pub mod Named
 pub mod Reading
-pub mod Reads
 pub mod Text
+pub mod Internal

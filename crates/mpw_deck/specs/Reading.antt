@@ -24,7 +24,8 @@ abbrev pub ◌>>=◌ : {A B E : Type 0} → Result A E → (A → Result B E) �
 
 -- a rule's name: 1 to 255 visible bytes, none a colon
 abbrev pub is_rule_name : List ℕ → Bool
-is_rule_name word = (nat_le 1 (length word) && nat_le (length word) 255) && list_all (λ b. (nat_le 0x21 b && nat_le b 0x7E) && not (b == 58)) word
+is_rule_name word = (nat_le 1 (length word) && nat_le (length word) 255)
+    && list_all (λ b. (nat_le 0x21 b && nat_le b 0x7E) && not (b == 58)) word
 
 unfoldable pub rule_name : List ℕ → Result (List ℕ) DeckKind
 rule_name word = if is_rule_name word then Ok word else Err kinds.Word
@@ -58,17 +59,20 @@ abbrev pub same_layer : Layer → Layer → Bool
 same_layer a b = (a.layer == b.layer) && (a.datatype == b.datatype)
 
 -- a rule of two layers, which differ
-unfoldable pub two_layers : (Layer → Layer → Check) → List ℕ → List ℕ → List ℕ → List ℕ → Result Rule DeckKind
+unfoldable pub two_layers : (Layer → Layer → Check) → List ℕ → List ℕ → List ℕ → List ℕ
+    → Result Rule DeckKind
 two_layers check name first second distance = do
   n ← rule_name name
   a ← layer_of first
   b ← layer_of second
   d ← distance_of distance
-  if same_layer a b then Err kinds.SameLayer else Ok (record { name = n; check = check a b; distance = d })
+  if same_layer a b then Err kinds.SameLayer
+      else Ok (record { name = n; check = check a b; distance = d })
 
 -- the key of a rule of one layer
 abbrev pub one_layer_key : List ℕ → Option OneLayer
-one_layer_key word = if name_eq word (codes "width") then Some one.Width else (if name_eq word (codes "space") then Some one.Space else None)
+one_layer_key word = if name_eq word (codes "width") then Some one.Width
+    else (if name_eq word (codes "space") then Some one.Space else None)
 
 abbrev pub one_check : OneLayer → Layer → Check
 one_check one.Width = checks.Width
@@ -76,7 +80,8 @@ one_check one.Space = checks.Space
 
 -- the key of a rule of two layers
 abbrev pub two_layer_key : List ℕ → Option TwoLayers
-two_layer_key word = if name_eq word (codes "separation") then Some two.Separation else (if name_eq word (codes "enclosing") then Some two.Enclosing else None)
+two_layer_key word = if name_eq word (codes "separation") then Some two.Separation
+    else (if name_eq word (codes "enclosing") then Some two.Enclosing else None)
 
 abbrev pub two_check : TwoLayers → Layer → Layer → Check
 two_check two.Separation = checks.Separation
@@ -105,17 +110,23 @@ has_rule rules name = list_any (λ r. name_eq r.name name) rules
 unfoldable pub next_rule : List Rule → List ℕ → Result Rule DeckKind
 next_rule rules line = if is_tile_line (words_of line) then Err kinds.Tile else (do
   rule ← rule_of (words_of line)
-  if has_rule rules rule.name then Err kinds.DoubleRule else (if nat_le 256 (length rules) then Err kinds.Rules else Ok rule))
+  if has_rule rules rule.name then Err kinds.DoubleRule
+      else (if nat_le 256 (length rules) then Err kinds.Rules else Ok rule))
 
 -- the lines from the n-th on, behind these rules: all rules, or the first faulty line
 abbrev pub rules_of : ℕ → List Rule → List (List ℕ) → Result (List Rule) DeckFault
 rules_of n rules [] = Ok rules
 rules_of n rules (line ∷ lines) =
-    elim (next_rule rules line) [ Ok rule ↦ rules_of (n + 1) (rules ++ rule ∷ []) lines | Err kind ↦ Err (record { kind = kind; line = n }) ]
+    elim (next_rule rules line) [
+      | Ok rule ↦ rules_of (n + 1) (rules ++ rule ∷ []) lines
+      | Err kind
+          ↦ Err (record { kind = kind; line = n })
+    ]
 
 -- the tile line: the side, 256 to 2^30 nm
 unfoldable pub tile_of : List (List ℕ) → Result ℕ DeckKind
-tile_of (key ∷ side ∷ []) = if name_eq key (codes "tile") then ok_or (number_of 256 (2 ^ 30) side) kinds.Number else Err kinds.Tile
+tile_of (key ∷ side ∷ []) = if name_eq key (codes "tile")
+    then ok_or (number_of 256 (2 ^ 30) side) kinds.Number else Err kinds.Tile
 tile_of words = if is_tile_line words then Err kinds.Word else Err kinds.Tile
 
 -- a fault at the n-th line

@@ -3,7 +3,7 @@
 ghost use Rattle.std.specs.Prelude.{◌≡◌, ◌≤◌, IfOk, ◌==◌, ◌&&◌, not, nat_le, map};
 ghost use Rattle.std.specs.List.{list_all};
 ghost use Rattle.mpw_deck.specs.Reading.{is_rule_name, layer_from, layer_of, rule_name, distance_of};
-ghost use Rattle.mpw_deck.specs.Reads.{Reads};
+ghost use Rattle.mpw_deck.specs.Internal.Reads.{Reads};
 
 use crate::deck::DeckKind;
 use mpw_geom::{Layer, Name, NameFault};

@@ -15,7 +15,7 @@ ghost use Rattle.mpw_deck.specs.Reading.{
   tile_of,
   next_rule,
 };
-ghost use Rattle.mpw_deck.specs.Reads.{Reads};
+ghost use Rattle.mpw_deck.specs.Internal.Reads.{Reads};
 
 use crate::deck::{DeckKind, MAX_RULES};
 use crate::fields::{distance, layer, rule_name};

@@ -1,6 +1,7 @@
 pub mod Tests
 pub mod Region
 pub mod Found
+pub mod Bounding
 pub mod Pairing
 pub mod Maximal
 pub mod Window

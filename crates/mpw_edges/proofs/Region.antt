@@ -13,7 +13,7 @@ use Rattle.mpw_region.specs.Banded.{StandsInBands, AreBands}
 use Rattle.mpw_region.proofs.Held.{held_map, map_held, one_or_before}
 use Rattle.mpw_edges.specs.declared.pair.Edge.{Edge}
 use Rattle.mpw_edges.specs.Edges.{IsRise, IsFall}
-use Rattle.mpw_edges.specs.Pairs.{IsInRow, rise_of, fall_of}
+use Rattle.mpw_edges.specs.Internal.Pairs.{IsInRow, rise_of, fall_of}
 
 -- ---- the boxes of a region
 
@@ -30,24 +30,31 @@ in_columns b i j l r u = record { left = l; right = r; bottom = u.0; top = u.1 }
 row_of : (b : Box2) (i j : ℤ) → SquareIn b (square i j) → HasRow b j
 row_of b i j h = (h.bottom, h.top)
 
-pub covered : (boxes : List Box2) (b : Box2) (i j : ℤ) → Contains boxes b → b.x0 ≤ℤ i → i <ℤ b.x1 → HasRow b j → covers boxes i j ≡ true
-covered boxes b i j p l r u = (Decides-any_has_square boxes (square i j)).1 (b, p, in_columns b i j l r u)
+pub covered : (boxes : List Box2) (b : Box2) (i j : ℤ) → Contains boxes b → b.x0 ≤ℤ i → i <ℤ b.x1
+    → HasRow b j → covers boxes i j ≡ true
+covered boxes b i j p l r u =
+    (Decides-any_has_square boxes (square i j)).1 (b, p, in_columns b i j l r u)
 
-uncovered : (boxes : List Box2) (i j : ℤ) → (SquareInSome boxes (square i j) → ⊥) → covers boxes i j ≡ false
-uncovered boxes i j n = false_from_ne_true (covers boxes i j) (λ h. n ((Decides-any_has_square boxes (square i j)).0 h))
+uncovered : (boxes : List Box2) (i j : ℤ) → (SquareInSome boxes (square i j) → ⊥)
+    → covers boxes i j ≡ false
+uncovered boxes i j n =
+    false_from_ne_true (covers boxes i j) (λ h. n ((Decides-any_has_square boxes (square i j)).0 h))
 
 holds : (boxes : List Box2) (i j : ℤ) → covers boxes i j ≡ true → SquareInSome boxes (square i j)
 holds boxes i j e = (Decides-any_has_square boxes (square i j)).0 e
 
-lacks : (boxes : List Box2) (b : Box2) (i j : ℤ) → covers boxes i j ≡ false → Contains boxes b → b.x0 ≤ℤ i → i <ℤ b.x1 → HasRow b j → ⊥
-lacks boxes b i j e p l r u = not_from_Decides (covers boxes i j) (Decides-any_has_square boxes (square i j)) e (b, p, in_columns b i j l r u)
+lacks : (boxes : List Box2) (b : Box2) (i j : ℤ) → covers boxes i j ≡ false → Contains boxes b
+    → b.x0 ≤ℤ i → i <ℤ b.x1 → HasRow b j → ⊥
+lacks boxes b i j e p l r u = not_from_Decides (covers boxes i j)
+    (Decides-any_has_square boxes (square i j)) e (b, p, in_columns b i j l r u)
 
 left_of : (b c : Box2) (j : ℤ) → StandsInBands b c → HasRow b j → HasRow c j → b.x1 <ℤ c.x0
 left_of b c j (inl below) p q = absurd (omega (arith, ints, below, p.1, q.0))
 left_of b c j (inr beside) p q = beside.2
 
 -- two boxes of one row are one, or apart
-alike : (boxes : List Box2) (b c : Box2) (j : ℤ) → AreBands boxes → Contains boxes b → Contains boxes c → HasRow b j → HasRow c j → (b ≡ c) ⊎ ((b.x1 <ℤ c.x0) ⊎ (c.x1 <ℤ b.x0))
+alike : (boxes : List Box2) (b c : Box2) (j : ℤ) → AreBands boxes → Contains boxes b
+    → Contains boxes c → HasRow b j → HasRow c j → (b ≡ c) ⊎ ((b.x1 <ℤ c.x0) ⊎ (c.x1 <ℤ b.x0))
 alike boxes b c j h p q u v =
     elim (one_or_before StandsInBands boxes no_box b c h.ordered p q) [
       | inl e ↦ inl e
@@ -58,18 +65,21 @@ alike boxes b c j h p q u v =
 pub area : (boxes : List Box2) (b : Box2) → AreBands boxes → Contains boxes b → b.x0 <ℤ b.x1
 area boxes b h p = let a : HasArea b = All-contains HasArea boxes b h.filled p in a.width
 
-pub rise_of_box : (boxes : List Box2) (b : Box2) (j : ℤ) → AreBands boxes → Contains boxes b → HasRow b j → IsRise (covers boxes) b.x0 j
+pub rise_of_box : (boxes : List Box2) (b : Box2) (j : ℤ) → AreBands boxes → Contains boxes b
+    → HasRow b j → IsRise (covers boxes) b.x0 j
 rise_of_box boxes b j h p u =
     let a = area boxes b h p in (
       covered boxes b b.x0 j p (omega (arith, ints)) a u,
-      uncovered boxes (b.x0 -ℤ pos 1) j (λ s. elim (alike boxes b s.0 j h p s.1 u (row_of s.0 (b.x0 -ℤ pos 1) j s.2)) [
-        | inl e ↦ omega (arith, ints, ap (λ (x : Box2). x.x0) e, s.2.left)
-        | inr (inl l) ↦ omega (arith, ints, l, a, s.2.left)
-        | inr (inr r) ↦ omega (arith, ints, r, s.2.right)
-      ]),
+      uncovered boxes (b.x0 -ℤ pos 1) j
+          (λ s. elim (alike boxes b s.0 j h p s.1 u (row_of s.0 (b.x0 -ℤ pos 1) j s.2)) [
+            | inl e ↦ omega (arith, ints, ap (λ (x : Box2). x.x0) e, s.2.left)
+            | inr (inl l) ↦ omega (arith, ints, l, a, s.2.left)
+            | inr (inr r) ↦ omega (arith, ints, r, s.2.right)
+          ]),
     )
 
-pub fall_of_box : (boxes : List Box2) (b : Box2) (j : ℤ) → AreBands boxes → Contains boxes b → HasRow b j → IsFall (covers boxes) b.x1 j
+pub fall_of_box : (boxes : List Box2) (b : Box2) (j : ℤ) → AreBands boxes → Contains boxes b
+    → HasRow b j → IsFall (covers boxes) b.x1 j
 fall_of_box boxes b j h p u =
     let a = area boxes b h p in (
       covered boxes b (b.x1 -ℤ pos 1) j p (omega (arith, ints, a)) (omega (arith, ints)) u,
@@ -80,15 +90,18 @@ fall_of_box boxes b j h p u =
       ]),
     )
 
-box_of_rise : (boxes : List Box2) (x j : ℤ) → IsRise (covers boxes) x j → (b : Box2) × Contains boxes b × (b.x0 ≡ x) × HasRow b j
+box_of_rise : (boxes : List Box2) (x j : ℤ) → IsRise (covers boxes) x j
+    → (b : Box2) × Contains boxes b × (b.x0 ≡ x) × HasRow b j
 box_of_rise boxes x j r =
     let s = holds boxes x j r.0 in
     let u = row_of s.0 x j s.2 in
     by_lt_z s.0.x0 x
-    (λ less. absurd (lacks boxes s.0 (x -ℤ pos 1) j r.1 s.1 (omega (arith, ints, less)) (omega (arith, ints, s.2.right)) u))
+    (λ less. absurd (lacks boxes s.0 (x -ℤ pos 1) j r.1 s.1 (omega (arith, ints, less))
+    (omega (arith, ints, s.2.right)) u))
     (λ more. (s.0, s.1, omega (arith, ints, more, s.2.left), u))
 
-box_of_fall : (boxes : List Box2) (x j : ℤ) → IsFall (covers boxes) x j → (b : Box2) × Contains boxes b × (b.x1 ≡ x) × HasRow b j
+box_of_fall : (boxes : List Box2) (x j : ℤ) → IsFall (covers boxes) x j
+    → (b : Box2) × Contains boxes b × (b.x1 ≡ x) × HasRow b j
 box_of_fall boxes x j r =
     let s = holds boxes (x -ℤ pos 1) j r.0 in
     let u = row_of s.0 (x -ℤ pos 1) j s.2 in
@@ -97,7 +110,10 @@ box_of_fall boxes x j r =
     (λ more. (s.0, s.1, omega (arith, ints, more, s.2.right), u))
 
 -- the box between a rise and a fall with all between covered
-pub box_of_width : (boxes : List Box2) (x1 x2 j : ℤ) → AreBands boxes → IsRise (covers boxes) x1 j → IsFall (covers boxes) x2 j → x1 <ℤ x2 → ((i : ℤ) → x1 ≤ℤ i → i <ℤ x2 → covers boxes i j ≡ true) → (b : Box2) × Contains boxes b × (b.x0 ≡ x1) × (b.x1 ≡ x2) × HasRow b j
+pub box_of_width : (boxes : List Box2) (x1 x2 j : ℤ) → AreBands boxes → IsRise (covers boxes) x1 j
+    → IsFall (covers boxes) x2 j → x1 <ℤ x2
+    → ((i : ℤ) → x1 ≤ℤ i → i <ℤ x2 → covers boxes i j ≡ true) → (b : Box2) × Contains boxes b
+    × (b.x0 ≡ x1) × (b.x1 ≡ x2) × HasRow b j
 box_of_width boxes x1 x2 j h r f l between =
     let b = box_of_rise boxes x1 j r in
     let a = area boxes b.0 h b.1 in
@@ -124,14 +140,28 @@ pub record EdgesAre (edges : List Edge) (E : ℤ → ℤ → Type 0) : Type 0 wh
   pub there : (e : Edge) (j : ℤ) → Contains edges e → IsInRow e j → E e.x j
   pub back : (x j : ℤ) → E x j → (e : Edge) × Contains edges e × ((e.x ≡ x) × IsInRow e j)
 
-pub rises_are : (boxes : List Box2) → AreBands boxes → EdgesAre (map rise_of boxes) (IsRise (covers boxes))
+pub rises_are : (boxes : List Box2) → AreBands boxes
+    → EdgesAre (map rise_of boxes) (IsRise (covers boxes))
 rises_are boxes h = record {
-  there = λ e j c r. let m = held_map rise_of boxes no_box (λ x. x ≡ e) (e, c, refl) in subst (λ (x : ℤ). IsRise (covers boxes) x j) (ap (λ (x : Edge). x.x) m.2) (rise_of_box boxes m.0 j h m.1 (omega (arith, ints, ap (λ (x : Edge). x.y0) m.2, r.0), omega (arith, ints, ap (λ (x : Edge). x.y1) m.2, r.1)));
-  back = λ x j r. let b = box_of_rise boxes x j r in map_held rise_of boxes (λ e. (e.x ≡ x) × IsInRow e j) b.0 b.1 (b.2, b.3);
+  there = λ e j c r. let m = held_map rise_of boxes no_box (λ x. x ≡ e) (e, c, refl) in
+      subst (λ (x : ℤ). IsRise (covers boxes) x j) (ap (λ (x : Edge). x.x) m.2)
+      (rise_of_box boxes m.0 j h m.1 (
+        omega (arith, ints, ap (λ (x : Edge). x.y0) m.2, r.0),
+        omega (arith, ints, ap (λ (x : Edge). x.y1) m.2, r.1),
+      ));
+  back = λ x j r. let b = box_of_rise boxes x j r in
+      map_held rise_of boxes (λ e. (e.x ≡ x) × IsInRow e j) b.0 b.1 (b.2, b.3);
 }
 
-pub falls_are : (boxes : List Box2) → AreBands boxes → EdgesAre (map fall_of boxes) (IsFall (covers boxes))
+pub falls_are : (boxes : List Box2) → AreBands boxes
+    → EdgesAre (map fall_of boxes) (IsFall (covers boxes))
 falls_are boxes h = record {
-  there = λ e j c r. let m = held_map fall_of boxes no_box (λ x. x ≡ e) (e, c, refl) in subst (λ (x : ℤ). IsFall (covers boxes) x j) (ap (λ (x : Edge). x.x) m.2) (fall_of_box boxes m.0 j h m.1 (omega (arith, ints, ap (λ (x : Edge). x.y0) m.2, r.0), omega (arith, ints, ap (λ (x : Edge). x.y1) m.2, r.1)));
-  back = λ x j r. let b = box_of_fall boxes x j r in map_held fall_of boxes (λ e. (e.x ≡ x) × IsInRow e j) b.0 b.1 (b.2, b.3);
+  there = λ e j c r. let m = held_map fall_of boxes no_box (λ x. x ≡ e) (e, c, refl) in
+      subst (λ (x : ℤ). IsFall (covers boxes) x j) (ap (λ (x : Edge). x.x) m.2)
+      (fall_of_box boxes m.0 j h m.1 (
+        omega (arith, ints, ap (λ (x : Edge). x.y0) m.2, r.0),
+        omega (arith, ints, ap (λ (x : Edge). x.y1) m.2, r.1),
+      ));
+  back = λ x j r. let b = box_of_fall boxes x j r in
+      map_held fall_of boxes (λ e. (e.x ≡ x) × IsInRow e j) b.0 b.1 (b.2, b.3);
 }

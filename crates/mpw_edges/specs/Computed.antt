@@ -1,4 +1,4 @@
--- The tests that decide pair steps, so that worked examples can be computed.
+-- The tests that decide pair steps: markers of a layout are defined by them, and worked examples can be computed.
 use Rattle.std.specs.Prelude.{◌≡◌, ℕ, zero, suc, ℤ, pos, negsuc, ◌+ℤ◌, ◌-ℤ◌, int_le, int_lt, Bool, true, ◌&&◌, ◌||◌, not, ◌==◌, ◌↔◌}
 use Rattle.mpw_deck.specs.declared.rule.Check.{Check}
 use Rattle.mpw_deck.specs.declared.rule.Check.TheVariants.{Width, Space, Separation, Enclosing}
@@ -22,18 +22,25 @@ count_of (pos n) = n
 count_of (negsuc n) = 0
 
 abbrev pub has_pair : Check → Squares → Squares → ℕ → ℤ → ℤ → ℤ → Bool
-has_pair (Width _) a b side x1 x2 j = (side == 0) && (has_rise a x1 j && (has_fall a x2 j && (int_lt x1 x2 && all_covered a j x1 (count_of (x2 -ℤ x1)))))
-has_pair (Space _) a b side x1 x2 j = (side == 0) && (has_fall a x1 j && (has_rise a x2 j && int_lt x1 x2))
+has_pair (Width _) a b side x1 x2 j = (side == 0)
+    && (has_rise a x1 j && (has_fall a x2 j
+    && (int_lt x1 x2 && all_covered a j x1 (count_of (x2 -ℤ x1)))))
+has_pair (Space _) a b side x1 x2 j =
+    (side == 0) && (has_fall a x1 j && (has_rise a x2 j && int_lt x1 x2))
 has_pair (Separation _ _) a b side x1 x2 j =
-    int_le x1 x2 && (((side == 0) && (has_fall a x1 j && has_rise b x2 j)) || ((side == 1) && (has_fall b x1 j && has_rise a x2 j)))
+    int_le x1 x2 && (((side == 0) && (has_fall a x1 j && has_rise b x2 j))
+    || ((side == 1) && (has_fall b x1 j && has_rise a x2 j)))
 has_pair (Enclosing _ _) a b side x1 x2 j =
-    int_le x1 x2 && (((side == 0) && (has_rise a x1 j && has_rise b x2 j)) || ((side == 1) && (has_fall b x1 j && has_fall a x2 j)))
+    int_le x1 x2 && (((side == 0) && (has_rise a x1 j && has_rise b x2 j))
+    || ((side == 1) && (has_fall b x1 j && has_fall a x2 j)))
 
 abbrev pub has_pair_step : Check → ℕ → Squares → Squares → ℕ → ℤ → ℤ → ℤ → Bool
-has_pair_step check distance a b side x1 x2 j = has_pair check a b side x1 x2 j && int_lt (x2 -ℤ x1) (pos distance)
+has_pair_step check distance a b side x1 x2 j =
+    has_pair check a b side x1 x2 j && int_lt (x2 -ℤ x1) (pos distance)
 
 -- the test is true exactly at pair steps
 abbrev pub TestDecidesPairSteps : Type 0
 TestDecidesPairSteps =
     (check : Check) (distance : ℕ) (a b : Squares) (side : ℕ) (x1 x2 j : ℤ)
-    → (has_pair_step check distance a b side x1 x2 j ≡ true) ↔ IsPairStep check distance a b side x1 x2 j
+    → (has_pair_step check distance a b side x1 x2 j ≡ true)
+    ↔ IsPairStep check distance a b side x1 x2 j

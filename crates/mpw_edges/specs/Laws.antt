@@ -13,21 +13,25 @@ other_axis V = H
 other_axis H = V
 
 abbrev pub exchanged_piece : Piece → Piece
-exchanged_piece p = record { axis = other_axis p.axis; side = p.side; x1 = p.x1; x2 = p.x2; y0 = p.y0; y1 = p.y1 }
+exchanged_piece p =
+    record { axis = other_axis p.axis; side = p.side; x1 = p.x1; x2 = p.x2; y0 = p.y0; y1 = p.y1 }
 
 -- exchanging the coordinates of the squares and the core exchanges the axes of what is found
 abbrev pub ExchangeExchangesAxes : Type 0
 ExchangeExchangesAxes =
     (rule : Rule) (a b : Squares) (core : Box2) (p : Piece)
-    → IsPiece rule a b core p ↔ IsPiece rule (exchanged a) (exchanged b) (exchanged_box core) (exchanged_piece p)
+    → IsPiece rule a b core p ↔ IsPiece rule (exchanged a) (exchanged b) (exchanged_box core)
+    (exchanged_piece p)
 
 -- the box, wider on each side
 abbrev pub widened : Box2 → ℕ → Box2
-widened b n = record { x0 = b.x0 -ℤ pos n; y0 = b.y0 -ℤ pos n; x1 = b.x1 +ℤ pos n; y1 = b.y1 +ℤ pos n }
+widened b n =
+    record { x0 = b.x0 -ℤ pos n; y0 = b.y0 -ℤ pos n; x1 = b.x1 +ℤ pos n; y1 = b.y1 +ℤ pos n }
 
 -- the squares are the same in the window
 abbrev pub AreSameIn : Box2 → Squares → Squares → Type 0
-AreSameIn window a b = (i j : ℤ) → window.x0 ≤ℤ i → i <ℤ window.x1 → window.y0 ≤ℤ j → j <ℤ window.y1 → a i j ≡ b i j
+AreSameIn window a b =
+    (i j : ℤ) → window.x0 ≤ℤ i → i <ℤ window.x1 → window.y0 ≤ℤ j → j <ℤ window.y1 → a i j ≡ b i j
 
 -- what a core finds depends on the squares of its window alone: the core widened by the greatest distance plus 1
 abbrev pub WindowDecides : Type 0

@@ -22,7 +22,8 @@ exchanged_box b = record { x0 = b.y0; y0 = b.x0; x1 = b.y1; y1 = b.x1 }
 
 -- a pair step between vertical edges, whose lower left point lies in the core
 abbrev pub HasVerticalStep : Rule → Squares → Squares → Box2 → ℕ → ℤ → ℤ → ℤ → Type 0
-HasVerticalStep rule a b core side x1 x2 j = IsPairStep rule.check rule.distance a b side x1 x2 j × IsInCore core x1 j
+HasVerticalStep rule a b core side x1 x2 j =
+    IsPairStep rule.check rule.distance a b side x1 x2 j × IsInCore core x1 j
 
 -- a pair step on an axis: H is V with the coordinates exchanged
 abbrev pub HasStep : Rule → Squares → Squares → Box2 → Axis → ℕ → ℤ → ℤ → ℤ → Type 0
@@ -45,11 +46,20 @@ axis_cmp H H = Equal
 
 -- the order of pieces: axis, side, the two coordinates, and the first row
 abbrev pub piece_cmp : Piece → Piece → Ordering
-piece_cmp p q = ordering_then (axis_cmp p.axis q.axis) (ordering_then (nat_cmp p.side q.side) (ordering_then (int_cmp p.x1 q.x1) (ordering_then (int_cmp p.x2 q.x2) (int_cmp p.y0 q.y0))))
+piece_cmp p q = ordering_then (axis_cmp p.axis q.axis)
+    (ordering_then (nat_cmp p.side q.side)
+    (ordering_then (int_cmp p.x1 q.x1) (ordering_then (int_cmp p.x2 q.x2) (int_cmp p.y0 q.y0))))
 
 abbrev pub ComesBefore : Piece → Piece → Type 0
 ComesBefore p q = piece_cmp p q ≡ Less
 
 -- a run of rows as a piece
 abbrev pub piece_of : Axis → Run → Piece
-piece_of axis r = record { axis = axis; side = r.line.side; x1 = r.line.first; x2 = r.line.second; y0 = r.from; y1 = r.to }
+piece_of axis r = record {
+  axis = axis;
+  side = r.line.side;
+  x1 = r.line.first;
+  x2 = r.line.second;
+  y0 = r.from;
+  y1 = r.to;
+}

@@ -1,12 +1,12 @@
 //! The vertical edges of a region, and what each check looks for among them.
 
 ghost use Rattle.std.specs.Prelude.{◌≡◌, ◌<ℤ◌, ◌-ℤ◌, pos, IfOk, OnOk, map};
-ghost use Rattle.mpw_region.specs.Runs.{Adds, Finds};
+ghost use Rattle.mpw_region.specs.Internal.Runs.{Adds, Finds};
 ghost use Rattle.mpw_region.specs.Squares.{covers};
 ghost use Rattle.mpw_region.specs.Banded.{AreBands};
 ghost use Rattle.mpw_edges.specs.Steps.{IsWidth, IsSpace, IsSeparation, IsEnclosing};
 ghost use Rattle.mpw_edges.specs.Pieces.{IsInCore, HasVerticalStep};
-ghost use Rattle.mpw_edges.specs.Pairs.{IsWidthOf, AreEdges, rise_of, fall_of};
+ghost use Rattle.mpw_edges.specs.Internal.Pairs.{IsWidthOf, AreEdges, rise_of, fall_of};
 
 use crate::pair::{Edge, Limits, add_pair, add_pairs};
 use mpw_deck::{Check, Rule};

@@ -23,8 +23,9 @@ ghost use Rattle.std.specs.Prelude.{
   drop,
 };
 ghost use Rattle.mpw_region.specs.declared.runs.Line.{Line as LineValue};
-ghost use Rattle.mpw_region.specs.Runs.{HoldsPlace, IsFilled, Adds};
-ghost use Rattle.mpw_edges.specs.Pairs.{IsInRows, IsPairPlace, IsPairFrom, IsPairOf, IsLeftOf, AreEdges, IsBand, Moves};
+ghost use Rattle.mpw_region.specs.Runs.{HoldsPlace, IsFilled};
+ghost use Rattle.mpw_region.specs.Internal.Runs.{Adds};
+ghost use Rattle.mpw_edges.specs.Internal.Pairs.{IsInRows, IsPairPlace, IsPairFrom, IsPairOf, IsLeftOf, AreEdges, IsBand, Moves};
 
 use mpw_geom::Box2;
 use mpw_region::{Line, Run};
@@ -48,7 +49,7 @@ pub(crate) struct Limits {
 }
 
 impl Limits {
-    ghost use Rattle.mpw_edges.specs.Pairs.{IsNear};
+    ghost use Rattle.mpw_edges.specs.Internal.Pairs.{IsNear};
 
     /// Whether the edges are near each other.
     fn is_near(&self, from: &Edge, to: &Edge) -> bool

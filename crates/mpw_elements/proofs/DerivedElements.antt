@@ -2,7 +2,7 @@
 use Rattle.std.proofs.Common.{◌≡◌, ℕ, Bool, true, false, eqb, ◌||◌, ◌&&◌, not, List, [], ◌∷◌, Option, Some, None, Ok, Err, refl, ap, subst, ◌∙◌, inl, inr}
 use Rattle.std.proofs.lemmas.Bool.{eqb-true}
 use Rattle.mpw_records.specs.declared.kind.TheConstants.{ENDLIB, BOUNDARY, PATH, SREF, AREF, TEXT, DATATYPE, ENDEL, NODE, BOX, BOXTYPE}
-use Rattle.mpw_records.specs.Records.{RawRecord, Outcome}
+use Rattle.mpw_records.specs.Records.{RawRecord, RecordOutcome}
 use Rattle.std.specs.Prelude.{◌⊎◌}
 use Rattle.mpw_elements.specs.declared.element.Element.{Element}
 use Rattle.mpw_elements.specs.declared.element.Element.TheVariants as elements
@@ -27,22 +27,38 @@ record EndsAt (rs : List RawRecord) : Type 0 where
   last : RawRecord
   derived : Behind is_inner ENDEL rs last
 
-ignored_sound : (start : ℕ) (all : List Outcome) (x : Unit {0} × List Outcome) → ignored start all ≡ Ok x → Begins all x.1 EndsAt
+ignored_sound : (start : ℕ) (all : List RecordOutcome) (x : Unit {0} × List RecordOutcome)
+    → ignored start all ≡ Ok x → Begins all x.1 EndsAt
 unfolding ignored
 ignored_sound start [] x e = absurd cc
 ignored_sound start (Err f ∷ all) x e = absurd cc
 ignored_sound start (Ok r ∷ all) x e =
     elim (chosen (eqb r.kind ENDEL) _ _ (Ok x) e) [
-      | inl p ↦ subst (λ (y : Unit {0} × List Outcome). Begins (Ok r ∷ all) y.1 EndsAt) (ok_is (tt, all) x p.1) (record { records = r ∷ []; parts = refl; told = record { last = r; derived = Behind.here (eqb-true _ _ p.0) } })
+      | inl p ↦ subst (λ (y : Unit {0} × List RecordOutcome). Begins (Ok r ∷ all) y.1 EndsAt)
+          (ok_is (tt, all) x p.1) (record {
+            records = r ∷ [];
+            parts = refl;
+            told = record { last = r; derived = Behind.here (eqb-true _ _ p.0) };
+          })
       | inr p ↦ elim (chosen (eqb r.kind ENDLIB) _ _ (Ok x) p.1) [
         | inl q ↦ absurd (let h = q.1 in cc)
         | inr q ↦
             let h = ignored_sound start all x q.1 in
-            record { records = r ∷ h.records; parts = ap (λ (os : List Outcome). Ok r ∷ os) h.parts; told = record { last = h.told.last; derived = Behind.over (is_inner_of (eqb r.kind ENDEL) (eqb r.kind ENDLIB) p.0 q.0) h.told.derived } }
+            record {
+              records = r ∷ h.records;
+              parts = ap (λ (os : List RecordOutcome). Ok r ∷ os)
+                  h.parts;
+              told = record {
+                last = h.told.last;
+                derived = Behind.over (is_inner_of (eqb r.kind ENDEL) (eqb r.kind ENDLIB) p.0 q.0)
+                    h.told.derived;
+              };
+            }
       ]
     ]
 
-ignored_complete : {rs : List RawRecord} {last : RawRecord} → Behind is_inner ENDEL rs last → (start : ℕ) (rest : List Outcome) → ignored start (records_then rs rest) ≡ Ok (tt, rest)
+ignored_complete : {rs : List RawRecord} {last : RawRecord} → Behind is_inner ENDEL rs last
+    → (start : ℕ) (rest : List RecordOutcome) → ignored start (records_then rs rest) ≡ Ok (tt, rest)
 unfolding ignored
 ignored_complete {last = last} (Behind.here e) start rest = rw e refl
 ignored_complete (Behind.over {s = s} p d) start rest =
@@ -51,51 +67,101 @@ ignored_complete (Behind.over {s = s} p d) start rest =
 
 -- ---- all of them
 
-boundary_first : (unit : ℕ) (first : RawRecord) (all : List Outcome) (x : Option Element × List Outcome) → first.kind ≡ BOUNDARY → (boundary first.offset unit DATATYPE all >>= λ b. done (Some (elements.Boundary b.0), b.1)) ≡ Ok x → Begins all x.1 (λ rs. DerivesElement unit (first ∷ rs) x.0)
+boundary_first : (unit : ℕ) (first : RawRecord) (all : List RecordOutcome)
+    (x : Option Element × List RecordOutcome) → first.kind ≡ BOUNDARY
+    → (boundary first.offset unit DATATYPE all >>= λ b. done (Some (elements.Boundary b.0), b.1))
+    ≡ Ok x → Begins all x.1 (λ rs. DerivesElement unit (first ∷ rs) x.0)
 boundary_first unit first all x is e =
-    let a = bind_ok (boundary first.offset unit DATATYPE all) (λ b. Ok (Some (elements.Boundary b.0), b.1)) x e in
+    let a = bind_ok (boundary first.offset unit DATATYPE all)
+    (λ b. Ok (Some (elements.Boundary b.0), b.1)) x e in
     let h = boundary_sound first.offset unit DATATYPE all a.0 a.1 in
-    subst (λ (y : Option Element × List Outcome). Begins all y.1 (λ rs. DerivesElement unit (first ∷ rs) y.0)) (ok_is (Some (elements.Boundary a.0.0), a.0.1) x a.2) (record { records = h.records; parts = h.parts; told = DerivesElement.boundary is h.told })
+    subst (λ (y : Option Element × List RecordOutcome).
+    Begins all y.1 (λ rs. DerivesElement unit (first ∷ rs) y.0))
+    (ok_is (Some (elements.Boundary a.0.0), a.0.1) x a.2)
+    (record { records = h.records; parts = h.parts; told = DerivesElement.boundary is h.told })
 
-box_first : (unit : ℕ) (first : RawRecord) (all : List Outcome) (x : Option Element × List Outcome) → first.kind ≡ BOX → (boundary first.offset unit BOXTYPE all >>= λ b. done (Some (elements.Boundary b.0), b.1)) ≡ Ok x → Begins all x.1 (λ rs. DerivesElement unit (first ∷ rs) x.0)
+box_first : (unit : ℕ) (first : RawRecord) (all : List RecordOutcome)
+    (x : Option Element × List RecordOutcome) → first.kind ≡ BOX
+    → (boundary first.offset unit BOXTYPE all >>= λ b. done (Some (elements.Boundary b.0), b.1))
+    ≡ Ok x → Begins all x.1 (λ rs. DerivesElement unit (first ∷ rs) x.0)
 box_first unit first all x is e =
-    let a = bind_ok (boundary first.offset unit BOXTYPE all) (λ b. Ok (Some (elements.Boundary b.0), b.1)) x e in
+    let a = bind_ok (boundary first.offset unit BOXTYPE all)
+    (λ b. Ok (Some (elements.Boundary b.0), b.1)) x e in
     let h = boundary_sound first.offset unit BOXTYPE all a.0 a.1 in
-    subst (λ (y : Option Element × List Outcome). Begins all y.1 (λ rs. DerivesElement unit (first ∷ rs) y.0)) (ok_is (Some (elements.Boundary a.0.0), a.0.1) x a.2) (record { records = h.records; parts = h.parts; told = DerivesElement.box is h.told })
+    subst (λ (y : Option Element × List RecordOutcome).
+    Begins all y.1 (λ rs. DerivesElement unit (first ∷ rs) y.0))
+    (ok_is (Some (elements.Boundary a.0.0), a.0.1) x a.2)
+    (record { records = h.records; parts = h.parts; told = DerivesElement.box is h.told })
 
-path_first : (unit : ℕ) (first : RawRecord) (all : List Outcome) (x : Option Element × List Outcome) → first.kind ≡ PATH → (path first.offset unit all >>= λ p. done (Some (elements.Path p.0), p.1)) ≡ Ok x → Begins all x.1 (λ rs. DerivesElement unit (first ∷ rs) x.0)
+path_first : (unit : ℕ) (first : RawRecord) (all : List RecordOutcome)
+    (x : Option Element × List RecordOutcome) → first.kind ≡ PATH
+    → (path first.offset unit all >>= λ p. done (Some (elements.Path p.0), p.1)) ≡ Ok x
+    → Begins all x.1 (λ rs. DerivesElement unit (first ∷ rs) x.0)
 path_first unit first all x is e =
     let a = bind_ok (path first.offset unit all) (λ p. Ok (Some (elements.Path p.0), p.1)) x e in
     let h = path_sound first.offset unit all a.0 a.1 in
-    subst (λ (y : Option Element × List Outcome). Begins all y.1 (λ rs. DerivesElement unit (first ∷ rs) y.0)) (ok_is (Some (elements.Path a.0.0), a.0.1) x a.2) (record { records = h.records; parts = h.parts; told = DerivesElement.path is h.told })
+    subst (λ (y : Option Element × List RecordOutcome).
+    Begins all y.1 (λ rs. DerivesElement unit (first ∷ rs) y.0))
+    (ok_is (Some (elements.Path a.0.0), a.0.1) x a.2)
+    (record { records = h.records; parts = h.parts; told = DerivesElement.path is h.told })
 
-single_first : (unit : ℕ) (first : RawRecord) (all : List Outcome) (x : Option Element × List Outcome) → first.kind ≡ SREF → (single first.offset unit all >>= λ r. done (Some (elements.Reference r.0), r.1)) ≡ Ok x → Begins all x.1 (λ rs. DerivesElement unit (first ∷ rs) x.0)
+single_first : (unit : ℕ) (first : RawRecord) (all : List RecordOutcome)
+    (x : Option Element × List RecordOutcome) → first.kind ≡ SREF
+    → (single first.offset unit all >>= λ r. done (Some (elements.Reference r.0), r.1)) ≡ Ok x
+    → Begins all x.1 (λ rs. DerivesElement unit (first ∷ rs) x.0)
 single_first unit first all x is e =
-    let a = bind_ok (single first.offset unit all) (λ r. Ok (Some (elements.Reference r.0), r.1)) x e in
+    let a =
+    bind_ok (single first.offset unit all) (λ r. Ok (Some (elements.Reference r.0), r.1)) x e in
     let h = single_sound first.offset unit all a.0 a.1 in
-    subst (λ (y : Option Element × List Outcome). Begins all y.1 (λ rs. DerivesElement unit (first ∷ rs) y.0)) (ok_is (Some (elements.Reference a.0.0), a.0.1) x a.2) (record { records = h.records; parts = h.parts; told = DerivesElement.single is h.told })
+    subst (λ (y : Option Element × List RecordOutcome).
+    Begins all y.1 (λ rs. DerivesElement unit (first ∷ rs) y.0))
+    (ok_is (Some (elements.Reference a.0.0), a.0.1) x a.2)
+    (record { records = h.records; parts = h.parts; told = DerivesElement.single is h.told })
 
-array_first : (unit : ℕ) (first : RawRecord) (all : List Outcome) (x : Option Element × List Outcome) → first.kind ≡ AREF → (array first.offset unit all >>= λ r. done (Some (elements.Reference r.0), r.1)) ≡ Ok x → Begins all x.1 (λ rs. DerivesElement unit (first ∷ rs) x.0)
+array_first : (unit : ℕ) (first : RawRecord) (all : List RecordOutcome)
+    (x : Option Element × List RecordOutcome) → first.kind ≡ AREF
+    → (array first.offset unit all >>= λ r. done (Some (elements.Reference r.0), r.1)) ≡ Ok x
+    → Begins all x.1 (λ rs. DerivesElement unit (first ∷ rs) x.0)
 array_first unit first all x is e =
-    let a = bind_ok (array first.offset unit all) (λ r. Ok (Some (elements.Reference r.0), r.1)) x e in
+    let a =
+    bind_ok (array first.offset unit all) (λ r. Ok (Some (elements.Reference r.0), r.1)) x e in
     let h = array_sound first.offset unit all a.0 a.1 in
-    subst (λ (y : Option Element × List Outcome). Begins all y.1 (λ rs. DerivesElement unit (first ∷ rs) y.0)) (ok_is (Some (elements.Reference a.0.0), a.0.1) x a.2) (record { records = h.records; parts = h.parts; told = DerivesElement.array is h.told })
+    subst (λ (y : Option Element × List RecordOutcome).
+    Begins all y.1 (λ rs. DerivesElement unit (first ∷ rs) y.0))
+    (ok_is (Some (elements.Reference a.0.0), a.0.1) x a.2)
+    (record { records = h.records; parts = h.parts; told = DerivesElement.array is h.told })
 
 either : (a b : Bool) → (a || b) ≡ true → (a ≡ true) ⊎ (b ≡ true)
 either true b e = inl refl
 either false b e = inr e
 
-text_first : (unit : ℕ) (first : RawRecord) (all : List Outcome) (x : Option Element × List Outcome) → (eqb first.kind TEXT || eqb first.kind NODE) ≡ true → (ignored first.offset all >>= λ i. done (None, i.1)) ≡ Ok x → Begins all x.1 (λ rs. DerivesElement unit (first ∷ rs) x.0)
+text_first : (unit : ℕ) (first : RawRecord) (all : List RecordOutcome)
+    (x : Option Element × List RecordOutcome) → (eqb first.kind TEXT || eqb first.kind NODE) ≡ true
+    → (ignored first.offset all >>= λ i. done (None, i.1)) ≡ Ok x
+    → Begins all x.1 (λ rs. DerivesElement unit (first ∷ rs) x.0)
 text_first unit first all x is e =
     let a = bind_ok (ignored first.offset all) (λ i. Ok (None, i.1)) x e in
     let h = ignored_sound first.offset all a.0 a.1 in
-    subst (λ (y : Option Element × List Outcome). Begins all y.1 (λ rs. DerivesElement unit (first ∷ rs) y.0)) (ok_is (None, a.0.1) x a.2) (
+    subst (λ (y : Option Element × List RecordOutcome).
+    Begins all y.1 (λ rs. DerivesElement unit (first ∷ rs) y.0)) (ok_is (None, a.0.1) x a.2) (
     elim (either (eqb first.kind TEXT) (eqb first.kind NODE) is) [
-      | inl p ↦ record { records = h.records; parts = h.parts; told = DerivesElement.text (eqb-true _ _ p) h.told.derived }
-      | inr p ↦ record { records = h.records; parts = h.parts; told = DerivesElement.node (eqb-true _ _ p) h.told.derived }
+      | inl p ↦ record {
+        records = h.records;
+        parts = h.parts;
+        told = DerivesElement.text
+            (eqb-true _ _ p) h.told.derived;
+      }
+      | inr p ↦ record {
+        records = h.records;
+        parts = h.parts;
+        told = DerivesElement.node
+            (eqb-true _ _ p) h.told.derived;
+      }
     ])
 
-pub element_sound : (unit : ℕ) (first : RawRecord) (all : List Outcome) (x : Option Element × List Outcome) → element unit first all ≡ Ok x → Begins all x.1 (λ rs. DerivesElement unit (first ∷ rs) x.0)
+pub element_sound : (unit : ℕ) (first : RawRecord) (all : List RecordOutcome)
+    (x : Option Element × List RecordOutcome) → element unit first all ≡ Ok x
+    → Begins all x.1 (λ rs. DerivesElement unit (first ∷ rs) x.0)
 unfolding element
 element_sound unit first all x e =
     elim (chosen (eqb first.kind BOUNDARY) _ _ (Ok x) e) [
@@ -118,16 +184,28 @@ element_sound unit first all x e =
       ]
     ]
 
-pub element_complete : {unit : ℕ} {first : RawRecord} {rs : List RawRecord} {found : Option Element} → DerivesElement unit (first ∷ rs) found → (rest : List Outcome) → element unit first (records_then rs rest) ≡ Ok (found, rest)
+pub element_complete : {unit : ℕ} {first : RawRecord} {rs : List RawRecord} {found : Option Element}
+    → DerivesElement unit (first ∷ rs) found → (rest : List RecordOutcome)
+    → element unit first (records_then rs rest) ≡ Ok (found, rest)
 unfolding element
-element_complete (DerivesElement.boundary {first = first} e d) rest = rw (e, boundary_complete d first.offset rest refl) refl
-element_complete (DerivesElement.box {first = first} e d) rest = rw (e, boundary_complete d first.offset rest refl) refl
-element_complete (DerivesElement.path {first = first} e d) rest = rw (e, path_complete d first.offset rest) refl
-element_complete (DerivesElement.single {first = first} e d) rest = rw (e, single_complete d first.offset rest) refl
-element_complete (DerivesElement.array {first = first} e d) rest = rw (e, array_complete d first.offset rest) refl
-element_complete (DerivesElement.text {first = first} e d) rest = rw (e, ignored_complete d first.offset rest) refl
-element_complete (DerivesElement.node {first = first} e d) rest = rw (e, ignored_complete d first.offset rest) refl
+element_complete (DerivesElement.boundary {first = first} e d) rest =
+    rw (e, boundary_complete d first.offset rest refl) refl
+element_complete (DerivesElement.box {first = first} e d) rest =
+    rw (e, boundary_complete d first.offset rest refl) refl
+element_complete (DerivesElement.path {first = first} e d) rest =
+    rw (e, path_complete d first.offset rest) refl
+element_complete (DerivesElement.single {first = first} e d) rest =
+    rw (e, single_complete d first.offset rest) refl
+element_complete (DerivesElement.array {first = first} e d) rest =
+    rw (e, array_complete d first.offset rest) refl
+element_complete (DerivesElement.text {first = first} e d) rest =
+    rw (e, ignored_complete d first.offset rest) refl
+element_complete (DerivesElement.node {first = first} e d) rest =
+    rw (e, ignored_complete d first.offset rest) refl
 
 pub elements_are_derived : ElementsAreDerived
-elements_are_derived unit first all rest found =
-    (λ e. element_sound unit first all (found, rest) e, λ h. ap (element unit first) h.parts ∙ element_complete h.told rest)
+elements_are_derived unit first all rest found = (
+  λ e. element_sound unit first all (found, rest) e,
+  λ h. ap (element unit first) h.parts
+      ∙ element_complete h.told rest,
+)

@@ -2,50 +2,59 @@
 use Rattle.std.proofs.Common.{◌≡◌, ℕ, true, false, List, [], ◌∷◌, Ok, Err, refl}
 use Rattle.mpw_records.specs.declared.fault.Code.TheVariants.{Unexpected}
 use Rattle.mpw_records.specs.declared.fault.ReadFault.{ReadFault}
-use Rattle.mpw_records.specs.Records.{RawRecord, Outcome}
+use Rattle.mpw_records.specs.Records.{RawRecord, RecordOutcome}
 use Rattle.std.proofs.Common.{eqb, inl, inr}
 use Rattle.std.proofs.lemmas.Bool.Decides.{eqb_tells}
 use Rattle.mpw_records.specs.declared.kind.TheConstants.{ENDEL, ENDLIB}
 use Rattle.mpw_elements.specs.Reading.{is_skipped, field, fault_at}
 use Rattle.mpw_elements.specs.Grammar.{ignored}
 
-pub field_end : (start : ℕ) (rs : List Outcome) → rs ≡ [] → field start rs ≡ Err (record { code = Unexpected; offset = start })
+pub field_end : (start : ℕ) (rs : List RecordOutcome) → rs ≡ []
+    → field start rs ≡ Err (record { code = Unexpected; offset = start })
 unfolding field
 field_end start rs e = rw e refl
 
-pub field_err : (start : ℕ) (rs rest : List Outcome) (f : ReadFault) → rs ≡ Err f ∷ rest → field start rs ≡ Err f
+pub field_err : (start : ℕ) (rs rest : List RecordOutcome) (f : ReadFault) → rs ≡ Err f ∷ rest
+    → field start rs ≡ Err f
 unfolding field
 field_err start rs rest f e = rw e refl
 
-pub field_skip : (start : ℕ) (rs rest : List Outcome) (r : RawRecord) → rs ≡ Ok r ∷ rest → is_skipped r.kind ≡ true → field start rs ≡ field start rest
+pub field_skip : (start : ℕ) (rs rest : List RecordOutcome) (r : RawRecord) → rs ≡ Ok r ∷ rest
+    → is_skipped r.kind ≡ true → field start rs ≡ field start rest
 unfolding field
 field_skip start rs rest r e skip = rw (e, skip) refl
 
-pub field_ok : (start : ℕ) (rs rest : List Outcome) (r : RawRecord) → rs ≡ Ok r ∷ rest → is_skipped r.kind ≡ false → field start rs ≡ Ok (r, rest)
+pub field_ok : (start : ℕ) (rs rest : List RecordOutcome) (r : RawRecord) → rs ≡ Ok r ∷ rest
+    → is_skipped r.kind ≡ false → field start rs ≡ Ok (r, rest)
 unfolding field
 field_ok start rs rest r e skip = rw (e, skip) refl
 
 -- ---- the same for what is ignored
 
-pub ignored_end : (start : ℕ) (rs : List Outcome) → rs ≡ [] → ignored start rs ≡ Err (record { code = Unexpected; offset = start })
+pub ignored_end : (start : ℕ) (rs : List RecordOutcome) → rs ≡ []
+    → ignored start rs ≡ Err (record { code = Unexpected; offset = start })
 unfolding ignored
 ignored_end start rs e = rw e refl
 
-pub ignored_err : (start : ℕ) (rs rest : List Outcome) (f : ReadFault) → rs ≡ Err f ∷ rest → ignored start rs ≡ Err f
+pub ignored_err : (start : ℕ) (rs rest : List RecordOutcome) (f : ReadFault) → rs ≡ Err f ∷ rest
+    → ignored start rs ≡ Err f
 unfolding ignored
 ignored_err start rs rest f e = rw e refl
 
-pub ignored_done : (start : ℕ) (rs rest : List Outcome) (r : RawRecord) → rs ≡ Ok r ∷ rest → r.kind ≡ ENDEL → ignored start rs ≡ Ok (tt, rest)
+pub ignored_done : (start : ℕ) (rs rest : List RecordOutcome) (r : RawRecord) → rs ≡ Ok r ∷ rest
+    → r.kind ≡ ENDEL → ignored start rs ≡ Ok (tt, rest)
 unfolding ignored
 ignored_done start rs rest r e h = rw (e, h) refl
 
-pub ignored_last : (start : ℕ) (rs rest : List Outcome) (r : RawRecord) → rs ≡ Ok r ∷ rest → r.kind ≡ ENDLIB → ignored start rs ≡ Err (fault_at Unexpected r)
+pub ignored_last : (start : ℕ) (rs rest : List RecordOutcome) (r : RawRecord) → rs ≡ Ok r ∷ rest
+    → r.kind ≡ ENDLIB → ignored start rs ≡ Err (fault_at Unexpected r)
 unfolding ignored
 ignored_last start rs rest r e h = rw (e, h) refl
 
 differs : (a b : ℕ) → (a ≡ b → ⊥) → eqb a b ≡ false
 differs a b h = elim (eqb_tells a b) [ inl p ↦ absurd (h p.1) | inr p ↦ p.0 ]
 
-pub ignored_more : (start : ℕ) (rs rest : List Outcome) (r : RawRecord) → rs ≡ Ok r ∷ rest → (r.kind ≡ ENDEL → ⊥) → (r.kind ≡ ENDLIB → ⊥) → ignored start rs ≡ ignored start rest
+pub ignored_more : (start : ℕ) (rs rest : List RecordOutcome) (r : RawRecord) → rs ≡ Ok r ∷ rest
+    → (r.kind ≡ ENDEL → ⊥) → (r.kind ≡ ENDLIB → ⊥) → ignored start rs ≡ ignored start rest
 unfolding ignored
 ignored_more start rs rest r e h k = rw (e, differs r.kind ENDEL h, differs r.kind ENDLIB k) refl

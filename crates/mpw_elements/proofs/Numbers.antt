@@ -19,7 +19,8 @@ use Rattle.mpw_elements.specs.Values.{scaled, without_nuls, is_visible, is_name,
 narrow : (n : ℕ) → unsigned_abs (cast_signed w32 n) ≤ 2 ^ 31
 narrow n = grind (arith, nat_tests, ints)
 
-pub scaled_bound : (unit : ℕ) (bytes : List ℕ) → unit ≤ 1000 → unsigned_abs (scaled unit bytes) < 2 ^ 42
+pub scaled_bound : (unit : ℕ) (bytes : List ℕ) → unit ≤ 1000
+    → unsigned_abs (scaled unit bytes) < 2 ^ 42
 unfolding scaled
 scaled_bound unit bytes h =
     let n = big_number 4 bytes in
@@ -42,24 +43,29 @@ pub byte_last : (xs : List ℕ) (b : ℕ) → (b ≡ 0 → ⊥) → without_nuls
 unfolding without_nuls
 byte_last [] b h = rw (no_nul b h) refl
 byte_last (x ∷ xs) b h =
-    let some : eqb (length (xs ++ b ∷ [])) 0 ≡ false = no_nul (length (xs ++ b ∷ [])) (λ e. omega (arith, e, length-append xs (b ∷ []))) in
+    let some : eqb (length (xs ++ b ∷ [])) 0 ≡ false = no_nul (length (xs ++ b ∷ []))
+    (λ e. omega (arith, e, length-append xs (b ∷ []))) in
     rw (byte_last xs b h, some, and_false (eqb x 0)) refl
 
 pub none_left : without_nuls [] ≡ []
 unfolding without_nuls
 none_left = refl
 
-joined : (xs : List ℕ) (e : ℕ) → 0 < e → e ≤ length xs → take e xs ≡ take (e - 1) xs ++ get_or xs (e - 1) 0 ∷ []
+joined : (xs : List ℕ) (e : ℕ) → 0 < e → e ≤ length xs → take e xs ≡ take (e - 1) xs
+    ++ get_or xs (e - 1) 0 ∷ []
 joined xs e some within =
     let at : (e - 1) + 1 ≡ e = omega arith in
     sym (ap (λ n. take n xs) at) ∙ take_more xs (e - 1) 0 (omega arith)
 
 -- a NUL behind the rest is taken off
-pub trim_zero : (xs : List ℕ) (e : ℕ) → 0 < e → e ≤ length xs → get_or xs (e - 1) 0 ≡ 0 → without_nuls (take (e - 1) xs) ≡ without_nuls (take e xs)
-trim_zero xs e some within h = sym (ap without_nuls (joined xs e some within ∙ ap (λ b. take (e - 1) xs ++ b ∷ []) h) ∙ nul_last (take (e - 1) xs))
+pub trim_zero : (xs : List ℕ) (e : ℕ) → 0 < e → e ≤ length xs → get_or xs (e - 1) 0 ≡ 0
+    → without_nuls (take (e - 1) xs) ≡ without_nuls (take e xs)
+trim_zero xs e some within h = sym (ap without_nuls
+    (joined xs e some within ∙ ap (λ b. take (e - 1) xs ++ b ∷ []) h) ∙ nul_last (take (e - 1) xs))
 
 -- behind another byte nothing is
-pub trim_done : (xs : List ℕ) (e : ℕ) → 0 < e → e ≤ length xs → (get_or xs (e - 1) 0 ≡ 0 → ⊥) → without_nuls (take e xs) ≡ take e xs
+pub trim_done : (xs : List ℕ) (e : ℕ) → 0 < e → e ≤ length xs → (get_or xs (e - 1) 0 ≡ 0 → ⊥)
+    → without_nuls (take e xs) ≡ take e xs
 trim_done xs e some within h =
     let j = joined xs e some within in
     ap without_nuls j ∙ byte_last (take (e - 1) xs) (get_or xs (e - 1) 0) h ∙ sym j
@@ -67,20 +73,27 @@ trim_done xs e some within h =
 -- ---- names
 
 Decides-leb : (a b : ℕ) → Decides (leb a b) (a ≤ b)
-Decides-leb a b = elim (leb_tells a b) [ inl p ↦ (λ e. p.1, λ h. p.0) | inr p ↦ (λ e. absurd (let q = sym p.0 ∙ e in cc), λ h. absurd (omega (arith, h, p.1))) ]
+Decides-leb a b = elim (leb_tells a b) [
+  | inl p ↦ (λ e. p.1, λ h. p.0)
+  | inr p
+      ↦ (λ e. absurd (let q = sym p.0 ∙ e in cc), λ h. absurd (omega (arith, h, p.1)))
+]
 
 visible : (b : ℕ) → Decides (is_visible b) (IsVisible b)
 visible b = Decides-and (leb 0x21 b) (leb b 0x7E) (Decides-leb 0x21 b) (Decides-leb b 0x7E)
 
-regroup : (a b c : Bool) (A B C : Type 0) → Decides a A → Decides b B → Decides c C → Decides (a && b && c) (A × B × C)
+regroup : (a b c : Bool) (A B C : Type 0) → Decides a A → Decides b B → Decides c C
+    → Decides (a && b && c) (A × B × C)
 regroup true true c A B C p q r = (λ e. (p.0 refl, q.0 refl, r.0 e), λ h. r.1 h.2)
 regroup true false c A B C p q r = (λ e. absurd cc, λ h. absurd (let x = q.1 h.1 in cc))
 regroup false b c A B C p q r = (λ e. absurd cc, λ h. absurd (let x = p.1 h.0 in cc))
 
 pub is_name_decides : (bytes : List ℕ) → Decides (is_name bytes) (IsName bytes)
 is_name_decides bytes =
-    regroup (leb 1 (length bytes)) (leb (length bytes) 255) (list_all is_visible bytes) (1 ≤ length bytes) (length bytes ≤ 255) (All IsVisible bytes)
-    (Decides-leb 1 (length bytes)) (Decides-leb (length bytes) 255) (Decides-by_and is_visible IsVisible (list_all is_visible) visible refl (λ _ _. refl) bytes)
+    regroup (leb 1 (length bytes)) (leb (length bytes) 255) (list_all is_visible bytes)
+    (1 ≤ length bytes) (length bytes ≤ 255) (All IsVisible bytes)
+    (Decides-leb 1 (length bytes)) (Decides-leb (length bytes) 255)
+    (Decides-by_and is_visible IsVisible (list_all is_visible) visible refl (λ _ _. refl) bytes)
 
 pub named : (r : RawRecord) → IsName (without_nuls r.bytes) → name_of r ≡ Ok (without_nuls r.bytes)
 unfolding name_of

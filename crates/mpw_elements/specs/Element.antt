@@ -1,5 +1,5 @@
 -- What a read element satisfies.
-use Rattle.std.specs.Prelude.{◌≡◌, ℕ, ◌*◌, ◌^◌, ◌≤◌, ◌&&◌, ◌||◌, not, Bool, true, IsTrue, ℤ, pos, neg_ℤ, ◌<ℤ◌, List, [], ◌∷◌, ◌++◌, length, take, All}
+use Rattle.std.specs.Prelude.{◌≡◌, ℕ, ◌*◌, ◌^◌, ◌≤◌, ◌&&◌, ◌||◌, not, Bool, true, IsTrue, ℤ, pos, ◌<ℤ◌, List, [], ◌∷◌, ◌++◌, length, take, All, neg_ℤ}
 use Rattle.std.specs.Ordering.{int_eq}
 use Rattle.mpw_geom.specs.declared.plane.Point.{Point}
 use Rattle.mpw_geom.specs.Name.{IsName}
@@ -35,12 +35,6 @@ each_step test (p ∷ q ∷ ps) = test p q && each_step test (q ∷ ps)
 abbrev pub closed : List Point → List Point
 closed ps = ps ++ take 1 ps
 
--- Corners: at least one, and each edge, the closing one too, is horizontal or vertical.
-pub record IsRing (ps : List Point) : Type 0 where
-  pub corners : 1 ≤ length ps
-  pub manhattan : IsTrue (each_step is_manhattan_step (closed ps))
-  pub within_reach : All IsPointWithinReach ps
-
 -- A boundary has a corner, and each of its edges, the closing one too, is horizontal or vertical.
 pub record IsBoundary (b : Boundary) : Type 0 where
   pub corners : 1 ≤ length b.points
@@ -50,18 +44,6 @@ pub record IsBoundary (b : Boundary) : Type 0 where
 -- A segment of a centre line is horizontal or vertical, and not of length 0.
 abbrev pub is_segment : Point → Point → Bool
 is_segment p q = is_manhattan_step p q && not (same_point p q)
-
--- A centre line has at least one segment.
-pub record IsLine (ps : List Point) : Type 0 where
-  pub points : 2 ≤ length ps
-  pub segments : IsTrue (each_step is_segment ps)
-  pub within_reach : All IsPointWithinReach ps
-
--- A width in nm: not negative, and even.
-pub record IsWidth (z : ℤ) : Type 0 where
-  pub half : ℕ
-  pub value : z ≡ pos (2 * half)
-  pub within_reach : IsWithinReach z
 
 -- A path has at least one segment, and an even width.
 pub record IsPath (p : Path) : Type 0 where

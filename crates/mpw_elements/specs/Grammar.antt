@@ -4,27 +4,33 @@ use Rattle.mpw_geom.specs.declared.plane.Orient.{Orient}
 use Rattle.mpw_geom.specs.declared.plane.Orient.TheVariants.{R0}
 use Rattle.mpw_records.specs.declared.fault.Code.TheVariants.{Unexpected}
 use Rattle.mpw_records.specs.declared.kind.TheConstants.{ENDLIB, BOUNDARY, PATH, SREF, AREF, TEXT, LAYER, DATATYPE, WIDTH, XY, ENDEL, SNAME, COLROW, NODE, STRANS, MAG, ANGLE, PATHTYPE, BOX, BOXTYPE, BGNEXTN, ENDEXTN}
-use Rattle.mpw_records.specs.Records.{RawRecord, Outcome}
+use Rattle.mpw_records.specs.Records.{RawRecord, RecordOutcome}
 use Rattle.mpw_elements.specs.declared.element.Boundary.{Boundary}
 use Rattle.mpw_elements.specs.declared.element.Path.{Path}
 use Rattle.mpw_elements.specs.declared.element.Reference.{Reference}
 use Rattle.mpw_elements.specs.declared.element.Element.{Element}
 use Rattle.mpw_elements.specs.declared.element.Element.TheVariants as elements
 use Rattle.mpw_elements.specs.Reading.{Reading, ◌>>=◌, fault_at, field, demanded, expected, optional}
-use Rattle.mpw_elements.specs.Values.{short_of, corners_of, centre_of, place_of, path_type_of, width_of, extension_of, lengthening, name_of, mirrored_of, magnification_of, turns_of, orient_of, counts_of, grid_of, no_point}
+use Rattle.mpw_elements.specs.Values.{short_of, corners_of, centre_of, origin_of, path_type_of, width_of, extension_of, lengthening, name_of, mirrored_of, magnification_of, turns_of, orient_of, counts_of, grid_of, no_point}
 
 -- BOUNDARY LAYER DATATYPE XY ENDEL; BOX has BOXTYPE for DATATYPE.
-unfoldable pub boundary : (start unit datatype_kind : ℕ) → List Outcome → Reading Boundary
+unfoldable pub boundary : (start unit datatype_kind : ℕ) → List RecordOutcome → Reading Boundary
 boundary start unit datatype_kind rs = do
   layer ← expected start LAYER rs
   datatype ← expected start datatype_kind layer.1
   xy ← expected start XY datatype.1
   corners ← corners_of unit xy.0
   last ← expected start ENDEL xy.1
-  Ok (record { layer = record { layer = short_of layer.0; datatype = short_of datatype.0 }; points = corners }, last.1)
+  Ok (
+    record {
+      layer = record { layer = short_of layer.0; datatype = short_of datatype.0 };
+      points = corners;
+    },
+    last.1,
+  )
 
 -- PATH LAYER DATATYPE [PATHTYPE] [WIDTH] [BGNEXTN] [ENDEXTN] XY ENDEL.
-unfoldable pub path : (start unit : ℕ) → List Outcome → Reading Path
+unfoldable pub path : (start unit : ℕ) → List RecordOutcome → Reading Path
 path start unit rs = do
   layer ← expected start LAYER rs
   datatype ← expected start DATATYPE layer.1
@@ -48,7 +54,8 @@ path start unit rs = do
   )
 
 -- [STRANS [MAG] [ANGLE]]: the orientation, and the record behind it.
-unfoldable pub orientation : (start : ℕ) → RawRecord → List Outcome → Reading (Orient × RawRecord)
+unfoldable pub orientation : (start : ℕ) → RawRecord → List RecordOutcome
+    → Reading (Orient × RawRecord)
 orientation start r rs =
     if r.kind == STRANS then (do
       mirrored ← mirrored_of r
@@ -58,19 +65,30 @@ orientation start r rs =
       Ok ((orient_of mirrored angle.0.0, angle.0.1), angle.1)) else Ok ((R0, r), rs)
 
 -- SREF SNAME [STRANS [MAG] [ANGLE]] XY ENDEL.
-unfoldable pub single : (start unit : ℕ) → List Outcome → Reading Reference
+unfoldable pub single : (start unit : ℕ) → List RecordOutcome → Reading Reference
 single start unit rs = do
   sname ← expected start SNAME rs
   name ← name_of sname.0
   next ← field start sname.1
   orient ← orientation start next.0 next.1
   xy ← demanded XY orient.0.1
-  origin ← place_of unit xy
+  origin ← origin_of unit xy
   last ← expected start ENDEL orient.1
-  Ok (record { name = name; orient = orient.0.0; origin = origin; columns = 1; rows = 1; column_step = no_point; row_step = no_point }, last.1)
+  Ok (
+    record {
+      name = name;
+      orient = orient.0.0;
+      origin = origin;
+      columns = 1;
+      rows = 1;
+      column_step = no_point;
+      row_step = no_point;
+    },
+    last.1,
+  )
 
 -- AREF SNAME [STRANS [MAG] [ANGLE]] COLROW XY ENDEL.
-unfoldable pub array : (start unit : ℕ) → List Outcome → Reading Reference
+unfoldable pub array : (start unit : ℕ) → List RecordOutcome → Reading Reference
 array start unit rs = do
   sname ← expected start SNAME rs
   name ← name_of sname.0
@@ -81,10 +99,21 @@ array start unit rs = do
   xy ← expected start XY orient.1
   grid ← grid_of unit counts.0 counts.1 xy.0
   last ← expected start ENDEL xy.1
-  Ok (record { name = name; orient = orient.0.0; origin = grid.origin; columns = counts.0; rows = counts.1; column_step = grid.column_step; row_step = grid.row_step }, last.1)
+  Ok (
+    record {
+      name = name;
+      orient = orient.0.0;
+      origin = grid.origin;
+      columns = counts.0;
+      rows = counts.1;
+      column_step = grid.column_step;
+      row_step = grid.row_step;
+    },
+    last.1,
+  )
 
 -- TEXT and NODE: any records but ENDLIB, to ENDEL.
-unfoldable pub ignored : (start : ℕ) → List Outcome → Reading (Unit {0})
+unfoldable pub ignored : (start : ℕ) → List RecordOutcome → Reading (Unit {0})
 ignored start [] = Err (record { code = Unexpected; offset = start })
 ignored start (Err f ∷ rs) = Err f
 ignored start (Ok r ∷ rs) =
@@ -93,7 +122,7 @@ ignored start (Ok r ∷ rs) =
     else ignored start rs
 
 -- An element whose first record has been read; none for TEXT and NODE.
-unfoldable pub element : (unit : ℕ) → RawRecord → List Outcome → Reading (Option Element)
+unfoldable pub element : (unit : ℕ) → RawRecord → List RecordOutcome → Reading (Option Element)
 element unit first rs =
     if first.kind == BOUNDARY then (do
       b ← boundary first.offset unit DATATYPE rs

@@ -3,3 +3,4 @@ pub mod Reading
 pub mod Values
 pub mod Grammar
 pub mod Derivation
+pub mod Internal

@@ -4,16 +4,17 @@ use Rattle.mpw_records.specs.declared.fault.Code.{Code}
 use Rattle.mpw_records.specs.declared.fault.Code.TheVariants.{Unexpected}
 use Rattle.mpw_records.specs.declared.fault.ReadFault.{ReadFault}
 use Rattle.mpw_records.specs.declared.kind.TheConstants.{ELFLAGS, PLEX, PROPATTR, PROPVALUE}
-use Rattle.mpw_records.specs.Records.{RawRecord, Outcome}
+use Rattle.mpw_records.specs.Records.{RawRecord, RecordOutcome}
 use Rattle.mpw_elements.specs.declared.fault.ReadError.{ReadError}
 use Rattle.mpw_elements.specs.declared.fault.ReadError.TheVariants as errors
 
 abbrev pub Reading : Type 0 → Type 0
-Reading X = Result (X × List Outcome) ReadFault
+Reading X = Result (X × List RecordOutcome) ReadFault
 
 -- One step of reading behind another.
 infixl 10 ◌>>=◌
-abbrev pub ◌>>=◌ : {A B : Type 0} → Result A ReadFault → (A → Result B ReadFault) → Result B ReadFault
+abbrev pub ◌>>=◌ : {A B : Type 0} → Result A ReadFault → (A → Result B ReadFault)
+    → Result B ReadFault
 (Ok x) >>= f = f x
 (Err e) >>= f = Err e
 
@@ -22,9 +23,10 @@ abbrev pub Fails : {Y : Type 0} → ReadError → Result Y ReadFault → Type 0
 Fails errors.Memory read = Unit {0}
 Fails (errors.Fault f) read = read ≡ Err f
 
-abbrev pub Gives : {X Y : Type 0} → (X → Y) → Result X ReadError → List Outcome → Reading Y → Type 0
-Gives view (Ok x) rest read = read ≡ Ok (view x, rest)
-Gives view (Err e) rest read = Fails e read
+abbrev pub GivesReading : {X Y : Type 0} → (X → Y) → Result X ReadError → List RecordOutcome
+    → Reading Y → Type 0
+GivesReading view (Ok x) rest read = read ≡ Ok (view x, rest)
+GivesReading view (Err e) rest read = Fails e read
 
 -- The same where no records are read.
 abbrev pub GivesValue : {X Y : Type 0} → (X → Y) → Result X ReadError → Result Y ReadFault → Type 0
@@ -40,7 +42,7 @@ abbrev pub is_skipped : ℕ → Bool
 is_skipped kind = (kind == ELFLAGS) || (kind == PLEX) || (kind == PROPATTR) || (kind == PROPVALUE)
 
 -- The next record of an element that isn't skipped. An element that begins where no records are left is unexpected.
-unfoldable pub field : ℕ → List Outcome → Reading RawRecord
+unfoldable pub field : ℕ → List RecordOutcome → Reading RawRecord
 field start [] = Err (record { code = Unexpected; offset = start })
 field start (Err f ∷ rs) = Err f
 field start (Ok r ∷ rs) = if is_skipped r.kind then field start rs else Ok (r, rs)
@@ -50,14 +52,15 @@ unfoldable pub demanded : ℕ → RawRecord → Result RawRecord ReadFault
 demanded kind r = if r.kind == kind then Ok r else Err (fault_at Unexpected r)
 
 -- The next record of an element, which must be of this type.
-unfoldable pub expected : ℕ → ℕ → List Outcome → Reading RawRecord
+unfoldable pub expected : ℕ → ℕ → List RecordOutcome → Reading RawRecord
 expected start kind rs = do
   next ← field start rs
   r ← demanded kind next.0
   Ok (r, next.1)
 
 -- A record that may stand next, with the value that it tells, else a default; and the record behind it.
-unfoldable pub optional : {V : Type 0} → ℕ → ℕ → (RawRecord → Result V ReadFault) → V → RawRecord → List Outcome → Reading (V × RawRecord)
+unfoldable pub optional : {V : Type 0} → ℕ → ℕ → (RawRecord → Result V ReadFault) → V → RawRecord
+    → List RecordOutcome → Reading (V × RawRecord)
 optional start kind value default r rs =
     if r.kind == kind then (do
       v ← value r

@@ -1,5 +1,5 @@
 -- What the data of a record tells, and the faults of a value, at its record.
-use Rattle.std.specs.Prelude.{◌<◌, ◌^◌, ℕ, zero, suc, ◌+◌, ◌-◌, ◌*◌, ◌/◌, ◌%◌, ◌&&◌, ◌||◌, ◌==◌, not, nat_lt, nat_le, Bool, true, false, ℤ, pos, neg_ℤ, ◌-ℤ◌, ◌*ℤ◌, unsigned_abs, int_div, int_rem, List, [], ◌∷◌, length, take, drop, map, slice_index_or, bit_and, Option, Some, None, Result, Ok, Err, if◌then◌else◌}
+use Rattle.std.specs.Prelude.{ℕ, zero, suc, ◌+◌, ◌-◌, ◌*◌, ◌/◌, ◌%◌, ◌&&◌, ◌||◌, ◌==◌, not, nat_lt, nat_le, Bool, true, false, ℤ, pos, ◌-ℤ◌, ◌*ℤ◌, unsigned_abs, int_div, int_rem, List, [], ◌∷◌, length, take, drop, map, slice_index_or, bit_and, Option, Some, None, Result, Ok, Err, if◌then◌else◌, neg_ℤ}
 use Rattle.std.specs.Int.{w32, cast_signed}
 use Rattle.std.specs.List.{dedup, list_all, range_with_len}
 use Rattle.std.specs.Ordering.{int_eq}
@@ -12,7 +12,7 @@ use Rattle.mpw_records.specs.declared.fault.ReadFault.{ReadFault}
 use Rattle.mpw_records.specs.Records.{RawRecord}
 use Rattle.mpw_real8.specs.Real.{real_value, is_whole}
 use Rattle.mpw_elements.specs.declared.values.Grid.{Grid}
-use Rattle.mpw_elements.specs.Element.{IsPointWithinReach, same_point, is_manhattan_step, each_step, closed}
+use Rattle.mpw_elements.specs.Element.{same_point, is_manhattan_step, each_step, closed}
 use Rattle.mpw_elements.specs.Reading.{fault_at}
 
 -- ---- numbers
@@ -27,13 +27,9 @@ scaled unit bytes = cast_signed w32 (big_number 4 bytes) *ℤ pos unit
 
 -- ---- points
 
--- A point of a four-byte XY, at a unit of at most 1000 nm.
-pub record IsNear (p : Point) : Type 0 where
-  pub x : unsigned_abs p.x < 2 ^ 42
-  pub y : unsigned_abs p.y < 2 ^ 42
-
 abbrev pub point_at : ℕ → List ℕ → ℕ → Point
-point_at unit bytes i = record { x = scaled unit (drop (8 * i) bytes); y = scaled unit (drop (8 * i + 4) bytes) }
+point_at unit bytes i =
+    record { x = scaled unit (drop (8 * i) bytes); y = scaled unit (drop (8 * i + 4) bytes) }
 
 -- The points of XY, eight bytes each.
 unfoldable pub points_of : ℕ → List ℕ → List Point
@@ -44,7 +40,8 @@ no_point = record { x = pos 0; y = pos 0 }
 
 -- Of two or more points, a last one equal to the first is the closing point.
 unfoldable pub is_closing : List Point → Bool
-is_closing ps = nat_le 2 (length ps) && same_point (slice_index_or ps 0 no_point) (slice_index_or ps (length ps - 1) no_point)
+is_closing ps = nat_le 2 (length ps) && same_point (slice_index_or ps 0 no_point)
+    (slice_index_or ps (length ps - 1) no_point)
 
 -- The points without the closing point.
 unfoldable pub without_closing : List Point → List Point
@@ -66,19 +63,22 @@ centre_of unit r =
     else Err (fault_at NotManhattan r)
 
 -- The one point of a reference.
-unfoldable pub place_of : ℕ → RawRecord → Result Point ReadFault
-place_of unit r = if length r.bytes == 8 then Ok (point_at unit r.bytes 0) else Err (fault_at BadSize r)
+unfoldable pub origin_of : ℕ → RawRecord → Result Point ReadFault
+origin_of unit r =
+    if length r.bytes == 8 then Ok (point_at unit r.bytes 0) else Err (fault_at BadSize r)
 
 -- ---- paths
 
 unfoldable pub path_type_of : RawRecord → Result ℕ ReadFault
 path_type_of r =
-    if (short_of r == 0) || (short_of r == 2) || (short_of r == 4) then Ok (short_of r) else Err (fault_at RoundPath r)
+    if (short_of r == 0) || (short_of r == 2) || (short_of r == 4) then Ok (short_of r)
+    else Err (fault_at RoundPath r)
 
 -- The width is the absolute value.
 unfoldable pub width_of : ℕ → RawRecord → Result ℤ ReadFault
 width_of unit r =
-    if unsigned_abs (scaled unit r.bytes) % 2 == 0 then Ok (pos (unsigned_abs (scaled unit r.bytes))) else Err (fault_at OddWidth r)
+    if unsigned_abs (scaled unit r.bytes) % 2 == 0
+    then Ok (pos (unsigned_abs (scaled unit r.bytes))) else Err (fault_at OddWidth r)
 
 abbrev pub extension_of : ℕ → RawRecord → Result ℤ ReadFault
 extension_of unit r = Ok (scaled unit r.bytes)
@@ -93,7 +93,8 @@ lengthening path_type width given =
 -- The bytes without the NULs at their end.
 unfoldable pub without_nuls : List ℕ → List ℕ
 without_nuls [] = []
-without_nuls (b ∷ bs) = if (b == 0) && (length (without_nuls bs) == 0) then [] else b ∷ without_nuls bs
+without_nuls (b ∷ bs) =
+    if (b == 0) && (length (without_nuls bs) == 0) then [] else b ∷ without_nuls bs
 
 abbrev pub is_visible : ℕ → Bool
 is_visible byte = nat_le 0x21 byte && nat_le byte 0x7E
@@ -103,22 +104,26 @@ abbrev pub is_name : List ℕ → Bool
 is_name bytes = nat_le 1 (length bytes) && nat_le (length bytes) 255 && list_all is_visible bytes
 
 unfoldable pub name_of : RawRecord → Result (List ℕ) ReadFault
-name_of r = if is_name (without_nuls r.bytes) then Ok (without_nuls r.bytes) else Err (fault_at BadName r)
+name_of r =
+    if is_name (without_nuls r.bytes) then Ok (without_nuls r.bytes) else Err (fault_at BadName r)
 
 -- ---- orientations
 
 -- Whether the reference is mirrored: bit 8000 hex of STRANS. Bit 0002 is refused, and the others say nothing here.
 unfoldable pub mirrored_of : RawRecord → Result Bool ReadFault
-mirrored_of r = if bit_and (short_of r) 2 == 0 then Ok (not (bit_and (short_of r) 0x8000 == 0)) else Err (fault_at Absolute r)
+mirrored_of r = if bit_and (short_of r) 2 == 0 then Ok (not (bit_and (short_of r) 0x8000 == 0))
+    else Err (fault_at Absolute r)
 
 -- A magnification of exactly 1.
 unfoldable pub magnification_of : RawRecord → Result (Unit {0}) ReadFault
-magnification_of r = if is_whole (real_value r.bytes) (pos 1) then Ok tt else Err (fault_at Magnification r)
+magnification_of r =
+    if is_whole (real_value r.bytes) (pos 1) then Ok tt else Err (fault_at Magnification r)
 
 -- The quarter turns of an angle: a multiple of 90 degrees from -360 to 360.
 unfoldable pub turns : ℤ → Option ℕ
 turns angle =
-    if is_whole angle (pos 0) || is_whole angle (pos 360) || is_whole angle (neg_ℤ (pos 360)) then Some 0
+    if is_whole angle (pos 0) || is_whole angle (pos 360) || is_whole angle (neg_ℤ (pos 360))
+    then Some 0
     else if is_whole angle (pos 90) || is_whole angle (neg_ℤ (pos 270)) then Some 1
     else if is_whole angle (pos 180) || is_whole angle (neg_ℤ (pos 180)) then Some 2
     else if is_whole angle (pos 270) || is_whole angle (neg_ℤ (pos 90)) then Some 3
@@ -170,14 +175,9 @@ both None y = None
 abbrev pub step_of : ℕ → Point → Point → Option Point
 step_of n p q = both (part_of n (q.x -ℤ p.x)) (part_of n (q.y -ℤ p.y))
 
--- The origin and the steps of an array are within reach.
-pub record IsGrid (g : Grid) : Type 0 where
-  pub origin : IsPointWithinReach g.origin
-  pub column_step : IsPointWithinReach g.column_step
-  pub row_step : IsPointWithinReach g.row_step
-
 abbrev pub grid_or_fault : Point → Option Point → Option Point → RawRecord → Result Grid ReadFault
-grid_or_fault origin (Some column) (Some row) r = Ok (record { origin = origin; column_step = column; row_step = row })
+grid_or_fault origin (Some column) (Some row) r =
+    Ok (record { origin = origin; column_step = column; row_step = row })
 grid_or_fault origin (Some column) None r = Err (fault_at Pitch r)
 grid_or_fault origin None row r = Err (fault_at Pitch r)
 
@@ -185,5 +185,7 @@ grid_or_fault origin None row r = Err (fault_at Pitch r)
 unfoldable pub grid_of : ℕ → ℕ → ℕ → RawRecord → Result Grid ReadFault
 grid_of unit columns rows r =
     if length r.bytes == 24
-    then grid_or_fault (point_at unit r.bytes 0) (step_of columns (point_at unit r.bytes 0) (point_at unit r.bytes 1)) (step_of rows (point_at unit r.bytes 0) (point_at unit r.bytes 2)) r
+    then grid_or_fault (point_at unit r.bytes 0)
+    (step_of columns (point_at unit r.bytes 0) (point_at unit r.bytes 1))
+    (step_of rows (point_at unit r.bytes 0) (point_at unit r.bytes 2)) r
     else Err (fault_at BadSize r)

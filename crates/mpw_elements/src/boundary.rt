@@ -3,7 +3,7 @@
 ghost use Rattle.std.specs.Prelude.{◌≤◌, length, IfOk};
 ghost use Rattle.mpw_records.specs.Format.{least_size};
 ghost use Rattle.mpw_elements.specs.Element.{IsBoundary};
-ghost use Rattle.mpw_elements.specs.Reading.{Gives};
+ghost use Rattle.mpw_elements.specs.Reading.{GivesReading};
 ghost use Rattle.mpw_elements.specs.Grammar.{boundary};
 
 use crate::element::Boundary;
@@ -27,7 +27,7 @@ pub fn read_boundary(
 ) -> Result<Boundary, ReadError>
     requires unit { unit ≤ 1000 }
     requires datatype { 2 ≤ least_size datatype }
-    ensures boundary { Gives (λ b. b) result records.new (boundary start unit datatype records.old) }
+    ensures boundary { GivesReading (λ b. b) result records.new (boundary start unit datatype records.old) }
     ensures shape { IfOk result IsBoundary }
     ensures rest { length records.new ≤ length records.old }
 {

@@ -4,8 +4,9 @@ ghost use Rattle.std.specs.Prelude.{◌≤◌, length, IfOk, pos};
 ghost use Rattle.mpw_records.specs.declared.kind.TheConstants.{PATHTYPE, WIDTH};
 ghost use Rattle.mpw_records.specs.Format.{least_size};
 ghost use Rattle.mpw_records.specs.Records.{raw, IsSized};
-ghost use Rattle.mpw_elements.specs.Element.{IsWithinReach, IsWidth, IsPath};
-ghost use Rattle.mpw_elements.specs.Reading.{Gives, optional};
+ghost use Rattle.mpw_elements.specs.Element.{IsWithinReach, IsPath};
+ghost use Rattle.mpw_elements.specs.Internal.Element.{IsWidth};
+ghost use Rattle.mpw_elements.specs.Reading.{GivesReading, optional};
 ghost use Rattle.mpw_elements.specs.Values.{path_type_of, width_of, extension_of};
 ghost use Rattle.mpw_elements.specs.Grammar.{path};
 
@@ -26,7 +27,7 @@ fn optional_path_type<'a>(
     found: Record<'a>,
 ) -> Result<(u16, Record<'a>), ReadError>
     requires { IsSized (raw found) }
-    ensures value { Gives (λ x. (x.0, raw x.1)) result records.new (optional start PATHTYPE path_type_of 0 (raw found.entry) records.old) }
+    ensures value { GivesReading (λ x. (x.0, raw x.1)) result records.new (optional start PATHTYPE path_type_of 0 (raw found.entry) records.old) }
     ensures rest { length records.new ≤ length records.old }
     ensures sized { IfOk result (λ x. IsSized (raw x.1)) }
 {
@@ -47,7 +48,7 @@ fn optional_width<'a>(
 ) -> Result<(i64, Record<'a>), ReadError>
     requires unit { unit ≤ 1000 }
     requires found { IsSized (raw found) }
-    ensures value { Gives (λ x. (x.0, raw x.1)) result records.new (optional start WIDTH (width_of unit) (pos 0) (raw found.entry) records.old) }
+    ensures value { GivesReading (λ x. (x.0, raw x.1)) result records.new (optional start WIDTH (width_of unit) (pos 0) (raw found.entry) records.old) }
     ensures even { IfOk result (λ x. IsWidth x.0) }
     ensures rest { length records.new ≤ length records.old }
     ensures sized { IfOk result (λ x. IsSized (raw x.1)) }
@@ -71,7 +72,7 @@ fn optional_extension<'a>(
     requires unit { unit ≤ 1000 }
     requires kind { 4 ≤ least_size kind }
     requires found { IsSized (raw found) }
-    ensures value { Gives (λ x. (x.0, raw x.1)) result records.new (optional start kind (extension_of unit) (pos 0) (raw found.entry) records.old) }
+    ensures value { GivesReading (λ x. (x.0, raw x.1)) result records.new (optional start kind (extension_of unit) (pos 0) (raw found.entry) records.old) }
     ensures reach { IfOk result (λ x. IsWithinReach x.0) }
     ensures rest { length records.new ≤ length records.old }
     ensures sized { IfOk result (λ x. IsSized (raw x.1)) }
@@ -92,7 +93,7 @@ pub fn read_path(
     unit: u16,
 ) -> Result<Path, ReadError>
     requires { unit ≤ 1000 }
-    ensures path { Gives (λ p. p) result records.new (path start unit records.old) }
+    ensures path { GivesReading (λ p. p) result records.new (path start unit records.old) }
     ensures shape { IfOk result IsPath }
     ensures rest { length records.new ≤ length records.old }
 {

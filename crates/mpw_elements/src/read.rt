@@ -3,7 +3,7 @@
 ghost use Rattle.std.specs.Prelude.{◌≡◌, ◌≤◌, [], length, IfOk, IfSome, OnErr};
 ghost use Rattle.mpw_records.specs.Records.{raw};
 ghost use Rattle.mpw_elements.specs.Element.{IsElement};
-ghost use Rattle.mpw_elements.specs.Reading.{Gives};
+ghost use Rattle.mpw_elements.specs.Reading.{GivesReading};
 ghost use Rattle.mpw_elements.specs.Grammar.{ignored, element};
 
 use crate::boundary::read_boundary;
@@ -17,7 +17,7 @@ use std::alloc::Global;
 
 /// Goes on behind ENDEL.
 fn skip(records: &mut Records<'_>, start: usize) -> Result<(), ReadError>
-    ensures ignored { Gives (λ x. x) result records.new (ignored start records.old) }
+    ensures ignored { GivesReading (λ x. x) result records.new (ignored start records.old) }
     ensures rest { length records.new ≤ length records.old }
 {
     while let Some(outcome) = records.next() {
@@ -44,7 +44,7 @@ fn one_element(
     unit: u16,
 ) -> Result<Option<Element>, ReadError>
     requires { unit ≤ 1000 }
-    ensures element { Gives (λ e. e) result records.new (element unit (raw first.entry) records.old) }
+    ensures element { GivesReading (λ e. e) result records.new (element unit (raw first.entry) records.old) }
     ensures shape { IfOk result (λ found. IfSome found IsElement) }
     ensures rest { length records.new ≤ length records.old }
 {
@@ -92,7 +92,7 @@ pub fn read_element(
     unit: u16,
 ) -> Result<Option<Element>, ReadError>
     requires { unit ≤ 1000 }
-    ensures read { Gives (λ e. e) result records.new (element unit (raw first.entry) records.old) }
+    ensures read { GivesReading (λ e. e) result records.new (element unit (raw first.entry) records.old) }
     ensures shape { IfOk result (λ found. IfSome found IsElement) }
     ensures err { OnErr result (records.new ≡ []) }
     ensures rest { length records.new ≤ length records.old }

@@ -3,7 +3,7 @@
 ghost use Rattle.std.specs.Prelude.{◌≡◌, ◌≤◌, ◌==◌, length, IsTrue, IfOk};
 ghost use Rattle.mpw_records.specs.Format.{least_size};
 ghost use Rattle.mpw_records.specs.Records.{raw, seen as raw_result, IsSized};
-ghost use Rattle.mpw_elements.specs.Reading.{Gives, is_skipped, field, demanded, expected, fault_at};
+ghost use Rattle.mpw_elements.specs.Reading.{GivesReading, is_skipped, field, demanded, expected, fault_at};
 
 use crate::fault::ReadError;
 use mpw_records::{Code, ReadFault, Record, Records, kind};
@@ -29,7 +29,7 @@ fn is_skipped(kind: u8) -> bool
 
 /// The next record of the element that began at `start`, without those that say nothing of it.
 pub fn next_field<'a>(records: &mut Records<'a>, start: usize) -> Result<Record<'a>, ReadError>
-    ensures field { Gives raw result records.new (field start records.old) }
+    ensures field { GivesReading raw result records.new (field start records.old) }
     ensures rest { length records.new ≤ length records.old }
     ensures sized { IfOk result (λ r. IsSized (raw r)) }
 {
@@ -75,7 +75,7 @@ pub fn expect<'a>(
     start: usize,
     kind: u8,
 ) -> Result<Record<'a>, ReadError>
-    ensures expected { Gives raw result records.new (expected start kind records.old) }
+    ensures expected { GivesReading raw result records.new (expected start kind records.old) }
     ensures rest { length records.new ≤ length records.old }
     ensures least { IfOk result (λ r. least_size kind ≤ length r.bytes.now) }
 {

@@ -4,7 +4,7 @@ ghost use Rattle.std.specs.Prelude.{◌≤◌, length, IfOk};
 ghost use Rattle.mpw_records.specs.declared.kind.TheConstants.{MAG, ANGLE};
 ghost use Rattle.mpw_records.specs.Records.{raw, IsSized};
 ghost use Rattle.mpw_elements.specs.Element.{IsReference};
-ghost use Rattle.mpw_elements.specs.Reading.{Gives, optional};
+ghost use Rattle.mpw_elements.specs.Reading.{GivesReading, optional};
 ghost use Rattle.mpw_elements.specs.Values.{magnification_of, turns_of};
 ghost use Rattle.mpw_elements.specs.Grammar.{orientation, single, array};
 
@@ -24,7 +24,7 @@ fn optional_magnification<'a>(
     found: Record<'a>,
 ) -> Result<Record<'a>, ReadError>
     requires { IsSized (raw found) }
-    ensures value { Gives (λ x. (tt, raw x)) result records.new (optional start MAG magnification_of tt (raw found.entry) records.old) }
+    ensures value { GivesReading (λ x. (tt, raw x)) result records.new (optional start MAG magnification_of tt (raw found.entry) records.old) }
     ensures rest { length records.new ≤ length records.old }
     ensures sized { IfOk result (λ x. IsSized (raw x)) }
 {
@@ -43,7 +43,7 @@ fn optional_turns<'a>(
     found: Record<'a>,
 ) -> Result<(u8, Record<'a>), ReadError>
     requires { IsSized (raw found) }
-    ensures value { Gives (λ x. (x.0, raw x.1)) result records.new (optional start ANGLE turns_of 0 (raw found.entry) records.old) }
+    ensures value { GivesReading (λ x. (x.0, raw x.1)) result records.new (optional start ANGLE turns_of 0 (raw found.entry) records.old) }
     ensures rest { length records.new ≤ length records.old }
     ensures sized { IfOk result (λ x. IsSized (raw x.1)) }
 {
@@ -62,7 +62,7 @@ fn orientation<'a>(
     found: Record<'a>,
 ) -> Result<(Orient, Record<'a>), ReadError>
     requires { IsSized (raw found) }
-    ensures value { Gives (λ x. (x.0, raw x.1)) result records.new (orientation start (raw found.entry) records.old) }
+    ensures value { GivesReading (λ x. (x.0, raw x.1)) result records.new (orientation start (raw found.entry) records.old) }
     ensures rest { length records.new ≤ length records.old }
     ensures sized { IfOk result (λ x. IsSized (raw x.1)) }
 {
@@ -85,7 +85,7 @@ pub fn read_single(
     unit: u16,
 ) -> Result<Reference, ReadError>
     requires { unit ≤ 1000 }
-    ensures reference { Gives (λ r. r) result records.new (single start unit records.old) }
+    ensures reference { GivesReading (λ r. r) result records.new (single start unit records.old) }
     ensures shape { IfOk result IsReference }
     ensures rest { length records.new ≤ length records.old }
 {
@@ -114,7 +114,7 @@ pub fn read_array(
     unit: u16,
 ) -> Result<Reference, ReadError>
     requires { unit ≤ 1000 }
-    ensures reference { Gives (λ r. r) result records.new (array start unit records.old) }
+    ensures reference { GivesReading (λ r. r) result records.new (array start unit records.old) }
     ensures shape { IfOk result IsReference }
     ensures rest { length records.new ≤ length records.old }
 {

@@ -3,9 +3,11 @@
 ghost use Rattle.std.specs.Prelude.{◌≡◌, ◌<◌, ◌≤◌, ◌^◌, ◌-ℤ◌, unsigned_abs, ℕ, pos, length, IfOk, IfSome};
 ghost use Rattle.mpw_records.specs.Records.{raw, IsSized};
 ghost use Rattle.mpw_geom.specs.Name.{IsName};
-ghost use Rattle.mpw_elements.specs.Element.{IsWithinReach, IsPointWithinReach, IsWidth, IsCount};
+ghost use Rattle.mpw_elements.specs.Element.{IsWithinReach, IsPointWithinReach, IsCount};
+ghost use Rattle.mpw_elements.specs.Internal.Element.{IsWidth};
 ghost use Rattle.mpw_elements.specs.Reading.{GivesValue};
-ghost use Rattle.mpw_elements.specs.Values.{short_of, place_of, path_type_of, width_of, lengthening, without_nuls, name_of, mirrored_of, magnification_of, turns, turns_of, orient_of, counts_of, part_of, both, IsGrid, IsNear, step_of, grid_of};
+ghost use Rattle.mpw_elements.specs.Values.{short_of, origin_of, path_type_of, width_of, lengthening, without_nuls, name_of, mirrored_of, magnification_of, turns, turns_of, orient_of, counts_of, part_of, both, step_of, grid_of};
+ghost use Rattle.mpw_elements.specs.Internal.Values.{IsGrid, IsNear};
 
 use crate::fault::ReadError;
 use crate::reading::fault_of;
@@ -33,10 +35,10 @@ pub fn short(from: Record<'_>) -> u16
 }
 
 /// The one point of a reference.
-#[tactic(auto, using(crate::proofs::Shapes::near_point), unfolding(crate::specs::Values::place_of))]
+#[tactic(auto, using(crate::proofs::Shapes::near_point), unfolding(crate::specs::Values::origin_of))]
 pub fn place(unit: u16, xy: Record<'_>) -> Result<Point, ReadFault>
     requires { unit ≤ 1000 }
-    ensures place { result ≡ place_of unit (raw xy.entry) }
+    ensures place { result ≡ origin_of unit (raw xy.entry) }
     ensures reach { IfOk result IsPointWithinReach }
 {
     if xy.bytes.len() != 8 {

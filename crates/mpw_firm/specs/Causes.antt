@@ -36,4 +36,5 @@ cause_at code text = cause.Code
 
 -- The same of a whole text; a fault of its first record is of one that isn't GDSII at all.
 unfoldable pub cause_of : ReadFault → List ℕ → Cause
-cause_of fault text = if fault.offset == 0 then cause.Foreign else cause_at fault.code (drop fault.offset text)
+cause_of fault text =
+    if fault.offset == 0 then cause.Foreign else cause_at fault.code (drop fault.offset text)

@@ -13,6 +13,7 @@ abbrev pub listed_text : Snapshot → List Marker → List ℕ
 listed_text s markers = reply_text (reply.Ok (book_lines s.deck.rules s.shelf (true ∷ []) markers))
 
 -- the text is written; or there is no room for it, and the sink is as it was
-abbrev pub Lists : {S A : Type 0} → (S → Option (List ℕ)) → (S → ℕ) → S → S → Result A WireFault → List ℕ → Type 0
+abbrev pub Lists : {S A : Type 0} → (S → Option (List ℕ)) → (S → ℕ) → S → S → Result A WireFault
+    → List ℕ → Type 0
 Lists contents failures old new result text =
     Writes contents failures old new result text ⊎ ((new ≡ old) × (result ≡ Err wire.Memory))

@@ -9,7 +9,9 @@ use Rattle.mpw_geom.specs.Plane.{has_point}
 use Rattle.mpw_geom.proofs.Tests.{le_from_test, test_from_le, PointIn-from_test, test_from_PointIn}
 
 -- the greatest of the lower ends is in both spans, where it isn't past the least of the upper ends
-pub common_point : (b c : Box2) → int_le (int_max b.x0 c.x0) (int_min b.x1 c.x1) ≡ true → int_le (int_max b.y0 c.y0) (int_min b.y1 c.y1) ≡ true → (p : Point) × IsTrue (has_point b p) × IsTrue (has_point c p)
+pub common_point : (b c : Box2) → int_le (int_max b.x0 c.x0) (int_min b.x1 c.x1) ≡ true
+    → int_le (int_max b.y0 c.y0) (int_min b.y1 c.y1) ≡ true → (p : Point) × IsTrue (has_point b p)
+    × IsTrue (has_point c p)
 common_point b c u v =
     let h = le_from_test (int_max b.x0 c.x0) (int_min b.x1 c.x1) u in
     let k = le_from_test (int_max b.y0 c.y0) (int_min b.y1 c.y1) v in
@@ -29,8 +31,13 @@ common_point b c u v =
       }),
     )
 
-pub spans_from_point : (b c : Box2) → ((p : Point) × IsTrue (has_point b p) × IsTrue (has_point c p)) → (int_le (int_max b.x0 c.x0) (int_min b.x1 c.x1) ≡ true) × (int_le (int_max b.y0 c.y0) (int_min b.y1 c.y1) ≡ true)
+pub spans_from_point : (b c : Box2)
+    → ((p : Point) × IsTrue (has_point b p) × IsTrue (has_point c p))
+    → (int_le (int_max b.x0 c.x0) (int_min b.x1 c.x1) ≡ true)
+    × (int_le (int_max b.y0 c.y0) (int_min b.y1 c.y1) ≡ true)
 spans_from_point b c h =
     let i = PointIn-from_test b h.0 h.1 in
-    let j = PointIn-from_test c h.0 h.2 in
-    (test_from_le (int_max b.x0 c.x0) (int_min b.x1 c.x1) (omega (arith, ints, clamps)), test_from_le (int_max b.y0 c.y0) (int_min b.y1 c.y1) (omega (arith, ints, clamps)))
+    let j = PointIn-from_test c h.0 h.2 in (
+      test_from_le (int_max b.x0 c.x0) (int_min b.x1 c.x1) (omega (arith, ints, clamps)),
+      test_from_le (int_max b.y0 c.y0) (int_min b.y1 c.y1) (omega (arith, ints, clamps)),
+    )

@@ -81,13 +81,15 @@ test_from_SquareIn b s h =
     (test_from_lt _ _ h.top)
 
 -- two boxes have the same points, or squares, where the inequalities say so both ways
-pub same_points : (b c : Box2) (p q : Point) → (PointIn b p → PointIn c q) → (PointIn c q → PointIn b p) → has_point b p ≡ has_point c q
+pub same_points : (b c : Box2) (p q : Point) → (PointIn b p → PointIn c q)
+    → (PointIn c q → PointIn b p) → has_point b p ≡ has_point c q
 same_points b c p q f g =
     same_tests _ _
     (λ h. test_from_PointIn c q (f (PointIn-from_test b p h)))
     (λ h. test_from_PointIn b p (g (PointIn-from_test c q h)))
 
-pub same_squares : (b c : Box2) (s t : Square) → (SquareIn b s → SquareIn c t) → (SquareIn c t → SquareIn b s) → has_square b s ≡ has_square c t
+pub same_squares : (b c : Box2) (s t : Square) → (SquareIn b s → SquareIn c t)
+    → (SquareIn c t → SquareIn b s) → has_square b s ≡ has_square c t
 same_squares b c s t f g =
     same_tests _ _
     (λ h. test_from_SquareIn c t (f (SquareIn-from_test b s h)))

@@ -22,13 +22,15 @@ links_without links name = filter (λ entry. not (name_eq name entry.0)) links
 -- the one name is the other, or a chain of links leads from it to the other
 pub data Leads (links : Links) : List ℕ → List ℕ → Type 0 where
   same : {name : List ℕ} → Leads links name name
-  chain : {from middle to : List ℕ} → is_linked links from middle ≡ true → Leads links middle to → Leads links from to
+  chain : {from middle to : List ℕ} → is_linked links from middle ≡ true → Leads links middle to
+      → Leads links from to
 
 -- the same as a test: a chain needs each name once, so it may go on without the links of the names that it has left
 abbrev pub leads_in : ℕ → Links → List ℕ → List ℕ → Bool
 leads_in zero links from to = name_eq from to
 leads_in (suc n) links from to =
-    name_eq from to || list_any (λ middle. leads_in n (links_without links from) middle to) (linked links from)
+    name_eq from to || list_any (λ middle. leads_in n (links_without links from) middle to)
+    (linked links from)
 
 unfoldable pub leads : Links → List ℕ → List ℕ → Bool
 leads links from to = leads_in (length links) links from to

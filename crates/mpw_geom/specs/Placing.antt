@@ -73,4 +73,5 @@ placed_square t s = moved_square t.by (oriented_square t.orient s)
 -- the points of a placed closed unit square are the placed points of the closed unit square
 abbrev pub PlacedSquaresHavePlacedPoints : Type 0
 PlacedSquaresHavePlacedPoints = (t : Placing) (s : Square) (p : Point)
-    → has_point (closed_square (placed_square t s)) (placed_point t p) ≡ has_point (closed_square s) p
+    → has_point (closed_square (placed_square t s)) (placed_point t p) ≡ has_point (closed_square s)
+    p

@@ -43,7 +43,8 @@ has_point b p = int_le b.x0 p.x && int_le p.x b.x1 && int_le b.y0 p.y && int_le 
 
 -- the unit square lies in the box
 unfoldable pub has_square : Box2 → Square → Bool
-has_square b s = int_le b.x0 s.column && int_lt s.column b.x1 && int_le b.y0 s.row && int_lt s.row b.y1
+has_square b s =
+    int_le b.x0 s.column && int_lt s.column b.x1 && int_le b.y0 s.row && int_lt s.row b.y1
 
 -- some box of the list has the unit square
 unfoldable pub any_has_square : List Box2 → Square → Bool

@@ -26,18 +26,24 @@ columns_few g = let h = some_rows g in grind arith
 pub rows_few : (g : Cells) → rows g ≤ cells g
 rows_few g = let h = some_columns g in grind arith
 
-pub number_within : (g : Cells) (column row : ℕ) → column < columns g → row < rows g → row * columns g + column < cells g
-number_within g column row c r = let p = mul-add-lt row (columns g) column (rows g) r c in omega arith
+pub number_within : (g : Cells) (column row : ℕ) → column < columns g → row < rows g
+    → row * columns g + column < cells g
+number_within g column row c r =
+    let p = mul-add-lt row (columns g) column (rows g) r c in omega arith
 
-pub number_column : (g : Cells) (column row : ℕ) → column < columns g → (row * columns g + column) % columns g ≡ column
+pub number_column : (g : Cells) (column row : ℕ) → column < columns g
+    → (row * columns g + column) % columns g ≡ column
 number_column g column row c = mod-mul-add row (columns g) column c
 
-pub number_row : (g : Cells) (column row : ℕ) → column < columns g → (row * columns g + column) / columns g ≡ row
+pub number_row : (g : Cells) (column row : ℕ) → column < columns g
+    → (row * columns g + column) / columns g ≡ row
 number_row g column row c = div-mul-add row (columns g) column c
 
-pub core_of_number : (g : Cells) (column row : ℕ) → column < columns g → core_of g (row * columns g + column) ≡ core_at g column row
+pub core_of_number : (g : Cells) (column row : ℕ) → column < columns g
+    → core_of g (row * columns g + column) ≡ core_at g column row
 core_of_number g column row c =
-    ap (λ (n : ℕ). core_at g n ((row * columns g + column) / columns g)) (number_column g column row c) ∙ ap (core_at g column) (number_row g column row c)
+    ap (λ (n : ℕ). core_at g n ((row * columns g + column) / columns g))
+    (number_column g column row c) ∙ ap (core_at g column) (number_row g column row c)
 
 pub column_within : (g : Cells) (cell : ℕ) → column_of g cell < columns g
 column_within g cell = mod_below cell (columns g) (some_columns g)
@@ -45,30 +51,39 @@ column_within g cell = mod_below cell (columns g) (some_columns g)
 pub row_within : (g : Cells) (cell : ℕ) → cell < cells g → row_of g cell < rows g
 row_within g cell h = div_below cell (columns g) (rows g) (some_columns g) h
 
-pub same_number : (g : Cells) (cell column row : ℕ) → column_of g cell ≡ column → row_of g cell ≡ row → cell ≡ row * columns g + column
+pub same_number : (g : Cells) (cell column row : ℕ) → column_of g cell ≡ column
+    → row_of g cell ≡ row → cell ≡ row * columns g + column
 same_number g cell column row c r =
-    subst (λ (n : ℕ). cell ≡ row * columns g + n) c (subst (λ (n : ℕ). cell ≡ n * columns g + column_of g cell) r (split cell (columns g) (some_columns g)))
+    subst (λ (n : ℕ). cell ≡ row * columns g + n) c
+    (subst (λ (n : ℕ). cell ≡ n * columns g + column_of g cell) r
+    (split cell (columns g) (some_columns g)))
   where
     split : (n k : ℕ) → 1 ≤ k → n ≡ n / k * k + n % k
     split n k h = omega arith
 
 -- ---- points
 
-found_column : (g : Cells) (p : Point) → 1 ≤ g.side → PointIn g.extent p → sides_between g.side g.extent.x0 p.x < columns g
+found_column : (g : Cells) (p : Point) → 1 ≤ g.side → PointIn g.extent p
+    → sides_between g.side g.extent.x0 p.x < columns g
 unfolding columns
 found_column g p h i = found_within g.extent.x0 p.x g.extent.x1 g.side h i.left i.right
 
-found_row : (g : Cells) (p : Point) → 1 ≤ g.side → PointIn g.extent p → sides_between g.side g.extent.y0 p.y < rows g
+found_row : (g : Cells) (p : Point) → 1 ≤ g.side → PointIn g.extent p
+    → sides_between g.side g.extent.y0 p.y < rows g
 unfolding rows
 found_row g p h i = found_within g.extent.y0 p.y g.extent.y1 g.side h i.bottom i.top
 
-pub found_columns : (g : Cells) (p : Point) → 1 ≤ g.side → has_point g.extent p ≡ true → sides_between g.side g.extent.x0 p.x < columns g
+pub found_columns : (g : Cells) (p : Point) → 1 ≤ g.side → has_point g.extent p ≡ true
+    → sides_between g.side g.extent.x0 p.x < columns g
 found_columns g p h i = found_column g p h (PointIn-from_test g.extent p i)
 
-pub found_rows : (g : Cells) (p : Point) → 1 ≤ g.side → has_point g.extent p ≡ true → sides_between g.side g.extent.y0 p.y < rows g
+pub found_rows : (g : Cells) (p : Point) → 1 ≤ g.side → has_point g.extent p ≡ true
+    → sides_between g.side g.extent.y0 p.y < rows g
 found_rows g p h i = found_row g p h (PointIn-from_test g.extent p i)
 
-in_found : (g : Cells) (p : Point) → 1 ≤ g.side → PointIn g.extent p → SquareIn (core_at g (sides_between g.side g.extent.x0 p.x) (sides_between g.side g.extent.y0 p.y)) (square_at p)
+in_found : (g : Cells) (p : Point) → 1 ≤ g.side → PointIn g.extent p
+    → SquareIn (core_at g (sides_between g.side g.extent.x0 p.x)
+    (sides_between g.side g.extent.y0 p.y)) (square_at p)
 unfolding core_at
 in_found g p h i = record {
   left = found_low g.extent.x0 p.x g.side h i.left;
@@ -77,15 +92,18 @@ in_found g p h i = record {
   top = found_high g.extent.y0 p.y g.side h i.bottom;
 }
 
-column_is : (g : Cells) (p : Point) (column row : ℕ) → 1 ≤ g.side → SquareIn (core_at g column row) (square_at p) → column ≡ sides_between g.side g.extent.x0 p.x
+column_is : (g : Cells) (p : Point) (column row : ℕ) → 1 ≤ g.side
+    → SquareIn (core_at g column row) (square_at p) → column ≡ sides_between g.side g.extent.x0 p.x
 unfolding core_at
 column_is g p column row h i = found_only g.extent.x0 p.x g.side column h i.left i.right
 
-row_is : (g : Cells) (p : Point) (column row : ℕ) → 1 ≤ g.side → SquareIn (core_at g column row) (square_at p) → row ≡ sides_between g.side g.extent.y0 p.y
+row_is : (g : Cells) (p : Point) (column row : ℕ) → 1 ≤ g.side
+    → SquareIn (core_at g column row) (square_at p) → row ≡ sides_between g.side g.extent.y0 p.y
 unfolding core_at
 row_is g p column row h i = found_only g.extent.y0 p.y g.side row h i.bottom i.top
 
-pub only_cell : (g : Cells) (p : Point) → 1 ≤ g.side → has_point g.extent p ≡ true → IsOnlyCell g p (found_cell g p)
+pub only_cell : (g : Cells) (p : Point) → 1 ≤ g.side → has_point g.extent p ≡ true
+    → IsOnlyCell g p (found_cell g p)
 unfolding found_cell
 only_cell g p h t =
     let i = PointIn-from_test g.extent p t in
@@ -95,9 +113,16 @@ only_cell g p h t =
     let r = found_row g p h i in
     record {
       within = number_within g column row c r;
-      inside = subst (λ (b : Box2). has_square b (square_at p) ≡ true) (sym (core_of_number g column row c)) (test_from_SquareIn (core_at g column row) (square_at p) (in_found g p h i));
-      only = λ other _ k. let s = SquareIn-from_test (core_of g other) (square_at p) k in same_number g other column row (column_is g p (column_of g other) (row_of g other) h s) (row_is g p (column_of g other) (row_of g other) h s);
+      inside = subst (λ (b : Box2). has_square b (square_at p) ≡ true)
+          (sym (core_of_number g column row c))
+          (test_from_SquareIn (core_at g column row) (square_at p) (in_found g p h i));
+      only = λ other _ k. let s = SquareIn-from_test (core_of g other) (square_at p) k in
+          same_number g other column row (column_is g p (column_of g other) (row_of g other) h s)
+          (row_is g p (column_of g other) (row_of g other) h s);
     }
 
-pub numbered : (g : Cells) (column row : ℕ) → column < columns g → row < rows g → (row * columns g + column < cells g) × ((row * columns g + column) % columns g ≡ column) × ((row * columns g + column) / columns g ≡ row)
-numbered g column row c r = (number_within g column row c r, number_column g column row c, number_row g column row c)
+pub numbered : (g : Cells) (column row : ℕ) → column < columns g → row < rows g
+    → (row * columns g + column < cells g) × ((row * columns g + column) % columns g ≡ column)
+    × ((row * columns g + column) / columns g ≡ row)
+numbered g column row c r =
+    (number_within g column row c r, number_column g column row c, number_row g column row c)

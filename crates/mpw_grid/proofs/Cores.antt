@@ -12,9 +12,12 @@ use Rattle.mpw_grid.proofs.Cells.{column_within, row_within}
 
 pub same_box : (a b : Box2) → a.x0 ≡ b.x0 → a.y0 ≡ b.y0 → a.x1 ≡ b.x1 → a.y1 ≡ b.y1 → a ≡ b
 same_box a b e f g h =
-    ap (λ (p : ℤ × ℤ × ℤ × ℤ). let c : Box2 = record { x0 = p.0; y0 = p.1; x1 = p.2; y1 = p.3 } in c) (let k : (let q : ℤ × ℤ × ℤ × ℤ = (a.x0, a.y0, a.x1, a.y1) in q) ≡ (b.x0, b.y0, b.x1, b.y1) = cc in k)
+    ap (λ (p : ℤ × ℤ × ℤ × ℤ). let c : Box2 = record { x0 = p.0; y0 = p.1; x1 = p.2; y1 = p.3 } in
+    c) (let k : (let q : ℤ × ℤ × ℤ × ℤ = (a.x0, a.y0, a.x1, a.y1) in q)
+    ≡ (b.x0, b.y0, b.x1, b.y1) = cc in k)
 
-column_short : (g : Cells) (n k column : ℕ) → IsGrid g n k → column < columns g → column * g.side ≤ 2 ^ 49
+column_short : (g : Cells) (n k column : ℕ) → IsGrid g n k → column < columns g
+    → column * g.side ≤ 2 ^ 49
 unfolding columns
 column_short g n k column h u =
     let p = begins_within g.extent.x0 g.extent.x1 g.side column h.side h.ordered.x u in
@@ -31,50 +34,78 @@ row_short g n k row h u =
     omega (arith, ints)
 
 pub columns_short : (g : Cells) (n k cell : ℕ) → IsGrid g n k → cell % n * g.side ≤ 2 ^ 49
-columns_short g n k cell h = subst (λ (m : ℕ). cell % m * g.side ≤ 2 ^ 49) (sym h.columns_are) (column_short g n k (column_of g cell) h (column_within g cell))
+columns_short g n k cell h = subst (λ (m : ℕ). cell % m * g.side ≤ 2 ^ 49) (sym h.columns_are)
+    (column_short g n k (column_of g cell) h (column_within g cell))
 
-pub rows_short : (g : Cells) (n k cell : ℕ) → IsGrid g n k → cell < cells g → cell / n * g.side ≤ 2 ^ 49
-rows_short g n k cell h u = subst (λ (m : ℕ). cell / m * g.side ≤ 2 ^ 49) (sym h.columns_are) (row_short g n k (row_of g cell) h (row_within g cell u))
+pub rows_short : (g : Cells) (n k cell : ℕ) → IsGrid g n k → cell < cells g
+    → cell / n * g.side ≤ 2 ^ 49
+rows_short g n k cell h u = subst (λ (m : ℕ). cell / m * g.side ≤ 2 ^ 49) (sym h.columns_are)
+    (row_short g n k (row_of g cell) h (row_within g cell u))
 
 -- the core of a cell, by the columns that are kept
-pub core_is : (g : Cells) (n k cell : ℕ) (b : Box2) → IsGrid g n k → b.x0 ≡ g.extent.x0 +ℤ pos (cell % n * g.side) → b.y0 ≡ g.extent.y0 +ℤ pos (cell / n * g.side) → b.x1 ≡ b.x0 +ℤ pos g.side → b.y1 ≡ b.y0 +ℤ pos g.side → b ≡ core_of g cell
+pub core_is : (g : Cells) (n k cell : ℕ) (b : Box2) → IsGrid g n k
+    → b.x0 ≡ g.extent.x0 +ℤ pos (cell % n * g.side) → b.y0 ≡ g.extent.y0 +ℤ pos (cell / n * g.side)
+    → b.x1 ≡ b.x0 +ℤ pos g.side → b.y1 ≡ b.y0 +ℤ pos g.side → b ≡ core_of g cell
 unfolding core_at
 core_is g n k cell b h e f i j =
     let c : cell % n ≡ column_of g cell = ap (λ (m : ℕ). cell % m) h.columns_are in
     let r : cell / n ≡ row_of g cell = ap (λ (m : ℕ). cell / m) h.columns_are in
-    let c' : pos (cell % n * g.side) ≡ pos (column_of g cell * g.side) = ap (λ (m : ℕ). pos (m * g.side)) c in
-    let r' : pos (cell / n * g.side) ≡ pos (row_of g cell * g.side) = ap (λ (m : ℕ). pos (m * g.side)) r in
-    same_box b (core_of g cell) (e ∙ ap (λ (z : ℤ). g.extent.x0 +ℤ z) c') (f ∙ ap (λ (z : ℤ). g.extent.y0 +ℤ z) r')
+    let c' : pos (cell % n * g.side) ≡ pos (column_of g cell * g.side) =
+    ap (λ (m : ℕ). pos (m * g.side)) c in
+    let r' : pos (cell / n * g.side) ≡ pos (row_of g cell * g.side) =
+    ap (λ (m : ℕ). pos (m * g.side)) r in
+    same_box b (core_of g cell) (e ∙ ap (λ (z : ℤ). g.extent.x0 +ℤ z) c')
+    (f ∙ ap (λ (z : ℤ). g.extent.y0 +ℤ z) r')
     (i ∙ ap (λ (z : ℤ). z +ℤ pos g.side) (e ∙ ap (λ (z : ℤ). g.extent.x0 +ℤ z) c'))
     (j ∙ ap (λ (z : ℤ). z +ℤ pos g.side) (f ∙ ap (λ (z : ℤ). g.extent.y0 +ℤ z) r'))
 
 -- a core reaches at most a side past the extent
-pub core_near : (g : Cells) (n k cell m : ℕ) → IsGrid g n k → cell < cells g → IsBoxWithin m g.extent → IsBoxWithin (m + 2 ^ 32) (core_of g cell)
+pub core_near : (g : Cells) (n k cell m : ℕ) → IsGrid g n k → cell < cells g
+    → IsBoxWithin m g.extent → IsBoxWithin (m + 2 ^ 32) (core_of g cell)
 unfolding core_at columns rows
 core_near g n k cell m h u b =
-    let p = begins_within g.extent.x0 g.extent.x1 g.side (column_of g cell) h.side h.ordered.x (column_within g cell) in
-    let q = begins_within g.extent.y0 g.extent.y1 g.side (row_of g cell) h.side h.ordered.y (row_within g cell u) in
+    let p = begins_within g.extent.x0 g.extent.x1 g.side (column_of g cell) h.side h.ordered.x
+    (column_within g cell) in
+    let q = begins_within g.extent.y0 g.extent.y1 g.side (row_of g cell) h.side h.ordered.y
+    (row_within g cell u) in
     let l = b.left in
     let r = b.right in
     let d = b.bottom in
     let t = b.top in
     let s = h.short in
-    record { left = omega (arith, ints); right = omega (arith, ints); bottom = omega (arith, ints); top = omega (arith, ints) }
+    record {
+      left = omega (arith, ints);
+      right = omega (arith, ints);
+      bottom = omega (arith, ints);
+      top = omega (arith, ints);
+    }
 
 -- ---- windows that share a square with a box
 
-pub share_from : (a b : Box2) → a.x0 <ℤ a.x1 → a.y0 <ℤ a.y1 → HasArea b → a.x0 <ℤ b.x1 → b.x0 <ℤ a.x1 → a.y0 <ℤ b.y1 → b.y0 <ℤ a.y1 → ShareSquare a b
+pub share_from : (a b : Box2) → a.x0 <ℤ a.x1 → a.y0 <ℤ a.y1 → HasArea b → a.x0 <ℤ b.x1
+    → b.x0 <ℤ a.x1 → a.y0 <ℤ b.y1 → b.y0 <ℤ a.y1 → ShareSquare a b
 share_from a b w h g l r d u =
     let s : Square = record { column = int_max a.x0 b.x0; row = int_max a.y0 b.y0 } in
     let p = g.width in
     let q = g.height in
     record {
       square = s;
-      first = test_from_SquareIn a s (record { left = omega (arith, ints, clamps); right = omega (arith, ints, clamps); bottom = omega (arith, ints, clamps); top = omega (arith, ints, clamps) });
-      second = test_from_SquareIn b s (record { left = omega (arith, ints, clamps); right = omega (arith, ints, clamps); bottom = omega (arith, ints, clamps); top = omega (arith, ints, clamps) });
+      first = test_from_SquareIn a s (record {
+        left = omega (arith, ints, clamps);
+        right = omega (arith, ints, clamps);
+        bottom = omega (arith, ints, clamps);
+        top = omega (arith, ints, clamps);
+      });
+      second = test_from_SquareIn b s (record {
+        left = omega (arith, ints, clamps);
+        right = omega (arith, ints, clamps);
+        bottom = omega (arith, ints, clamps);
+        top = omega (arith, ints, clamps);
+      });
     }
 
-pub from_share : (a b : Box2) → ShareSquare a b → ((a.x0 <ℤ b.x1) × (b.x0 <ℤ a.x1)) × ((a.y0 <ℤ b.y1) × (b.y0 <ℤ a.y1))
+pub from_share : (a b : Box2) → ShareSquare a b → ((a.x0 <ℤ b.x1) × (b.x0 <ℤ a.x1))
+    × ((a.y0 <ℤ b.y1) × (b.y0 <ℤ a.y1))
 from_share a b h =
     let p = SquareIn-from_test a h.square h.first in
     let q = SquareIn-from_test b h.square h.second in

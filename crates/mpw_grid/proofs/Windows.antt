@@ -9,9 +9,12 @@ use Rattle.mpw_grid.specs.Grid.{Cells, core_at, window_at, IsInBlock, ShareSquar
 use Rattle.mpw_grid.proofs.Intervals.{Overlaps}
 use Rattle.mpw_grid.proofs.Cores.{share_from, from_share}
 
-pub block_meets : (g : Cells) (margin : ℕ) (block : Block) (b : Box2) (column row : ℕ) → 1 ≤ g.side → HasArea b
-    → ((block.column0 ≤ column) × (column < block.column1)) ↔ Overlaps g.extent.x0 g.side (b.x0 -ℤ pos margin) (b.x1 +ℤ pos margin) column
-    → ((block.row0 ≤ row) × (row < block.row1)) ↔ Overlaps g.extent.y0 g.side (b.y0 -ℤ pos margin) (b.y1 +ℤ pos margin) row
+pub block_meets : (g : Cells) (margin : ℕ) (block : Block) (b : Box2) (column row : ℕ) → 1 ≤ g.side
+    → HasArea b
+    → ((block.column0 ≤ column) × (column < block.column1))
+    ↔ Overlaps g.extent.x0 g.side (b.x0 -ℤ pos margin) (b.x1 +ℤ pos margin) column
+    → ((block.row0 ≤ row) × (row < block.row1)) ↔ Overlaps g.extent.y0 g.side (b.y0 -ℤ pos margin)
+    (b.y1 +ℤ pos margin) row
     → IsInBlock block column row ↔ ShareSquare (window_at g margin column row) b
 unfolding core_at
 block_meets g margin block b column row h a x y = (to, from)
@@ -24,7 +27,8 @@ block_meets g margin block b column row h a x y = (to, from)
         let p1 = p.1 in
         let q0 = q.0 in
         let q1 = q.1 in
-        share_from (window_at g margin column row) b (omega (arith, ints)) (omega (arith, ints)) a (omega (arith, ints)) (omega (arith, ints)) (omega (arith, ints)) (omega (arith, ints))
+        share_from (window_at g margin column row) b (omega (arith, ints)) (omega (arith, ints)) a
+        (omega (arith, ints)) (omega (arith, ints)) (omega (arith, ints)) (omega (arith, ints))
 
     from : ShareSquare (window_at g margin column row) b → IsInBlock block column row
     from s =
@@ -37,6 +41,9 @@ block_meets g margin block b column row h a x y = (to, from)
         let j = y.1 (omega (arith, ints), omega (arith, ints)) in
         record { left = i.0; right = i.1; bottom = j.0; top = j.1 }
 
-pub same_overlaps : (P : Type 0) (a a' low low' high high' : ℤ) (s n : ℕ) → a' ≡ a → low' ≡ low → high' ≡ high → P ↔ Overlaps a' s low' high' n → P ↔ Overlaps a s low high n
+pub same_overlaps : (P : Type 0) (a a' low low' high high' : ℤ) (s n : ℕ) → a' ≡ a → low' ≡ low
+    → high' ≡ high → P ↔ Overlaps a' s low' high' n → P ↔ Overlaps a s low high n
 same_overlaps P a a' low low' high high' s n e f g h =
-    subst (λ (z : ℤ). P ↔ Overlaps a s low z n) g (subst (λ (z : ℤ). P ↔ Overlaps a s z high' n) f (subst (λ (z : ℤ). P ↔ Overlaps z s low' high' n) e h))
+    subst (λ (z : ℤ). P ↔ Overlaps a s low z n) g
+    (subst (λ (z : ℤ). P ↔ Overlaps a s z high' n) f
+    (subst (λ (z : ℤ). P ↔ Overlaps z s low' high' n) e h))

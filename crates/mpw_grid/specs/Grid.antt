@@ -45,7 +45,8 @@ core_of g cell = core_at g (column_of g cell) (row_of g cell)
 
 -- The box, wider on each side.
 abbrev pub widened : Box2 → ℕ → Box2
-widened b n = record { x0 = b.x0 -ℤ pos n; y0 = b.y0 -ℤ pos n; x1 = b.x1 +ℤ pos n; y1 = b.y1 +ℤ pos n }
+widened b n =
+    record { x0 = b.x0 -ℤ pos n; y0 = b.y0 -ℤ pos n; x1 = b.x1 +ℤ pos n; y1 = b.y1 +ℤ pos n }
 
 -- A window is its core, wider by the margin on each side.
 abbrev pub window_at : Cells → ℕ → (column row : ℕ) → Box2
@@ -56,7 +57,8 @@ window_of g margin cell = widened (core_of g cell) margin
 
 -- The cell that division finds for a point.
 unfoldable pub found_cell : Cells → Point → ℕ
-found_cell g p = sides_between g.side g.extent.y0 p.y * columns g + sides_between g.side g.extent.x0 p.x
+found_cell g p =
+    sides_between g.side g.extent.y0 p.y * columns g + sides_between g.side g.extent.x0 p.x
 
 -- The unit square whose lower left corner is the point.
 abbrev pub square_at : Point → Square
@@ -66,7 +68,8 @@ square_at p = record { column = p.x; row = p.y }
 pub record IsOnlyCell (g : Cells) (p : Point) (cell : ℕ) : Type 0 where
   pub within : cell < cells g
   pub inside : has_square (core_of g cell) (square_at p) ≡ true
-  pub only : (other : ℕ) → other < cells g → has_square (core_of g other) (square_at p) ≡ true → other ≡ cell
+  pub only : (other : ℕ) → other < cells g → has_square (core_of g other) (square_at p) ≡ true
+      → other ≡ cell
 
 -- The boxes have a unit square in common.
 pub record ShareSquare (a b : Box2) : Type 0 where

@@ -6,16 +6,19 @@ use Rattle.mpw_grid.specs.Grid.{Cells, columns, rows, cells, found_cell, window_
 
 -- Each point of the closed extent lies in exactly one core: that of the cell that division finds.
 abbrev pub EachPointHasOneCore : Type 0
-EachPointHasOneCore = (g : Cells) (p : Point) → 1 ≤ g.side → has_point g.extent p ≡ true → IsOnlyCell g p (found_cell g p)
+EachPointHasOneCore = (g : Cells) (p : Point) → 1 ≤ g.side → has_point g.extent p ≡ true
+    → IsOnlyCell g p (found_cell g p)
 
 -- A column and a row have a number, and a number has its column and row.
 abbrev pub CellsAreNumbered : Type 0
 CellsAreNumbered =
     (g : Cells) (column row : ℕ) → column < columns g → row < rows g
-    → (row * columns g + column < cells g) × ((row * columns g + column) % columns g ≡ column) × ((row * columns g + column) / columns g ≡ row)
+    → (row * columns g + column < cells g) × ((row * columns g + column) % columns g ≡ column)
+    × ((row * columns g + column) / columns g ≡ row)
 
 -- A window reaches no further past its grid's extent than a side and the margin.
 abbrev pub WindowsReachNoFurther : Type 0
 WindowsReachNoFurther =
-    (g : Cells) (margin cell m : ℕ) → 1 ≤ g.side → IsOrdered g.extent → cell < cells g → IsBoxWithin m g.extent
+    (g : Cells) (margin cell m : ℕ) → 1 ≤ g.side → IsOrdered g.extent → cell < cells g
+    → IsBoxWithin m g.extent
     → IsBoxWithin (m + g.side + margin) (window_of g margin cell)

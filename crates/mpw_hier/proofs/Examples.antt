@@ -25,15 +25,18 @@ array = record {
 }
 
 abbrev dot : Element
-dot = elements.Boundary (record { layer = record { layer = 1; datatype = 0 }; points = origin ∷ [] })
+dot =
+    elements.Boundary (record { layer = record { layer = 1; datatype = 0 }; points = origin ∷ [] })
 
 abbrev place_e : Element
 place_e = elements.Reference array
 
 -- T shows a dot of its own and an array of E, which shows a dot and a name outside
 abbrev two : List Structure
-two = record { name = 84 ∷ []; elements = place_e ∷ dot ∷ [] } ∷ record { name = 69 ∷ []; elements = dot ∷ [] } ∷ []
+two = record { name = 84 ∷ []; elements = place_e ∷ dot ∷ [] }
+    ∷ record { name = 69 ∷ []; elements = dot ∷ [] } ∷ []
 
-pub seven_items : map (λ (i : Item). i.origin) (items_of (λ _. []) 5 two (84 ∷ [])) ≡ 5 ∷ 5 ∷ 5 ∷ 5 ∷ 5 ∷ 5 ∷ 5 ∷ []
+pub seven_items : map (λ (i : Item). i.origin) (items_of (λ _. []) 5 two (84 ∷ [])) ≡ 5 ∷ 5 ∷ 5 ∷ 5
+    ∷ 5 ∷ 5 ∷ 5 ∷ []
 unfolding by_levels instances
 seven_items = refl

@@ -13,7 +13,7 @@ use Rattle.mpw_elements.specs.declared.element.Reference.{Reference}
 use Rattle.mpw_shapes.specs.Path.{wire_boxes}
 use Rattle.mpw_hier.specs.Items.{Item, placed_again, placed_item, placed_items, instances}
 use Rattle.mpw_hier.specs.Boxes.{joined, hull, hull_of, hull_of_points, has_area, element_box, placed_box, item_box, extent_of}
-use Rattle.mpw_hier.specs.SizeParts.{array_extent}
+use Rattle.mpw_hier.specs.Internal.SizeParts.{array_extent}
 use Rattle.mpw_hier.proofs.Hulls.{hull_assoc}
 use Rattle.mpw_hier.proofs.Placings.{again_box, placed_ordered, placed_joined, unmoved, unmoved_box}
 
@@ -34,7 +34,8 @@ points_ordered : (ps : List Point) → AreOrdered (hull_of_points ps)
 unfolding hull_of_points
 points_ordered [] = tt
 points_ordered (p ∷ ps) =
-    hull_ordered (Some (record { x0 = p.x; y0 = p.y; x1 = p.x; y1 = p.y })) (hull_of_points ps) (record { x = omega (arith, ints); y = omega (arith, ints) }) (points_ordered ps)
+    hull_ordered (Some (record { x0 = p.x; y0 = p.y; x1 = p.x; y1 = p.y })) (hull_of_points ps)
+    (record { x = omega (arith, ints); y = omega (arith, ints) }) (points_ordered ps)
 
 area_ordered : (b : Box2) → has_area b ≡ true → IsOrdered b
 area_ordered b h = record { x = grind (arith, ints); y = grind (arith, ints) }
@@ -44,25 +45,31 @@ unfolding hull_of
 areas_ordered [] = tt
 areas_ordered (b ∷ bs) = go (areas_ordered bs) (has_area b) refl
   where
-    go : AreOrdered (hull_of (filter has_area bs)) → (t : Bool) → has_area b ≡ t → AreOrdered (hull_of (cond t (b ∷ filter has_area bs) (filter has_area bs)))
+    go : AreOrdered (hull_of (filter has_area bs)) → (t : Bool) → has_area b ≡ t
+        → AreOrdered (hull_of (cond t (b ∷ filter has_area bs) (filter has_area bs)))
     go more true e = hull_ordered (Some b) (hull_of (filter has_area bs)) (area_ordered b e) more
     go more false e = more
 
 pub element_ordered : (e : Element) → AreOrdered (element_box e)
 unfolding element_box
 element_ordered (elements.Boundary b) = points_ordered b.points
-element_ordered (elements.Path p) = hull_ordered (hull_of_points p.points) _ (points_ordered p.points) (areas_ordered (wire_boxes (int_div p.width (pos 2)) p.begin p.end p.points))
+element_ordered (elements.Path p) = hull_ordered (hull_of_points p.points) _
+    (points_ordered p.points) (areas_ordered
+    (wire_boxes (int_div p.width (pos 2)) p.begin p.end p.points))
 element_ordered (elements.Reference r) = tt
 
-pub hull_map_ordered : {A : Type 0} (f : A → Box2) → ((a : A) → IsOrdered (f a)) → (xs : List A) → AreOrdered (hull_of (map f xs))
+pub hull_map_ordered : {A : Type 0} (f : A → Box2) → ((a : A) → IsOrdered (f a)) → (xs : List A)
+    → AreOrdered (hull_of (map f xs))
 unfolding hull_of
 hull_map_ordered f each [] = tt
-hull_map_ordered f each (x ∷ xs) = hull_ordered (Some (f x)) (hull_of (map f xs)) (each x) (hull_map_ordered f each xs)
+hull_map_ordered f each (x ∷ xs) =
+    hull_ordered (Some (f x)) (hull_of (map f xs)) (each x) (hull_map_ordered f each xs)
 
 pub array_ordered : (r : Reference) (o : Option Box2) → AreOrdered (array_extent r o)
 unfolding array_extent
 array_ordered r None = tt
-array_ordered r (Some b) = hull_map_ordered (λ t. placed_box t b) (λ t. placed_ordered t b) (instances r)
+array_ordered r (Some b) =
+    hull_map_ordered (λ t. placed_box t b) (λ t. placed_ordered t b) (instances r)
 
 placed_some : (t : Placing) (o : Option Box2) → AreOrdered (option_map (placed_box t) o)
 placed_some t None = tt
@@ -71,46 +78,65 @@ placed_some t (Some b) = placed_ordered t b
 pub extent_ordered : (xs : List Item) → AreOrdered (extent_of xs)
 unfolding extent_of
 extent_ordered [] = tt
-extent_ordered (x ∷ xs) = hull_ordered (item_box x) (extent_of xs) (placed_some x.placing (element_box x.element)) (extent_ordered xs)
+extent_ordered (x ∷ xs) = hull_ordered (item_box x) (extent_of xs)
+    (placed_some x.placing (element_box x.element)) (extent_ordered xs)
 
 -- ---- lists joined
 
 pub extent_append : (xs ys : List Item) → extent_of (xs ++ ys) ≡ hull (extent_of xs) (extent_of ys)
 unfolding extent_of
 extent_append [] ys = refl
-extent_append (x ∷ xs) ys = ap (hull (item_box x)) (extent_append xs ys) ∙ sym (hull_assoc (item_box x) (extent_of xs) (extent_of ys))
+extent_append (x ∷ xs) ys = ap (hull (item_box x)) (extent_append xs ys)
+    ∙ sym (hull_assoc (item_box x) (extent_of xs) (extent_of ys))
 
 -- ---- lists placed
 
-placed_hull : (t : Placing) (a b : Option Box2) → AreOrdered a → AreOrdered b → option_map (placed_box t) (hull a b) ≡ hull (option_map (placed_box t) a) (option_map (placed_box t) b)
+placed_hull : (t : Placing) (a b : Option Box2) → AreOrdered a → AreOrdered b
+    → option_map (placed_box t) (hull a b) ≡ hull (option_map (placed_box t) a)
+    (option_map (placed_box t) b)
 placed_hull t None b h k = refl
 placed_hull t (Some a) None h k = refl
 placed_hull t (Some a) (Some b) h k = ap Some (placed_joined t a b h k)
 
-again_some : (t u : Placing) (o : Option Box2) → option_map (placed_box (placed_again t u)) o ≡ option_map (placed_box t) (option_map (placed_box u) o)
+again_some : (t u : Placing) (o : Option Box2)
+    → option_map (placed_box (placed_again t u)) o ≡ option_map (placed_box t)
+    (option_map (placed_box u) o)
 again_some t u None = refl
 again_some t u (Some b) = ap Some (again_box t u b)
 
-pub extent_placed : (t : Placing) (xs : List Item) → extent_of (map (placed_item t) xs) ≡ option_map (placed_box t) (extent_of xs)
+pub extent_placed : (t : Placing) (xs : List Item)
+    → extent_of (map (placed_item t) xs) ≡ option_map (placed_box t) (extent_of xs)
 unfolding extent_of
 extent_placed t [] = refl
 extent_placed t (x ∷ xs) =
-    ap (λ o. hull o (extent_of (map (placed_item t) xs))) (again_some t x.placing (element_box x.element)) ∙ ap (hull (option_map (placed_box t) (item_box x))) (extent_placed t xs) ∙ sym (placed_hull t (item_box x) (extent_of xs) (placed_some x.placing (element_box x.element)) (extent_ordered xs))
+    ap (λ o. hull o (extent_of (map (placed_item t) xs)))
+    (again_some t x.placing (element_box x.element))
+    ∙ ap (hull (option_map (placed_box t) (item_box x))) (extent_placed t xs)
+    ∙ sym (placed_hull t (item_box x) (extent_of xs)
+    (placed_some x.placing (element_box x.element)) (extent_ordered xs))
 
-none_placed : (xs : List Item) → extent_of xs ≡ None → (ts : List Placing) → extent_of (flat_map (λ t. map (placed_item t) xs) ts) ≡ None
+none_placed : (xs : List Item) → extent_of xs ≡ None → (ts : List Placing)
+    → extent_of (flat_map (λ t. map (placed_item t) xs) ts) ≡ None
 unfolding extent_of
 none_placed xs e [] = refl
 none_placed xs e (t ∷ ts) =
-    extent_append (map (placed_item t) xs) (flat_map (λ u. map (placed_item u) xs) ts) ∙ ap (λ o. hull o (extent_of (flat_map (λ u. map (placed_item u) xs) ts))) (extent_placed t xs ∙ ap (option_map (placed_box t)) e) ∙ none_placed xs e ts
+    extent_append (map (placed_item t) xs) (flat_map (λ u. map (placed_item u) xs) ts)
+    ∙ ap (λ o. hull o (extent_of (flat_map (λ u. map (placed_item u) xs) ts)))
+    (extent_placed t xs ∙ ap (option_map (placed_box t)) e) ∙ none_placed xs e ts
 
-some_placed : (xs : List Item) (b : Box2) → extent_of xs ≡ Some b → (ts : List Placing) → extent_of (flat_map (λ t. map (placed_item t) xs) ts) ≡ hull_of (map (λ t. placed_box t b) ts)
+some_placed : (xs : List Item) (b : Box2) → extent_of xs ≡ Some b → (ts : List Placing)
+    → extent_of (flat_map (λ t. map (placed_item t) xs) ts) ≡ hull_of (map (λ t. placed_box t b) ts)
 unfolding extent_of hull_of
 some_placed xs b e [] = refl
 some_placed xs b e (t ∷ ts) =
-    extent_append (map (placed_item t) xs) (flat_map (λ u. map (placed_item u) xs) ts) ∙ ap (λ o. hull o (extent_of (flat_map (λ u. map (placed_item u) xs) ts))) (extent_placed t xs ∙ ap (option_map (placed_box t)) e) ∙ ap (hull (Some (placed_box t b))) (some_placed xs b e ts)
+    extent_append (map (placed_item t) xs) (flat_map (λ u. map (placed_item u) xs) ts)
+    ∙ ap (λ o. hull o (extent_of (flat_map (λ u. map (placed_item u) xs) ts)))
+    (extent_placed t xs ∙ ap (option_map (placed_box t)) e)
+    ∙ ap (hull (Some (placed_box t b))) (some_placed xs b e ts)
 
 -- the extent of all instances is the least box of all instances of the extent
-pub extent_array : (r : Reference) (xs : List Item) → extent_of (placed_items r xs) ≡ array_extent r (extent_of xs)
+pub extent_array : (r : Reference) (xs : List Item)
+    → extent_of (placed_items r xs) ≡ array_extent r (extent_of xs)
 unfolding array_extent
 extent_array r xs = go (extent_of xs) refl
   where
@@ -123,5 +149,6 @@ own_some : (o : Option Box2) → AreOrdered o → option_map (placed_box unmoved
 own_some None h = refl
 own_some (Some b) h = ap Some (unmoved_box b h)
 
-pub own_box : (number : ℕ) (e : Element) → item_box (record { origin = number; placing = unmoved; element = e }) ≡ element_box e
+pub own_box : (number : ℕ) (e : Element)
+    → item_box (record { origin = number; placing = unmoved; element = e }) ≡ element_box e
 own_box number e = own_some (element_box e) (element_ordered e)

@@ -8,7 +8,12 @@ use Rattle.mpw_hier.specs.Boxes.{joined, hull, item_box, extent_of}
 use Rattle.mpw_hier.specs.Holding.{IsInside, IsHeld, ExtentsHoldItems, ExtentsAreLeast}
 
 inside_itself : (b : Box2) → IsInside b b
-inside_itself b = record { left = omega (arith, ints); bottom = omega (arith, ints); right = omega (arith, ints); top = omega (arith, ints) }
+inside_itself b = record {
+  left = omega (arith, ints);
+  bottom = omega (arith, ints);
+  right = omega (arith, ints);
+  top = omega (arith, ints);
+}
 
 inside_joined : (a b c : Box2) → IsInside c b → IsInside c (joined a b)
 inside_joined a b c h = record {
@@ -56,11 +61,14 @@ unfolding extent_of
 extent_holds [] = All-nil (λ i. IsHeld (item_box i) None)
 extent_holds (x ∷ xs) =
     let whole = hull (item_box x) (extent_of xs) in
-    All-cons (λ i. IsHeld (item_box i) whole) x xs (held_first (item_box x) (extent_of xs)) (All-weaker (λ i. IsHeld (item_box i) (extent_of xs)) (λ i. IsHeld (item_box i) whole) (λ i h. held_behind (item_box x) (extent_of xs) (item_box i) h) xs (extent_holds xs))
+    All-cons (λ i. IsHeld (item_box i) whole) x xs (held_first (item_box x) (extent_of xs))
+    (All-weaker (λ i. IsHeld (item_box i) (extent_of xs)) (λ i. IsHeld (item_box i) whole)
+    (λ i h. held_behind (item_box x) (extent_of xs) (item_box i) h) xs (extent_holds xs))
 
 pub extent_least : ExtentsAreLeast
 unfolding extent_of
 extent_least [] outer h = tt
 extent_least (x ∷ xs) outer h =
     let P : Item → Type 0 = λ i. IsHeld (item_box i) outer in
-    held_both (item_box x) (extent_of xs) outer (All-head P x xs h) (extent_least xs outer (All-tail P x xs h))
+    held_both (item_box x) (extent_of xs) outer (All-head P x xs h)
+    (extent_least xs outer (All-tail P x xs h))

@@ -6,7 +6,8 @@ use Rattle.std.proofs.lemmas.Int.{ints, clamps}
 use Rattle.mpw_geom.specs.declared.plane.Box2.{Box2}
 use Rattle.mpw_geom.specs.Plane.{IsOrdered}
 use Rattle.mpw_hier.specs.Boxes.{joined, hull, is_near, is_box_near}
-use Rattle.mpw_hier.specs.Sizes.{IsExtentNear, IsExtentFar}
+use Rattle.mpw_hier.specs.Sizes.{IsExtentNear}
+use Rattle.mpw_hier.specs.Internal.Sizes.{IsExtentFar}
 
 pub record Close (z : ℤ) : Type 0 where
   pub above : neg_ℤ (pos (2 ^ 30)) ≤ℤ z
@@ -46,9 +47,11 @@ close_box b e =
 
 pub near_box : (b : Box2) → IsClose b → is_box_near b ≡ true
 unfolding is_box_near
-near_box b h = both_and _ _ (both_and _ _ (both_and _ _ (near b.x0 h.x0) (near b.y0 h.y0)) (near b.x1 h.x1)) (near b.y1 h.y1)
+near_box b h = both_and _ _ (both_and _ _ (both_and _ _ (near b.x0 h.x0) (near b.y0 h.y0))
+    (near b.x1 h.x1)) (near b.y1 h.y1)
 
-pub near_joined : (a b : Box2) → is_box_near a ≡ true → is_box_near b ≡ true → is_box_near (joined a b) ≡ true
+pub near_joined : (a b : Box2) → is_box_near a ≡ true → is_box_near b ≡ true
+    → is_box_near (joined a b) ≡ true
 near_joined a b e f =
     let h = close_box a e in
     let k = close_box b f in
@@ -67,15 +70,18 @@ within_joined a b o h = record {
   y1 = record { above = omega (arith, ints, clamps); below = omega (arith, ints, clamps) };
 }
 
-pub far_joined : (a b : Box2) → IsOrdered a → is_box_near a ≡ false → is_box_near (joined a b) ≡ false
+pub far_joined : (a b : Box2) → IsOrdered a → is_box_near a ≡ false
+    → is_box_near (joined a b) ≡ false
 far_joined a b o e =
-    false_from_ne_true (is_box_near (joined a b)) (λ t. false≢true (sym e ∙ near_box a (within_joined a b o (close_box (joined a b) t))))
+    false_from_ne_true (is_box_near (joined a b))
+    (λ t. false≢true (sym e ∙ near_box a (within_joined a b o (close_box (joined a b) t))))
 
 pub near_hull : (a b : Option Box2) → IsExtentNear a → IsExtentNear b → IsExtentNear (hull a b)
 near_hull None b h k = k
 near_hull (Some a) None h k = h
 near_hull (Some a) (Some b) h k = near_joined a b h k
 
-pub far_hull : (a : Box2) (b : Option Box2) → IsOrdered a → is_box_near a ≡ false → IsExtentFar (hull (Some a) b)
+pub far_hull : (a : Box2) (b : Option Box2) → IsOrdered a → is_box_near a ≡ false
+    → IsExtentFar (hull (Some a) b)
 far_hull a None o e = record { box = a; is = refl; far = e }
 far_hull a (Some b) o e = record { box = joined a b; is = refl; far = far_joined a b o e }

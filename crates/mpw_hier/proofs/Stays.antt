@@ -31,26 +31,38 @@ pub last_present : LastIsPresent
 unfolding present
 last_present ss s cell =
     let sum : 0 + length ss ≡ length ss = omega arith in
-    present_push 0 ss s cell ∙ ap (λ n. cond (name_eq s.cell cell) (Some n) (present_from 0 ss cell)) sum
+    present_push 0 ss s cell ∙ ap (λ n. cond (name_eq s.cell cell) (Some n)
+    (present_from 0 ss cell)) sum
 
 -- ---- limits
 
 not_more : (most n : ℕ) → nat_lt most n ≡ false → n ≤ most
 not_more most n e = grind (arith, nat_tests)
 
-within_some : (ss : List Submission) (n : ℕ) → n < length ss → (s : Submission) × (slice_get ss n ≡ Some s)
+within_some : (ss : List Submission) (n : ℕ) → n < length ss
+    → (s : Submission) × (slice_get ss n ≡ Some s)
 within_some [] n h = absurd (omega (arith, h))
 within_some (s ∷ ss) n h = (get_or (s ∷ ss) n s, slice_get-get_or (s ∷ ss) n s h)
 
 -- what is not far is near
-near_top : (ss : List Submission) (s : Submission) → IsSubmitted ss s → IsExtentNear (extent_of (flat_of (flats ss) s))
+near_top : (ss : List Submission) (s : Submission) → IsSubmitted ss s
+    → IsExtentNear (extent_of (flat_of (flats ss) s))
 near_top ss s w = go (extent_of (flat_of (flats ss) s)) refl
   where
-    tell : (box : Box2) → extent_of (flat_of (flats ss) s) ≡ Some box → (b : Bool) → is_box_near box ≡ b → is_box_near box ≡ true
+    tell : (box : Box2) → extent_of (flat_of (flats ss) s) ≡ Some box → (b : Bool)
+        → is_box_near box ≡ b → is_box_near box ≡ true
     tell box e true q = q
     tell box e false q =
         let outside = w.bound.externals in
-        absurd (w.kept.near (record { structure = s.top; place = outside.place; inside = outside.found; below = itself; box = box; extent = e; far = q }))
+        absurd (w.kept.near (record {
+          structure = s.top;
+          place = outside.place;
+          inside = outside.found;
+          below = itself;
+          box = box;
+          extent = e;
+          far = q;
+        }))
 
     go : (o : Option Box2) → extent_of (flat_of (flats ss) s) ≡ o → IsExtentNear o
     go None e = tt
@@ -72,8 +84,10 @@ limited_at ss w n lt =
 limited_past : (ss : List Submission) (n : ℕ) → length ss ≤ n → IsLimited ss n
 unfolding flats heights extent_of
 limited_past ss n past =
-    let items : flat ss n ≡ [] = get_or_past (from_first flat_of [] ss) n [] (omega (arith, firsts_length flat_of [] ss, past)) in
-    let levels : height ss n ≡ 0 = get_or_past (from_first height_of [] ss) n 0 (omega (arith, firsts_length height_of [] ss, past)) in
+    let items : flat ss n ≡ [] = get_or_past (from_first flat_of [] ss) n []
+    (omega (arith, firsts_length flat_of [] ss, past)) in
+    let levels : height ss n ≡ 0 = get_or_past (from_first height_of [] ss) n 0
+    (omega (arith, firsts_length height_of [] ss, past)) in
     record {
       few = omega (arith, ap length items);
       low = omega (arith, levels);
@@ -89,16 +103,22 @@ shelves_limited ss w n = elim (cases_lt n (length ss)) [
 -- ---- later submissions
 
 -- what submissions in front show
-front_stays : {V : Type 0} (shown : List V → Submission → V) (ss later : List Submission) (n : ℕ) (d : V) → n < length ss → get_or (from_first shown [] (ss ++ later)) n d ≡ get_or (from_first shown [] ss) n d
+front_stays : {V : Type 0} (shown : List V → Submission → V) (ss later : List Submission) (n : ℕ)
+    (d : V) → n < length ss → get_or (from_first shown [] (ss ++ later)) n d
+    ≡ get_or (from_first shown [] ss) n d
 front_stays shown ss later n d lt =
     let enough : length ss ≤ length (ss ++ later) = omega (arith, length-append ss later) in
-    sym (firsts_earlier shown (ss ++ later) (length ss) n d lt enough) ∙ ap (λ front. get_or (from_first shown [] front) n d) (take-append_seam ss later)
+    sym (firsts_earlier shown (ss ++ later) (length ss) n d lt enough)
+    ∙ ap (λ front. get_or (from_first shown [] front) n d) (take-append_seam ss later)
 
-get_stays : (ss later : List Submission) (n : ℕ) → n < length ss → slice_get (ss ++ later) n ≡ slice_get ss n
+get_stays : (ss later : List Submission) (n : ℕ) → n < length ss
+    → slice_get (ss ++ later) n ≡ slice_get ss n
 get_stays ss later n lt =
     let s = within_some ss n lt in
     let here : n < length (ss ++ later) = omega (arith, length-append ss later, lt) in
-    slice_get-get_or (ss ++ later) n s.0 here ∙ ap (λ x. Some x) (get_or_append_left ss later s.0 n lt) ∙ sym (slice_get-get_or ss n s.0 lt)
+    slice_get-get_or (ss ++ later) n s.0 here
+    ∙ ap (λ x. Some x) (get_or_append_left ss later s.0 n lt)
+    ∙ sym (slice_get-get_or ss n s.0 lt)
 
 pub earlier_stay : EarlierStay
 unfolding flats heights

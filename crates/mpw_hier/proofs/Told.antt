@@ -9,8 +9,9 @@ use Rattle.mpw_elements.specs.declared.element.Reference.{Reference}
 use Rattle.mpw_hier.specs.declared.size.Size.{Size}
 use Rattle.mpw_hier.specs.Items.{Item}
 use Rattle.mpw_hier.specs.Boxes.{hull}
-use Rattle.mpw_hier.specs.Sizes.{Total, IsExtentNear, IsToldBy, AreToldBy}
-use Rattle.mpw_hier.specs.SizeParts.{together, array_extent, array_total}
+use Rattle.mpw_hier.specs.Sizes.{Total, IsExtentNear, IsToldBy}
+use Rattle.mpw_hier.specs.Internal.Sizes.{AreToldBy}
+use Rattle.mpw_hier.specs.Internal.SizeParts.{together, array_extent, array_total}
 use Rattle.mpw_hier.proofs.Nearness.{near_hull}
 
 -- ---- counts up to a limit
@@ -33,7 +34,9 @@ least_product limit (suc k) n = elim (cases_lt limit n) [
 
 -- ---- sizes
 
-pub told_together : (a b : Total) (s o r : Size) → IsToldBy a s → IsToldBy b o → r.count ≡ min (2 ^ 20 + 1) (s.count + o.count) → r.height ≡ max s.height o.height → r.extent ≡ hull s.extent o.extent → IsToldBy (together a b) r
+pub told_together : (a b : Total) (s o r : Size) → IsToldBy a s → IsToldBy b o
+    → r.count ≡ min (2 ^ 20 + 1) (s.count + o.count) → r.height ≡ max s.height o.height
+    → r.extent ≡ hull s.extent o.extent → IsToldBy (together a b) r
 told_together a b s o r p q count height extent = record {
   count = count ∙ rw (p.count, q.count) (least_sum (2 ^ 20 + 1) a.count b.count);
   height = height ∙ rw (p.height, q.height) (omega arith);
@@ -41,7 +44,10 @@ told_together a b s o r p q count height extent = record {
   near = subst IsExtentNear (sym extent) (near_hull s.extent o.extent p.near q.near);
 }
 
-pub told_array : (r : Reference) (t : Total) (s o : Size) (h : ℕ) → IsToldBy t s → o.count ≡ min (2 ^ 20 + 1) (r.columns * r.rows * s.count) → h ≡ min s.height 64 → o.height ≡ h + 1 → o.extent ≡ array_extent r s.extent → IsExtentNear o.extent → IsToldBy (array_total r t) o
+pub told_array : (r : Reference) (t : Total) (s o : Size) (h : ℕ) → IsToldBy t s
+    → o.count ≡ min (2 ^ 20 + 1) (r.columns * r.rows * s.count) → h ≡ min s.height 64
+    → o.height ≡ h + 1 → o.extent ≡ array_extent r s.extent → IsExtentNear o.extent
+    → IsToldBy (array_total r t) o
 told_array r t s o h p count least height extent near = record {
   count = count ∙ rw p.count (least_product (2 ^ 20 + 1) (r.columns * r.rows) t.count);
   height = height ∙ rw (least, p.height) (omega arith);
@@ -56,14 +62,18 @@ pub told_limit : (limit told n : ℕ) → told ≡ min (limit + 1) n → nat_lt 
 told_limit limit told n e = grind (arith, nat_tests)
 
 -- a size for each name, none of which reaches too far
-pub told_length : (items : List ℕ → List Item) (heights : List ℕ → ℕ) (names : List (List ℕ)) (sizes : List Size) → AreToldBy items heights names sizes → length sizes ≡ length names
+pub told_length : (items : List ℕ → List Item) (heights : List ℕ → ℕ) (names : List (List ℕ))
+    (sizes : List Size) → AreToldBy items heights names sizes → length sizes ≡ length names
 told_length items heights [] [] h = refl
 told_length items heights [] (s ∷ ss) h = absurd h
 told_length items heights (n ∷ ns) [] h = absurd h
 told_length items heights (n ∷ ns) (s ∷ ss) h = ap suc (told_length items heights ns ss h.1)
 
-pub told_near : (items : List ℕ → List Item) (heights : List ℕ → ℕ) (names : List (List ℕ)) (sizes : List Size) → AreToldBy items heights names sizes → All (λ (s : Size). IsExtentNear s.extent) sizes
+pub told_near : (items : List ℕ → List Item) (heights : List ℕ → ℕ) (names : List (List ℕ))
+    (sizes : List Size) → AreToldBy items heights names sizes
+    → All (λ (s : Size). IsExtentNear s.extent) sizes
 told_near items heights [] [] h = All-nil (λ (s : Size). IsExtentNear s.extent)
 told_near items heights [] (s ∷ ss) h = absurd h
 told_near items heights (n ∷ ns) [] h = absurd h
-told_near items heights (n ∷ ns) (s ∷ ss) h = All-cons (λ (z : Size). IsExtentNear z.extent) s ss h.0.near (told_near items heights ns ss h.1)
+told_near items heights (n ∷ ns) (s ∷ ss) h =
+    All-cons (λ (z : Size). IsExtentNear z.extent) s ss h.0.near (told_near items heights ns ss h.1)

@@ -13,7 +13,12 @@ use Rattle.mpw_hier.specs.Items.{Item}
 
 -- The least box that holds two.
 abbrev pub joined : Box2 → Box2 → Box2
-joined a b = record { x0 = int_min a.x0 b.x0; y0 = int_min a.y0 b.y0; x1 = int_max a.x1 b.x1; y1 = int_max a.y1 b.y1 }
+joined a b = record {
+  x0 = int_min a.x0 b.x0;
+  y0 = int_min a.y0 b.y0;
+  x1 = int_max a.x1 b.x1;
+  y1 = int_max a.y1 b.y1;
+}
 
 abbrev pub hull : Option Box2 → Option Box2 → Option Box2
 hull None b = b
@@ -27,7 +32,8 @@ hull_of (b ∷ bs) = hull (Some b) (hull_of bs)
 
 unfoldable pub hull_of_points : List Point → Option Box2
 hull_of_points [] = None
-hull_of_points (p ∷ ps) = hull (Some (record { x0 = p.x; y0 = p.y; x1 = p.x; y1 = p.y })) (hull_of_points ps)
+hull_of_points (p ∷ ps) =
+    hull (Some (record { x0 = p.x; y0 = p.y; x1 = p.x; y1 = p.y })) (hull_of_points ps)
 
 abbrev pub has_area : Box2 → Bool
 has_area b = int_lt b.x0 b.x1 && int_lt b.y0 b.y1
@@ -36,12 +42,14 @@ has_area b = int_lt b.x0 b.x1 && int_lt b.y0 b.y1
 unfoldable pub element_box : Element → Option Box2
 element_box (elements.Boundary b) = hull_of_points b.points
 element_box (elements.Path p) =
-    hull (hull_of_points p.points) (hull_of (filter has_area (wire_boxes (int_div p.width (pos 2)) p.begin p.end p.points)))
+    hull (hull_of_points p.points) (hull_of
+    (filter has_area (wire_boxes (int_div p.width (pos 2)) p.begin p.end p.points)))
 element_box (elements.Reference r) = None
 
 -- Where a placing takes a box.
 unfoldable pub placed_box : Placing → Box2 → Box2
-placed_box t b = box_between (placed_point t (record { x = b.x0; y = b.y0 })) (placed_point t (record { x = b.x1; y = b.y1 }))
+placed_box t b = box_between (placed_point t (record { x = b.x0; y = b.y0 }))
+    (placed_point t (record { x = b.x1; y = b.y1 }))
 
 abbrev pub item_box : Item → Option Box2
 item_box i = option_map (placed_box i.placing) (element_box i.element)

@@ -5,26 +5,17 @@ use Rattle.std.specs.Prelude.{ℕ, ◌<◌, ◌≤◌, List, [], length, take, s
 abbrev pub targets : List (List ℕ) → ℕ → List ℕ
 targets graph place = slice_index_or graph place []
 
--- Each place leads to places of the graph alone.
-abbrev pub IsGraph : List (List ℕ) → Type 0
-IsGraph graph = (place index : ℕ) → place < length graph → index < length (targets graph place) → slice_index (targets graph place) index < length graph
-
 -- A way leads from one place to another, or they are one.
 pub data Leads (graph : List (List ℕ)) : ℕ → ℕ → Type 0 where
   here : {place : ℕ} → Leads graph place place
-  on : {from next to : ℕ} → Contains (targets graph from) next → Leads graph next to → Leads graph from to
-
--- A place to which the top leads, with a target that leads back to it.
-pub record HasCycle (graph : List (List ℕ)) (top : ℕ) : Type 0 where
-  pub place : ℕ
-  pub next : ℕ
-  pub found : Leads graph top place
-  pub edge : Contains (targets graph place) next
-  pub back : Leads graph next place
+  on : {from next to : ℕ} → Contains (targets graph from) next → Leads graph next to
+      → Leads graph from to
 
 -- The places to which the top leads, the top among them, each behind all of its targets, and no more than there are.
 pub record IsFromBelow (graph : List (List ℕ)) (top : ℕ) (order : List ℕ) : Type 0 where
   pub whole : Contains order top
   pub found : All (Leads graph top) order
   pub few : length order ≤ length graph
-  pub below : (index target : ℕ) → index < length order → Contains (targets graph (slice_index order index)) target → Contains (take index order) target
+  pub below : (index target : ℕ) → index < length order
+      → Contains (targets graph (slice_index order index)) target
+      → Contains (take index order) target

@@ -27,11 +27,13 @@ abbrev pub ExtentsHoldItems : Type 0
 ExtentsHoldItems = (items : List Item) → All (λ i. IsHeld (item_box i) (extent_of items)) items
 
 abbrev pub ExtentsAreLeast : Type 0
-ExtentsAreLeast = (items : List Item) (outer : Option Box2) → All (λ i. IsHeld (item_box i) outer) items → IsHeld (extent_of items) outer
+ExtentsAreLeast = (items : List Item) (outer : Option Box2)
+    → All (λ i. IsHeld (item_box i) outer) items → IsHeld (extent_of items) outer
 
 -- The extent of two lists is the least box that holds the extents of both, and that of a list that is placed is the extent, placed.
 abbrev pub ExtentsAreJoined : Type 0
 ExtentsAreJoined = (xs ys : List Item) → extent_of (xs ++ ys) ≡ hull (extent_of xs) (extent_of ys)
 
 abbrev pub ExtentsArePlaced : Type 0
-ExtentsArePlaced = (t : Placing) (items : List Item) → extent_of (map (placed_item t) items) ≡ option_map (placed_box t) (extent_of items)
+ExtentsArePlaced = (t : Placing) (items : List Item)
+    → extent_of (map (placed_item t) items) ≡ option_map (placed_box t) (extent_of items)

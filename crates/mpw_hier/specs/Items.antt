@@ -56,7 +56,10 @@ stepped p n step = record { x = p.x +ℤ (pos n *ℤ step.x); y = p.y +ℤ (pos 
 
 -- How the instance of a column and a row is placed.
 abbrev pub instance : Reference → (row column : ℕ) → Placing
-instance r row column = record { orient = r.orient; by = stepped (stepped r.origin column r.column_step) row r.row_step }
+instance r row column = record {
+  orient = r.orient;
+  by = stepped (stepped r.origin column r.column_step) row r.row_step;
+}
 
 -- The instances row by row, the column running fastest.
 abbrev pub row_of : Reference → ℕ → List Placing
@@ -69,10 +72,16 @@ instances r = flat_map (row_of r) (range_with_len 0 r.rows)
 
 abbrev pub own_items : ℕ → List Element → List Item
 own_items number es =
-    map (λ e. record { origin = number; placing = record { orient = R0; by = record { x = pos 0; y = pos 0 } }; element = e }) (shapes es)
+    map (λ e. record {
+      origin = number;
+      placing = record { orient = R0; by = record { x = pos 0; y = pos 0 } };
+      element = e;
+    })
+    (shapes es)
 
 abbrev pub placed_item : Placing → Item → Item
-placed_item t i = record { origin = i.origin; placing = placed_again t i.placing; element = i.element }
+placed_item t i =
+    record { origin = i.origin; placing = placed_again t i.placing; element = i.element }
 
 -- The items of a target, once for each instance.
 abbrev pub placed_items : Reference → List Item → List Item
@@ -81,8 +90,10 @@ placed_items r items = flat_map (λ t. map (placed_item t) items) (instances r)
 -- The items of a structure in the library of the submission of that number: its own shapes, and then those of its targets, in
 -- file order.
 abbrev pub shown_items : ℕ → Structure → (List ℕ → List Item) → List Item
-shown_items number s below = own_items number s.elements ++ flat_map (λ r. placed_items r (below r.name)) (references s.elements)
+shown_items number s below = own_items number s.elements
+    ++ flat_map (λ r. placed_items r (below r.name)) (references s.elements)
 
 -- The flat list of the structure of a name. A name outside the library has the items that `outside` tells.
 abbrev pub items_of : (List ℕ → List Item) → ℕ → List Structure → List ℕ → List Item
-items_of outside number library name = by_levels (shown_items number) [] outside (levels_of library) library name
+items_of outside number library name =
+    by_levels (shown_items number) [] outside (levels_of library) library name

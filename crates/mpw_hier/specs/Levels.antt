@@ -10,10 +10,12 @@ at_structure shown outside (Some s) = shown s
 
 -- What the structure of a name shows, so many levels deep. `shown` tells what a structure shows from what its targets do,
 -- `outside` what a name outside the library does, and `nothing` stands below the last level.
-unfoldable pub by_levels : {V : Type 0} → (Structure → (List ℕ → V) → V) → V → (List ℕ → V) → (levels : ℕ) → List Structure → List ℕ → V
+unfoldable pub by_levels : {V : Type 0} → (Structure → (List ℕ → V) → V) → V → (List ℕ → V)
+    → (levels : ℕ) → List Structure → List ℕ → V
 by_levels shown nothing outside zero library name = nothing
 by_levels shown nothing outside (suc levels) library name =
-    at_structure (λ s. shown s (λ target. by_levels shown nothing outside levels library target)) (outside name) (structure_of library name)
+    at_structure (λ s. shown s (λ target. by_levels shown nothing outside levels library target))
+    (outside name) (structure_of library name)
 
 -- Without a cycle there are at most as many levels as structures, and one for the names outside. With one, what is shown
 -- ends at the last level and means nothing.

@@ -35,7 +35,8 @@ is_too_deep ss s = nat_lt 64 (height_of (heights ss) s)
 
 -- Fewer than 4096 submissions, and fewer than 1024 cells where the cell has no submission yet.
 abbrev pub has_room_for : List Submission → List ℕ → Bool
-has_room_for ss cell = nat_lt (length ss) 4096 && (is_some (present ss cell) || nat_lt (distinct_count name_eq (map (λ s. s.cell) ss)) 1024)
+has_room_for ss cell = nat_lt (length ss) 4096
+    && (is_some (present ss cell) || nat_lt (distinct_count name_eq (map (λ s. s.cell) ss)) 1024)
 
 -- The submission with its version, counted from 1 for each cell.
 abbrev pub numbered : List Submission → Submission → Submission
@@ -46,17 +47,6 @@ pub record IsBound (ss : List Submission) (s : Submission) : Type 0 where
   pub names : List (List ℕ)
   pub externals : AreExternals s.library s.top names
   pub bound : bound_to ss names ≡ Some s.bound
-
--- Want of memory or an extent: no other fault comes of making the nodes of a submission that is bound.
-abbrev pub IsOfNodes : HierFault → Type 0
-IsOfNodes faults.Memory = Unit {0}
-IsOfNodes faults.Extent = Unit {0}
-IsOfNodes faults.NoTop = ⊥
-IsOfNodes faults.Cycle = ⊥
-IsOfNodes faults.NoCell = ⊥
-IsOfNodes faults.Shapes = ⊥
-IsOfNodes faults.Deep = ⊥
-IsOfNodes faults.Full = ⊥
 
 -- All limits are kept.
 pub record KeepsLimits (ss : List Submission) (s : Submission) : Type 0 where
@@ -74,15 +64,19 @@ pub record IsSubmitted (ss : List Submission) (s : Submission) : Type 0 where
 
 -- Each submission of a shelf is so behind those before it.
 abbrev pub IsShelf : List Submission → Type 0
-IsShelf ss = (number : ℕ) (s : Submission) → slice_get ss number ≡ Some s → IsSubmitted (take number ss) s
+IsShelf ss =
+    (number : ℕ) (s : Submission) → slice_get ss number ≡ Some s → IsSubmitted (take number ss) s
 
 -- Why a submission that is bound is refused: the first limit that it doesn't keep, or want of memory.
 abbrev pub IsRefused : List Submission → Submission → HierFault → Type 0
 IsRefused ss s faults.Memory = Unit {0}
 IsRefused ss s faults.Extent = IsFar ss s
 IsRefused ss s faults.Shapes = (IsFar ss s → ⊥) × (is_too_large ss s ≡ true)
-IsRefused ss s faults.Deep = (IsFar ss s → ⊥) × ((is_too_large ss s ≡ false) × (is_too_deep ss s ≡ true))
-IsRefused ss s faults.Full = (IsFar ss s → ⊥) × ((is_too_large ss s ≡ false) × ((is_too_deep ss s ≡ false) × (has_room_for ss s.cell ≡ false)))
+IsRefused ss s faults.Deep =
+    (IsFar ss s → ⊥) × ((is_too_large ss s ≡ false) × (is_too_deep ss s ≡ true))
+IsRefused ss s faults.Full = (IsFar ss s → ⊥)
+    × ((is_too_large ss s ≡ false) × ((is_too_deep ss s ≡ false)
+    × (has_room_for ss s.cell ≡ false)))
 IsRefused ss s faults.NoTop = ⊥
 IsRefused ss s faults.Cycle = ⊥
 IsRefused ss s faults.NoCell = ⊥

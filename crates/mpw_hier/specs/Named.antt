@@ -14,7 +14,8 @@ use Rattle.mpw_hier.specs.Sizes.{IsSizeOf}
 use Rattle.mpw_hier.specs.Values.{from_first, bound_number, at_number, structure_items, flat_of, flats, flat, shown_height, height_of, heights, height}
 
 -- The structure of a name of a submission's own library, with its node.
-pub record IsOwnName (ss : List Submission) (number : ℕ) (s : Submission) (structure : Structure) (node : Node) (name : List ℕ) : Type 0 where
+pub record IsOwnName (ss : List Submission) (number : ℕ) (s : Submission) (structure : Structure)
+    (node : Node) (name : List ℕ) : Type 0 where
   pub is : slice_get ss number ≡ Some s
   pub nodes : List Node
   pub nodes_are : AreNodesOf (flats (take number ss)) (heights (take number ss)) s nodes
@@ -24,7 +25,8 @@ pub record IsOwnName (ss : List Submission) (number : ℕ) (s : Submission) (str
   pub named : place_of s.library name ≡ Some node.structure
 
 -- A name outside the library, with the earlier submission to which it is bound.
-pub record IsOuterName (ss : List Submission) (number : ℕ) (s : Submission) (to : ℕ) (t : Submission) (name : List ℕ) : Type 0 where
+pub record IsOuterName (ss : List Submission) (number : ℕ) (s : Submission) (to : ℕ)
+    (t : Submission) (name : List ℕ) : Type 0 where
   pub is : slice_get ss number ≡ Some s
   pub outside : place_of s.library name ≡ None
   pub bound : bound_number s.bound name ≡ Some to
@@ -34,20 +36,27 @@ pub record IsOuterName (ss : List Submission) (number : ℕ) (s : Submission) (t
 -- ---- flat lists and heights
 
 -- A name of the library shows what its structure does from the names to which it refers, and its node has the size of that.
-pub record IsShownByNode (ss : List Submission) (number : ℕ) (s : Submission) (structure : Structure) (node : Node) (name : List ℕ) : Type 0 where
-  pub items : structure_items (flats (take number ss)) s name ≡ shown_items number structure (structure_items (flats (take number ss)) s)
-  pub levels : structure_levels (heights (take number ss)) s name ≡ shown_height structure (structure_levels (heights (take number ss)) s)
-  pub size : IsSizeOf (structure_items (flats (take number ss)) s name) (structure_levels (heights (take number ss)) s name) node.size
+pub record IsShownByNode (ss : List Submission) (number : ℕ) (s : Submission)
+    (structure : Structure) (node : Node) (name : List ℕ) : Type 0 where
+  pub items : structure_items (flats (take number ss)) s name ≡ shown_items number structure
+      (structure_items (flats (take number ss)) s)
+  pub levels : structure_levels (heights (take number ss)) s name ≡ shown_height structure
+      (structure_levels (heights (take number ss)) s)
+  pub size : IsSizeOf (structure_items (flats (take number ss)) s name)
+      (structure_levels (heights (take number ss)) s name) node.size
 
 abbrev pub OwnNamesAreShown : Type 0
 OwnNamesAreShown =
-    (ss : List Submission) (number : ℕ) (s : Submission) (structure : Structure) (node : Node) (name : List ℕ)
+    (ss : List Submission) (number : ℕ) (s : Submission) (structure : Structure) (node : Node)
+    (name : List ℕ)
     → IsOwnName ss number s structure node name → IsShownByNode ss number s structure node name
 
 -- A name outside the library shows what the top of its submission did when that came.
-pub record IsShownByTop (ss : List Submission) (number : ℕ) (s : Submission) (to : ℕ) (t : Submission) (name : List ℕ) : Type 0 where
+pub record IsShownByTop (ss : List Submission) (number : ℕ) (s : Submission) (to : ℕ)
+    (t : Submission) (name : List ℕ) : Type 0 where
   pub items : structure_items (flats (take number ss)) s name ≡ flat_of (flats (take to ss)) t
-  pub levels : structure_levels (heights (take number ss)) s name ≡ height_of (heights (take to ss)) t
+  pub levels : structure_levels (heights (take number ss)) s name ≡ height_of (heights (take to ss))
+      t
 
 abbrev pub OuterNamesAreShown : Type 0
 OuterNamesAreShown =
@@ -69,43 +78,59 @@ LastNodesAreTops =
 
 -- What a structure of the submission of a number lists: its own, and then what its references make of their targets' lists, in
 -- file order.
-abbrev pub listed : {W : Type 0} → (ℕ → Structure → List W) → (Reference → List W → List W) → ℕ → Structure → (List ℕ → List W) → List W
-listed own placed number s below = own number s ++ flat_map (λ (r : Reference). placed r (below r.name)) (references s.elements)
+abbrev pub listed : {W : Type 0} → (ℕ → Structure → List W) → (Reference → List W → List W) → ℕ
+    → Structure → (List ℕ → List W) → List W
+listed own placed number s below =
+    own number s ++ flat_map (λ (r : Reference). placed r (below r.name)) (references s.elements)
 
 -- What a name lists for a submission behind others with these lists, and what the top does.
-abbrev pub name_list : {W : Type 0} → (ℕ → Structure → List W) → (Reference → List W → List W) → List (List W) → Submission → List ℕ → List W
+abbrev pub name_list : {W : Type 0} → (ℕ → Structure → List W) → (Reference → List W → List W)
+    → List (List W) → Submission → List ℕ → List W
 name_list own placed before s name =
-    by_levels (listed own placed (length before)) [] (λ outside. at_number [] before (bound_number s.bound outside)) (levels_of s.library) s.library name
+    by_levels (listed own placed (length before)) []
+    (λ outside. at_number [] before (bound_number s.bound outside)) (levels_of s.library)
+    s.library name
 
-abbrev pub top_list : {W : Type 0} → (ℕ → Structure → List W) → (Reference → List W → List W) → List (List W) → Submission → List W
+abbrev pub top_list : {W : Type 0} → (ℕ → Structure → List W) → (Reference → List W → List W)
+    → List (List W) → Submission → List W
 top_list own placed before s = name_list own placed before s s.top
 
 -- What the submissions list, each behind those before it.
-abbrev pub lists : {W : Type 0} → (ℕ → Structure → List W) → (Reference → List W → List W) → List Submission → List (List W)
+abbrev pub lists : {W : Type 0} → (ℕ → Structure → List W) → (Reference → List W → List W)
+    → List Submission → List (List W)
 lists own placed ss = from_first (top_list own placed) [] ss
 
 -- What a name, and the top, list for the submission of a number on a shelf.
-abbrev pub name_list_at : {W : Type 0} → (ℕ → Structure → List W) → (Reference → List W → List W) → List Submission → ℕ → Submission → List ℕ → List W
-name_list_at own placed ss number s name = name_list own placed (lists own placed (take number ss)) s name
+abbrev pub name_list_at : {W : Type 0} → (ℕ → Structure → List W) → (Reference → List W → List W)
+    → List Submission → ℕ → Submission → List ℕ → List W
+name_list_at own placed ss number s name =
+    name_list own placed (lists own placed (take number ss)) s name
 
-abbrev pub top_list_at : {W : Type 0} → (ℕ → Structure → List W) → (Reference → List W → List W) → List Submission → ℕ → Submission → List W
+abbrev pub top_list_at : {W : Type 0} → (ℕ → Structure → List W) → (Reference → List W → List W)
+    → List Submission → ℕ → Submission → List W
 top_list_at own placed ss number s = name_list_at own placed ss number s s.top
 
 -- A name of the library lists what its structure does from the names to which it refers.
-abbrev pub OwnNamesAreListed : {W : Type 0} → (ℕ → Structure → List W) → (Reference → List W → List W) → Type 0
+abbrev pub OwnNamesAreListed : {W : Type 0} → (ℕ → Structure → List W)
+    → (Reference → List W → List W) → Type 0
 OwnNamesAreListed own placed =
-    (ss : List Submission) (number : ℕ) (s : Submission) (structure : Structure) (node : Node) (name : List ℕ)
+    (ss : List Submission) (number : ℕ) (s : Submission) (structure : Structure) (node : Node)
+    (name : List ℕ)
     → IsOwnName ss number s structure node name
-    → name_list_at own placed ss number s name ≡ listed own placed number structure (name_list_at own placed ss number s)
+    → name_list_at own placed ss number s name ≡ listed own placed number structure
+    (name_list_at own placed ss number s)
 
 -- A name outside the library lists what the top of its submission did when that came.
-abbrev pub OuterNamesAreListed : {W : Type 0} → (ℕ → Structure → List W) → (Reference → List W → List W) → Type 0
+abbrev pub OuterNamesAreListed : {W : Type 0} → (ℕ → Structure → List W)
+    → (Reference → List W → List W) → Type 0
 OuterNamesAreListed own placed =
     (ss : List Submission) (number : ℕ) (s : Submission) (to : ℕ) (t : Submission) (name : List ℕ)
-    → IsOuterName ss number s to t name → name_list_at own placed ss number s name ≡ top_list_at own placed ss to t
+    → IsOuterName ss number s to t name
+    → name_list_at own placed ss number s name ≡ top_list_at own placed ss to t
 
 -- The submission of a number lists what its top does behind those before it.
-abbrev pub TopsAreListed : {W : Type 0} → (ℕ → Structure → List W) → (Reference → List W → List W) → Type 0
+abbrev pub TopsAreListed : {W : Type 0} → (ℕ → Structure → List W) → (Reference → List W → List W)
+    → Type 0
 TopsAreListed own placed =
     (ss : List Submission) (number : ℕ) (s : Submission) → slice_get ss number ≡ Some s
     → slice_index_or (lists own placed ss) number [] ≡ top_list_at own placed ss number s

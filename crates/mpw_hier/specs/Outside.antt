@@ -1,12 +1,11 @@
 -- What references name in a library, and what they name outside it.
-use Rattle.std.specs.Prelude.{◌≡◌, ℕ, List, [], ◌∷◌, map, slice_get, Option, Some, None, true, ◌↔◌}
-use Rattle.std.specs.List.{flat_map}
+use Rattle.std.specs.Prelude.{◌≡◌, ℕ, List, [], ◌∷◌, map, Option, Some, None, true, ◌↔◌}
 use Rattle.mpw_geom.specs.Names.{by_name, contains_name}
 use Rattle.mpw_library.specs.declared.structures.Structure.{Structure}
 use Rattle.mpw_library.specs.Places.{place_of}
 use Rattle.mpw_hier.specs.declared.fault.HierFault.{HierFault}
 use Rattle.mpw_hier.specs.declared.fault.HierFault.TheVariants as faults
-use Rattle.mpw_hier.specs.Structures.{names_of, target_names, IsCyclic, IsOutside}
+use Rattle.mpw_hier.specs.Structures.{referenced_names, IsCyclic, IsOutside}
 
 abbrev pub known_before : Option ℕ → List ℕ → List ℕ
 known_before None places = places
@@ -24,21 +23,15 @@ unknown_before (Some place) name names = names
 -- The names of which the library has no structure.
 unfoldable pub names_outside : List Structure → List (List ℕ) → List (List ℕ)
 names_outside library [] = []
-names_outside library (name ∷ names) = unknown_before (place_of library name) name (names_outside library names)
+names_outside library (name ∷ names) =
+    unknown_before (place_of library name) name (names_outside library names)
 
 -- For each structure, the places of the structures to which it refers.
 abbrev pub places_from : List Structure → Structure → List ℕ
-places_from library s = places_of library (names_of s.elements)
+places_from library s = places_of library (referenced_names s.elements)
 
 unfoldable pub graph_of : List Structure → List (List ℕ)
 graph_of library = map (places_from library) library
-
--- The names outside the library to which the structures at these places refer.
-abbrev pub outside_from : List Structure → ℕ → List (List ℕ)
-outside_from library place = names_outside library (target_names (slice_get library place))
-
-unfoldable pub outside_from_all : List Structure → List ℕ → List (List ℕ)
-outside_from_all library places = flat_map (outside_from library) places
 
 -- In the order of their bytes, each once.
 pub record IsByName (names : List (List ℕ)) : Type 0 where
@@ -46,7 +39,8 @@ pub record IsByName (names : List (List ℕ)) : Type 0 where
   pub same : names ≡ by_name given
 
 -- The top is a structure of the library without a cycle below it, and these are the names outside the library that it shows.
-pub record AreExternals (library : List Structure) (top : List ℕ) (names : List (List ℕ)) : Type 0 where
+pub record AreExternals (library : List Structure) (top : List ℕ) (names : List (List ℕ)) :
+    Type 0 where
   pub place : ℕ
   pub found : place_of library top ≡ Some place
   pub acyclic : IsCyclic library top → ⊥

@@ -7,7 +7,7 @@ use Rattle.mpw_geom.specs.declared.plane.Box2.{Box2}
 use Rattle.mpw_library.specs.declared.structures.Structure.{Structure}
 use Rattle.mpw_library.specs.Places.{place_of}
 use Rattle.mpw_hier.specs.declared.submission.Submission.{Submission}
-use Rattle.mpw_hier.specs.Structures.{names_of, IsCyclic, IsOutside}
+use Rattle.mpw_hier.specs.Structures.{referenced_names, IsCyclic, IsOutside}
 use Rattle.mpw_hier.specs.Outside.{names_outside, AreExternals}
 use Rattle.mpw_hier.specs.Boxes.{extent_of, is_box_near}
 use Rattle.mpw_hier.specs.Values.{structure_items, flats}
@@ -15,7 +15,7 @@ use Rattle.mpw_hier.specs.Limits.{IsFar}
 
 -- Each structure's name with the names to which it refers.
 abbrev pub links_of : List Structure → Links
-links_of library = map (λ s. (s.name, names_of s.elements)) library
+links_of library = map (λ s. (s.name, referenced_names s.elements)) library
 
 -- References lead from the one name to the other, or they are one.
 abbrev pub reaches : List Structure → List ℕ → List ℕ → Bool
@@ -23,16 +23,19 @@ reaches library from to = leads (links_of library) from to
 
 -- References lead from the name back to it.
 abbrev pub leads_back : List Structure → List ℕ → Bool
-leads_back library name = list_any (λ next. reaches library next name) (linked (links_of library) name)
+leads_back library name =
+    list_any (λ next. reaches library next name) (linked (links_of library) name)
 
 -- A structure that the top reaches leads back to itself.
 unfoldable pub is_cyclic : List Structure → List ℕ → Bool
-is_cyclic library top = list_any (λ s. reaches library top s.name && leads_back library s.name) library
+is_cyclic library top =
+    list_any (λ s. reaches library top s.name && leads_back library s.name) library
 
 -- The names outside the library that the top reaches, in the order of their bytes, each once.
 unfoldable pub external_names : List Structure → List ℕ → List (List ℕ)
 external_names library top =
-    by_name (filter (reaches library top) (names_outside library (flat_map (λ s. names_of s.elements) library)))
+    by_name (filter (reaches library top)
+    (names_outside library (flat_map (λ s. referenced_names s.elements) library)))
 
 abbrev pub is_beyond : Option Box2 → Bool
 is_beyond None = false
@@ -41,18 +44,23 @@ is_beyond (Some box) = not (is_box_near box)
 -- The extent of a structure that the top reaches lies beyond 2^30 nm, in its own coordinates.
 unfoldable pub is_far : List Submission → Submission → Bool
 is_far ss s =
-    list_any (λ t. reaches s.library s.top t.name && is_beyond (extent_of (structure_items (flats ss) s t.name))) s.library
+    list_any (λ t. reaches s.library s.top t.name
+    && is_beyond (extent_of (structure_items (flats ss) s t.name))) s.library
 
 -- Each is what the relation of its name says.
 abbrev pub CyclesAreFound : Type 0
-CyclesAreFound = (library : List Structure) (top : List ℕ) → (is_cyclic library top ≡ true) ↔ IsCyclic library top
+CyclesAreFound = (library : List Structure) (top : List ℕ) → (is_cyclic library top ≡ true)
+    ↔ IsCyclic library top
 
 abbrev pub NamesOutsideAreFound : Type 0
 NamesOutsideAreFound =
-    (library : List Structure) (top : List ℕ) (place : ℕ) → place_of library top ≡ Some place → (name : List ℕ) → (contains_name (external_names library top) name ≡ true) ↔ IsOutside library top name
+    (library : List Structure) (top : List ℕ) (place : ℕ) → place_of library top ≡ Some place
+    → (name : List ℕ) → (contains_name (external_names library top) name ≡ true)
+    ↔ IsOutside library top name
 
 abbrev pub ExternalsAreOne : Type 0
-ExternalsAreOne = (library : List Structure) (top : List ℕ) (names : List (List ℕ)) → AreExternals library top names → names ≡ external_names library top
+ExternalsAreOne = (library : List Structure) (top : List ℕ) (names : List (List ℕ))
+    → AreExternals library top names → names ≡ external_names library top
 
 abbrev pub FarExtentsAreFound : Type 0
 FarExtentsAreFound = (ss : List Submission) (s : Submission) → (is_far ss s ≡ true) ↔ IsFar ss s

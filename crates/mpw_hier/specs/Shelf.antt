@@ -14,7 +14,8 @@ later None before = before
 -- The number of the last submission of a cell, counted from one on.
 abbrev pub present_from : ℕ → List Submission → List ℕ → Option ℕ
 present_from number [] cell = None
-present_from number (s ∷ ss) cell = later (present_from (number + 1) ss cell) (if name_eq s.cell cell then Some number else None)
+present_from number (s ∷ ss) cell =
+    later (present_from (number + 1) ss cell) (if name_eq s.cell cell then Some number else None)
 
 -- The present submission of a cell.
 unfoldable pub present : List Submission → List ℕ → Option ℕ
@@ -29,7 +30,8 @@ versions ss cell = count_by (λ s. name_eq s.cell cell) ss
 abbrev pub bound_before : List ℕ → Option ℕ → Option (List Binding) → Option (List Binding)
 bound_before name None rest = None
 bound_before name (Some n) None = None
-bound_before name (Some n) (Some bindings) = Some (record { name = name; submission = n } ∷ bindings)
+bound_before name (Some n) (Some bindings) =
+    Some (record { name = name; submission = n } ∷ bindings)
 
 -- Each name with the present submission of the cell of that name, or none where a cell has no submission.
 unfoldable pub bound_to : List Submission → List (List ℕ) → Option (List Binding)

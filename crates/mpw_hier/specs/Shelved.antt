@@ -19,12 +19,15 @@ pub record IsOfCell (ss : List Submission) (cell : List ℕ) (number : ℕ) : Ty
 
 -- The present submission of a cell is one of that cell.
 abbrev pub PresentAreOfTheirCell : Type 0
-PresentAreOfTheirCell = (ss : List Submission) (cell : List ℕ) (number : ℕ) → present ss cell ≡ Some number → IsOfCell ss cell number
+PresentAreOfTheirCell = (ss : List Submission) (cell : List ℕ) (number : ℕ)
+    → present ss cell ≡ Some number → IsOfCell ss cell number
 
 -- A submission becomes the present one of its cell, and leaves those of other cells.
 abbrev pub LastIsPresent : Type 0
 LastIsPresent =
-    (ss : List Submission) (s : Submission) (cell : List ℕ) → present (ss ++ s ∷ []) cell ≡ (if name_eq s.cell cell then Some (length ss) else present ss cell)
+    (ss : List Submission) (s : Submission) (cell : List ℕ)
+    → present (ss ++ s ∷ []) cell ≡ (if name_eq s.cell cell then Some (length ss)
+    else present ss cell)
 
 -- A shape comes from the submission of that number or from an earlier one.
 pub record IsOrigin (ss : List Submission) (number : ℕ) (i : Item) : Type 0 where
@@ -57,4 +60,5 @@ pub record IsAsBefore (old new : List Submission) (number : ℕ) : Type 0 where
 
 -- Later submissions leave those before them as they were.
 abbrev pub EarlierStay : Type 0
-EarlierStay = (ss later : List Submission) (number : ℕ) → number < length ss → IsAsBefore ss (ss ++ later) number
+EarlierStay = (ss later : List Submission) (number : ℕ) → number < length ss
+    → IsAsBefore ss (ss ++ later) number

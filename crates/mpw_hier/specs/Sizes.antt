@@ -1,6 +1,5 @@
 -- The size of what a structure shows: how many shapes, how many levels, and the least box, up to the limits.
-use Rattle.std.specs.Prelude.{◌≡◌, ◌+◌, ◌^◌, ℕ, min, true, false, List, length, Option, Some, IfSome}
-use Rattle.std.specs.List.{AllZip}
+use Rattle.std.specs.Prelude.{◌≡◌, ◌+◌, ◌^◌, ℕ, min, true, List, length, Option, IfSome}
 use Rattle.mpw_geom.specs.declared.plane.Box2.{Box2}
 use Rattle.mpw_hier.specs.declared.size.Size.{Size}
 use Rattle.mpw_hier.specs.Items.{Item}
@@ -16,11 +15,6 @@ pub record Total : Type 0 where
 abbrev pub IsExtentNear : Option Box2 → Type 0
 IsExtentNear extent = IfSome extent (λ box. is_box_near box ≡ true)
 
-pub record IsExtentFar (extent : Option Box2) : Type 0 where
-  pub box : Box2
-  pub is : extent ≡ Some box
-  pub far : is_box_near box ≡ false
-
 -- A size tells a total: a count beyond 2^20 as 2^20 + 1, and levels beyond 64 as 65.
 pub record IsToldBy (total : Total) (size : Size) : Type 0 where
   pub count : size.count ≡ min (2 ^ 20 + 1) total.count
@@ -35,7 +29,3 @@ total_of items levels = record { count = length items; levels = levels; extent =
 -- The size of a flat list of so many levels.
 abbrev pub IsSizeOf : List Item → ℕ → Size → Type 0
 IsSizeOf items levels size = IsToldBy (total_of items levels) size
-
--- Each size tells what its name shows.
-abbrev pub AreToldBy : (List ℕ → List Item) → (List ℕ → ℕ) → List (List ℕ) → List Size → Type 0
-AreToldBy items heights names sizes = AllZip (λ name size. IsToldBy (total_of (items name) (heights name)) size) names sizes

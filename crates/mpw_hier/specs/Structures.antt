@@ -31,12 +31,12 @@ abbrev pub shapes : List Element → List Element
 shapes es = filter is_shape es
 
 -- The names of references, and those that a structure refers to; what the library has no structure of refers to none.
-abbrev pub names_of : List Element → List (List ℕ)
-names_of es = map (λ r. r.name) (references es)
+abbrev pub referenced_names : List Element → List (List ℕ)
+referenced_names es = map (λ r. r.name) (references es)
 
 abbrev pub target_names : Option Structure → List (List ℕ)
 target_names None = []
-target_names (Some s) = names_of s.elements
+target_names (Some s) = referenced_names s.elements
 
 abbrev pub refers : List Structure → List ℕ → List ℕ → Bool
 refers library from to = contains_name (target_names (structure_of library from)) to
@@ -44,7 +44,8 @@ refers library from to = contains_name (target_names (structure_of library from)
 -- A chain of references leads from one name to another, or they are one.
 pub data IsReachable (library : List Structure) : List ℕ → List ℕ → Type 0 where
   itself : {name : List ℕ} → IsReachable library name name
-  chain : {from middle to : List ℕ} → refers library from middle ≡ true → IsReachable library middle to → IsReachable library from to
+  chain : {from middle to : List ℕ} → refers library from middle ≡ true
+      → IsReachable library middle to → IsReachable library from to
 
 -- A structure that the top reaches, the top itself among them, refers to a name from which references lead back to it.
 pub record IsCyclic (library : List Structure) (top : List ℕ) : Type 0 where

@@ -5,13 +5,14 @@ use Rattle.mpw_geom.specs.Names.{name_eq}
 use Rattle.mpw_library.specs.declared.structures.Structure.{Structure}
 use Rattle.mpw_hier.specs.declared.bindings.Binding.{Binding}
 use Rattle.mpw_hier.specs.declared.submission.Submission.{Submission}
-use Rattle.mpw_hier.specs.Structures.{names_of}
+use Rattle.mpw_hier.specs.Structures.{referenced_names}
 use Rattle.mpw_hier.specs.Levels.{by_levels, levels_of}
 use Rattle.mpw_hier.specs.Items.{Item, items_of}
 use Rattle.mpw_hier.specs.Boxes.{extent_of}
 
 -- What each submission shows, from what those before it show.
-unfoldable pub from_first : {V : Type 0} → (List V → Submission → V) → List V → List Submission → List V
+unfoldable pub from_first : {V : Type 0} → (List V → Submission → V) → List V → List Submission
+    → List V
 from_first shown before [] = before
 from_first shown before (s ∷ ss) = from_first shown (before ++ shown before s ∷ []) ss
 
@@ -30,7 +31,8 @@ at_number nothing before (Some n) = slice_index_or before n nothing
 -- The flat list of a structure of a submission behind others with these flat lists.
 abbrev pub structure_items : List (List Item) → Submission → List ℕ → List Item
 structure_items before s name =
-    items_of (λ outside. at_number [] before (bound_number s.bound outside)) (length before) s.library name
+    items_of (λ outside. at_number [] before (bound_number s.bound outside)) (length before)
+    s.library name
 
 abbrev pub flat_of : List (List Item) → Submission → List Item
 flat_of before s = structure_items before s s.top
@@ -56,14 +58,16 @@ greatest ns = fold max 0 ns
 
 -- A structure without references has the height 1, another one more than the highest of its targets.
 abbrev pub shown_height : Structure → (List ℕ → ℕ) → ℕ
-shown_height s below = suc (greatest (map below (names_of s.elements)))
+shown_height s below = suc (greatest (map below (referenced_names s.elements)))
 
 -- The height of the structure of a name. A name outside the library has the height that `outside` tells.
 abbrev pub structure_height : (List ℕ → ℕ) → List Structure → List ℕ → ℕ
-structure_height outside library name = by_levels shown_height 0 outside (levels_of library) library name
+structure_height outside library name =
+    by_levels shown_height 0 outside (levels_of library) library name
 
 abbrev pub height_of : List ℕ → Submission → ℕ
-height_of before s = structure_height (λ outside. at_number 0 before (bound_number s.bound outside)) s.library s.top
+height_of before s =
+    structure_height (λ outside. at_number 0 before (bound_number s.bound outside)) s.library s.top
 
 unfoldable pub heights : List Submission → List ℕ
 heights ss = from_first height_of [] ss

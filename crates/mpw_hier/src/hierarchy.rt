@@ -9,9 +9,10 @@ ghost use Rattle.mpw_library.specs.Places.{place_of};
 ghost use Rattle.mpw_hier.specs.Outline.{IsOutline};
 ghost use Rattle.mpw_hier.specs.Outside.{graph_of};
 ghost use Rattle.mpw_hier.specs.Graph.{IsFromBelow};
-ghost use Rattle.mpw_hier.specs.Limits.{IsBound, IsFar, IsOfNodes};
+ghost use Rattle.mpw_hier.specs.Limits.{IsBound, IsFar};
+ghost use Rattle.mpw_hier.specs.Internal.Limits.{IsOfNodes};
 ghost use Rattle.mpw_hier.specs.Nodes.{IsTarget, AreChildren, shape_places};
-ghost use Rattle.mpw_hier.specs.Building.{ShowsBindings, AreLinked, IsKnown, AreKnown, IsSizeHere, AreSizesHere, IsPlace, IsReady, IsOneMore, IsFarHere, IsHierarchy};
+ghost use Rattle.mpw_hier.specs.Internal.Building.{ShowsBindings, AreLinked, IsKnown, AreKnown, IsSizeHere, AreSizesHere, IsPlace, IsReady, IsOneMore, IsFarHere, IsHierarchy};
 ghost use Rattle.mpw_hier.specs.Values.{flats};
 
 use crate::bindings::Binding;

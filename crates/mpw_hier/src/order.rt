@@ -5,7 +5,8 @@
 //! targets together, and twice the places.
 
 ghost use Rattle.std.specs.Prelude.{◌≡◌, ◌<◌, ◌+◌, [], length, map, Ok, IfOk, IfSome, IfNone, OnOk};
-ghost use Rattle.mpw_hier.specs.Graph.{IsGraph, HasCycle, IsFromBelow};
+ghost use Rattle.mpw_hier.specs.Graph.{IsFromBelow};
+ghost use Rattle.mpw_hier.specs.Internal.Graph.{IsGraph, HasCycle};
 ghost use Rattle.mpw_hier.specs.declared.order.Step.TheVariants as kinds;
 
 use crate::graph::Graph;
@@ -45,7 +46,7 @@ fn all_steps(alloc: Global, graph: &Graph) -> Result<Vec<usize>, AllocError>
 }
 
 impl Descent {
-    ghost use Rattle.mpw_hier.specs.Descent.{IsUnderWay, work};
+    ghost use Rattle.mpw_hier.specs.Internal.Descent.{IsUnderWay, work};
 
     /// The search at its beginning.
     fn new(alloc: Global, graph: &Graph, top: usize) -> Result<Descent, AllocError>

@@ -1,8 +1,9 @@
 //! Names outside a library.
 
 ghost use Rattle.std.specs.Prelude.{◌≡◌, ◌<◌, ◌++◌, length, IfOk, OnOk, All};
-ghost use Rattle.mpw_hier.specs.Structures.{names_of};
-ghost use Rattle.mpw_hier.specs.Outside.{places_of, names_outside, graph_of, outside_from_all};
+ghost use Rattle.mpw_hier.specs.Structures.{referenced_names};
+ghost use Rattle.mpw_hier.specs.Outside.{places_of, names_outside, graph_of};
+ghost use Rattle.mpw_hier.specs.Internal.Outside.{outside_from_all};
 
 use crate::graph::Graph;
 use mpw_elements::Element;
@@ -16,7 +17,7 @@ fn places_of(
     library: &Library,
     elements: &[Element],
 ) -> Result<Vec<usize>, AllocError>
-    ensures { IfOk result (λ places. places.items ≡ places_of library.now (names_of elements.now)) }
+    ensures { IfOk result (λ places. places.items ≡ places_of library.now (referenced_names elements.now)) }
 {
     let mut places = Vec::new(alloc);
     for element in elements {
@@ -42,7 +43,7 @@ pub fn graph_of(alloc: Global, library: &Library) -> Result<Graph, AllocError>
 
 /// Adds the names outside the library to which elements refer.
 fn add_outside(names: &mut Names, library: &Library, elements: &[Element]) -> Result<(), AllocError>
-    ensures { OnOk result (names.new ≡ names.old ++ names_outside library.now (names_of elements.now)) }
+    ensures { OnOk result (names.new ≡ names.old ++ names_outside library.now (referenced_names elements.now)) }
 {
     for element in elements {
         if let Element::Reference(reference) = element {

@@ -6,12 +6,13 @@
 ghost use Rattle.std.specs.Prelude.{◌≡◌, ◌+◌, ◌*◌, ◌^◌, ◌≤◌, ℕ, min, List, [], ◌∷◌, All, IfSome, IfNone, length};
 ghost use Rattle.std.specs.List.{AllZip};
 ghost use Rattle.mpw_elements.specs.Element.{IsElement, IsReference};
-ghost use Rattle.mpw_hier.specs.Structures.{references, names_of};
+ghost use Rattle.mpw_hier.specs.Structures.{references, referenced_names};
 ghost use Rattle.mpw_hier.specs.Items.{Item, shown_items};
 ghost use Rattle.mpw_hier.specs.Values.{shown_height};
 ghost use Rattle.mpw_hier.specs.Boxes.{element_box, extent_of};
-ghost use Rattle.mpw_hier.specs.Sizes.{Total, IsExtentNear, IsExtentFar, IsToldBy, AreToldBy, total_of};
-ghost use Rattle.mpw_hier.specs.SizeParts.{nothing, together, array_extent, shape_total, array_total, part_total, behind};
+ghost use Rattle.mpw_hier.specs.Sizes.{Total, IsExtentNear, IsToldBy, total_of};
+ghost use Rattle.mpw_hier.specs.Internal.Sizes.{IsExtentFar, AreToldBy};
+ghost use Rattle.mpw_hier.specs.Internal.SizeParts.{nothing, together, array_extent, shape_total, array_total, part_total, behind};
 
 use crate::size_array::array_box;
 use crate::size_box::{hull, is_box_near};
@@ -141,8 +142,8 @@ pub fn size_of(structure: &Structure, below: &[Size]) -> Option<Size>
     requires elements { All IsElement structure.now.elements }
     requires targets { length below.now ≡ length (references structure.now.elements) }
     requires near { All (λ size. IsExtentNear size.extent) below.now }
-    ensures size { (number : ℕ) (items : List ℕ → List Item) (heights : List ℕ → ℕ) → AreToldBy items heights (names_of structure.now.elements) below.now → IfSome result (IsToldBy (total_of (shown_items number structure.now items) (shown_height structure.now heights))) }
-    ensures far { (number : ℕ) (items : List ℕ → List Item) (heights : List ℕ → ℕ) → AreToldBy items heights (names_of structure.now.elements) below.now → IfNone result (IsExtentFar (extent_of (shown_items number structure.now items))) }
+    ensures size { (number : ℕ) (items : List ℕ → List Item) (heights : List ℕ → ℕ) → AreToldBy items heights (referenced_names structure.now.elements) below.now → IfSome result (IsToldBy (total_of (shown_items number structure.now items) (shown_height structure.now heights))) }
+    ensures far { (number : ℕ) (items : List ℕ → List Item) (heights : List ℕ → ℕ) → AreToldBy items heights (referenced_names structure.now.elements) below.now → IfNone result (IsExtentFar (extent_of (shown_items number structure.now items))) }
 {
     let mut size = Size::nothing();
     let mut left = below;

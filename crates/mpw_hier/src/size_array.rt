@@ -9,8 +9,8 @@ ghost use Rattle.std.specs.Int.{int_min, int_max};
 ghost use Rattle.mpw_geom.specs.declared.plane.Box2.{Box2};
 ghost use Rattle.mpw_elements.specs.Element.{IsCount, IsPointWithinReach, IsReference};
 ghost use Rattle.mpw_hier.specs.Boxes.{is_box_near, placed_box};
-ghost use Rattle.mpw_hier.specs.Sizes.{IsExtentFar};
-ghost use Rattle.mpw_hier.specs.SizeParts.{IsWide, IsWideBox, array_extent};
+ghost use Rattle.mpw_hier.specs.Internal.Sizes.{IsExtentFar};
+ghost use Rattle.mpw_hier.specs.Internal.SizeParts.{IsWide, IsWideBox, array_extent};
 
 use crate::size_box::is_near;
 use mpw_elements::Reference;
@@ -70,6 +70,24 @@ fn last_origin(count: u16, step: Point) -> WidePoint
     }
 }
 
+/// The least coordinate of the origins of instances in a line, where the first is at 0.
+fn least(last: i128) -> i128
+    requires { IsWide last }
+    ensures made { result ≡ int_min last (pos 0) }
+    ensures wide { IsWide result }
+{
+    last.min(0)
+}
+
+/// The greatest coordinate of the origins of instances in a line, where the first is at 0.
+fn greatest(last: i128) -> i128
+    requires { IsWide last }
+    ensures made { result ≡ int_max last (pos 0) }
+    ensures wide { IsWide result }
+{
+    last.max(0)
+}
+
 /// The box of the origins of instances in a line, where the first is at 0.
 fn origins(last: WidePoint) -> WideBox
     requires x { IsWide last.x }
@@ -78,10 +96,10 @@ fn origins(last: WidePoint) -> WideBox
     ensures wide { IsWideBox result }
 {
     WideBox {
-        x0: last.x.min(0),
-        y0: last.y.min(0),
-        x1: last.x.max(0),
-        y1: last.y.max(0),
+        x0: least(last.x),
+        y0: least(last.y),
+        x1: greatest(last.x),
+        y1: greatest(last.y),
     }
 }
 

@@ -4,7 +4,7 @@ ghost use Rattle.std.specs.Prelude.{◌≡◌, ◌≤◌, All, drop, length, if�
 ghost use Rattle.mpw_elements.specs.Element.{IsElement, IsPath, IsPointWithinReach, IsWithinReach};
 ghost use Rattle.mpw_elements.specs.declared.element.Element.TheVariants as elements;
 ghost use Rattle.mpw_hier.specs.Boxes.{hull, hull_of_points, has_area, element_box};
-ghost use Rattle.mpw_hier.specs.SizeParts.{wires_box};
+ghost use Rattle.mpw_hier.specs.Internal.SizeParts.{wires_box};
 
 use crate::size_box::{has_area, hull};
 use mpw_elements::{Element, Path};

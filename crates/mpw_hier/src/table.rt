@@ -47,7 +47,7 @@ impl Model for Table {
 
     ghost Value = { List Submission };
 
-    ghost use Rattle.mpw_hier.specs.Indexed.{IsShelved};
+    ghost use Rattle.mpw_hier.specs.Internal.Indexed.{IsShelved};
 
     ghost view = { λ s. s.submissions.items };
 

@@ -13,7 +13,8 @@ use Rattle.mpw_job.specs.Answers.{listed_on}
 
 -- the areas have the squares of the first n rectangles on the layer
 abbrev pub HaveSquares : List Rectangle → Layer → ℕ → List Box2 → Type 0
-HaveSquares listed layer n areas = (i j : ℤ) → covers areas i j ≡ listed_on (take n listed) layer i j
+HaveSquares listed layer n areas =
+    (i j : ℤ) → covers areas i j ≡ listed_on (take n listed) layer i j
 
 or_none : (b : Bool) → (b || false) ≡ b
 or_none true = refl
@@ -32,7 +33,10 @@ none_yet listed layer i j = refl
 abbrev on_layer : Layer → Square → Rectangle → Bool
 on_layer layer s r = same_layer r.layer layer && has_square r.area s
 
-pub one_more : (listed : List Rectangle) (layer : Layer) (n : ℕ) (d : Rectangle) (areas : List Box2) → n < length listed → HaveSquares listed layer n areas → same_layer (get_or listed n d).layer layer ≡ true → HaveSquares listed layer (n + 1) (areas ++ (get_or listed n d).area ∷ [])
+pub one_more : (listed : List Rectangle) (layer : Layer) (n : ℕ) (d : Rectangle) (areas : List Box2)
+    → n < length listed → HaveSquares listed layer n areas
+    → same_layer (get_or listed n d).layer layer ≡ true
+    → HaveSquares listed layer (n + 1) (areas ++ (get_or listed n d).area ∷ [])
 unfolding any_has_square
 one_more listed layer n d areas lt h same i j =
     let s : Square = record { column = i; row = j } in
@@ -40,10 +44,16 @@ one_more listed layer n d areas lt h same i j =
     ∙ with_one _ _ _ _ (h i j) same
     ∙ sym (list_any_more (on_layer layer s) listed n d lt)
 
-pub passed_over : (listed : List Rectangle) (layer : Layer) (n : ℕ) (d : Rectangle) (areas : List Box2) → n < length listed → HaveSquares listed layer n areas → same_layer (get_or listed n d).layer layer ≡ false → HaveSquares listed layer (n + 1) areas
+pub passed_over : (listed : List Rectangle) (layer : Layer) (n : ℕ) (d : Rectangle)
+    (areas : List Box2) → n < length listed → HaveSquares listed layer n areas
+    → same_layer (get_or listed n d).layer layer ≡ false → HaveSquares listed layer (n + 1) areas
 passed_over listed layer n d areas lt h other i j =
     let s : Square = record { column = i; row = j } in
-    without _ _ _ (has_square (get_or listed n d).area s) (h i j) other ∙ sym (list_any_more (on_layer layer s) listed n d lt)
+    without _ _ _ (has_square (get_or listed n d).area s) (h i j) other
+    ∙ sym (list_any_more (on_layer layer s) listed n d lt)
 
-pub all_of : (listed : List Rectangle) (layer : Layer) (n : ℕ) (areas : List Box2) → length listed ≤ n → HaveSquares listed layer n areas → (i j : ℤ) → covers areas i j ≡ listed_on listed layer i j
-all_of listed layer n areas le h i j = h i j ∙ ap (λ (xs : List Rectangle). listed_on xs layer i j) (take_all n listed le)
+pub all_of : (listed : List Rectangle) (layer : Layer) (n : ℕ) (areas : List Box2)
+    → length listed ≤ n → HaveSquares listed layer n areas → (i j : ℤ)
+    → covers areas i j ≡ listed_on listed layer i j
+all_of listed layer n areas le h i j =
+    h i j ∙ ap (λ (xs : List Rectangle). listed_on xs layer i j) (take_all n listed le)

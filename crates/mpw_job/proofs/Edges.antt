@@ -37,71 +37,152 @@ record IsBeside (P : ℤ → ℤ → Type 0) (x1 x2 j : ℤ) : Type 0 where
   high : at ≤ℤ x1
   ahead : x1 ≤ℤ x2
 
-beside : (P : ℤ → ℤ → Type 0) (check : Check) (distance : ℕ) (a b : Squares) (side : ℕ) (x1 x2 j : ℤ) → ((i j : ℤ) → a i j ≡ true → P i j) → ((i j : ℤ) → b i j ≡ true → P i j) → IsPairStep check distance a b side x1 x2 j → IsBeside P x1 x2 j
-beside P (Width l) distance a b side x1 x2 j f g h = let s = h.0.3 in record { at = x1; held = f x1 j h.0.1.0; low = omega (arith, ints); high = omega (arith, ints); ahead = omega (arith, ints) }
-beside P (Space l) distance a b side x1 x2 j f g h = let s = h.0.3 in record { at = x1 -ℤ pos 1; held = f (x1 -ℤ pos 1) j h.0.1.0; low = omega (arith, ints); high = omega (arith, ints); ahead = omega (arith, ints) }
+beside : (P : ℤ → ℤ → Type 0) (check : Check) (distance : ℕ) (a b : Squares) (side : ℕ)
+    (x1 x2 j : ℤ) → ((i j : ℤ) → a i j ≡ true → P i j) → ((i j : ℤ) → b i j ≡ true → P i j)
+    → IsPairStep check distance a b side x1 x2 j → IsBeside P x1 x2 j
+beside P (Width l) distance a b side x1 x2 j f g h = let s = h.0.3 in
+    record {
+      at = x1;
+      held = f x1 j h.0.1.0;
+      low = omega (arith, ints);
+      high = omega (arith, ints);
+      ahead = omega (arith, ints);
+    }
+beside P (Space l) distance a b side x1 x2 j f g h = let s = h.0.3 in
+    record {
+      at = x1 -ℤ pos 1;
+      held = f (x1 -ℤ pos 1) j h.0.1.0;
+      low = omega (arith, ints);
+      high = omega (arith, ints);
+      ahead = omega (arith, ints);
+    }
 beside P (Separation l m) distance a b side x1 x2 j f g h =
     elim h.0.1 [
-      | inl q ↦ record { at = x1 -ℤ pos 1; held = f (x1 -ℤ pos 1) j q.1.0; low = omega (arith, ints); high = omega (arith, ints); ahead = h.0.0 }
-      | inr q ↦ record { at = x1 -ℤ pos 1; held = g (x1 -ℤ pos 1) j q.1.0; low = omega (arith, ints); high = omega (arith, ints); ahead = h.0.0 }
+      | inl q ↦ record {
+        at = x1 -ℤ pos 1;
+        held = f (x1 -ℤ pos 1) j q.1.0;
+        low = omega (arith, ints);
+        high = omega (arith, ints);
+        ahead = h.0.0;
+      }
+      | inr q ↦ record {
+        at = x1 -ℤ pos 1;
+        held = g (x1 -ℤ pos 1) j q.1.0;
+        low = omega (arith, ints);
+        high = omega (arith, ints);
+        ahead = h.0.0;
+      }
     ]
 beside P (Enclosing l m) distance a b side x1 x2 j f g h =
     elim h.0.1 [
-      | inl q ↦ record { at = x1; held = f x1 j q.1.0; low = omega (arith, ints); high = omega (arith, ints); ahead = h.0.0 }
-      | inr q ↦ record { at = x1 -ℤ pos 1; held = g (x1 -ℤ pos 1) j q.1.0; low = omega (arith, ints); high = omega (arith, ints); ahead = h.0.0 }
+      | inl q ↦ record {
+        at = x1;
+        held = f x1 j q.1.0;
+        low = omega (arith, ints);
+        high = omega (arith, ints);
+        ahead = h.0.0;
+      }
+      | inr q ↦ record {
+        at = x1 -ℤ pos 1;
+        held = g (x1 -ℤ pos 1) j q.1.0;
+        low = omega (arith, ints);
+        high = omega (arith, ints);
+        ahead = h.0.0;
+      }
     ]
 
 -- a shape shows the square
 abbrev IsSeen : List Item → Square → Type 0
 IsSeen items s = (origin : ℕ) × HasShown items origin s
 
-seen_on : (items : List Item) (layer : Layer) (i j : ℤ) → shown_on items layer i j ≡ true → IsSeen items (record { column = i; row = j })
+seen_on : (items : List Item) (layer : Layer) (i j : ℤ) → shown_on items layer i j ≡ true
+    → IsSeen items (record { column = i; row = j })
 seen_on items layer i j e = let p = (tests_tell items layer).shown i j e in (p.0, (layer, p.1))
 
-seen_first : (check : Check) (items : List Item) (i j : ℤ) → first_squares check (shown_on items) i j ≡ true → IsSeen items (record { column = i; row = j })
+seen_first : (check : Check) (items : List Item) (i j : ℤ)
+    → first_squares check (shown_on items) i j ≡ true
+    → IsSeen items (record { column = i; row = j })
 seen_first (Width l) items i j e = seen_on items l i j e
 seen_first (Space l) items i j e = seen_on items l i j e
 seen_first (Separation l m) items i j e = seen_on items l i j e
 seen_first (Enclosing l m) items i j e = seen_on items l i j e
 
-seen_second : (check : Check) (items : List Item) (i j : ℤ) → second_squares check (shown_on items) i j ≡ true → IsSeen items (record { column = i; row = j })
+seen_second : (check : Check) (items : List Item) (i j : ℤ)
+    → second_squares check (shown_on items) i j ≡ true
+    → IsSeen items (record { column = i; row = j })
 seen_second (Width l) items i j e = absurd (false≢true e)
 seen_second (Space l) items i j e = absurd (false≢true e)
 seen_second (Separation l m) items i j e = seen_on items m i j e
 seen_second (Enclosing l m) items i j e = seen_on items m i j e
 
 -- what is seen, met by the box of a run
-in_box : (b : Box2) (p : Point) → b.x0 ≤ℤ p.x → p.x ≤ℤ b.x1 → b.y0 ≤ℤ p.y → p.y ≤ℤ b.y1 → has_point b p ≡ true
+in_box : (b : Box2) (p : Point) → b.x0 ≤ℤ p.x → p.x ≤ℤ b.x1 → b.y0 ≤ℤ p.y → p.y ≤ℤ b.y1
+    → has_point b p ≡ true
 in_box b p l r d u = test_from_PointIn b p (record { left = l; right = r; bottom = d; top = u })
 
-in_square : (s : Square) (p : Point) → s.column ≤ℤ p.x → (p.x -ℤ pos 1) ≤ℤ s.column → s.row ≤ℤ p.y → (p.y -ℤ pos 1) ≤ℤ s.row → has_point (closed_square s) p ≡ true
+in_square : (s : Square) (p : Point) → s.column ≤ℤ p.x → (p.x -ℤ pos 1) ≤ℤ s.column → s.row ≤ℤ p.y
+    → (p.y -ℤ pos 1) ≤ℤ s.row → has_point (closed_square s) p ≡ true
 unfolding closed_square
-in_square s p l r d u = test_from_PointIn (closed_square s) p (record { left = l; right = omega (arith, ints); bottom = d; top = omega (arith, ints) })
+in_square s p l r d u = test_from_PointIn (closed_square s) p
+    (record { left = l; right = omega (arith, ints); bottom = d; top = omega (arith, ints) })
 
-some_met : (rule : Rule) (items : List Item) (axis : Axis) (side : ℕ) (x1 x2 y0 y1 : ℤ) → y0 <ℤ y1 → IsStepOn rule (first_squares rule.check (shown_on items)) (second_squares rule.check (shown_on items)) axis side x1 x2 y0
+some_met : (rule : Rule) (items : List Item) (axis : Axis) (side : ℕ) (x1 x2 y0 y1 : ℤ) → y0 <ℤ y1
+    → IsStepOn rule (first_squares rule.check (shown_on items))
+    (second_squares rule.check (shown_on items)) axis side x1 x2 y0
     → (origin : ℕ) × IsMet (HasShown items) (box_on axis x1 x2 y0 y1) origin
 some_met rule items V side x1 x2 y0 y1 lt h =
-    let k = beside (λ i j. IsSeen items (record { column = i; row = j })) rule.check rule.distance (first_squares rule.check (shown_on items)) (second_squares rule.check (shown_on items)) side x1 x2 y0 (seen_first rule.check items) (seen_second rule.check items) h in
+    let k = beside (λ i j. IsSeen items (record { column = i; row = j })) rule.check rule.distance
+    (first_squares rule.check (shown_on items)) (second_squares rule.check (shown_on items))
+    side x1 x2 y0 (seen_first rule.check items) (seen_second rule.check items) h in
     let p : Point = record { x = x1; y = y0 } in
     let s : Square = record { column = k.at; row = y0 } in
     let low = k.low in
     let high = k.high in
-    let ahead = k.ahead in
-    (k.held.0, (s, k.held.1, (p, in_square s p high low (omega (arith, ints)) (omega (arith, ints)), in_box (box_on V x1 x2 y0 y1) p (omega (arith, ints)) ahead (omega (arith, ints)) (omega (arith, ints)))))
+    let ahead = k.ahead in (
+      k.held.0,
+      (
+        s,
+        k.held.1,
+        (
+          p,
+          in_square s p high low (omega (arith, ints)) (omega (arith, ints)),
+          in_box (box_on V x1 x2 y0 y1) p (omega (arith, ints)) ahead (omega (arith, ints))
+              (omega (arith, ints)),
+        ),
+      ),
+    )
 some_met rule items H side x1 x2 y0 y1 lt h =
-    let k = beside (λ i j. IsSeen items (record { column = j; row = i })) rule.check rule.distance (exchanged (first_squares rule.check (shown_on items))) (exchanged (second_squares rule.check (shown_on items))) side x1 x2 y0
+    let k = beside (λ i j. IsSeen items (record { column = j; row = i })) rule.check rule.distance
+    (exchanged (first_squares rule.check (shown_on items)))
+    (exchanged (second_squares rule.check (shown_on items))) side x1 x2 y0
     (λ i j e. seen_first rule.check items j i e) (λ i j e. seen_second rule.check items j i e) h in
     let p : Point = record { x = y0; y = x1 } in
     let s : Square = record { column = y0; row = k.at } in
     let low = k.low in
     let high = k.high in
-    let ahead = k.ahead in
-    (k.held.0, (s, k.held.1, (p, in_square s p (omega (arith, ints)) (omega (arith, ints)) high low, in_box (box_on H x1 x2 y0 y1) p (omega (arith, ints)) (omega (arith, ints)) (omega (arith, ints)) ahead)))
+    let ahead = k.ahead in (
+      k.held.0,
+      (
+        s,
+        k.held.1,
+        (
+          p,
+          in_square s p (omega (arith, ints)) (omega (arith, ints)) high low,
+          in_box (box_on H x1 x2 y0 y1) p (omega (arith, ints)) (omega (arith, ints))
+              (omega (arith, ints)) ahead,
+        ),
+      ),
+    )
 
-key_met : TestDecidesPairSteps → (rules : List Rule) (items : List Item) (k : Key) → IsMaximal (steps_of rules (shown_on items)) k → (origin : ℕ) × IsMet (HasShown items) (box_on k.axis k.x1 k.x2 k.y0 k.y1) origin
+key_met : TestDecidesPairSteps → (rules : List Rule) (items : List Item) (k : Key)
+    → IsMaximal (steps_of rules (shown_on items)) k
+    → (origin : ℕ) × IsMet (HasShown items) (box_on k.axis k.x1 k.x2 k.y0 k.y1) origin
 key_met law rules items k m =
-    let r = rule_of rules (shown_on items) (line_of_key k) k.y0 (m.rows k.y0 (omega (arith, ints)) m.filled) in
-    some_met r.rule items k.axis k.side k.x1 k.x2 k.y0 k.y1 m.filled (step_on law r.rule (first_squares r.rule.check (shown_on items)) (second_squares r.rule.check (shown_on items)) k.axis k.side k.x1 k.x2 k.y0 r.step)
+    let r = rule_of rules (shown_on items) (line_of_key k) k.y0
+    (m.rows k.y0 (omega (arith, ints)) m.filled) in
+    some_met r.rule items k.axis k.side k.x1 k.x2 k.y0 k.y1 m.filled
+    (step_on law r.rule (first_squares r.rule.check (shown_on items))
+    (second_squares r.rule.check (shown_on items)) k.axis k.side k.x1 k.x2 k.y0 r.step)
 
 pub each_meets : TestDecidesPairSteps → EachMarkerMeetsSome
 each_meets law s markers m h c =
@@ -110,7 +191,11 @@ each_meets law s markers m h c =
     (p.0, (k.met p.0).1 p.1)
 
 empty_book : IsBook []
-empty_book = record { filled = λ k d lt. absurd (omega (arith, lt)); ordered = search rules; ascending = λ k d lt. absurd (omega (arith, lt)) }
+empty_book = record {
+  filled = λ k d lt. absurd (omega (arith, lt));
+  ordered = search rules;
+  ascending = λ k d lt. absurd (omega (arith, lt));
+}
 
 pub none_without : TestDecidesPairSteps → SquaresLieInExtents → NoShapesNoMarkers
 none_without law lie s e = (

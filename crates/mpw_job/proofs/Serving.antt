@@ -14,26 +14,37 @@ use Rattle.mpw_edges.specs.Steps.{IsPair}
 use Rattle.mpw_edges.specs.Pieces.{HasStep, IsPiece}
 use Rattle.mpw_job.specs.Layers.{Coverage, first_squares, second_squares}
 use Rattle.mpw_job.specs.Answers.{IsFoundIn}
-use Rattle.mpw_job.specs.Shared.{squares_on, LooksAt}
+use Rattle.mpw_job.specs.Internal.Shared.{squares_on, LooksAt}
 
 -- the pairs of a check are those of the layers that it looks at, as they are or exchanged
 abbrev AreItsPairs : (Squares → Squares) → Check → Coverage → Layer → Option Layer → Type 0
 AreItsPairs turned check on first second =
-    (side : ℕ) (x1 x2 j : ℤ) → IsPair check (turned (on first)) (turned (squares_on on second)) side x1 x2 j
+    (side : ℕ) (x1 x2 j : ℤ) → IsPair check (turned (on first)) (turned (squares_on on second)) side
+    x1 x2 j
     ↔ IsPair check (turned (first_squares check on)) (turned (second_squares check on)) side x1 x2 j
 
-same_pairs : (turned : Squares → Squares) (check : Check) (on : Coverage) (first : Layer) (second : Option Layer) → LooksAt check first second → AreItsPairs turned check on first second
-same_pairs turned (Width l) on first second e = subst (λ (x : Layer). AreItsPairs turned (Width l) on x second) e (λ side x1 x2 j. (λ h. h, λ h. h))
-same_pairs turned (Space l) on first second e = subst (λ (x : Layer). AreItsPairs turned (Space l) on x second) e (λ side x1 x2 j. (λ h. h, λ h. h))
+same_pairs : (turned : Squares → Squares) (check : Check) (on : Coverage) (first : Layer)
+    (second : Option Layer) → LooksAt check first second → AreItsPairs turned check on first second
+same_pairs turned (Width l) on first second e =
+    subst (λ (x : Layer). AreItsPairs turned (Width l) on x second) e
+    (λ side x1 x2 j. (λ h. h, λ h. h))
+same_pairs turned (Space l) on first second e =
+    subst (λ (x : Layer). AreItsPairs turned (Space l) on x second) e
+    (λ side x1 x2 j. (λ h. h, λ h. h))
 same_pairs turned (Separation l m) on first second e =
     subst (λ (x : Layer). AreItsPairs turned (Separation l m) on x second) e.0
-    (subst (λ (o : Option Layer). AreItsPairs turned (Separation l m) on l o) (sym e.1) (λ side x1 x2 j. (λ h. h, λ h. h)))
+    (subst (λ (o : Option Layer). AreItsPairs turned (Separation l m) on l o) (sym e.1)
+    (λ side x1 x2 j. (λ h. h, λ h. h)))
 same_pairs turned (Enclosing l m) on first second e =
     subst (λ (x : Layer). AreItsPairs turned (Enclosing l m) on x second) e.0
-    (subst (λ (o : Option Layer). AreItsPairs turned (Enclosing l m) on l o) (sym e.1) (λ side x1 x2 j. (λ h. h, λ h. h)))
+    (subst (λ (o : Option Layer). AreItsPairs turned (Enclosing l m) on l o) (sym e.1)
+    (λ side x1 x2 j. (λ h. h, λ h. h)))
 
-same_steps : (rule : Rule) (on : Coverage) (first : Layer) (second : Option Layer) (core : Box2) → LooksAt rule.check first second → (axis : Axis) (side : ℕ) (x1 x2 j : ℤ)
-    → HasStep rule (on first) (squares_on on second) core axis side x1 x2 j ↔ HasStep rule (first_squares rule.check on) (second_squares rule.check on) core axis side x1 x2 j
+same_steps : (rule : Rule) (on : Coverage) (first : Layer) (second : Option Layer) (core : Box2)
+    → LooksAt rule.check first second → (axis : Axis) (side : ℕ) (x1 x2 j : ℤ)
+    → HasStep rule (on first) (squares_on on second) core axis side x1 x2 j
+    ↔ HasStep rule (first_squares rule.check on) (second_squares rule.check on) core axis side
+    x1 x2 j
 same_steps rule on first second core e V side x1 x2 j =
     let same = same_pairs (λ s. s) rule.check on first second e side x1 x2 j in
     (λ h. ((same.0 h.0.0, h.0.1), h.1), λ h. ((same.1 h.0.0, h.0.1), h.1))
@@ -42,7 +53,8 @@ same_steps rule on first second core e H side x1 x2 j =
     (λ h. ((same.0 h.0.0, h.0.1), h.1), λ h. ((same.1 h.0.0, h.0.1), h.1))
 
 piece_from : (rule : Rule) (a b a' b' : Squares) (core : Box2)
-    → ((axis : Axis) (side : ℕ) (x1 x2 j : ℤ) → HasStep rule a b core axis side x1 x2 j ↔ HasStep rule a' b' core axis side x1 x2 j)
+    → ((axis : Axis) (side : ℕ) (x1 x2 j : ℤ) → HasStep rule a b core axis side x1 x2 j
+    ↔ HasStep rule a' b' core axis side x1 x2 j)
     → (p : Piece) → IsPiece rule a b core p → IsPiece rule a' b' core p
 piece_from rule a b a' b' core same p h = record {
   filled = h.filled;
@@ -51,9 +63,11 @@ piece_from rule a b a' b' core same p h = record {
   above = λ s. h.above ((same p.axis p.side p.x1 p.x2 _).1 s);
 }
 
-pub found_on : (rule : Rule) (on : Coverage) (first : Layer) (second : Option Layer) (core : Box2) → LooksAt rule.check first second
+pub found_on : (rule : Rule) (on : Coverage) (first : Layer) (second : Option Layer) (core : Box2)
+    → LooksAt rule.check first second
     → (p : Piece) → IsPiece rule (on first) (squares_on on second) core p ↔ IsFoundIn core on rule p
 found_on rule on first second core e p = (
   piece_from rule _ _ _ _ core (same_steps rule on first second core e) p,
-  piece_from rule _ _ _ _ core (λ axis side x1 x2 j. let same = same_steps rule on first second core e axis side x1 x2 j in (same.1, same.0)) p,
+  piece_from rule _ _ _ _ core (λ axis side x1 x2 j. let same = same_steps rule on first second core
+      e axis side x1 x2 j in (same.1, same.0)) p,
 )

@@ -14,26 +14,32 @@ use Rattle.mpw_markers.specs.Order.{StandsBefore}
 use Rattle.mpw_markers.specs.Whole.{IsMet, AreMarkersOf}
 use Rattle.mpw_markers.proofs.Order.{line_total, line_before}
 use Rattle.mpw_markers.proofs.Unique.{same_in_order, same_numbers, same_marker}
-use Rattle.mpw_job.specs.Found.{key_box}
+use Rattle.mpw_job.specs.Internal.Found.{key_box}
 use Rattle.mpw_job.specs.Laws.{LayoutDeterminesMarkers}
 
 abbrev Precedes : Marker → Marker → Type 0
 Precedes m n = StandsBefore m n × IsFilled m × IsFilled n
 
 precedes : (markers : List Marker) → IsBook markers → AllPairs Precedes markers
-precedes markers b i j d lt within = (b.ordered i j d lt within, All-get_or IsFilled markers i d (omega arith) b.filled, All-get_or IsFilled markers j d within b.filled)
+precedes markers b i j d lt within = (
+  b.ordered i j d lt within,
+  All-get_or IsFilled markers i d (omega arith) b.filled,
+  All-get_or IsFilled markers j d within b.filled,
+)
 
 never_both : (m n : Marker) → Precedes m n → Precedes n m → ⊥
 never_both m n p q = at p.0 q.0
   where
     at : StandsBefore m n → StandsBefore n m → ⊥
-    at (inl f) (inl g) = line_before (line_of m) (line_of m) (line_total.trans (line_of m) (line_of n) (line_of m) f g) refl
+    at (inl f) (inl g) = line_before (line_of m) (line_of m)
+        (line_total.trans (line_of m) (line_of n) (line_of m) f g) refl
     at (inl f) (inr g) = line_before (line_of m) (line_of n) f (sym g.0)
     at (inr f) (inl g) = line_before (line_of n) (line_of m) g (sym f.0)
     at (inr f) (inr g) = omega (arith, ints, f.1, g.1, p.1, p.2)
 
 -- the marker of the other list that has the key is the same
-in_both : (steps : Line → ℤ → Bool) (has : ℕ → Square → Type 0) (a b : List Marker) (m : Marker) → AreMarkersOf steps has a
+in_both : (steps : Line → ℤ → Bool) (has : ℕ → Square → Type 0) (a b : List Marker) (m : Marker)
+    → AreMarkersOf steps has a
     → AreMarkersOf steps has b → Contains a m → Contains b m
 in_both steps has a b m f g c =
     let own = f.sound m c in
@@ -43,10 +49,13 @@ in_both steps has a b m f g c =
     let told = g.sound n other.1 in
     let boxes : box_of n ≡ box_of m = ap key_box keys in
     let met : n.met ≡ m.met = same_numbers n.met m.met told.ascending own.ascending (λ origin. (
-      λ k. (own.met origin).1 (subst (λ (x : Box2). IsMet has x origin) boxes ((told.met origin).0 k)),
-      λ k. (told.met origin).1 (subst (λ (x : Box2). IsMet has x origin) (sym boxes) ((own.met origin).0 k)),
+      λ k. (own.met origin).1 (subst (λ (x : Box2). IsMet has x origin) boxes
+          ((told.met origin).0 k)),
+      λ k. (told.met origin).1 (subst (λ (x : Box2). IsMet has x origin) (sym boxes)
+          ((own.met origin).0 k)),
     )) in
-    subst (Contains b) (same_marker n m (ap line_of_key keys) (ap (λ (k : Key). k.y0) keys) (ap (λ (k : Key). k.y1) keys) met) other.1
+    subst (Contains b) (same_marker n m (ap line_of_key keys) (ap (λ (k : Key). k.y0) keys)
+    (ap (λ (k : Key). k.y1) keys) met) other.1
 
 pub one_list : LayoutDeterminesMarkers
 one_list s first second f g =

@@ -32,22 +32,33 @@ pub record IsTask (task : Task) : Type 0 where
 
 -- A listed rectangle on the layer has the unit square.
 abbrev pub listed_on : List Rectangle → Coverage
-listed_on listed layer i j = list_any (λ (r : Rectangle). same_layer r.layer layer && has_square r.area (record { column = i; row = j })) listed
+listed_on listed layer i j = list_any (λ (r : Rectangle). same_layer r.layer layer
+    && has_square r.area (record { column = i; row = j })) listed
 
 -- A listed rectangle of the origin, on any layer, has the unit square.
 abbrev pub HasListed : List Rectangle → ℕ → Square → Type 0
-HasListed listed origin s = (r : Rectangle) × Contains listed r × (r.origin ≡ origin) × (has_square r.area s ≡ true)
+HasListed listed origin s =
+    (r : Rectangle) × Contains listed r × (r.origin ≡ origin) × (has_square r.area s ≡ true)
 
 -- A maximal run of the rule's pair steps of the squares of the layers, within the core.
 abbrev pub IsFoundIn : Box2 → Coverage → Rule → Piece → Type 0
-IsFoundIn core on rule p = IsPiece rule (first_squares rule.check on) (second_squares rule.check on) core p
+IsFoundIn core on rule p =
+    IsPiece rule (first_squares rule.check on) (second_squares rule.check on) core p
 
 -- The marker as a run, and the key of a run of the rule at that place.
 abbrev pub run_of : Marker → Piece
 run_of m = record { axis = m.axis; side = m.side; x1 = m.x1; x2 = m.x2; y0 = m.y0; y1 = m.y1 }
 
 abbrev pub key_at : ℕ → Piece → Key
-key_at place p = record { rule = place; axis = p.axis; side = p.side; x1 = p.x1; x2 = p.x2; y0 = p.y0; y1 = p.y1 }
+key_at place p = record {
+  rule = place;
+  axis = p.axis;
+  side = p.side;
+  x1 = p.x1;
+  x2 = p.x2;
+  y0 = p.y0;
+  y1 = p.y1;
+}
 
 -- The marker's numbers are those of the origins listed with a closed unit square that meets its closed box, on any layer.
 pub record TellsMet (listed : List Rectangle) (m : Marker) : Type 0 where
@@ -72,6 +83,7 @@ ComesBefore m n = marker_cmp m n ≡ Less
 -- rectangles, with the origins listed that each one's closed box meets. They stand in order, each once.
 pub record Answers (task : Task) (markers : List Marker) : Type 0 where
   pub sound : (m : Marker) → Contains markers m → IsAnswer task m
-  pub complete : (place : ℕ) (rule : Rule) (p : Piece) → slice_get task.rules place ≡ Some rule → IsFoundIn task.core (listed_on task.window) rule p
+  pub complete : (place : ℕ) (rule : Rule) (p : Piece) → slice_get task.rules place ≡ Some rule
+      → IsFoundIn task.core (listed_on task.window) rule p
       → (m : Marker) × Contains markers m × (key_of m ≡ key_at place p)
   pub ordered : AllPairs ComesBefore markers

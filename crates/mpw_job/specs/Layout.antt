@@ -30,7 +30,8 @@ undoing M270 = M270
 
 -- The unit square that the placing takes to this one.
 unfoldable pub square_before : Placing → Square → Square
-square_before t s = oriented_square (undoing t.orient) (record { column = s.column -ℤ t.by.x; row = s.row -ℤ t.by.y })
+square_before t s = oriented_square (undoing t.orient)
+    (record { column = s.column -ℤ t.by.x; row = s.row -ℤ t.by.y })
 
 -- The shape, where it is placed, has the unit square.
 abbrev pub item_has : Item → Square → Bool
@@ -43,7 +44,8 @@ is_layer (Some own) layer = same_layer own layer
 
 -- A shape of the flat list on the layer has the unit square, where it is placed.
 abbrev pub shown_on : List Item → Coverage
-shown_on items layer i j = list_any (λ (item : Item). is_layer (layer_of item.element) layer && item_has item (record { column = i; row = j })) items
+shown_on items layer i j = list_any (λ (item : Item). is_layer (layer_of item.element) layer
+    && item_has item (record { column = i; row = j })) items
 
 -- A shape of the flat list of that origin, on any layer, has the unit square.
 abbrev pub HasShown : List Item → ℕ → Square → Type 0
@@ -53,7 +55,8 @@ HasShown items origin s = (layer : Layer) × IsShown items layer origin s
 -- both axes, with a pair step of a rule, and each meets the origins of the shapes of which a closed unit square, on any layer, meets its
 -- closed box.
 abbrev pub AreFlatMarkers : List Rule → List Item → List Marker → Type 0
-AreFlatMarkers rules items markers = IsBook markers × AreMarkersOf (steps_of rules (shown_on items)) (HasShown items) markers
+AreFlatMarkers rules items markers =
+    IsBook markers × AreMarkersOf (steps_of rules (shown_on items)) (HasShown items) markers
 
 -- The markers of the flat layout of the snapshot's roots under its deck.
 abbrev pub AreLayoutMarkers : Snapshot → List Marker → Type 0

@@ -1,9 +1,7 @@
 pub mod Layers
-pub mod Cores
 pub mod Answers
-pub mod Found
 pub mod Layout
 pub mod Laws
 pub mod Jobs
 pub mod Carried
-pub mod Shared
+pub mod Internal

@@ -4,9 +4,9 @@
 ghost use Rattle.std.specs.Prelude.{◌≡◌, ◌++◌, IfOk, OnOk, map};
 ghost use Rattle.mpw_geom.specs.declared.plane.Box2.{Box2 as BoxValue};
 ghost use Rattle.mpw_job.specs.Layers.{Coverage};
-ghost use Rattle.mpw_job.specs.Shared.{Serves, IsSharedOf};
+ghost use Rattle.mpw_job.specs.Internal.Shared.{Serves, IsSharedOf};
 ghost use Rattle.mpw_job.specs.Answers.{key_at, Answers};
-ghost use Rattle.mpw_job.specs.Found.{AddsRule, AreKeys};
+ghost use Rattle.mpw_job.specs.Internal.Found.{AddsRule, AreKeys};
 
 use crate::job::TileJob;
 use crate::layers::by_layer;

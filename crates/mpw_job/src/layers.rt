@@ -6,7 +6,8 @@
 ghost use Rattle.std.specs.Prelude.{◌≡◌, ◌≤◌, ◌<◌, ◌^◌, ℤ, All, IfOk, take, drop, length};
 ghost use Rattle.std.specs.List.Sorted.{IsPermutation};
 ghost use Rattle.mpw_region.specs.Squares.{covers};
-ghost use Rattle.mpw_job.specs.Layers.{same_layer, layer_code, IsByLayer};
+ghost use Rattle.mpw_job.specs.Layers.{same_layer};
+ghost use Rattle.mpw_job.specs.Internal.Layers.{layer_code, IsByLayer};
 ghost use Rattle.mpw_job.specs.Answers.{listed_on};
 
 use mpw_geom::{Box2, Layer};
@@ -21,7 +22,7 @@ fn same_layer(a: Layer, b: Layer) -> bool
 }
 
 /// The layer's place among all layers.
-#[tactic(auto, unfolding(crate::specs::Layers::layer_code))]
+#[tactic(auto, unfolding(crate::specs::Internal::Layers::layer_code))]
 fn layer_code(layer: Layer) -> u64
     ensures code { result ≡ layer_code layer }
     ensures small { result < 2 ^ 32 }

@@ -7,7 +7,7 @@ ghost use Rattle.mpw_geom.specs.Plane.{Square, HasArea, IsOrdered};
 ghost use Rattle.mpw_markers.specs.Markers.{key_of};
 ghost use Rattle.mpw_origins.specs.Origins.{HasSquareOf};
 ghost use Rattle.mpw_job.specs.Answers.{HasListed};
-ghost use Rattle.mpw_job.specs.Found.{key_box, met_of, TellMet, AreMarkersOfKeys};
+ghost use Rattle.mpw_job.specs.Internal.Found.{key_box, met_of, TellMet, AreMarkersOfKeys};
 
 use mpw_edges::Axis;
 use mpw_geom::Box2;

@@ -8,8 +8,8 @@ ghost use Rattle.std.specs.Prelude.{◌≡◌, ◌↔◌, Some, ℤ, IfOk, IfSom
 ghost use Rattle.mpw_geom.specs.Plane.{IsBoxInPlane};
 ghost use Rattle.mpw_region.specs.Squares.{covers};
 ghost use Rattle.mpw_job.specs.Answers.{listed_on};
-ghost use Rattle.mpw_job.specs.Layers.{IsByLayer};
-ghost use Rattle.mpw_job.specs.Shared.{squares_on, LooksAt, Serves, IsSharedOf};
+ghost use Rattle.mpw_job.specs.Internal.Layers.{IsByLayer};
+ghost use Rattle.mpw_job.specs.Internal.Shared.{squares_on, LooksAt, Serves, IsSharedOf};
 
 use crate::layers::areas_on;
 use mpw_checks::{Strips, strips_of};

@@ -31,53 +31,77 @@ use Rattle.mpw_replies.specs.declared.row.Ending.TheVariants as ending
 use Rattle.mpw_layouts.specs.Layouts.{read, outside, usable, bound, kept, unnumbered, submitted_library, submitted, cells, cells_of, readable_line, shown, readable_shape, shapes, shelved, listed, outcome_of}
 
 -- a row ends in its first part, or behind it
-parts : {A B : Type 0} (x : Result A Ending) (f : A → Result B Ending) (r : Ending) → (x >>= f) ≡ Err r → (x ≡ Err r) ⊎ ((a : A) × (x ≡ Ok a) × (f a ≡ Err r))
+parts : {A B : Type 0} (x : Result A Ending) (f : A → Result B Ending) (r : Ending)
+    → (x >>= f) ≡ Err r → (x ≡ Err r) ⊎ ((a : A) × (x ≡ Ok a) × (f a ≡ Err r))
 parts (Ok a) f r e = inr (a, refl, e)
 parts (Err s) f r e = inl (let same : s ≡ r = cc in ap (λ t. Err t) same)
 
-module _ (lacks : EnteringDeniesWhatIsLacked) (policy : Policy) (conn : ℕ) (operation : Operation) (object : Object) where
-  denies-read : (outcome : Result (List Structure) ReadFault) → read outcome ≡ Err (denied operation object) → ⊥
+module _ (lacks : EnteringDeniesWhatIsLacked) (policy : Policy) (conn : ℕ) (operation : Operation)
+    (object : Object) where
+  denies-read : (outcome : Result (List Structure) ReadFault)
+      → read outcome ≡ Err (denied operation object) → ⊥
   denies-read (Ok library) e = cc
   denies-read (Err fault) e = cc
 
-  denies-outside : (library : List Structure) (top : List ℕ) → outside library top ≡ Err (denied operation object) → ⊥
-  denies-outside library top e = go (external_names library top) (is_some (place_of library top)) (not (is_cyclic library top)) e
+  denies-outside : (library : List Structure) (top : List ℕ)
+      → outside library top ≡ Err (denied operation object) → ⊥
+  denies-outside library top e = go (external_names library top) (is_some (place_of library top))
+      (not (is_cyclic library top)) e
     where
-      go : {A : Type 0} (value : A) (a b : Bool) → cond a (cond b (Ok value) (Err (ending.Refused code.Cycle))) (Err (ending.Refused code.NoTop)) ≡ Err (denied operation object) → ⊥
+      go : {A : Type 0} (value : A) (a b : Bool)
+          → cond a (cond b (Ok value) (Err (ending.Refused code.Cycle)))
+          (Err (ending.Refused code.NoTop)) ≡ Err (denied operation object) → ⊥
       go value true true e = cc
       go value true false e = cc
       go value false b e = cc
 
-  one_denial : (o : Operation) (cell : List ℕ) → permits policy conn o (objects.Cell cell) ≡ false → denied o (objects.Cell cell) ≡ denied operation object → permits policy conn operation object ≡ false
+  one_denial : (o : Operation) (cell : List ℕ) → permits policy conn o (objects.Cell cell) ≡ false
+      → denied o (objects.Cell cell) ≡ denied operation object
+      → permits policy conn operation object ≡ false
   one_denial o cell lacking e =
       let op : o ≡ operation = cc in
       let ob : objects.Cell cell ≡ object = cc in
       rw (← op, ← ob) lacking
 
-  denies-usable : (names : List (List ℕ)) → usable policy conn names ≡ Err (denied operation object) → permits policy conn operation object ≡ false
+  denies-usable : (names : List (List ℕ)) → usable policy conn names ≡ Err (denied operation object)
+      → permits policy conn operation object ≡ false
   denies-usable [] e = absurd cc
-  denies-usable (name ∷ names) e = go (λ h. denies-usable names h) (permits policy conn Use (objects.Cell name)) refl e
+  denies-usable (name ∷ names) e = go (λ h. denies-usable names h)
+      (permits policy conn Use (objects.Cell name)) refl e
     where
-      go : (usable policy conn names ≡ Err (denied operation object) → permits policy conn operation object ≡ false) → (b : Bool) → permits policy conn Use (objects.Cell name) ≡ b → cond b (usable policy conn names) (Err (denied Use (objects.Cell name))) ≡ Err (denied operation object) → permits policy conn operation object ≡ false
+      go : (usable policy conn names ≡ Err (denied operation object)
+          → permits policy conn operation object ≡ false) → (b : Bool)
+          → permits policy conn Use (objects.Cell name) ≡ b
+          → cond b (usable policy conn names) (Err (denied Use (objects.Cell name)))
+          ≡ Err (denied operation object) → permits policy conn operation object ≡ false
       go later true is e = later e
-      go later false is e = one_denial Use name is (let h : denied Use (objects.Cell name) ≡ denied operation object = cc in h)
+      go later false is e = one_denial Use name is
+          (let h : denied Use (objects.Cell name) ≡ denied operation object = cc in h)
 
-  denies-bound : (bindings : Option (List Binding)) → bound bindings ≡ Err (denied operation object) → ⊥
+  denies-bound : (bindings : Option (List Binding)) → bound bindings ≡ Err (denied operation object)
+      → ⊥
   denies-bound None e = cc
   denies-bound (Some bindings) e = cc
 
-  denies-kept : (shelf : List Submission) (s : Submission) → kept shelf s ≡ Err (denied operation object) → ⊥
+  denies-kept : (shelf : List Submission) (s : Submission)
+      → kept shelf s ≡ Err (denied operation object) → ⊥
   unfolding kept
-  denies-kept shelf s e = go (numbered shelf s) (not (is_far shelf s)) (not (is_too_large shelf s)) (not (is_too_deep shelf s)) (has_room_for shelf s.cell) e
+  denies-kept shelf s e = go (numbered shelf s) (not (is_far shelf s)) (not (is_too_large shelf s))
+      (not (is_too_deep shelf s)) (has_room_for shelf s.cell) e
     where
-      go : {A : Type 0} (value : A) (a b c d : Bool) → cond a (cond b (cond c (cond d (Ok value) (Err (ending.Refused code.Full))) (Err (ending.Refused code.Deep))) (Err (ending.Refused code.Shapes))) (Err (ending.Refused code.Extent)) ≡ Err (denied operation object) → ⊥
+      go : {A : Type 0} (value : A) (a b c d : Bool)
+          → cond a (cond b (cond c (cond d (Ok value) (Err (ending.Refused code.Full)))
+          (Err (ending.Refused code.Deep))) (Err (ending.Refused code.Shapes)))
+          (Err (ending.Refused code.Extent)) ≡ Err (denied operation object) → ⊥
       go value true true true true e = cc
       go value true true true false e = cc
       go value true true false d e = cc
       go value true false c d e = cc
       go value false b c d e = cc
 
-  denies-library : (shelf : List Submission) (cell top : List ℕ) (library : List Structure) → submitted_library policy shelf conn cell top library ≡ Err (denied operation object) → permits policy conn operation object ≡ false
+  denies-library : (shelf : List Submission) (cell top : List ℕ) (library : List Structure)
+      → submitted_library policy shelf conn cell top library ≡ Err (denied operation object)
+      → permits policy conn operation object ≡ false
   unfolding submitted_library
   denies-library shelf cell top library e = elim (parts (outside library top) _ _ e) [
     | inl first ↦ absurd (denies-outside library top first)
@@ -85,66 +109,99 @@ module _ (lacks : EnteringDeniesWhatIsLacked) (policy : Policy) (conn : ℕ) (op
       | inl second ↦ denies-usable rest.0 second
       | inr more ↦ elim (parts (bound (bound_to shelf rest.0)) _ _ more.2) [
         | inl third ↦ absurd (denies-bound (bound_to shelf rest.0) third)
-        | inr last ↦ absurd (denies-kept shelf (unnumbered cell (user_of policy conn) library top last.0) last.2)
+        | inr last ↦ absurd (denies-kept shelf
+            (unnumbered cell (user_of policy conn) library top last.0) last.2)
       ]
     ]
   ]
 
-denies-submitted : EnteringDeniesWhatIsLacked → (policy : Policy) (shelf : List Submission) (conn : ℕ) (cell top text : List ℕ) (operation : Operation) (object : Object) → submitted policy shelf conn cell top text ≡ Err (denied operation object) → permits policy conn operation object ≡ false
+denies-submitted : EnteringDeniesWhatIsLacked
+    → (policy : Policy) (shelf : List Submission) (conn : ℕ) (cell top text : List ℕ)
+    (operation : Operation) (object : Object)
+    → submitted policy shelf conn cell top text ≡ Err (denied operation object)
+    → permits policy conn operation object ≡ false
 unfolding submitted
-denies-submitted lacks policy shelf conn cell top text operation object e = elim (parts (permitted policy conn Submit (objects.Cell cell)) _ _ e) [
-  | inl first ↦ lacks policy conn Submit operation (objects.Cell cell) object first
-  | inr rest ↦ elim (parts (read (library_of text)) _ _ rest.2) [
-    | inl second ↦ absurd (denies-read lacks policy conn operation object (library_of text) second)
-    | inr more ↦ denies-library lacks policy conn operation object shelf cell top more.0 more.2
-  ]
-]
+denies-submitted lacks policy shelf conn cell top text operation object e =
+    elim (parts (permitted policy conn Submit (objects.Cell cell)) _ _ e) [
+      | inl first ↦ lacks policy conn Submit operation (objects.Cell cell) object first
+      | inr rest ↦ elim (parts (read (library_of text)) _ _ rest.2) [
+        | inl second ↦ absurd (denies-read lacks policy conn operation object (library_of text)
+            second)
+        | inr more ↦ denies-library lacks policy conn operation object shelf cell top more.0 more.2
+      ]
+    ]
 
-denies-cells : (policy : Policy) (shelf : List Submission) (conn : ℕ) (operation : Operation) (object : Object) → cells policy shelf conn ≡ Err (denied operation object) → ⊥
-denies-cells policy shelf conn operation object e = go (map stored (flat_map (readable_line policy shelf conn) (cells_of shelf))) (is_some (session_of policy conn)) e
+denies-cells : (policy : Policy) (shelf : List Submission) (conn : ℕ) (operation : Operation)
+    (object : Object) → cells policy shelf conn ≡ Err (denied operation object) → ⊥
+denies-cells policy shelf conn operation object e =
+    go (map stored (flat_map (readable_line policy shelf conn) (cells_of shelf)))
+    (is_some (session_of policy conn)) e
   where
-    go : {A : Type 0} (value : A) (a : Bool) → cond a (Ok value) (Err (ending.Denied denial.Session)) ≡ Err (denied operation object) → ⊥
+    go : {A : Type 0} (value : A) (a : Bool)
+        → cond a (Ok value) (Err (ending.Denied denial.Session)) ≡ Err (denied operation object) → ⊥
     go value true e = cc
     go value false e = cc
 
-denies-shown : (found : Option ℕ) (operation : Operation) (object : Object) → shown found ≡ Err (denied operation object) → ⊥
+denies-shown : (found : Option ℕ) (operation : Operation) (object : Object)
+    → shown found ≡ Err (denied operation object) → ⊥
 denies-shown None operation object e = cc
 denies-shown (Some number) operation object e = cc
 
 denies-listed : (lines : List Listed) (told : Ending) → Ok lines ≡ Err told → ⊥
 denies-listed lines told e = cc
 
-denies-shapes : EnteringDeniesWhatIsLacked → (policy : Policy) (shelf : List Submission) (conn : ℕ) (cell : List ℕ) (operation : Operation) (object : Object) → shapes policy shelf conn cell ≡ Err (denied operation object) → permits policy conn operation object ≡ false
+denies-shapes : EnteringDeniesWhatIsLacked
+    → (policy : Policy) (shelf : List Submission) (conn : ℕ) (cell : List ℕ) (operation : Operation)
+    (object : Object) → shapes policy shelf conn cell ≡ Err (denied operation object)
+    → permits policy conn operation object ≡ false
 unfolding shapes
-denies-shapes lacks policy shelf conn cell operation object e = elim (parts (permitted policy conn Read (objects.Cell cell)) _ _ e) [
-  | inl first ↦ lacks policy conn Read operation (objects.Cell cell) object first
-  | inr rest ↦ elim (parts (shown (present shelf cell)) _ _ rest.2) [
-    | inl second ↦ absurd (denies-shown (present shelf cell) operation object second)
-    | inr more ↦ absurd (denies-listed (flat_map (readable_shape policy shelf conn) (flat shelf more.0)) (denied operation object) more.2)
-  ]
-]
+denies-shapes lacks policy shelf conn cell operation object e =
+    elim (parts (permitted policy conn Read (objects.Cell cell)) _ _ e) [
+      | inl first ↦ lacks policy conn Read operation (objects.Cell cell) object first
+      | inr rest ↦ elim (parts (shown (present shelf cell)) _ _ rest.2) [
+        | inl second ↦ absurd (denies-shown (present shelf cell) operation object second)
+        | inr more ↦ absurd (denies-listed
+            (flat_map (readable_shape policy shelf conn) (flat shelf more.0))
+            (denied operation object)
+            more.2)
+      ]
+    ]
 
 -- ---- outcomes
 
-permission-ended : (e : Ending) (operation : Operation) (object : Object) → ended_by e ≡ reply.Denied (denial.Permission operation object) → e ≡ denied operation object
-permission-ended (ending.Denied why) operation object told = let same : why ≡ denial.Permission operation object = cc in ap (λ d. ending.Denied d) same
+permission-ended : (e : Ending) (operation : Operation) (object : Object)
+    → ended_by e ≡ reply.Denied (denial.Permission operation object) → e ≡ denied operation object
+permission-ended (ending.Denied why) operation object told =
+    let same : why ≡ denial.Permission operation object = cc in ap (λ d. ending.Denied d) same
 permission-ended (ending.Refused why) operation object told = absurd cc
 
-permission-shelved : (shelf : List Submission) (row : Result Submission Ending) (operation : Operation) (object : Object)
-    → (shelved shelf row).reply ≡ reply.Denied (denial.Permission operation object) → row ≡ Err (denied operation object)
+permission-shelved : (shelf : List Submission) (row : Result Submission Ending)
+    (operation : Operation) (object : Object)
+    → (shelved shelf row).reply ≡ reply.Denied (denial.Permission operation object)
+    → row ≡ Err (denied operation object)
 permission-shelved shelf (Ok s) operation object e = absurd cc
-permission-shelved shelf (Err ending) operation object e = ap (λ x. Err x) (permission-ended ending operation object e)
+permission-shelved shelf (Err ending) operation object e =
+    ap (λ x. Err x) (permission-ended ending operation object e)
 
-permission-listed : (shelf : List Submission) (row : Result (List Listed) Ending) (operation : Operation) (object : Object)
-    → (listed shelf row).reply ≡ reply.Denied (denial.Permission operation object) → row ≡ Err (denied operation object)
+permission-listed : (shelf : List Submission) (row : Result (List Listed) Ending)
+    (operation : Operation) (object : Object)
+    → (listed shelf row).reply ≡ reply.Denied (denial.Permission operation object)
+    → row ≡ Err (denied operation object)
 permission-listed shelf (Ok lines) operation object e = absurd cc
-permission-listed shelf (Err ending) operation object e = ap (λ x. Err x) (permission-ended ending operation object e)
+permission-listed shelf (Err ending) operation object e =
+    ap (λ x. Err x) (permission-ended ending operation object e)
 
-pub lacks-layout : EnteringDeniesWhatIsLacked → (policy : Policy) (shelf : List Submission) (conn : ℕ) (request : LayoutRequest) (operation : Operation) (object : Object)
-    → (outcome_of policy shelf conn request).reply ≡ reply.Denied (denial.Permission operation object) → permits policy conn operation object ≡ false
+pub lacks-layout : EnteringDeniesWhatIsLacked
+    → (policy : Policy) (shelf : List Submission) (conn : ℕ) (request : LayoutRequest)
+    (operation : Operation) (object : Object)
+    → (outcome_of policy shelf conn request).reply ≡ reply.Denied
+    (denial.Permission operation object) → permits policy conn operation object ≡ false
 lacks-layout lacks policy shelf conn (ask.Submit cell top text) operation object e =
-    denies-submitted lacks policy shelf conn cell top text operation object (permission-shelved shelf (submitted policy shelf conn cell top text) operation object e)
+    denies-submitted lacks policy shelf conn cell top text operation object
+    (permission-shelved shelf (submitted policy shelf conn cell top text) operation object e)
 lacks-layout lacks policy shelf conn ask.Cells operation object e =
-    absurd (denies-cells policy shelf conn operation object (permission-listed shelf (cells policy shelf conn) operation object e))
+    absurd (denies-cells policy shelf conn operation object
+    (permission-listed shelf (cells policy shelf conn) operation object e))
 lacks-layout lacks policy shelf conn (ask.Shapes cell) operation object e =
-    denies-shapes lacks policy shelf conn cell operation object (permission-listed shelf (shapes policy shelf conn cell) operation object e)
+    denies-shapes lacks policy shelf conn cell operation object
+    (permission-listed shelf (shapes policy shelf conn cell) operation object e)

@@ -35,13 +35,18 @@ module _ (policy : Policy) (conn : ℕ) where
 
   -- ---- cells
 
-  of_cell : (shelf : List Submission) (cell : List ℕ) (o : Option Submission) → ((s : Submission) → o ≡ Some s → s.cell ≡ cell) → permits policy conn Read (objects.Cell cell) ≡ true
+  of_cell : (shelf : List Submission) (cell : List ℕ) (o : Option Submission)
+      → ((s : Submission) → o ≡ Some s → s.cell ≡ cell)
+      → permits policy conn Read (objects.Cell cell) ≡ true
       → All (IsOfReadable policy conn) (map stored (cell_line o))
   of_cell shelf cell None same may = no_lines
   of_cell shelf cell (Some s) same may =
-      All-cons (IsOfReadable policy conn) (stored _) [] (subst (λ name. permits policy conn Read (objects.Cell name) ≡ true) (sym (same s refl)) may) no_lines
+      All-cons (IsOfReadable policy conn) (stored _) []
+      (subst (λ name. permits policy conn Read (objects.Cell name) ≡ true) (sym (same s refl))
+      may) no_lines
 
-  same_cell : PresentAreOfTheirCell → (shelf : List Submission) (cell : List ℕ) (s : Submission) → present_submission shelf cell ≡ Some s → s.cell ≡ cell
+  same_cell : PresentAreOfTheirCell → (shelf : List Submission) (cell : List ℕ) (s : Submission)
+      → present_submission shelf cell ≡ Some s → s.cell ≡ cell
   same_cell presents shelf cell s is = go (present shelf cell) refl is
     where
       go : (o : Option ℕ) → present shelf cell ≡ o → numbered_at shelf o ≡ Some s → s.cell ≡ cell
@@ -51,48 +56,72 @@ module _ (policy : Policy) (conn : ℕ) where
           let same : own.submission ≡ s = cc in
           subst (λ (q : Submission). q.cell ≡ cell) same own.same
 
-  of_line : PresentAreOfTheirCell → (shelf : List Submission) (cell : List ℕ) → All (IsOfReadable policy conn) (map stored (readable_line policy shelf conn cell))
+  of_line : PresentAreOfTheirCell → (shelf : List Submission) (cell : List ℕ)
+      → All (IsOfReadable policy conn) (map stored (readable_line policy shelf conn cell))
   of_line presents shelf cell = go (permits policy conn Read (objects.Cell cell)) refl
     where
-      go : (b : Bool) → permits policy conn Read (objects.Cell cell) ≡ b → All (IsOfReadable policy conn) (map stored (cond b (cell_line (present_submission shelf cell)) []))
-      go true may = of_cell shelf cell (present_submission shelf cell) (same_cell presents shelf cell) may
+      go : (b : Bool) → permits policy conn Read (objects.Cell cell) ≡ b
+          → All (IsOfReadable policy conn)
+          (map stored (cond b (cell_line (present_submission shelf cell)) []))
+      go true may = of_cell shelf cell (present_submission shelf cell)
+          (same_cell presents shelf cell) may
       go false may = no_lines
 
-  of_cells : PresentAreOfTheirCell → (shelf : List Submission) (cells : List (List ℕ)) → All (IsOfReadable policy conn) (map stored (flat_map (readable_line policy shelf conn) cells))
+  of_cells : PresentAreOfTheirCell → (shelf : List Submission) (cells : List (List ℕ))
+      → All (IsOfReadable policy conn) (map stored
+      (flat_map (readable_line policy shelf conn) cells))
   of_cells presents shelf [] = no_lines
   of_cells presents shelf (cell ∷ cells) =
-      subst (All (IsOfReadable policy conn)) (sym (map-append stored (readable_line policy shelf conn cell) (flat_map (readable_line policy shelf conn) cells)))
-      (All-append (IsOfReadable policy conn) (map stored (readable_line policy shelf conn cell)) _ (of_line presents shelf cell) (of_cells presents shelf cells))
+      subst (All (IsOfReadable policy conn))
+      (sym (map-append stored (readable_line policy shelf conn cell)
+      (flat_map (readable_line policy shelf conn) cells)))
+      (All-append (IsOfReadable policy conn) (map stored (readable_line policy shelf conn cell)) _
+      (of_line presents shelf cell) (of_cells presents shelf cells))
 
   -- ---- shapes
 
-  of_shape : (o : Option Submission) (item : Item) → All (IsOfReadable policy conn) (line_if (may_read policy conn) o item)
+  of_shape : (o : Option Submission) (item : Item)
+      → All (IsOfReadable policy conn) (line_if (may_read policy conn) o item)
   of_shape None item = no_lines
   of_shape (Some s) item = go (may_read policy conn s) refl
     where
-      go : (b : Bool) → may_read policy conn s ≡ b → All (IsOfReadable policy conn) (cond b (shape_line s item ∷ []) [])
+      go : (b : Bool) → may_read policy conn s ≡ b
+          → All (IsOfReadable policy conn) (cond b (shape_line s item ∷ []) [])
       go true may = All-cons (IsOfReadable policy conn) (shape_line s item) [] may no_lines
       go false may = no_lines
 
-  of_shapes : (shelf : List Submission) (items : List Item) → All (IsOfReadable policy conn) (flat_map (readable_shape policy shelf conn) items)
+  of_shapes : (shelf : List Submission) (items : List Item)
+      → All (IsOfReadable policy conn) (flat_map (readable_shape policy shelf conn) items)
   of_shapes shelf [] = no_lines
   of_shapes shelf (item ∷ items) =
-      All-append (IsOfReadable policy conn) (readable_shape policy shelf conn item) _ (of_shape (slice_get shelf item.origin) item) (of_shapes shelf items)
+      All-append (IsOfReadable policy conn) (readable_shape policy shelf conn item) _
+      (of_shape (slice_get shelf item.origin) item) (of_shapes shelf items)
 
   -- ---- rows
 
-  cells_row : PresentAreOfTheirCell → (shelf : List Submission) (lines : List Listed) → cells policy shelf conn ≡ Ok lines → All (IsOfReadable policy conn) lines
-  cells_row presents shelf lines e = go (map stored (flat_map (readable_line policy shelf conn) (cells_of shelf))) (of_cells presents shelf (cells_of shelf)) (is_some (session_of policy conn)) e
+  cells_row : PresentAreOfTheirCell → (shelf : List Submission) (lines : List Listed)
+      → cells policy shelf conn ≡ Ok lines → All (IsOfReadable policy conn) lines
+  cells_row presents shelf lines e = go
+      (map stored (flat_map (readable_line policy shelf conn) (cells_of shelf)))
+      (of_cells presents shelf (cells_of shelf)) (is_some (session_of policy conn)) e
     where
-      go : (all : List Listed) → All (IsOfReadable policy conn) all → (b : Bool) → cond b (Ok all) (Err (ending.Denied denial.Session)) ≡ Ok lines → All (IsOfReadable policy conn) lines
-      go all each true is = let same : all ≡ lines = cc in subst (All (IsOfReadable policy conn)) same each
+      go : (all : List Listed) → All (IsOfReadable policy conn) all → (b : Bool)
+          → cond b (Ok all) (Err (ending.Denied denial.Session)) ≡ Ok lines
+          → All (IsOfReadable policy conn) lines
+      go all each true is = let same : all ≡ lines = cc in subst (All (IsOfReadable policy conn))
+          same each
       go all each false is = absurd cc
 
-  shapes_row : (shelf : List Submission) (cell : List ℕ) (lines : List Listed) → shapes policy shelf conn cell ≡ Ok lines → All (IsOfReadable policy conn) lines
+  shapes_row : (shelf : List Submission) (cell : List ℕ) (lines : List Listed)
+      → shapes policy shelf conn cell ≡ Ok lines → All (IsOfReadable policy conn) lines
   unfolding shapes
-  shapes_row shelf cell lines e = go (permitted policy conn Read (objects.Cell cell)) (shown (present shelf cell)) e
+  shapes_row shelf cell lines e = go (permitted policy conn Read (objects.Cell cell))
+      (shown (present shelf cell)) e
     where
-      go : (first : Result (Unit {0}) Ending) (second : Result ℕ Ending) → ◌>>=◌ first (λ entered. ◌>>=◌ second (λ number. Ok (flat_map (readable_shape policy shelf conn) (flat shelf number)))) ≡ Ok lines → All (IsOfReadable policy conn) lines
+      go : (first : Result (Unit {0}) Ending) (second : Result ℕ Ending)
+          → ◌>>=◌ first (λ entered. ◌>>=◌ second
+          (λ number. Ok (flat_map (readable_shape policy shelf conn) (flat shelf number))))
+          ≡ Ok lines → All (IsOfReadable policy conn) lines
       go (Ok entered) (Ok number) is =
           let same : flat_map (readable_shape policy shelf conn) (flat shelf number) ≡ lines = cc in
           subst (All (IsOfReadable policy conn)) same (of_shapes shelf (flat shelf number))
@@ -105,21 +134,31 @@ module _ (policy : Policy) (conn : ℕ) where
   never (ending.Denied why) lines e = cc
   never (ending.Refused why) lines e = cc
 
-  of_shelved : (shelf : List Submission) (row : Result Submission Ending) (lines : List Listed) → (shelved shelf row).reply ≡ reply.Ok lines → All (IsOfReadable policy conn) lines
+  of_shelved : (shelf : List Submission) (row : Result Submission Ending) (lines : List Listed)
+      → (shelved shelf row).reply ≡ reply.Ok lines → All (IsOfReadable policy conn) lines
   of_shelved shelf (Ok s) lines e =
       let same : stored (Version s.version) ∷ [] ≡ lines = cc in
-      subst (All (IsOfReadable policy conn)) same (All-cons (IsOfReadable policy conn) (stored (Version s.version)) [] tt no_lines)
+      subst (All (IsOfReadable policy conn)) same
+      (All-cons (IsOfReadable policy conn) (stored (Version s.version)) [] tt no_lines)
   of_shelved shelf (Err r) lines e = absurd (never r lines e)
 
   of_listed : (shelf : List Submission) (row : Result (List Listed) Ending) (lines : List Listed)
-      → ((found : List Listed) → row ≡ Ok found → All (IsOfReadable policy conn) found) → (listed shelf row).reply ≡ reply.Ok lines → All (IsOfReadable policy conn) lines
-  of_listed shelf (Ok found) lines all e = let same : found ≡ lines = cc in subst (All (IsOfReadable policy conn)) same (all found refl)
+      → ((found : List Listed) → row ≡ Ok found → All (IsOfReadable policy conn) found)
+      → (listed shelf row).reply ≡ reply.Ok lines → All (IsOfReadable policy conn) lines
+  of_listed shelf (Ok found) lines all e = let same : found ≡ lines = cc in
+      subst (All (IsOfReadable policy conn)) same (all found refl)
   of_listed shelf (Err r) lines all e = absurd (never r lines e)
 
-pub readable-layout : PresentAreOfTheirCell → (policy : Policy) (shelf : List Submission) (conn : ℕ) (request : LayoutRequest) (lines : List Listed)
-    → (outcome_of policy shelf conn request).reply ≡ reply.Ok lines → All (IsOfReadable policy conn) lines
-readable-layout presents policy shelf conn (ask.Submit cell top text) lines e = of_shelved policy conn shelf (submitted policy shelf conn cell top text) lines e
+pub readable-layout : PresentAreOfTheirCell
+    → (policy : Policy) (shelf : List Submission) (conn : ℕ) (request : LayoutRequest)
+    (lines : List Listed)
+    → (outcome_of policy shelf conn request).reply ≡ reply.Ok lines
+    → All (IsOfReadable policy conn) lines
+readable-layout presents policy shelf conn (ask.Submit cell top text) lines e =
+    of_shelved policy conn shelf (submitted policy shelf conn cell top text) lines e
 readable-layout presents policy shelf conn ask.Cells lines e =
-    of_listed policy conn shelf (cells policy shelf conn) lines (λ found is. cells_row policy conn presents shelf found is) e
+    of_listed policy conn shelf (cells policy shelf conn) lines
+    (λ found is. cells_row policy conn presents shelf found is) e
 readable-layout presents policy shelf conn (ask.Shapes cell) lines e =
-    of_listed policy conn shelf (shapes policy shelf conn cell) lines (λ found is. shapes_row policy conn shelf cell found is) e
+    of_listed policy conn shelf (shapes policy shelf conn cell) lines
+    (λ found is. shapes_row policy conn shelf cell found is) e

@@ -27,7 +27,8 @@ no_lines : All IsShapeLine []
 no_lines = λ k d lt. absurd (omega (arith, lt))
 
 module _ (policy : Policy) (conn : ℕ) where
-  line_alone : (o : Option Submission) (item : Item) → IsOfShape item → All IsShapeLine (line_if (may_read policy conn) o item)
+  line_alone : (o : Option Submission) (item : Item) → IsOfShape item
+      → All IsShapeLine (line_if (may_read policy conn) o item)
   line_alone None item h = no_lines
   line_alone (Some s) item h = go (may_read policy conn s)
     where
@@ -43,13 +44,17 @@ module _ (policy : Policy) (conn : ℕ) where
       (line_alone (slice_get shelf item.origin) item (All-head IsOfShape item items h))
       (lines_alone shelf items (All-tail IsOfShape item items h))
 
-  row_alone : ((ss : List Submission) (number : ℕ) → All IsOfShape (flat ss number)) → (shelf : List Submission) (cell : List ℕ) (lines : List Listed)
+  row_alone : ((ss : List Submission) (number : ℕ) → All IsOfShape (flat ss number))
+      → (shelf : List Submission) (cell : List ℕ) (lines : List Listed)
       → shapes policy shelf conn cell ≡ Ok lines → All IsShapeLine lines
   unfolding shapes
-  row_alone law shelf cell lines e = go (permitted policy conn Read (objects.Cell cell)) (shown (present shelf cell)) e
+  row_alone law shelf cell lines e = go (permitted policy conn Read (objects.Cell cell))
+      (shown (present shelf cell)) e
     where
       go : (first : Result (Unit {0}) Ending) (second : Result ℕ Ending)
-          → ◌>>=◌ first (λ entered. ◌>>=◌ second (λ number. Ok (flat_map (readable_shape policy shelf conn) (flat shelf number)))) ≡ Ok lines
+          → ◌>>=◌ first (λ entered. ◌>>=◌ second
+          (λ number. Ok (flat_map (readable_shape policy shelf conn) (flat shelf number))))
+          ≡ Ok lines
           → All IsShapeLine lines
       go (Ok entered) (Ok number) is =
           let same : flat_map (readable_shape policy shelf conn) (flat shelf number) ≡ lines = cc in
@@ -62,10 +67,14 @@ never (ending.Denied why) lines e = cc
 never (ending.Refused why) lines e = cc
 
 of_row : (shelf : List Submission) (row : Result (List Listed) Ending) (lines : List Listed)
-    → ((found : List Listed) → row ≡ Ok found → All IsShapeLine found) → (listed shelf row).reply ≡ reply.Ok lines → All IsShapeLine lines
-of_row shelf (Ok found) lines all e = let same : found ≡ lines = cc in subst (All IsShapeLine) same (all found refl)
+    → ((found : List Listed) → row ≡ Ok found → All IsShapeLine found)
+    → (listed shelf row).reply ≡ reply.Ok lines → All IsShapeLine lines
+of_row shelf (Ok found) lines all e =
+    let same : found ≡ lines = cc in subst (All IsShapeLine) same (all found refl)
 of_row shelf (Err told) lines all e = absurd (never told lines e)
 
-pub shapes_alone : ((ss : List Submission) (number : ℕ) → All IsOfShape (flat ss number)) → ShapesAreNoReferences
+pub shapes_alone : ((ss : List Submission) (number : ℕ) → All IsOfShape (flat ss number))
+    → ShapesAreNoReferences
 shapes_alone law policy shelf conn cell lines e =
-    of_row shelf (shapes policy shelf conn cell) lines (λ found is. row_alone policy conn law shelf cell found is) e
+    of_row shelf (shapes policy shelf conn cell) lines
+    (λ found is. row_alone policy conn law shelf cell found is) e

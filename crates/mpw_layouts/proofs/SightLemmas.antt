@@ -10,17 +10,22 @@ use Rattle.mpw_layouts.specs.Layouts.{readable_shape}
 use Rattle.mpw_replies.specs.Listing.{line_if, is_seen, seen_line, seen_lines}
 use Rattle.mpw_replies.specs.Sight.{may_read}
 
-same_test : (p : Submission → Bool) (o : Option Submission) (item : Item) → line_if (λ s. is_seen (option_map p o)) o item ≡ line_if p o item
+same_test : (p : Submission → Bool) (o : Option Submission) (item : Item)
+    → line_if (λ s. is_seen (option_map p o)) o item ≡ line_if p o item
 same_test p None item = refl
 same_test p (Some s) item = refl
 
-pub all_readable : (policy : Policy) (shelf : List Submission) (conn : ℕ) (seen : List Bool) (items : List Item) → seen ≡ map (may_read policy conn) shelf
+pub all_readable : (policy : Policy) (shelf : List Submission) (conn : ℕ) (seen : List Bool)
+    (items : List Item) → seen ≡ map (may_read policy conn) shelf
     → seen_lines shelf seen items ≡ flat_map (readable_shape policy shelf conn) items
 unfolding seen_lines
 all_readable policy shelf conn seen [] is = refl
 all_readable policy shelf conn seen (item ∷ items) is =
-    let at = ap (λ xs. slice_get xs item.origin) is ∙ slice_get-map (may_read policy conn) shelf item.origin in
+    let at = ap (λ xs. slice_get xs item.origin) is ∙ slice_get-map (may_read policy conn) shelf
+    item.origin in
     let first : seen_line shelf seen item ≡ readable_shape policy shelf conn item =
-    ap (λ o. line_if (λ s. is_seen o) (slice_get shelf item.origin) item) at ∙ same_test (may_read policy conn) (slice_get shelf item.origin) item in
+    ap (λ o. line_if (λ s. is_seen o) (slice_get shelf item.origin) item) at
+    ∙ same_test (may_read policy conn) (slice_get shelf item.origin) item in
     let rest = all_readable policy shelf conn seen items is in
-    ap (λ ls. ls ++ flat_map (seen_line shelf seen) items) first ∙ ap (λ ls. readable_shape policy shelf conn item ++ ls) rest
+    ap (λ ls. ls ++ flat_map (seen_line shelf seen) items) first
+    ∙ ap (λ ls. readable_shape policy shelf conn item ++ ls) rest

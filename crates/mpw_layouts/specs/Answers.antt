@@ -1,34 +1,8 @@
 -- What functions of the rows over the shelf answer.
-use Rattle.std.specs.Prelude.{◌≡◌, ℕ, List, [], ◌∷◌, ◌++◌, Option, None, Some, Result, Ok, is_some}
-use Rattle.mpw_hier.specs.declared.fault.HierFault.{HierFault}
-use Rattle.mpw_hier.specs.declared.fault.HierFault.TheVariants as hier
+use Rattle.std.specs.Prelude.{◌≡◌, List, Option, None, Some, is_some}
 use Rattle.mpw_hier.specs.declared.submission.Submission.{Submission}
-use Rattle.mpw_replies.specs.Rows.{ended_by}
-use Rattle.mpw_replies.specs.declared.reply.Code.TheVariants as code
-use Rattle.mpw_replies.specs.declared.row.Ending.{Ending}
-use Rattle.mpw_replies.specs.declared.row.Ending.TheVariants as ending
-use Rattle.mpw_replies.specs.declared.row.Fault.{Fault}
-use Rattle.mpw_replies.specs.declared.row.Fault.TheVariants as fault
 use Rattle.mpw_layouts.specs.declared.answer.LayoutAnswer.{LayoutAnswer}
 use Rattle.mpw_layouts.specs.Layouts.{Outcome}
-
--- a fault of the shelf as what ends a row
-abbrev pub fault_of : HierFault → Fault
-fault_of hier.Memory = fault.Memory
-fault_of hier.NoTop = fault.Told (ending.Refused code.NoTop)
-fault_of hier.Cycle = fault.Told (ending.Refused code.Cycle)
-fault_of hier.NoCell = fault.Told (ending.Refused code.NoCell)
-fault_of hier.Extent = fault.Told (ending.Refused code.Extent)
-fault_of hier.Shapes = fault.Told (ending.Refused code.Shapes)
-fault_of hier.Deep = fault.Told (ending.Refused code.Deep)
-fault_of hier.Full = fault.Told (ending.Refused code.Full)
-
--- a shelf with one more submission, which is that of the row, and its version
-pub record IsShelved (shelf : List Submission) (row : Result Submission Ending) (next : List Submission) (version : ℕ) : Type 0 where
-  pub submission : Submission
-  pub is : row ≡ Ok submission
-  pub grown : next ≡ shelf ++ submission ∷ []
-  pub version_is : version ≡ submission.version
 
 -- The shelf behind an answer: the next one, or the one before.
 abbrev pub shelf_after : List Submission → Option (List Submission) → List Submission
@@ -36,12 +10,8 @@ shelf_after shelf None = shelf
 shelf_after shelf (Some next) = next
 
 -- The answer gives the outcome: its reply, its shelf, and whether that is a change.
-pub record Gives (shelf : List Submission) (outcome : Outcome) (answer : LayoutAnswer) : Type 0 where
+pub record Gives (shelf : List Submission) (outcome : Outcome) (answer : LayoutAnswer) :
+    Type 0 where
   pub told : answer.reply ≡ outcome.reply
   pub left : shelf_after shelf answer.next ≡ outcome.shelf
   pub changes : is_some answer.next ≡ outcome.changes
-
--- What ends a row is told, and leaves the shelf; want of memory gives no answer.
-abbrev pub IsEnd : Fault → LayoutAnswer → Type 0
-IsEnd fault.Memory answer = ⊥
-IsEnd (fault.Told ending) answer = (answer.reply ≡ ended_by ending) × (answer.next ≡ None)

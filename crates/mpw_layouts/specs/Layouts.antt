@@ -43,14 +43,16 @@ read (Err fault) = Err (ending.Refused (code.Read fault))
 abbrev pub outside : List Structure → Name → Result (List Name) Ending
 outside library top =
     decided
-    ((is_some (place_of library top), ending.Refused code.NoTop) ∷ (not (is_cyclic library top), ending.Refused code.Cycle) ∷ [])
+    ((is_some (place_of library top), ending.Refused code.NoTop)
+    ∷ (not (is_cyclic library top), ending.Refused code.Cycle) ∷ [])
     (external_names library top)
 
 -- each cell may be used
 abbrev pub usable : Policy → ℕ → List Name → Result (Unit {0}) Ending
 usable policy conn [] = Ok tt
 usable policy conn (cell ∷ cells) =
-    if permits policy conn Use (object.Cell cell) then usable policy conn cells else Err (denied Use (object.Cell cell))
+    if permits policy conn Use (object.Cell cell) then usable policy conn cells
+    else Err (denied Use (object.Cell cell))
 
 -- each name has a present submission
 abbrev pub bound : Option (List Binding) → Result (List Binding) Ending
@@ -73,18 +75,27 @@ kept shelf s =
 -- a submission that has no version yet
 abbrev pub unnumbered : Name → Name → List Structure → Name → List Binding → Submission
 unnumbered cell submitter library top bindings =
-    record { cell = cell; version = 0; submitter = submitter; library = library; top = top; bound = bindings }
+    record {
+      cell = cell;
+      version = 0;
+      submitter = submitter;
+      library = library;
+      top = top;
+      bound = bindings;
+    }
 
 -- the submission of a library that was read
-unfoldable pub submitted_library : Policy → List Submission → ℕ → Name → Name → List Structure → Result Submission Ending
+unfoldable pub submitted_library : Policy → List Submission → ℕ → Name → Name → List Structure
+    → Result Submission Ending
 submitted_library policy shelf conn cell top library = do
   names ← outside library top
   used ← usable policy conn names
   bindings ← bound (bound_to shelf names)
   kept shelf (unnumbered cell (user_of policy conn) library top bindings)
 
--- the submission that a text makes
-unfoldable pub submitted : Policy → List Submission → ℕ → Name → Name → List ℕ → Result Submission Ending
+-- the row of `submit`: the submission that a text makes
+unfoldable pub submitted : Policy → List Submission → ℕ → Name → Name → List ℕ
+    → Result Submission Ending
 submitted policy shelf conn cell top text = do
   entered ← permitted policy conn Submit (object.Cell cell)
   library ← read (library_of text)
@@ -111,10 +122,13 @@ present_submission shelf cell = numbered_at shelf (present shelf cell)
 -- the line of a cell that the session may read
 abbrev pub readable_line : Policy → List Submission → ℕ → Name → List Line
 readable_line policy shelf conn cell =
-    if permits policy conn Read (object.Cell cell) then cell_line (present_submission shelf cell) else []
+    if permits policy conn Read (object.Cell cell) then cell_line (present_submission shelf cell)
+    else []
 
+-- the row of `cells`
 abbrev pub cells : Policy → List Submission → ℕ → Result (List Listed) Ending
-cells policy shelf conn = decided (in_session policy conn ∷ []) (map stored (flat_map (readable_line policy shelf conn) (cells_of shelf)))
+cells policy shelf conn = decided (in_session policy conn ∷ [])
+    (map stored (flat_map (readable_line policy shelf conn) (cells_of shelf)))
 
 -- ---- shapes
 
@@ -125,9 +139,10 @@ shown (Some number) = Ok number
 
 -- the line of a shape, if the session may read the cell that the shape comes from
 abbrev pub readable_shape : Policy → List Submission → ℕ → Item → List Listed
-readable_shape policy shelf conn item = line_if (may_read policy conn) (slice_get shelf item.origin) item
+readable_shape policy shelf conn item =
+    line_if (may_read policy conn) (slice_get shelf item.origin) item
 
--- the shapes of the cell's present submission that come from cells that the session may read
+-- the row of `shapes`: the shapes of the cell's present submission that come from cells that the session may read
 unfoldable pub shapes : Policy → List Submission → ℕ → Name → Result (List Listed) Ending
 shapes policy shelf conn cell = do
   entered ← permitted policy conn Read (object.Cell cell)
@@ -147,7 +162,11 @@ left told shelf = record { reply = told; shelf = shelf; changes = false }
 
 -- What is submitted goes last on the shelf, and its version is told.
 abbrev pub shelved : List Submission → Result Submission Ending → Outcome
-shelved shelf (Ok s) = record { reply = reply.Ok (stored (line.Version s.version) ∷ []); shelf = shelf ++ s ∷ []; changes = true }
+shelved shelf (Ok s) = record {
+  reply = reply.Ok (stored (line.Version s.version) ∷ []);
+  shelf = shelf ++ s ∷ [];
+  changes = true;
+}
 shelved shelf (Err ending) = left (ended_by ending) shelf
 
 abbrev pub listed : List Submission → Result (List Listed) Ending → Outcome
@@ -156,6 +175,7 @@ listed shelf (Err ending) = left (ended_by ending) shelf
 
 -- Each request by its row.
 abbrev pub outcome_of : Policy → List Submission → ℕ → LayoutRequest → Outcome
-outcome_of policy shelf conn (ask.Submit cell top text) = shelved shelf (submitted policy shelf conn cell top text)
+outcome_of policy shelf conn (ask.Submit cell top text) =
+    shelved shelf (submitted policy shelf conn cell top text)
 outcome_of policy shelf conn ask.Cells = listed shelf (cells policy shelf conn)
 outcome_of policy shelf conn (ask.Shapes cell) = listed shelf (shapes policy shelf conn cell)

@@ -1,7 +1,8 @@
 //! The answers to requests over the shelf.
 ghost use Rattle.std.specs.Prelude.{◌≡◌, ◌∷◌, [], List, Result, IfOk, IfErr};
 ghost use Rattle.mpw_hier.specs.declared.submission.Submission.{Submission};
-ghost use Rattle.mpw_layouts.specs.Answers.{Gives, IsEnd, IsShelved};
+ghost use Rattle.mpw_layouts.specs.Answers.{Gives};
+ghost use Rattle.mpw_layouts.specs.Internal.Answers.{IsEnd, IsShelved};
 ghost use Rattle.mpw_layouts.specs.Layouts.{outcome_of, listed, shelved};
 ghost use Rattle.mpw_replies.specs.Listing.{Listed, stored};
 ghost use Rattle.mpw_replies.specs.Rows.{Answers, Told};

@@ -8,7 +8,7 @@ ghost use Rattle.mpw_library.specs.Library.{IsLibrary};
 ghost use Rattle.mpw_hier.specs.Outline.{IsOutline};
 ghost use Rattle.mpw_hier.specs.Shelf.{bound_to};
 ghost use Rattle.mpw_hier.specs.declared.submission.Submission.{Submission as SubmissionTold};
-ghost use Rattle.mpw_layouts.specs.Answers.{IsShelved, fault_of};
+ghost use Rattle.mpw_layouts.specs.Internal.Answers.{IsShelved, fault_of};
 ghost use Rattle.mpw_replies.specs.Rows.{Answers, Told};
 ghost use Rattle.mpw_layouts.specs.Layouts as row;
 ghost use Rattle.mpw_replies.specs.Listing.{stored};

@@ -4,7 +4,7 @@ use Rattle.std.specs.Prelude.{slice_index}
 use Rattle.mpw_records.specs.declared.fault.Code.{Code}
 use Rattle.mpw_records.specs.declared.fault.Code.TheVariants.{Short, BadLength, Unexpected}
 use Rattle.mpw_records.specs.declared.kind.TheConstants.{UNITS, STRNAME, LAYER, DATATYPE, WIDTH, XY, SNAME, COLROW, STRANS, MAG, ANGLE, PATHTYPE, BOXTYPE, BGNEXTN, ENDEXTN}
-use Rattle.mpw_records.specs.Format.{told, data_fault}
+use Rattle.mpw_records.specs.Format.{form_fault, data_fault}
 use Rattle.mpw_records.specs.Records.{told_length, first_fault, record_of, unless_fault, front, is_last, outcomes}
 use Rattle.mpw_records.proofs.Fronts.{fits_of}
 use Rattle.mpw_library.proofs.Refusals.{IsEnded}
@@ -19,7 +19,7 @@ other_if : (b : Bool) (o p : Option Code) → IsOther o → IsOther p → IsOthe
 other_if true o p h k = h
 other_if false o p h k = k
 
-told_other : (a b : Bool) → IsOther (told a b)
+told_other : (a b : Bool) → IsOther (form_fault a b)
 told_other false b e = cc
 told_other true false e = cc
 told_other true true e = cc

@@ -4,7 +4,7 @@ use Rattle.std.proofs.lemmas.Bool.{eqb-true}
 use Rattle.mpw_records.specs.declared.fault.Code.TheVariants.{Unexpected}
 use Rattle.mpw_records.specs.declared.fault.ReadFault.{ReadFault}
 use Rattle.mpw_records.specs.declared.kind.TheConstants.{ENDLIB}
-use Rattle.mpw_records.specs.Records.{RawRecord, Outcome}
+use Rattle.mpw_records.specs.Records.{RawRecord, RecordOutcome}
 use Rattle.mpw_elements.specs.Reading.{Reading, ◌>>=◌, fault_at, is_skipped, field, demanded, expected}
 use Rattle.mpw_elements.specs.Derivation.{records_then}
 use Rattle.mpw_elements.proofs.DerivedFields.{bind_ok, demanded_sound, demanded_complete}
@@ -13,20 +13,21 @@ use Rattle.mpw_library.proofs.Refusals.{unexpected_at, IsEnded, Completes, Refus
 
 -- ---- what a reader does behind a record
 
-pub cons_reads : {V : Type 0} (P Q : List Outcome → Reading V) (r : RawRecord) (all : List Outcome)
-    (x : V × List Outcome)
-    → ((os : List Outcome) → P (Ok r ∷ os) ≡ Q os) → eqb r.kind ENDLIB ≡ false → Reads Q all x
+pub cons_reads : {V : Type 0} (P Q : List RecordOutcome → Reading V) (r : RawRecord)
+    (all : List RecordOutcome)
+    (x : V × List RecordOutcome)
+    → ((os : List RecordOutcome) → P (Ok r ∷ os) ≡ Q os) → eqb r.kind ENDLIB ≡ false → Reads Q all x
     → Reads P (Ok r ∷ all) x
 cons_reads P Q r all x same inner q = record {
   records = r ∷ q.records;
-  parts = ap (λ (os : List Outcome). Ok r ∷ os) q.parts;
+  parts = ap (λ (os : List RecordOutcome). Ok r ∷ os) q.parts;
   same = λ rest. same (records_then q.records rest) ∙ q.same rest;
   ended = λ h. q.ended (h inner);
 }
 
-pub as_reads : {V : Type 0} (P Q : List Outcome → Reading V) (all : List Outcome)
-    (x : V × List Outcome)
-    → ((os : List Outcome) → P os ≡ Q os) → Reads Q all x → Reads P all x
+pub as_reads : {V : Type 0} (P Q : List RecordOutcome → Reading V) (all : List RecordOutcome)
+    (x : V × List RecordOutcome)
+    → ((os : List RecordOutcome) → P os ≡ Q os) → Reads Q all x → Reads P all x
 as_reads P Q all x same q = record {
   records = q.records;
   parts = q.parts;
@@ -34,19 +35,20 @@ as_reads P Q all x same q = record {
   ended = q.ended;
 }
 
-same_head : (r s : RawRecord) (os ps : List Outcome) → Ok r ∷ os ≡ Ok s ∷ ps → r ≡ s
+same_head : (r s : RawRecord) (os ps : List RecordOutcome) → Ok r ∷ os ≡ Ok s ∷ ps → r ≡ s
 same_head r s os ps e = cc
 
 module _ {V : Type 0} {Good : V → Type 0} where
-  pub cons_refuses : (P Q : List Outcome → Reading V) (r : RawRecord) (all : List Outcome)
+  pub cons_refuses : (P Q : List RecordOutcome → Reading V) (r : RawRecord)
+      (all : List RecordOutcome)
       (offset : ℕ)
-      → ((os : List Outcome) → P (Ok r ∷ os) ≡ Q os) → Refuses Q Good all offset
+      → ((os : List RecordOutcome) → P (Ok r ∷ os) ≡ Q os) → Refuses Q Good all offset
       → Refuses P Good (Ok r ∷ all) offset
   cons_refuses P Q r all offset same q = record {
     before = r ∷ q.before;
     refused = q.refused;
     rest = q.rest;
-    parts = ap (λ (os : List Outcome). Ok r ∷ os) q.parts;
+    parts = ap (λ (os : List RecordOutcome). Ok r ∷ os) q.parts;
     stands = q.stands;
     goes_on = record {
       behind = q.goes_on.behind;
@@ -60,9 +62,9 @@ module _ {V : Type 0} {Good : V → Type 0} where
   }
 
   -- the first record itself is refused
-  pub here_refuses : (P : List Outcome → Reading V) (r : RawRecord) (all : List Outcome)
+  pub here_refuses : (P : List RecordOutcome → Reading V) (r : RawRecord) (all : List RecordOutcome)
       (offset : ℕ) → r.offset ≡ offset → Completes P Good []
-      → ((rest : List Outcome) → P (Ok r ∷ rest) ≡ Err (fault_at Unexpected r))
+      → ((rest : List RecordOutcome) → P (Ok r ∷ rest) ≡ Err (fault_at Unexpected r))
       → Refuses P Good (Ok r ∷ all) offset
   here_refuses P r all offset is begin refuses =
       record {
@@ -76,15 +78,15 @@ module _ {V : Type 0} {Good : V → Type 0} where
       }
 
   -- two readers that do the same behind a record
-  pub as_refuses : (P Q : List Outcome → Reading V) (r : RawRecord) (all : List Outcome)
+  pub as_refuses : (P Q : List RecordOutcome → Reading V) (r : RawRecord) (all : List RecordOutcome)
       (offset : ℕ)
-      → ((os : List Outcome) → P (Ok r ∷ os) ≡ Q (Ok r ∷ os)) → Completes P Good []
+      → ((os : List RecordOutcome) → P (Ok r ∷ os) ≡ Q (Ok r ∷ os)) → Completes P Good []
       → Refuses Q Good (Ok r ∷ all) offset → Refuses P Good (Ok r ∷ all) offset
   as_refuses P Q r all offset same begin q = go q.before q.parts q.goes_on q.refuses
     where
       go : (before : List RawRecord) → Ok r ∷ all ≡ records_then before (Ok q.refused ∷ q.rest)
           → Completes Q Good before
-          → ((rest : List Outcome)
+          → ((rest : List RecordOutcome)
           → Q (records_then before (Ok q.refused ∷ rest)) ≡ Err (fault_at Unexpected q.refused))
           → Refuses P Good (Ok r ∷ all) offset
       go [] parts goes_on refuses =
@@ -95,8 +97,8 @@ module _ {V : Type 0} {Good : V → Type 0} where
           (refuses rest))
       go (b ∷ bs) parts goes_on refuses =
           let is : r ≡ b = same_head r b all (records_then bs (Ok q.refused ∷ q.rest)) parts in
-          let alike : (os : List Outcome) → P (Ok b ∷ os) ≡ Q (Ok b ∷ os) =
-          subst (λ (s : RawRecord). (os : List Outcome) → P (Ok s ∷ os) ≡ Q (Ok s ∷ os)) is
+          let alike : (os : List RecordOutcome) → P (Ok b ∷ os) ≡ Q (Ok b ∷ os) =
+          subst (λ (s : RawRecord). (os : List RecordOutcome) → P (Ok s ∷ os) ≡ Q (Ok s ∷ os)) is
           same in
           record {
             before = b ∷ bs;
@@ -120,18 +122,20 @@ abbrev held_fault : ReadFault
 held_fault = unexpected_at 0
 
 -- a reader that is handed the first record
-abbrev pub held : {V : Type 0} → (RawRecord → List Outcome → Reading V) → List Outcome → Reading V
+abbrev pub held : {V : Type 0} → (RawRecord → List RecordOutcome → Reading V) → List RecordOutcome
+    → Reading V
 held K [] = Err held_fault
 held K (Err f ∷ all) = Err f
 held K (Ok r ∷ all) = K r all
 
 -- a reader of a record at hand refuses where nothing goes on, and can begin with a record of that
 -- type
-pub record Ahead {V : Type 0} (first : ℕ) (K : RawRecord → List Outcome → Reading V)
+pub record Ahead {V : Type 0} (first : ℕ) (K : RawRecord → List RecordOutcome → Reading V)
     (Good : V → Type 0) : Type 0 where
-  pub reads : (r : RawRecord) (all : List Outcome) (x : V × List Outcome) → K r all ≡ Ok x
+  pub reads : (r : RawRecord) (all : List RecordOutcome) (x : V × List RecordOutcome)
+      → K r all ≡ Ok x
       → Reads (K r) all x × (eqb r.kind ENDLIB ≡ false)
-  pub fails : (r : RawRecord) (all : List Outcome) (offset : ℕ)
+  pub fails : (r : RawRecord) (all : List RecordOutcome) (offset : ℕ)
       → (eqb r.kind ENDLIB ≡ false → IsEnded all) → K r all ≡ Err (unexpected_at offset)
       → Refuses (held K) Good (Ok r ∷ all) offset
   pub start : RawRecord
@@ -140,8 +144,9 @@ pub record Ahead {V : Type 0} (first : ℕ) (K : RawRecord → List Outcome → 
   pub begin : Completes (K start) Good []
 
 module _ {V : Type 0} {Good : V → Type 0} where
-  pub cons_completes : (P Q : List Outcome → Reading V) (r : RawRecord) → is_formed r ≡ true
-      → ((os : List Outcome) → P (Ok r ∷ os) ≡ Q os) → Completes Q Good [] → Completes P Good []
+  pub cons_completes : (P Q : List RecordOutcome → Reading V) (r : RawRecord) → is_formed r ≡ true
+      → ((os : List RecordOutcome) → P (Ok r ∷ os) ≡ Q os) → Completes Q Good []
+      → Completes P Good []
   cons_completes P Q r formed same c = record {
     behind = r ∷ c.behind;
     formed = rw formed c.formed;
@@ -150,7 +155,7 @@ module _ {V : Type 0} {Good : V → Type 0} where
     reads = λ rest. same (records_then c.behind rest) ∙ c.reads rest;
   }
 
-  held_completes : {first : ℕ} (K : RawRecord → List Outcome → Reading V) → Ahead first K Good
+  held_completes : {first : ℕ} (K : RawRecord → List RecordOutcome → Reading V) → Ahead first K Good
       → Completes (held K) Good []
   held_completes K a = cons_completes (held K) (K a.start) a.start a.formed (λ os. refl) a.begin
 
@@ -163,16 +168,16 @@ skipped_inside kind e = go (eqb kind ENDLIB) refl
     go true p = absurd (let k = sym e ∙ ap is_skipped (eqb-true _ _ p) in cc)
     go false p = p
 
-module _ {V : Type 0} (start : ℕ) (K : RawRecord → List Outcome → Reading V) where
-  abbrev pub fielded : List Outcome → Reading V
+module _ {V : Type 0} (start : ℕ) (K : RawRecord → List RecordOutcome → Reading V) where
+  abbrev pub fielded : List RecordOutcome → Reading V
   fielded all = field start all >>= λ n. K n.0 n.1
 
-  skip_same : (r : RawRecord) → is_skipped r.kind ≡ true → (os : List Outcome)
+  skip_same : (r : RawRecord) → is_skipped r.kind ≡ true → (os : List RecordOutcome)
       → fielded (Ok r ∷ os) ≡ fielded os
   unfolding field
   skip_same r h os = rw h refl
 
-  keep_same : (r : RawRecord) → is_skipped r.kind ≡ false → (os : List Outcome)
+  keep_same : (r : RawRecord) → is_skipped r.kind ≡ false → (os : List RecordOutcome)
       → fielded (Ok r ∷ os) ≡ K r os
   unfolding field
   keep_same r h os = rw h refl
@@ -184,7 +189,7 @@ module _ {V : Type 0} (start : ℕ) (K : RawRecord → List Outcome → Reading 
         cons_completes fielded (K a.start) a.start a.formed
         (keep_same a.start (ap is_skipped a.kind ∙ kept)) a.begin
 
-    fielded_reads : (all : List Outcome) (x : V × List Outcome) → fielded all ≡ Ok x
+    fielded_reads : (all : List RecordOutcome) (x : V × List RecordOutcome) → fielded all ≡ Ok x
         → Reads fielded all x
     unfolding field
     fielded_reads [] x e = absurd cc
@@ -200,7 +205,7 @@ module _ {V : Type 0} (start : ℕ) (K : RawRecord → List Outcome → Reading 
             let h = a.reads r all x (sym (keep_same r p all) ∙ e) in
             cons_reads fielded (K r) r all x (keep_same r p) h.1 h.0
 
-    fielded_fails : (all : List Outcome) (offset : ℕ) → IsEnded all
+    fielded_fails : (all : List RecordOutcome) (offset : ℕ) → IsEnded all
         → fielded all ≡ Err (unexpected_at offset) → Refuses fielded Good all offset
     unfolding field
     fielded_fails [] offset h e = absurd h
@@ -235,12 +240,12 @@ demanded_err kind r f e = go (eqb r.kind kind) e
     go true p = absurd cc
     go false p = (refl, cc)
 
-abbrev pub demanding : {V : Type 0} → ℕ → (RawRecord → List Outcome → Reading V) → RawRecord
-    → List Outcome → Reading V
+abbrev pub demanding : {V : Type 0} → ℕ → (RawRecord → List RecordOutcome → Reading V) → RawRecord
+    → List RecordOutcome → Reading V
 demanding kind Q r rs = demanded kind r >>= λ d. Q d rs
 
-module _ {V : Type 0} (kind : ℕ) (Q : RawRecord → List Outcome → Reading V) where
-  demands_same : (r : RawRecord) → r.kind ≡ kind → (os : List Outcome)
+module _ {V : Type 0} (kind : ℕ) (Q : RawRecord → List RecordOutcome → Reading V) where
+  demands_same : (r : RawRecord) → r.kind ≡ kind → (os : List RecordOutcome)
       → demanding kind Q r os ≡ Q r os
   demands_same r h os = rw (demanded_complete kind r h) refl
 

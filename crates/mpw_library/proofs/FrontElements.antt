@@ -4,7 +4,7 @@ use Rattle.std.proofs.lemmas.Bool.{eqb-true}
 use Rattle.mpw_records.specs.declared.fault.Code.TheVariants.{Unexpected}
 use Rattle.mpw_records.specs.declared.fault.ReadFault.{ReadFault}
 use Rattle.mpw_records.specs.declared.kind.TheConstants.{ENDLIB, BOUNDARY, PATH, SREF, AREF, TEXT, DATATYPE, ENDEL, NODE, BOX, BOXTYPE}
-use Rattle.mpw_records.specs.Records.{RawRecord, Outcome}
+use Rattle.mpw_records.specs.Records.{RawRecord, RecordOutcome}
 use Rattle.mpw_elements.specs.declared.element.Element.{Element}
 use Rattle.mpw_elements.specs.declared.element.Element.TheVariants as elements
 use Rattle.mpw_elements.specs.Reading.{Reading, ◌>>=◌, fault_at}
@@ -19,18 +19,18 @@ use Rattle.mpw_library.proofs.Samples.{datatype, datatype_is, boxtype, boxtype_i
 -- ---- texts and nodes
 
 module _ (start : ℕ) where
-  ends_same : (r : RawRecord) → eqb r.kind ENDEL ≡ true → (os : List Outcome)
+  ends_same : (r : RawRecord) → eqb r.kind ENDEL ≡ true → (os : List RecordOutcome)
       → ignored start (Ok r ∷ os) ≡ Ok (tt, os)
   unfolding ignored
   ends_same r h os = rw h refl
 
   over_same : (r : RawRecord) → eqb r.kind ENDEL ≡ false → eqb r.kind ENDLIB ≡ false
-      → (os : List Outcome) → ignored start (Ok r ∷ os) ≡ ignored start os
+      → (os : List RecordOutcome) → ignored start (Ok r ∷ os) ≡ ignored start os
   unfolding ignored
   over_same r h k os = rw (h, k) refl
 
   library_ends : (r : RawRecord) → eqb r.kind ENDEL ≡ false → eqb r.kind ENDLIB ≡ true
-      → (os : List Outcome) → ignored start (Ok r ∷ os) ≡ Err (fault_at Unexpected r)
+      → (os : List RecordOutcome) → ignored start (Ok r ∷ os) ≡ Err (fault_at Unexpected r)
   unfolding ignored
   library_ends r h k os = rw (h, k) refl
 
@@ -39,7 +39,8 @@ module _ (start : ℕ) where
       cons_completes (ignored start) (λ os. Ok (tt, os)) last last_is.formed (ends_same last refl)
       (done_completes tt tt)
 
-  ignored_reads : (all : List Outcome) (x : Unit {0} × List Outcome) → ignored start all ≡ Ok x
+  ignored_reads : (all : List RecordOutcome) (x : Unit {0} × List RecordOutcome)
+      → ignored start all ≡ Ok x
       → Reads (ignored start) all x
   unfolding ignored
   ignored_reads [] x e = absurd cc
@@ -59,7 +60,7 @@ module _ (start : ℕ) where
           cons_reads (ignored start) (ignored start) r all x (over_same r p q) q
           (more (sym (over_same r p q all) ∙ e))
 
-  ignored_fails : (all : List Outcome) (offset : ℕ) → IsEnded all
+  ignored_fails : (all : List RecordOutcome) (offset : ℕ) → IsEnded all
       → ignored start all ≡ Err (unexpected_at offset) → Refuses (ignored start) Any all offset
   unfolding ignored
   ignored_fails [] offset h e = absurd h
@@ -90,7 +91,8 @@ module _ (start : ℕ) where
 -- ---- an element behind its first record
 
 -- a reader that does the same as another
-as_whole : {V : Type 0} (P Q : List Outcome → Reading V) → ((os : List Outcome) → P os ≡ Q os)
+as_whole : {V : Type 0} (P Q : List RecordOutcome → Reading V)
+    → ((os : List RecordOutcome) → P os ≡ Q os)
     → Whole Q → Whole P
 as_whole P Q same w = record {
   local = record {
@@ -124,14 +126,15 @@ as_whole P Q same w = record {
 }
 
 -- what a reader reads, seen by f
-pub mapped : {V X : Type 0} (P : List Outcome → Reading V) (f : V → X) → Whole P
+pub mapped : {V X : Type 0} (P : List RecordOutcome → Reading V) (f : V → X) → Whole P
     → Whole (λ all. P all >>= λ x. Ok (f x.0, x.1))
 mapped P f p = then_whole P (λ v all. Ok (f v, all)) p (λ v. done_whole (f v))
 
 -- the first record of an element, or a record that is none
 pub data ElementAt (unit : ℕ) (r : RawRecord) : Type 0 where
   first : Whole (element unit r) → eqb r.kind ENDLIB ≡ false → ElementAt unit r
-  none : ((os : List Outcome) → element unit r os ≡ Err (fault_at Unexpected r)) → ElementAt unit r
+  none : ((os : List RecordOutcome) → element unit r os ≡ Err (fault_at Unexpected r))
+      → ElementAt unit r
 
 of_kind : (unit : ℕ) (r : RawRecord) (kind : ℕ) → eqb r.kind kind ≡ true → eqb kind ENDLIB ≡ false
     → Whole (element unit r) → ElementAt unit r
@@ -144,8 +147,8 @@ element_at unit some r =
     go (eqb r.kind BOUNDARY) (eqb r.kind BOX) (eqb r.kind PATH) (eqb r.kind SREF) (eqb r.kind AREF)
     (eqb r.kind TEXT) (eqb r.kind NODE) refl refl refl refl refl refl refl
   where
-    shape : {V : Type 0} (P : List Outcome → Reading V) (f : V → Option Element) → Whole P
-        → ((os : List Outcome) → element unit r os ≡ (P os >>= λ x. Ok (f x.0, x.1)))
+    shape : {V : Type 0} (P : List RecordOutcome → Reading V) (f : V → Option Element) → Whole P
+        → ((os : List RecordOutcome) → element unit r os ≡ (P os >>= λ x. Ok (f x.0, x.1)))
         → Whole (element unit r)
     shape P f p same =
         as_whole (element unit r) (λ all. P all >>= λ x. Ok (f x.0, x.1)) same (mapped P f p)

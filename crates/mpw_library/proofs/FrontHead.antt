@@ -7,7 +7,7 @@ use Rattle.mpw_records.specs.declared.fault.Code.TheVariants.{Unexpected, Unit a
 use Rattle.mpw_records.specs.declared.fault.ReadFault.{ReadFault}
 use Rattle.mpw_records.specs.declared.kind.TheConstants.{HEADER, BGNLIB, LIBNAME, UNITS, ENDLIB}
 use Rattle.mpw_records.specs.Format.{data_fault}
-use Rattle.mpw_records.specs.Records.{RawRecord, Outcome}
+use Rattle.mpw_records.specs.Records.{RawRecord, RecordOutcome}
 use Rattle.std.specs.Prelude.{ℤ, pos, negsuc}
 use Rattle.mpw_real8.specs.Real.{real_value, first_near, nanometres, is_nanometres}
 use Rattle.mpw_elements.specs.Reading.{Reading, ◌>>=◌, fault_at}
@@ -15,7 +15,7 @@ use Rattle.mpw_elements.proofs.DerivedFields.{bind_ok}
 use Rattle.mpw_library.specs.Fronts.{is_formed}
 use Rattle.mpw_library.specs.Grammar.{next_is, unit_or_fault, unit_of, ends_head, up_to, head, all_structures, library}
 use Rattle.mpw_library.proofs.DerivedLibrary.{HeadIn, head_sound}
-use Rattle.mpw_library.proofs.DerivedStructures.{next_is_sound}
+use Rattle.mpw_library.proofs.DerivedItems.{next_is_sound}
 use Rattle.mpw_library.proofs.Refusals.{unexpected_at, IsEnded, Completes, Refuses, Reads, Local, Any, IsOfValue, then_local, then_completes, done_local, done_completes, tested_local, tested_completes}
 use Rattle.mpw_library.proofs.Fields.{cons_reads, cons_refuses, here_refuses, cons_completes}
 use Rattle.mpw_library.proofs.FrontShapes.{never, ok_own}
@@ -38,19 +38,19 @@ inside_head kind e = go (eqb kind ENDLIB) refl
 module _ (wanted unwanted : ℕ) (c : RawRecord) (is : c.kind ≡ wanted)
     (same_kind : eqb c.kind wanted ≡ true) (formed : is_formed c ≡ true)
     (inner : eqb wanted ENDLIB ≡ false) where
-  wanted_same : (r : RawRecord) → eqb r.kind wanted ≡ true → (os : List Outcome)
+  wanted_same : (r : RawRecord) → eqb r.kind wanted ≡ true → (os : List RecordOutcome)
       → up_to wanted unwanted (Ok r ∷ os) ≡ Ok (r, os)
   unfolding up_to
   wanted_same r h os = rw h refl
 
   refused_same : (r : RawRecord) → eqb r.kind wanted ≡ false
-      → (eqb r.kind unwanted || ends_head r.kind) ≡ true → (os : List Outcome)
+      → (eqb r.kind unwanted || ends_head r.kind) ≡ true → (os : List RecordOutcome)
       → up_to wanted unwanted (Ok r ∷ os) ≡ Err (fault_at Unexpected r)
   unfolding up_to
   refused_same r h k os = rw (h, k) refl
 
   aside_same : (r : RawRecord) → eqb r.kind wanted ≡ false
-      → (eqb r.kind unwanted || ends_head r.kind) ≡ false → (os : List Outcome)
+      → (eqb r.kind unwanted || ends_head r.kind) ≡ false → (os : List RecordOutcome)
       → up_to wanted unwanted (Ok r ∷ os) ≡ up_to wanted unwanted os
   unfolding up_to
   aside_same r h k os = rw (h, k) refl
@@ -60,7 +60,7 @@ module _ (wanted unwanted : ℕ) (c : RawRecord) (is : c.kind ≡ wanted)
       cons_completes (up_to wanted unwanted) (λ os. Ok (c, os)) c formed (wanted_same c same_kind)
       (done_completes c refl)
 
-  up_to_reads : (all : List Outcome) (x : RawRecord × List Outcome)
+  up_to_reads : (all : List RecordOutcome) (x : RawRecord × List RecordOutcome)
       → up_to wanted unwanted all ≡ Ok x → Reads (up_to wanted unwanted) all x
   unfolding up_to
   up_to_reads [] x e = absurd cc
@@ -82,7 +82,7 @@ module _ (wanted unwanted : ℕ) (c : RawRecord) (is : c.kind ≡ wanted)
           (inside_head r.kind (or_right (eqb r.kind unwanted) (ends_head r.kind) q))
           (more (sym (aside_same r p q all) ∙ e))
 
-  up_to_fails : (all : List Outcome) (offset : ℕ) → IsEnded all
+  up_to_fails : (all : List RecordOutcome) (offset : ℕ) → IsEnded all
       → up_to wanted unwanted all ≡ Err (unexpected_at offset)
       → Refuses (up_to wanted unwanted) (λ d. d ≡ c) all offset
   unfolding up_to
@@ -141,10 +141,10 @@ unit_own r = go (nanometres (real_value (drop 8 r.bytes)))
     go (Some u) = ok_own u
     go None = never BadUnit r (λ e. cc)
 
-abbrev unit_then : RawRecord → List Outcome → Reading ℕ
+abbrev unit_then : RawRecord → List RecordOutcome → Reading ℕ
 unit_then r all = unit_of r >>= λ unit. Ok (unit, all)
 
-abbrev units_then : RawRecord → List Outcome → Reading ℕ
+abbrev units_then : RawRecord → List RecordOutcome → Reading ℕ
 units_then r all = up_to UNITS LIBNAME all >>= λ units. unit_then units.0 units.1
 
 unit_local : (r : RawRecord) → Local (unit_then r) Any
@@ -222,10 +222,10 @@ bgnlib_formed : is_formed bgnlib ≡ true
 unfolding data_fault
 bgnlib_formed = refl
 
-abbrev pub begun : RawRecord → List Outcome → Reading ℕ
+abbrev pub begun : RawRecord → List RecordOutcome → Reading ℕ
 begun r all = next_is BGNLIB all >>= λ begin. head begin.1
 
-abbrev pub opening : List Outcome → Reading ℕ
+abbrev pub opening : List RecordOutcome → Reading ℕ
 opening all = next_is HEADER all >>= λ header. begun header.0 header.1
 
 pub opening_local : Local opening Any
@@ -236,7 +236,7 @@ opening_local =
     (λ d. head_local) (λ d e. head_completes))
     (λ r e. then_completes (next_is BGNLIB) (λ d. head) [] b head_completes)
 
-pub library_is : (all : List Outcome)
+pub library_is : (all : List RecordOutcome)
     → library all
     ≡ (opening all >>= λ unit. all_structures unit.0 unit.1 >>= λ structures. Ok structures.0)
 unfolding library
@@ -259,18 +259,18 @@ library_is all = outer (next_is HEADER all)
     outer (Err f) = refl
 
 -- the records of an opening
-pub record OpeningIn (all : List Outcome) (x : ℕ × List Outcome) : Type 0 where
+pub record OpeningIn (all : List RecordOutcome) (x : ℕ × List RecordOutcome) : Type 0 where
   pub first : RawRecord
   pub second : RawRecord
-  pub behind_first : List Outcome
-  pub behind_second : List Outcome
+  pub behind_first : List RecordOutcome
+  pub behind_second : List RecordOutcome
   pub first_part : all ≡ Ok first ∷ behind_first
   pub first_is : first.kind ≡ HEADER
   pub second_part : behind_first ≡ Ok second ∷ behind_second
   pub second_is : second.kind ≡ BGNLIB
   pub head_in : HeadIn behind_second x
 
-pub opening_sound : (all : List Outcome) (x : ℕ × List Outcome) → opening all ≡ Ok x
+pub opening_sound : (all : List RecordOutcome) (x : ℕ × List RecordOutcome) → opening all ≡ Ok x
     → OpeningIn all x
 opening_sound all x e =
     let a = bind_ok (next_is HEADER all) (λ header. begun header.0 header.1) x e in

@@ -5,7 +5,7 @@ use Rattle.mpw_records.specs.declared.fault.Code.TheVariants.{Unexpected}
 use Rattle.mpw_records.specs.declared.fault.ReadFault.{ReadFault}
 use Rattle.mpw_records.specs.declared.kind.TheConstants.{ENDLIB, ENDSTR}
 use Rattle.mpw_records.specs.Format.{data_fault}
-use Rattle.mpw_records.specs.Records.{RawRecord, Outcome}
+use Rattle.mpw_records.specs.Records.{RawRecord, RecordOutcome}
 use Rattle.mpw_elements.specs.declared.element.Element.{Element}
 use Rattle.mpw_elements.specs.Reading.{Reading, ◌>>=◌, fault_at}
 use Rattle.mpw_elements.specs.Grammar.{element}
@@ -15,7 +15,8 @@ use Rattle.mpw_library.specs.declared.read.Item.{Item}
 use Rattle.mpw_library.specs.declared.read.Item.TheVariants as items
 use Rattle.mpw_library.specs.Fronts.{is_formed}
 use Rattle.mpw_library.specs.Grammar.{is_between, item_of, item, is_end, placed, elements_behind, all_elements}
-use Rattle.mpw_library.proofs.DerivedStructures.{elements_sound, elements_complete, shorter}
+use Rattle.mpw_library.proofs.DerivedStructures.{shorter}
+use Rattle.mpw_library.proofs.DerivedItems.{elements_sound, elements_complete}
 use Rattle.mpw_library.proofs.Loops.{item_gone}
 use Rattle.mpw_library.proofs.Refusals.{unexpected_at, IsEnded, Completes, Refuses, Reads, Any, done_local, done_completes}
 use Rattle.mpw_library.proofs.Fields.{cons_reads, cons_refuses, here_refuses, cons_completes}
@@ -34,18 +35,18 @@ unfolding data_fault
 end_formed = refl
 
 module _ (unit : ℕ) where
-  end_same : (r : RawRecord) → eqb r.kind ENDSTR ≡ true → (os : List Outcome)
+  end_same : (r : RawRecord) → eqb r.kind ENDSTR ≡ true → (os : List RecordOutcome)
       → item unit (Ok r ∷ os) ≡ Ok (items.End, os)
   unfolding item
   end_same r h os = rw h refl
 
   between_same : (r : RawRecord) → eqb r.kind ENDSTR ≡ false → is_between r.kind ≡ true
-      → (os : List Outcome) → item unit (Ok r ∷ os) ≡ Ok (items.Other, os)
+      → (os : List RecordOutcome) → item unit (Ok r ∷ os) ≡ Ok (items.Other, os)
   unfolding item
   between_same r h k os = rw (h, k) refl
 
   found_same : (r : RawRecord) → eqb r.kind ENDSTR ≡ false → is_between r.kind ≡ false
-      → (os : List Outcome)
+      → (os : List RecordOutcome)
       → item unit (Ok r ∷ os) ≡ (element unit r os >>= λ e. Ok (item_of e.0, e.1))
   unfolding item
   found_same r h k os = rw (h, k) refl
@@ -63,7 +64,7 @@ module _ (unit : ℕ) where
       (end_same end_of_structure refl) (done_completes items.End tt)
 
   module _ (some : 1 ≤ unit) where
-    item_reads : (all : List Outcome) (x : Item × List Outcome) → item unit all ≡ Ok x
+    item_reads : (all : List RecordOutcome) (x : Item × List RecordOutcome) → item unit all ≡ Ok x
         → Reads (item unit) all x
     unfolding item
     item_reads [] x e = absurd cc
@@ -92,7 +93,7 @@ module _ (unit : ℕ) where
             (sym (between_same r p q all) ∙ e))
         go false false p q = of_element p q (element_at unit some r)
 
-    item_fails : (all : List Outcome) (offset : ℕ) → IsEnded all
+    item_fails : (all : List RecordOutcome) (offset : ℕ) → IsEnded all
         → item unit all ≡ Err (unexpected_at offset) → Refuses (item unit) Any all offset
     unfolding item
     item_fails [] offset h e = absurd h
@@ -107,7 +108,7 @@ module _ (unit : ℕ) where
             ((mapped (element unit r) item_of w).local.fails all offset (h inner)
             (sym (found_same r p q all) ∙ e))
         of_element p q (ElementAt.none refuses) =
-            let no_item : (os : List Outcome)
+            let no_item : (os : List RecordOutcome)
             → item unit (Ok r ∷ os) ≡ Err (fault_at Unexpected r) =
             λ os. found_same r p q os
             ∙ ap (λ (t : Reading (Option Element)). t >>= λ e. Ok (item_of e.0, e.1))
@@ -126,13 +127,13 @@ module _ (unit : ℕ) where
 -- ---- elements up to ENDSTR
 
 module _ (unit : ℕ) (some : 1 ≤ unit) where
-  abbrev step : List Element → List Outcome → Reading Item
+  abbrev step : List Element → List RecordOutcome → Reading Item
   step es = item unit
 
   abbrev onward : List Element → Item → List Element
   onward es i = es ++ placed i
 
-  abbrev loop : ℕ → List Element → List Outcome → Reading (List Element)
+  abbrev loop : ℕ → List Element → List RecordOutcome → Reading (List Element)
   loop most es os = elements_behind most unit es os
 
   over_elements : Loop step is_end onward loop
@@ -148,7 +149,8 @@ module _ (unit : ℕ) (some : 1 ≤ unit) where
     ends = λ s rest. end_same unit end_of_structure refl rest;
   }
 
-  loop_ended : (most : ℕ) (es : List Element) (all : List Outcome) (x : List Element × List Outcome)
+  loop_ended : (most : ℕ) (es : List Element) (all : List RecordOutcome)
+      (x : List Element × List RecordOutcome)
       → elements_behind most unit es all ≡ Ok x → IsEnded all → IsEnded x.1
   unfolding elements_behind
   loop_ended zero es all x e h = absurd cc
@@ -161,11 +163,12 @@ module _ (unit : ℕ) (some : 1 ≤ unit) where
       elim (chosen (is_end i.0.0) (Ok (es, i.0.1))
       (elements_behind most unit (es ++ placed i.0.0) i.0.1) (Ok x) i.2) [
         | inl p
-            ↦ subst (λ (y : List Element × List Outcome). IsEnded y.1) (ok_is (es, i.0.1) x p.1) k
+            ↦ subst (λ (y : List Element × List RecordOutcome). IsEnded y.1)
+            (ok_is (es, i.0.1) x p.1) k
         | inr p ↦ loop_ended most (es ++ placed i.0.0) i.0.1 x p.1 k
       ]
 
-  elements_read : (all : List Outcome) (x : List Element × List Outcome)
+  elements_read : (all : List RecordOutcome) (x : List Element × List RecordOutcome)
       → all_elements unit all ≡ Ok x → Reads (all_elements unit) all x
   elements_read all x e =
       let h = elements_sound (length all) unit [] all x e in record {
@@ -179,7 +182,7 @@ module _ (unit : ℕ) (some : 1 ≤ unit) where
         ended = loop_ended (length all) [] all x e;
       }
 
-  elements_fail_at : (all : List Outcome) (offset : ℕ) → IsEnded all
+  elements_fail_at : (all : List RecordOutcome) (offset : ℕ) → IsEnded all
       → all_elements unit all ≡ Err (unexpected_at offset)
       → Refuses (all_elements unit) Any all offset
   elements_fail_at all offset h e =

@@ -3,7 +3,7 @@ use Rattle.std.proofs.Common.{◌≡◌, ℕ, suc, ◌+◌, ◌<◌, ◌≤◌, 
 use Rattle.mpw_records.specs.declared.fault.Code.{Code}
 use Rattle.mpw_records.specs.declared.fault.Code.TheVariants.{Unexpected}
 use Rattle.mpw_records.specs.declared.fault.ReadFault.{ReadFault}
-use Rattle.mpw_records.specs.Records.{RawRecord, Outcome, front, outcomes_of}
+use Rattle.mpw_records.specs.Records.{RawRecord, RecordOutcome, front, outcomes_of}
 use Rattle.std.specs.Prelude.{IfErr}
 use Rattle.mpw_elements.specs.declared.fault.ReadError.{ReadError}
 use Rattle.mpw_elements.specs.declared.fault.ReadError.TheVariants as errors
@@ -37,13 +37,13 @@ same_records (x ∷ xs) (y ∷ ys) e =
 
 -- an opening, and structures up to ENDLIB behind it, are a library's records
 finished : (front : List RawRecord) (unit : ℕ)
-    → ((rest : List Outcome) → opening (records_then front rest) ≡ Ok (unit, rest))
+    → ((rest : List RecordOutcome) → opening (records_then front rest) ≡ Ok (unit, rest))
     → (tail : List RawRecord) (ss : List Structure)
-    → ((most : ℕ) (rest : List Outcome) → length (records_then tail rest) ≤ most
+    → ((most : ℕ) (rest : List RecordOutcome) → length (records_then tail rest) ≤ most
     → structures_behind most unit [] (records_then tail rest) ≡ Ok (ss, rest))
     → DerivesLibrary (front ++ tail) ss
 finished front unit opens tail ss reads =
-    let os : List Outcome = records_then tail [] in
+    let os : List RecordOutcome = records_then tail [] in
     let o = opening_sound (records_then front os) (unit, os) (opens os) in
     let s = structures_sound (length os) unit [] os (ss, []) (reads (length os) [] (omega arith)) in
     let l : LibraryIn (records_then front os) (ss, []) =
@@ -54,20 +54,20 @@ finished front unit opens tail ss reads =
     (records_both front tail [] ∙ l.parts ∙ sym (records_both l.before_end (l.end ∷ []) [])) in
     subst (λ (rs : List RawRecord). DerivesLibrary rs ss) (sym same) l.derived
 
-record LibraryRefuses (all : List Outcome) (offset : ℕ) : Type 0 where
+record LibraryRefuses (all : List RecordOutcome) (offset : ℕ) : Type 0 where
   before : List RawRecord
   refused : RawRecord
-  rest : List Outcome
+  rest : List RecordOutcome
   parts : all ≡ records_then before (Ok refused ∷ rest)
   stands : refused.offset ≡ offset
   goes_on : IsFront before
-  refuses : (rest : List Outcome)
+  refuses : (rest : List RecordOutcome)
       → library (records_then before (Ok refused ∷ rest)) ≡ Err (fault_at Unexpected refused)
 
-abbrev structures_then : ℕ × List Outcome → Result (List Structure) ReadFault
+abbrev structures_then : ℕ × List RecordOutcome → Result (List Structure) ReadFault
 structures_then unit = all_structures unit.0 unit.1 >>= λ structures. Ok structures.0
 
-opening_refuses : (all : List Outcome) (offset : ℕ) → Refuses opening Any all offset
+opening_refuses : (all : List RecordOutcome) (offset : ℕ) → Refuses opening Any all offset
     → LibraryRefuses all offset
 opening_refuses all offset r =
     let c = r.goes_on in
@@ -92,7 +92,8 @@ opening_refuses all offset r =
           ∙ ap (λ (t : Reading ℕ). t >>= structures_then) (r.refuses rest);
     }
 
-structures_refuse : (all : List Outcome) (offset : ℕ) (x : ℕ × List Outcome) → Reads opening all x
+structures_refuse : (all : List RecordOutcome) (offset : ℕ) (x : ℕ × List RecordOutcome)
+    → Reads opening all x
     → LoopRefuses (loop x.0) [] x.1 offset → LibraryRefuses all offset
 structures_refuse all offset x o r =
     let c = r.goes_on in
@@ -112,7 +113,7 @@ structures_refuse all offset x o r =
             (finished o.records x.0 o.same (r.before ++ c.behind) c.value c.reads);
       };
       refuses = λ rest.
-          let os : List Outcome = records_then r.before (Ok r.refused ∷ rest) in
+          let os : List RecordOutcome = records_then r.before (Ok r.refused ∷ rest) in
           ap library (records_both o.records r.before (Ok r.refused ∷ rest))
           ∙ library_is (records_then o.records os)
           ∙ ap (λ (t : Reading ℕ). t >>= structures_then) (o.same os)
@@ -120,10 +121,11 @@ structures_refuse all offset x o r =
           (r.refuses (length os) rest (omega arith));
     }
 
-library_fails : (all : List Outcome) (offset : ℕ) → length all ≤ 2 ^ 64 → IsEnded all
+library_fails : (all : List RecordOutcome) (offset : ℕ) → length all ≤ 2 ^ 64 → IsEnded all
     → library all ≡ Err (unexpected_at offset) → LibraryRefuses all offset
 library_fails all offset few h e =
-    let either = bind_err (opening all) structures_then (unexpected_at offset) (sym (library_is all) ∙ e) in
+    let either =
+    bind_err (opening all) structures_then (unexpected_at offset) (sym (library_is all) ∙ e) in
     elim either [
       | inl f ↦ opening_refuses all offset (opening_local.fails all offset h f)
       | inr x ↦
@@ -138,7 +140,7 @@ library_fails all offset few h e =
           x.0.1 offset (omega (arith, long, few)) (o.ended h) (failed x.0 x.2))
     ]
   where
-    failed : (x : ℕ × List Outcome) → structures_then x ≡ Err (unexpected_at offset)
+    failed : (x : ℕ × List RecordOutcome) → structures_then x ≡ Err (unexpected_at offset)
         → all_structures x.0 x.1 ≡ Err (unexpected_at offset)
     failed x f =
         elim (bind_err (all_structures x.0 x.1) (λ structures. Ok structures.0)

@@ -2,7 +2,7 @@
 use Rattle.std.proofs.Common.{◌≡◌, ℕ, zero, suc, ◌+◌, ◌<◌, ◌≤◌, Bool, true, false, cond, List, [], ◌∷◌, ◌++◌, length, Ok, Err, refl, sym, ap, subst, ◌∙◌, inl, inr, arith}
 use Rattle.std.specs.List.{list_all}
 use Rattle.mpw_records.specs.declared.fault.Code.TheVariants.{Unexpected}
-use Rattle.mpw_records.specs.Records.{RawRecord, Outcome}
+use Rattle.mpw_records.specs.Records.{RawRecord, RecordOutcome}
 use Rattle.mpw_elements.specs.Reading.{Reading, ◌>>=◌, fault_at}
 use Rattle.mpw_elements.specs.Derivation.{records_then}
 use Rattle.mpw_elements.proofs.DerivedFields.{records_both, parts_both}
@@ -10,75 +10,78 @@ use Rattle.mpw_library.specs.Fronts.{is_formed}
 use Rattle.mpw_library.proofs.Loops.{empty}
 use Rattle.mpw_library.proofs.Refusals.{unexpected_at, IsEnded, Completes, Refuses, Reads, Any, bind_err, both_formed, front_then, behind_then}
 
-pub length_then : (rs : List RawRecord) (rest : List Outcome)
+pub length_then : (rs : List RawRecord) (rest : List RecordOutcome)
     → length (records_then rs rest) ≡ length rs + length rest
 length_then [] rest = omega arith
 length_then (r ∷ rs) rest = let h = length_then rs rest in omega (arith, h)
 
 -- a loop: from a state a step reads an item; one of the items ends the loop, and each other one gives
 -- a next state
-pub record Loop {S I : Type 0} (step : S → List Outcome → Reading I) (is_end : I → Bool)
-    (next : S → I → S) (loop : ℕ → S → List Outcome → Reading S) : Type 0 where
-  pub none : (s : S) (x : S × List Outcome) (os : List Outcome) → loop zero s os ≡ Ok x → ⊥
-  pub empty_fails : (s : S) (x : I × List Outcome) → step s [] ≡ Ok x → ⊥
-  pub goes : (most : ℕ) (s : S) (os : List Outcome)
+pub record Loop {S I : Type 0} (step : S → List RecordOutcome → Reading I) (is_end : I → Bool)
+    (next : S → I → S) (loop : ℕ → S → List RecordOutcome → Reading S) : Type 0 where
+  pub none : (s : S) (x : S × List RecordOutcome) (os : List RecordOutcome) → loop zero s os ≡ Ok x
+      → ⊥
+  pub empty_fails : (s : S) (x : I × List RecordOutcome) → step s [] ≡ Ok x → ⊥
+  pub goes : (most : ℕ) (s : S) (os : List RecordOutcome)
       → loop (suc most) s os
       ≡ (step s os >>= λ i. cond (is_end i.0) (Ok (s, i.1)) (loop most (next s i.0) i.1))
   pub ending : RawRecord
   pub formed : is_formed ending ≡ true
   pub last : I
   pub is_last : is_end last ≡ true
-  pub ends : (s : S) (rest : List Outcome) → step s (Ok ending ∷ rest) ≡ Ok (last, rest)
+  pub ends : (s : S) (rest : List RecordOutcome) → step s (Ok ending ∷ rest) ≡ Ok (last, rest)
 
 -- records go on to the end of the loop
-pub record LoopCompletes {S : Type 0} (loop : ℕ → S → List Outcome → Reading S) (s : S)
+pub record LoopCompletes {S : Type 0} (loop : ℕ → S → List RecordOutcome → Reading S) (s : S)
     (before : List RawRecord) : Type 0 where
   pub behind : List RawRecord
   pub formed : list_all is_formed behind ≡ true
   pub value : S
-  pub reads : (most : ℕ) (rest : List Outcome)
+  pub reads : (most : ℕ) (rest : List RecordOutcome)
       → length (records_then (before ++ behind) rest) ≤ most
       → loop most s (records_then (before ++ behind) rest) ≡ Ok (value, rest)
 
-pub record LoopRefuses {S : Type 0} (loop : ℕ → S → List Outcome → Reading S) (s : S)
-    (all : List Outcome) (offset : ℕ) : Type 0 where
+pub record LoopRefuses {S : Type 0} (loop : ℕ → S → List RecordOutcome → Reading S) (s : S)
+    (all : List RecordOutcome) (offset : ℕ) : Type 0 where
   pub before : List RawRecord
   pub refused : RawRecord
-  pub rest : List Outcome
+  pub rest : List RecordOutcome
   pub parts : all ≡ records_then before (Ok refused ∷ rest)
   pub stands : refused.offset ≡ offset
   pub goes_on : LoopCompletes loop s before
-  pub refuses : (most : ℕ) (rest : List Outcome)
+  pub refuses : (most : ℕ) (rest : List RecordOutcome)
       → length (records_then before (Ok refused ∷ rest)) ≤ most
       → loop most s (records_then before (Ok refused ∷ rest)) ≡ Err (fault_at Unexpected refused)
 
-module _ {S I : Type 0} (step : S → List Outcome → Reading I) (is_end : I → Bool) (next : S → I → S)
-    (loop : ℕ → S → List Outcome → Reading S) (l : Loop step is_end next loop) where
+module _ {S I : Type 0} (step : S → List RecordOutcome → Reading I) (is_end : I → Bool) (next : S
+    → I → S)
+    (loop : ℕ → S → List RecordOutcome → Reading S) (l : Loop step is_end next loop) where
   -- a step takes a record
-  some_step : (s : S) (os : List Outcome) (x : I × List Outcome) → step s os ≡ Ok x → 0 < length os
+  some_step : (s : S) (os : List RecordOutcome) (x : I × List RecordOutcome) → step s os ≡ Ok x
+      → 0 < length os
   some_step s [] x e = absurd (l.empty_fails s x e)
   some_step s (o ∷ os) x e = omega arith
 
   takes : (s : S) (records : List RawRecord) (i : I)
-      → ((rest : List Outcome) → step s (records_then records rest) ≡ Ok (i, rest))
+      → ((rest : List RecordOutcome) → step s (records_then records rest) ≡ Ok (i, rest))
       → 0 < length records
   takes s [] i same = absurd (l.empty_fails s (i, []) (same []))
   takes s (r ∷ rs) i same = omega arith
 
-  next_is : (most : ℕ) (s : S) (os rest : List Outcome) (i : I) → step s os ≡ Ok (i, rest)
+  next_is : (most : ℕ) (s : S) (os rest : List RecordOutcome) (i : I) → step s os ≡ Ok (i, rest)
       → loop (suc most) s os ≡ cond (is_end i) (Ok (s, rest)) (loop most (next s i) rest)
   next_is most s os rest i e =
       l.goes most s os
       ∙ ap
       (λ (t : Reading I). t >>= λ i. cond (is_end i.0) (Ok (s, i.1)) (loop most (next s i.0) i.1)) e
 
-  over_is : (most : ℕ) (s : S) (os rest : List Outcome) (i : I) → step s os ≡ Ok (i, rest)
+  over_is : (most : ℕ) (s : S) (os rest : List RecordOutcome) (i : I) → step s os ≡ Ok (i, rest)
       → is_end i ≡ false → loop (suc most) s os ≡ loop most (next s i) rest
   over_is most s os rest i e h =
       next_is most s os rest i e
       ∙ ap (λ (b : Bool). cond b (Ok (s, rest)) (loop most (next s i) rest)) h
 
-  last_is : (most : ℕ) (s : S) (os rest : List Outcome) (i : I) → step s os ≡ Ok (i, rest)
+  last_is : (most : ℕ) (s : S) (os rest : List RecordOutcome) (i : I) → step s os ≡ Ok (i, rest)
       → is_end i ≡ true → loop (suc most) s os ≡ Ok (s, rest)
   last_is most s os rest i e h =
       next_is most s os rest i e
@@ -93,7 +96,7 @@ module _ {S I : Type 0} (step : S → List Outcome → Reading I) (is_end : I �
     reads = reads;
   }
     where
-      reads : (most : ℕ) (rest : List Outcome) → length (Ok l.ending ∷ rest) ≤ most
+      reads : (most : ℕ) (rest : List RecordOutcome) → length (Ok l.ending ∷ rest) ≤ most
           → loop most s (Ok l.ending ∷ rest) ≡ Ok (s, rest)
       reads zero rest le = absurd (omega (arith, le))
       reads (suc most) rest le =
@@ -107,7 +110,7 @@ module _ {S I : Type 0} (step : S → List Outcome → Reading I) (is_end : I �
       go : (b : Bool) → is_end c.value ≡ b → LoopCompletes loop s before
       go true h = record { behind = c.behind; formed = c.formed; value = s; reads = reads }
         where
-          reads : (most : ℕ) (rest : List Outcome)
+          reads : (most : ℕ) (rest : List RecordOutcome)
               → length (records_then (before ++ c.behind) rest) ≤ most
               → loop most s (records_then (before ++ c.behind) rest) ≡ Ok (s, rest)
           reads zero rest le =
@@ -121,7 +124,7 @@ module _ {S I : Type 0} (step : S → List Outcome → Reading I) (is_end : I �
         reads = reads;
       }
         where
-          whole : (rest : List Outcome)
+          whole : (rest : List RecordOutcome)
               → records_then (before ++ (c.behind ++ l.ending ∷ [])) rest
               ≡ records_then (before ++ c.behind) (Ok l.ending ∷ rest)
           whole rest = front_then before c.behind (l.ending ∷ []) rest
@@ -129,7 +132,7 @@ module _ {S I : Type 0} (step : S → List Outcome → Reading I) (is_end : I �
           taken : 0 < length (before ++ c.behind)
           taken = takes s (before ++ c.behind) c.value c.reads
 
-          two : (most : ℕ) (rest : List Outcome)
+          two : (most : ℕ) (rest : List RecordOutcome)
               → length (records_then (before ++ c.behind) (Ok l.ending ∷ rest)) ≤ most
               → loop most s (records_then (before ++ c.behind) (Ok l.ending ∷ rest))
               ≡ Ok (next s c.value, rest)
@@ -144,16 +147,17 @@ module _ {S I : Type 0} (step : S → List Outcome → Reading I) (is_end : I �
               ∙ last_is most (next s c.value) (Ok l.ending ∷ rest) rest l.last
               (l.ends (next s c.value) rest) l.is_last
 
-          reads : (most : ℕ) (rest : List Outcome)
+          reads : (most : ℕ) (rest : List RecordOutcome)
               → length (records_then (before ++ (c.behind ++ l.ending ∷ [])) rest) ≤ most
               → loop most s (records_then (before ++ (c.behind ++ l.ending ∷ [])) rest)
               ≡ Ok (next s c.value, rest)
           reads most rest le =
               ap (loop most s) (whole rest)
-              ∙ two most rest (subst (λ (os : List Outcome). length os ≤ most) (whole rest) le)
+              ∙ two most rest (subst (λ (os : List RecordOutcome). length os ≤ most) (whole rest)
+              le)
 
   -- what fails in a step
-  step_refuses : (s : S) (all : List Outcome) (offset : ℕ) → Refuses (step s) Any all offset
+  step_refuses : (s : S) (all : List RecordOutcome) (offset : ℕ) → Refuses (step s) Any all offset
       → LoopRefuses loop s all offset
   step_refuses s all offset r = record {
     before = r.before;
@@ -165,7 +169,7 @@ module _ {S I : Type 0} (step : S → List Outcome → Reading I) (is_end : I �
     refuses = refuses;
   }
     where
-      refuses : (most : ℕ) (rest : List Outcome)
+      refuses : (most : ℕ) (rest : List RecordOutcome)
           → length (records_then r.before (Ok r.refused ∷ rest)) ≤ most
           → loop most s (records_then r.before (Ok r.refused ∷ rest))
           ≡ Err (fault_at Unexpected r.refused)
@@ -177,7 +181,7 @@ module _ {S I : Type 0} (step : S → List Outcome → Reading I) (is_end : I �
           >>= λ i. cond (is_end i.0) (Ok (s, i.1)) (loop most (next s i.0) i.1)) (r.refuses rest)
 
   -- what fails behind a step
-  later_refuses : (s : S) (all : List Outcome) (offset : ℕ) (i : I × List Outcome)
+  later_refuses : (s : S) (all : List RecordOutcome) (offset : ℕ) (i : I × List RecordOutcome)
       → is_end i.0 ≡ false → Reads (step s) all i → LoopRefuses loop (next s i.0) i.1 offset
       → LoopRefuses loop s all offset
   later_refuses s all offset i h r q = record {
@@ -198,7 +202,7 @@ module _ {S I : Type 0} (step : S → List Outcome → Reading I) (is_end : I �
       taken : 0 < length r.records
       taken = takes s r.records i.0 r.same
 
-      onward : {R : Reading S} (most : ℕ) (os : List Outcome)
+      onward : {R : Reading S} (most : ℕ) (os : List RecordOutcome)
           → length (records_then r.records os) ≤ most
           → ((most : ℕ) → length os ≤ most → loop most (next s i.0) os ≡ R)
           → loop most s (records_then r.records os) ≡ R
@@ -207,7 +211,7 @@ module _ {S I : Type 0} (step : S → List Outcome → Reading I) (is_end : I �
           over_is most s (records_then r.records os) os i.0 (r.same os) h
           ∙ more most (omega (arith, le, taken, length_then r.records os))
 
-      reads : (most : ℕ) (rest : List Outcome)
+      reads : (most : ℕ) (rest : List RecordOutcome)
           → length (records_then ((r.records ++ q.before) ++ q.goes_on.behind) rest) ≤ most
           → loop most s (records_then ((r.records ++ q.before) ++ q.goes_on.behind) rest)
           ≡ Ok (q.goes_on.value, rest)
@@ -215,10 +219,10 @@ module _ {S I : Type 0} (step : S → List Outcome → Reading I) (is_end : I �
           let same = behind_then r.records q.before q.goes_on.behind rest in
           ap (loop most s) same
           ∙ onward most (records_then (q.before ++ q.goes_on.behind) rest)
-          (subst (λ (os : List Outcome). length os ≤ most) same le)
+          (subst (λ (os : List RecordOutcome). length os ≤ most) same le)
           (λ m k. q.goes_on.reads m rest k)
 
-      refuses : (most : ℕ) (rest : List Outcome)
+      refuses : (most : ℕ) (rest : List RecordOutcome)
           → length (records_then (r.records ++ q.before) (Ok q.refused ∷ rest)) ≤ most
           → loop most s (records_then (r.records ++ q.before) (Ok q.refused ∷ rest))
           ≡ Err (fault_at Unexpected q.refused)
@@ -226,17 +230,20 @@ module _ {S I : Type 0} (step : S → List Outcome → Reading I) (is_end : I �
           let same = records_both r.records q.before (Ok q.refused ∷ rest) in
           ap (loop most s) same
           ∙ onward most (records_then q.before (Ok q.refused ∷ rest))
-          (subst (λ (os : List Outcome). length os ≤ most) same le) (λ m k. q.refuses m rest k)
+          (subst (λ (os : List RecordOutcome). length os ≤ most) same le)
+          (λ m k. q.refuses m rest k)
 
   -- where each step of a state that holds refuses rightly, the loop does
   module _ (Holds : S → ℕ → Type 0)
       (onward : (s : S) (i : I) (m n : ℕ) → is_end i ≡ false → m < n → Holds s n
       → Holds (next s i) m)
-      (reads : (s : S) (all : List Outcome) (x : I × List Outcome) → Holds s (length all)
+      (reads : (s : S) (all : List RecordOutcome) (x : I × List RecordOutcome)
+      → Holds s (length all)
       → is_end x.0 ≡ false → step s all ≡ Ok x → Reads (step s) all x)
-      (fails : (s : S) (all : List Outcome) (offset : ℕ) → Holds s (length all) → IsEnded all
+      (fails : (s : S) (all : List RecordOutcome) (offset : ℕ) → Holds s (length all) → IsEnded all
       → step s all ≡ Err (unexpected_at offset) → Refuses (step s) Any all offset) where
-    pub loop_fails : (most : ℕ) (s : S) (all : List Outcome) (offset : ℕ) → Holds s (length all)
+    pub loop_fails : (most : ℕ) (s : S) (all : List RecordOutcome) (offset : ℕ)
+        → Holds s (length all)
         → length all ≤ most → IsEnded all → loop most s all ≡ Err (unexpected_at offset)
         → LoopRefuses loop s all offset
     loop_fails zero s all offset holds le h e = absurd (subst IsEnded (empty all le) h)
@@ -250,7 +257,7 @@ module _ {S I : Type 0} (step : S → List Outcome → Reading I) (is_end : I �
               (λ r. loop_fails most (next s i.0.0) i.0.1 offset)
         ]
       where
-        go : (i : I × List Outcome) → step s all ≡ Ok i
+        go : (i : I × List RecordOutcome) → step s all ≡ Ok i
             → cond (is_end i.0) (Ok (s, i.1)) (loop most (next s i.0) i.1)
             ≡ Err (unexpected_at offset) → (b : Bool) → is_end i.0 ≡ b
             → (Unit {0} → Holds (next s i.0) (length i.1) → length i.1 ≤ most → IsEnded i.1

@@ -7,12 +7,12 @@ use Rattle.mpw_geom.specs.declared.plane.Orient.TheVariants.{R0}
 use Rattle.mpw_records.specs.declared.fault.Code.TheVariants.{BadName, BadSize, Magnification, Angle, Columns, Pitch, Absolute}
 use Rattle.mpw_records.specs.declared.fault.ReadFault.{ReadFault}
 use Rattle.mpw_records.specs.declared.kind.TheConstants.{ENDLIB, XY, ENDEL, SNAME, COLROW, STRANS, MAG, ANGLE}
-use Rattle.mpw_records.specs.Records.{RawRecord, Outcome}
+use Rattle.mpw_records.specs.Records.{RawRecord, RecordOutcome}
 use Rattle.mpw_real8.specs.Real.{real_value}
 use Rattle.mpw_elements.specs.declared.element.Reference.{Reference}
 use Rattle.mpw_elements.specs.declared.values.Grid.{Grid}
 use Rattle.mpw_elements.specs.Reading.{Reading, ◌>>=◌, is_skipped, field, expected, optional}
-use Rattle.mpw_elements.specs.Values.{place_of, name_of, mirrored_of, magnification_of, turns, turns_or_fault, turns_of, orient_of, counts_of, grid_or_fault, step_of, point_at, grid_of, no_point}
+use Rattle.mpw_elements.specs.Values.{origin_of, name_of, mirrored_of, magnification_of, turns, turns_or_fault, turns_of, orient_of, counts_of, grid_or_fault, step_of, point_at, grid_of, no_point}
 use Rattle.mpw_elements.specs.Derivation.{records_then}
 use Rattle.mpw_elements.specs.Grammar.{orientation, single, array}
 use Rattle.mpw_library.proofs.Refusals.{unexpected_at, IsEnded, Completes, Refuses, Reads, Any, IsOfValue, done_local, done_completes, tested_local}
@@ -27,8 +27,8 @@ pub name_own : (r : RawRecord) → IsOfValue (name_of r)
 unfolding name_of
 name_own r = choice_own _ _ _ (ok_own _) (never BadName r (λ e. cc))
 
-place_own : (unit : ℕ) (r : RawRecord) → IsOfValue (place_of unit r)
-unfolding place_of
+place_own : (unit : ℕ) (r : RawRecord) → IsOfValue (origin_of unit r)
+unfolding origin_of
 place_own unit r = choice_own _ _ _ (ok_own _) (never BadSize r (λ e. cc))
 
 mirrored_own : (r : RawRecord) → IsOfValue (mirrored_of r)
@@ -65,25 +65,26 @@ grid_own unit columns rows r =
 
 -- ---- orientations
 
-abbrev orienting : {X : Type 0} → ℕ → (Orient → RawRecord → List Outcome → Reading X) → RawRecord
-    → List Outcome → Reading X
+abbrev orienting : {X : Type 0} → ℕ → (Orient → RawRecord → List RecordOutcome → Reading X)
+    → RawRecord
+    → List RecordOutcome → Reading X
 orienting start K r rs = orientation start r rs >>= λ x. K x.0.0 x.0.1 x.1
 
-module _ {X : Type 0} (start : ℕ) (K : Orient → RawRecord → List Outcome → Reading X) where
-  abbrev angle_at : Bool → RawRecord → List Outcome → Reading X
+module _ {X : Type 0} (start : ℕ) (K : Orient → RawRecord → List RecordOutcome → Reading X) where
+  abbrev angle_at : Bool → RawRecord → List RecordOutcome → Reading X
   angle_at m = opting start ANGLE turns_of 0 (λ a. K (orient_of m a))
 
-  abbrev magnified_at : Bool → RawRecord → List Outcome → Reading X
+  abbrev magnified_at : Bool → RawRecord → List RecordOutcome → Reading X
   magnified_at m = opting start MAG magnification_of tt (λ (u : Unit {0}). angle_at m)
 
   -- what stands behind STRANS
-  abbrev turned : RawRecord → List Outcome → Reading X
+  abbrev turned : RawRecord → List RecordOutcome → Reading X
   turned r os = mirrored_of r >>= λ m. fielded start (magnified_at m) os
 
-  abbrev oriented : (Orient × RawRecord) × List Outcome → Reading X
+  abbrev oriented : (Orient × RawRecord) × List RecordOutcome → Reading X
   oriented x = K x.0.0 x.0.1 x.1
 
-  turned_same : (r : RawRecord) → eqb r.kind STRANS ≡ true → (os : List Outcome)
+  turned_same : (r : RawRecord) → eqb r.kind STRANS ≡ true → (os : List RecordOutcome)
       → orienting start K r os ≡ turned r os
   unfolding orientation
   turned_same r h os = rw h (flags (mirrored_of r))
@@ -119,7 +120,7 @@ module _ {X : Type 0} (start : ℕ) (K : Orient → RawRecord → List Outcome �
       flags (Ok m) = nexts m (field start os)
       flags (Err f) = refl
 
-  upright_same : (r : RawRecord) → eqb r.kind STRANS ≡ false → (os : List Outcome)
+  upright_same : (r : RawRecord) → eqb r.kind STRANS ≡ false → (os : List RecordOutcome)
       → orienting start K r os ≡ K R0 r os
   unfolding orientation
   upright_same r h os = rw h refl
@@ -143,7 +144,7 @@ module _ {X : Type 0} (start : ℕ) (K : Orient → RawRecord → List Outcome �
     starts_other : eqb upright.start.kind STRANS ≡ false
     starts_other = ap (λ (n : ℕ). eqb n STRANS) upright.kind ∙ not_flags
 
-    abbrev O : RawRecord → List Outcome → Reading X
+    abbrev O : RawRecord → List RecordOutcome → Reading X
     O = orienting start K
 
     begins : Completes (O upright.start) Any []
@@ -159,7 +160,8 @@ module _ {X : Type 0} (start : ℕ) (K : Orient → RawRecord → List Outcome �
               ∙ b.reads rest;
         }
 
-    oriented_reads : (r : RawRecord) (all : List Outcome) (x : X × List Outcome) → O r all ≡ Ok x
+    oriented_reads : (r : RawRecord) (all : List RecordOutcome) (x : X × List RecordOutcome)
+        → O r all ≡ Ok x
         → Reads (O r) all x × (eqb r.kind ENDLIB ≡ false)
     oriented_reads r all x e = go (eqb r.kind STRANS) refl
       where
@@ -176,7 +178,7 @@ module _ {X : Type 0} (start : ℕ) (K : Orient → RawRecord → List Outcome �
             let h = upright.reads r all x (sym (upright_same r p all) ∙ e) in
             (as_reads (O r) (K R0 r) all x (upright_same r p) h.0, h.1)
 
-    oriented_fails : (r : RawRecord) (all : List Outcome) (offset : ℕ)
+    oriented_fails : (r : RawRecord) (all : List RecordOutcome) (offset : ℕ)
         → (eqb r.kind ENDLIB ≡ false → IsEnded all) → O r all ≡ Err (unexpected_at offset)
         → Refuses (held O) Any (Ok r ∷ all) offset
     oriented_fails r all offset h e = go (eqb r.kind STRANS) refl
@@ -208,7 +210,7 @@ module _ {X : Type 0} (start : ℕ) (K : Orient → RawRecord → List Outcome �
 -- ---- references
 
 module _ (start unit : ℕ) where
-  abbrev reference_end : Reference → List Outcome → Reading Reference
+  abbrev reference_end : Reference → List RecordOutcome → Reading Reference
   reference_end r all = expected start ENDEL all >>= λ x. Ok (r, x.1)
 
   reference_end_whole : (r : Reference) → Whole (reference_end r)
@@ -227,14 +229,14 @@ module _ (start unit : ℕ) where
     row_step = no_point;
   }
 
-  abbrev single_at : List ℕ → Orient → RawRecord → List Outcome → Reading Reference
+  abbrev single_at : List ℕ → Orient → RawRecord → List RecordOutcome → Reading Reference
   single_at name orient =
       demanding XY
-      (λ x all. place_of unit x >>= λ origin. reference_end (single_made name orient origin) all)
+      (λ x all. origin_of unit x >>= λ origin. reference_end (single_made name orient origin) all)
 
   single_ahead : (name : List ℕ) (orient : Orient) → Ahead XY (single_at name orient) Any
   single_ahead name orient =
-      demanded_tested XY dot dot_is (place_of unit)
+      demanded_tested XY dot dot_is (origin_of unit)
       _ (λ x origin. reference_end (single_made name orient origin)) (place_own unit)
       (dot_place unit) (λ x origin e. reference_end_whole (single_made name orient origin))
 
@@ -268,7 +270,7 @@ module _ (start unit : ℕ) where
     row_step = grid.row_step;
   }
 
-  abbrev grid_then : List ℕ → Orient → ℕ × ℕ → List Outcome → Reading Reference
+  abbrev grid_then : List ℕ → Orient → ℕ × ℕ → List RecordOutcome → Reading Reference
   grid_then name orient counts all =
       expected start XY all >>= λ x. grid_of unit counts.0 counts.1 x.0
       >>= λ grid. reference_end (array_made name orient counts grid) x.1
@@ -282,7 +284,7 @@ module _ (start unit : ℕ) where
       (grid_own unit counts.0 counts.1) g.1
       (λ x grid e. reference_end_whole (array_made name orient counts grid))
 
-  abbrev array_at : List ℕ → Orient → RawRecord → List Outcome → Reading Reference
+  abbrev array_at : List ℕ → Orient → RawRecord → List RecordOutcome → Reading Reference
   array_at name orient =
       demanding COLROW (λ x all. counts_of x >>= λ counts. grid_then name orient counts all)
 

@@ -5,7 +5,7 @@ use Rattle.mpw_records.specs.declared.fault.Code.{Code}
 use Rattle.mpw_records.specs.declared.fault.Code.TheVariants.{Unexpected, NotManhattan, RoundPath, OddWidth, PointPath}
 use Rattle.mpw_records.specs.declared.fault.ReadFault.{ReadFault}
 use Rattle.mpw_records.specs.declared.kind.TheConstants.{LAYER, DATATYPE, WIDTH, XY, ENDEL, PATHTYPE, BGNEXTN, ENDEXTN}
-use Rattle.mpw_records.specs.Records.{RawRecord, Outcome}
+use Rattle.mpw_records.specs.Records.{RawRecord, RecordOutcome}
 use Rattle.mpw_elements.specs.declared.element.Boundary.{Boundary}
 use Rattle.mpw_elements.specs.declared.element.Path.{Path}
 use Rattle.mpw_elements.specs.Reading.{Reading, ◌>>=◌, fault_at, expected}
@@ -18,7 +18,7 @@ use Rattle.mpw_library.proofs.Samples.{layer, layer_is, datatype, datatype_is, d
 
 -- ---- readers that can always begin
 
-pub record Whole {V : Type 0} (P : List Outcome → Reading V) : Type 0 where
+pub record Whole {V : Type 0} (P : List RecordOutcome → Reading V) : Type 0 where
   pub local : Local P Any
   pub begin : Completes P Any []
 
@@ -26,7 +26,8 @@ pub done_whole : {V : Type 0} (v : V) → Whole (λ all. Ok (v, all))
 done_whole v = record { local = done_local v; begin = done_completes v tt }
 
 -- a reader, and what it does with its value
-pub then_whole : {V X : Type 0} (P : List Outcome → Reading V) (Q : V → List Outcome → Reading X)
+pub then_whole : {V X : Type 0} (P : List RecordOutcome → Reading V) (Q : V → List RecordOutcome
+    → Reading X)
     → Whole P → ((v : V) → Whole (Q v)) → Whole (λ all. P all >>= λ x. Q x.0 x.1)
 then_whole P Q p q = record {
   local = then_local P Q p.local (λ v. (q v).local) (λ v good. (q v).begin);
@@ -35,7 +36,7 @@ then_whole P Q p q = record {
 
 module _ (start kind : ℕ) (c : RawRecord) (s : IsSample kind c) {X : Type 0} where
   -- a record of a type, and what stands behind it
-  pub expected_then : (Q : RawRecord → List Outcome → Reading X)
+  pub expected_then : (Q : RawRecord → List RecordOutcome → Reading X)
       → ((d : RawRecord) → Local (Q d) Any) → Completes (Q c) Any []
       → Whole (λ all. expected start kind all >>= λ x. Q x.0 x.1)
   expected_then Q q begin = record {
@@ -50,7 +51,7 @@ module _ (start kind : ℕ) (c : RawRecord) (s : IsSample kind c) {X : Type 0} w
 
   -- and a test of what it tells
   pub expected_tested : {W : Type 0} (t : RawRecord → Result W ReadFault) (w : W)
-      (Q : RawRecord → W → List Outcome → Reading X)
+      (Q : RawRecord → W → List RecordOutcome → Reading X)
       → ((d : RawRecord) → IsOfValue (t d)) → t c ≡ Ok w
       → ((d : RawRecord) (w : W) → t d ≡ Ok w → Whole (Q d w))
       → Whole (λ all. expected start kind all >>= λ x. t x.0 >>= λ w. Q x.0 w x.1)
@@ -62,7 +63,7 @@ module _ (start kind : ℕ) (c : RawRecord) (s : IsSample kind c) {X : Type 0} w
 -- a record at hand, a test of what it tells, and what stands behind it
 pub demanded_tested : (kind : ℕ) (c : RawRecord) → IsSample kind c
     → {W X : Type 0} (t : RawRecord → Result W ReadFault) (w : W)
-    (Q : RawRecord → W → List Outcome → Reading X)
+    (Q : RawRecord → W → List RecordOutcome → Reading X)
     → ((d : RawRecord) → IsOfValue (t d)) → t c ≡ Ok w
     → ((d : RawRecord) (w : W) → t d ≡ Ok w → Whole (Q d w))
     → Ahead kind (demanding kind (λ d all. t d >>= λ w. Q d w all)) Any
@@ -108,7 +109,7 @@ width_own unit r = choice_own _ _ _ (ok_own _) (never OddWidth r (λ e. cc))
 
 module _ (start unit : ℕ) where
   module _ (kind : ℕ) where
-    abbrev corners_then : RawRecord → RawRecord → List Point → List Outcome → Reading Boundary
+    abbrev corners_then : RawRecord → RawRecord → List Point → List RecordOutcome → Reading Boundary
     corners_then l d corners all = expected start ENDEL all >>= λ x. Ok (
       record {
         layer = record { layer = short_of l; datatype = short_of d };
@@ -117,12 +118,12 @@ module _ (start unit : ℕ) where
       x.1,
     )
 
-    abbrev ring_then : RawRecord → RawRecord → List Outcome → Reading Boundary
+    abbrev ring_then : RawRecord → RawRecord → List RecordOutcome → Reading Boundary
     ring_then l d all =
         expected start XY all >>= λ x. corners_of unit x.0
         >>= λ corners. corners_then l d corners x.1
 
-    abbrev ring_of : RawRecord → List Outcome → Reading Boundary
+    abbrev ring_of : RawRecord → List RecordOutcome → Reading Boundary
     ring_of l all = expected start kind all >>= λ x. ring_then l x.0 x.1
 
     corners_whole : (l d : RawRecord) (corners : List Point) → Whole (corners_then l d corners)
@@ -152,7 +153,7 @@ module _ (start unit : ℕ) where
 
   -- ---- paths
 
-  abbrev line_end : Path → List Outcome → Reading Path
+  abbrev line_end : Path → List RecordOutcome → Reading Path
   line_end p all = expected start ENDEL all >>= λ x. Ok (p, x.1)
 
   line_end_whole : (p : Path) → Whole (line_end p)
@@ -169,21 +170,22 @@ module _ (start unit : ℕ) where
     points = centre;
   }
 
-  abbrev line_at : RawRecord → RawRecord → ℕ → ℤ → ℤ → ℤ → RawRecord → List Outcome → Reading Path
+  abbrev line_at : RawRecord → RawRecord → ℕ → ℤ → ℤ → ℤ → RawRecord → List RecordOutcome
+      → Reading Path
   line_at l d t w g h =
       demanding XY
       (λ x all. centre_of unit x >>= λ centre. line_end (line_made l d t w g h centre) all)
 
-  abbrev ends_at : RawRecord → RawRecord → ℕ → ℤ → ℤ → RawRecord → List Outcome → Reading Path
+  abbrev ends_at : RawRecord → RawRecord → ℕ → ℤ → ℤ → RawRecord → List RecordOutcome → Reading Path
   ends_at l d t w g = opting start ENDEXTN (extension_of unit) (pos 0) (λ h. line_at l d t w g h)
 
-  abbrev begins_at : RawRecord → RawRecord → ℕ → ℤ → RawRecord → List Outcome → Reading Path
+  abbrev begins_at : RawRecord → RawRecord → ℕ → ℤ → RawRecord → List RecordOutcome → Reading Path
   begins_at l d t w = opting start BGNEXTN (extension_of unit) (pos 0) (λ g. ends_at l d t w g)
 
-  abbrev width_at : RawRecord → RawRecord → ℕ → RawRecord → List Outcome → Reading Path
+  abbrev width_at : RawRecord → RawRecord → ℕ → RawRecord → List RecordOutcome → Reading Path
   width_at l d t = opting start WIDTH (width_of unit) (pos 0) (λ w. begins_at l d t w)
 
-  abbrev type_at : RawRecord → RawRecord → RawRecord → List Outcome → Reading Path
+  abbrev type_at : RawRecord → RawRecord → RawRecord → List RecordOutcome → Reading Path
   type_at l d = opting start PATHTYPE path_type_of 0 (λ t. width_at l d t)
 
   module _ (some : 1 ≤ unit) where
@@ -213,7 +215,7 @@ module _ (start unit : ℕ) where
         opting_ahead start PATHTYPE path_type_of 0 (λ t. width_at l d t) XY path_type_own refl refl
         refl (λ t. width_ahead l d t)
 
-    abbrev line_of : RawRecord → List Outcome → Reading Path
+    abbrev line_of : RawRecord → List RecordOutcome → Reading Path
     line_of l all = expected start DATATYPE all >>= λ d. fielded start (type_at l d.0) d.1
 
     line_whole : (l : RawRecord) → Whole (line_of l)

@@ -3,7 +3,7 @@ use Rattle.std.proofs.Common.{◌≡◌, ℕ, ◌+◌, ◌<◌, ◌≤◌, Bool,
 use Rattle.mpw_records.specs.declared.fault.Code.TheVariants.{DoubleName}
 use Rattle.mpw_records.specs.declared.kind.TheConstants.{ENDLIB, BGNSTR, STRNAME}
 use Rattle.mpw_records.specs.Format.{data_fault}
-use Rattle.mpw_records.specs.Records.{RawRecord, Outcome}
+use Rattle.mpw_records.specs.Records.{RawRecord, RecordOutcome}
 use Rattle.mpw_elements.specs.declared.element.Element.{Element}
 use Rattle.mpw_elements.specs.Reading.{Reading, ◌>>=◌}
 use Rattle.mpw_elements.specs.Values.{name_of}
@@ -25,7 +25,7 @@ use Rattle.mpw_library.proofs.Samples.{sample}
 
 module _ (kind : ℕ) (c : RawRecord) (is : c.kind ≡ kind) (formed : is_formed c ≡ true)
     (inner : eqb kind ENDLIB ≡ false) where
-  abbrev one : RawRecord → List Outcome → Reading RawRecord
+  abbrev one : RawRecord → List RecordOutcome → Reading RawRecord
   one = demanding kind (λ d rs. Ok (d, rs))
 
   one_ahead : Ahead kind one (λ d. d ≡ c)
@@ -33,7 +33,7 @@ module _ (kind : ℕ) (c : RawRecord) (is : c.kind ≡ kind) (formed : is_formed
       demanding_ahead kind (λ d rs. Ok (d, rs)) c is formed inner (λ d. done_local d)
       (done_completes c refl)
 
-  one_same : (r : RawRecord) (os : List Outcome) → next_is kind (Ok r ∷ os) ≡ one r os
+  one_same : (r : RawRecord) (os : List RecordOutcome) → next_is kind (Ok r ∷ os) ≡ one r os
   unfolding next_is
   one_same r os = refl
 
@@ -42,7 +42,8 @@ module _ (kind : ℕ) (c : RawRecord) (is : c.kind ≡ kind) (formed : is_formed
       cons_completes (next_is kind) (one one_ahead.start) one_ahead.start one_ahead.formed
       (one_same one_ahead.start) one_ahead.begin
 
-  next_reads : (all : List Outcome) (x : RawRecord × List Outcome) → next_is kind all ≡ Ok x
+  next_reads : (all : List RecordOutcome) (x : RawRecord × List RecordOutcome)
+      → next_is kind all ≡ Ok x
       → Reads (next_is kind) all x
   unfolding next_is
   next_reads [] x e = absurd cc
@@ -51,7 +52,7 @@ module _ (kind : ℕ) (c : RawRecord) (is : c.kind ≡ kind) (formed : is_formed
       let h = one_ahead.reads r all x (sym (one_same r all) ∙ e) in
       cons_reads (next_is kind) (one r) r all x (one_same r) h.1 h.0
 
-  next_fails : (all : List Outcome) (offset : ℕ) → IsEnded all
+  next_fails : (all : List RecordOutcome) (offset : ℕ) → IsEnded all
       → next_is kind all ≡ Err (unexpected_at offset)
       → Refuses (next_is kind) (λ d. d ≡ c) all offset
   unfolding next_is
@@ -83,7 +84,7 @@ module _ (unit : ℕ) (some : 1 ≤ unit) (ss : List Structure) where
   abbrev made : List ℕ → List Element → Structure
   made name es = record { name = name; elements = es }
 
-  abbrev body : List ℕ → List Outcome → Reading Structure
+  abbrev body : List ℕ → List RecordOutcome → Reading Structure
   body name all = all_elements unit all >>= λ x. Ok (made name x.0, x.1)
 
   body_whole : (name : List ℕ) → Whole (body name)
@@ -91,10 +92,10 @@ module _ (unit : ℕ) (some : 1 ≤ unit) (ss : List Structure) where
       then_whole (all_elements unit) (λ es all. Ok (made name es, all)) (elements_whole unit some)
       (λ es. done_whole (made name es))
 
-  abbrev new_body : RawRecord → List ℕ → List Outcome → Reading Structure
+  abbrev new_body : RawRecord → List ℕ → List RecordOutcome → Reading Structure
   new_body r name all = untaken (place_of ss name) r >>= λ new. body name all
 
-  abbrev named_body : RawRecord → List Outcome → Reading Structure
+  abbrev named_body : RawRecord → List RecordOutcome → Reading Structure
   named_body r all = name_of r >>= λ name. new_body r name all
 
   named_local : (r : RawRecord) → Local (named_body r) Any
@@ -143,18 +144,18 @@ endlib_formed = refl
 
 module _ (unit : ℕ) where
   module _ (ss : List Structure) where
-    abbrev told : RawRecord → List Outcome → Reading (Option Structure)
+    abbrev told : RawRecord → List RecordOutcome → Reading (Option Structure)
     told d all = structure unit ss all >>= λ s. Ok (Some s.0, s.1)
 
-    abbrev begun_at : RawRecord → List Outcome → Reading (Option Structure)
+    abbrev begun_at : RawRecord → List RecordOutcome → Reading (Option Structure)
     begun_at = demanding BGNSTR told
 
-    begun_same : (r : RawRecord) → eqb r.kind ENDLIB ≡ false → (os : List Outcome)
+    begun_same : (r : RawRecord) → eqb r.kind ENDLIB ≡ false → (os : List RecordOutcome)
         → next_structure unit ss (Ok r ∷ os) ≡ begun_at r os
     unfolding next_structure
     begun_same r h os = rw h refl
 
-    end_same : (r : RawRecord) → eqb r.kind ENDLIB ≡ true → (os : List Outcome)
+    end_same : (r : RawRecord) → eqb r.kind ENDLIB ≡ true → (os : List RecordOutcome)
         → next_structure unit ss (Ok r ∷ os) ≡ Ok (None, os)
     unfolding next_structure
     end_same r h os = rw h refl
@@ -177,7 +178,7 @@ module _ (unit : ℕ) where
           (begun_same begun_ahead.start (ap (λ (n : ℕ). eqb n ENDLIB) begun_ahead.kind))
           begun_ahead.begin
 
-      more_reads : (all : List Outcome) (x : Option Structure × List Outcome)
+      more_reads : (all : List RecordOutcome) (x : Option Structure × List RecordOutcome)
           → not (is_some x.0) ≡ false → next_structure unit ss all ≡ Ok x
           → Reads (next_structure unit ss) all x
       unfolding next_structure
@@ -189,13 +190,13 @@ module _ (unit : ℕ) where
           go true p =
               absurd
               (let k =
-              ap (λ (y : Option Structure × List Outcome). not (is_some y.0))
+              ap (λ (y : Option Structure × List RecordOutcome). not (is_some y.0))
               (ok_is (None, all) x (sym (end_same r p all) ∙ e)) in let g = k ∙ h in cc)
           go false p =
               cons_reads (next_structure unit ss) (begun_at r) r all x (begun_same r p) p
               (begun_ahead.reads r all x (sym (begun_same r p all) ∙ e)).0
 
-      more_fails : (all : List Outcome) (offset : ℕ) → IsEnded all
+      more_fails : (all : List RecordOutcome) (offset : ℕ) → IsEnded all
           → next_structure unit ss all ≡ Err (unexpected_at offset)
           → Refuses (next_structure unit ss) Any all offset
       unfolding next_structure
@@ -212,7 +213,7 @@ module _ (unit : ℕ) where
 
   -- ---- structures up to ENDLIB
 
-  abbrev step : List Structure → List Outcome → Reading (Option Structure)
+  abbrev step : List Structure → List RecordOutcome → Reading (Option Structure)
   step ss = next_structure unit ss
 
   abbrev is_over : Option Structure → Bool
@@ -221,7 +222,7 @@ module _ (unit : ℕ) where
   abbrev onward : List Structure → Option Structure → List Structure
   onward ss o = ss ++ added o
 
-  abbrev pub loop : ℕ → List Structure → List Outcome → Reading (List Structure)
+  abbrev pub loop : ℕ → List Structure → List RecordOutcome → Reading (List Structure)
   loop most ss os = structures_behind most unit ss os
 
   other_way : {X : Type 0} (b : Bool) (x y : X) → cond b x y ≡ cond (not b) y x
@@ -262,7 +263,8 @@ module _ (unit : ℕ) where
   -- where names are left for as many structures as there are records
   pub structures_fail_at : 1 ≤ unit → (most : ℕ)
       → ((ss : List Structure) → length ss ≤ most → Fresh ss)
-      → (ss : List Structure) (all : List Outcome) (offset : ℕ) → length ss + length all ≤ most
+      → (ss : List Structure) (all : List RecordOutcome) (offset : ℕ)
+      → length ss + length all ≤ most
       → IsEnded all
       → structures_behind (length all) unit ss all ≡ Err (unexpected_at offset)
       → LoopRefuses loop ss all offset

@@ -3,43 +3,43 @@ use Rattle.std.proofs.Common.{◌≡◌, ℕ, Bool, true, false, eqb, List, [], 
 use Rattle.std.proofs.lemmas.Bool.{eqb-true}
 use Rattle.mpw_records.specs.declared.fault.ReadFault.{ReadFault}
 use Rattle.mpw_records.specs.declared.kind.TheConstants.{ENDLIB}
-use Rattle.mpw_records.specs.Records.{RawRecord, Outcome}
+use Rattle.mpw_records.specs.Records.{RawRecord, RecordOutcome}
 use Rattle.mpw_elements.specs.Reading.{Reading, ◌>>=◌, is_skipped, field, optional}
 use Rattle.mpw_elements.specs.Derivation.{records_then}
 use Rattle.mpw_library.proofs.Refusals.{unexpected_at, IsEnded, Completes, Refuses, Reads, Local, IsOfValue, tested_local}
 use Rattle.mpw_library.proofs.Fields.{as_reads, cons_refuses, as_refuses, cons_completes, held, Ahead, fielded, fielded_local}
 
 abbrev pub opting : {V X : Type 0} → ℕ → ℕ → (RawRecord → Result V ReadFault) → V
-    → (V → RawRecord → List Outcome → Reading X) → RawRecord → List Outcome → Reading X
+    → (V → RawRecord → List RecordOutcome → Reading X) → RawRecord → List RecordOutcome → Reading X
 opting start kind value default K r rs =
     optional start kind value default r rs >>= λ x. K x.0.0 x.0.1 x.1
 
 module _ {V X : Type 0} (start kind : ℕ) (value : RawRecord → Result V ReadFault) (default : V)
-    (K : V → RawRecord → List Outcome → Reading X) where
+    (K : V → RawRecord → List RecordOutcome → Reading X) where
   -- what stands behind it
-  abbrev valued : RawRecord → List Outcome → Reading X
+  abbrev valued : RawRecord → List RecordOutcome → Reading X
   valued r os = value r >>= λ v. fielded start (K v) os
 
-  present_same : (r : RawRecord) → eqb r.kind kind ≡ true → (os : List Outcome)
+  present_same : (r : RawRecord) → eqb r.kind kind ≡ true → (os : List RecordOutcome)
       → opting start kind value default K r os ≡ valued r os
   unfolding optional
   present_same r h os = rw h (go (value r))
     where
-      after : (v : V) (n : Result (RawRecord × List Outcome) ReadFault)
+      after : (v : V) (n : Result (RawRecord × List RecordOutcome) ReadFault)
           → ((n >>= λ next. Ok ((v, next.0), next.1))
-          >>= λ (x : (V × RawRecord) × List Outcome). K x.0.0 x.0.1 x.1)
+          >>= λ (x : (V × RawRecord) × List RecordOutcome). K x.0.0 x.0.1 x.1)
           ≡ (n >>= λ next. K v next.0 next.1)
       after v (Ok next) = refl
       after v (Err f) = refl
 
       go : (t : Result V ReadFault)
           → ((t >>= λ v. field start os >>= λ next. Ok ((v, next.0), next.1))
-          >>= λ (x : (V × RawRecord) × List Outcome). K x.0.0 x.0.1 x.1)
+          >>= λ (x : (V × RawRecord) × List RecordOutcome). K x.0.0 x.0.1 x.1)
           ≡ (t >>= λ v. fielded start (K v) os)
       go (Ok v) = after v (field start os)
       go (Err f) = refl
 
-  absent_same : (r : RawRecord) → eqb r.kind kind ≡ false → (os : List Outcome)
+  absent_same : (r : RawRecord) → eqb r.kind kind ≡ false → (os : List RecordOutcome)
       → opting start kind value default K r os ≡ K default r os
   unfolding optional
   absent_same r h os = rw h refl
@@ -55,7 +55,7 @@ module _ {V X : Type 0} (start kind : ℕ) (value : RawRecord → Result V ReadF
     starts_other : eqb (k default).start.kind kind ≡ false
     starts_other = ap (λ (n : ℕ). eqb n kind) (k default).kind ∙ other
 
-    abbrev O : RawRecord → List Outcome → Reading X
+    abbrev O : RawRecord → List RecordOutcome → Reading X
     O = opting start kind value default K
 
     begins : Completes (O (k default).start) Good []
@@ -71,7 +71,8 @@ module _ {V X : Type 0} (start kind : ℕ) (value : RawRecord → Result V ReadF
               ∙ b.reads rest;
         }
 
-    opting_reads : (r : RawRecord) (all : List Outcome) (x : X × List Outcome) → O r all ≡ Ok x
+    opting_reads : (r : RawRecord) (all : List RecordOutcome) (x : X × List RecordOutcome)
+        → O r all ≡ Ok x
         → Reads (O r) all x × (eqb r.kind ENDLIB ≡ false)
     opting_reads r all x e = go (eqb r.kind kind) refl
       where
@@ -85,7 +86,7 @@ module _ {V X : Type 0} (start kind : ℕ) (value : RawRecord → Result V ReadF
             let h = (k default).reads r all x (sym (absent_same r p all) ∙ e) in
             (as_reads (O r) (K default r) all x (absent_same r p) h.0, h.1)
 
-    opting_fails : (r : RawRecord) (all : List Outcome) (offset : ℕ)
+    opting_fails : (r : RawRecord) (all : List RecordOutcome) (offset : ℕ)
         → (eqb r.kind ENDLIB ≡ false → IsEnded all) → O r all ≡ Err (unexpected_at offset)
         → Refuses (held O) Good (Ok r ∷ all) offset
     opting_fails r all offset h e = go (eqb r.kind kind) refl

@@ -7,7 +7,7 @@ use Rattle.std.proofs.lemmas.List.Folds.{list_all-append}
 use Rattle.mpw_records.specs.declared.fault.Code.TheVariants.{Unexpected}
 use Rattle.mpw_records.specs.declared.fault.ReadFault.{ReadFault}
 use Rattle.mpw_records.specs.declared.kind.TheConstants.{ENDLIB}
-use Rattle.mpw_records.specs.Records.{RawRecord, Outcome}
+use Rattle.mpw_records.specs.Records.{RawRecord, RecordOutcome}
 use Rattle.mpw_elements.specs.Reading.{Reading, ◌>>=◌, fault_at}
 use Rattle.mpw_elements.specs.Derivation.{records_then}
 use Rattle.mpw_elements.proofs.DerivedFields.{bind_ok, ok_is, records_both, parts_both}
@@ -17,43 +17,46 @@ abbrev pub unexpected_at : ℕ → ReadFault
 unexpected_at offset = record { code = Unexpected; offset = offset }
 
 -- records up to ENDLIB, or up to a fault that is not of their order
-abbrev pub IsEnded : List Outcome → Type 0
+abbrev pub IsEnded : List RecordOutcome → Type 0
 IsEnded [] = ⊥
 IsEnded (Err f ∷ all) = f.code ≡ Unexpected → ⊥
 IsEnded (Ok r ∷ all) = eqb r.kind ENDLIB ≡ false → IsEnded all
 
 -- records go on to what a reader reads
-pub record Completes {V : Type 0} (P : List Outcome → Reading V) (Good : V → Type 0)
+pub record Completes {V : Type 0} (P : List RecordOutcome → Reading V) (Good : V → Type 0)
     (before : List RawRecord) : Type 0 where
   pub behind : List RawRecord
   pub formed : list_all is_formed behind ≡ true
   pub value : V
   pub good : Good value
-  pub reads : (rest : List Outcome) → P (records_then (before ++ behind) rest) ≡ Ok (value, rest)
+  pub reads : (rest : List RecordOutcome)
+      → P (records_then (before ++ behind) rest) ≡ Ok (value, rest)
 
 -- a reader refuses a record, whatever stands behind it, and what stands before it goes on
-pub record Refuses {V : Type 0} (P : List Outcome → Reading V) (Good : V → Type 0)
-    (all : List Outcome) (offset : ℕ) : Type 0 where
+pub record Refuses {V : Type 0} (P : List RecordOutcome → Reading V) (Good : V → Type 0)
+    (all : List RecordOutcome) (offset : ℕ) : Type 0 where
   pub before : List RawRecord
   pub refused : RawRecord
-  pub rest : List Outcome
+  pub rest : List RecordOutcome
   pub parts : all ≡ records_then before (Ok refused ∷ rest)
   pub stands : refused.offset ≡ offset
   pub goes_on : Completes P Good before
-  pub refuses : (rest : List Outcome)
+  pub refuses : (rest : List RecordOutcome)
       → P (records_then before (Ok refused ∷ rest)) ≡ Err (fault_at Unexpected refused)
 
 -- a reader reads these records, whatever stands behind them
-pub record Reads {V : Type 0} (P : List Outcome → Reading V) (all : List Outcome)
-    (x : V × List Outcome) : Type 0 where
+pub record Reads {V : Type 0} (P : List RecordOutcome → Reading V) (all : List RecordOutcome)
+    (x : V × List RecordOutcome) : Type 0 where
   pub records : List RawRecord
   pub parts : all ≡ records_then records x.1
-  pub same : (rest : List Outcome) → P (records_then records rest) ≡ Ok (x.0, rest)
+  pub same : (rest : List RecordOutcome) → P (records_then records rest) ≡ Ok (x.0, rest)
   pub ended : IsEnded all → IsEnded x.1
 
-pub record Local {V : Type 0} (P : List Outcome → Reading V) (Good : V → Type 0) : Type 0 where
-  pub reads : (all : List Outcome) (x : V × List Outcome) → P all ≡ Ok x → Reads P all x
-  pub fails : (all : List Outcome) (offset : ℕ) → IsEnded all → P all ≡ Err (unexpected_at offset)
+pub record Local {V : Type 0} (P : List RecordOutcome → Reading V) (Good : V → Type 0) :
+    Type 0 where
+  pub reads : (all : List RecordOutcome) (x : V × List RecordOutcome) → P all ≡ Ok x → Reads P all x
+  pub fails : (all : List RecordOutcome) (offset : ℕ) → IsEnded all
+      → P all ≡ Err (unexpected_at offset)
       → Refuses P Good all offset
 
 -- any value
@@ -85,24 +88,26 @@ pub both_formed : (xs ys : List RawRecord) → list_all is_formed xs ≡ true
     → list_all is_formed ys ≡ true → list_all is_formed (xs ++ ys) ≡ true
 both_formed xs ys p q = list_all-append is_formed xs ys ∙ rw (p, q) refl
 
-pub front_then : (xs ys zs : List RawRecord) (rest : List Outcome)
+pub front_then : (xs ys zs : List RawRecord) (rest : List RecordOutcome)
     → records_then (xs ++ (ys ++ zs)) rest ≡ records_then (xs ++ ys) (records_then zs rest)
 front_then xs ys zs rest =
     records_both xs (ys ++ zs) rest ∙ ap (records_then xs) (records_both ys zs rest)
     ∙ sym (records_both xs ys (records_then zs rest))
 
-pub behind_then : (xs ys zs : List RawRecord) (rest : List Outcome)
+pub behind_then : (xs ys zs : List RawRecord) (rest : List RecordOutcome)
     → records_then ((xs ++ ys) ++ zs) rest ≡ records_then xs (records_then (ys ++ zs) rest)
 behind_then xs ys zs rest =
     records_both (xs ++ ys) zs rest ∙ records_both xs ys (records_then zs rest)
     ∙ ap (records_then xs) (sym (records_both ys zs rest))
 
-abbrev pub then_reader : {V X : Type 0} → (List Outcome → Reading V)
-    → (V → List Outcome → Reading X) → List Outcome → Reading X
+abbrev pub then_reader : {V X : Type 0} → (List RecordOutcome → Reading V)
+    → (V → List RecordOutcome → Reading X) → List RecordOutcome → Reading X
 then_reader P Q all = P all >>= λ x. Q x.0 x.1
 
-module _ {V X : Type 0} (P : List Outcome → Reading V) (Q : V → List Outcome → Reading X) where
-  then_reads : (all : List Outcome) (v : V × List Outcome) (x : X × List Outcome) → Reads P all v
+module _ {V X : Type 0} (P : List RecordOutcome → Reading V) (Q : V → List RecordOutcome
+    → Reading X) where
+  then_reads : (all : List RecordOutcome) (v : V × List RecordOutcome) (x : X × List RecordOutcome)
+      → Reads P all v
       → Reads (Q v.0) v.1 x → Reads (then_reader P Q) all x
   then_reads all v x p q = record {
     records = p.records ++ q.records;
@@ -115,7 +120,8 @@ module _ {V X : Type 0} (P : List Outcome → Reading V) (Q : V → List Outcome
   }
 
   module _ {Best : X → Type 0} where
-    second_refuses : (all : List Outcome) (offset : ℕ) (v : V × List Outcome) → Reads P all v
+    second_refuses : (all : List RecordOutcome) (offset : ℕ) (v : V × List RecordOutcome)
+        → Reads P all v
         → Refuses (Q v.0) Best v.1 offset → Refuses (then_reader P Q) Best all offset
     second_refuses all offset v p q = record {
       before = p.records ++ q.before;
@@ -155,7 +161,7 @@ module _ {V X : Type 0} (P : List Outcome → Reading V) (Q : V → List Outcome
             ∙ d.reads rest;
       }
 
-      first_refuses : (all : List Outcome) (offset : ℕ)
+      first_refuses : (all : List RecordOutcome) (offset : ℕ)
           → ((v : V) → Good v → Completes (Q v) Best []) → Refuses P Good all offset
           → Refuses (then_reader P Q) Best all offset
       first_refuses all offset begin p = record {
@@ -206,7 +212,7 @@ module _ {X : Type 0} {Best : X → Type 0} where
     reads = λ rest. refl;
   }
 
-  module _ {W : Type 0} (Q : W → List Outcome → Reading X) where
+  module _ {W : Type 0} (Q : W → List RecordOutcome → Reading X) where
     pub tested_local : (t : Result W ReadFault) → IsOfValue t
         → ((w : W) → t ≡ Ok w → Local (Q w) Best) → Local (λ all. t >>= λ w. Q w all) Best
     tested_local (Ok w) own q = q w refl
@@ -214,7 +220,7 @@ module _ {X : Type 0} {Best : X → Type 0} where
       reads = λ all x e. absurd (let g = e in cc);
       fails =
           λ all offset h e. absurd
-          (own offset (fault_is {A = X × List Outcome} {B = W} f (unexpected_at offset) e));
+          (own offset (fault_is {A = X × List RecordOutcome} {B = W} f (unexpected_at offset) e));
     }
 
     pub tested_completes : (t : Result W ReadFault) (w : W) → t ≡ Ok w → Completes (Q w) Best []

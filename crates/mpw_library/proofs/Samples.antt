@@ -10,7 +10,7 @@ use Rattle.mpw_records.specs.declared.kind.TheConstants.{LAYER, DATATYPE, XY, EN
 use Rattle.mpw_records.specs.Format.{data_fault}
 use Rattle.mpw_records.specs.Records.{RawRecord}
 use Rattle.mpw_elements.specs.declared.values.Grid.{Grid}
-use Rattle.mpw_elements.specs.Values.{scaled, points_of, is_closing, without_closing, corners_of, centre_of, place_of, name_of, without_nuls, counts_of, part_of, grid_of}
+use Rattle.mpw_elements.specs.Values.{scaled, points_of, is_closing, without_closing, corners_of, centre_of, origin_of, name_of, without_nuls, counts_of, part_of, grid_of}
 use Rattle.mpw_library.proofs.Fields.{IsSample}
 
 -- a record of that type and data
@@ -107,11 +107,11 @@ pub dot_corners : (unit : ℕ) → corners_of unit dot ≡ Ok (record { x = pos 
 unfolding corners_of without_closing is_closing points_of
 dot_corners unit = rw (zero_scaled unit [], zero_scaled unit (zeros4 [])) refl
 
-pub dot_place : (unit : ℕ) → place_of unit dot ≡ Ok (record {
+pub dot_place : (unit : ℕ) → origin_of unit dot ≡ Ok (record {
   x = scaled unit (zeros4 (zeros4 []));
   y = scaled unit (zeros4 []);
 })
-unfolding place_of
+unfolding origin_of
 dot_place unit = refl
 
 ne_test : (a b : ℤ) → a ≢ b → int_eq a b ≡ false

@@ -4,7 +4,7 @@ use Rattle.std.specs.Prelude.{◌≡◌, ◌<◌, ◌^◌, ℕ, ◌%◌, ◌&&�
 use Rattle.std.specs.List.{list_all}
 use Rattle.mpw_records.specs.declared.fault.Code.TheVariants.{Unexpected}
 use Rattle.mpw_records.specs.Format.{data_fault}
-use Rattle.mpw_records.specs.Records.{RawRecord, Outcome, outcomes_of}
+use Rattle.mpw_records.specs.Records.{RawRecord, RecordOutcome, outcomes_of}
 use Rattle.mpw_elements.specs.declared.fault.ReadError.{ReadError}
 use Rattle.mpw_elements.specs.declared.fault.ReadError.TheVariants as errors
 use Rattle.mpw_elements.specs.Derivation.{records_then}
@@ -34,7 +34,7 @@ pub record IsFront (records : List RawRecord) : Type 0 where
 pub record IsFirstUnexpected (text : List ℕ) (offset : ℕ) : Type 0 where
   pub before : List RawRecord
   pub refused : RawRecord
-  pub rest : List Outcome
+  pub rest : List RecordOutcome
   pub parts : outcomes_of text ≡ records_then before (Ok refused ∷ rest)
   pub stands : refused.offset ≡ offset
   pub goes_on : IsFront before

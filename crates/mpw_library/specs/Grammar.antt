@@ -3,7 +3,7 @@ use Rattle.std.specs.Prelude.{ℕ, zero, suc, ◌||◌, ◌==◌, Bool, true, fa
 use Rattle.mpw_records.specs.declared.fault.Code.TheVariants.{Short, Unexpected, DoubleName, Unit as BadUnit}
 use Rattle.mpw_records.specs.declared.fault.ReadFault.{ReadFault}
 use Rattle.mpw_records.specs.declared.kind.TheConstants.{HEADER, BGNLIB, LIBNAME, UNITS, ENDLIB, BGNSTR, STRNAME, ENDSTR, PROPATTR, PROPVALUE, STRCLASS}
-use Rattle.mpw_records.specs.Records.{RawRecord, Outcome, outcomes_of}
+use Rattle.mpw_records.specs.Records.{RawRecord, RecordOutcome, outcomes_of}
 use Rattle.mpw_real8.specs.Real.{real_value, nanometres}
 use Rattle.mpw_elements.specs.declared.element.Element.{Element}
 use Rattle.mpw_elements.specs.Reading.{Reading, ◌>>=◌, fault_at, demanded}
@@ -19,13 +19,13 @@ abbrev pub gone : ReadFault
 gone = record { code = Short; offset = 0 }
 
 -- The next record.
-abbrev pub next_record : List Outcome → Reading RawRecord
+abbrev pub next_record : List RecordOutcome → Reading RawRecord
 next_record [] = Err gone
 next_record (Err f ∷ rs) = Err f
 next_record (Ok r ∷ rs) = Ok (r, rs)
 
 -- The next record, which must be of this type.
-unfoldable pub next_is : ℕ → List Outcome → Reading RawRecord
+unfoldable pub next_is : ℕ → List RecordOutcome → Reading RawRecord
 next_is kind rs = do
   next ← next_record rs
   r ← demanded kind next.0
@@ -46,7 +46,7 @@ abbrev pub ends_head : ℕ → Bool
 ends_head kind = (kind == HEADER) || (kind == BGNLIB) || (kind == BGNSTR) || (kind == ENDLIB)
 
 -- The first record of the wanted type in the head, behind none of the unwanted one.
-unfoldable pub up_to : (wanted unwanted : ℕ) → List Outcome → Reading RawRecord
+unfoldable pub up_to : (wanted unwanted : ℕ) → List RecordOutcome → Reading RawRecord
 up_to wanted unwanted [] = Err gone
 up_to wanted unwanted (Err f ∷ rs) = Err f
 up_to wanted unwanted (Ok r ∷ rs) =
@@ -55,7 +55,7 @@ up_to wanted unwanted (Ok r ∷ rs) =
     else up_to wanted unwanted rs
 
 -- From BGNLIB to UNITS: one LIBNAME, and any other records but these.
-unfoldable pub head : List Outcome → Reading ℕ
+unfoldable pub head : List RecordOutcome → Reading ℕ
 head rs = do
   libname ← up_to LIBNAME UNITS rs
   units ← up_to UNITS LIBNAME libname.1
@@ -73,7 +73,7 @@ item_of (Some e) = items.Placed e
 item_of None = items.Other
 
 -- What stands next in a structure: its end, an element, or what says nothing.
-unfoldable pub item : ℕ → List Outcome → Reading Item
+unfoldable pub item : ℕ → List RecordOutcome → Reading Item
 item unit rs = do
   next ← next_record rs
   if next.0.kind == ENDSTR then Ok (items.End, next.1)
@@ -93,14 +93,14 @@ placed items.Other = []
 placed (items.Placed e) = e ∷ []
 
 -- The elements up to ENDSTR, behind those that were read, in at most so many items.
-unfoldable pub elements_behind : ℕ → ℕ → List Element → List Outcome → Reading (List Element)
+unfoldable pub elements_behind : ℕ → ℕ → List Element → List RecordOutcome → Reading (List Element)
 elements_behind zero unit es rs = Err gone
 elements_behind (suc most) unit es rs = do
   next ← item unit rs
   if is_end next.0 then Ok (es, next.1) else elements_behind most unit (es ++ placed next.0) next.1
 
 -- element* ENDSTR. There are no more items than records.
-abbrev pub all_elements : ℕ → List Outcome → Reading (List Element)
+abbrev pub all_elements : ℕ → List RecordOutcome → Reading (List Element)
 all_elements unit rs = elements_behind (length rs) unit [] rs
 
 -- A name that no structure before has.
@@ -109,7 +109,7 @@ untaken None r = Ok tt
 untaken (Some place) r = Err (fault_at DoubleName r)
 
 -- STRNAME element* ENDSTR, behind other structures.
-unfoldable pub structure : ℕ → List Structure → List Outcome → Reading Structure
+unfoldable pub structure : ℕ → List Structure → List RecordOutcome → Reading Structure
 structure unit ss rs = do
   strname ← next_is STRNAME rs
   name ← name_of strname.0
@@ -118,7 +118,7 @@ structure unit ss rs = do
   Ok (record { name = name; elements = elements.0 }, elements.1)
 
 -- BGNSTR and a structure, or none at ENDLIB.
-unfoldable pub next_structure : ℕ → List Structure → List Outcome → Reading (Option Structure)
+unfoldable pub next_structure : ℕ → List Structure → List RecordOutcome → Reading (Option Structure)
 next_structure unit ss rs = do
   next ← next_record rs
   if next.0.kind == ENDLIB then Ok (None, next.1)
@@ -132,18 +132,20 @@ added None = []
 added (Some s) = s ∷ []
 
 -- The structures up to ENDLIB, with those that were read before, at most so many more.
-unfoldable pub structures_behind : ℕ → ℕ → List Structure → List Outcome → Reading (List Structure)
+unfoldable pub structures_behind : ℕ → ℕ → List Structure → List RecordOutcome
+    → Reading (List Structure)
 structures_behind zero unit ss rs = Err gone
 structures_behind (suc most) unit ss rs = do
   next ← next_structure unit ss rs
-  if is_some next.0 then structures_behind most unit (ss ++ added next.0) next.1 else Ok (ss, next.1)
+  if is_some next.0 then structures_behind most unit (ss ++ added next.0) next.1
+      else Ok (ss, next.1)
 
 -- structure* ENDLIB. There are no more structures than records.
-abbrev pub all_structures : ℕ → List Outcome → Reading (List Structure)
+abbrev pub all_structures : ℕ → List RecordOutcome → Reading (List Structure)
 all_structures unit rs = structures_behind (length rs) unit [] rs
 
 -- HEADER BGNLIB, the head to UNITS, structure* ENDLIB.
-unfoldable pub library : List Outcome → Result (List Structure) ReadFault
+unfoldable pub library : List RecordOutcome → Result (List Structure) ReadFault
 library rs = do
   header ← next_is HEADER rs
   begin ← next_is BGNLIB header.1

@@ -4,3 +4,4 @@ pub mod Derivation
 pub mod Fronts
 pub mod Library
 pub mod Text
+pub mod Internal

@@ -2,15 +2,7 @@
 use Rattle.std.specs.Prelude.{List, All}
 use Rattle.mpw_geom.specs.Name.{IsName}
 use Rattle.mpw_elements.specs.Element.{IsElement}
-use Rattle.mpw_library.specs.declared.read.Item.{Item}
-use Rattle.mpw_library.specs.declared.read.Item.TheVariants as items
 use Rattle.mpw_library.specs.declared.structures.Structure.{Structure}
-
--- What stands in a structure is an element as reading gives it, or says nothing of the layout.
-abbrev pub IsItem : Item → Type 0
-IsItem items.End = Unit {0}
-IsItem items.Other = Unit {0}
-IsItem (items.Placed e) = IsElement e
 
 pub record IsStructure (s : Structure) : Type 0 where
   pub name : IsName s.name

@@ -9,7 +9,8 @@ use Rattle.mpw_library.specs.declared.structures.Structure.{Structure}
 -- The first place, counted from one on, of a structure with that name.
 abbrev pub place_from : ℕ → List Structure → List ℕ → Option ℕ
 place_from i [] name = None
-place_from i (s ∷ ss) name = if pointwise nat_eq s.name name then Some i else place_from (i + 1) ss name
+place_from i (s ∷ ss) name =
+    if pointwise nat_eq s.name name then Some i else place_from (i + 1) ss name
 
 -- Where the structure of a name stands, if there is one.
 abbrev pub place_of : List Structure → List ℕ → Option ℕ

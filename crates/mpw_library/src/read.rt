@@ -4,11 +4,12 @@ ghost use Rattle.std.specs.Prelude.{◌≡◌, ◌<◌, ◌≤◌, ◌==◌, ◌
 ghost use Rattle.mpw_records.specs.Format.{least_size};
 ghost use Rattle.mpw_records.specs.Records.{raw, IsSized};
 ghost use Rattle.mpw_elements.specs.Element.{IsElement};
-ghost use Rattle.mpw_elements.specs.Reading.{Gives, GivesValue, demanded};
+ghost use Rattle.mpw_elements.specs.Reading.{GivesReading, GivesValue, demanded};
 ghost use Rattle.mpw_library.specs.Grammar.{gone, next_record, next_is, unit_of, ends_head, up_to, head, is_between, item, all_elements, structure, next_structure, all_structures, library_of};
 ghost use Rattle.mpw_library.specs.Derivation.{IsTextOf};
 ghost use Rattle.mpw_library.specs.Fronts.{IsToldFirst};
-ghost use Rattle.mpw_library.specs.Library.{IsItem, IsStructure, IsLibrary};
+ghost use Rattle.mpw_library.specs.Library.{IsStructure, IsLibrary};
+ghost use Rattle.mpw_library.specs.Internal.Library.{IsItem};
 ghost use Rattle.mpw_library.specs.Places.{place_of};
 
 use crate::elements::Elements;
@@ -32,7 +33,7 @@ pub enum Item {
 
 /// The next record.
 fn next_record<'a>(records: &mut Records<'a>) -> Result<Record<'a>, ReadError>
-    ensures record { Gives raw result records.new (next_record records.old) }
+    ensures record { GivesReading raw result records.new (next_record records.old) }
     ensures rest { OnOk result (length records.new < length records.old) }
     ensures at_most { length records.new ≤ length records.old }
     ensures sized { IfOk result (λ r. IsSized (raw r)) }
@@ -49,7 +50,7 @@ fn next_record<'a>(records: &mut Records<'a>) -> Result<Record<'a>, ReadError>
 /// The next record, which must be of a type.
 #[tactic(auto, unfolding(crate::specs::Grammar::next_is))]
 fn next_is<'a>(records: &mut Records<'a>, kind: u8) -> Result<Record<'a>, ReadError>
-    ensures record { Gives raw result records.new (next_is kind records.old) }
+    ensures record { GivesReading raw result records.new (next_is kind records.old) }
     ensures rest { length records.new ≤ length records.old }
     ensures least { IfOk result (λ r. least_size kind ≤ length r.bytes.now) }
 {
@@ -87,7 +88,7 @@ fn is_refused(kind: u8, unwanted: u8) -> bool
 
 /// The first record of the wanted type in the head, behind none of the unwanted one.
 fn up_to<'a>(records: &mut Records<'a>, wanted: u8, unwanted: u8) -> Result<Record<'a>, ReadError>
-    ensures record { Gives raw result records.new (up_to wanted unwanted records.old) }
+    ensures record { GivesReading raw result records.new (up_to wanted unwanted records.old) }
     ensures least { IfOk result (λ r. least_size wanted ≤ length r.bytes.now) }
 {
     while let Some(outcome) = records.next() {
@@ -108,7 +109,7 @@ fn up_to<'a>(records: &mut Records<'a>, wanted: u8, unwanted: u8) -> Result<Reco
 /// From BGNLIB past UNITS: the unit in nm.
 #[tactic(auto, unfolding(crate::specs::Grammar::head, mpw_records::specs::Format::least_size))]
 fn read_head(records: &mut Records<'_>) -> Result<u16, ReadError>
-    ensures head { Gives (λ unit. unit) result records.new (head records.old) }
+    ensures head { GivesReading (λ unit. unit) result records.new (head records.old) }
     ensures most { IfOk result (λ unit. unit ≤ 1000) }
 {
     up_to(records, kind::LIBNAME, kind::UNITS)?;
@@ -125,7 +126,7 @@ fn is_between(kind: u8) -> bool
 #[tactic(auto, unfolding(crate::specs::Grammar::item))]
 fn next_item(alloc: Global, records: &mut Records<'_>, unit: u16) -> Result<Item, ReadError>
     requires { unit ≤ 1000 }
-    ensures item { Gives (λ i. i) result records.new (item unit records.old) }
+    ensures item { GivesReading (λ i. i) result records.new (item unit records.old) }
     ensures shape { IfOk result IsItem }
     ensures rest { OnOk result (length records.new < length records.old) }
     ensures at_most { length records.new ≤ length records.old }
@@ -146,7 +147,7 @@ fn next_item(alloc: Global, records: &mut Records<'_>, unit: u16) -> Result<Item
 /// The elements up to ENDSTR.
 fn read_elements(alloc: Global, records: &mut Records<'_>, unit: u16) -> Result<Elements, ReadError>
     requires { unit ≤ 1000 }
-    ensures elements { Gives (λ es. es) result records.new (all_elements unit records.old) }
+    ensures elements { GivesReading (λ es. es) result records.new (all_elements unit records.old) }
     ensures shape { IfOk result (All IsElement) }
     ensures rest { length records.new ≤ length records.old }
 {
@@ -169,7 +170,7 @@ fn read_structure(
     before: &Structures,
 ) -> Result<Structure, ReadError>
     requires { unit ≤ 1000 }
-    ensures structure { Gives (λ s. s) result records.new (structure unit before.now records.old) }
+    ensures structure { GivesReading (λ s. s) result records.new (structure unit before.now records.old) }
     ensures shape { IfOk result IsStructure }
     ensures rest { length records.new ≤ length records.old }
     ensures new { IfOk result (λ s. place_of before.now s.name ≡ None) }
@@ -192,7 +193,7 @@ fn next_structure(
     before: &Structures,
 ) -> Result<Option<Structure>, ReadError>
     requires { unit ≤ 1000 }
-    ensures structure { Gives (λ s. s) result records.new (next_structure unit before.now records.old) }
+    ensures structure { GivesReading (λ s. s) result records.new (next_structure unit before.now records.old) }
     ensures shape { IfOk result (λ found. IfSome found IsStructure) }
     ensures rest { OnOk result (length records.new < length records.old) }
     ensures new { IfOk result (λ found. IfSome found (λ s. place_of before.now s.name ≡ None)) }
@@ -212,7 +213,7 @@ fn read_structures(
     unit: u16,
 ) -> Result<Structures, ReadError>
     requires { unit ≤ 1000 }
-    ensures structures { Gives (λ ss. ss) result records.new (all_structures unit records.old) }
+    ensures structures { GivesReading (λ ss. ss) result records.new (all_structures unit records.old) }
     ensures shape { IfOk result IsLibrary }
 {
     let mut structures = Structures::new(alloc);

@@ -27,7 +27,7 @@ use Rattle.mpw_markers.specs.declared.marker.Key.{Key}
 use Rattle.mpw_markers.specs.declared.marker.Marker.{Marker}
 use Rattle.mpw_markers.specs.declared.place.Place.{Place}
 use Rattle.mpw_markers.specs.Markers.{line_of, line_of_key, key_of, axis_eq, line_eq, key_eq, IsFilled}
-use Rattle.mpw_markers.specs.Places.{line_place, place_of}
+use Rattle.mpw_markers.specs.Internal.Places.{line_place, place_of}
 use Rattle.mpw_markers.specs.Order.{line_cmp, StandsBefore}
 use Rattle.mpw_markers.specs.Book.{IsBook, place_in}
 use Rattle.mpw_markers.proofs.Order.{line_place_cmp, place_cmp, place_total, line_total, line_tied, lines_alike, then_first, then_second}
@@ -35,8 +35,17 @@ use Rattle.mpw_markers.proofs.Marked.{alike, no_marker}
 
 pub same_key : (k l : Key) → line_of_key k ≡ line_of_key l → k.y0 ≡ l.y0 → k.y1 ≡ l.y1 → k ≡ l
 same_key k l e f g =
-    ap (λ (p : Line × ℤ × ℤ). let x : Key = record { rule = p.0.rule; axis = p.0.axis; side = p.0.side; x1 = p.0.x1; x2 = p.0.x2; y0 = p.1; y1 = p.2 } in x)
-    (let q : (let r : Line × ℤ × ℤ = (line_of_key k, k.y0, k.y1) in r) ≡ (line_of_key l, l.y0, l.y1) = cc in q)
+    ap (λ (p : Line × ℤ × ℤ). let x : Key = record {
+      rule = p.0.rule;
+      axis = p.0.axis;
+      side = p.0.side;
+      x1 = p.0.x1;
+      x2 = p.0.x2;
+      y0 = p.1;
+      y1 = p.2;
+    } in x)
+    (let q : (let r : Line × ℤ × ℤ = (line_of_key k, k.y0, k.y1) in r)
+    ≡ (line_of_key l, l.y0, l.y1) = cc in q)
 
 abbrev where_is : Marker → Place
 where_is m = place_of (key_of m)
@@ -44,33 +53,50 @@ where_is m = place_of (key_of m)
 -- keys whose places compare alike are one
 key_tied : (k l : Key) → place_cmp (place_of k) (place_of l) ≡ Equal → k ≡ l
 key_tied k l e =
-    let rest = then_second (line_place_cmp (line_place (line_of_key k)) (line_place (line_of_key l))) _ e in
+    let rest = then_second (line_place_cmp (line_place (line_of_key k))
+    (line_place (line_of_key l))) _ e in
     same_key k l
-    (line_tied _ _ (sym (lines_alike (line_of_key k) (line_of_key l)) ∙ then_first (line_place_cmp (line_place (line_of_key k)) (line_place (line_of_key l))) _ e))
+    (line_tied _ _ (sym (lines_alike (line_of_key k) (line_of_key l))
+    ∙ then_first (line_place_cmp (line_place (line_of_key k)) (line_place (line_of_key l))) _
+    e))
     (exact_signed _ _ (then_first (int_cmp k.y0 l.y0) _ rest))
     (exact_signed _ _ (then_second (int_cmp k.y0 l.y0) _ rest))
 
 less_from : (x y : ℤ) → x <ℤ y → int_cmp x y ≡ Less
 less_from x y h = grind (arith, ints)
 
-place_less : (m n : Marker) → IsFilled m → StandsBefore m n → place_cmp (where_is m) (where_is n) ≡ Less
-place_less m n f (inl less) = ap (λ (o : Ordering). ordering_then o (ordering_then (int_cmp m.y0 n.y0) (int_cmp m.y1 n.y1))) (lines_alike (line_of m) (line_of n) ∙ less)
+place_less : (m n : Marker) → IsFilled m → StandsBefore m n
+    → place_cmp (where_is m) (where_is n) ≡ Less
+place_less m n f (inl less) = ap (λ (o : Ordering).
+    ordering_then o (ordering_then (int_cmp m.y0 n.y0) (int_cmp m.y1 n.y1)))
+    (lines_alike (line_of m) (line_of n) ∙ less)
 place_less m n f (inr p) =
-    let tied : line_cmp (line_of m) (line_of n) ≡ Equal = ap (line_cmp (line_of m)) (sym p.0) ∙ tied_itself line_total (line_of m) in
-    ap (λ (o : Ordering). ordering_then o (ordering_then (int_cmp m.y0 n.y0) (int_cmp m.y1 n.y1))) (lines_alike (line_of m) (line_of n) ∙ tied)
-    ∙ ap (λ (o : Ordering). ordering_then o (int_cmp m.y1 n.y1)) (less_from m.y0 n.y0 (omega (arith, ints, f, p.1)))
+    let tied : line_cmp (line_of m) (line_of n) ≡ Equal = ap (line_cmp (line_of m)) (sym p.0)
+    ∙ tied_itself line_total (line_of m) in
+    ap (λ (o : Ordering). ordering_then o (ordering_then (int_cmp m.y0 n.y0) (int_cmp m.y1 n.y1)))
+    (lines_alike (line_of m) (line_of n) ∙ tied)
+    ∙ ap (λ (o : Ordering). ordering_then o (int_cmp m.y1 n.y1))
+    (less_from m.y0 n.y0 (omega (arith, ints, f, p.1)))
 
-sorted : (book : List Marker) → IsBook book → IsSortedBy (λ x y. is_lt (place_cmp (where_is x) (where_is y))) book
+sorted : (book : List Marker) → IsBook book
+    → IsSortedBy (λ x y. is_lt (place_cmp (where_is x) (where_is y))) book
 sorted book h k d low high =
-    let less = place_less (get_or book k d) (get_or book (k + 1) d) (h.filled k d (omega arith)) (h.ordered k (k + 1) d (omega arith) high) in
-    ap is_lt (place_total.antisymm (where_is (get_or book (k + 1) d)) (where_is (get_or book k d)) ∙ ap ordering_reverse less)
+    let less = place_less (get_or book k d) (get_or book (k + 1) d) (h.filled k d (omega arith))
+    (h.ordered k (k + 1) d (omega arith) high) in
+    ap is_lt (place_total.antisymm (where_is (get_or book (k + 1) d)) (where_is (get_or book k d))
+    ∙ ap ordering_reverse less)
 
 -- what the search answers, by the clause of its call
 abbrev AnswersBy : List Marker → Place → Result ℕ ℕ → Type 0
 AnswersBy xs p r = IsBinarySearchResult (λ (y : Marker). place_cmp (where_is y) p) xs r
 
-pub search_is : {F : Type 0} {g : Mut F (Bor Marker × Unit {0}) Place} {f : F} (xs : List Marker) (p : Place) (r : Result ℕ ℕ) → ((key : Marker → Place) → ComputesKey g key f → IsBinarySearchResult (λ (y : Marker). place_cmp (key y) p) xs r) → ((a : Bor Marker × Unit {0}) (s : Place) (f' : F) → Called g f a s f' → (s ≡ place_of (key_of a.0.now)) × (f' ≡ f)) → AnswersBy xs p r
-search_is {g = g} {f = f} xs p r h calls = h where_is (always_returns_same g (λ a s. s ≡ place_of (key_of a.0.now)) f calls)
+pub search_is : {F : Type 0} {g : Mut F (Bor Marker × Unit {0}) Place} {f : F} (xs : List Marker)
+    (p : Place) (r : Result ℕ ℕ) → ((key : Marker → Place) → ComputesKey g key f
+    → IsBinarySearchResult (λ (y : Marker). place_cmp (key y) p) xs r)
+    → ((a : Bor Marker × Unit {0}) (s : Place) (f' : F) → Called g f a s f'
+    → (s ≡ place_of (key_of a.0.now)) × (f' ≡ f)) → AnswersBy xs p r
+search_is {g = g} {f = f} xs p r h calls =
+    h where_is (always_returns_same g (λ a s. s ≡ place_of (key_of a.0.now)) f calls)
 
 -- ---- keys, and the first place of one
 
@@ -81,28 +107,42 @@ axes H V = (λ e. absurd cc, λ e. absurd cc)
 axes H H = (λ e. refl, λ e. refl)
 
 abbrev FieldsOfLine : Line → Line → Type 0
-FieldsOfLine a b = ((a.rule ≡ b.rule) × (a.axis ≡ b.axis)) × ((a.side ≡ b.side) × ((a.x1 ≡ b.x1) × (a.x2 ≡ b.x2)))
+FieldsOfLine a b =
+    ((a.rule ≡ b.rule) × (a.axis ≡ b.axis)) × ((a.side ≡ b.side) × ((a.x1 ≡ b.x1) × (a.x2 ≡ b.x2)))
 
 lines : (a b : Line) → Decides (line_eq a b) (a ≡ b)
 lines a b =
     Decides-like {P = FieldsOfLine a b} {Q = a ≡ b} (line_eq a b)
-    (λ t. λ i. record { rule = t.0.0 i; axis = t.0.1 i; side = t.1.0 i; x1 = t.1.1.0 i; x2 = t.1.1.1 i })
+    (λ t. λ i. record {
+      rule = t.0.0 i;
+      axis = t.0.1 i;
+      side = t.1.0 i;
+      x1 = t.1.1.0 i;
+      x2 = t.1.1.1 i;
+    })
     (λ e. (
       (ap (λ (l : Line). l.rule) e, ap (λ (l : Line). l.axis) e),
       (ap (λ (l : Line). l.side) e, (ap (λ (l : Line). l.x1) e, ap (λ (l : Line). l.x2) e)),
     ))
-    (Decides-and ((a.rule == b.rule) && axis_eq a.axis b.axis) ((a.side == b.side) && (int_eq a.x1 b.x1 && int_eq a.x2 b.x2))
-    (Decides-and (a.rule == b.rule) (axis_eq a.axis b.axis) (Decides-eqb a.rule b.rule) (axes a.axis b.axis))
-    (Decides-and (a.side == b.side) (int_eq a.x1 b.x1 && int_eq a.x2 b.x2) (Decides-eqb a.side b.side)
-    (Decides-and (int_eq a.x1 b.x1) (int_eq a.x2 b.x2) (Decides-int_eq a.x1 b.x1) (Decides-int_eq a.x2 b.x2))))
+    (Decides-and ((a.rule == b.rule) && axis_eq a.axis b.axis)
+    ((a.side == b.side) && (int_eq a.x1 b.x1 && int_eq a.x2 b.x2))
+    (Decides-and (a.rule == b.rule) (axis_eq a.axis b.axis) (Decides-eqb a.rule b.rule)
+    (axes a.axis b.axis))
+    (Decides-and (a.side == b.side) (int_eq a.x1 b.x1 && int_eq a.x2 b.x2)
+    (Decides-eqb a.side b.side)
+    (Decides-and (int_eq a.x1 b.x1) (int_eq a.x2 b.x2) (Decides-int_eq a.x1 b.x1)
+    (Decides-int_eq a.x2 b.x2))))
 
 pub keys : (k l : Key) → Decides (key_eq k l) (k ≡ l)
 keys k l =
-    Decides-like {P = (line_of_key k ≡ line_of_key l) × ((k.y0 ≡ l.y0) × (k.y1 ≡ l.y1))} {Q = k ≡ l} (key_eq k l)
+    Decides-like {P = (line_of_key k ≡ line_of_key l) × ((k.y0 ≡ l.y0) × (k.y1 ≡ l.y1))} {Q = k ≡ l}
+    (key_eq k l)
     (λ t. same_key k l t.0 t.1.0 t.1.1)
     (λ e. (ap line_of_key e, (ap (λ (x : Key). x.y0) e, ap (λ (x : Key). x.y1) e)))
-    (Decides-and (line_eq (line_of_key k) (line_of_key l)) (int_eq k.y0 l.y0 && int_eq k.y1 l.y1) (lines (line_of_key k) (line_of_key l))
-    (Decides-and (int_eq k.y0 l.y0) (int_eq k.y1 l.y1) (Decides-int_eq k.y0 l.y0) (Decides-int_eq k.y1 l.y1)))
+    (Decides-and (line_eq (line_of_key k) (line_of_key l)) (int_eq k.y0 l.y0 && int_eq k.y1 l.y1)
+    (lines (line_of_key k) (line_of_key l))
+    (Decides-and (int_eq k.y0 l.y0) (int_eq k.y1 l.y1) (Decides-int_eq k.y0 l.y0)
+    (Decides-int_eq k.y1 l.y1)))
 
 other_key : (k l : Key) → (k ≡ l → ⊥) → key_eq k l ≡ false
 other_key k l apart = go (key_eq k l) refl
@@ -115,11 +155,15 @@ abbrev has_key : Key → Marker → Bool
 has_key key m = key_eq (key_of m) key
 
 -- the first place is the given one
-placed : (book : List Marker) (key : Key) (i : ℕ) → i < length book → position_or_len (has_key key) book ≡ i → place_in book key ≡ Some i
-placed book key i l e = ap (λ n. cond (nat_lt n (length book)) (Some n) None) e ∙ ap (λ b. cond b (Some i) None) ((Decides-ltb i (length book)).1 l)
+placed : (book : List Marker) (key : Key) (i : ℕ) → i < length book
+    → position_or_len (has_key key) book ≡ i → place_in book key ≡ Some i
+placed book key i l e = ap (λ n. cond (nat_lt n (length book)) (Some n) None) e
+    ∙ ap (λ b. cond b (Some i) None) ((Decides-ltb i (length book)).1 l)
 
-unplaced : (book : List Marker) (key : Key) → position_or_len (has_key key) book ≡ length book → place_in book key ≡ None
-unplaced book key e = ap (λ n. cond (nat_lt n (length book)) (Some n) None) e ∙ ap (λ b. cond b (Some (length book)) None) (no_less (length book))
+unplaced : (book : List Marker) (key : Key) → position_or_len (has_key key) book ≡ length book
+    → place_in book key ≡ None
+unplaced book key e = ap (λ n. cond (nat_lt n (length book)) (Some n) None) e
+    ∙ ap (λ b. cond b (Some (length book)) None) (no_less (length book))
   where
     no_less : (n : ℕ) → nat_lt n n ≡ false
     no_less n = go (nat_lt n n) refl
@@ -132,13 +176,17 @@ unplaced book key e = ap (λ n. cond (nat_lt n (length book)) (Some n) None) e �
 pub place_is : (book : List Marker) (key : Key) (i : ℕ) → place_in book key ≡ Some i
     → (m : Marker) × (slice_get book i ≡ Some m) × (key_of m ≡ key)
 place_is book key i e =
-    let found = position-Some (has_key key) book i no_marker e in
-    (get_or book i no_marker, slice_get-get_or book i no_marker found.0, (keys (key_of (get_or book i no_marker)) key).0 found.1)
+    let found = position-Some (has_key key) book i no_marker e in (
+      get_or book i no_marker,
+      slice_get-get_or book i no_marker found.0,
+      (keys (key_of (get_or book i no_marker)) key).0 found.1,
+    )
 
 -- ---- the search
 
 -- of two markers of a book only one has the key
-one_of_key : (book : List Marker) (m n : Marker) → IsBook book → Contains book m → Contains book n → key_of m ≡ key_of n → m ≡ n
+one_of_key : (book : List Marker) (m n : Marker) → IsBook book → Contains book m → Contains book n
+    → key_of m ≡ key_of n → m ≡ n
 one_of_key book m n h c d same =
     let first : m.y0 ≡ n.y0 = ap (λ (k : Key). k.y0) same in
     let filled = All-contains IsFilled book m h.filled c in
@@ -157,7 +205,9 @@ earlier book i k h l before same =
     let n = get_or book i no_marker in
     elim (h.ordered k i no_marker before l) [
       | inl less ↦
-          let clash : Less ≡ Equal = sym less ∙ (ap (line_cmp (line_of m)) (sym (ap line_of_key same)) ∙ tied_itself line_total (line_of m)) in
+          let clash : Less ≡ Equal = sym less
+          ∙ (ap (line_cmp (line_of m)) (sym (ap line_of_key same))
+          ∙ tied_itself line_total (line_of m)) in
           cc
       | inr p ↦
           let first : m.y0 ≡ n.y0 = ap (λ (x : Key). x.y0) same in
@@ -165,68 +215,94 @@ earlier book i k h l before same =
           absurd (omega (arith, ints, p.1, first, filled))
     ]
 
-pub place_ok : (book xs : List Marker) (key : Key) (p : Place) (i : ℕ) → xs ≡ book → IsBook book → p ≡ place_of key → i < length xs → AnswersBy xs p (Ok i) → Some i ≡ place_in book key
-place_ok book xs key p i e h f l answer = sym (placed book key i inside (position_or_len_is (has_key key) book i no_marker (omega (arith, inside)) before here))
+pub place_ok : (book xs : List Marker) (key : Key) (p : Place) (i : ℕ) → xs ≡ book → IsBook book
+    → p ≡ place_of key → i < length xs → AnswersBy xs p (Ok i) → Some i ≡ place_in book key
+place_ok book xs key p i e h f l answer =
+    sym (placed book key i inside (position_or_len_is (has_key key) book i no_marker
+    (omega (arith, inside)) before here))
   where
     inside : i < length book
     inside = subst (λ (ys : List Marker). i < length ys) e l
 
     is : key_of (get_or book i no_marker) ≡ key
     is =
-        let at : get_or xs i no_marker ≡ get_or book i no_marker = ap (λ (ys : List Marker). get_or ys i no_marker) e in
-        key_tied (key_of (get_or book i no_marker)) key (subst (λ (y : Marker). place_cmp (where_is y) (place_of key) ≡ Equal) at (ap (place_cmp (where_is (get_or xs i no_marker))) (sym f) ∙ answer no_marker))
+        let at : get_or xs i no_marker ≡ get_or book i no_marker =
+        ap (λ (ys : List Marker). get_or ys i no_marker) e in
+        key_tied (key_of (get_or book i no_marker)) key
+        (subst (λ (y : Marker). place_cmp (where_is y) (place_of key) ≡ Equal) at
+        (ap (place_cmp (where_is (get_or xs i no_marker))) (sym f) ∙ answer no_marker))
 
     before : (k : ℕ) → k < i → has_key key (get_or book k no_marker) ≡ false
-    before k less = other_key (key_of (get_or book k no_marker)) key (λ same. earlier book i k h inside less (same ∙ sym is))
+    before k less = other_key (key_of (get_or book k no_marker)) key
+        (λ same. earlier book i k h inside less (same ∙ sym is))
 
     here : i < length book → has_key key (get_or book i no_marker) ≡ true
     here within = (keys (key_of (get_or book i no_marker)) key).1 is
 
-none_there : (book xs : List Marker) (key : Key) (p : Place) (i : ℕ) → xs ≡ book → IsBook book → p ≡ place_of key → AnswersBy xs p (Err i) → (m : Marker) → Contains book m → key_of m ≡ key → ⊥
+none_there : (book xs : List Marker) (key : Key) (p : Place) (i : ℕ) → xs ≡ book → IsBook book
+    → p ≡ place_of key → AnswersBy xs p (Err i) → (m : Marker) → Contains book m → key_of m ≡ key
+    → ⊥
 none_there book xs key p i e h f answer m c is =
-    let split = answer (searchable_from_sorted place_total where_is xs p (subst (λ (ys : List Marker). IsSortedBy (λ x y. is_lt (place_cmp (where_is x) (where_is y))) ys) (sym e) (sorted book h))) in
+    let split = answer (searchable_from_sorted place_total where_is xs p
+    (subst (λ (ys : List Marker). IsSortedBy
+    (λ x y. is_lt (place_cmp (where_is x) (where_is y))) ys) (sym e) (sorted book h))) in
     let d = subst (λ (ys : List Marker). Contains ys m) (sym e) c in
-    let equal : place_cmp (where_is m) p ≡ Equal = ap (place_cmp (where_is m)) (f ∙ ap place_of (sym is)) ∙ tied_itself place_total (where_is m) in
+    let equal : place_cmp (where_is m) p ≡ Equal = ap (place_cmp (where_is m))
+    (f ∙ ap place_of (sym is)) ∙ tied_itself place_total (where_is m) in
     elim (cases_lt d.0 i) [
       | inl l ↦
-          let less : place_cmp (where_is m) p ≡ Less = subst (λ (y : Marker). place_cmp (where_is y) p ≡ Less) d.2 (split.0 d.0 m (omega arith) l) in
+          let less : place_cmp (where_is m) p ≡ Less =
+          subst (λ (y : Marker). place_cmp (where_is y) p ≡ Less) d.2
+          (split.0 d.0 m (omega arith) l) in
           let clash : Less ≡ Equal = sym less ∙ equal in
           cc
       | inr l ↦
-          let more : place_cmp (where_is m) p ≡ Greater = subst (λ (y : Marker). place_cmp (where_is y) p ≡ Greater) d.2 (split.1 d.0 m l d.1) in
+          let more : place_cmp (where_is m) p ≡ Greater =
+          subst (λ (y : Marker). place_cmp (where_is y) p ≡ Greater) d.2
+          (split.1 d.0 m l d.1) in
           let clash : Greater ≡ Equal = sym more ∙ equal in
           cc
     ]
 
-pub place_none : (book xs : List Marker) (key : Key) (p : Place) (i : ℕ) → xs ≡ book → IsBook book → p ≡ place_of key → AnswersBy xs p (Err i) → None ≡ place_in book key
-place_none book xs key p i e h f answer = sym (unplaced book key (position_or_len_is (has_key key) book (length book) no_marker (omega arith) all (λ l. absurd (omega (arith, l)))))
+pub place_none : (book xs : List Marker) (key : Key) (p : Place) (i : ℕ) → xs ≡ book → IsBook book
+    → p ≡ place_of key → AnswersBy xs p (Err i) → None ≡ place_in book key
+place_none book xs key p i e h f answer =
+    sym (unplaced book key (position_or_len_is (has_key key) book (length book) no_marker
+    (omega arith) all (λ l. absurd (omega (arith, l)))))
   where
     all : (k : ℕ) → k < length book → has_key key (get_or book k no_marker) ≡ false
     all k l =
         let m = get_or book k no_marker in
-        other_key (key_of m) key (λ is. none_there book xs key p i e h f answer m (k, l, get_or_from_slice_get book k m m (slice_get-get_or book k no_marker l)) is)
+        other_key (key_of m) key (λ is. none_there book xs key p i e h f answer m
+        (k, l, get_or_from_slice_get book k m m (slice_get-get_or book k no_marker l)) is)
 
 -- ---- the marker at the place
 
-pub found_some : (book : List Marker) (key : Key) (place : ℕ) (o : Option Marker) → IsBook book → place_in book key ≡ Some place → o ≡ slice_get book place → (m : Marker) → (o ≡ Some m) ↔ (Contains book m × (key_of m ≡ key))
+pub found_some : (book : List Marker) (key : Key) (place : ℕ) (o : Option Marker) → IsBook book
+    → place_in book key ≡ Some place → o ≡ slice_get book place → (m : Marker)
+    → (o ≡ Some m) ↔ (Contains book m × (key_of m ≡ key))
 found_some book key place o h e got m = (to, from)
   where
     is : (n : Marker) × (slice_get book place ≡ Some n) × (key_of n ≡ key)
     is = place_is book key place e
 
     inside : Contains book is.0
-    inside = let found = position-Some (has_key key) book place no_marker e in (place, found.0, get_or_from_slice_get book place is.0 is.0 is.1)
+    inside = let found = position-Some (has_key key) book place no_marker e in
+        (place, found.0, get_or_from_slice_get book place is.0 is.0 is.1)
 
     to : o ≡ Some m → Contains book m × (key_of m ≡ key)
-    to s = let q : is.0 ≡ m = same_Some is.0 m (sym is.1 ∙ (sym got ∙ s)) in (subst (Contains book) q inside, sym (ap key_of q) ∙ is.2)
+    to s = let q : is.0 ≡ m = same_Some is.0 m (sym is.1 ∙ (sym got ∙ s)) in
+        (subst (Contains book) q inside, sym (ap key_of q) ∙ is.2)
 
     from : Contains book m × (key_of m ≡ key) → o ≡ Some m
     from c = got ∙ (is.1 ∙ ap Some (one_of_key book is.0 m h inside c.0 (is.2 ∙ sym c.1)))
 
-pub found_none : (book : List Marker) (key : Key) → place_in book key ≡ None → (m : Marker) → ◌≡◌ {A = Option Marker} None (Some m) ↔ (Contains book m × (key_of m ≡ key))
+pub found_none : (book : List Marker) (key : Key) → place_in book key ≡ None → (m : Marker)
+    → ◌≡◌ {A = Option Marker} None (Some m) ↔ (Contains book m × (key_of m ≡ key))
 found_none book key e m = (λ s. absurd (none-some m s), λ c. absurd (never c.0 c.1))
   where
-    past : (b : Bool) → nat_lt (position_or_len (has_key key) book) (length book) ≡ b → cond b (Some (position_or_len (has_key key) book)) None ≡ None → b ≡ false
+    past : (b : Bool) → nat_lt (position_or_len (has_key key) book) (length book) ≡ b
+        → cond b (Some (position_or_len (has_key key) book)) None ≡ None → b ≡ false
     past true is gone = absurd (none-some _ (sym gone))
     past false is gone = refl
 
@@ -239,5 +315,6 @@ found_none book key e m = (λ s. absurd (none-some m s), λ c. absurd (never c.0
     never : Contains book m → key_of m ≡ key → ⊥
     never c is =
         let none = past (nat_lt (position_or_len (has_key key) book) (length book)) refl e in
-        let fails = fails_before_first (has_key key) book c.0 m (cases_past (position_or_len (has_key key) book) (length book) c.0 none c.1) in
+        let fails = fails_before_first (has_key key) book c.0 m
+        (cases_past (position_or_len (has_key key) book) (length book) c.0 none c.1) in
         true≢false (sym ((keys (key_of m) key).1 is) ∙ (ap (has_key key) (sym c.2) ∙ fails))

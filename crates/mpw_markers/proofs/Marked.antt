@@ -15,14 +15,25 @@ use Rattle.mpw_markers.proofs.Order.{apart}
 
 -- what the code's index gives past the end
 abbrev pub no_marker : Marker
-no_marker = record { rule = 0; axis = V; side = 0; x1 = pos 0; x2 = pos 0; y0 = pos 0; y1 = pos 0; met = [] }
+no_marker = record {
+  rule = 0;
+  axis = V;
+  side = 0;
+  x1 = pos 0;
+  x2 = pos 0;
+  y0 = pos 0;
+  y1 = pos 0;
+  met = [];
+}
 
 -- what is true of each contained element is true of all
-pub All-from_contained : {X : Type 0} (P : X → Type 0) (xs : List X) → ((x : X) → Contains xs x → P x) → All P xs
+pub All-from_contained : {X : Type 0} (P : X → Type 0) (xs : List X)
+    → ((x : X) → Contains xs x → P x) → All P xs
 All-from_contained P xs h k d l = h (get_or xs k d) (Contains-get_or xs k d l)
 
 -- two markers of a book on one line are one, or stand apart
-pub alike : (book : List Marker) (m n : Marker) → IsBook book → Contains book m → Contains book n → line_of m ≡ line_of n → (m ≡ n) ⊎ ((m.y1 <ℤ n.y0) ⊎ (n.y1 <ℤ m.y0))
+pub alike : (book : List Marker) (m n : Marker) → IsBook book → Contains book m → Contains book n
+    → line_of m ≡ line_of n → (m ≡ n) ⊎ ((m.y1 <ℤ n.y0) ⊎ (n.y1 <ℤ m.y0))
 alike book m n h p q e =
     elim (one_or_before StandsBefore book no_marker m n h.ordered p q) [
       | inl same ↦ inl same
@@ -31,7 +42,8 @@ alike book m n h p q e =
     ]
 
 -- the row before a marker of a book, and the row behind it, are in no marker of it
-pub none_below : (book : List Marker) (m : Marker) → IsBook book → Contains book m → CoversRow book (line_of m) (m.y0 -ℤ pos 1) → ⊥
+pub none_below : (book : List Marker) (m : Marker) → IsBook book → Contains book m
+    → CoversRow book (line_of m) (m.y0 -ℤ pos 1) → ⊥
 none_below book m h p c =
     let filled = All-contains IsFilled book m h.filled p in
     elim (alike book m c.0 h p c.1 (sym c.2.0)) [
@@ -40,7 +52,8 @@ none_below book m h p c =
       | inr (inr behind) ↦ omega (arith, ints, behind, c.2.2)
     ]
 
-pub none_above : (book : List Marker) (m : Marker) → IsBook book → Contains book m → CoversRow book (line_of m) m.y1 → ⊥
+pub none_above : (book : List Marker) (m : Marker) → IsBook book → Contains book m
+    → CoversRow book (line_of m) m.y1 → ⊥
 none_above book m h p c =
     let filled = All-contains IsFilled book m h.filled p in
     elim (alike book m c.0 h p c.1 (sym c.2.0)) [
@@ -50,7 +63,8 @@ none_above book m h p c =
     ]
 
 -- a part that has a row of a marker of the book lies in it
-pub lies_in : (part : Marker → Type 0) (book : List Marker) (m n : Marker) (line : Line) (j : ℤ) → IsJoined part book → Contains book n → part m → HasRow m line j → HasRow n line j → LiesIn m n
+pub lies_in : (part : Marker → Type 0) (book : List Marker) (m n : Marker) (line : Line) (j : ℤ)
+    → IsJoined part book → Contains book n → part m → HasRow m line j → HasRow n line j → LiesIn m n
 lies_in part book m n line j h c p r s = (e, below, above)
   where
     e : line_of m ≡ line_of n
@@ -60,7 +74,10 @@ lies_in part book m n line j h c p r s = (e, below, above)
     row i l g = (h.rows (line_of n) i).1 (m, p, (e, l, g))
 
     below : n.y0 ≤ℤ m.y0
-    below = by_lt_z m.y0 n.y0 (λ less. absurd (none_below book n h.markers c (row (n.y0 -ℤ pos 1) (omega (arith, ints, less)) (omega (arith, ints, s.1, r.2))))) (λ more. more)
+    below = by_lt_z m.y0 n.y0 (λ less. absurd (none_below book n h.markers c
+        (row (n.y0 -ℤ pos 1) (omega (arith, ints, less)) (omega (arith, ints, s.1, r.2)))))
+        (λ more. more)
 
     above : m.y1 ≤ℤ n.y1
-    above = by_lt_z n.y1 m.y1 (λ less. absurd (none_above book n h.markers c (row n.y1 (omega (arith, ints, r.1, s.2)) less))) (λ more. more)
+    above = by_lt_z n.y1 m.y1 (λ less. absurd (none_above book n h.markers c
+        (row n.y1 (omega (arith, ints, r.1, s.2)) less))) (λ more. more)

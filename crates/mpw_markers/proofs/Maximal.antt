@@ -29,12 +29,14 @@ record IsUpTo (p : ℤ → Bool) (j top : ℤ) : Type 0 where
   pub rows : (i : ℤ) → j ≤ℤ i → i <ℤ top → p i ≡ true
   pub stops : p top ≡ false
 
-up_at : (p : ℤ → Bool) (j : ℤ) → p j ≡ true → (t : Bool) → p (j +ℤ pos 1) ≡ t → (p (j +ℤ pos 1) ≡ true → (top : ℤ) × IsUpTo p (j +ℤ pos 1) top) → (top : ℤ) × IsUpTo p j top
+up_at : (p : ℤ → Bool) (j : ℤ) → p j ≡ true → (t : Bool) → p (j +ℤ pos 1) ≡ t
+    → (p (j +ℤ pos 1) ≡ true → (top : ℤ) × IsUpTo p (j +ℤ pos 1) top) → (top : ℤ) × IsUpTo p j top
 up_at p j h false e next = (
   j +ℤ pos 1,
   record {
     above = omega (arith, ints);
-    rows = λ i g k. let same : j ≡ i = omega (arith, ints, g, k) in subst (λ (z : ℤ). p z ≡ true) same h;
+    rows = λ i g k. let same : j ≡ i = omega (arith, ints, g, k) in subst (λ (z : ℤ). p z ≡ true)
+        same h;
     stops = e;
   },
 )
@@ -44,14 +46,18 @@ up_at p j h true e next =
       u.0,
       record {
         above = omega (arith, ints, more);
-        rows = λ i g k. by_lt_z i (j +ℤ pos 1) (λ low. let same : j ≡ i = omega (arith, ints, g, low) in subst (λ (z : ℤ). p z ≡ true) same h) (λ up. u.1.rows i up k);
+        rows = λ i g k. by_lt_z i (j +ℤ pos 1)
+            (λ low. let same : j ≡ i = omega (arith, ints, g, low) in subst (λ (z : ℤ). p z ≡ true)
+            same h) (λ up. u.1.rows i up k);
         stops = u.1.stops;
       },
     )
 
-upwards : (p : ℤ → Bool) (high : ℤ) → ((i : ℤ) → p i ≡ true → i <ℤ high) → (n : ℕ) (j : ℤ) → p j ≡ true → high ≤ℤ (j +ℤ pos n) → (top : ℤ) × IsUpTo p j top
+upwards : (p : ℤ → Bool) (high : ℤ) → ((i : ℤ) → p i ≡ true → i <ℤ high) → (n : ℕ) (j : ℤ)
+    → p j ≡ true → high ≤ℤ (j +ℤ pos n) → (top : ℤ) × IsUpTo p j top
 upwards p high b zero j h l = let k = b j h in absurd (omega (arith, ints, k, l))
-upwards p high b (suc n) j h l = up_at p j h (p (j +ℤ pos 1)) refl (λ e. upwards p high b n (j +ℤ pos 1) e (omega (arith, ints, l)))
+upwards p high b (suc n) j h l = up_at p j h (p (j +ℤ pos 1)) refl
+    (λ e. upwards p high b n (j +ℤ pos 1) e (omega (arith, ints, l)))
 
 -- the rows down to the first of them
 record IsDownTo (p : ℤ → Bool) (j low : ℤ) : Type 0 where
@@ -59,12 +65,15 @@ record IsDownTo (p : ℤ → Bool) (j low : ℤ) : Type 0 where
   pub rows : (i : ℤ) → low ≤ℤ i → i ≤ℤ j → p i ≡ true
   pub stops : p (low -ℤ pos 1) ≡ false
 
-down_at : (p : ℤ → Bool) (j : ℤ) → p j ≡ true → (t : Bool) → p (j -ℤ pos 1) ≡ t → (p (j -ℤ pos 1) ≡ true → (first : ℤ) × IsDownTo p (j -ℤ pos 1) first) → (first : ℤ) × IsDownTo p j first
+down_at : (p : ℤ → Bool) (j : ℤ) → p j ≡ true → (t : Bool) → p (j -ℤ pos 1) ≡ t
+    → (p (j -ℤ pos 1) ≡ true → (first : ℤ) × IsDownTo p (j -ℤ pos 1) first)
+    → (first : ℤ) × IsDownTo p j first
 down_at p j h false e next = (
   j,
   record {
     below = omega (arith, ints);
-    rows = λ i g k. let same : j ≡ i = omega (arith, ints, g, k) in subst (λ (z : ℤ). p z ≡ true) same h;
+    rows = λ i g k. let same : j ≡ i = omega (arith, ints, g, k) in subst (λ (z : ℤ). p z ≡ true)
+        same h;
     stops = e;
   },
 )
@@ -74,14 +83,18 @@ down_at p j h true e next =
       u.0,
       record {
         below = omega (arith, ints, more);
-        rows = λ i g k. by_lt_z i j (λ under. u.1.rows i g (omega (arith, ints, under))) (λ up. let same : j ≡ i = omega (arith, ints, k, up) in subst (λ (z : ℤ). p z ≡ true) same h);
+        rows = λ i g k. by_lt_z i j (λ under. u.1.rows i g (omega (arith, ints, under)))
+            (λ up. let same : j ≡ i = omega (arith, ints, k, up) in subst (λ (z : ℤ). p z ≡ true)
+            same h);
         stops = u.1.stops;
       },
     )
 
-downwards : (p : ℤ → Bool) (low : ℤ) → ((i : ℤ) → p i ≡ true → low ≤ℤ i) → (n : ℕ) (j : ℤ) → p j ≡ true → (j -ℤ pos n) <ℤ low → (first : ℤ) × IsDownTo p j first
+downwards : (p : ℤ → Bool) (low : ℤ) → ((i : ℤ) → p i ≡ true → low ≤ℤ i) → (n : ℕ) (j : ℤ)
+    → p j ≡ true → (j -ℤ pos n) <ℤ low → (first : ℤ) × IsDownTo p j first
 downwards p low b zero j h l = let k = b j h in absurd (omega (arith, ints, k, l))
-downwards p low b (suc n) j h l = down_at p j h (p (j -ℤ pos 1)) refl (λ e. downwards p low b n (j -ℤ pos 1) e (omega (arith, ints, l)))
+downwards p low b (suc n) j h l = down_at p j h (p (j -ℤ pos 1)) refl
+    (λ e. downwards p low b n (j -ℤ pos 1) e (omega (arith, ints, l)))
 
 -- a maximal run that has the row
 record IsRunAt (p : ℤ → Bool) (j first top : ℤ) : Type 0 where
@@ -91,17 +104,21 @@ record IsRunAt (p : ℤ → Bool) (j first top : ℤ) : Type 0 where
   pub below : p (first -ℤ pos 1) ≡ false
   pub above : p top ≡ false
 
-run_at : (p : ℤ → Bool) (low high j : ℤ) → ((i : ℤ) → p i ≡ true → (low ≤ℤ i) × (i <ℤ high)) → p j ≡ true → (first : ℤ) × (top : ℤ) × IsRunAt p j first top
+run_at : (p : ℤ → Bool) (low high j : ℤ) → ((i : ℤ) → p i ≡ true → (low ≤ℤ i) × (i <ℤ high))
+    → p j ≡ true → (first : ℤ) × (top : ℤ) × IsRunAt p j first top
 run_at p low high j b h =
     let in' = b j h in
-    let up = upwards p high (λ i e. (b i e).1) (unsigned_abs (high -ℤ j)) j h (omega (arith, ints, in'.1)) in
-    let down = downwards p low (λ i e. (b i e).0) (unsigned_abs (j -ℤ low) + 1) j h (omega (arith, ints, in'.0)) in (
+    let up = upwards p high (λ i e. (b i e).1) (unsigned_abs (high -ℤ j)) j h
+    (omega (arith, ints, in'.1)) in
+    let down = downwards p low (λ i e. (b i e).0) (unsigned_abs (j -ℤ low) + 1) j h
+    (omega (arith, ints, in'.0)) in (
       down.0,
       up.0,
       record {
         low = down.1.below;
         high = up.1.above;
-        rows = λ i g k. by_lt_z i j (λ under. down.1.rows i g (omega (arith, ints, under))) (λ over. up.1.rows i over k);
+        rows = λ i g k. by_lt_z i j (λ under. down.1.rows i g (omega (arith, ints, under)))
+            (λ over. up.1.rows i over k);
         below = down.1.stops;
         above = up.1.stops;
       },
@@ -114,46 +131,71 @@ abbrev InBox : Axis → (x1 x2 y0 y1 : ℤ) → Point → Type 0
 InBox V x1 x2 y0 y1 p = ((x1 ≤ℤ p.x) × (p.x ≤ℤ x2)) × ((y0 ≤ℤ p.y) × (p.y ≤ℤ y1))
 InBox H x1 x2 y0 y1 p = ((x1 ≤ℤ p.y) × (p.y ≤ℤ x2)) × ((y0 ≤ℤ p.x) × (p.x ≤ℤ y1))
 
-in_box : (axis : Axis) (x1 x2 y0 y1 : ℤ) (p : Point) → has_point (box_on axis x1 x2 y0 y1) p ≡ true → InBox axis x1 x2 y0 y1 p
-in_box V x1 x2 y0 y1 p t = let i = PointIn-from_test (box_on V x1 x2 y0 y1) p t in ((i.left, i.right), (i.bottom, i.top))
-in_box H x1 x2 y0 y1 p t = let i = PointIn-from_test (box_on H x1 x2 y0 y1) p t in ((i.bottom, i.top), (i.left, i.right))
+in_box : (axis : Axis) (x1 x2 y0 y1 : ℤ) (p : Point) → has_point (box_on axis x1 x2 y0 y1) p ≡ true
+    → InBox axis x1 x2 y0 y1 p
+in_box V x1 x2 y0 y1 p t =
+    let i = PointIn-from_test (box_on V x1 x2 y0 y1) p t in ((i.left, i.right), (i.bottom, i.top))
+in_box H x1 x2 y0 y1 p t =
+    let i = PointIn-from_test (box_on H x1 x2 y0 y1) p t in ((i.bottom, i.top), (i.left, i.right))
 
-from_box : (axis : Axis) (x1 x2 y0 y1 : ℤ) (p : Point) → InBox axis x1 x2 y0 y1 p → has_point (box_on axis x1 x2 y0 y1) p ≡ true
-from_box V x1 x2 y0 y1 p i = test_from_PointIn (box_on V x1 x2 y0 y1) p (record { left = i.0.0; right = i.0.1; bottom = i.1.0; top = i.1.1 })
-from_box H x1 x2 y0 y1 p i = test_from_PointIn (box_on H x1 x2 y0 y1) p (record { left = i.1.0; right = i.1.1; bottom = i.0.0; top = i.0.1 })
+from_box : (axis : Axis) (x1 x2 y0 y1 : ℤ) (p : Point) → InBox axis x1 x2 y0 y1 p
+    → has_point (box_on axis x1 x2 y0 y1) p ≡ true
+from_box V x1 x2 y0 y1 p i = test_from_PointIn (box_on V x1 x2 y0 y1) p
+    (record { left = i.0.0; right = i.0.1; bottom = i.1.0; top = i.1.1 })
+from_box H x1 x2 y0 y1 p i = test_from_PointIn (box_on H x1 x2 y0 y1) p
+    (record { left = i.1.0; right = i.1.1; bottom = i.0.0; top = i.0.1 })
 
 -- a point of a closed box is one of a wider box
-wider : (axis : Axis) (x1 x2 y0 y1 z0 z1 : ℤ) (p : Point) → z0 ≤ℤ y0 → y1 ≤ℤ z1 → InBox axis x1 x2 y0 y1 p → InBox axis x1 x2 z0 z1 p
-wider V x1 x2 y0 y1 z0 z1 p f g i = (i.0, (omega (arith, ints, f, i.1.0), omega (arith, ints, g, i.1.1)))
-wider H x1 x2 y0 y1 z0 z1 p f g i = (i.0, (omega (arith, ints, f, i.1.0), omega (arith, ints, g, i.1.1)))
+wider : (axis : Axis) (x1 x2 y0 y1 z0 z1 : ℤ) (p : Point) → z0 ≤ℤ y0 → y1 ≤ℤ z1
+    → InBox axis x1 x2 y0 y1 p → InBox axis x1 x2 z0 z1 p
+wider V x1 x2 y0 y1 z0 z1 p f g i =
+    (i.0, (omega (arith, ints, f, i.1.0), omega (arith, ints, g, i.1.1)))
+wider H x1 x2 y0 y1 z0 z1 p f g i =
+    (i.0, (omega (arith, ints, f, i.1.0), omega (arith, ints, g, i.1.1)))
 
 -- a point of a closed box lies in the closed box of one of its rows
-in_a_row : (axis : Axis) (x1 x2 y0 y1 : ℤ) (p : Point) → y0 <ℤ y1 → InBox axis x1 x2 y0 y1 p → (j : ℤ) × (y0 ≤ℤ j) × (j <ℤ y1) × InBox axis x1 x2 j (j +ℤ pos 1) p
+in_a_row : (axis : Axis) (x1 x2 y0 y1 : ℤ) (p : Point) → y0 <ℤ y1 → InBox axis x1 x2 y0 y1 p
+    → (j : ℤ) × (y0 ≤ℤ j) × (j <ℤ y1) × InBox axis x1 x2 j (j +ℤ pos 1) p
 in_a_row V x1 x2 y0 y1 p f i = by_lt_z p.y y1
     (λ less. (p.y, i.1.0, less, (i.0, (omega (arith, ints), omega (arith, ints)))))
-    (λ more. (y1 -ℤ pos 1, omega (arith, ints, f), omega (arith, ints), (i.0, (omega (arith, ints, more), omega (arith, ints, i.1.1)))))
+    (λ more. (
+      y1 -ℤ pos 1,
+      omega (arith, ints, f),
+      omega (arith, ints),
+      (i.0, (omega (arith, ints, more), omega (arith, ints, i.1.1))),
+    ))
 in_a_row H x1 x2 y0 y1 p f i = by_lt_z p.x y1
     (λ less. (p.x, i.1.0, less, (i.0, (omega (arith, ints), omega (arith, ints)))))
-    (λ more. (y1 -ℤ pos 1, omega (arith, ints, f), omega (arith, ints), (i.0, (omega (arith, ints, more), omega (arith, ints, i.1.1)))))
+    (λ more. (
+      y1 -ℤ pos 1,
+      omega (arith, ints, f),
+      omega (arith, ints),
+      (i.0, (omega (arith, ints, more), omega (arith, ints, i.1.1))),
+    ))
 
 -- what meets the box of a marker meets that of one that it lies in
-pub met_wider : (has : ℕ → Square → Type 0) (m n : Marker) (origin : ℕ) → LiesIn m n → IsMet has (box_of m) origin → IsMet has (box_of n) origin
+pub met_wider : (has : ℕ → Square → Type 0) (m n : Marker) (origin : ℕ) → LiesIn m n
+    → IsMet has (box_of m) origin → IsMet has (box_of n) origin
 met_wider has m n origin l t = (
   t.0,
   t.1,
   (
     t.2.0,
     t.2.1,
-    let i : InBox m.axis m.x1 m.x2 m.y0 m.y1 t.2.0 = in_box m.axis m.x1 m.x2 m.y0 m.y1 t.2.0 t.2.2 in
-        let w : InBox m.axis m.x1 m.x2 n.y0 n.y1 t.2.0 = wider m.axis m.x1 m.x2 m.y0 m.y1 n.y0 n.y1 t.2.0 l.1 l.2 i in
-        from_box n.axis n.x1 n.x2 n.y0 n.y1 t.2.0 (subst (λ (x : Line). InBox x.axis x.x1 x.x2 n.y0 n.y1 t.2.0) l.0 w),
+    let i : InBox m.axis m.x1 m.x2 m.y0 m.y1 t.2.0 = in_box m.axis m.x1 m.x2 m.y0 m.y1 t.2.0
+        t.2.2 in
+        let w : InBox m.axis m.x1 m.x2 n.y0 n.y1 t.2.0 = wider m.axis m.x1 m.x2 m.y0 m.y1 n.y0 n.y1
+        t.2.0 l.1 l.2 i in
+        from_box n.axis n.x1 n.x2 n.y0 n.y1 t.2.0
+        (subst (λ (x : Line). InBox x.axis x.x1 x.x2 n.y0 n.y1 t.2.0) l.0 w),
   ),
 )
 
 -- ---- the book
 
 -- where the parts have just the passed rows, the markers of the book are the maximal runs
-whole : (part : Marker → Type 0) (steps : Line → ℤ → Bool) (has : ℕ → Square → Type 0) (book : List Marker)
+whole : (part : Marker → Type 0) (steps : Line → ℤ → Bool) (has : ℕ → Square → Type 0)
+    (book : List Marker)
     → ((line : Line) (j : ℤ) → ((m : Marker) × part m × HasRow m line j) ↔ (steps line j ≡ true))
     → ((m : Marker) (origin : ℕ) → part m → Contains m.met origin ↔ IsMet has (box_of m) origin)
     → IsJoined part book → AreMarkersOf steps has book
@@ -165,14 +207,27 @@ whole part steps has book rows met h = record { sound = sound; complete = comple
     back : (line : Line) (j : ℤ) → steps line j ≡ true → CoversRow book line j
     back line j e = (h.rows line j).1 ((rows line j).1 e)
 
-    met_by : (n : Marker) (origin : ℕ) → Contains book n → IsMet has (box_of n) origin → Contains n.met origin
+    met_by : (n : Marker) (origin : ℕ) → Contains book n → IsMet has (box_of n) origin
+        → Contains n.met origin
     met_by n origin c t =
-        let i : InBox n.axis n.x1 n.x2 n.y0 n.y1 t.2.0 = in_box n.axis n.x1 n.x2 n.y0 n.y1 t.2.0 t.2.2 in
-        let r = in_a_row n.axis n.x1 n.x2 n.y0 n.y1 t.2.0 (All-contains IsFilled book n h.markers.filled c) i in
+        let i : InBox n.axis n.x1 n.x2 n.y0 n.y1 t.2.0 = in_box n.axis n.x1 n.x2 n.y0 n.y1 t.2.0
+        t.2.2 in
+        let r = in_a_row n.axis n.x1 n.x2 n.y0 n.y1 t.2.0
+        (All-contains IsFilled book n h.markers.filled c) i in
         let p = (h.rows (line_of n) r.0).0 (n, c, (refl, r.1, r.2)) in
         let l = lies_in part book p.0 n (line_of n) r.0 h c p.1 p.2 (refl, r.1, r.2) in
-        let w : InBox n.axis n.x1 n.x2 p.0.y0 p.0.y1 t.2.0 = wider n.axis n.x1 n.x2 r.0 (r.0 +ℤ pos 1) p.0.y0 p.0.y1 t.2.0 p.2.1 (omega (arith, ints, p.2.2)) r.3 in
-        let x : IsMet has (box_of p.0) origin = (t.0, t.1, (t.2.0, t.2.1, from_box p.0.axis p.0.x1 p.0.x2 p.0.y0 p.0.y1 t.2.0 (subst (λ (x : Line). InBox x.axis x.x1 x.x2 p.0.y0 p.0.y1 t.2.0) (sym l.0) w))) in
+        let w : InBox n.axis n.x1 n.x2 p.0.y0 p.0.y1 t.2.0 = wider n.axis n.x1 n.x2 r.0
+        (r.0 +ℤ pos 1) p.0.y0 p.0.y1 t.2.0 p.2.1 (omega (arith, ints, p.2.2)) r.3 in
+        let x : IsMet has (box_of p.0) origin = (
+          t.0,
+          t.1,
+          (
+            t.2.0,
+            t.2.1,
+            from_box p.0.axis p.0.x1 p.0.x2 p.0.y0 p.0.y1 t.2.0
+                (subst (λ (x : Line). InBox x.axis x.x1 x.x2 p.0.y0 p.0.y1 t.2.0) (sym l.0) w),
+          ),
+        ) in
         (h.met n origin c).1 (p.0, p.1, l, (met p.0 origin p.1).1 x)
 
     sound : (n : Marker) → Contains book n → IsMarkerOf steps has n
@@ -180,12 +235,14 @@ whole part steps has book rows met h = record { sound = sound; complete = comple
       run = record {
         filled = All-contains IsFilled book n h.markers.filled c;
         rows = λ j g k. over (line_of n) j (n, c, (refl, g, k));
-        below = false_from_ne_true _ (λ e. none_below book n h.markers c (back (line_of n) (n.y0 -ℤ pos 1) e));
+        below = false_from_ne_true _ (λ e. none_below book n h.markers c
+            (back (line_of n) (n.y0 -ℤ pos 1) e));
         above = false_from_ne_true _ (λ e. none_above book n h.markers c (back (line_of n) n.y1 e));
       };
       ascending = All-contains (λ (x : Marker). IsAscending x.met) book n h.markers.ascending c;
       met = λ origin. (
-        λ x. let p = (h.met n origin c).0 x in met_wider has p.0 n origin p.2 ((met p.0 origin p.1).0 p.3),
+        λ x. let p = (h.met n origin c).0 x in met_wider has p.0 n origin p.2
+            ((met p.0 origin p.1).0 p.3),
         met_by n origin c,
       );
     }
@@ -196,12 +253,21 @@ whole part steps has book rows met h = record { sound = sound; complete = comple
         let n : Marker = s.0 in
         let w = (sound n s.1).run in
         let first : n.y0 ≡ m.y0 = by_lt_z n.y0 m.y0
-        (λ less. absurd (both_ways _ k.below (over (line_of_key m) (m.y0 -ℤ pos 1) (n, s.1, (s.2.0, omega (arith, ints, less), omega (arith, ints, s.2.2))))))
+        (λ less. absurd (both_ways _ k.below
+        (over (line_of_key m) (m.y0 -ℤ pos 1)
+        (n, s.1, (s.2.0, omega (arith, ints, less), omega (arith, ints, s.2.2))))))
         (λ more. omega (arith, ints, more, s.2.1)) in
         let last : n.y1 ≡ m.y1 = by_lt_z n.y1 m.y1
-        (λ less. absurd (both_ways _ w.above (subst (λ (l : Line). steps l n.y1 ≡ true) (sym s.2.0) (k.rows n.y1 (omega (arith, ints, s.2.2)) less))))
+        (λ less. absurd (both_ways _ w.above
+        (subst (λ (l : Line). steps l n.y1 ≡ true) (sym s.2.0)
+        (k.rows n.y1 (omega (arith, ints, s.2.2)) less))))
         (λ more. by_lt_z m.y1 n.y1
-        (λ less. absurd (both_ways _ k.above (over (line_of_key m) m.y1 (n, s.1, (s.2.0, omega (arith, ints, s.2.1, k.filled), less)))))
+        (λ less. absurd (both_ways _ k.above
+        (over (line_of_key m) m.y1 (
+          n,
+          s.1,
+          (s.2.0, omega (arith, ints, s.2.1, k.filled), less),
+        ))))
         (λ no_more. omega (arith, ints, more, no_more))) in
         (n, s.1, same_key (key_of n) m s.2.0 first last)
 
@@ -210,32 +276,65 @@ whole part steps has book rows met h = record { sound = sound; complete = comple
 abbrev listed_at : List (List Marker) → ℕ → List Marker
 listed_at lists k = get_or lists k []
 
-pub stitched : (steps : Line → ℤ → Bool) (cores : ℕ → Line → ℤ → Bool) (has : ℕ → Square → Type 0) (lists : List (List Marker)) (book : List Marker)
+pub stitched : (steps : Line → ℤ → Bool) (cores : ℕ → Line → ℤ → Bool) (has : ℕ → Square → Type 0)
+    (lists : List (List Marker)) (book : List Marker)
     → AreListedByCores steps cores has lists → IsStitched lists book → AreMarkersOf steps has book
-stitched steps cores has lists book a h = whole (IsListed lists) steps has book (λ line j. (to line j, from line j)) met h
+stitched steps cores has lists book a h =
+    whole (IsListed lists) steps has book (λ line j. (to line j, from line j)) met h
   where
     -- the core in whose list a marker stands
     at : (m : Marker) → IsListed lists m → (k : ℕ) × IsMarkerOf (steps_in steps (cores k)) has m
     at m p =
-        let q = held_at lists [] p.0 p.1 in
-        (q.0, (a.listed q.0 q.1).sound m (subst (λ (ms : List Marker). Contains ms m) (sym q.2) p.2))
+        let q = held_at lists [] p.0 p.1 in (
+          q.0,
+          (a.listed q.0 q.1).sound m (subst (λ (ms : List Marker). Contains ms m) (sym q.2)
+              p.2),
+        )
 
-    to : (line : Line) (j : ℤ) → (m : Marker) × IsListed lists m × HasRow m line j → steps line j ≡ true
+    to : (line : Line) (j : ℤ) → (m : Marker) × IsListed lists m × HasRow m line j
+        → steps line j ≡ true
     to line j p =
         let q = at p.0 p.1 in
-        (and_parts (steps line j) (cores q.0 line j) (subst (λ (l : Line). steps_in steps (cores q.0) l j ≡ true) p.2.0 (q.1.run.rows j p.2.1 p.2.2))).0
+        (and_parts (steps line j) (cores q.0 line j)
+        (subst (λ (l : Line). steps_in steps (cores q.0) l j ≡ true) p.2.0
+        (q.1.run.rows j p.2.1 p.2.2))).0
 
-    from : (line : Line) (j : ℤ) → steps line j ≡ true → (m : Marker) × IsListed lists m × HasRow m line j
+    from : (line : Line) (j : ℤ) → steps line j ≡ true → (m : Marker) × IsListed lists m
+        × HasRow m line j
     from line j e =
         let k = a.covered line j e in
         let b = a.bounded k.0 k.1 in
-        let r = run_at (steps_in steps (cores k.0) line) b.0 b.1 j (λ i f. b.2 line i (and_parts (steps line i) (cores k.0 line i) f).1) (and_from (steps line j) (cores k.0 line j) e k.2) in
-        let key : Key = record { rule = line.rule; axis = line.axis; side = line.side; x1 = line.x1; x2 = line.x2; y0 = r.0; y1 = r.1 } in
+        let r = run_at (steps_in steps (cores k.0) line) b.0 b.1 j
+        (λ i f. b.2 line i (and_parts (steps line i) (cores k.0 line i) f).1)
+        (and_from (steps line j) (cores k.0 line j) e k.2) in
+        let key : Key = record {
+          rule = line.rule;
+          axis = line.axis;
+          side = line.side;
+          x1 = line.x1;
+          x2 = line.x2;
+          y0 = r.0;
+          y1 = r.1;
+        } in
         let run = r.2 in
-        let m = (a.listed k.0 k.1).complete key (record { filled = omega (arith, ints, run.low, run.high); rows = run.rows; below = run.below; above = run.above }) in
+        let m = (a.listed k.0 k.1).complete key
+        (record {
+          filled = omega (arith, ints, run.low, run.high);
+          rows = run.rows;
+          below = run.below;
+          above = run.above;
+        }) in
         let low : m.0.y0 ≡ r.0 = ap (λ (x : Key). x.y0) m.2 in
-        let high : m.0.y1 ≡ r.1 = ap (λ (x : Key). x.y1) m.2 in
-        (m.0, (listed_at lists k.0, Contains-get_or lists k.0 [] k.1, m.1), (ap line_of_key m.2, omega (arith, ints, low, run.low), omega (arith, ints, high, run.high)))
+        let high : m.0.y1 ≡ r.1 = ap (λ (x : Key). x.y1) m.2 in (
+          m.0,
+          (listed_at lists k.0, Contains-get_or lists k.0 [] k.1, m.1),
+          (
+            ap line_of_key m.2,
+            omega (arith, ints, low, run.low),
+            omega (arith, ints, high, run.high),
+          ),
+        )
 
-    met : (m : Marker) (origin : ℕ) → IsListed lists m → Contains m.met origin ↔ IsMet has (box_of m) origin
+    met : (m : Marker) (origin : ℕ) → IsListed lists m → Contains m.met origin
+        ↔ IsMet has (box_of m) origin
     met m origin p = (at m p).1.met origin

@@ -27,8 +27,9 @@ use Rattle.mpw_markers.specs.declared.marker.Marker.{Marker}
 use Rattle.mpw_markers.specs.declared.place.LinePlace.{LinePlace}
 use Rattle.mpw_markers.specs.declared.place.Place.{Place}
 use Rattle.mpw_markers.specs.Markers.{line_of, key_of, IsFilled}
-use Rattle.mpw_markers.specs.Places.{axis_place, line_place, place_of}
-use Rattle.mpw_markers.specs.Order.{line_cmp, StandsBefore, BeginsFirst, AreInOrder}
+use Rattle.mpw_markers.specs.Internal.Places.{axis_place, line_place, place_of}
+use Rattle.mpw_markers.specs.Order.{line_cmp, StandsBefore}
+use Rattle.mpw_markers.specs.Internal.Order.{BeginsFirst, AreInOrder}
 
 axis_total : IsTotalOrder axis_cmp
 axis_total = record { antisymm = back; trans = chain; congr = alike }
@@ -60,7 +61,10 @@ axis_tied H H e = refl
 
 pub line_total : IsTotalOrder line_cmp
 line_total =
-    then_total (on_total (λ l. l.rule) nat_cmp_total) (then_total (on_total (λ l. l.axis) axis_total) (then_total (on_total (λ l. l.side) nat_cmp_total) (then_total (on_total (λ l. l.x1) int_cmp_total) (on_total (λ l. l.x2) int_cmp_total))))
+    then_total (on_total (λ l. l.rule) nat_cmp_total)
+    (then_total (on_total (λ l. l.axis) axis_total)
+    (then_total (on_total (λ l. l.side) nat_cmp_total)
+    (then_total (on_total (λ l. l.x1) int_cmp_total) (on_total (λ l. l.x2) int_cmp_total))))
 
 pub then_first : (o p : Ordering) → ordering_then o p ≡ Equal → o ≡ Equal
 then_first Less p e = cc
@@ -72,9 +76,18 @@ then_second Less p e = cc
 then_second Equal p e = e
 then_second Greater p e = cc
 
-same_line : (a b : Line) → a.rule ≡ b.rule → a.axis ≡ b.axis → a.side ≡ b.side → a.x1 ≡ b.x1 → a.x2 ≡ b.x2 → a ≡ b
+same_line : (a b : Line) → a.rule ≡ b.rule → a.axis ≡ b.axis → a.side ≡ b.side → a.x1 ≡ b.x1
+    → a.x2 ≡ b.x2 → a ≡ b
 same_line a b e f g h k =
-    ap (λ (p : ℕ × Axis × ℕ × ℤ × ℤ). let l : Line = record { rule = p.0; axis = p.1; side = p.2; x1 = p.3; x2 = p.4 } in l) (let q : (let r : ℕ × Axis × ℕ × ℤ × ℤ = (a.rule, a.axis, a.side, a.x1, a.x2) in r) ≡ (b.rule, b.axis, b.side, b.x1, b.x2) = cc in q)
+    ap (λ (p : ℕ × Axis × ℕ × ℤ × ℤ). let l : Line = record {
+      rule = p.0;
+      axis = p.1;
+      side = p.2;
+      x1 = p.3;
+      x2 = p.4;
+    } in l) (let q :
+    (let r : ℕ × Axis × ℕ × ℤ × ℤ = (a.rule, a.axis, a.side, a.x1, a.x2) in r)
+    ≡ (b.rule, b.axis, b.side, b.x1, b.x2) = cc in q)
 
 -- lines that compare alike are one line
 pub line_tied : (a b : Line) → line_cmp a b ≡ Equal → a ≡ b
@@ -98,7 +111,8 @@ line_before a b less e =
     cc
 
 -- along lines in order, and on one line along P and Q
-pub line_chain : {P Q S : Type 0} (a b c : Line) → (P → Q → S) → (line_cmp a b ≡ Less) ⊎ ((a ≡ b) × P) → (line_cmp b c ≡ Less) ⊎ ((b ≡ c) × Q) → (line_cmp a c ≡ Less) ⊎ ((a ≡ c) × S)
+pub line_chain : {P Q S : Type 0} (a b c : Line) → (P → Q → S) → (line_cmp a b ≡ Less)
+    ⊎ ((a ≡ b) × P) → (line_cmp b c ≡ Less) ⊎ ((b ≡ c) × Q) → (line_cmp a c ≡ Less) ⊎ ((a ≡ c) × S)
 line_chain a b c on (inl p) (inl q) = inl (line_total.trans a b c p q)
 line_chain a b c on (inl p) (inr q) = inl (ap (line_cmp a) (sym q.0) ∙ p)
 line_chain a b c on (inr p) (inl q) = inl (ap (λ l. line_cmp l c) p.0 ∙ q)
@@ -113,17 +127,25 @@ apart m n (inr stands) e = stands.1
 
 abbrev pub line_place_cmp : LinePlace → LinePlace → Ordering
 line_place_cmp a b =
-    ordering_then (nat_cmp a.rule b.rule) (ordering_then (nat_cmp a.axis b.axis) (ordering_then (nat_cmp a.side b.side) (ordering_then (int_cmp a.x1 b.x1) (int_cmp a.x2 b.x2))))
+    ordering_then (nat_cmp a.rule b.rule)
+    (ordering_then (nat_cmp a.axis b.axis)
+    (ordering_then (nat_cmp a.side b.side)
+    (ordering_then (int_cmp a.x1 b.x1) (int_cmp a.x2 b.x2))))
 
 abbrev pub place_cmp : Place → Place → Ordering
-place_cmp p q = ordering_then (line_place_cmp p.line q.line) (ordering_then (int_cmp p.y0 q.y0) (int_cmp p.y1 q.y1))
+place_cmp p q = ordering_then (line_place_cmp p.line q.line)
+    (ordering_then (int_cmp p.y0 q.y0) (int_cmp p.y1 q.y1))
 
 line_place_total : IsTotalOrder line_place_cmp
 line_place_total =
-    then_total (on_total (λ l. l.rule) nat_cmp_total) (then_total (on_total (λ l. l.axis) nat_cmp_total) (then_total (on_total (λ l. l.side) nat_cmp_total) (then_total (on_total (λ l. l.x1) int_cmp_total) (on_total (λ l. l.x2) int_cmp_total))))
+    then_total (on_total (λ l. l.rule) nat_cmp_total)
+    (then_total (on_total (λ l. l.axis) nat_cmp_total)
+    (then_total (on_total (λ l. l.side) nat_cmp_total)
+    (then_total (on_total (λ l. l.x1) int_cmp_total) (on_total (λ l. l.x2) int_cmp_total))))
 
 pub place_total : IsTotalOrder place_cmp
-place_total = then_total (on_total (λ p. p.line) line_place_total) (then_total (on_total (λ p. p.y0) int_cmp_total) (on_total (λ p. p.y1) int_cmp_total))
+place_total = then_total (on_total (λ p. p.line) line_place_total)
+    (then_total (on_total (λ p. p.y0) int_cmp_total) (on_total (λ p. p.y1) int_cmp_total))
 
 axes_alike : (a b : Axis) → nat_cmp (axis_place a) (axis_place b) ≡ axis_cmp a b
 axes_alike V V = refl
@@ -133,7 +155,9 @@ axes_alike H H = refl
 
 pub lines_alike : (a b : Line) → line_place_cmp (line_place a) (line_place b) ≡ line_cmp a b
 lines_alike a b =
-    ap (λ (o : Ordering). ordering_then (nat_cmp a.rule b.rule) (ordering_then o (ordering_then (nat_cmp a.side b.side) (ordering_then (int_cmp a.x1 b.x1) (int_cmp a.x2 b.x2))))) (axes_alike a.axis b.axis)
+    ap (λ (o : Ordering). ordering_then (nat_cmp a.rule b.rule)
+    (ordering_then o (ordering_then (nat_cmp a.side b.side)
+    (ordering_then (int_cmp a.x1 b.x1) (int_cmp a.x2 b.x2))))) (axes_alike a.axis b.axis)
 
 reversed : (o : Ordering) → ordering_reverse o ≡ Greater → o ≡ Less
 reversed Less e = refl
@@ -143,17 +167,23 @@ reversed Greater e = cc
 not_after : (x y : ℤ) → is_lt (int_cmp y x) ≡ false → x ≤ℤ y
 not_after x y e = grind (arith, ints)
 
-then_not_less : (o p : Ordering) → is_lt (ordering_then o p) ≡ false → (o ≡ Greater) ⊎ ((o ≡ Equal) × (is_lt p ≡ false))
+then_not_less : (o p : Ordering) → is_lt (ordering_then o p) ≡ false
+    → (o ≡ Greater) ⊎ ((o ≡ Equal) × (is_lt p ≡ false))
 then_not_less Less p e = cc
 then_not_less Equal p e = inr (refl, e)
 then_not_less Greater p e = inl refl
 
 -- what a sort leaves of two places
-begins_from_sort : (m n : Marker) → is_lt (place_cmp (place_of (key_of n)) (place_of (key_of m))) ≡ false → BeginsFirst m n
+begins_from_sort : (m n : Marker) → is_lt (place_cmp (place_of (key_of n)) (place_of (key_of m)))
+    ≡ false → BeginsFirst m n
 begins_from_sort m n e =
     elim (then_not_less (line_place_cmp (line_place (line_of n)) (line_place (line_of m))) _ e) [
-      | inl g ↦ inl (reversed _ (sym (line_total.antisymm (line_of n) (line_of m)) ∙ sym (lines_alike (line_of n) (line_of m)) ∙ g))
-      | inr h ↦ inr (sym (line_tied _ _ (sym (lines_alike (line_of n) (line_of m)) ∙ h.0)), not_after _ _ (first_not_less _ _ h.1))
+      | inl g ↦ inl (reversed _ (sym (line_total.antisymm (line_of n) (line_of m))
+          ∙ sym (lines_alike (line_of n) (line_of m)) ∙ g))
+      | inr h ↦ inr (
+        sym (line_tied _ _ (sym (lines_alike (line_of n) (line_of m)) ∙ h.0)),
+        not_after _ _ (first_not_less _ _ h.1),
+      )
     ]
   where
     first_not_less : (o p : Ordering) → is_lt (ordering_then o p) ≡ false → is_lt o ≡ false
@@ -161,29 +191,41 @@ begins_from_sort m n e =
     first_not_less Equal p f = refl
     first_not_less Greater p f = refl
 
-pub AreInOrder-from_sort : (xs : List Marker) → IsSortedByKey (λ m. place_of (key_of m)) place_cmp xs → AreInOrder xs
+pub AreInOrder-from_sort : (xs : List Marker)
+    → IsSortedByKey (λ m. place_of (key_of m)) place_cmp xs → AreInOrder xs
 AreInOrder-from_sort xs h i j d l b =
-    begins_from_sort (get_or xs i d) (get_or xs j d) (sorted_far (λ x y. is_lt (place_cmp (place_of (key_of x)) (place_of (key_of y)))) (ranks_by place_total (λ (m : Marker). place_of (key_of m))) xs h i j d (omega arith) b)
+    begins_from_sort (get_or xs i d) (get_or xs j d)
+    (sorted_far (λ x y. is_lt (place_cmp (place_of (key_of x)) (place_of (key_of y))))
+    (ranks_by place_total (λ (m : Marker). place_of (key_of m))) xs h i j d (omega arith) b)
 
 -- by the clause of the sort
-pub AreInOrder-from_sort_by_key : {F : Type 0} {g : Mut F (Bor Marker × Unit {0}) Place} {f : F} (xs : List Marker) → ((key : Marker → Place) → ComputesKey g key f → IsSortedByKey key place_cmp xs) → ((a : Bor Marker × Unit {0}) (r : Place) (f' : F) → Called g f a r f' → (r ≡ place_of (key_of a.0.now)) × (f' ≡ f)) → AreInOrder xs
+pub AreInOrder-from_sort_by_key : {F : Type 0} {g : Mut F (Bor Marker × Unit {0}) Place} {f : F}
+    (xs : List Marker) → ((key : Marker → Place) → ComputesKey g key f
+    → IsSortedByKey key place_cmp xs) → ((a : Bor Marker × Unit {0}) (r : Place) (f' : F)
+    → Called g f a r f' → (r ≡ place_of (key_of a.0.now)) × (f' ≡ f)) → AreInOrder xs
 AreInOrder-from_sort_by_key {g = g} {f = f} xs up h =
-    AreInOrder-from_sort xs (up (λ m. place_of (key_of m)) (always_returns_same g (λ a r. r ≡ place_of (key_of a.0.now)) f h))
+    AreInOrder-from_sort xs (up (λ m. place_of (key_of m))
+    (always_returns_same g (λ a r. r ≡ place_of (key_of a.0.now)) f h))
 
 pub BeginsFirst-chain : (m n o : Marker) → BeginsFirst m n → BeginsFirst n o → BeginsFirst m o
-BeginsFirst-chain m n o p q = line_chain (line_of m) (line_of n) (line_of o) (λ e f. omega (arith, ints, e, f)) p q
+BeginsFirst-chain m n o p q =
+    line_chain (line_of m) (line_of n) (line_of o) (λ e f. omega (arith, ints, e, f)) p q
 
-pub StandsBefore-chain : (m n o : Marker) → IsFilled n → StandsBefore m n → StandsBefore n o → StandsBefore m o
-StandsBefore-chain m n o f p q = line_chain (line_of m) (line_of n) (line_of o) (λ e g. omega (arith, ints, e, g, f)) p q
+pub StandsBefore-chain : (m n o : Marker) → IsFilled n → StandsBefore m n → StandsBefore n o
+    → StandsBefore m o
+StandsBefore-chain m n o f p q =
+    line_chain (line_of m) (line_of n) (line_of o) (λ e g. omega (arith, ints, e, g, f)) p q
 
 pub StandsBefore-begins : (m n o : Marker) → StandsBefore m n → BeginsFirst n o → StandsBefore m o
-StandsBefore-begins m n o p q = line_chain (line_of m) (line_of n) (line_of o) (λ e g. omega (arith, ints, e, g)) p q
+StandsBefore-begins m n o p q =
+    line_chain (line_of m) (line_of n) (line_of o) (λ e g. omega (arith, ints, e, g)) p q
 
 pub begins_itself : (m : Marker) → BeginsFirst m m
 begins_itself m = inr (refl, omega (arith, ints))
 
 -- what stands in an ordered list from a place on begins no earlier than what stands there
-pub behind : (xs : List Marker) (i : ℕ) (d m : Marker) → AreInOrder xs → Contains (drop i xs) m → BeginsFirst (get_or xs i d) m
+pub behind : (xs : List Marker) (i : ℕ) (d m : Marker) → AreInOrder xs → Contains (drop i xs) m
+    → BeginsFirst (get_or xs i d) m
 behind xs i d m h c =
     let p = held_at (drop i xs) d m c in
     let far : get_or xs (i + p.0) d ≡ m = sym (get_or-drop i xs p.0 d) ∙ p.2 in
@@ -191,8 +233,10 @@ behind xs i d m h c =
     at p.0 far inside
   where
     at : (k : ℕ) → get_or xs (i + k) d ≡ m → i + k < length xs → BeginsFirst (get_or xs i d) m
-    at zero e l = subst (λ (n : Marker). BeginsFirst (get_or xs i d) n) (let f : get_or xs i d ≡ m = rw add-zero at e in f) (begins_itself (get_or xs i d))
-    at (suc k) e l = subst (λ (n : Marker). BeginsFirst (get_or xs i d) n) e (h i (i + suc k) d (omega arith) l)
+    at zero e l = subst (λ (n : Marker). BeginsFirst (get_or xs i d) n)
+        (let f : get_or xs i d ≡ m = rw add-zero at e in f) (begins_itself (get_or xs i d))
+    at (suc k) e l = subst (λ (n : Marker). BeginsFirst (get_or xs i d) n) e
+        (h i (i + suc k) d (omega arith) l)
 
 same_int : (x y : ℤ) → int_eq x y ≡ true → x ≡ y
 same_int x y h = grind (arith, ints)
@@ -201,7 +245,9 @@ int_same : (x y : ℤ) → x ≡ y → int_eq x y ≡ true
 int_same x y h = grind (arith, ints)
 
 -- what the derived test of two lines says
-pub same_lines_test : (a b : Line) (t : Bool) → t ≡ (eqb a.rule b.rule && (sameb the_type a.axis b.axis && (eqb a.side b.side && (int_eq a.x1 b.x1 && int_eq a.x2 b.x2)))) → (t ≡ true) ↔ (a ≡ b)
+pub same_lines_test : (a b : Line) (t : Bool)
+    → t ≡ (eqb a.rule b.rule && (sameb the_type a.axis b.axis
+    && (eqb a.side b.side && (int_eq a.x1 b.x1 && int_eq a.x2 b.x2)))) → (t ≡ true) ↔ (a ≡ b)
 same_lines_test a b t e = (to, from)
   where
     to : t ≡ true → a ≡ b
@@ -210,7 +256,8 @@ same_lines_test a b t e = (to, from)
         let q = and_parts _ _ p.1 in
         let r = and_parts _ _ q.1 in
         let s = and_parts _ _ r.1 in
-        same_line a b (eqb-true _ _ p.0) (same_true the_type tt _ _ q.0) (eqb-true _ _ r.0) (same_int _ _ s.0) (same_int _ _ s.1)
+        same_line a b (eqb-true _ _ p.0) (same_true the_type tt _ _ q.0) (eqb-true _ _ r.0)
+        (same_int _ _ s.0) (same_int _ _ s.1)
 
     from : a ≡ b → t ≡ true
     from h =
@@ -218,4 +265,5 @@ same_lines_test a b t e = (to, from)
         ∙ and_from _ _ (eq-eqb _ _ (ap (λ (l : Line). l.rule) h))
         (and_from _ _ (true_same the_type _ _ (ap (λ (l : Line). l.axis) h))
         (and_from _ _ (eq-eqb _ _ (ap (λ (l : Line). l.side) h))
-        (and_from _ _ (int_same _ _ (ap (λ (l : Line). l.x1) h)) (int_same _ _ (ap (λ (l : Line). l.x2) h)))))
+        (and_from _ _ (int_same _ _ (ap (λ (l : Line). l.x1) h))
+        (int_same _ _ (ap (λ (l : Line). l.x2) h)))))

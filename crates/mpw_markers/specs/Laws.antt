@@ -11,23 +11,29 @@ use Rattle.mpw_markers.specs.Whole.{AreMarkersOf}
 
 -- the lists determine the book
 abbrev pub ListsDetermineTheBook : Type 0
-ListsDetermineTheBook = (lists : List (List Marker)) (first second : List Marker) → IsStitched lists first → IsStitched lists second → first ≡ second
+ListsDetermineTheBook = (lists : List (List Marker)) (first second : List Marker)
+    → IsStitched lists first → IsStitched lists second → first ≡ second
 
 -- what is passed in one core
 abbrev pub steps_in : (Line → ℤ → Bool) → (Line → ℤ → Bool) → Line → ℤ → Bool
 steps_in steps core line j = steps line j && core line j
 
 -- each list has just the markers of its core; each core is bounded, and each step lies in one of them
-pub record AreListedByCores (steps : Line → ℤ → Bool) (cores : ℕ → Line → ℤ → Bool) (has : ℕ → Square → Type 0) (lists : List (List Marker)) : Type 0 where
-  pub listed : (k : ℕ) → k < length lists → AreMarkersOf (steps_in steps (cores k)) has (slice_index_or lists k [])
-  pub bounded : (k : ℕ) → k < length lists → (low : ℤ) × (high : ℤ) × ((line : Line) (j : ℤ) → cores k line j ≡ true → (low ≤ℤ j) × (j <ℤ high))
-  pub covered : (line : Line) (j : ℤ) → steps line j ≡ true → (k : ℕ) × (k < length lists) × (cores k line j ≡ true)
+pub record AreListedByCores (steps : Line → ℤ → Bool) (cores : ℕ → Line → ℤ → Bool) (has : ℕ
+    → Square → Type 0) (lists : List (List Marker)) : Type 0 where
+  pub listed : (k : ℕ) → k < length lists
+      → AreMarkersOf (steps_in steps (cores k)) has (slice_index_or lists k [])
+  pub bounded : (k : ℕ) → k < length lists → (low : ℤ) × (high : ℤ)
+      × ((line : Line) (j : ℤ) → cores k line j ≡ true → (low ≤ℤ j) × (j <ℤ high))
+  pub covered : (line : Line) (j : ℤ) → steps line j ≡ true → (k : ℕ) × (k < length lists)
+      × (cores k line j ≡ true)
 
 -- The book stitched from the lists of all cores has just the markers of the whole layout. Which rows of a line are steps is a test, and
 -- so are which of them lie in a core, and which unit squares a submission has.
 abbrev pub StitchedIsWhole : Type 0
 StitchedIsWhole =
-    (steps : Line → ℤ → Bool) (cores : ℕ → Line → ℤ → Bool) (has : ℕ → Square → Bool) (lists : List (List Marker)) (book : List Marker)
+    (steps : Line → ℤ → Bool) (cores : ℕ → Line → ℤ → Bool) (has : ℕ → Square → Bool)
+    (lists : List (List Marker)) (book : List Marker)
     → AreListedByCores steps cores (λ origin s. has origin s ≡ true) lists → IsStitched lists book
     → AreMarkersOf steps (λ origin s. has origin s ≡ true) book
 

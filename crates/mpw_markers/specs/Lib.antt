@@ -1,9 +1,8 @@
 pub mod Met
 pub mod Markers
 pub mod Order
-pub mod Places
 pub mod Book
 pub mod Stitched
-pub mod Runs
 pub mod Whole
 pub mod Laws
+pub mod Internal

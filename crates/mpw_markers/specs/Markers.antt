@@ -14,7 +14,15 @@ line_of m = record { rule = m.rule; axis = m.axis; side = m.side; x1 = m.x1; x2 
 
 -- the marker without the submissions that it meets
 abbrev pub key_of : Marker → Key
-key_of m = record { rule = m.rule; axis = m.axis; side = m.side; x1 = m.x1; x2 = m.x2; y0 = m.y0; y1 = m.y1 }
+key_of m = record {
+  rule = m.rule;
+  axis = m.axis;
+  side = m.side;
+  x1 = m.x1;
+  x2 = m.x2;
+  y0 = m.y0;
+  y1 = m.y1;
+}
 
 abbrev pub line_of_key : Key → Line
 line_of_key k = record { rule = k.rule; axis = k.axis; side = k.side; x1 = k.x1; x2 = k.x2 }
@@ -28,7 +36,8 @@ axis_eq H H = true
 
 abbrev pub line_eq : Line → Line → Bool
 line_eq a b =
-    ((a.rule == b.rule) && axis_eq a.axis b.axis) && ((a.side == b.side) && (int_eq a.x1 b.x1 && int_eq a.x2 b.x2))
+    ((a.rule == b.rule) && axis_eq a.axis b.axis)
+    && ((a.side == b.side) && (int_eq a.x1 b.x1 && int_eq a.x2 b.x2))
 
 abbrev pub key_eq : Key → Key → Bool
 key_eq a b = line_eq (line_of_key a) (line_of_key b) && (int_eq a.y0 b.y0 && int_eq a.y1 b.y1)

@@ -1,5 +1,5 @@
 -- The order of markers.
-use Rattle.std.specs.Prelude.{◌≡◌, ◌≤ℤ◌, ◌<ℤ◌, List, AllPairs, ◌⊎◌}
+use Rattle.std.specs.Prelude.{◌≡◌, ◌<ℤ◌, ◌⊎◌}
 use Rattle.std.specs.Ordering.{nat_cmp, int_cmp, ordering_then}
 use Rattle.std.specs.declared.cmp.Ordering.{Ordering}
 use Rattle.std.specs.declared.cmp.Ordering.TheVariants.{Less}
@@ -12,16 +12,11 @@ use Rattle.mpw_markers.specs.Markers.{line_of}
 abbrev pub line_cmp : Line → Line → Ordering
 line_cmp a b =
     ordering_then (nat_cmp a.rule b.rule)
-    (ordering_then (axis_cmp a.axis b.axis) (ordering_then (nat_cmp a.side b.side) (ordering_then (int_cmp a.x1 b.x1) (int_cmp a.x2 b.x2))))
+    (ordering_then (axis_cmp a.axis b.axis)
+    (ordering_then (nat_cmp a.side b.side)
+    (ordering_then (int_cmp a.x1 b.x1) (int_cmp a.x2 b.x2))))
 
 -- the first marker's line comes first, or on one line it ends before the second begins, with a gap
 abbrev pub StandsBefore : Marker → Marker → Type 0
-StandsBefore m n = (line_cmp (line_of m) (line_of n) ≡ Less) ⊎ ((line_of m ≡ line_of n) × (m.y1 <ℤ n.y0))
-
--- the first marker's line comes first, or on one line it begins no later
-abbrev pub BeginsFirst : Marker → Marker → Type 0
-BeginsFirst m n = (line_cmp (line_of m) (line_of n) ≡ Less) ⊎ ((line_of m ≡ line_of n) × (m.y0 ≤ℤ n.y0))
-
--- markers by line, and on a line by where they begin
-abbrev pub AreInOrder : List Marker → Type 0
-AreInOrder markers = AllPairs BeginsFirst markers
+StandsBefore m n =
+    (line_cmp (line_of m) (line_of n) ≡ Less) ⊎ ((line_of m ≡ line_of n) × (m.y1 <ℤ n.y0))

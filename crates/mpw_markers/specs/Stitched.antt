@@ -8,8 +8,10 @@ use Rattle.mpw_markers.specs.Book.{IsBook}
 -- The book has just the rows of the parts. A marker of it meets just the submissions of the parts within its rows.
 pub record IsJoined (part : Marker → Type 0) (book : List Marker) : Type 0 where
   pub markers : IsBook book
-  pub rows : (line : Line) (j : ℤ) → CoversRow book line j ↔ ((m : Marker) × part m × HasRow m line j)
-  pub met : (n : Marker) (origin : ℕ) → Contains book n → Contains n.met origin ↔ ((m : Marker) × part m × LiesIn m n × Contains m.met origin)
+  pub rows : (line : Line) (j : ℤ) → CoversRow book line j
+      ↔ ((m : Marker) × part m × HasRow m line j)
+  pub met : (n : Marker) (origin : ℕ) → Contains book n → Contains n.met origin
+      ↔ ((m : Marker) × part m × LiesIn m n × Contains m.met origin)
 
 -- the marker is in one of the lists
 abbrev pub IsListed : List (List Marker) → Marker → Type 0

@@ -11,9 +11,10 @@ use Rattle.mpw_markers.specs.Markers.{line_of_key, key_of, box_of}
 
 -- a unit square of the submission, taken closed, shares a point with the closed box
 abbrev pub IsMet : (ℕ → Square → Type 0) → Box2 → ℕ → Type 0
-IsMet has box origin = (s : Square) × has origin s × ((p : Point) × (has_point (closed_square s) p ≡ true) × (has_point box p ≡ true))
+IsMet has box origin = (s : Square) × has origin s
+    × ((p : Point) × (has_point (closed_square s) p ≡ true) × (has_point box p ≡ true))
 
--- a maximal run of rows that the test passes on the key's line
+-- a maximal run of rows on the key's line that pass the test
 pub record IsMaximal (steps : Line → ℤ → Bool) (key : Key) : Type 0 where
   pub filled : key.y0 <ℤ key.y1
   pub rows : (j : ℤ) → key.y0 ≤ℤ j → j <ℤ key.y1 → steps (line_of_key key) j ≡ true
@@ -21,12 +22,15 @@ pub record IsMaximal (steps : Line → ℤ → Bool) (key : Key) : Type 0 where
   pub above : steps (line_of_key key) key.y1 ≡ false
 
 -- a maximal run with the submissions that its box meets
-pub record IsMarkerOf (steps : Line → ℤ → Bool) (has : ℕ → Square → Type 0) (m : Marker) : Type 0 where
+pub record IsMarkerOf (steps : Line → ℤ → Bool) (has : ℕ → Square → Type 0) (m : Marker) :
+    Type 0 where
   pub run : IsMaximal steps (key_of m)
   pub ascending : IsAscending m.met
   pub met : (origin : ℕ) → Contains m.met origin ↔ IsMet has (box_of m) origin
 
 -- the list has a marker for each maximal run, and no others
-pub record AreMarkersOf (steps : Line → ℤ → Bool) (has : ℕ → Square → Type 0) (markers : List Marker) : Type 0 where
+pub record AreMarkersOf (steps : Line → ℤ → Bool) (has : ℕ → Square → Type 0)
+    (markers : List Marker) : Type 0 where
   pub sound : (m : Marker) → Contains markers m → IsMarkerOf steps has m
-  pub complete : (key : Key) → IsMaximal steps key → (m : Marker) × Contains markers m × (key_of m ≡ key)
+  pub complete : (key : Key) → IsMaximal steps key → (m : Marker) × Contains markers m
+      × (key_of m ≡ key)

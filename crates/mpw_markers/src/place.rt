@@ -1,7 +1,7 @@
 //! Where markers stand in a book, by numbers that are in a book's order.
 
 ghost use Rattle.std.specs.Prelude.{◌≡◌};
-ghost use Rattle.mpw_markers.specs.Places.{axis_place, place_of};
+ghost use Rattle.mpw_markers.specs.Internal.Places.{axis_place, place_of};
 
 use crate::marker::Key;
 use mpw_edges::Axis;

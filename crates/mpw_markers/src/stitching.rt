@@ -7,9 +7,9 @@ ghost use Rattle.std.specs.Prelude.{◌≡◌, ◌≤◌, ◌++◌, ◌<ℤ◌, 
 ghost use Rattle.std.specs.List.{flat_map};
 ghost use Rattle.std.specs.List.Sorted.{IsPermutation};
 ghost use Rattle.mpw_markers.specs.Markers.{line_of, line_of_key, key_of, IsFilled};
-ghost use Rattle.mpw_markers.specs.Order.{AreInOrder};
+ghost use Rattle.mpw_markers.specs.Internal.Order.{AreInOrder};
 ghost use Rattle.mpw_markers.specs.Stitched.{IsJoined, IsStitched};
-ghost use Rattle.mpw_markers.specs.Runs.{lengthened, AreMetBy, IsFirstRun, AddsRun};
+ghost use Rattle.mpw_markers.specs.Internal.Runs.{lengthened, AreMetBy, IsFirstRun, AddsRun};
 
 use crate::book::Book;
 use crate::marker::{Key, Marker, TileMarkers};

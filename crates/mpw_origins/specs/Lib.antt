@@ -1,2 +1,2 @@
 pub mod Origins
-pub mod Search
+pub mod Internal

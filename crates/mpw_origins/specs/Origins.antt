@@ -8,11 +8,14 @@ use Rattle.mpw_origins.specs.declared.search.Rectangle.{Rectangle}
 
 -- a rectangle of that origin has the unit square
 abbrev pub HasSquareOf : List Rectangle → ℕ → Square → Type 0
-HasSquareOf rectangles origin s = (r : Rectangle) × Contains rectangles r × (r.origin ≡ origin) × (has_square r.area s ≡ true)
+HasSquareOf rectangles origin s =
+    (r : Rectangle) × Contains rectangles r × (r.origin ≡ origin) × (has_square r.area s ≡ true)
 
 -- for each box the origins, ascending, of which a unit square, taken closed, shares a point with the closed box
-pub record AreMetOrigins (rectangles : List Rectangle) (boxes : List Box2) (mets : List (List ℕ)) : Type 0 where
+pub record AreMetOrigins (rectangles : List Rectangle) (boxes : List Box2) (mets : List (List ℕ)) :
+    Type 0 where
   pub count : length mets ≡ length boxes
   pub ascending : All IsAscending mets
   pub met : (k origin : ℕ) (d : Box2) → k < length boxes
-      → Contains (slice_index_or mets k []) origin ↔ IsMet (HasSquareOf rectangles) (slice_index_or boxes k d) origin
+      → Contains (slice_index_or mets k []) origin
+      ↔ IsMet (HasSquareOf rectangles) (slice_index_or boxes k d) origin

@@ -9,7 +9,7 @@ ghost use Rattle.std.specs.List.Sorted.{IsPermutation};
 ghost use Rattle.mpw_geom.specs.Plane.{IsOrdered, HasArea};
 ghost use Rattle.mpw_origins.specs.declared.search.Item.{Item as ItemValue};
 ghost use Rattle.mpw_origins.specs.Origins.{AreMetOrigins};
-ghost use Rattle.mpw_origins.specs.Search.{AreItemsOf, CanBeFilled, Fills};
+ghost use Rattle.mpw_origins.specs.Internal.Search.{AreItemsOf, CanBeFilled, Fills};
 
 use crate::search::{Item, Rectangle, answer, hull, parts_near};
 use mpw_geom::Box2;

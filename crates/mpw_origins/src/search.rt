@@ -2,7 +2,7 @@
 
 ghost use Rattle.std.specs.Prelude.{◌≡◌, ◌⊎◌, ◌≤ℤ◌, true, ℕ, Contains, IfOk, IsTrue, MatchBool};
 ghost use Rattle.mpw_origins.specs.declared.search.Item.{Item as ItemValue};
-ghost use Rattle.mpw_origins.specs.Search.{SharePoint, IsWithin, AreAlikeIn, Answers};
+ghost use Rattle.mpw_origins.specs.Internal.Search.{SharePoint, IsWithin, AreAlikeIn, Answers};
 
 use mpw_geom::Box2;
 use mpw_markers::Met;

@@ -17,7 +17,8 @@ abbrev pub placement_of : List ℕ → List ℕ → Placing → ℕ → Placemen
 placement_of cell label placing number =
     record { cell = cell; label = label; root = record { submission = number; placing = placing } }
 
-pub record IsPlaced (ss : List Submission) (ps after : List Placement) (cell label : List ℕ) (placing : Placing) : Type 0 where
+pub record IsPlaced (ss : List Submission) (ps after : List Placement) (cell label : List ℕ)
+    (placing : Placing) : Type 0 where
   pub number : ℕ
   pub is : present ss cell ≡ Some number
   pub new : is_taken ps cell label ≡ false
@@ -26,37 +27,57 @@ pub record IsPlaced (ss : List Submission) (ps after : List Placement) (cell lab
   pub room : nat_le 4096 (length ps) ≡ false
   pub all : after ≡ ps ++ placement_of cell label placing number ∷ []
 
-first_none : (t : Bool) (fault : PlacingFault) (rest : Option PlacingFault) → (if t then Some fault else rest) ≡ None → (t ≡ false) × (rest ≡ None)
+first_none : (t : Bool) (fault : PlacingFault) (rest : Option PlacingFault)
+    → (if t then Some fault else rest) ≡ None → (t ≡ false) × (rest ≡ None)
 first_none true fault rest e = absurd cc
 first_none false fault rest e = (refl, e)
 
-behind_ok : (ps after : List Placement) (p : Placement) (o : Option PlacingFault) → behind ps p o ≡ Ok after → (o ≡ None) × (after ≡ ps ++ p ∷ [])
+behind_ok : (ps after : List Placement) (p : Placement) (o : Option PlacingFault)
+    → behind ps p o ≡ Ok after → (o ≡ None) × (after ≡ ps ++ p ∷ [])
 behind_ok ps after p None e = (refl, cc)
 behind_ok ps after p (Some fault) e = absurd cc
 
-root_is : (ss : List Submission) (ps after : List Placement) (cell label : List ℕ) (placing : Placing) (number : ℕ) → present ss cell ≡ Some number → placed_root ss ps cell label (record { submission = number; placing = placing }) ≡ Ok after → IsPlaced ss ps after cell label placing
+root_is : (ss : List Submission) (ps after : List Placement) (cell label : List ℕ)
+    (placing : Placing) (number : ℕ) → present ss cell ≡ Some number
+    → placed_root ss ps cell label (record { submission = number; placing = placing }) ≡ Ok after
+    → IsPlaced ss ps after cell label placing
 root_is ss ps after cell label placing number is e =
     let root : Root = record { submission = number; placing = placing } in
-    let b = behind_ok ps after (placement_of cell label placing number) (refusal ss ps cell label root) e in
+    let b = behind_ok ps after (placement_of cell label placing number)
+    (refusal ss ps cell label root) e in
     let new = first_none (is_taken ps cell label) Known _ b.0 in
     let near = first_none (is_far (root_extent ss root)) Extent _ new.1 in
-    let small = first_none (nat_lt (2 ^ 20) (shape_count ss ps + count ss number)) Shapes _ near.1 in
+    let small =
+    first_none (nat_lt (2 ^ 20) (shape_count ss ps + count ss number)) Shapes _ near.1 in
     let room = first_none (nat_le 4096 (length ps)) Full None small.1 in
-    record { number = number; is = is; new = new.0; near = near.0; small = small.0; room = room.0; all = b.1 }
+    record {
+      number = number;
+      is = is;
+      new = new.0;
+      near = near.0;
+      small = small.0;
+      room = room.0;
+      all = b.1;
+    }
 
-pub placed_is : (ss : List Submission) (ps after : List Placement) (cell label : List ℕ) (placing : Placing) → placed ss ps cell label placing ≡ Ok after → IsPlaced ss ps after cell label placing
+pub placed_is : (ss : List Submission) (ps after : List Placement) (cell label : List ℕ)
+    (placing : Placing) → placed ss ps cell label placing ≡ Ok after
+    → IsPlaced ss ps after cell label placing
 unfolding placed
 placed_is ss ps after cell label placing e = go (present ss cell) refl e
   where
-    go : (o : Option ℕ) → present ss cell ≡ o → placed_number ss ps cell label placing o ≡ Ok after → IsPlaced ss ps after cell label placing
+    go : (o : Option ℕ) → present ss cell ≡ o → placed_number ss ps cell label placing o ≡ Ok after
+        → IsPlaced ss ps after cell label placing
     go None is e = absurd cc
     go (Some number) is e = root_is ss ps after cell label placing number is e
 
 -- and so of what was taken away
-pub unplaced_is : (ps after : List Placement) (cell label : List ℕ) → unplaced ps cell label ≡ Ok after → after ≡ filter (λ p. not (is_at cell label p)) ps
+pub unplaced_is : (ps after : List Placement) (cell label : List ℕ)
+    → unplaced ps cell label ≡ Ok after → after ≡ filter (λ p. not (is_at cell label p)) ps
 unfolding unplaced
 unplaced_is ps after cell label e = go (is_taken ps cell label) e
   where
-    go : (t : Bool) → (if t then Ok (filter (λ p. not (is_at cell label p)) ps) else Err Unknown) ≡ Ok after → after ≡ filter (λ p. not (is_at cell label p)) ps
+    go : (t : Bool) → (if t then Ok (filter (λ p. not (is_at cell label p)) ps) else Err Unknown)
+        ≡ Ok after → after ≡ filter (λ p. not (is_at cell label p)) ps
     go true e = cc
     go false e = absurd cc

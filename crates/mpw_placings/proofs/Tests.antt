@@ -13,14 +13,15 @@ use Rattle.mpw_walk.specs.declared.root.Root.{Root}
 use Rattle.mpw_walk.specs.Roots.{root_extent}
 use Rattle.mpw_walk.specs.Walk.{IsRoot}
 use Rattle.mpw_placings.specs.declared.placement.Placement.{Placement}
-use Rattle.mpw_placings.specs.Placements.{is_at, is_taken, is_far, AreApart}
+use Rattle.mpw_placings.specs.Placements.{is_at, is_taken, is_far, DifferInName}
 
 -- ---- extents
 
 abbrev IsNear : Placing → Option Box2 → Type 0
 IsNear t extent = IfSome extent (λ box. is_box_near (placed_box t box) ≡ true)
 
-near_from_test : (t : Placing) (extent : Option Box2) → is_far (option_map (placed_box t) extent) ≡ false → IsNear t extent
+near_from_test : (t : Placing) (extent : Option Box2)
+    → is_far (option_map (placed_box t) extent) ≡ false → IsNear t extent
 near_from_test t None e = tt
 near_from_test t (Some box) e = go (is_box_near (placed_box t box)) e
   where
@@ -28,26 +29,31 @@ near_from_test t (Some box) e = go (is_box_near (placed_box t box)) e
     go true e = refl
     go false e = absurd cc
 
-test_from_near : (t : Placing) (extent : Option Box2) → IsNear t extent → is_far (option_map (placed_box t) extent) ≡ false
+test_from_near : (t : Placing) (extent : Option Box2) → IsNear t extent
+    → is_far (option_map (placed_box t) extent) ≡ false
 test_from_near t None near = refl
 test_from_near t (Some box) near = ap not near
 
 -- what isn't far fits
-pub root_from_test : (ss : List Submission) (root : Root) → root.submission < length ss → is_far (root_extent ss root) ≡ false → IsRoot ss root
+pub root_from_test : (ss : List Submission) (root : Root) → root.submission < length ss
+    → is_far (root_extent ss root) ≡ false → IsRoot ss root
 root_from_test ss root within e = record {
   present = within;
   near = near_from_test root.placing (extent ss root.submission) e;
 }
 
 -- and what fits isn't far
-pub far_is : (ss : List Submission) (root : Root) (fits : Bool) → root.submission < length ss → IsTrue fits ↔ IsRoot ss root → not fits ≡ is_far (root_extent ss root)
+pub far_is : (ss : List Submission) (root : Root) (fits : Bool) → root.submission < length ss
+    → IsTrue fits ↔ IsRoot ss root → not fits ≡ is_far (root_extent ss root)
 far_is ss root fits within same = go fits refl (is_far (root_extent ss root)) refl
   where
     go : (r : Bool) → fits ≡ r → (far : Bool) → is_far (root_extent ss root) ≡ far → not r ≡ far
-    go true is true far = absurd (let near : is_far (root_extent ss root) ≡ false = test_from_near root.placing (extent ss root.submission) (same.0 is).near in cc)
+    go true is true far = absurd (let near : is_far (root_extent ss root) ≡ false = test_from_near
+        root.placing (extent ss root.submission) (same.0 is).near in cc)
     go true is false far = refl
     go false is true far = refl
-    go false is false far = absurd (let true_is : fits ≡ true = same.1 (root_from_test ss root within far) in cc)
+    go false is false far = absurd (let true_is : fits ≡ true = same.1
+        (root_from_test ss root within far) in cc)
 
 -- ---- names
 
@@ -55,13 +61,18 @@ both_and : (a b : Bool) → a ≡ true → b ≡ true → (a && b) ≡ true
 both_and a b e f = ap (λ c. c && b) e ∙ f
 
 -- a placing is of its own cell and label
-pub is_at_itself : (cell label : List ℕ) (p : Placement) → p.cell ≡ cell → p.label ≡ label → is_at cell label p ≡ true
+pub is_at_itself : (cell label : List ℕ) (p : Placement) → p.cell ≡ cell → p.label ≡ label
+    → is_at cell label p ≡ true
 is_at_itself cell label p c l =
-    both_and (name_eq p.cell cell) (name_eq p.label label) ((bytes_decides p.cell cell).1 c) ((bytes_decides p.label label).1 l)
+    both_and (name_eq p.cell cell) (name_eq p.label label) ((bytes_decides p.cell cell).1 c)
+    ((bytes_decides p.label label).1 l)
 
 -- what has another name than all is apart from each
-pub apart_from_all : (ps : List Placement) (p : Placement) → is_taken ps p.cell p.label ≡ false → (k : ℕ) (d : Placement) → k < length ps → AreApart (get_or ps k d) p
+pub apart_from_all : (ps : List Placement) (p : Placement) → is_taken ps p.cell p.label ≡ false
+    → (k : ℕ) (d : Placement) → k < length ps → DifferInName (get_or ps k d) p
 apart_from_all ps p new k d within = λ c l.
-    let at : is_at p.cell p.label (get_or ps k d) ≡ true = is_at_itself p.cell p.label (get_or ps k d) c l in
-    let found : is_taken ps p.cell p.label ≡ true = list_any_at (is_at p.cell p.label) ps k d within at in
+    let at : is_at p.cell p.label (get_or ps k d) ≡ true = is_at_itself p.cell p.label
+    (get_or ps k d) c l in
+    let found : is_taken ps p.cell p.label ≡ true = list_any_at (is_at p.cell p.label) ps k d within
+    at in
     cc

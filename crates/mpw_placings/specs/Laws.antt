@@ -25,7 +25,8 @@ UnplacingKeeps =
 
 abbrev pub LaterShelvesKeep : Type 0
 LaterShelvesKeep =
-    (ss later : List Submission) (ps : List Placement) → ArePlacings ss ps → ArePlacings (ss ++ later) ps
+    (ss later : List Submission) (ps : List Placement) → ArePlacings ss ps
+    → ArePlacings (ss ++ later) ps
 
 -- Later submissions change nothing of what placings show.
 abbrev pub PlacedAreShownAgain : Type 0
@@ -42,7 +43,8 @@ UnplacingUndoes =
     → placed ss ps cell label placing ≡ Ok after → unplaced after cell label ≡ Ok ps
 
 -- The version of what was placed is that of the cell's present submission, which is there.
-pub record HasVersion (ss : List Submission) (ps : List Placement) (cell label : List ℕ) : Type 0 where
+pub record HasVersion (ss : List Submission) (ps : List Placement) (cell label : List ℕ) :
+    Type 0 where
   pub number : ℕ
   pub submission : Submission
   pub present_is : present ss cell ≡ Some number

@@ -1,4 +1,4 @@
--- The placings of the assembled top. Each is known by its cell and label together.
+-- The placements on the wafer, here called placings. Each is known by its cell and label together.
 use Rattle.std.specs.Prelude.{◌≡◌, ◌≢◌, ℕ, Bool, false, ◌&&◌, not, List, map, slice_get, All, AllPairs, Option, Some, None}
 use Rattle.std.specs.List.{list_any, find, sum_by}
 use Rattle.mpw_geom.specs.Names.{name_eq}
@@ -45,8 +45,8 @@ unfoldable pub version_at : List Submission → List Placement → List ℕ → 
 version_at ss ps cell label = version_placed ss (find (is_at cell label) ps)
 
 -- Two placings differ in their cells or in their labels.
-abbrev pub AreApart : Placement → Placement → Type 0
-AreApart p q = p.cell ≡ q.cell → p.label ≢ q.label
+abbrev pub DifferInName : Placement → Placement → Type 0
+DifferInName p q = p.cell ≡ q.cell → p.label ≢ q.label
 
 -- A placing is of a submission of its cell.
 abbrev pub IsOfItsCell : List Submission → Placement → Type 0
@@ -55,6 +55,6 @@ IsOfItsCell ss p = IsOfCell ss p.cell p.root.submission
 -- Placings on a shelf: no two have the same cell and label, each is of a submission of its cell, and a snapshot can have their
 -- roots: at most 4096, each on the shelf and near where it is placed, with at most 2^20 shapes together.
 pub record ArePlacings (ss : List Submission) (ps : List Placement) : Type 0 where
-  pub apart : AllPairs AreApart ps
+  pub apart : AllPairs DifferInName ps
   pub cells : All (IsOfItsCell ss) ps
   pub roots : AreRoots ss (roots_of ps)

@@ -21,22 +21,26 @@ refusal ss ps cell label root =
     else if nat_le 4096 (length ps) then Some Full
     else None
 
-abbrev pub behind : List Placement → Placement → Option PlacingFault → Result (List Placement) PlacingFault
+abbrev pub behind : List Placement → Placement → Option PlacingFault
+    → Result (List Placement) PlacingFault
 behind ps p None = Ok (ps ++ p ∷ [])
 behind ps p (Some fault) = Err fault
 
 -- The submission of that number goes behind the others, if no test refuses it.
-abbrev pub placed_root : List Submission → List Placement → List ℕ → List ℕ → Root → Result (List Placement) PlacingFault
+abbrev pub placed_root : List Submission → List Placement → List ℕ → List ℕ → Root
+    → Result (List Placement) PlacingFault
 placed_root ss ps cell label root =
     behind ps (record { cell = cell; label = label; root = root }) (refusal ss ps cell label root)
 
-abbrev pub placed_number : List Submission → List Placement → List ℕ → List ℕ → Placing → Option ℕ → Result (List Placement) PlacingFault
+abbrev pub placed_number : List Submission → List Placement → List ℕ → List ℕ → Placing → Option ℕ
+    → Result (List Placement) PlacingFault
 placed_number ss ps cell label placing None = Err NoCell
 placed_number ss ps cell label placing (Some number) =
     placed_root ss ps cell label (record { submission = number; placing = placing })
 
 -- The placings with the present submission of the cell placed under that label.
-unfoldable pub placed : List Submission → List Placement → List ℕ → List ℕ → Placing → Result (List Placement) PlacingFault
+unfoldable pub placed : List Submission → List Placement → List ℕ → List ℕ → Placing
+    → Result (List Placement) PlacingFault
 placed ss ps cell label placing = placed_number ss ps cell label placing (present ss cell)
 
 -- The placings without the one of that cell and label.
@@ -49,6 +53,7 @@ abbrev pub Refuses : PlacingFault → Result (List Placement) PlacingFault → T
 Refuses Memory told = Unit {0}
 Refuses fault told = told ≡ Err fault
 
-abbrev pub Gives : Result (List Placement) PlacingFault → Result (List Placement) PlacingFault → Type 0
-Gives (Ok ps) told = told ≡ Ok ps
-Gives (Err fault) told = Refuses fault told
+abbrev pub GivesPlacements : Result (List Placement) PlacingFault
+    → Result (List Placement) PlacingFault → Type 0
+GivesPlacements (Ok ps) told = told ≡ Ok ps
+GivesPlacements (Err fault) told = Refuses fault told

@@ -3,7 +3,7 @@
 ghost use Rattle.std.specs.Prelude.{◌≡◌, ◌<◌, ◌≤◌, ◌++◌, ◌∷◌, [], length, filter, not, IfOk, option_copied};
 ghost use Rattle.std.specs.List.{find};
 ghost use Rattle.mpw_placings.specs.Placements.{is_at, roots_of, version_at};
-ghost use Rattle.mpw_placings.specs.Rows.{refusal, placed, unplaced, Gives};
+ghost use Rattle.mpw_placings.specs.Rows.{refusal, placed, unplaced, GivesPlacements};
 
 use crate::fault::PlacingFault;
 use crate::limits::{is_far, is_taken, shape_count};
@@ -149,7 +149,7 @@ impl Placings {
         label: &Name,
         placing: Placing,
     ) -> Result<Placings, PlacingFault>
-        ensures { Gives result (placed shelf.now self.now cell.now label.now placing) }
+        ensures { GivesPlacements result (placed shelf.now self.now cell.now label.now placing) }
     {
         shelves_have_their_numbers();
         let Some(submission) = shelf.present(cell) else {
@@ -183,7 +183,7 @@ impl Placings {
         cell: &Name,
         label: &Name,
     ) -> Result<Placings, PlacingFault>
-        ensures { Gives result (unplaced self.now cell.now label.now) }
+        ensures { GivesPlacements result (unplaced self.now cell.now label.now) }
     {
         let placements = self.as_slice();
         if !is_taken(placements, cell, label) {

@@ -25,14 +25,21 @@ product_pos : (k c : ℕ) → 0 < c → 0 < suc k * c
 product_pos k c h = let p = mul-le 1 c (suc k) c (omega arith) (omega arith) in omega (arith, p)
 
 -- of equal sizes, those with one sign are equal
-pub same_size : (s : Bool) (m : ℕ) (n : ℤ) (c : ℕ) → 0 < c → (n ≡ pos 0 → ⊥) → m ≡ unsigned_abs n * c → beq s (lt_z n (pos 0)) ≡ int_eq (signed s m) (n *ℤ pos c)
+pub same_size : (s : Bool) (m : ℕ) (n : ℤ) (c : ℕ) → 0 < c → (n ≡ pos 0 → ⊥)
+    → m ≡ unsigned_abs n * c → beq s (lt_z n (pos 0)) ≡ int_eq (signed s m) (n *ℤ pos c)
 same_size s m (pos zero) c h other e = absurd (other refl)
-same_size false m (pos (suc k)) c h other e = rw (le-ltb (suc k) 0 (omega arith)) (when_true (pos m) (pos (suc k * c)) (ap pos e))
-same_size true m (pos (suc k)) c h other e = rw (le-ltb (suc k) 0 (omega arith)) (when_false (int_eq (neg_ℤ (pos m)) (pos (suc k * c))) (λ t.
-    differ (suc k * c) m (let p = product_pos k c h in omega (arith, p, e)) ((Decides-int_eq (neg_ℤ (pos m)) (pos (suc k * c))).0 t)))
-same_size true m (negsuc k) c h other e = when_true (neg_ℤ (pos m)) (neg_ℤ (pos (suc k * c))) (ap (λ x. neg_ℤ (pos x)) e)
-same_size false m (negsuc k) c h other e = when_false (int_eq (pos m) (neg_ℤ (pos (suc k * c)))) (λ t.
-    differ m (suc k * c) (product_pos k c h) (sym ((Decides-int_eq (pos m) (neg_ℤ (pos (suc k * c)))).0 t)))
+same_size false m (pos (suc k)) c h other e =
+    rw (le-ltb (suc k) 0 (omega arith)) (when_true (pos m) (pos (suc k * c)) (ap pos e))
+same_size true m (pos (suc k)) c h other e =
+    rw (le-ltb (suc k) 0 (omega arith)) (when_false (int_eq (neg_ℤ (pos m)) (pos (suc k * c))) (λ t.
+    differ (suc k * c) m (let p = product_pos k c h in omega (arith, p, e))
+    ((Decides-int_eq (neg_ℤ (pos m)) (pos (suc k * c))).0 t)))
+same_size true m (negsuc k) c h other e =
+    when_true (neg_ℤ (pos m)) (neg_ℤ (pos (suc k * c))) (ap (λ x. neg_ℤ (pos x)) e)
+same_size false m (negsuc k) c h other e =
+    when_false (int_eq (pos m) (neg_ℤ (pos (suc k * c)))) (λ t.
+    differ m (suc k * c) (product_pos k c h)
+    (sym ((Decides-int_eq (pos m) (neg_ℤ (pos (suc k * c)))).0 t)))
 
 -- what is below 0 is no number of nanometres
 pub none_below : (m : ℕ) → 0 < m → None ≡ nanometres (neg_ℤ (pos m))

@@ -13,7 +13,8 @@ signed negative magnitude = if negative then neg_ℤ (pos magnitude) else pos ma
 -- (The real is mantissa / 2^56 * 16^(exponent - 64), and 56 + 4 * 64 is 312.)
 abbrev pub real_value : List ℕ → ℤ
 real_value bytes =
-    signed (nat_le 128 (slice_index bytes 0)) ((big_number 8 bytes % 2 ^ 56) * 16 ^ (slice_index bytes 0 % 128))
+    signed (nat_le 128 (slice_index bytes 0))
+    ((big_number 8 bytes % 2 ^ 56) * 16 ^ (slice_index bytes 0 % 128))
 
 -- Whether a value, times 2^312, is a whole number.
 abbrev pub is_whole : ℤ → ℤ → Bool
@@ -21,7 +22,8 @@ is_whole value number = int_eq value (number *ℤ pos (2 ^ 312))
 
 -- Whether a value in metres, times 2^312, is so many nanometres, within one part in 10^9.
 abbrev pub is_nanometres : ℕ → ℕ → Bool
-is_nanometres value number = nat_le (abs_diff (value * 10 ^ 9) (number * 2 ^ 312) * 10 ^ 9) (number * 2 ^ 312)
+is_nanometres value number =
+    nat_le (abs_diff (value * 10 ^ 9) (number * 2 ^ 312) * 10 ^ 9) (number * 2 ^ 312)
 
 -- The first of so many numbers, from one on, that a value in metres is in nanometres.
 unfoldable pub first_near : (value from count : ℕ) → Option ℕ

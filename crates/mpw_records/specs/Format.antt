@@ -5,29 +5,29 @@ use Rattle.mpw_records.specs.declared.fault.Code.TheVariants.{BadType, BadSize}
 use Rattle.mpw_records.specs.declared.kind.TheConstants.{UNITS, STRNAME, SNAME, LAYER, DATATYPE, PATHTYPE, BOXTYPE, WIDTH, BGNEXTN, ENDEXTN, XY, COLROW, STRANS, MAG, ANGLE}
 
 -- The data type is tested first.
-abbrev pub told : Bool → Bool → Option Code
-told false has_size = Some BadType
-told true false = Some BadSize
-told true true = None
+abbrev pub form_fault : Bool → Bool → Option Code
+form_fault false has_size = Some BadType
+form_fault true false = Some BadSize
+form_fault true true = None
 
 -- The first fault of a record's data. Of the other record types only the type is looked at.
 unfoldable pub data_fault : (kind data_type size : ℕ) → Option Code
 data_fault kind data_type size =
-    if kind == UNITS then told (data_type == 5) (size == 16)
-    else if kind == STRNAME then told (data_type == 6) (nat_le 2 size)
-    else if kind == LAYER then told (data_type == 2) (size == 2)
-    else if kind == DATATYPE then told (data_type == 2) (size == 2)
-    else if kind == WIDTH then told (data_type == 3) (size == 4)
-    else if kind == XY then told (data_type == 3) (not (size == 0) && size % 8 == 0)
-    else if kind == SNAME then told (data_type == 6) (nat_le 2 size)
-    else if kind == COLROW then told (data_type == 2) (size == 4)
-    else if kind == STRANS then told (data_type == 1) (size == 2)
-    else if kind == MAG then told (data_type == 5) (size == 8)
-    else if kind == ANGLE then told (data_type == 5) (size == 8)
-    else if kind == PATHTYPE then told (data_type == 2) (size == 2)
-    else if kind == BOXTYPE then told (data_type == 2) (size == 2)
-    else if kind == BGNEXTN then told (data_type == 3) (size == 4)
-    else if kind == ENDEXTN then told (data_type == 3) (size == 4)
+    if kind == UNITS then form_fault (data_type == 5) (size == 16)
+    else if kind == STRNAME then form_fault (data_type == 6) (nat_le 2 size)
+    else if kind == LAYER then form_fault (data_type == 2) (size == 2)
+    else if kind == DATATYPE then form_fault (data_type == 2) (size == 2)
+    else if kind == WIDTH then form_fault (data_type == 3) (size == 4)
+    else if kind == XY then form_fault (data_type == 3) (not (size == 0) && size % 8 == 0)
+    else if kind == SNAME then form_fault (data_type == 6) (nat_le 2 size)
+    else if kind == COLROW then form_fault (data_type == 2) (size == 4)
+    else if kind == STRANS then form_fault (data_type == 1) (size == 2)
+    else if kind == MAG then form_fault (data_type == 5) (size == 8)
+    else if kind == ANGLE then form_fault (data_type == 5) (size == 8)
+    else if kind == PATHTYPE then form_fault (data_type == 2) (size == 2)
+    else if kind == BOXTYPE then form_fault (data_type == 2) (size == 2)
+    else if kind == BGNEXTN then form_fault (data_type == 3) (size == 4)
+    else if kind == ENDEXTN then form_fault (data_type == 3) (size == 4)
     else None
 
 -- The bytes that a record's data has at least.

@@ -24,8 +24,8 @@ abbrev pub raw : Record → RawRecord
 raw r = record { offset = r.offset; kind = r.kind; data_type = r.data_type; bytes = r.bytes.now }
 
 -- What stands where a record is looked for: a record, or the fault in its place.
-abbrev pub Outcome : Type 0
-Outcome = Result RawRecord ReadFault
+abbrev pub RecordOutcome : Type 0
+RecordOutcome = Result RawRecord ReadFault
 
 abbrev pub seen : Result Record ReadFault → Result RawRecord ReadFault
 seen (Ok r) = Ok (raw r)
@@ -46,7 +46,12 @@ first_fault bytes =
 -- The record that the bytes begin with, if it has no fault.
 abbrev pub record_of : ℕ → List ℕ → RawRecord
 record_of offset bytes =
-    record { offset = offset; kind = slice_index bytes 2; data_type = slice_index bytes 3; bytes = slice_range bytes 4 (told_length bytes) }
+    record {
+      offset = offset;
+      kind = slice_index bytes 2;
+      data_type = slice_index bytes 3;
+      bytes = slice_range bytes 4 (told_length bytes);
+    }
 
 abbrev pub unless_fault : Option Code → RawRecord → Result RawRecord ReadFault
 unless_fault None r = Ok r
@@ -54,7 +59,8 @@ unless_fault (Some code) r = Err (record { code = code; offset = r.offset })
 
 -- What stands at an offset of a text: a record, or the fault in its place.
 abbrev pub front : List ℕ → ℕ → Result RawRecord ReadFault
-front text offset = unless_fault (first_fault (drop offset text)) (record_of offset (drop offset text))
+front text offset =
+    unless_fault (first_fault (drop offset text)) (record_of offset (drop offset text))
 
 -- Nothing is read behind ENDLIB and behind a fault.
 abbrev pub is_last : Result RawRecord ReadFault → Bool
@@ -62,15 +68,16 @@ is_last (Ok r) = r.kind == ENDLIB
 is_last (Err f) = true
 
 -- The first of the records from an offset on, at most so many.
-unfoldable pub outcomes : ℕ → List ℕ → ℕ → List Outcome
+unfoldable pub outcomes : ℕ → List ℕ → ℕ → List RecordOutcome
 outcomes zero text offset = []
 outcomes (suc most) text offset =
-    front text offset ∷ (if is_last (front text offset) then [] else outcomes most text (offset + told_length (drop offset text)))
+    front text offset ∷ (if is_last (front text offset) then []
+    else outcomes most text (offset + told_length (drop offset text)))
 
 -- The records from an offset on. No text has more records than bytes, with the fault behind them.
-abbrev pub outcomes_from : List ℕ → ℕ → List Outcome
+abbrev pub outcomes_from : List ℕ → ℕ → List RecordOutcome
 outcomes_from text offset = outcomes (suc (length text)) text offset
 
 -- The records of a text up to ENDLIB, or up to the first fault and that fault.
-abbrev pub outcomes_of : List ℕ → List Outcome
+abbrev pub outcomes_of : List ℕ → List RecordOutcome
 outcomes_of text = outcomes_from text 0

@@ -21,9 +21,9 @@ pub struct Records<'a> {
 
 impl<'a> Model for Records<'a> {
     ghost use Rattle.std.specs.Prelude.{◌≤◌, List, [], length, if◌then◌else◌};
-    ghost use Rattle.mpw_records.specs.Records.{Outcome, outcomes_from};
+    ghost use Rattle.mpw_records.specs.Records.{RecordOutcome, outcomes_from};
 
-    ghost Value = { List Outcome };
+    ghost Value = { List RecordOutcome };
 
     ghost view = { λ a. if a.ended then [] else outcomes_from a.bytes.now a.offset };
 

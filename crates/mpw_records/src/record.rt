@@ -2,7 +2,7 @@
 
 ghost use Rattle.std.specs.Prelude.{◌≡◌, ◌≤◌, ◌==◌, length, IfOk};
 ghost use Rattle.byteorder.specs.Endian.{big_number};
-ghost use Rattle.mpw_records.specs.Format.{data_fault, told};
+ghost use Rattle.mpw_records.specs.Format.{data_fault, form_fault};
 ghost use Rattle.mpw_records.specs.Records.{front, seen, raw, IsSized};
 
 use crate::fault::{Code, ReadFault};
@@ -23,7 +23,7 @@ pub struct Record<'a> {
 }
 
 fn told_fault(has_type: bool, has_size: bool) -> Option<Code>
-    ensures { result ≡ told has_type has_size }
+    ensures { result ≡ form_fault has_type has_size }
 {
     if !has_type {
         Some(Code::BadType)

@@ -1,4 +1,4 @@
-use Rattle.std.specs.Prelude.{◌≡◌, ℤ, ◌≤ℤ◌, ◌<ℤ◌, List, All, AllPairs, Contains, ◌⊎◌, ◌↔◌}
+use Rattle.std.specs.Prelude.{◌≡◌, ℤ, ◌≤ℤ◌, ◌<ℤ◌, List, All, AllPairs, Contains, ◌⊎◌}
 use Rattle.std.specs.Ordering.{nat_cmp, int_cmp, ordering_then}
 use Rattle.std.specs.declared.cmp.Ordering.{Ordering}
 use Rattle.std.specs.declared.cmp.Ordering.TheVariants.{Less}
@@ -7,7 +7,8 @@ use Rattle.mpw_region.specs.declared.runs.Run.{Run}
 
 -- lines by side, then by their two numbers
 abbrev pub line_cmp : Line → Line → Ordering
-line_cmp a b = ordering_then (nat_cmp a.side b.side) (ordering_then (int_cmp a.first b.first) (int_cmp a.second b.second))
+line_cmp a b = ordering_then (nat_cmp a.side b.side)
+    (ordering_then (int_cmp a.first b.first) (int_cmp a.second b.second))
 
 -- the run holds the place: it is on that line, and the place lies from `from` to before `to`
 abbrev pub HoldsPlace : Run → Line → ℤ → Type 0
@@ -29,13 +30,3 @@ StandsBefore r s = (line_cmp r.line s.line ≡ Less) ⊎ ((r.line ≡ s.line) ×
 pub record AreApart (runs : List Run) : Type 0 where
   pub filled : All IsFilled runs
   pub ordered : AllPairs StandsBefore runs
-
--- to the runs were added ones that hold just the places of P
-pub record Adds (old new : List Run) (P : Line → ℤ → Type 0) : Type 0 where
-  pub places : (line : Line) (at : ℤ) → CoversPlace new line at ↔ (CoversPlace old line at ⊎ P line at)
-  pub filled : All IsFilled old → All IsFilled new
-
--- the runs are filled, and hold just the places of P
-pub record Finds (runs : List Run) (P : Line → ℤ → Type 0) : Type 0 where
-  pub places : (line : Line) (at : ℤ) → CoversPlace runs line at ↔ P line at
-  pub filled : All IsFilled runs

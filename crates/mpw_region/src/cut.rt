@@ -25,9 +25,9 @@ ghost use Rattle.std.specs.Prelude.{
 };
 ghost use Rattle.mpw_geom.specs.Plane.{Square, HasArea, any_has_square};
 ghost use Rattle.mpw_region.specs.Banded.{AreBands};
-ghost use Rattle.mpw_region.specs.Sweep.{HoldsJust, IsSweep};
+ghost use Rattle.mpw_region.specs.Internal.Sweep.{HoldsJust, IsSweep};
 ghost use Rattle.mpw_region.specs.Squares.{covers};
-ghost use Rattle.mpw_region.specs.Swept.{IsCovered, HasNoBorderWithin, IsSweptTo};
+ghost use Rattle.mpw_region.specs.Internal.Swept.{IsCovered, HasNoBorderWithin, IsSweptTo};
 ghost use Rattle.mpw_region.specs.Exchange.{exchanged_box};
 
 use crate::merge::{Rows, add_band};

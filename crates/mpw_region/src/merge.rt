@@ -1,9 +1,9 @@
 //! One band: the columns of the boxes that have its rows, as intervals that don't touch.
 
 ghost use Rattle.std.specs.Prelude.{◌≡◌, ◌≤ℤ◌, ◌<ℤ◌, ◌∷◌, OnOk, All, AllPairs, MatchBool};
-ghost use Rattle.mpw_region.specs.Sweep.{BeginsLeft};
+ghost use Rattle.mpw_region.specs.Internal.Sweep.{BeginsLeft};
 ghost use Rattle.mpw_region.specs.Banded.{AreBands};
-ghost use Rattle.mpw_region.specs.Swept.{interval_of, lengthened, AddsBand};
+ghost use Rattle.mpw_region.specs.Internal.Swept.{interval_of, lengthened, AddsBand};
 
 use mpw_geom::Box2;
 use std::alloc::AllocError;

@@ -4,7 +4,7 @@ ghost use Rattle.std.specs.Prelude.{◌≡◌, ◌↔◌, ◌≤ℤ◌, ◌<ℤ�
 ghost use Rattle.std.specs.List.Sorted.{IsPermutation};
 ghost use Rattle.mpw_region.specs.declared.runs.Line.{Line as LineValue};
 ghost use Rattle.mpw_region.specs.Runs.{CoversPlace, IsFilled, AreApart};
-ghost use Rattle.mpw_region.specs.Order.{AreInOrder, merged};
+ghost use Rattle.mpw_region.specs.Internal.Order.{AreInOrder, merged};
 
 use std::alloc::{AllocError, Global};
 

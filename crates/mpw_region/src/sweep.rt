@@ -24,7 +24,7 @@ ghost use Rattle.std.specs.Prelude.{
 };
 ghost use Rattle.std.specs.List.Sorted.{IsPermutation};
 ghost use Rattle.mpw_geom.specs.declared.plane.Box2.{Box2 as BoxValue};
-ghost use Rattle.mpw_region.specs.Sweep.{HasRow, HoldsJust, BeginsBelow, BeginsLeft, IsSweep};
+ghost use Rattle.mpw_region.specs.Internal.Sweep.{HasRow, HoldsJust, BeginsBelow, BeginsLeft, IsSweep};
 
 use mpw_geom::Box2;
 use std::alloc::{AllocError, Global};

@@ -12,8 +12,10 @@ use Rattle.mpw_replies.specs.Sight.{seen_by, is_full, is_hidden, book_lines}
 
 -- A permission that is denied is lacked.
 abbrev pub EnteringDeniesWhatIsLacked : Type 0
-EnteringDeniesWhatIsLacked = (policy : Policy) (conn : ℕ) (operation other : Operation) (object another : Object)
-    → permitted policy conn operation object ≡ Err (denied other another) → permits policy conn other another ≡ false
+EnteringDeniesWhatIsLacked =
+    (policy : Policy) (conn : ℕ) (operation other : Operation) (object another : Object)
+    → permitted policy conn operation object ≡ Err (denied other another)
+    → permits policy conn other another ≡ false
 
 -- Each line of a book of markers, as a session sees it, names only cells that the session may read.
 abbrev pub BooksAreOfReadable : Type 0
@@ -23,11 +25,14 @@ BooksAreOfReadable =
 
 -- A marker that meets a submission is not both shown in full and hidden.
 abbrev pub FullAreNotHidden : Type 0
-FullAreNotHidden = (seen : List Bool) (m : Marker) → m.met ≢ [] → is_full seen m ≡ true → is_hidden seen m ≡ false
+FullAreNotHidden =
+    (seen : List Bool) (m : Marker) → m.met ≢ [] → is_full seen m ≡ true → is_hidden seen m ≡ false
 
 -- The lines of a book are those of the book without a marker that is hidden.
 abbrev pub HiddenLeaveNoTrace : Type 0
 HiddenLeaveNoTrace =
-    (rules : List Rule) (shelf : List Submission) (seen : List Bool) (before : List Marker) (m : Marker) (behind : List Marker)
+    (rules : List Rule) (shelf : List Submission) (seen : List Bool) (before : List Marker)
+    (m : Marker) (behind : List Marker)
     → is_hidden seen m ≡ true → is_full seen m ≡ false
-    → book_lines rules shelf seen (before ++ m ∷ behind) ≡ book_lines rules shelf seen (before ++ behind)
+    → book_lines rules shelf seen (before ++ m ∷ behind) ≡ book_lines rules shelf seen
+    (before ++ behind)

@@ -8,5 +8,6 @@ pub mod Shapes
 pub mod Sight
 pub mod Told
 pub mod Trail
-pub mod Verdicts
+pub mod FirstLines
 pub mod Views
+pub mod Internal

@@ -41,13 +41,15 @@ is_seen (Some seen) = seen
 
 -- the line of a shape, where the submission that it comes from may be seen
 abbrev pub seen_line : List Submission → List Bool → Item → List Listed
-seen_line shelf seen item = line_if (λ s. is_seen (slice_get seen item.origin)) (slice_get shelf item.origin) item
+seen_line shelf seen item =
+    line_if (λ s. is_seen (slice_get seen item.origin)) (slice_get shelf item.origin) item
 
 -- the lines of the shapes of a flat list that may be seen
 unfoldable pub seen_lines : List Submission → List Bool → List Item → List Listed
 seen_lines shelf seen items = flat_map (seen_line shelf seen) items
 
 -- a listing of a root's shapes, and how many lines it has
-pub record IsListing (shelf : List Submission) (root : Root) (seen : List Bool) (count : ℕ) : Type 0 where
+pub record IsListing (shelf : List Submission) (root : Root) (seen : List Bool) (count : ℕ) :
+    Type 0 where
   pub root_is : IsRoot shelf root
   pub count_is : count ≡ length (seen_lines shelf seen (flat_roots shelf (root ∷ [])))

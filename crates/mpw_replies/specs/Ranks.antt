@@ -1,16 +1,14 @@
 -- What is kept of a book's listing: the place of each submission's cell among the cells by name, and the numbers of masked markers.
-use Rattle.std.specs.Prelude.{◌≡◌, ◌==◌, ◌&&◌, ◌≤◌, ◌<◌, ℕ, ◌+◌, Bool, false, List, [], ◌∷◌, ◌++◌, length, is_some, slice_get, slice_index}
+use Rattle.std.specs.Prelude.{◌≡◌, ◌==◌, ◌≤◌, ◌<◌, ℕ, ◌+◌, Bool, false, List, [], ◌∷◌, ◌++◌, length, slice_get, slice_index}
 use Rattle.std.specs.Prelude.{slice_index_or, drop, Option, None, Some, if◌then◌else◌}
 use Rattle.std.specs.List.{flat_map, list_any}
-use Rattle.mpw_geom.specs.Names.{name_eq}
 use Rattle.mpw_deck.specs.declared.rule.Rule.{Rule}
-use Rattle.mpw_hier.specs.declared.submission.Submission.{Submission}
 use Rattle.mpw_markers.specs.declared.marker.Marker.{Marker}
 use Rattle.mpw_markers.specs.Markers.{key_of}
 use Rattle.mpw_roles.specs.Hierarchy.{Name}
 use Rattle.mpw_replies.specs.declared.met.Turn.{Turn}
 use Rattle.mpw_replies.specs.Listing.{Listed, marker}
-use Rattle.mpw_replies.specs.Sight.{is_of, is_full, is_masked, masked_number, masked_line}
+use Rattle.mpw_replies.specs.Sight.{is_full, masked_line}
 
 -- ---- the cells that a marker meets
 
@@ -29,7 +27,8 @@ cell_if b cell = if b then cell ∷ [] else []
 -- of the cells from a place on, those that are met
 unfoldable pub met_from : List ℕ → List ℕ → ℕ → List Name → List Name
 met_from ranks met place [] = []
-met_from ranks met place (cell ∷ cells) = cell_if (is_met_at ranks met place) cell ++ met_from ranks met (place + 1) cells
+met_from ranks met place (cell ∷ cells) =
+    cell_if (is_met_at ranks met place) cell ++ met_from ranks met (place + 1) cells
 
 -- of all cells, those that are met
 abbrev pub met_of : List Name → List ℕ → List ℕ → List Name
@@ -39,18 +38,10 @@ met_of cells ranks met = met_from ranks met 0 cells
 abbrev pub met_left : List Name → List ℕ → List ℕ → Turn → List Name
 met_left cells ranks met turn = met_from ranks met turn.at (drop turn.at cells)
 
--- the rank tells of each place whether the name stands there
-abbrev pub IsRank : List Name → Name → ℕ → Type 0
-IsRank cells name rank = (place : ℕ) (cell : Name) → slice_get cells place ≡ Some cell → (rank == place) ≡ name_eq cell name
-
--- the rank of each submission tells of which cell it is
-abbrev pub AreRanks : List Name → List Submission → List ℕ → Type 0
-AreRanks cells shelf ranks =
-    (number place : ℕ) (cell : Name) → slice_get cells place ≡ Some cell → is_at place (slice_get ranks number) ≡ is_of cell (slice_get shelf number)
-
 -- marks of the 64 places from a base on: which of them are met
 abbrev pub AreMarks : List ℕ → List ℕ → ℕ → List Bool → Type 0
-AreMarks ranks met base marks = (i : ℕ) → i < 64 → slice_index_or marks i false ≡ is_met_at ranks met (base + i)
+AreMarks ranks met base marks =
+    (i : ℕ) → i < 64 → slice_index_or marks i false ≡ is_met_at ranks met (base + i)
 
 -- the marks are those of the 64 places from the base on, and the place that comes next is one of them or the next behind
 pub record IsMarked (ranks met : List ℕ) (turn : Turn) : Type 0 where
@@ -65,36 +56,30 @@ line_by names m None = []
 line_by names m (Some rule) = marker rule.name (key_of m) (names m.met) ∷ []
 
 abbrev pub shown_line : (List ℕ → List Name) → List Rule → List Bool → Marker → List Listed
-shown_line names rules seen m = if is_full seen m then line_by names m (slice_get rules m.rule) else []
+shown_line names rules seen m =
+    if is_full seen m then line_by names m (slice_get rules m.rule) else []
 
-unfoldable pub shown_lines : (List ℕ → List Name) → List Rule → List Bool → List Marker → List Listed
+unfoldable pub shown_lines : (List ℕ → List Name) → List Rule → List Bool → List Marker
+    → List Listed
 shown_lines names rules seen book = flat_map (shown_line names rules seen) book
 
--- the marker is shown in full and has a rule
-abbrev pub has_line : List Rule → List Bool → Marker → Bool
-has_line rules seen m = is_full seen m && is_some (slice_get rules m.rule)
-
 -- ---- numbers of masked markers
-
--- what a marker counts for the rule at that place
-abbrev pub masked_one : List Bool → Marker → ℕ → ℕ
-masked_one seen m place = if (m.rule == place) && is_masked seen m then 1 else 0
-
--- each is the number of the masked markers of the rule at its place
-abbrev pub AreNumbers : List Bool → List Marker → List ℕ → Type 0
-AreNumbers seen book numbers = (place : ℕ) → place < length numbers → slice_index numbers place ≡ masked_number seen book place
 
 -- the lines of numbers, of the rules from a place on
 unfoldable pub numbered_lines : List ℕ → ℕ → List Rule → List Listed
 numbered_lines numbers place [] = []
-numbered_lines numbers place (rule ∷ rules) = masked_line rule.name (slice_index numbers place) ++ numbered_lines numbers (place + 1) rules
+numbered_lines numbers place (rule ∷ rules) =
+    masked_line rule.name (slice_index numbers place) ++ numbered_lines numbers (place + 1) rules
 
 -- ---- the lines of both
 
-abbrev pub lines_kept : List Rule → List Name → List ℕ → List Bool → List ℕ → List Marker → List Listed
-lines_kept rules cells ranks seen numbers book = shown_lines (met_of cells ranks) rules seen book ++ numbered_lines numbers 0 rules
+abbrev pub lines_kept : List Rule → List Name → List ℕ → List Bool → List ℕ → List Marker
+    → List Listed
+lines_kept rules cells ranks seen numbers book =
+    shown_lines (met_of cells ranks) rules seen book ++ numbered_lines numbers 0 rules
 
 -- there is a number for each rule, and so many lines
-pub record IsMarkerListing (rules : List Rule) (cells : List Name) (ranks : List ℕ) (seen : List Bool) (numbers : List ℕ) (book : List Marker) (count : ℕ) : Type 0 where
+pub record IsMarkerListing (rules : List Rule) (cells : List Name) (ranks : List ℕ)
+    (seen : List Bool) (numbers : List ℕ) (book : List Marker) (count : ℕ) : Type 0 where
   pub numbered : length numbers ≡ length rules
   pub count_is : count ≡ length (lines_kept rules cells ranks seen numbers book)

@@ -10,8 +10,10 @@ use Rattle.mpw_replies.specs.Listing.{Listed, stored, shape, marker, masked, ent
 -- The line of a cell or of a shape is of a cell that the session may read, and so is each cell that the line of a marker names. The
 -- other lines of what a session sees name none; a request of the trail is told by a permission of its own.
 abbrev pub IsOfReadable : Policy → ℕ → Listed → Type 0
-IsOfReadable policy conn (stored (line.Cell cell version submitter)) = permits policy conn Read (object.Cell cell) ≡ true
-IsOfReadable policy conn (shape cell version placing element) = permits policy conn Read (object.Cell cell) ≡ true
+IsOfReadable policy conn (stored (line.Cell cell version submitter)) =
+    permits policy conn Read (object.Cell cell) ≡ true
+IsOfReadable policy conn (shape cell version placing element) =
+    permits policy conn Read (object.Cell cell) ≡ true
 IsOfReadable policy conn (stored (User user)) = ⊤
 IsOfReadable policy conn (stored (Active role)) = ⊤
 IsOfReadable policy conn (stored (Authorized role)) = ⊤
@@ -26,6 +28,7 @@ IsOfReadable policy conn (stored (Signed named asker signer)) = ⊤
 IsOfReadable policy conn (stored Clean) = ⊤
 IsOfReadable policy conn (stored (Open number)) = ⊤
 IsOfReadable policy conn (stored Stale) = ⊤
-IsOfReadable policy conn (marker rule key cells) = All (λ cell. permits policy conn Read (object.Cell cell) ≡ true) cells
+IsOfReadable policy conn (marker rule key cells) =
+    All (λ cell. permits policy conn Read (object.Cell cell) ≡ true) cells
 IsOfReadable policy conn (masked rule number) = ⊤
 IsOfReadable policy conn (entry number e) = ⊤

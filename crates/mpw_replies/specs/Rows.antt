@@ -33,7 +33,10 @@ in_session policy conn = (is_some (session_of policy conn), ending.Denied denial
 -- The connection's session may do the operation on the object.
 abbrev pub permitted : Policy → ℕ → Operation → Object → Result (Unit {0}) Ending
 permitted policy conn operation object =
-    decided (in_session policy conn ∷ (permits policy conn operation object, denied operation object) ∷ []) tt
+    decided (in_session policy conn ∷ (
+      permits policy conn operation object,
+      denied operation object,
+    ) ∷ []) tt
 
 -- What a function of a row answers: its value, seen by view, or what ends the row, or want of memory.
 abbrev pub Told : {B : Type 0} → Fault → Result B Ending → Type 0

@@ -1,5 +1,4 @@
 -- A shape of a listing, as it is given, and its line.
-use Rattle.std.specs.Prelude.{List, [], ◌∷◌, Option, None, Some}
 use Rattle.mpw_geom.specs.Plane.{IsInPlane}
 use Rattle.mpw_elements.specs.Element.{IsElement}
 use Rattle.mpw_replies.specs.declared.listing.ShapeView.{ShapeView}
@@ -7,10 +6,6 @@ use Rattle.mpw_replies.specs.Listing.{Listed, shape}
 
 abbrev pub line_of : ShapeView → Listed
 line_of v = shape v.cell.now v.version v.placing v.element.now
-
-abbrev pub lines_of : Option ShapeView → List Listed
-lines_of None = []
-lines_of (Some v) = line_of v ∷ []
 
 -- A shape that can be placed: an element as reading gives it, and a displacement that a caller may hand in.
 pub record IsPlaceableView (v : ShapeView) : Type 0 where

@@ -49,7 +49,8 @@ cells_on shelf = by_name (map (λ s. s.cell) shelf)
 
 -- Those of which one of the submissions is met.
 unfoldable pub met_cells : List Submission → List ℕ → List Name
-met_cells shelf met = filter (λ cell. list_any (λ number. is_of cell (slice_get shelf number)) met) (cells_on shelf)
+met_cells shelf met =
+    filter (λ cell. list_any (λ number. is_of cell (slice_get shelf number)) met) (cells_on shelf)
 
 -- ---- lines
 
@@ -59,7 +60,8 @@ line_for shelf m None = []
 line_for shelf m (Some rule) = marker rule.name (key_of m) (met_cells shelf m.met) ∷ []
 
 abbrev pub full_line : List Rule → List Submission → List Bool → Marker → List Listed
-full_line rules shelf seen m = if is_full seen m then line_for shelf m (slice_get rules m.rule) else []
+full_line rules shelf seen m =
+    if is_full seen m then line_for shelf m (slice_get rules m.rule) else []
 
 -- The markers that are shown in full, in order.
 unfoldable pub full_lines : List Rule → List Submission → List Bool → List Marker → List Listed
@@ -76,8 +78,10 @@ masked_line name number = if number == 0 then [] else masked name number ∷ []
 -- The numbers of masked markers by rule, of the rules from a place on.
 unfoldable pub masked_lines : List Bool → List Marker → ℕ → List Rule → List Listed
 masked_lines seen book place [] = []
-masked_lines seen book place (rule ∷ rules) = masked_line rule.name (masked_number seen book place) ++ masked_lines seen book (place + 1) rules
+masked_lines seen book place (rule ∷ rules) = masked_line rule.name (masked_number seen book place)
+    ++ masked_lines seen book (place + 1) rules
 
 -- The lines of a book: what is shown in full, in order, and then the numbers of what is masked, by rule. What is hidden has none.
 abbrev pub book_lines : List Rule → List Submission → List Bool → List Marker → List Listed
-book_lines rules shelf seen book = full_lines rules shelf seen book ++ masked_lines seen book 0 rules
+book_lines rules shelf seen book =
+    full_lines rules shelf seen book ++ masked_lines seen book 0 rules

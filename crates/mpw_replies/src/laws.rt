@@ -11,7 +11,8 @@ pub fn full_markers_are_not_hidden()
     ensures { FullAreNotHidden }
 {}
 
-/// A hidden marker leaves no trace: neither a line nor a number.
+/// A hidden marker that isn't shown in full too leaves no trace: neither a line nor a number. Only one that meets nothing would be
+/// both.
 pub fn hidden_markers_leave_no_trace()
     ensures { HiddenLeaveNoTrace }
 {}

@@ -15,7 +15,7 @@ mod row;
 mod sight;
 mod trail;
 
-pub use entry::{Entry, Verdict};
+pub use entry::{Entry, FirstLine};
 pub use laws::{
     full_markers_are_not_hidden, hidden_markers_leave_no_trace,
     lines_of_books_are_of_readable_cells,

@@ -8,7 +8,8 @@ ghost use Rattle.mpw_walk.specs.Turns.{given, flat_roots};
 ghost use Rattle.mpw_walk.specs.Walk.{IsRoot};
 ghost use Rattle.mpw_walk.specs.Way.{IsPlaceable, item_of};
 ghost use Rattle.mpw_replies.specs.Listing.{seen_line, seen_lines};
-ghost use Rattle.mpw_replies.specs.Shapes.{IsPlaceableView, line_of, lines_of};
+ghost use Rattle.mpw_replies.specs.Shapes.{IsPlaceableView, line_of};
+ghost use Rattle.mpw_replies.specs.Internal.Shapes.{lines_of};
 
 use crate::sight::is_seen;
 use mpw_elements::Element;

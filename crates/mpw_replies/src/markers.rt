@@ -6,7 +6,8 @@
 ghost use Rattle.std.specs.Prelude.{◌≡◌, ◌≤◌, ◌∷◌, ◌++◌, [], List, ℕ, length, drop, filter, Some, option_copied, IfOk, IfSome, IfNone};
 ghost use Rattle.mpw_roles.specs.Hierarchy.{Name as NameValue};
 ghost use Rattle.mpw_replies.specs.Sight.{book_lines};
-ghost use Rattle.mpw_replies.specs.Ranks.{has_line, line_by, numbered_lines, shown_line, shown_lines};
+ghost use Rattle.mpw_replies.specs.Ranks.{line_by, numbered_lines, shown_line, shown_lines};
+ghost use Rattle.mpw_replies.specs.Internal.Ranks.{has_line};
 ghost use Rattle.mpw_replies.specs.Views.{marker_line};
 
 use crate::masked::{MaskedViews, count_numbered, numbers_of};

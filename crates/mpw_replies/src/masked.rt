@@ -1,6 +1,7 @@
 //! The numbers of masked markers by rule.
 ghost use Rattle.std.specs.Prelude.{◌≡◌, ◌≤◌, ◌<◌, ◌^◌, ◌+◌, ◌∷◌, [], ℕ, length, drop, slice_index, IfOk, IfSome, IfNone};
-ghost use Rattle.mpw_replies.specs.Ranks.{AreNumbers, masked_one, numbered_lines};
+ghost use Rattle.mpw_replies.specs.Ranks.{numbered_lines};
+ghost use Rattle.mpw_replies.specs.Internal.Ranks.{AreNumbers, masked_one};
 ghost use Rattle.mpw_replies.specs.Views.{number_line};
 
 use crate::sight::is_masked;

@@ -6,7 +6,8 @@
 ghost use Rattle.std.specs.Prelude.{◌≡◌, ◌<◌, ◌^◌, ◌+◌, ◌||◌, ◌∷◌, [], ℕ, List, false, slice_get, slice_index_or, IfOk, IfSome, IfNone};
 ghost use Rattle.mpw_geom.specs.Names.{by_name};
 ghost use Rattle.mpw_roles.specs.Hierarchy.{Name as NameValue};
-ghost use Rattle.mpw_replies.specs.Ranks.{AreMarks, AreRanks, IsMarked, IsRank, is_at, is_met_at, met_left, met_of};
+ghost use Rattle.mpw_replies.specs.Ranks.{AreMarks, IsMarked, is_at, is_met_at, met_left, met_of};
+ghost use Rattle.mpw_replies.specs.Internal.Ranks.{AreRanks, IsRank};
 
 use mpw_geom::Name;
 use mpw_hier::Submission;

@@ -27,18 +27,25 @@ path_text name = 0x27 ∷ flat_map path_character name ++ 0x27 ∷ []
 -- The text of an element stands for these bytes: each of <, > and & is an entity, and each other byte is itself.
 pub data StandsFor : List ℕ → List ℕ → Type 0 where
   nothing : StandsFor [] []
-  less : (rest bytes : List ℕ) → StandsFor rest bytes → StandsFor (codes "&lt;" ++ rest) (0x3C ∷ bytes)
-  greater : (rest bytes : List ℕ) → StandsFor rest bytes → StandsFor (codes "&gt;" ++ rest) (0x3E ∷ bytes)
-  ampersand : (rest bytes : List ℕ) → StandsFor rest bytes → StandsFor (codes "&amp;" ++ rest) (0x26 ∷ bytes)
-  itself : (byte : ℕ) (rest bytes : List ℕ) → byte ≢ 0x3C → byte ≢ 0x3E → byte ≢ 0x26 → StandsFor rest bytes → StandsFor (byte ∷ rest) (byte ∷ bytes)
+  less : (rest bytes : List ℕ) → StandsFor rest bytes
+      → StandsFor (codes "&lt;" ++ rest) (0x3C ∷ bytes)
+  greater : (rest bytes : List ℕ) → StandsFor rest bytes
+      → StandsFor (codes "&gt;" ++ rest) (0x3E ∷ bytes)
+  ampersand : (rest bytes : List ℕ) → StandsFor rest bytes
+      → StandsFor (codes "&amp;" ++ rest) (0x26 ∷ bytes)
+  itself : (byte : ℕ) (rest bytes : List ℕ) → byte ≢ 0x3C → byte ≢ 0x3E → byte ≢ 0x26
+      → StandsFor rest bytes → StandsFor (byte ∷ rest) (byte ∷ bytes)
 
 -- The words of a path between its quotes, which are read as this name: a byte behind a backslash is itself, and so is each other
 -- byte but a quote, which ends the path.
 pub data IsPath : List ℕ → List ℕ → Type 0 where
   ended : IsPath (0x27 ∷ []) []
-  marked : (byte : ℕ) (rest name : List ℕ) → IsPath rest name → IsPath (0x5C ∷ byte ∷ rest) (byte ∷ name)
-  plain : (byte : ℕ) (rest name : List ℕ) → byte ≢ 0x27 → byte ≢ 0x5C → IsPath rest name → IsPath (byte ∷ rest) (byte ∷ name)
+  marked : (byte : ℕ) (rest name : List ℕ) → IsPath rest name
+      → IsPath (0x5C ∷ byte ∷ rest) (byte ∷ name)
+  plain : (byte : ℕ) (rest name : List ℕ) → byte ≢ 0x27 → byte ≢ 0x5C → IsPath rest name
+      → IsPath (byte ∷ rest) (byte ∷ name)
 
 -- A name's text stands for the name, and a path's for a path that is read as the name.
 abbrev pub AreEscaped : Type 0
-AreEscaped = (name : List ℕ) → StandsFor (escaped name) name × ((path : List ℕ) × StandsFor (path_text name) (0x27 ∷ path) × IsPath path name)
+AreEscaped = (name : List ℕ) → StandsFor (escaped name) name
+    × ((path : List ℕ) × StandsFor (path_text name) (0x27 ∷ path) × IsPath path name)

@@ -4,7 +4,8 @@ use Rattle.std.specs.Fmt.{decimal}
 
 -- the digit of a hundredth and that of a thousandth, of so many thousandths below a hundred; without zeros at the end
 unfoldable pub last_digits : ℕ → List ℕ
-last_digits n = if n == 0 then [] else if n % 10 == 0 then decimal (n / 10) else decimal (n / 10) ++ decimal (n % 10)
+last_digits n = if n == 0 then [] else if n % 10 == 0 then decimal (n / 10) else decimal (n / 10)
+    ++ decimal (n % 10)
 
 -- so many thousandths below one, behind a point; nothing where there are none
 unfoldable pub fraction : ℕ → List ℕ
@@ -29,13 +30,17 @@ micrometres nm = sign_text nm ++ thousandths (unsigned_abs nm)
 pub data IsFraction : List ℕ → ℕ → Type 0 where
   none : IsFraction [] 0
   one : (a : ℕ) → a < 10 → IsFraction (0x2E ∷ (0x30 + a) ∷ []) (a * 100)
-  two : (a b : ℕ) → a < 10 → b < 10 → IsFraction (0x2E ∷ (0x30 + a) ∷ (0x30 + b) ∷ []) (a * 100 + b * 10)
-  three : (a b c : ℕ) → a < 10 → b < 10 → c < 10 → IsFraction (0x2E ∷ (0x30 + a) ∷ (0x30 + b) ∷ (0x30 + c) ∷ []) (a * 100 + b * 10 + c)
+  two : (a b : ℕ) → a < 10 → b < 10 → IsFraction (0x2E ∷ (0x30 + a) ∷ (0x30 + b) ∷ [])
+      (a * 100 + b * 10)
+  three : (a b c : ℕ) → a < 10 → b < 10 → c < 10
+      → IsFraction (0x2E ∷ (0x30 + a) ∷ (0x30 + b) ∷ (0x30 + c) ∷ []) (a * 100 + b * 10 + c)
 
 -- A whole number and a fraction behind it, with a sign before them or not, stand for so many thousandths.
 pub data IsLength : List ℕ → ℤ → Type 0 where
-  positive : (whole part : ℕ) (text : List ℕ) → IsFraction text part → IsLength (decimal whole ++ text) (pos (whole * 1000 + part))
-  negative : (whole part : ℕ) (text : List ℕ) → IsFraction text part → IsLength (0x2D ∷ (decimal whole ++ text)) (neg_ℤ (pos (whole * 1000 + part)))
+  positive : (whole part : ℕ) (text : List ℕ) → IsFraction text part
+      → IsLength (decimal whole ++ text) (pos (whole * 1000 + part))
+  negative : (whole part : ℕ) (text : List ℕ) → IsFraction text part
+      → IsLength (0x2D ∷ (decimal whole ++ text)) (neg_ℤ (pos (whole * 1000 + part)))
 
 -- Each length is told exactly.
 abbrev pub AreExact : Type 0

@@ -4,16 +4,22 @@ use Rattle.mpw_report.specs.declared.part.Part.{Part}
 use Rattle.mpw_report.specs.declared.part.Part.TheVariants.{Head, Generator, Categories, CategoryName, Description, CategoryEnd, Cells, Items, ItemPath, ItemCell, Value, ItemEnd, End}
 
 unfoldable pub part_text : Part → List ℕ
-part_text Head = codes "<?xml version=\"1.0\" encoding=\"utf-8\"?>\n<report-database>\n <description>Markers of "
-part_text Generator = codes "</description>\n <original-file/>\n <generator>mpw check</generator>\n <top-cell>"
+part_text Head =
+    codes "<?xml version=\"1.0\" encoding=\"utf-8\"?>\n<report-database>\n <description>Markers of "
+part_text Generator =
+    codes "</description>\n <original-file/>\n <generator>mpw check</generator>\n <top-cell>"
 part_text Categories = codes "</top-cell>\n <tags>\n </tags>\n <categories>\n"
 part_text CategoryName = codes "  <category>\n   <name>"
 part_text Description = codes "</name>\n   <description>"
 part_text CategoryEnd = codes "</description>\n   <categories>\n   </categories>\n  </category>\n"
 part_text Cells = codes " </categories>\n <cells>\n  <cell>\n   <name>"
-part_text Items = codes "</name>\n   <variant/>\n   <references>\n   </references>\n  </cell>\n </cells>\n <items>\n"
+part_text Items =
+    codes
+    "</name>\n   <variant/>\n   <references>\n   </references>\n  </cell>\n </cells>\n <items>\n"
 part_text ItemPath = codes "  <item>\n   <tags/>\n   <category>"
 part_text ItemCell = codes "</category>\n   <cell>"
-part_text Value = codes "</cell>\n   <visited>false</visited>\n   <multiplicity>1</multiplicity>\n   <image/>\n   <values>\n    <value>"
+part_text Value =
+    codes
+    "</cell>\n   <visited>false</visited>\n   <multiplicity>1</multiplicity>\n   <image/>\n   <values>\n    <value>"
 part_text ItemEnd = codes "</value>\n   </values>\n  </item>\n"
 part_text End = codes " </items>\n</report-database>\n"

@@ -39,7 +39,8 @@ check_layers (Enclosing outer inner) = layer_text outer ++ layer_text inner
 -- the rule's line of its deck, with its name escaped
 unfoldable pub rule_text : Rule → List ℕ
 rule_text rule =
-    check_word rule.check ++ codes " " ++ escaped rule.name ++ check_layers rule.check ++ codes " " ++ decimal rule.distance
+    check_word rule.check ++ codes " " ++ escaped rule.name ++ check_layers rule.check ++ codes " "
+    ++ decimal rule.distance
 
 -- a category: its name, and as its description the rule
 unfoldable pub category_text : Rule → List ℕ
@@ -70,12 +71,14 @@ edge_text e = codes "(" ++ point_text e.start ++ codes ";" ++ point_text e.end +
 
 -- both
 unfoldable pub pair_text : Marker → List ℕ
-pair_text m = codes "edge-pair: " ++ edge_text (first_edge m) ++ codes "|" ++ edge_text (second_edge m)
+pair_text m =
+    codes "edge-pair: " ++ edge_text (first_edge m) ++ codes "|" ++ edge_text (second_edge m)
 
 -- the item of a marker of that rule, in the cell of that name
 unfoldable pub item_text : List ℕ → Rule → Marker → List ℕ
 item_text top rule m =
-    part_text ItemPath ++ path_text rule.name ++ part_text ItemCell ++ escaped top ++ part_text Value ++ pair_text m
+    part_text ItemPath ++ path_text rule.name ++ part_text ItemCell ++ escaped top
+    ++ part_text Value ++ pair_text m
     ++ part_text ItemEnd
 
 -- none where the deck has no such rule
@@ -90,7 +93,8 @@ item_of rules top m = item_under top (slice_get rules m.rule) m
 
 -- what stands before the categories
 unfoldable pub head_text : List ℕ → List ℕ
-head_text top = part_text Head ++ escaped top ++ part_text Generator ++ escaped top ++ part_text Categories
+head_text top =
+    part_text Head ++ escaped top ++ part_text Generator ++ escaped top ++ part_text Categories
 
 -- what stands between the categories and the items: the one cell
 unfoldable pub cells_text : List ℕ → List ℕ
@@ -100,5 +104,6 @@ cells_text top = part_text Cells ++ escaped top ++ part_text Items
 -- cell, and an item for each marker in order
 unfoldable pub report_text : List Rule → List ℕ → List Marker → List ℕ
 report_text rules top markers =
-    head_text top ++ flat_map category_text rules ++ cells_text top ++ flat_map (item_of rules top) markers
+    head_text top ++ flat_map category_text rules ++ cells_text top
+    ++ flat_map (item_of rules top) markers
     ++ part_text End

@@ -1,22 +1,15 @@
 -- What changes keep.
-use Rattle.std.proofs.Common.{◌≡◌, ℕ, ◌+◌, ◌^◌, ◌<◌, ◌≤◌, Bool, true, false, List, [], length, get_or, Option, Some, None, refl, sym, subst, ap, ◌∙◌, inl, inr, arith, length-set}
+use Rattle.std.proofs.Common.{◌≡◌, ℕ, ◌+◌, ◌^◌, ◌<◌, ◌≤◌, Bool, true, false, List, length, get_or, Option, Some, None, refl, sym, subst, ap, ◌∙◌, arith}
 use Rattle.std.specs.Prelude.{◌==◌, slice_get, slice_set, option_map, is_some, if◌then◌else◌}
-use Rattle.std.proofs.Math.ListN.{length-replicate}
-use Rattle.std.proofs.lemmas.Bool.{false≢true, cases_eq, eqb-true, eq-eqb}
-use Rattle.std.proofs.lemmas.Option.{slice_get_within, slice_get-get_or, same_Some}
-use Rattle.mpw_grid.proofs.Cells.{some_columns, columns_few}
+use Rattle.std.proofs.lemmas.Bool.{eqb-true, eq-eqb, false≢true}
+use Rattle.std.proofs.lemmas.Option.{slice_get_within, slice_get-get_or}
 use Rattle.mpw_tiles.specs.declared.listing.Rectangle.{Rectangle}
-use Rattle.mpw_tiles.specs.Plan.{Tiling, tiles}
+use Rattle.mpw_tiles.specs.Plan.{tiles}
 use Rattle.mpw_tiles.specs.Snapshots.{Snapshot, StandFor}
 use Rattle.mpw_markers.specs.declared.marker.Marker.{Marker}
-use Rattle.mpw_markers.specs.Markers.{IsFilled}
-use Rattle.std.proofs.lemmas.List.{get_or_default}
-use Rattle.std.proofs.lemmas.List.Elements.{All-contains}
-use Rattle.mpw_job.proofs.Adding.{all_filled}
 use Rattle.mpw_job.specs.Answers.{Task, Answers}
 use Rattle.mpw_job.specs.Jobs.{CutWindows, FoundMarkers, IsCutAnswer, IsTileAnswer}
-use Rattle.mpw_job.specs.Laws.{task_of, AnswerTiles, AnswersMakeTheLayout}
-use Rattle.mpw_job.specs.Layout.{AreLayoutMarkers}
+use Rattle.mpw_job.specs.Laws.{AnswerTiles, AnswersMakeTheLayout}
 use Rattle.mpw_job.specs.declared.job.Job.TheVariants as job
 use Rattle.mpw_run.specs.declared.phase.Phase.{Phase}
 use Rattle.mpw_run.specs.declared.phase.Phase.TheVariants.{Cutting, Checking, Finished}
@@ -26,132 +19,64 @@ use Rattle.mpw_run.specs.declared.prepare.Prepared.{Prepared}
 use Rattle.mpw_run.specs.Run.{Planned, Tile, Checks, answers_of, answered, IsPlanned, IsChecks}
 use Rattle.mpw_run.specs.Same.{same_task}
 use Rattle.mpw_run.specs.Step.{Run, Offer, Outcome, IsPhase, IsRun, tile_task, with_tiles, raised, answered_by, new_tiles, handed, begun, left_as, kept, tile_compared, tile_checked, next_from}
-use Rattle.mpw_run.specs.Prepared.{set_tile, answers_with, next_phase, applied, IsPrepared}
+use Rattle.mpw_run.specs.Prepared.{set_tile, next_phase, applied, IsPrepared}
+use Rattle.mpw_run.specs.Internal.Prepared.{answers_with}
 use Rattle.mpw_run.specs.Stitching.{stitched, AreFilled}
 use Rattle.mpw_run.specs.Laws.{StitchedComputes}
 use Rattle.mpw_run.proofs.Exactness.{tasks}
-use Rattle.mpw_run.proofs.TileLists.{new_tile, same_tile, other_tile, raised_same, one_answered, new_answered, new_open, all_answered}
+use Rattle.mpw_run.proofs.TileLists.{new_tile, one_answered}
 use Rattle.mpw_run.proofs.Next.{next_is, offer_of_number}
-
--- ---- what is true of checks
-
--- a plan has a tile
-pub some_tile : (plan : Tiling) → 1 ≤ tiles plan
-some_tile plan = omega (arith, some_columns plan.grid, columns_few plan.grid)
-
--- a tile that is set keeps it, where its answer is right and a tile is left
-pub set_keeps : (run : ℕ) (c : Checks) (k : ℕ) (x y : Tile) → IsChecks run c → slice_get c.tiles k ≡ Some x
-    → ((markers : List Marker) → y.answer ≡ Some markers → Answers (task_of c.planned.snapshot c.planned.plan c.windows run k) markers)
-    → answered (slice_set c.tiles k y) < tiles c.planned.plan → IsChecks run (with_tiles c (slice_set c.tiles k y))
-set_keeps run c k x y h e right less = record {
-  windows = h.windows;
-  count = length-set c.tiles k y ∙ h.count;
-  kept = λ j t m g a. elim (cases_eq j k) [
-    | inl s ↦
-        let own : y ≡ t = same_Some y t (sym (same_tile c.tiles k y (slice_get_within c.tiles k x e)) ∙ ap (slice_get (slice_set c.tiles k y)) (sym s) ∙ g) in
-        subst (λ (n : ℕ). Answers (task_of c.planned.snapshot c.planned.plan c.windows run n) m) (sym s) (right m (ap (λ (u : Tile). u.answer) own ∙ a))
-    | inr ne ↦ h.kept j t m (sym (other_tile c.tiles k j y ne) ∙ g) a
-  ];
-  left = less;
-}
-
-pub raise_keeps : (run : ℕ) (c : Checks) (k : ℕ) (x : Tile) → IsChecks run c → slice_get c.tiles k ≡ Some x → IsChecks run (with_tiles c (slice_set c.tiles k (raised x)))
-raise_keeps run c k x h e =
-    let l = h.left in
-    set_keeps run c k x (raised x) h e (λ m a. h.kept k x m e a) (omega (arith, l, raised_same c.tiles k x e))
-
-pub answer_keeps : (run : ℕ) (c : Checks) (k : ℕ) (x : Tile) (m : List Marker) → IsChecks run c → slice_get c.tiles k ≡ Some x → Answers (tile_task run c k) m
-    → answered (slice_set c.tiles k (answered_by m x)) < tiles c.planned.plan → IsChecks run (with_tiles c (slice_set c.tiles k (answered_by m x)))
-answer_keeps run c k x m h e right less =
-    set_keeps run c k x (answered_by m x) h e (λ n a. subst (Answers (tile_task run c k)) (same_Some m n a) right) less
-
-pub begins : (run : ℕ) (planned : Planned) (windows : List (List Rectangle)) → StandFor planned.snapshot windows
-    → IsChecks run (let c : Checks = record { planned = planned; windows = windows; tiles = new_tiles (tiles planned.plan) } in c)
-begins run planned windows h = record {
-  windows = h;
-  count = length-replicate (tiles planned.plan) _;
-  kept = λ k t m g a. absurd (new_open (tiles planned.plan) k t m g a);
-  left = omega (arith, new_answered (tiles planned.plan), some_tile planned.plan);
-}
-
--- ---- the book
-
--- what is kept for all tiles answers them
-pub answers_tiles : (run : ℕ) (planned : Planned) (windows : List (List Rectangle)) (xs : List Tile) → length xs ≡ tiles planned.plan → answered xs ≡ tiles planned.plan
-    → ((k : ℕ) (t : Tile) (m : List Marker) → slice_get xs k ≡ Some t → t.answer ≡ Some m → Answers (task_of planned.snapshot planned.plan windows run k) m)
-    → AnswerTiles planned.snapshot planned.plan windows run (answers_of xs)
-answers_tiles run planned windows xs count all right = record {
-  count = all;
-  answered = λ k l.
-      let a = all_answered xs (all ∙ sym count) k (omega (arith, l, count)) in
-      right k a.0 (get_or (answers_of xs) k []) a.1 a.2;
-}
-
--- answers have rows, and meet numbers that ascend
-pub filled_lists : (s : Snapshot) (plan : Tiling) (windows : List (List Rectangle)) (run : ℕ) (lists : List (List Marker)) → AnswerTiles s plan windows run lists → AreFilled lists
-filled_lists s plan windows run lists a m p =
-    let k : ℕ = p.1.0 in
-    let within : k < tiles plan = omega (arith, p.1.1, a.count) in
-    let same : get_or lists k [] ≡ p.0 = get_or_default lists k [] p.0 p.1.1 ∙ p.1.2 in
-    let right : Answers (task_of s plan windows run k) p.0 = subst (Answers (task_of s plan windows run k)) same (a.answered k within) in
-    (All-contains IsFilled p.0 m (all_filled (task_of s plan windows run k) p.0 right) p.2, (right.sound m p.2).met.ascending)
-
--- the last tile's answer answers all
-pub answers_all : (run : ℕ) (c : Checks) (k : ℕ) (x : Tile) (m : List Marker) → IsChecks run c → slice_get c.tiles k ≡ Some x → Answers (tile_task run c k) m
-    → answered (slice_set c.tiles k (answered_by m x)) ≡ tiles c.planned.plan
-    → AnswerTiles c.planned.snapshot c.planned.plan c.windows run (answers_of (slice_set c.tiles k (answered_by m x)))
-answers_all run c k x m h e right all = answers_tiles run c.planned c.windows now (length-set c.tiles k (answered_by m x) ∙ h.count) all tile
-  where
-    now : List Tile
-    now = slice_set c.tiles k (answered_by m x)
-
-    tile : (j : ℕ) (t : Tile) (n : List Marker) → slice_get now j ≡ Some t → t.answer ≡ Some n → Answers (task_of c.planned.snapshot c.planned.plan c.windows run j) n
-    tile j t n g a = elim (cases_eq j k) [
-      | inl s ↦
-          let own : answered_by m x ≡ t = same_Some _ t (sym (same_tile c.tiles k (answered_by m x) (slice_get_within c.tiles k x e)) ∙ ap (slice_get now) (sym s) ∙ g) in
-          let same : m ≡ n = same_Some m n (ap (λ (u : Tile). u.answer) own ∙ a) in
-          subst (λ (i : ℕ). Answers (task_of c.planned.snapshot c.planned.plan c.windows run i) n) (sym s) (subst (Answers (tile_task run c k)) same right)
-      | inr ne ↦ h.kept j t n (sym (other_tile c.tiles k j (answered_by m x) ne) ∙ g) a
-    ]
-
--- and makes the book that of the flat layout
-pub finishes : AnswersMakeTheLayout → StitchedComputes → (run : ℕ) (c : Checks) (k : ℕ) (x : Tile) (m : List Marker)
-    → IsPlanned c.planned → IsChecks run c → slice_get c.tiles k ≡ Some x → Answers (tile_task run c k) m
-    → answered (slice_set c.tiles k (answered_by m x)) ≡ tiles c.planned.plan
-    → AreLayoutMarkers c.planned.snapshot (stitched (answers_of (slice_set c.tiles k (answered_by m x))))
-finishes law computes run c k x m p h e right all =
-    let a = answers_all run c k x m h e right all in
-    let lists : List (List Marker) = answers_of (slice_set c.tiles k (answered_by m x)) in
-    law c.planned.snapshot c.planned.plan c.windows run lists (stitched lists) p.snapshot p.plan h.windows a
-    (computes lists (filled_lists c.planned.snapshot c.planned.plan c.windows run lists a))
+use Rattle.mpw_run.proofs.Opened.{raise_keeps, answer_keeps, begins, filled_lists, answers_all, finishes}
 
 -- ---- what is prepared
 
 -- what is true of a run, by the phase that it has
-pub phase_of : (run : Run) (phase : Phase) → run.phase ≡ phase → IsRun run → IsPhase run.number phase
+pub phase_of : (run : Run) (phase : Phase) → run.phase ≡ phase → IsRun run
+    → IsPhase run.number phase
 phase_of run phase e h = subst (IsPhase run.number) e h
 
 -- a tile is handed out
-pub take_prepared : (run : Run) (c : Checks) (o : Offer) → run.phase ≡ Checking c → run.number < 2 ^ 32 → IsRun run → next_from 0 c.tiles ≡ Some o
-    → IsPrepared (let p : Prepared = record { reply = reply.Taken (job.Tile (tile_task run.number c o.number)); change = change.Take o.number } in p) run (handed run c (Some o))
-take_prepared run c o e few h next = record { reply = refl; leaves = leaves; fits = record { left = subst IsRun (sym leaves) now; number = few } }
+pub take_prepared : (run : Run) (c : Checks) (o : Offer) → run.phase ≡ Checking c
+    → run.number < 2 ^ 32 → IsRun run → next_from 0 c.tiles ≡ Some o
+    → IsPrepared (let p : Prepared = record {
+      reply = reply.Taken
+          (job.Tile (tile_task run.number c o.number));
+      change = change.Take o.number;
+    } in p) run
+    (handed run c (Some o))
+take_prepared run c o e few h next =
+    record {
+      reply = refl;
+      leaves = leaves;
+      fits = record { left = subst IsRun (sym leaves) now; number = few };
+    }
   where
     true_of : IsPlanned c.planned × IsChecks run.number c
     true_of = phase_of run (Checking c) e h
 
     at : slice_get c.tiles o.number ≡ Some o.tile
-    at = let i = next_is 0 c.tiles o next in ap (slice_get c.tiles) (let n = i.number in omega (arith, n)) ∙ i.at
+    at = let i = next_is 0 c.tiles o next in
+        ap (slice_get c.tiles) (let n = i.number in omega (arith, n)) ∙ i.at
 
     leaves : applied (change.Take o.number) run ≡ (handed run c (Some o)).run
     leaves =
-        ap (λ (p : Phase). let r : Run = record { number = run.number; phase = next_phase (change.Take o.number) p } in r) e
-        ∙ ap (λ (t : Option Tile). let r : Run = record { number = run.number; phase = Checking (with_tiles c (set_tile raised o.number c.tiles t)) } in r) at
+        ap (λ (p : Phase). let r : Run = record {
+          number = run.number;
+          phase = next_phase (change.Take o.number) p;
+        } in r) e
+        ∙ ap (λ (t : Option Tile). let r :
+        Run = record {
+          number = run.number;
+          phase = Checking (with_tiles c (set_tile raised o.number c.tiles t));
+        } in r) at
 
     now : IsRun (handed run c (Some o)).run
     now = (true_of.0, raise_keeps run.number c o.number o.tile true_of.1 at)
 
 -- the tile that is offered is one of the plan's
-pub offered_within : (run : Run) (c : Checks) (tile : ℕ) → run.phase ≡ Checking c → IsRun run → Some tile ≡ option_map (λ (o : Offer). o.number) (next_from 0 c.tiles) → tile < tiles c.planned.plan
+pub offered_within : (run : Run) (c : Checks) (tile : ℕ) → run.phase ≡ Checking c → IsRun run
+    → Some tile ≡ option_map (λ (o : Offer). o.number) (next_from 0 c.tiles)
+    → tile < tiles c.planned.plan
 offered_within run c tile e h o =
     let q = offer_of_number (next_from 0 c.tiles) tile o in
     let i = next_is 0 c.tiles q.0 q.1 in
@@ -160,34 +85,62 @@ offered_within run c tile e h o =
     omega (arith, n, slice_get_within c.tiles i.place q.0.tile i.at, q.2, count)
 
 -- a tile is handed out, by its number
-pub take_is : (run : Run) (c : Checks) (tile : ℕ) (task : Task) → run.phase ≡ Checking c → run.number < 2 ^ 32 → IsRun run → Some tile ≡ option_map (λ (o : Offer). o.number) (next_from 0 c.tiles)
+pub take_is : (run : Run) (c : Checks) (tile : ℕ) (task : Task) → run.phase ≡ Checking c
+    → run.number < 2 ^ 32 → IsRun run → Some tile ≡ option_map (λ (o : Offer). o.number)
+    (next_from 0 c.tiles)
     → task ≡ tile_task run.number c tile
-    → IsPrepared (let p : Prepared = record { reply = reply.Taken (job.Tile task); change = change.Take tile } in p) run (handed run c (next_from 0 c.tiles))
+    → IsPrepared (let p : Prepared = record {
+      reply = reply.Taken (job.Tile task);
+      change = change.Take tile;
+    } in p) run (handed run c (next_from 0 c.tiles))
 take_is run c tile task e few h o same =
     let q = offer_of_number (next_from 0 c.tiles) tile o in
     subst (IsPrepared (made task tile) run) (sym (ap (handed run c) q.1))
     (subst (λ (t : Task). IsPrepared (made t tile) run (handed run c (Some q.0))) (sym same)
-    (subst (λ (k : ℕ). IsPrepared (made (tile_task run.number c k) k) run (handed run c (Some q.0))) q.2 (take_prepared run c q.0 e few h q.1)))
+    (subst (λ (k : ℕ). IsPrepared (made (tile_task run.number c k) k) run (handed run c (Some q.0)))
+    q.2 (take_prepared run c q.0 e few h q.1)))
   where
     made : Task → ℕ → Prepared
     made t k = record { reply = reply.Taken (job.Tile t); change = change.Take k }
 
 -- the check begins
-pub cut_prepared : (run : Run) (planned : Planned) (answer : CutWindows) → run.phase ≡ Cutting planned → run.number < 2 ^ 32 → IsRun run
+pub cut_prepared : (run : Run) (planned : Planned) (answer : CutWindows)
+    → run.phase ≡ Cutting planned → run.number < 2 ^ 32 → IsRun run
     → answer.job.snapshot ≡ planned.snapshot → StandFor answer.job.snapshot answer.windows
-    → IsPrepared (let p : Prepared = record { reply = reply.Kept; change = change.Check answer.windows (new_tiles (tiles planned.plan)) } in p) run (begun run planned answer)
-cut_prepared run planned answer e few h same windows = record { reply = refl; leaves = leaves; fits = record { left = subst IsRun (sym leaves) now; number = few } }
+    → IsPrepared (let p : Prepared = record {
+      reply = reply.Kept;
+      change = change.Check answer.windows (new_tiles (tiles planned.plan));
+    } in p) run
+    (begun run planned answer)
+cut_prepared run planned answer e few h same windows =
+    record {
+      reply = refl;
+      leaves = leaves;
+      fits = record { left = subst IsRun (sym leaves) now; number = few };
+    }
   where
-    leaves : applied (change.Check answer.windows (new_tiles (tiles planned.plan))) run ≡ (begun run planned answer).run
-    leaves = ap (λ (p : Phase). let r : Run = record { number = run.number; phase = next_phase (change.Check answer.windows (new_tiles (tiles planned.plan))) p } in r) e
+    leaves : applied (change.Check answer.windows (new_tiles (tiles planned.plan))) run
+        ≡ (begun run planned answer).run
+    leaves = ap (λ (p : Phase). let r :
+        Run = record {
+          number = run.number;
+          phase = next_phase (change.Check answer.windows (new_tiles (tiles planned.plan))) p;
+        } in r)
+        e
 
     now : IsRun (begun run planned answer).run
-    now = (phase_of run (Cutting planned) e h, begins run.number planned answer.windows (subst (λ (s : Snapshot). StandFor s answer.windows) same windows))
+    now = (
+      phase_of run (Cutting planned) e h,
+      begins run.number planned answer.windows
+          (subst (λ (s : Snapshot). StandFor s answer.windows) same windows),
+    )
 
 -- the tests of a count that goes up by one to the number of tiles
-last : (run : ℕ) (c : Checks) (k : ℕ) (x : Tile) (m : List Marker) → IsChecks run c → slice_get c.tiles k ≡ Some x → x.answer ≡ None → tiles c.planned.plan ≤ answered c.tiles + 1
+last : (run : ℕ) (c : Checks) (k : ℕ) (x : Tile) (m : List Marker) → IsChecks run c
+    → slice_get c.tiles k ≡ Some x → x.answer ≡ None → tiles c.planned.plan ≤ answered c.tiles + 1
     → answered (slice_set c.tiles k (answered_by m x)) ≡ tiles c.planned.plan
-last run c k x m h e free most = let l = h.left in omega (arith, most, l, one_answered c.tiles k x m e free)
+last run c k x m h e free most =
+    let l = h.left in omega (arith, most, l, one_answered c.tiles k x m e free)
 
 test_is : (a b : ℕ) (x y : Outcome) → a ≡ b → (if a == b then x else y) ≡ x
 test_is a b x y e = ap (λ (t : Bool). if t then x else y) (eq-eqb a b e)
@@ -200,11 +153,19 @@ test_is_not a b x y ne = by (a == b) refl
     by false e = refl
 
 -- the markers of a tile are kept, and a tile is left
-pub keep_prepared : (run : Run) (c : Checks) (k : ℕ) (x : Tile) (m : List Marker) → run.phase ≡ Checking c → run.number < 2 ^ 32 → IsRun run
-    → slice_get c.tiles k ≡ Some x → x.answer ≡ None → Answers (tile_task run.number c k) m → answered c.tiles + 1 < tiles c.planned.plan
-    → IsPrepared (let p : Prepared = record { reply = reply.Kept; change = change.Keep k m } in p) run (kept run c (set_tile (answered_by m) k c.tiles (slice_get c.tiles k)))
+pub keep_prepared : (run : Run) (c : Checks) (k : ℕ) (x : Tile) (m : List Marker)
+    → run.phase ≡ Checking c → run.number < 2 ^ 32 → IsRun run
+    → slice_get c.tiles k ≡ Some x → x.answer ≡ None → Answers (tile_task run.number c k) m
+    → answered c.tiles + 1 < tiles c.planned.plan
+    → IsPrepared (let p : Prepared = record { reply = reply.Kept; change = change.Keep k m } in p)
+    run (kept run c (set_tile (answered_by m) k c.tiles (slice_get c.tiles k)))
 keep_prepared run c k x m e few h at free right less =
-    subst (IsPrepared p run) (sym outcome) (record { reply = refl; leaves = leaves; fits = record { left = subst IsRun (sym leaves) now; number = few } })
+    subst (IsPrepared p run) (sym outcome)
+    (record {
+      reply = refl;
+      leaves = leaves;
+      fits = record { left = subst IsRun (sym leaves) now; number = few };
+    })
   where
     p : Prepared
     p = record { reply = reply.Kept; change = change.Keep k m }
@@ -213,7 +174,10 @@ keep_prepared run c k x m e few h at free right less =
     tiles' = slice_set c.tiles k (answered_by m x)
 
     after : Outcome
-    after = record { reply = reply.Kept; run = record { number = run.number; phase = Checking (with_tiles c tiles') } }
+    after = record {
+      reply = reply.Kept;
+      run = record { number = run.number; phase = Checking (with_tiles c tiles') };
+    }
 
     true_of : IsPlanned c.planned × IsChecks run.number c
     true_of = phase_of run (Checking c) e h
@@ -222,23 +186,42 @@ keep_prepared run c k x m e few h at free right less =
     count = one_answered c.tiles k x m at free
 
     outcome : kept run c (set_tile (answered_by m) k c.tiles (slice_get c.tiles k)) ≡ after
-    outcome = ap (λ (t : Option Tile). kept run c (set_tile (answered_by m) k c.tiles t)) at ∙ test_is_not (answered tiles') (tiles c.planned.plan) _ after (λ s. omega (arith, s, count, less))
+    outcome = ap (λ (t : Option Tile). kept run c (set_tile (answered_by m) k c.tiles t)) at
+        ∙ test_is_not (answered tiles') (tiles c.planned.plan) _ after
+        (λ s. omega (arith, s, count, less))
 
     leaves : applied (change.Keep k m) run ≡ after.run
     leaves =
-        ap (λ (q : Phase). let r : Run = record { number = run.number; phase = next_phase (change.Keep k m) q } in r) e
-        ∙ ap (λ (t : Option Tile). let r : Run = record { number = run.number; phase = Checking (with_tiles c (set_tile (answered_by m) k c.tiles t)) } in r) at
+        ap (λ (q : Phase). let r : Run = record {
+          number = run.number;
+          phase = next_phase (change.Keep k m) q;
+        } in r) e
+        ∙ ap (λ (t : Option Tile). let r :
+        Run = record {
+          number = run.number;
+          phase = Checking (with_tiles c (set_tile (answered_by m) k c.tiles t));
+        } in r) at
 
     now : IsRun after.run
-    now = (true_of.0, answer_keeps run.number c k x m true_of.1 at right (omega (arith, count, less)))
+    now =
+        (true_of.0, answer_keeps run.number c k x m true_of.1 at right (omega (arith, count, less)))
 
 -- the last tile is answered
-pub finish_prepared : AnswersMakeTheLayout → StitchedComputes → (run : Run) (c : Checks) (k : ℕ) (x : Tile) (m : List Marker) (book : List Marker) → run.phase ≡ Checking c → run.number < 2 ^ 32 → IsRun run
-    → slice_get c.tiles k ≡ Some x → x.answer ≡ None → Answers (tile_task run.number c k) m → tiles c.planned.plan ≤ answered c.tiles + 1
+pub finish_prepared : AnswersMakeTheLayout → StitchedComputes
+    → (run : Run) (c : Checks) (k : ℕ) (x : Tile) (m : List Marker) (book : List Marker)
+    → run.phase ≡ Checking c → run.number < 2 ^ 32 → IsRun run
+    → slice_get c.tiles k ≡ Some x → x.answer ≡ None → Answers (tile_task run.number c k) m
+    → tiles c.planned.plan ≤ answered c.tiles + 1
     → book ≡ stitched (answers_of (set_tile (answered_by m) k c.tiles (slice_get c.tiles k)))
-    → IsPrepared (let p : Prepared = record { reply = reply.Finished; change = change.Finish book } in p) run (kept run c (set_tile (answered_by m) k c.tiles (slice_get c.tiles k)))
+    → IsPrepared (let p : Prepared = record { reply = reply.Finished; change = change.Finish book }
+    in p) run (kept run c (set_tile (answered_by m) k c.tiles (slice_get c.tiles k)))
 finish_prepared law computes run c k x m book e few h at free right most made =
-    subst (IsPrepared p run) (sym outcome) (record { reply = refl; leaves = leaves; fits = record { left = subst IsRun (sym leaves) now; number = few } })
+    subst (IsPrepared p run) (sym outcome)
+    (record {
+      reply = refl;
+      leaves = leaves;
+      fits = record { left = subst IsRun (sym leaves) now; number = few };
+    })
   where
     p : Prepared
     p = record { reply = reply.Finished; change = change.Finish book }
@@ -247,7 +230,13 @@ finish_prepared law computes run c k x m book e few h at free right most made =
     tiles' = slice_set c.tiles k (answered_by m x)
 
     after : Outcome
-    after = record { reply = reply.Finished; run = record { number = run.number; phase = Finished (record { planned = c.planned; book = stitched (answers_of tiles') }) } }
+    after = record {
+      reply = reply.Finished;
+      run = record {
+        number = run.number;
+        phase = Finished (record { planned = c.planned; book = stitched (answers_of tiles') });
+      };
+    }
 
     true_of : IsPlanned c.planned × IsChecks run.number c
     true_of = phase_of run (Checking c) e h
@@ -256,15 +245,24 @@ finish_prepared law computes run c k x m book e few h at free right most made =
     all = last run.number c k x m true_of.1 at free most
 
     whole : book ≡ stitched (answers_of tiles')
-    whole = made ∙ ap (λ (t : Option Tile). stitched (answers_of (set_tile (answered_by m) k c.tiles t))) at
+    whole = made ∙ ap (λ (t : Option Tile).
+        stitched (answers_of (set_tile (answered_by m) k c.tiles t))) at
 
     outcome : kept run c (set_tile (answered_by m) k c.tiles (slice_get c.tiles k)) ≡ after
-    outcome = ap (λ (t : Option Tile). kept run c (set_tile (answered_by m) k c.tiles t)) at ∙ test_is (answered tiles') (tiles c.planned.plan) after _ all
+    outcome = ap (λ (t : Option Tile). kept run c (set_tile (answered_by m) k c.tiles t)) at
+        ∙ test_is (answered tiles') (tiles c.planned.plan) after _ all
 
     leaves : applied (change.Finish book) run ≡ after.run
     leaves =
-        ap (λ (q : Phase). let r : Run = record { number = run.number; phase = next_phase (change.Finish book) q } in r) e
-        ∙ ap (λ (b : List Marker). let r : Run = record { number = run.number; phase = Finished (record { planned = c.planned; book = b }) } in r) whole
+        ap (λ (q : Phase). let r : Run = record {
+          number = run.number;
+          phase = next_phase (change.Finish book) q;
+        } in r) e
+        ∙ ap (λ (b : List Marker). let r :
+        Run = record {
+          number = run.number;
+          phase = Finished (record { planned = c.planned; book = b });
+        } in r) whole
 
     now : IsRun after.run
     now = (true_of.0, finishes law computes run.number c k x m true_of.0 true_of.1 at right all)
@@ -274,35 +272,50 @@ finish_prepared law computes run c k x m book e few h at free right most made =
 abbrev Prepares : Prepared → Run → Outcome → Type 0
 Prepares p run o = IsPrepared p run o
 
-when : (p : Prepared) (run : Run) (b : Bool) (x y : Outcome) → b ≡ true → Prepares p run x → Prepares p run (if b then x else y)
+when : (p : Prepared) (run : Run) (b : Bool) (x y : Outcome) → b ≡ true → Prepares p run x
+    → Prepares p run (if b then x else y)
 when p run b x y e h = subst (λ (t : Bool). Prepares p run (if t then x else y)) (sym e) h
 
-compared : (p : Prepared) (run : Run) (c : Checks) (answer : FoundMarkers) (x : Tile) (a : Option (List Marker)) → slice_get c.tiles answer.job.tile ≡ Some x → x.answer ≡ a
-    → Prepares p run (tile_compared run c answer x a) → Prepares p run (tile_checked run c answer (slice_get c.tiles answer.job.tile))
+compared : (p : Prepared) (run : Run) (c : Checks) (answer : FoundMarkers) (x : Tile)
+    (a : Option (List Marker)) → slice_get c.tiles answer.job.tile ≡ Some x → x.answer ≡ a
+    → Prepares p run (tile_compared run c answer x a)
+    → Prepares p run (tile_checked run c answer (slice_get c.tiles answer.job.tile))
 compared p run c answer x a e w h =
-    subst (λ (t : Option Tile). Prepares p run (tile_checked run c answer t)) (sym e) (subst (λ (b : Option (List Marker)). Prepares p run (tile_compared run c answer x b)) (sym w) h)
+    subst (λ (t : Option Tile). Prepares p run (tile_checked run c answer t)) (sym e)
+    (subst (λ (b : Option (List Marker)). Prepares p run (tile_compared run c answer x b))
+    (sym w) h)
 
 open_is : (a : Option (List Marker)) → is_some a ≡ false → a ≡ None
 open_is None e = refl
 open_is (Some m) e = absurd (false≢true (sym e))
 
-pub own_task : (p : Prepared) (run : Run) (c : Checks) (answer : FoundMarkers) (x : Tile) → slice_get c.tiles answer.job.tile ≡ Some x → is_some x.answer ≡ false
+pub own_task : (p : Prepared) (run : Run) (c : Checks) (answer : FoundMarkers) (x : Tile)
+    → slice_get c.tiles answer.job.tile ≡ Some x → is_some x.answer ≡ false
     → same_task answer.job (tile_task run.number c answer.job.tile) ≡ true
-    → Prepares p run (kept run c (set_tile (answered_by answer.markers) answer.job.tile c.tiles (slice_get c.tiles answer.job.tile)))
+    → Prepares p run (kept run c (set_tile (answered_by answer.markers) answer.job.tile c.tiles
+    (slice_get c.tiles answer.job.tile)))
     → Prepares p run (tile_checked run c answer (slice_get c.tiles answer.job.tile))
 own_task p run c answer x e s t h =
-    compared p run c answer x None e (open_is x.answer s) (when p run (same_task answer.job (tile_task run.number c answer.job.tile)) _ (left_as reply.Stranger run) t
-    (subst (λ (y : Option Tile). Prepares p run (kept run c (set_tile (answered_by answer.markers) answer.job.tile c.tiles y))) e h))
+    compared p run c answer x None e (open_is x.answer s)
+    (when p run (same_task answer.job (tile_task run.number c answer.job.tile)) _
+    (left_as reply.Stranger run) t
+    (subst (λ (y : Option Tile). Prepares p run
+    (kept run c (set_tile (answered_by answer.markers) answer.job.tile c.tiles y))) e h))
 
 -- ---- what is prepared, by the code's values
 
 -- the check begins
-pub cut_is : (run : Run) (planned : Planned) (answer : CutWindows) (windows : List (List Rectangle)) (xs : List Tile) → run.phase ≡ Cutting planned → run.number < 2 ^ 32 → IsRun run
-    → answer.job.snapshot ≡ planned.snapshot → IsCutAnswer answer → windows ≡ answer.windows → xs ≡ new_tiles (tiles planned.plan)
-    → IsPrepared (let p : Prepared = record { reply = reply.Kept; change = change.Check windows xs } in p) run (begun run planned answer)
+pub cut_is : (run : Run) (planned : Planned) (answer : CutWindows) (windows : List (List Rectangle))
+    (xs : List Tile) → run.phase ≡ Cutting planned → run.number < 2 ^ 32 → IsRun run
+    → answer.job.snapshot ≡ planned.snapshot → IsCutAnswer answer → windows ≡ answer.windows
+    → xs ≡ new_tiles (tiles planned.plan)
+    → IsPrepared (let p : Prepared = record { reply = reply.Kept; change = change.Check windows xs }
+    in p) run (begun run planned answer)
 cut_is run planned answer windows xs e few h same right w x =
-    subst (λ (ws : List (List Rectangle)). IsPrepared (made ws xs) run (begun run planned answer)) (sym w)
-    (subst (λ (ts : List Tile). IsPrepared (made answer.windows ts) run (begun run planned answer)) (sym x) (cut_prepared run planned answer e few h same right))
+    subst (λ (ws : List (List Rectangle)). IsPrepared (made ws xs) run (begun run planned answer))
+    (sym w)
+    (subst (λ (ts : List Tile). IsPrepared (made answer.windows ts) run (begun run planned answer))
+    (sym x) (cut_prepared run planned answer e few h same right))
   where
     made : List (List Rectangle) → List Tile → Prepared
     made ws ts = record { reply = reply.Kept; change = change.Check ws ts }
@@ -324,16 +337,21 @@ at_is : (c : Checks) (k : ℕ) → k < length c.tiles → slice_get c.tiles k �
 unfolding tile_at
 at_is c k l = slice_get-get_or c.tiles k new_tile l
 
-answers_task : (run : Run) (c : Checks) (answer : FoundMarkers) (k : ℕ) → IsOpen run c answer k → Answers (tile_task run.number c k) answer.markers
+answers_task : (run : Run) (c : Checks) (answer : FoundMarkers) (k : ℕ) → IsOpen run c answer k
+    → Answers (tile_task run.number c k) answer.markers
 answers_task run c answer k h = subst (λ (t : Task). Answers t answer.markers) h.task h.right
 
 -- what is kept is the reply to the answer
-own_kept : (p : Prepared) (run : Run) (c : Checks) (answer : FoundMarkers) (k : ℕ) → IsOpen run c answer k
-    → Prepares p run (kept run c (set_tile (answered_by answer.markers) k c.tiles (slice_get c.tiles k)))
+own_kept : (p : Prepared) (run : Run) (c : Checks) (answer : FoundMarkers) (k : ℕ)
+    → IsOpen run c answer k
+    → Prepares p run (kept run c (set_tile (answered_by answer.markers) k c.tiles
+    (slice_get c.tiles k)))
     → Prepares p run (tile_checked run c answer (slice_get c.tiles answer.job.tile))
 own_kept p run c answer k h made =
-    own_task p run c answer (tile_at c n) at open_now ((tasks answer.job (tile_task run.number c n)).1 task)
-    (subst (λ (j : ℕ). Prepares p run (kept run c (set_tile (answered_by answer.markers) j c.tiles (slice_get c.tiles j)))) same made)
+    own_task p run c answer (tile_at c n) at open_now
+    ((tasks answer.job (tile_task run.number c n)).1 task)
+    (subst (λ (j : ℕ). Prepares p run (kept run c
+    (set_tile (answered_by answer.markers) j c.tiles (slice_get c.tiles j)))) same made)
   where
     n : ℕ
     n = answer.job.tile
@@ -348,24 +366,33 @@ own_kept p run c answer k h made =
     at = at_is c n (subst (λ (j : ℕ). j < length c.tiles) same h.within)
 
     open_now : is_some (tile_at c n).answer ≡ false
-    open_now = ap (λ (a : Option (List Marker)). is_some a) (h.unanswered (tile_at c n) (ap (slice_get c.tiles) same ∙ at))
+    open_now = ap (λ (a : Option (List Marker)). is_some a)
+        (h.unanswered (tile_at c n) (ap (slice_get c.tiles) same ∙ at))
 
 -- a tile is left
-pub keep_is : (run : Run) (c : Checks) (answer : FoundMarkers) (k : ℕ) (m : List Marker) → IsOpen run c answer k → m ≡ answer.markers → answered c.tiles + 1 < tiles c.planned.plan
-    → IsPrepared (let p : Prepared = record { reply = reply.Kept; change = change.Keep k m } in p) run (tile_checked run c answer (slice_get c.tiles answer.job.tile))
+pub keep_is : (run : Run) (c : Checks) (answer : FoundMarkers) (k : ℕ) (m : List Marker)
+    → IsOpen run c answer k → m ≡ answer.markers → answered c.tiles + 1 < tiles c.planned.plan
+    → IsPrepared (let p : Prepared = record { reply = reply.Kept; change = change.Keep k m } in p)
+    run (tile_checked run c answer (slice_get c.tiles answer.job.tile))
 keep_is run c answer k m h e less =
-    subst (λ (n : List Marker). IsPrepared (made n) run (tile_checked run c answer (slice_get c.tiles answer.job.tile))) (sym e)
+    subst (λ (n : List Marker). IsPrepared (made n) run
+    (tile_checked run c answer (slice_get c.tiles answer.job.tile))) (sym e)
     (own_kept (made answer.markers) run c answer k h
-    (keep_prepared run c k (tile_at c k) answer.markers h.phase h.few h.run_is (at_is c k h.within) (h.unanswered (tile_at c k) (at_is c k h.within)) (answers_task run c answer k h) less))
+    (keep_prepared run c k (tile_at c k) answer.markers h.phase h.few h.run_is (at_is c k h.within)
+    (h.unanswered (tile_at c k) (at_is c k h.within)) (answers_task run c answer k h) less))
   where
     made : List Marker → Prepared
     made n = record { reply = reply.Kept; change = change.Keep k n }
 
 -- the last tile's answer: the lists are filled, and the book is theirs
-pub filled_is : (run : Run) (c : Checks) (answer : FoundMarkers) (k : ℕ) → IsOpen run c answer k → tiles c.planned.plan ≤ answered c.tiles + 1 → AreFilled (answers_with answer.markers k c.tiles)
+pub filled_is : (run : Run) (c : Checks) (answer : FoundMarkers) (k : ℕ) → IsOpen run c answer k
+    → tiles c.planned.plan ≤ answered c.tiles + 1
+    → AreFilled (answers_with answer.markers k c.tiles)
 filled_is run c answer k h most =
-    subst (λ (t : Option Tile). AreFilled (answers_of (set_tile (answered_by answer.markers) k c.tiles t))) (sym at)
-    (filled_lists c.planned.snapshot c.planned.plan c.windows run.number (answers_of (slice_set c.tiles k (answered_by answer.markers (tile_at c k)))) all)
+    subst (λ (t : Option Tile). AreFilled
+    (answers_of (set_tile (answered_by answer.markers) k c.tiles t))) (sym at)
+    (filled_lists c.planned.snapshot c.planned.plan c.windows run.number
+    (answers_of (slice_set c.tiles k (answered_by answer.markers (tile_at c k)))) all)
   where
     true_of : IsPlanned c.planned × IsChecks run.number c
     true_of = phase_of run (Checking c) h.phase h.run_is
@@ -373,14 +400,22 @@ filled_is run c answer k h most =
     at : slice_get c.tiles k ≡ Some (tile_at c k)
     at = at_is c k h.within
 
-    all : AnswerTiles c.planned.snapshot c.planned.plan c.windows run.number (answers_of (slice_set c.tiles k (answered_by answer.markers (tile_at c k))))
-    all = answers_all run.number c k (tile_at c k) answer.markers true_of.1 at (answers_task run c answer k h)
-        (last run.number c k (tile_at c k) answer.markers true_of.1 at (h.unanswered (tile_at c k) at) most)
+    all : AnswerTiles c.planned.snapshot c.planned.plan c.windows run.number
+        (answers_of (slice_set c.tiles k (answered_by answer.markers (tile_at c k))))
+    all = answers_all run.number c k (tile_at c k) answer.markers true_of.1 at
+        (answers_task run c answer k h)
+        (last run.number c k (tile_at c k) answer.markers true_of.1 at
+        (h.unanswered (tile_at c k) at) most)
 
-pub finish_is : AnswersMakeTheLayout → StitchedComputes → (run : Run) (c : Checks) (answer : FoundMarkers) (k : ℕ) (book : List Marker) → IsOpen run c answer k
-    → tiles c.planned.plan ≤ answered c.tiles + 1 → book ≡ stitched (answers_with answer.markers k c.tiles)
-    → IsPrepared (let p : Prepared = record { reply = reply.Finished; change = change.Finish book } in p) run (tile_checked run c answer (slice_get c.tiles answer.job.tile))
+pub finish_is : AnswersMakeTheLayout → StitchedComputes
+    → (run : Run) (c : Checks) (answer : FoundMarkers) (k : ℕ) (book : List Marker)
+    → IsOpen run c answer k
+    → tiles c.planned.plan ≤ answered c.tiles + 1
+    → book ≡ stitched (answers_with answer.markers k c.tiles)
+    → IsPrepared (let p : Prepared = record { reply = reply.Finished; change = change.Finish book }
+    in p) run (tile_checked run c answer (slice_get c.tiles answer.job.tile))
 finish_is law computes run c answer k book h most made =
     own_kept (record { reply = reply.Finished; change = change.Finish book }) run c answer k h
-    (finish_prepared law computes run c k (tile_at c k) answer.markers book h.phase h.few h.run_is (at_is c k h.within) (h.unanswered (tile_at c k) (at_is c k h.within))
+    (finish_prepared law computes run c k (tile_at c k) answer.markers book h.phase h.few h.run_is
+    (at_is c k h.within) (h.unanswered (tile_at c k) (at_is c k h.within))
     (answers_task run c answer k h) most made)

@@ -17,43 +17,56 @@ use Rattle.mpw_run.specs.Laws.{StitchedComputes, Event, step, IsRight, run_after
 use Rattle.mpw_run.proofs.Exactness.{snapshots, tasks}
 use Rattle.mpw_run.proofs.TileLists.{few_answered}
 use Rattle.mpw_run.proofs.Next.{next_is}
-use Rattle.mpw_run.proofs.Changes.{begins, raise_keeps, answer_keeps, finishes}
+use Rattle.mpw_run.proofs.Opened.{begins, raise_keeps, answer_keeps, finishes}
 
 -- ---- tests
 
 abbrev Keeps : Outcome → Type 0
 Keeps o = IsRun o.run
 
-either : (b : Bool) (x y : Outcome) → (b ≡ true → Keeps x) → (b ≡ false → Keeps y) → Keeps (if b then x else y)
+either : (b : Bool) (x y : Outcome) → (b ≡ true → Keeps x) → (b ≡ false → Keeps y)
+    → Keeps (if b then x else y)
 either true x y f g = f refl
 either false x y f g = g refl
 
 -- ---- events
 
-handed_keeps : (run : Run) (c : Checks) (o : Option Offer) → next_from 0 c.tiles ≡ o → IsPlanned c.planned × IsChecks run.number c → IsRun run → Keeps (handed run c o)
+handed_keeps : (run : Run) (c : Checks) (o : Option Offer) → next_from 0 c.tiles ≡ o
+    → IsPlanned c.planned × IsChecks run.number c → IsRun run → Keeps (handed run c o)
 handed_keeps run c None e h r = r
 handed_keeps run c (Some o) e h r =
     let i = next_is 0 c.tiles o e in
-    let at : slice_get c.tiles o.number ≡ Some o.tile = ap (slice_get c.tiles) (let n = i.number in omega (arith, n)) ∙ i.at in
+    let at : slice_get c.tiles o.number ≡ Some o.tile =
+    ap (slice_get c.tiles) (let n = i.number in omega (arith, n)) ∙ i.at in
     (h.0, raise_keeps run.number c o.number o.tile h.1 at)
 
-take_keeps : (run : Run) (phase : Phase) → IsPhase run.number phase → IsRun run → Keeps (taken_in run phase)
+take_keeps : (run : Run) (phase : Phase) → IsPhase run.number phase → IsRun run
+    → Keeps (taken_in run phase)
 take_keeps run Idle h r = r
 take_keeps run (Cutting planned) h r = r
 take_keeps run (Checking c) h r = handed_keeps run c (next_from 0 c.tiles) refl h r
 take_keeps run (Finished f) h r = r
 
-cut_keeps : (run : Run) (answer : CutWindows) (phase : Phase) → IsCutAnswer answer → IsPhase run.number phase → IsRun run → Keeps (cut_in run answer phase)
+cut_keeps : (run : Run) (answer : CutWindows) (phase : Phase) → IsCutAnswer answer
+    → IsPhase run.number phase → IsRun run → Keeps (cut_in run answer phase)
 cut_keeps run answer Idle a h r = r
 cut_keeps run answer (Cutting planned) a h r =
     either (same_snapshot answer.job.snapshot planned.snapshot) _ _
-    (λ t. (h, begins run.number planned answer.windows (subst (λ (s : Snapshot). StandFor s answer.windows) ((snapshots answer.job.snapshot planned.snapshot).0 t) a)))
+    (λ t. (
+      h,
+      begins run.number planned answer.windows
+          (subst (λ (s : Snapshot). StandFor s answer.windows)
+          ((snapshots answer.job.snapshot planned.snapshot).0 t) a),
+    ))
     (λ f. r)
 cut_keeps run answer (Checking c) a h r = r
 cut_keeps run answer (Finished f) a h r = r
 
-kept_keeps : AnswersMakeTheLayout → StitchedComputes → (run : Run) (c : Checks) (k : ℕ) (x : Tile) (m : List Marker) → IsPlanned c.planned → IsChecks run.number c
-    → slice_get c.tiles k ≡ Some x → Answers (tile_task run.number c k) m → Keeps (kept run c (slice_set c.tiles k (answered_by m x)))
+kept_keeps : AnswersMakeTheLayout → StitchedComputes
+    → (run : Run) (c : Checks) (k : ℕ) (x : Tile) (m : List Marker) → IsPlanned c.planned
+    → IsChecks run.number c
+    → slice_get c.tiles k ≡ Some x → Answers (tile_task run.number c k) m
+    → Keeps (kept run c (slice_set c.tiles k (answered_by m x)))
 kept_keeps law computes run c k x m p h e right =
     either (answered now == tiles c.planned.plan) _ _
     (λ t. (p, finishes law computes run.number c k x m p h e right (eqb-true _ _ t)))
@@ -65,38 +78,59 @@ kept_keeps law computes run c k x m p h e right =
     less : (answered now == tiles c.planned.plan) ≡ false → answered now < tiles c.planned.plan
     less f = elim (cases_eq (answered now) (tiles c.planned.plan)) [
       | inl s ↦ absurd (false≢true (sym f ∙ eq-eqb (answered now) (tiles c.planned.plan) s))
-      | inr ne ↦ omega (arith, ne, few_answered now, length-set c.tiles k (answered_by m x), h.count)
+      | inr ne ↦ omega (
+        arith,
+        ne,
+        few_answered now,
+        length-set c.tiles k (answered_by m x),
+        h.count,
+      )
     ]
 
-compared_keeps : AnswersMakeTheLayout → StitchedComputes → (run : Run) (c : Checks) (answer : FoundMarkers) (x : Tile) (a : Option (List Marker)) → IsTileAnswer answer
-    → IsPlanned c.planned → IsChecks run.number c → slice_get c.tiles answer.job.tile ≡ Some x → IsRun run → Keeps (tile_compared run c answer x a)
+compared_keeps : AnswersMakeTheLayout → StitchedComputes
+    → (run : Run) (c : Checks) (answer : FoundMarkers) (x : Tile) (a : Option (List Marker))
+    → IsTileAnswer answer
+    → IsPlanned c.planned → IsChecks run.number c → slice_get c.tiles answer.job.tile ≡ Some x
+    → IsRun run → Keeps (tile_compared run c answer x a)
 compared_keeps law computes run c answer x (Some m) t p h e r = r
 compared_keeps law computes run c answer x None t p h e r =
     either (same_task answer.job (tile_task run.number c answer.job.tile)) _ _
-    (λ b. kept_keeps law computes run c answer.job.tile x answer.markers p h e (subst (λ (task : Task). Answers task answer.markers) ((tasks answer.job (tile_task run.number c answer.job.tile)).0 b) t))
+    (λ b. kept_keeps law computes run c answer.job.tile x answer.markers p h e
+    (subst (λ (task : Task). Answers task answer.markers)
+    ((tasks answer.job (tile_task run.number c answer.job.tile)).0 b) t))
     (λ f. r)
 
-checked_keeps : AnswersMakeTheLayout → StitchedComputes → (run : Run) (c : Checks) (answer : FoundMarkers) (x : Option Tile) → IsTileAnswer answer
-    → IsPlanned c.planned → IsChecks run.number c → slice_get c.tiles answer.job.tile ≡ x → IsRun run → Keeps (tile_checked run c answer x)
+checked_keeps : AnswersMakeTheLayout → StitchedComputes
+    → (run : Run) (c : Checks) (answer : FoundMarkers) (x : Option Tile) → IsTileAnswer answer
+    → IsPlanned c.planned → IsChecks run.number c → slice_get c.tiles answer.job.tile ≡ x
+    → IsRun run → Keeps (tile_checked run c answer x)
 checked_keeps law computes run c answer None t p h e r = r
-checked_keeps law computes run c answer (Some x) t p h e r = compared_keeps law computes run c answer x x.answer t p h e r
+checked_keeps law computes run c answer (Some x) t p h e r =
+    compared_keeps law computes run c answer x x.answer t p h e r
 
-tile_keeps : AnswersMakeTheLayout → StitchedComputes → (run : Run) (answer : FoundMarkers) (phase : Phase) → IsTileAnswer answer
+tile_keeps : AnswersMakeTheLayout → StitchedComputes
+    → (run : Run) (answer : FoundMarkers) (phase : Phase) → IsTileAnswer answer
     → IsPhase run.number phase → IsRun run → Keeps (tile_in run answer phase)
 tile_keeps law computes run answer Idle t h r = r
 tile_keeps law computes run answer (Cutting planned) t h r = r
-tile_keeps law computes run answer (Checking c) t h r = checked_keeps law computes run c answer (slice_get c.tiles answer.job.tile) t h.0 h.1 refl r
-tile_keeps law computes run answer (Finished f) t h r = either (nat_lt answer.job.tile (tiles f.planned.plan)) _ _ (λ u. r) (λ u. r)
+tile_keeps law computes run answer (Checking c) t h r =
+    checked_keeps law computes run c answer (slice_get c.tiles answer.job.tile) t h.0 h.1 refl r
+tile_keeps law computes run answer (Finished f) t h r =
+    either (nat_lt answer.job.tile (tiles f.planned.plan)) _ _ (λ u. r) (λ u. r)
 
 -- ---- all events
 
-event_keeps : AnswersMakeTheLayout → StitchedComputes → (run : Run) (event : Event) → IsRight event → IsRun run → Keeps (step run event)
+event_keeps : AnswersMakeTheLayout → StitchedComputes → (run : Run) (event : Event) → IsRight event
+    → IsRun run → Keeps (step run event)
 event_keeps law computes run (Event.start planned) p r = p
 event_keeps law computes run Event.cancel p r = tt
 event_keeps law computes run Event.take p r = take_keeps run run.phase r r
-event_keeps law computes run (Event.cut answer) p r = either (run.number == answer.job.run) _ _ (λ t. cut_keeps run answer run.phase p r r) (λ f. r)
-event_keeps law computes run (Event.tile answer) p r = either (run.number == answer.job.run) _ _ (λ t. tile_keeps law computes run answer run.phase p r r) (λ f. r)
+event_keeps law computes run (Event.cut answer) p r =
+    either (run.number == answer.job.run) _ _ (λ t. cut_keeps run answer run.phase p r r) (λ f. r)
+event_keeps law computes run (Event.tile answer) p r = either (run.number == answer.job.run) _ _
+    (λ t. tile_keeps law computes run answer run.phase p r r) (λ f. r)
 
 pub keeps : AnswersMakeTheLayout → StitchedComputes → EachRunKeeps
 keeps law computes [] right = tt
-keeps law computes (event ∷ before) right = event_keeps law computes (run_after before) event right.0 (keeps law computes before right.1)
+keeps law computes (event ∷ before) right =
+    event_keeps law computes (run_after before) event right.0 (keeps law computes before right.1)

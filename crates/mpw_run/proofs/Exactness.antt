@@ -25,7 +25,7 @@ use Rattle.mpw_walk.specs.declared.root.Root.{Root}
 use Rattle.mpw_tiles.specs.declared.listing.Rectangle.{Rectangle}
 use Rattle.mpw_tiles.specs.Snapshots.{Snapshot}
 use Rattle.mpw_job.specs.Answers.{Task}
-use Rattle.mpw_run.specs.Same.{same_point, same_box, same_layer, place_of, same_orient, same_placing, same_points, same_boundary, same_ends, same_path, same_array, same_reference, same_element, same_structure, same_library, same_binding, same_version, same_submission, same_root, same_check, same_rule, same_rules, same_deck, same_snapshot, same_rectangle, same_place, same_task}
+use Rattle.mpw_run.specs.Same.{same_point, same_box, same_layer, orient_number, same_orient, same_placing, same_points, same_boundary, same_ends, same_path, same_array, same_reference, same_element, same_structure, same_library, same_binding, same_version, same_submission, same_root, same_check, same_rule, same_rules, same_deck, same_snapshot, same_rectangle, same_place, same_task}
 use Rattle.mpw_run.specs.Laws.{TestsAreExact}
 
 -- The test decides whether its two values are equal.
@@ -42,16 +42,22 @@ lists test exact = pointwise_decides exact
 one : {P X : Type 0} (p : Bool) → Decides p P → (P → X) → (X → P) → Decides p X
 one p f to from = Decides-like p to from f
 
-two : {P Q X : Type 0} (p q : Bool) → Decides p P → Decides q Q → (P → Q → X) → (X → P × Q) → Decides (p && q) X
+two : {P Q X : Type 0} (p q : Bool) → Decides p P → Decides q Q → (P → Q → X) → (X → P × Q)
+    → Decides (p && q) X
 two p q f g to from = one (p && q) (Decides-and p q f g) (λ h. to h.0 h.1) from
 
-three : {P Q R X : Type 0} (p q r : Bool) → Decides p P → Decides q Q → Decides r R → (P → Q → R → X) → (X → P × Q × R) → Decides (p && (q && r)) X
+three : {P Q R X : Type 0} (p q r : Bool) → Decides p P → Decides q Q → Decides r R
+    → (P → Q → R → X) → (X → P × Q × R) → Decides (p && (q && r)) X
 three p q r f g h to from =
-    one (p && (q && r)) (Decides-and p (q && r) f (Decides-and q r g h)) (λ t. to t.0 t.1.0 t.1.1) (λ x. let t = from x in (t.0, (t.1, t.2)))
+    one (p && (q && r)) (Decides-and p (q && r) f (Decides-and q r g h)) (λ t. to t.0 t.1.0 t.1.1)
+    (λ x. let t = from x in (t.0, (t.1, t.2)))
 
-four : {P Q R S X : Type 0} (p q r s : Bool) → Decides p P → Decides q Q → Decides r R → Decides s S → (P → Q → R → S → X) → (X → P × Q × R × S) → Decides ((p && q) && (r && s)) X
+four : {P Q R S X : Type 0} (p q r s : Bool) → Decides p P → Decides q Q → Decides r R → Decides s S
+    → (P → Q → R → S → X) → (X → P × Q × R × S) → Decides ((p && q) && (r && s)) X
 four p q r s f g h k to from =
-    one ((p && q) && (r && s)) (Decides-and (p && q) (r && s) (Decides-and p q f g) (Decides-and r s h k)) (λ t. to t.0.0 t.0.1 t.1.0 t.1.1) (λ x. let t = from x in ((t.0, t.1), (t.2, t.3)))
+    one ((p && q) && (r && s)) (Decides-and (p && q) (r && s) (Decides-and p q f g)
+    (Decides-and r s h k)) (λ t. to t.0.0 t.0.1 t.1.0 t.1.1)
+    (λ x. let t = from x in ((t.0, t.1), (t.2, t.3)))
 
 -- ---- the plane
 
@@ -65,9 +71,15 @@ points a b =
 boxes : Exact same_box
 boxes a b =
     four {X = a ≡ b} (int_eq a.x0 b.x0) (int_eq a.y0 b.y0) (int_eq a.x1 b.x1) (int_eq a.y1 b.y1)
-    (Decides-int_eq a.x0 b.x0) (Decides-int_eq a.y0 b.y0) (Decides-int_eq a.x1 b.x1) (Decides-int_eq a.y1 b.y1)
+    (Decides-int_eq a.x0 b.x0) (Decides-int_eq a.y0 b.y0) (Decides-int_eq a.x1 b.x1)
+    (Decides-int_eq a.y1 b.y1)
     (λ e f g h. λ i. record { x0 = e i; y0 = f i; x1 = g i; y1 = h i })
-    (λ e. (ap (λ (p : Box2). p.x0) e, ap (λ (p : Box2). p.y0) e, ap (λ (p : Box2). p.x1) e, ap (λ (p : Box2). p.y1) e))
+    (λ e. (
+      ap (λ (p : Box2). p.x0) e,
+      ap (λ (p : Box2). p.y0) e,
+      ap (λ (p : Box2). p.x1) e,
+      ap (λ (p : Box2). p.y1) e,
+    ))
 
 layers : Exact same_layer
 layers a b =
@@ -80,7 +92,7 @@ layers a b =
 orient_at : ℕ → Orient
 orient_at n = get_or (R0 ∷ R90 ∷ R180 ∷ R270 ∷ M0 ∷ M90 ∷ M180 ∷ M270 ∷ []) n R0
 
-at_place : (o : Orient) → orient_at (place_of o) ≡ o
+at_place : (o : Orient) → orient_at (orient_number o) ≡ o
 unfolding orient_at
 at_place R0 = refl
 at_place R90 = refl
@@ -93,7 +105,8 @@ at_place M270 = refl
 
 orients : Exact same_orient
 orients a b =
-    one {X = a ≡ b} (same_orient a b) (Decides-eqb (place_of a) (place_of b)) (λ e. sym (at_place a) ∙ ap orient_at e ∙ at_place b) (λ e. ap place_of e)
+    one {X = a ≡ b} (same_orient a b) (Decides-eqb (orient_number a) (orient_number b))
+    (λ e. sym (at_place a) ∙ ap orient_at e ∙ at_place b) (λ e. ap orient_number e)
 
 placings : Exact same_placing
 placings a b =
@@ -129,34 +142,45 @@ paths a b =
     (λ e f g. λ i. record { layer = e i; width = f.0 i; begin = f.1 i; end = f.2 i; points = g i })
     (λ e. (
       ap (λ (p : PathParts). p.layer) e,
-      (ap (λ (p : PathParts). p.width) e, ap (λ (p : PathParts). p.begin) e, ap (λ (p : PathParts). p.end) e),
+      (
+        ap (λ (p : PathParts). p.width) e,
+        ap (λ (p : PathParts). p.begin) e,
+        ap (λ (p : PathParts). p.end) e,
+      ),
       ap (λ (p : PathParts). p.points) e,
     ))
 
 -- the columns and rows of a reference, and their steps
 abbrev SameArray : ReferenceParts → ReferenceParts → Type 0
-SameArray a b = (a.columns ≡ b.columns) × (a.rows ≡ b.rows) × (a.column_step ≡ b.column_step) × (a.row_step ≡ b.row_step)
+SameArray a b = (a.columns ≡ b.columns) × (a.rows ≡ b.rows) × (a.column_step ≡ b.column_step)
+    × (a.row_step ≡ b.row_step)
 
 arrays : (a b : ReferenceParts) → Decides (same_array a b) (SameArray a b)
 arrays a b =
-    four {X = SameArray a b} (a.columns == b.columns) (a.rows == b.rows) (same_point a.column_step b.column_step) (same_point a.row_step b.row_step)
-    (Decides-eqb a.columns b.columns) (Decides-eqb a.rows b.rows) (points a.column_step b.column_step) (points a.row_step b.row_step)
+    four {X = SameArray a b} (a.columns == b.columns) (a.rows == b.rows)
+    (same_point a.column_step b.column_step) (same_point a.row_step b.row_step)
+    (Decides-eqb a.columns b.columns) (Decides-eqb a.rows b.rows)
+    (points a.column_step b.column_step) (points a.row_step b.row_step)
     (λ e f g h. (e, f, g, h))
     (λ h. h)
 
 abbrev SameStart : ReferenceParts → ReferenceParts → Type 0
 SameStart a b = (a.name ≡ b.name) × (a.orient ≡ b.orient) × (a.origin ≡ b.origin)
 
-starts : (a b : ReferenceParts) → Decides (name_eq a.name b.name && (same_orient a.orient b.orient && same_point a.origin b.origin)) (SameStart a b)
+starts : (a b : ReferenceParts) → Decides
+    (name_eq a.name b.name && (same_orient a.orient b.orient && same_point a.origin b.origin))
+    (SameStart a b)
 starts a b =
-    three {X = SameStart a b} (name_eq a.name b.name) (same_orient a.orient b.orient) (same_point a.origin b.origin)
+    three {X = SameStart a b} (name_eq a.name b.name) (same_orient a.orient b.orient)
+    (same_point a.origin b.origin)
     (names a.name b.name) (orients a.orient b.orient) (points a.origin b.origin)
     (λ e f g. (e, f, g))
     (λ h. h)
 
 references : Exact same_reference
 references a b =
-    two {X = a ≡ b} (name_eq a.name b.name && (same_orient a.orient b.orient && same_point a.origin b.origin)) (same_array a b)
+    two {X = a ≡ b} (name_eq a.name b.name
+    && (same_orient a.orient b.orient && same_point a.origin b.origin)) (same_array a b)
     (starts a b) (arrays a b)
     (λ e f. λ i. record {
       name = e.0 i;
@@ -168,7 +192,11 @@ references a b =
       row_step = f.3 i;
     })
     (λ e. (
-      (ap (λ (p : ReferenceParts). p.name) e, ap (λ (p : ReferenceParts). p.orient) e, ap (λ (p : ReferenceParts). p.origin) e),
+      (
+        ap (λ (p : ReferenceParts). p.name) e,
+        ap (λ (p : ReferenceParts). p.orient) e,
+        ap (λ (p : ReferenceParts). p.origin) e,
+      ),
       (
         ap (λ (p : ReferenceParts). p.columns) e,
         ap (λ (p : ReferenceParts). p.rows) e,
@@ -230,20 +258,32 @@ bindings a b =
     (λ e. (ap (λ (p : Binding). p.name) e, ap (λ (p : Binding). p.submission) e))
 
 abbrev SameVersion : Submission → Submission → Type 0
-SameVersion a b = (a.cell ≡ b.cell) × (a.version ≡ b.version) × (a.submitter ≡ b.submitter) × (a.top ≡ b.top)
+SameVersion a b =
+    (a.cell ≡ b.cell) × (a.version ≡ b.version) × (a.submitter ≡ b.submitter) × (a.top ≡ b.top)
 
 versions : (a b : Submission) → Decides (same_version a b) (SameVersion a b)
 versions a b =
-    four {X = SameVersion a b} (name_eq a.cell b.cell) (a.version == b.version) (name_eq a.submitter b.submitter) (name_eq a.top b.top)
-    (names a.cell b.cell) (Decides-eqb a.version b.version) (names a.submitter b.submitter) (names a.top b.top)
+    four {X = SameVersion a b} (name_eq a.cell b.cell) (a.version == b.version)
+    (name_eq a.submitter b.submitter) (name_eq a.top b.top)
+    (names a.cell b.cell) (Decides-eqb a.version b.version) (names a.submitter b.submitter)
+    (names a.top b.top)
     (λ e f g h. (e, f, g, h))
     (λ h. h)
 
 submissions : Exact same_submission
 submissions a b =
-    three {X = a ≡ b} (same_version a b) (same_library a.library b.library) (pointwise same_binding a.bound b.bound)
-    (versions a b) (lists same_structure structures a.library b.library) (lists same_binding bindings a.bound b.bound)
-    (λ e f g. λ i. record { cell = e.0 i; version = e.1 i; submitter = e.2 i; library = f i; top = e.3 i; bound = g i })
+    three {X = a ≡ b} (same_version a b) (same_library a.library b.library)
+    (pointwise same_binding a.bound b.bound)
+    (versions a b) (lists same_structure structures a.library b.library)
+    (lists same_binding bindings a.bound b.bound)
+    (λ e f g. λ i. record {
+      cell = e.0 i;
+      version = e.1 i;
+      submitter = e.2 i;
+      library = f i;
+      top = e.3 i;
+      bound = g i;
+    })
     (λ e. (
       (
         ap (λ (s : Submission). s.cell) e,
@@ -312,10 +352,16 @@ checks (Enclosing a c) (Enclosing b d) =
 
 rules_of : Exact same_rule
 rules_of a b =
-    three {X = a ≡ b} (name_eq a.name b.name) (same_check a.check b.check) (a.distance == b.distance)
+    three {X = a ≡ b} (name_eq a.name b.name) (same_check a.check b.check)
+    (a.distance == b.distance)
     (names a.name b.name) (checks a.check b.check) (Decides-eqb a.distance b.distance)
     (λ e f g. λ i. record { name = e i; check = f i; distance = g i })
-    (λ e. (ap (λ (r : Rule). r.name) e, ap (λ (r : Rule). r.check) e, ap (λ (r : Rule). r.distance) e))
+    (λ e. (
+      ap (λ (r : Rule). r.name) e,
+      ap (λ (r : Rule). r.check) e,
+      ap (λ (r : Rule). r.distance)
+          e,
+    ))
 
 decks : Exact same_deck
 decks a b =
@@ -329,17 +375,27 @@ decks a b =
 pub snapshots : (a b : Snapshot) → Decides (same_snapshot a b) (a ≡ b)
 unfolding same_snapshot
 snapshots a b =
-    three {X = a ≡ b} (same_deck a.deck b.deck) (pointwise same_root a.roots b.roots) (pointwise same_submission a.shelf b.shelf)
-    (decks a.deck b.deck) (lists same_root roots a.roots b.roots) (lists same_submission submissions a.shelf b.shelf)
+    three {X = a ≡ b} (same_deck a.deck b.deck) (pointwise same_root a.roots b.roots)
+    (pointwise same_submission a.shelf b.shelf)
+    (decks a.deck b.deck) (lists same_root roots a.roots b.roots)
+    (lists same_submission submissions a.shelf b.shelf)
     (λ e f g. λ i. record { deck = e i; roots = f i; shelf = g i })
-    (λ e. (ap (λ (s : Snapshot). s.deck) e, ap (λ (s : Snapshot). s.roots) e, ap (λ (s : Snapshot). s.shelf) e))
+    (λ e. (
+      ap (λ (s : Snapshot). s.deck) e,
+      ap (λ (s : Snapshot). s.roots) e,
+      ap (λ (s : Snapshot). s.shelf) e,
+    ))
 
 rectangles : Exact same_rectangle
 rectangles a b =
     three {X = a ≡ b} (same_box a.area b.area) (same_layer a.layer b.layer) (a.origin == b.origin)
     (boxes a.area b.area) (layers a.layer b.layer) (Decides-eqb a.origin b.origin)
     (λ e f g. λ i. record { area = e i; layer = f i; origin = g i })
-    (λ e. (ap (λ (r : Rectangle). r.area) e, ap (λ (r : Rectangle). r.layer) e, ap (λ (r : Rectangle). r.origin) e))
+    (λ e. (
+      ap (λ (r : Rectangle). r.area) e,
+      ap (λ (r : Rectangle). r.layer) e,
+      ap (λ (r : Rectangle). r.origin) e,
+    ))
 
 abbrev SamePlace : Task → Task → Type 0
 SamePlace a b = (a.run ≡ b.run) × (a.tile ≡ b.tile) × (a.core ≡ b.core)
@@ -354,8 +410,10 @@ places a b =
 pub tasks : (a b : Task) → Decides (same_task a b) (a ≡ b)
 unfolding same_task
 tasks a b =
-    three {X = a ≡ b} (same_place a b) (pointwise same_rectangle a.window b.window) (same_rules a.rules b.rules)
-    (places a b) (lists same_rectangle rectangles a.window b.window) (lists same_rule rules_of a.rules b.rules)
+    three {X = a ≡ b} (same_place a b) (pointwise same_rectangle a.window b.window)
+    (same_rules a.rules b.rules)
+    (places a b) (lists same_rectangle rectangles a.window b.window)
+    (lists same_rule rules_of a.rules b.rules)
     (λ e f g. λ i. record { run = e.0 i; tile = e.1 i; core = e.2 i; window = f i; rules = g i })
     (λ e. (
       (ap (λ (t : Task). t.run) e, ap (λ (t : Task). t.tile) e, ap (λ (t : Task). t.core) e),

@@ -1,13 +1,12 @@
 -- Books that are put together marker by marker.
-use Rattle.std.proofs.Common.{◌≡◌, ℕ, zero, suc, ◌<◌, ℤ, ◌≤ℤ◌, Bool, true, false, List, [], ◌∷◌, get_or, ◌⊎◌, inl, inr, refl, sym, subst, ap, ◌∙◌, arith}
-use Rattle.std.specs.Prelude.{◌==◌, nat_le, int_lt, Contains, AllPairs, ◌↔◌, fold, if◌then◌else◌}
+use Rattle.std.proofs.Common.{◌≡◌, ℕ, suc, ℤ, ◌≤ℤ◌, Bool, true, false, List, [], ◌∷◌, ◌⊎◌, inl, inr, refl, sym, subst, ap, ◌∙◌, arith}
+use Rattle.std.specs.Prelude.{int_lt, Contains, ◌↔◌, fold, if◌then◌else◌}
 use Rattle.std.specs.List.{flat_map}
 use Rattle.std.specs.Ordering.{ordering_reverse}
 use Rattle.std.specs.declared.cmp.Ordering.{Ordering}
 use Rattle.std.specs.declared.cmp.Ordering.TheVariants.{Less, Equal, Greater}
-use Rattle.std.proofs.lemmas.Bool.{cases_eq, eqb-true, eq-eqb, false≢true, leb-true, leb-false}
 use Rattle.std.proofs.lemmas.Int.{ints, clamps, by_lt_z}
-use Rattle.std.proofs.lemmas.List.Elements.{All-contains, Contains-get_or, Contains-append_left, Contains-append_right, Contains-append_cases}
+use Rattle.std.proofs.lemmas.List.Elements.{All-contains, Contains-append_left, Contains-append_right, Contains-append_cases}
 use Rattle.mpw_geom.proofs.Tests.{lt_from_test}
 use Rattle.mpw_edges.proofs.Tests.{ge_from_test}
 use Rattle.mpw_markers.specs.declared.marker.Line.{Line}
@@ -17,94 +16,11 @@ use Rattle.mpw_markers.specs.Markers.{line_of, IsFilled, HasRow, CoversRow, Lies
 use Rattle.mpw_markers.specs.Order.{line_cmp, StandsBefore}
 use Rattle.mpw_markers.specs.Book.{IsBook}
 use Rattle.mpw_markers.specs.Stitched.{IsJoined, IsListed}
-use Rattle.mpw_run.proofs.Books.{line_total, line_tied, apart, StandsBefore-chain, StandsBefore-begins, All-from_contained, one_by_row, lies_in, cons_cases, Contains-head, Contains-tail, IsJoined-same}
-use Rattle.mpw_run.specs.Stitching.{met_with, joined, beside, placed, with_marker, stitched}
+use Rattle.mpw_markers.proofs.Order.{line_total, line_tied, apart, StandsBefore-chain, StandsBefore-begins}
+use Rattle.mpw_run.proofs.Books.{All-from_contained, one_by_row, lies_in, cons_cases, Contains-head, Contains-tail, IsJoined-same}
+use Rattle.mpw_run.specs.Stitching.{joined, beside, placed, with_marker, stitched}
 use Rattle.mpw_run.specs.Laws.{StitchedComputes}
-
--- ---- lists
-
-head_at : {X : Type 0} (y x : X) (ys : List X) → y ≡ x → Contains (y ∷ ys) x
-head_at y x ys e = subst (Contains (y ∷ ys)) e (Contains-head y ys)
-
-none_in : {X : Type 0} (x : X) → Contains [] x → ⊥
-none_in x c = omega (arith, c.1)
-
-cons_pairs : {X : Type 0} (R : X → X → Type 0) (y : X) (ys : List X) → ((x : X) → Contains ys x → R y x) → AllPairs R ys → AllPairs R (y ∷ ys)
-cons_pairs R y ys near rest i zero d l b = absurd (omega (arith, l))
-cons_pairs R y ys near rest zero (suc j) d l b = near (get_or ys j d) (Contains-get_or ys j d (omega (arith, b)))
-cons_pairs R y ys near rest (suc i) (suc j) d l b = rest i j d (omega (arith, l)) (omega (arith, b))
-
-tail_pairs : {X : Type 0} (R : X → X → Type 0) (y : X) (ys : List X) → AllPairs R (y ∷ ys) → AllPairs R ys
-tail_pairs R y ys h i j d l b = h (suc i) (suc j) d (omega arith) (omega arith)
-
-head_pairs : {X : Type 0} (R : X → X → Type 0) (y : X) (ys : List X) (x : X) → AllPairs R (y ∷ ys) → Contains ys x → R y x
-head_pairs R y ys x h c = subst (R y) c.2 (h zero (suc c.0) x (omega arith) (omega (arith, c.1)))
-
--- ---- numbers met
-
-has_on : (n k : ℕ) (ks : List ℕ) (x : ℕ) → (Contains (met_with n ks) x ↔ ((n ≡ x) ⊎ Contains ks x)) → Contains (met_with n (k ∷ ks)) x ↔ ((n ≡ x) ⊎ Contains (k ∷ ks) x)
-has_on n k ks x rest = by (n == k) (nat_le n k) refl
-  where
-    by : (s t : Bool) → (n == k) ≡ s → Contains (if s then k ∷ ks else (if t then n ∷ k ∷ ks else k ∷ met_with n ks)) x ↔ ((n ≡ x) ⊎ Contains (k ∷ ks) x)
-    by true t e = (λ c. inr c, λ p. elim p [ inl f ↦ head_at k x ks (sym (eqb-true n k e) ∙ f) | inr c ↦ c ])
-    by false true e = (λ c. cons_cases n (k ∷ ks) x c, λ p. elim p [ inl f ↦ head_at n x (k ∷ ks) f | inr c ↦ Contains-tail n (k ∷ ks) x c ])
-    by false false e = (
-      λ c. elim (cons_cases k (met_with n ks) x c) [
-        | inl f ↦ inr (head_at k x ks f)
-        | inr d ↦ elim (rest.0 d) [ inl f ↦ inl f | inr g ↦ inr (Contains-tail k ks x g) ]
-      ],
-      λ p. elim p [
-        | inl f ↦ Contains-tail k (met_with n ks) x (rest.1 (inl f))
-        | inr c ↦ elim (cons_cases k ks x c) [ inl f ↦ head_at k x (met_with n ks) f | inr d ↦ Contains-tail k (met_with n ks) x (rest.1 (inr d)) ]
-      ],
-    )
-
-has_with : (n : ℕ) (ks : List ℕ) (x : ℕ) → Contains (met_with n ks) x ↔ ((n ≡ x) ⊎ Contains ks x)
-has_with n [] x = (λ c. cons_cases n [] x c, λ p. elim p [ inl f ↦ head_at n x [] f | inr c ↦ absurd (none_in x c) ])
-has_with n (k ∷ ks) x = has_on n k ks x (has_with n ks x)
-
-ascends_on : (n k : ℕ) (ks : List ℕ) → IsAscending (k ∷ ks) → IsAscending (met_with n ks) → IsAscending (met_with n (k ∷ ks))
-ascends_on n k ks h rest = by (n == k) (nat_le n k) refl refl
-  where
-    above : (x : ℕ) → Contains ks x → k < x
-    above x c = head_pairs (λ a b. a < b) k ks x h c
-
-    by : (s t : Bool) → (n == k) ≡ s → nat_le n k ≡ t → IsAscending (if s then k ∷ ks else (if t then n ∷ k ∷ ks else k ∷ met_with n ks))
-    by true t e f = h
-    by false true e f =
-        let le = leb-true n k f in
-        let ne : n ≡ k → ⊥ = λ s. false≢true (sym e ∙ eq-eqb n k s) in
-        let less : n < k = elim (cases_eq n k) [ inl s ↦ absurd (ne s) | inr d ↦ omega (arith, le, d) ] in
-        cons_pairs (λ a b. a < b) n (k ∷ ks) (λ x c. elim (cons_cases k ks x c) [ inl s ↦ omega (arith, less, s) | inr d ↦ omega (arith, less, above x d) ]) h
-    by false false e f =
-        let more = leb-false n k f in
-        cons_pairs (λ a b. a < b) k (met_with n ks) (λ x c. elim ((has_with n ks x).0 c) [ inl s ↦ omega (arith, more, s) | inr d ↦ above x d ]) rest
-
-with_ascends : (n : ℕ) (ks : List ℕ) → IsAscending ks → IsAscending (met_with n ks)
-with_ascends n [] h = cons_pairs (λ a b. a < b) n [] (λ x c. absurd (none_in x c)) h
-with_ascends n (k ∷ ks) h = ascends_on n k ks h (with_ascends n ks (tail_pairs (λ a b. a < b) k ks h))
-
-abbrev union : List ℕ → List ℕ → List ℕ
-union acc ks = fold (λ met k. met_with k met) acc ks
-
-union_has : (acc ks : List ℕ) (x : ℕ) → Contains (union acc ks) x ↔ (Contains acc x ⊎ Contains ks x)
-union_has acc [] x = (λ c. inl c, λ p. elim p [ inl c ↦ c | inr c ↦ absurd (none_in x c) ])
-union_has acc (k ∷ ks) x =
-    let h = union_has (met_with k acc) ks x in
-    let w = has_with k acc x in (
-      λ c. elim (h.0 c) [
-        | inl d ↦ elim (w.0 d) [ inl e ↦ inr (head_at k x ks e) | inr a ↦ inl a ]
-        | inr d ↦ inr (Contains-tail k ks x d)
-      ],
-      λ p. elim p [
-        | inl a ↦ h.1 (inl (w.1 (inr a)))
-        | inr c ↦ elim (cons_cases k ks x c) [ inl e ↦ h.1 (inl (w.1 (inl e))) | inr d ↦ h.1 (inr d) ]
-      ],
-    )
-
-union_ascends : (acc ks : List ℕ) → IsAscending acc → IsAscending (union acc ks)
-union_ascends acc [] h = h
-union_ascends acc (k ∷ ks) h = union_ascends (met_with k acc) ks (with_ascends k acc h)
+use Rattle.mpw_run.proofs.Uniting.{head_at, none_in, cons_pairs, tail_pairs, head_pairs, union_has, union_ascends}
 
 -- ---- where a marker stands
 
@@ -113,7 +29,8 @@ Position m n Less = StandsBefore m n
 Position m n Equal = (line_of m ≡ line_of n) × (n.y0 ≤ℤ m.y1) × (m.y0 ≤ℤ n.y1)
 Position m n Greater = StandsBefore n m
 
-position : (m n : Marker) (c : Ordering) → line_cmp (line_of m) (line_of n) ≡ c → Position m n (beside c m n)
+position : (m n : Marker) (c : Ordering) → line_cmp (line_of m) (line_of n) ≡ c
+    → Position m n (beside c m n)
 position m n Less e = inl e
 position m n Greater e = inl (line_total.antisymm (line_of n) (line_of m) ∙ ap ordering_reverse e)
 position m n Equal e = tests (int_lt m.y1 n.y0) (int_lt n.y1 m.y0) refl refl
@@ -121,7 +38,8 @@ position m n Equal e = tests (int_lt m.y1 n.y0) (int_lt n.y1 m.y0) refl refl
     same : line_of m ≡ line_of n
     same = line_tied (line_of m) (line_of n) e
 
-    tests : (s t : Bool) → int_lt m.y1 n.y0 ≡ s → int_lt n.y1 m.y0 ≡ t → Position m n (if s then Less else (if t then Greater else Equal))
+    tests : (s t : Bool) → int_lt m.y1 n.y0 ≡ s → int_lt n.y1 m.y0 ≡ t
+        → Position m n (if s then Less else (if t then Greater else Equal))
     tests true t f g = inr (same, lt_from_test m.y1 n.y0 f)
     tests false true f g = inr (sym same, lt_from_test n.y1 m.y0 g)
     tests false false f g = (same, ge_from_test m.y1 n.y0 f, ge_from_test n.y1 m.y0 g)
@@ -145,31 +63,45 @@ own_rows : (n : Marker) → IsFilled n → HasRow n (line_of n) n.y0
 own_rows n f = (refl, omega (arith, ints), f)
 
 -- a marker stands before each marker of a book whose parts it stands before
-before_all : (P : Marker → Type 0) (n : Marker) (book : List Marker) → IsJoined P book → ((p : Marker) → P p → StandsBefore n p) → (y : Marker) → Contains book y → StandsBefore n y
+before_all : (P : Marker → Type 0) (n : Marker) (book : List Marker) → IsJoined P book
+    → ((p : Marker) → P p → StandsBefore n p) → (y : Marker) → Contains book y → StandsBefore n y
 before_all P n book h near y c =
     let f = All-contains IsFilled book y h.markers.filled c in
     let p = (h.rows (line_of y) y.y0).0 (y, c, own_rows y f) in
     StandsBefore-begins n p.0 y (near p.0 p.1) (inr (p.2.0, p.2.1))
 
 -- a marker that stands before the parts of a book is put before it
-put_first : (P : Marker → Type 0) (n : Marker) (book : List Marker) → IsJoined P book → AreParts P → IsPart n → ((p : Marker) → P p → StandsBefore n p) → IsJoined (λ x. (n ≡ x) ⊎ P x) (n ∷ book)
+put_first : (P : Marker → Type 0) (n : Marker) (book : List Marker) → IsJoined P book → AreParts P
+    → IsPart n → ((p : Marker) → P p → StandsBefore n p) → IsJoined (λ x. (n ≡ x) ⊎ P x) (n ∷ book)
 put_first P n book h parts own near = record {
   markers = record {
-    filled = All-from_contained IsFilled (n ∷ book) (λ y c. elim (cons_cases n book y c) [ inl e ↦ subst IsFilled e own.0 | inr d ↦ All-contains IsFilled book y h.markers.filled d ]);
+    filled = All-from_contained IsFilled (n ∷ book)
+        (λ y c. elim (cons_cases n book y c) [
+          | inl e ↦ subst IsFilled e own.0
+          | inr d
+              ↦ All-contains IsFilled book y h.markers.filled d
+        ]);
     ordered = cons_pairs StandsBefore n book before h.markers.ordered;
-    ascending = All-from_contained (λ (m : Marker). IsAscending m.met) (n ∷ book) (λ y c. elim (cons_cases n book y c) [
-      | inl e ↦ subst (λ (m : Marker). IsAscending m.met) e own.1
-      | inr d ↦ All-contains (λ (m : Marker). IsAscending m.met) book y h.markers.ascending d
-    ]);
+    ascending = All-from_contained (λ (m : Marker). IsAscending m.met) (n ∷ book)
+        (λ y c. elim (cons_cases n book y c) [
+          | inl e ↦ subst (λ (m : Marker). IsAscending m.met) e own.1
+          | inr d ↦ All-contains (λ (m : Marker). IsAscending m.met) book y h.markers.ascending d
+        ]);
   };
   rows = λ line j. (
-    λ c. elim (cons_cases n book c.0 c.1) [ inl e ↦ (c.0, inl e, c.2) | inr d ↦ (let p = (h.rows line j).0 (c.0, d, c.2) in (p.0, inr p.1, p.2)) ],
+    λ c. elim (cons_cases n book c.0 c.1) [
+      | inl e ↦ (c.0, inl e, c.2)
+      | inr d
+          ↦ (let p = (h.rows line j).0 (c.0, d, c.2) in (p.0, inr p.1, p.2))
+    ],
     λ p. elim p.1 [
       | inl e ↦ (p.0, head_at n p.0 book e, p.2)
-      | inr q ↦ (let c = (h.rows line j).1 (p.0, q, p.2) in (c.0, Contains-tail n book c.0 c.1, c.2))
+      | inr q ↦ (let c = (h.rows line j).1 (p.0, q, p.2) in
+          (c.0, Contains-tail n book c.0 c.1, c.2))
     ],
   );
-  met = λ y o c. elim (cons_cases n book y c) [ inl e ↦ subst (λ (z : Marker). Met z o) e (at_first o) | inr d ↦ at_rest y o d ];
+  met = λ y o c. elim (cons_cases n book y c)
+      [ inl e ↦ subst (λ (z : Marker). Met z o) e (at_first o) | inr d ↦ at_rest y o d ];
 }
   where
     Met : Marker → ℕ → Type 0
@@ -186,7 +118,8 @@ put_first P n book h parts own near = record {
       λ x. (n, inl refl, itself, x),
       λ p. elim p.1 [
         | inl e ↦ subst (λ (z : Marker). Contains z.met o) (sym e) p.3
-        | inr q ↦ absurd (let gap = apart n p.0 (near p.0 q) (sym p.2.0) in let f = (parts p.0 q).0 in omega (arith, ints, gap, f, p.2.2))
+        | inr q ↦ absurd (let gap = apart n p.0 (near p.0 q) (sym p.2.0) in
+            let f = (parts p.0 q).0 in omega (arith, ints, gap, f, p.2.2))
       ],
     )
 
@@ -204,7 +137,9 @@ put_first P n book h parts own near = record {
     )
 
 -- a part of two that touch is as good as both
-split_part : (P : Marker → Type 0) (m n : Marker) (book : List Marker) → Position m n Equal → IsPart m → IsPart n → IsJoined (λ x. P x ⊎ (joined m n ≡ x)) book → IsJoined (λ x. P x ⊎ ((m ≡ x) ⊎ (n ≡ x))) book
+split_part : (P : Marker → Type 0) (m n : Marker) (book : List Marker) → Position m n Equal
+    → IsPart m → IsPart n → IsJoined (λ x. P x ⊎ (joined m n ≡ x)) book
+    → IsJoined (λ x. P x ⊎ ((m ≡ x) ⊎ (n ≡ x))) book
 split_part P m n book touch pm pn h = record {
   markers = h.markers;
   rows = λ line j. (to line j, from line j);
@@ -226,10 +161,26 @@ split_part P m n book touch pm pn h = record {
     of_both : (line : Line) (j : ℤ) → HasRow both line j → (x : Marker) × Q x × HasRow x line j
     of_both line j r =
         by_lt_z j m.y0
-        (λ less. (n, inr (inr refl), (sym touch.0 ∙ r.0, omega (arith, ints, clamps, less, r.1), omega (arith, ints, clamps, less, touch.2))))
+        (λ less. (
+          n,
+          inr (inr refl),
+          (
+            sym touch.0 ∙ r.0,
+            omega (arith, ints, clamps, less, r.1),
+            omega (arith, ints, clamps, less, touch.2),
+          ),
+        ))
         (λ from_m. by_lt_z j m.y1
         (λ less. (m, inr (inl refl), (r.0, from_m, less)))
-        (λ past. (n, inr (inr refl), (sym touch.0 ∙ r.0, omega (arith, ints, past, touch.1), omega (arith, ints, clamps, past, r.2)))))
+        (λ past. (
+          n,
+          inr (inr refl),
+          (
+            sym touch.0 ∙ r.0,
+            omega (arith, ints, past, touch.1),
+            omega (arith, ints, clamps, past, r.2),
+          ),
+        )))
 
     to : (line : Line) (j : ℤ) → CoversRow book line j → (x : Marker) × Q x × HasRow x line j
     to line j c = let p = (h.rows line j).0 c in elim p.1 [
@@ -240,11 +191,22 @@ split_part P m n book touch pm pn h = record {
     from : (line : Line) (j : ℤ) → (x : Marker) × Q x × HasRow x line j → CoversRow book line j
     from line j p = elim p.1 [
       | inl q ↦ (h.rows line j).1 (p.0, inl q, p.2)
-      | inr (inl e) ↦ (h.rows line j).1 (both, inr refl, wider m both line j m_in (subst (λ (z : Marker). HasRow z line j) (sym e) p.2))
-      | inr (inr e) ↦ (h.rows line j).1 (both, inr refl, wider n both line j n_in (subst (λ (z : Marker). HasRow z line j) (sym e) p.2))
+      | inr (inl e) ↦ (h.rows line j).1 (
+        both,
+        inr refl,
+        wider m both line j m_in
+            (subst (λ (z : Marker). HasRow z line j) (sym e) p.2),
+      )
+      | inr (inr e) ↦ (h.rows line j).1 (
+        both,
+        inr refl,
+        wider n both line j n_in
+            (subst (λ (z : Marker). HasRow z line j) (sym e) p.2),
+      )
     ]
 
-    met_to : (y : Marker) (o : ℕ) → Contains book y → Contains y.met o → (x : Marker) × Q x × LiesIn x y × Contains x.met o
+    met_to : (y : Marker) (o : ℕ) → Contains book y → Contains y.met o → (x : Marker) × Q x
+        × LiesIn x y × Contains x.met o
     met_to y o c x = let p = (h.met y o c).0 x in elim p.1 [
       | inl q ↦ (p.0, inl q, p.2, p.3)
       | inr e ↦
@@ -255,17 +217,23 @@ split_part P m n book touch pm pn h = record {
           ]
     ]
 
-    through : (a : Marker) (y : Marker) (o : ℕ) → Contains book y → IsFilled a → LiesIn a both → LiesIn a y → Contains both.met o → Contains y.met o
+    through : (a : Marker) (y : Marker) (o : ℕ) → Contains book y → IsFilled a → LiesIn a both
+        → LiesIn a y → Contains both.met o → Contains y.met o
     through a y o c f in_both in_y d =
         let row : HasRow a (line_of a) a.y0 = own_rows a f in
-        let l : LiesIn both y = lies_in (λ x. P x ⊎ (both ≡ x)) book both y (line_of a) a.y0 h c (inr refl) (wider a both (line_of a) a.y0 in_both row) (wider a y (line_of a) a.y0 in_y row) in
+        let l : LiesIn both y = lies_in (λ x. P x ⊎ (both ≡ x)) book both y (line_of a) a.y0 h c
+        (inr refl) (wider a both (line_of a) a.y0 in_both row)
+        (wider a y (line_of a) a.y0 in_y row) in
         (h.met y o c).1 (both, inr refl, l, d)
 
-    met_from : (y : Marker) (o : ℕ) → Contains book y → (x : Marker) × Q x × LiesIn x y × Contains x.met o → Contains y.met o
+    met_from : (y : Marker) (o : ℕ) → Contains book y → (x : Marker) × Q x × LiesIn x y
+        × Contains x.met o → Contains y.met o
     met_from y o c p = elim p.1 [
       | inl q ↦ (h.met y o c).1 (p.0, inl q, p.2, p.3)
-      | inr (inl e) ↦ through m y o c pm.0 m_in (subst (λ (z : Marker). LiesIn z y) (sym e) p.2) ((union_has n.met m.met o).1 (inr (subst (λ (z : Marker). Contains z.met o) (sym e) p.3)))
-      | inr (inr e) ↦ through n y o c pn.0 n_in (subst (λ (z : Marker). LiesIn z y) (sym e) p.2) ((union_has n.met m.met o).1 (inl (subst (λ (z : Marker). Contains z.met o) (sym e) p.3)))
+      | inr (inl e) ↦ through m y o c pm.0 m_in (subst (λ (z : Marker). LiesIn z y) (sym e) p.2)
+          ((union_has n.met m.met o).1 (inr (subst (λ (z : Marker). Contains z.met o) (sym e) p.3)))
+      | inr (inr e) ↦ through n y o c pn.0 n_in (subst (λ (z : Marker). LiesIn z y) (sym e) p.2)
+          ((union_has n.met m.met o).1 (inl (subst (λ (z : Marker). Contains z.met o) (sym e) p.3)))
     ]
 
 -- a book has its own markers for parts
@@ -277,13 +245,17 @@ own_book book b = record {
     λ x. (y, c, (refl, omega (arith, ints), omega (arith, ints)), x),
     λ p.
         let row = own_rows p.0 (All-contains IsFilled book p.0 b.filled p.1) in
-        let same : p.0 ≡ y = one_by_row book p.0 y (line_of p.0) p.0.y0 b p.1 c row (wider p.0 y (line_of p.0) p.0.y0 p.2 row) in
+        let same : p.0 ≡ y = one_by_row book p.0 y (line_of p.0) p.0.y0 b p.1 c row
+        (wider p.0 y (line_of p.0) p.0.y0 p.2 row) in
         subst (λ (z : Marker). Contains z.met o) same p.3,
   );
 }
 
 parts_of : (book : List Marker) → IsBook book → AreParts (Contains book)
-parts_of book b m c = (All-contains IsFilled book m b.filled c, All-contains (λ (x : Marker). IsAscending x.met) book m b.ascending c)
+parts_of book b m c = (
+  All-contains IsFilled book m b.filled c,
+  All-contains (λ (x : Marker). IsAscending x.met) book m b.ascending c,
+)
 
 tail_book : (n : Marker) (rest : List Marker) → IsBook (n ∷ rest) → IsBook rest
 tail_book n rest b = record {
@@ -295,9 +267,11 @@ tail_book n rest b = record {
 joined_part : (m n : Marker) → IsPart m → IsPart n → IsPart (joined m n)
 joined_part m n p q = (omega (arith, ints, clamps, p.0, q.0), union_ascends n.met m.met q.1)
 
-insert_on : (n : Marker) (rest : List Marker) (m : Marker) → IsBook (n ∷ rest) → IsPart m → ((x : Marker) → IsPart x → IsJoined (λ y. Contains rest y ⊎ (x ≡ y)) (with_marker rest x))
+insert_on : (n : Marker) (rest : List Marker) (m : Marker) → IsBook (n ∷ rest) → IsPart m
+    → ((x : Marker) → IsPart x → IsJoined (λ y. Contains rest y ⊎ (x ≡ y)) (with_marker rest x))
     → IsJoined (λ x. Contains (n ∷ rest) x ⊎ (m ≡ x)) (with_marker (n ∷ rest) m)
-insert_on n rest m b pm more = by (beside (line_cmp (line_of m) (line_of n)) m n) (position m n (line_cmp (line_of m) (line_of n)) refl)
+insert_on n rest m b pm more = by (beside (line_cmp (line_of m) (line_of n)) m n)
+    (position m n (line_cmp (line_of m) (line_of n)) refl)
   where
     pn : IsPart n
     pn = parts_of (n ∷ rest) b n (Contains-head n rest)
@@ -305,41 +279,80 @@ insert_on n rest m b pm more = by (beside (line_cmp (line_of m) (line_of n)) m n
     after : (p : Marker) → Contains rest p → StandsBefore n p
     after p c = head_pairs StandsBefore n rest p b.ordered c
 
-    by : (o : Ordering) → Position m n o → IsJoined (λ x. Contains (n ∷ rest) x ⊎ (m ≡ x)) (placed o (m ∷ n ∷ rest) (with_marker rest (joined m n)) (n ∷ with_marker rest m))
+    by : (o : Ordering) → Position m n o
+        → IsJoined (λ x. Contains (n ∷ rest) x ⊎ (m ≡ x))
+        (placed o (m ∷ n ∷ rest) (with_marker rest (joined m n)) (n ∷ with_marker rest m))
     by Less q =
-        IsJoined-same (λ x. (m ≡ x) ⊎ Contains (n ∷ rest) x) (λ x. Contains (n ∷ rest) x ⊎ (m ≡ x)) (m ∷ n ∷ rest)
-        (λ x. (λ s. elim s [ inl e ↦ inr e | inr c ↦ inl c ], λ s. elim s [ inl c ↦ inr c | inr e ↦ inl e ]))
-        (put_first (Contains (n ∷ rest)) m (n ∷ rest) (own_book (n ∷ rest) b) (parts_of (n ∷ rest) b) pm
-        (λ p c. elim (cons_cases n rest p c) [ inl e ↦ subst (StandsBefore m) e q | inr d ↦ StandsBefore-chain m n p pn.0 q (after p d) ]))
-    by Equal q =
-        IsJoined-same (λ x. Contains rest x ⊎ ((m ≡ x) ⊎ (n ≡ x))) (λ x. Contains (n ∷ rest) x ⊎ (m ≡ x)) (with_marker rest (joined m n))
+        IsJoined-same (λ x. (m ≡ x) ⊎ Contains (n ∷ rest) x) (λ x. Contains (n ∷ rest) x ⊎ (m ≡ x))
+        (m ∷ n ∷ rest)
         (λ x. (
-          λ s. elim s [ inl c ↦ inl (Contains-tail n rest x c) | inr (inl e) ↦ inr e | inr (inr e) ↦ inl (head_at n x rest e) ],
-          λ s. elim s [ inl c ↦ elim (cons_cases n rest x c) [ inl e ↦ inr (inr e) | inr d ↦ inl d ] | inr e ↦ inr (inl e) ],
+          λ s. elim s [ inl e ↦ inr e | inr c ↦ inl c ],
+          λ s. elim s [ inl c ↦ inr c | inr e ↦ inl e ],
         ))
-        (split_part (Contains rest) m n (with_marker rest (joined m n)) q pm pn (more (joined m n) (joined_part m n pm pn)))
-    by Greater q =
-        IsJoined-same (λ x. (n ≡ x) ⊎ (Contains rest x ⊎ (m ≡ x))) (λ x. Contains (n ∷ rest) x ⊎ (m ≡ x)) (n ∷ with_marker rest m)
+        (put_first (Contains (n ∷ rest)) m (n ∷ rest) (own_book (n ∷ rest) b)
+        (parts_of (n ∷ rest) b) pm
+        (λ p c. elim (cons_cases n rest p c) [
+          | inl e ↦ subst (StandsBefore m) e q
+          | inr d
+              ↦ StandsBefore-chain m n p pn.0 q (after p d)
+        ]))
+    by Equal q =
+        IsJoined-same (λ x. Contains rest x ⊎ ((m ≡ x) ⊎ (n ≡ x))) (λ x. Contains (n ∷ rest) x
+        ⊎ (m ≡ x)) (with_marker rest (joined m n))
         (λ x. (
-          λ s. elim s [ inl e ↦ inl (head_at n x rest e) | inr (inl c) ↦ inl (Contains-tail n rest x c) | inr (inr e) ↦ inr e ],
-          λ s. elim s [ inl c ↦ elim (cons_cases n rest x c) [ inl e ↦ inl e | inr d ↦ inr (inl d) ] | inr e ↦ inr (inr e) ],
+          λ s. elim s [
+            | inl c ↦ inl (Contains-tail n rest x c)
+            | inr (inl e) ↦ inr e
+            | inr (inr e)
+                ↦ inl (head_at n x rest e)
+          ],
+          λ s. elim s [
+            | inl c ↦ elim (cons_cases n rest x c) [ inl e ↦ inr (inr e) | inr d ↦ inl d ]
+            | inr e ↦ inr (inl e)
+          ],
+        ))
+        (split_part (Contains rest) m n (with_marker rest (joined m n)) q pm pn
+        (more (joined m n) (joined_part m n pm pn)))
+    by Greater q =
+        IsJoined-same (λ x. (n ≡ x) ⊎ (Contains rest x ⊎ (m ≡ x))) (λ x. Contains (n ∷ rest) x
+        ⊎ (m ≡ x)) (n ∷ with_marker rest m)
+        (λ x. (
+          λ s. elim s [
+            | inl e ↦ inl (head_at n x rest e)
+            | inr (inl c)
+                ↦ inl (Contains-tail n rest x c)
+            | inr (inr e) ↦ inr e
+          ],
+          λ s. elim s [
+            | inl c ↦ elim (cons_cases n rest x c) [ inl e ↦ inl e | inr d ↦ inr (inl d) ]
+            | inr e ↦ inr (inr e)
+          ],
         ))
         (put_first (λ x. Contains rest x ⊎ (m ≡ x)) n (with_marker rest m) (more m pm)
-        (λ x s. elim s [ inl c ↦ parts_of rest (tail_book n rest b) x c | inr e ↦ subst IsPart e pm ])
+        (λ x s. elim s [
+          | inl c ↦ parts_of rest (tail_book n rest b) x c
+          | inr e
+              ↦ subst IsPart e pm
+        ])
         pn
         (λ p s. elim s [ inl c ↦ after p c | inr e ↦ subst (StandsBefore n) e q ]))
 
-insert : (book : List Marker) (m : Marker) → IsBook book → IsPart m → IsJoined (λ x. Contains book x ⊎ (m ≡ x)) (with_marker book m)
+insert : (book : List Marker) (m : Marker) → IsBook book → IsPart m
+    → IsJoined (λ x. Contains book x ⊎ (m ≡ x)) (with_marker book m)
 insert [] m b pm =
     IsJoined-same (λ x. (m ≡ x) ⊎ Contains [] x) (λ x. Contains [] x ⊎ (m ≡ x)) (m ∷ [])
-    (λ x. (λ s. elim s [ inl e ↦ inr e | inr c ↦ inl c ], λ s. elim s [ inl c ↦ inr c | inr e ↦ inl e ]))
+    (λ x. (
+      λ s. elim s [ inl e ↦ inr e | inr c ↦ inl c ],
+      λ s. elim s [ inl c ↦ inr c | inr e ↦ inl e ],
+    ))
     (put_first (Contains []) m [] (own_book [] b) (parts_of [] b) pm (λ p c. absurd (none_in p c)))
 insert (n ∷ rest) m b pm = insert_on n rest m b pm (λ x px. insert rest x (tail_book n rest b) px)
 
 -- ---- many markers
 
 -- a book of a book's markers and one more has the parts of that book
-compose : (P : Marker → Type 0) (m : Marker) (book new : List Marker) → AreParts P → IsJoined P book → IsJoined (λ x. Contains book x ⊎ (m ≡ x)) new → IsJoined (λ x. P x ⊎ (m ≡ x)) new
+compose : (P : Marker → Type 0) (m : Marker) (book new : List Marker) → AreParts P → IsJoined P book
+    → IsJoined (λ x. Contains book x ⊎ (m ≡ x)) new → IsJoined (λ x. P x ⊎ (m ≡ x)) new
 compose P m book new parts h k = record {
   markers = k.markers;
   rows = λ line j. (
@@ -355,31 +368,46 @@ compose P m book new parts h k = record {
   met = λ y o c. (to y o c, from y o c);
 }
   where
-    to : (y : Marker) (o : ℕ) → Contains new y → Contains y.met o → (x : Marker) × (P x ⊎ (m ≡ x)) × LiesIn x y × Contains x.met o
+    to : (y : Marker) (o : ℕ) → Contains new y → Contains y.met o → (x : Marker) × (P x ⊎ (m ≡ x))
+        × LiesIn x y × Contains x.met o
     to y o c x = let p = (k.met y o c).0 x in elim p.1 [
       | inl b ↦ (let q = (h.met p.0 o b).0 p.3 in (q.0, inl q.1, trans_lies q.0 p.0 y q.2 p.2, q.3))
       | inr e ↦ (p.0, inr e, p.2, p.3)
     ]
 
-    from : (y : Marker) (o : ℕ) → Contains new y → (x : Marker) × (P x ⊎ (m ≡ x)) × LiesIn x y × Contains x.met o → Contains y.met o
+    from : (y : Marker) (o : ℕ) → Contains new y → (x : Marker) × (P x ⊎ (m ≡ x)) × LiesIn x y
+        × Contains x.met o → Contains y.met o
     from y o c p = elim p.1 [
       | inl q ↦
           let row = own_rows p.0 (parts p.0 q).0 in
           let b = (h.rows (line_of p.0) p.0.y0).1 (p.0, q, row) in
           let within = lies_in P book p.0 b.0 (line_of p.0) p.0.y0 h b.1 q row b.2 in
-          let lies = lies_in (λ x. Contains book x ⊎ (m ≡ x)) new b.0 y (line_of p.0) p.0.y0 k c (inl b.1) b.2 (wider p.0 y (line_of p.0) p.0.y0 p.2 row) in
+          let lies = lies_in (λ x. Contains book x ⊎ (m ≡ x)) new b.0 y (line_of p.0) p.0.y0 k c
+          (inl b.1) b.2 (wider p.0 y (line_of p.0) p.0.y0 p.2 row) in
           (k.met y o c).1 (b.0, inl b.1, lies, (h.met b.0 o b.1).1 (p.0, q, within, p.3))
       | inr e ↦ (k.met y o c).1 (p.0, inr e, p.2, p.3)
     ]
 
-fold_joined : (P : Marker → Type 0) (book ms : List Marker) → AreParts P → AreParts (Contains ms) → IsJoined P book → IsJoined (λ x. P x ⊎ Contains ms x) (fold with_marker book ms)
-fold_joined P book [] parts own h = IsJoined-same P (λ x. P x ⊎ Contains [] x) book (λ x. (λ p. inl p, λ s. elim s [ inl p ↦ p | inr c ↦ absurd (none_in x c) ])) h
+fold_joined : (P : Marker → Type 0) (book ms : List Marker) → AreParts P → AreParts (Contains ms)
+    → IsJoined P book → IsJoined (λ x. P x ⊎ Contains ms x) (fold with_marker book ms)
+fold_joined P book [] parts own h = IsJoined-same P (λ x. P x ⊎ Contains [] x) book
+    (λ x. (λ p. inl p, λ s. elim s [ inl p ↦ p | inr c ↦ absurd (none_in x c) ])) h
 fold_joined P book (m ∷ ms) parts own h =
     let pm : IsPart m = own m (Contains-head m ms) in
-    IsJoined-same (λ x. (P x ⊎ (m ≡ x)) ⊎ Contains ms x) (λ x. P x ⊎ Contains (m ∷ ms) x) (fold with_marker (with_marker book m) ms)
+    IsJoined-same (λ x. (P x ⊎ (m ≡ x)) ⊎ Contains ms x) (λ x. P x ⊎ Contains (m ∷ ms) x)
+    (fold with_marker (with_marker book m) ms)
     (λ x. (
-      λ s. elim s [ inl (inl p) ↦ inl p | inl (inr e) ↦ inr (head_at m x ms e) | inr c ↦ inr (Contains-tail m ms x c) ],
-      λ s. elim s [ inl p ↦ inl (inl p) | inr c ↦ elim (cons_cases m ms x c) [ inl e ↦ inl (inr e) | inr d ↦ inr d ] ],
+      λ s. elim s [
+        | inl (inl p) ↦ inl p
+        | inl (inr e) ↦ inr (head_at m x ms e)
+        | inr c
+            ↦ inr (Contains-tail m ms x c)
+      ],
+      λ s. elim s [
+        | inl p ↦ inl (inl p)
+        | inr c
+            ↦ elim (cons_cases m ms x c) [ inl e ↦ inl (inr e) | inr d ↦ inr d ]
+      ],
     ))
     (fold_joined (λ x. P x ⊎ (m ≡ x)) (with_marker book m) ms
     (λ x s. elim s [ inl p ↦ parts x p | inr e ↦ subst IsPart e pm ])
@@ -400,16 +428,25 @@ listed (l ∷ ls) x =
         | inr d ↦ (let p = h.0 d in (p.0, Contains-tail l ls p.0 p.1, p.2))
       ],
       λ p. elim (cons_cases l ls p.0 p.1) [
-        | inl e ↦ Contains-append_left l (all_of ls) x (subst (λ (list : List Marker). Contains list x) (sym e) p.2)
+        | inl e ↦ Contains-append_left l (all_of ls) x
+            (subst (λ (list : List Marker). Contains list x) (sym e) p.2)
         | inr d ↦ Contains-append_right l (all_of ls) x (h.1 (p.0, d, p.2))
       ],
     )
 
 no_book : IsBook []
-no_book = record { filled = λ k d l. absurd (omega (arith, l)); ordered = λ i j d l b. absurd (omega (arith, b)); ascending = λ k d l. absurd (omega (arith, l)) }
+no_book = record {
+  filled = λ k d l. absurd (omega (arith, l));
+  ordered = λ i j d l b. absurd (omega (arith, b));
+  ascending = λ k d l. absurd (omega (arith, l));
+}
 
 pub computes : StitchedComputes
 computes lists filled =
     IsJoined-same (λ x. Contains [] x ⊎ Contains (all_of lists) x) (IsListed lists) (stitched lists)
-    (λ x. (λ s. elim s [ inl c ↦ absurd (none_in x c) | inr c ↦ (listed lists x).0 c ], λ p. inr ((listed lists x).1 p)))
-    (fold_joined (Contains []) [] (all_of lists) (parts_of [] no_book) (λ x c. filled x ((listed lists x).0 c)) (own_book [] no_book))
+    (λ x. (
+      λ s. elim s [ inl c ↦ absurd (none_in x c) | inr c ↦ (listed lists x).0 c ],
+      λ p. inr ((listed lists x).1 p),
+    ))
+    (fold_joined (Contains []) [] (all_of lists) (parts_of [] no_book)
+    (λ x c. filled x ((listed lists x).0 c)) (own_book [] no_book))

@@ -22,7 +22,8 @@ pub record TestsAreExact : Type 0 where
 
 -- The book that computes is the one that is stitched from the lists.
 abbrev pub StitchedComputes : Type 0
-StitchedComputes = (lists : List (List Marker)) → AreFilled lists → IsStitched lists (stitched lists)
+StitchedComputes =
+    (lists : List (List Marker)) → AreFilled lists → IsStitched lists (stitched lists)
 
 -- ---- events
 
@@ -149,10 +150,14 @@ pub record TakingCountsAlone (run : Run) : Type 0 where
 pub record IsNext (tiles : List Tile) (number : ℕ) (x : Tile) : Type 0 where
   pub at : slice_get tiles number ≡ Some x
   pub unanswered : x.answer ≡ None
-  pub fewest : (k : ℕ) (other : Tile) → slice_get tiles k ≡ Some other → other.answer ≡ None → x.taken ≤ other.taken
-  pub least : (k : ℕ) (other : Tile) → slice_get tiles k ≡ Some other → other.answer ≡ None → k < number → x.taken < other.taken
+  pub fewest : (k : ℕ) (other : Tile) → slice_get tiles k ≡ Some other → other.answer ≡ None
+      → x.taken ≤ other.taken
+  pub least : (k : ℕ) (other : Tile) → slice_get tiles k ≡ Some other → other.answer ≡ None
+      → k < number → x.taken < other.taken
 
 -- What is handed out next is that tile, and nothing where each tile is answered.
 pub record NextIsFewest : Type 0 where
-  pub some : (tiles : List Tile) (o : Offer) → next_from 0 tiles ≡ Some o → IsNext tiles o.number o.tile
-  pub none : (tiles : List Tile) (k : ℕ) (x : Tile) → next_from 0 tiles ≡ None → slice_get tiles k ≡ Some x → x.answer ≡ None → ⊥
+  pub some : (tiles : List Tile) (o : Offer) → next_from 0 tiles ≡ Some o
+      → IsNext tiles o.number o.tile
+  pub none : (tiles : List Tile) (k : ℕ) (x : Tile) → next_from 0 tiles ≡ None
+      → slice_get tiles k ≡ Some x → x.answer ≡ None → ⊥

@@ -4,3 +4,4 @@ pub mod Run
 pub mod Step
 pub mod Prepared
 pub mod Laws
+pub mod Internal

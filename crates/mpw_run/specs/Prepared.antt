@@ -1,23 +1,17 @@
 -- What an event changes in a run, and what is true of the change.
 use Rattle.std.specs.Prelude.{◌≡◌, ◌<◌, ◌^◌, ℕ, ◌+◌, List, Option, Some, None, slice_get, slice_set}
-use Rattle.mpw_markers.specs.declared.marker.Marker.{Marker}
 use Rattle.mpw_run.specs.declared.phase.Phase.{Phase}
 use Rattle.mpw_run.specs.declared.phase.Phase.TheVariants.{Idle, Cutting, Checking, Finished}
 use Rattle.mpw_run.specs.declared.prepare.Change.{Change}
 use Rattle.mpw_run.specs.declared.prepare.Change.TheVariants as change
 use Rattle.mpw_run.specs.declared.prepare.Prepared.{Prepared}
-use Rattle.mpw_run.specs.Run.{Tile, Checks, answers_of}
+use Rattle.mpw_run.specs.Run.{Tile, Checks}
 use Rattle.mpw_run.specs.Step.{Run, Outcome, IsRun, raised, answered_by, with_tiles}
 
 -- A tile of the list is changed; where there is none, nothing is.
 abbrev pub set_tile : (Tile → Tile) → ℕ → List Tile → Option Tile → List Tile
 set_tile change number tiles None = tiles
 set_tile change number tiles (Some tile) = slice_set tiles number (change tile)
-
--- The markers of all tiles that are answered, with these for one of them.
-abbrev pub answers_with : List Marker → ℕ → List Tile → List (List Marker)
-answers_with markers number tiles =
-    answers_of (set_tile (answered_by markers) number tiles (slice_get tiles number))
 
 -- A check with one of its tiles changed.
 abbrev pub with_tile : (Tile → Tile) → ℕ → Checks → Checks
@@ -28,7 +22,8 @@ abbrev pub next_phase : Change → Phase → Phase
 next_phase change.Nothing phase = phase
 next_phase (change.Start planned) phase = Cutting planned
 next_phase (change.Check windows tiles) Idle = Idle
-next_phase (change.Check windows tiles) (Cutting planned) = Checking (record { planned = planned; windows = windows; tiles = tiles })
+next_phase (change.Check windows tiles) (Cutting planned) =
+    Checking (record { planned = planned; windows = windows; tiles = tiles })
 next_phase (change.Check windows tiles) (Checking c) = Checking c
 next_phase (change.Check windows tiles) (Finished f) = Finished f
 next_phase (change.Take number) Idle = Idle
@@ -37,11 +32,13 @@ next_phase (change.Take number) (Checking c) = Checking (with_tile raised number
 next_phase (change.Take number) (Finished f) = Finished f
 next_phase (change.Keep number markers) Idle = Idle
 next_phase (change.Keep number markers) (Cutting planned) = Cutting planned
-next_phase (change.Keep number markers) (Checking c) = Checking (with_tile (answered_by markers) number c)
+next_phase (change.Keep number markers) (Checking c) =
+    Checking (with_tile (answered_by markers) number c)
 next_phase (change.Keep number markers) (Finished f) = Finished f
 next_phase (change.Finish book) Idle = Idle
 next_phase (change.Finish book) (Cutting planned) = Cutting planned
-next_phase (change.Finish book) (Checking c) = Finished (record { planned = c.planned; book = book })
+next_phase (change.Finish book) (Checking c) =
+    Finished (record { planned = c.planned; book = book })
 next_phase (change.Finish book) (Finished f) = Finished f
 
 -- The number that a change leaves: a new run has the next one.
@@ -55,7 +52,8 @@ next_number (change.Finish book) number = number
 
 -- The run that a change leaves.
 abbrev pub applied : Change → Run → Run
-applied change run = record { number = next_number change run.number; phase = next_phase change run.phase }
+applied change run =
+    record { number = next_number change run.number; phase = next_phase change run.phase }
 
 -- The change may be made to the run: it leaves what is true of a run, and its number can be counted.
 pub record IsFitting (change : Change) (run : Run) : Type 0 where

@@ -44,6 +44,7 @@ answered tiles = length (answers_of tiles)
 pub record IsChecks (run : ℕ) (c : Checks) : Type 0 where
   pub windows : StandFor c.planned.snapshot c.windows
   pub count : length c.tiles ≡ tiles c.planned.plan
-  pub kept : (number : ℕ) (tile : Tile) (markers : List Marker) → slice_get c.tiles number ≡ Some tile → tile.answer ≡ Some markers
+  pub kept : (number : ℕ) (tile : Tile) (markers : List Marker)
+      → slice_get c.tiles number ≡ Some tile → tile.answer ≡ Some markers
       → Answers (task_of c.planned.snapshot c.planned.plan c.windows run number) markers
   pub left : answered c.tiles < tiles c.planned.plan

@@ -39,18 +39,18 @@ abbrev pub same_layer : Layer → Layer → Bool
 same_layer a b = (a.layer == b.layer) && (a.datatype == b.datatype)
 
 -- An orientation by its place among the eight.
-abbrev pub place_of : Orient → ℕ
-place_of R0 = 0
-place_of R90 = 1
-place_of R180 = 2
-place_of R270 = 3
-place_of M0 = 4
-place_of M90 = 5
-place_of M180 = 6
-place_of M270 = 7
+abbrev pub orient_number : Orient → ℕ
+orient_number R0 = 0
+orient_number R90 = 1
+orient_number R180 = 2
+orient_number R270 = 3
+orient_number M0 = 4
+orient_number M90 = 5
+orient_number M180 = 6
+orient_number M270 = 7
 
 abbrev pub same_orient : Orient → Orient → Bool
-same_orient a b = place_of a == place_of b
+same_orient a b = orient_number a == orient_number b
 
 abbrev pub same_placing : Placing → Placing → Bool
 same_placing a b = same_orient a.orient b.orient && same_point a.by b.by

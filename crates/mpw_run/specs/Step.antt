@@ -64,13 +64,14 @@ pub record Offer : Type 0 where
   pub tile : Tile
 
 -- Its number, and how often it was handed out.
-abbrev pub told : Offer → ℕ × ℕ
-told offer = (offer.number, offer.tile.taken)
+abbrev pub handed_out : Offer → ℕ × ℕ
+handed_out offer = (offer.number, offer.tile.taken)
 
 -- An offer before others: it is taken unless one of those was handed out fewer times.
 abbrev pub first_of : Offer → Option Offer → Option Offer
 first_of offer None = Some offer
-first_of offer (Some other) = Some (if nat_le offer.tile.taken other.tile.taken then offer else other)
+first_of offer (Some other) =
+    Some (if nat_le offer.tile.taken other.tile.taken then offer else other)
 
 -- A tile that is answered is not offered.
 abbrev pub offered : Option (List Marker) → Offer → Option Offer → Option Offer
@@ -80,7 +81,8 @@ offered (Some markers) offer others = others
 -- The unanswered tile that was handed out fewest times, the least number among these. Tiles are counted from a number on.
 abbrev pub next_from : ℕ → List Tile → Option Offer
 next_from number [] = None
-next_from number (tile ∷ rest) = offered tile.answer (record { number = number; tile = tile }) (next_from (number + 1) rest)
+next_from number (tile ∷ rest) =
+    offered tile.answer (record { number = number; tile = tile }) (next_from (number + 1) rest)
 
 -- The tile was handed out once more; the count stops at its greatest number. The tile is answered.
 abbrev pub raised : Tile → Tile
@@ -101,13 +103,17 @@ abbrev pub handed : Run → Checks → Option Offer → Outcome
 handed run c None = record { reply = reply.NoJob; run = run }
 handed run c (Some offer) = record {
   reply = reply.Taken (job.Tile (tile_task run.number c offer.number));
-  run = record { number = run.number; phase = Checking (with_tiles c (slice_set c.tiles offer.number (raised offer.tile))) };
+  run = record {
+    number = run.number;
+    phase = Checking (with_tiles c (slice_set c.tiles offer.number (raised offer.tile)));
+  };
 }
 
 abbrev pub taken_in : Run → Phase → Outcome
 taken_in run Idle = record { reply = reply.NoJob; run = run }
 taken_in run (Cutting planned) = record {
-  reply = reply.Taken (job.Cut (let j : CutJob = record { run = run.number; snapshot = planned.snapshot } in j));
+  reply = reply.Taken (job.Cut (let j :
+      CutJob = record { run = run.number; snapshot = planned.snapshot } in j));
   run = run;
 }
 taken_in run (Checking c) = handed run c (next_from 0 c.tiles)
@@ -124,32 +130,51 @@ left_as r run = record { reply = r; run = run }
 abbrev pub begun : Run → Planned → CutWindows → Outcome
 begun run planned answer = record {
   reply = reply.Kept;
-  run = record { number = run.number; phase = Checking (record { planned = planned; windows = answer.windows; tiles = new_tiles (tiles planned.plan) }) };
+  run = record {
+    number = run.number;
+    phase = Checking (record {
+      planned = planned;
+      windows = answer.windows;
+      tiles = new_tiles (tiles planned.plan);
+    });
+  };
 }
 
 -- The windows of a snapshot.
 abbrev pub cut_in : Run → CutWindows → Phase → Outcome
 cut_in run answer Idle = left_as reply.OldRun run
-cut_in run answer (Cutting planned) = if same_snapshot answer.job.snapshot planned.snapshot then begun run planned answer else left_as reply.Stranger run
+cut_in run answer (Cutting planned) = if same_snapshot answer.job.snapshot planned.snapshot
+    then begun run planned answer else left_as reply.Stranger run
 cut_in run answer (Checking c) = left_as reply.Double run
 cut_in run answer (Finished f) = left_as reply.Double run
 
 abbrev pub cut_answered : Run → CutWindows → Outcome
-cut_answered run answer = if run.number == answer.job.run then cut_in run answer run.phase else left_as reply.OldRun run
+cut_answered run answer =
+    if run.number == answer.job.run then cut_in run answer run.phase else left_as reply.OldRun run
 
 -- The run with the markers of a tile; with the last one its book is stitched.
 abbrev pub kept : Run → Checks → List Tile → Outcome
 kept run c now = if answered now == tiles c.planned.plan
     then record {
       reply = reply.Finished;
-      run = record { number = run.number; phase = Finished (record { planned = c.planned; book = stitched (answers_of now) }) };
+      run = record {
+        number = run.number;
+        phase = Finished (record { planned = c.planned; book = stitched (answers_of now) });
+      };
     }
-    else record { reply = reply.Kept; run = record { number = run.number; phase = Checking (with_tiles c now) } }
+    else record {
+      reply = reply.Kept;
+      run = record {
+        number = run.number;
+        phase = Checking (with_tiles c now);
+      };
+    }
 
 -- The markers of a tile of a run whose snapshot is cut.
 abbrev pub tile_compared : Run → Checks → FoundMarkers → Tile → Option (List Marker) → Outcome
 tile_compared run c answer tile (Some markers) = left_as reply.Double run
-tile_compared run c answer tile None = if same_task answer.job (tile_task run.number c answer.job.tile)
+tile_compared run c answer tile None =
+    if same_task answer.job (tile_task run.number c answer.job.tile)
     then kept run c (slice_set c.tiles answer.job.tile (answered_by answer.markers tile))
     else left_as reply.Stranger run
 
@@ -162,10 +187,12 @@ abbrev pub tile_in : Run → FoundMarkers → Phase → Outcome
 tile_in run answer Idle = left_as reply.OldRun run
 tile_in run answer (Cutting planned) = left_as reply.Stranger run
 tile_in run answer (Checking c) = tile_checked run c answer (slice_get c.tiles answer.job.tile)
-tile_in run answer (Finished f) = if nat_lt answer.job.tile (tiles f.planned.plan) then left_as reply.Double run else left_as reply.Stranger run
+tile_in run answer (Finished f) = if nat_lt answer.job.tile (tiles f.planned.plan)
+    then left_as reply.Double run else left_as reply.Stranger run
 
 abbrev pub tile_answered : Run → FoundMarkers → Outcome
-tile_answered run answer = if run.number == answer.job.run then tile_in run answer run.phase else left_as reply.OldRun run
+tile_answered run answer =
+    if run.number == answer.job.run then tile_in run answer run.phase else left_as reply.OldRun run
 
 -- What is true of a run, by its phase. The book of a run that is finished has just the markers of its snapshot's flat layout.
 abbrev pub IsPhase : ℕ → Phase → Type 0

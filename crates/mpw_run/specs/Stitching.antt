@@ -13,7 +13,8 @@ use Rattle.mpw_markers.specs.Stitched.{IsListed}
 -- The number stands in the ascending list.
 abbrev pub met_with : ℕ → List ℕ → List ℕ
 met_with n [] = n ∷ []
-met_with n (k ∷ ks) = if n == k then k ∷ ks else (if nat_le n k then n ∷ k ∷ ks else k ∷ met_with n ks)
+met_with n (k ∷ ks) =
+    if n == k then k ∷ ks else (if nat_le n k then n ∷ k ∷ ks else k ∷ met_with n ks)
 
 -- One marker for two of a line.
 abbrev pub joined : Marker → Marker → Marker
@@ -42,7 +43,8 @@ placed Greater before joins behind = behind
 
 abbrev pub with_marker : List Marker → Marker → List Marker
 with_marker [] m = m ∷ []
-with_marker (n ∷ book) m = placed (beside (line_cmp (line_of m) (line_of n)) m n) (m ∷ n ∷ book) (with_marker book (joined m n)) (n ∷ with_marker book m)
+with_marker (n ∷ book) m = placed (beside (line_cmp (line_of m) (line_of n)) m n) (m ∷ n ∷ book)
+    (with_marker book (joined m n)) (n ∷ with_marker book m)
 
 -- The book of all lists.
 abbrev pub stitched : List (List Marker) → List Marker

@@ -4,7 +4,7 @@ ghost use Rattle.std.specs.Prelude.{◌≡◌, ◌<◌, ◌^◌, length, IfOk, I
 ghost use Rattle.mpw_tiles.specs.Snapshots.{plan_for, StandFor};
 ghost use Rattle.mpw_tiles.specs.Plan.{tiles};
 ghost use Rattle.mpw_run.specs.Run.{answered, IsPlanned};
-ghost use Rattle.mpw_run.specs.Prepared.{answers_with};
+ghost use Rattle.mpw_run.specs.Internal.Prepared.{answers_with};
 ghost use Rattle.mpw_run.specs.Step.{Offer, next_from, tile_task};
 ghost use Rattle.mpw_run.specs.Stitching.{stitched, AreFilled};
 

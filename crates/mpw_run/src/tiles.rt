@@ -3,8 +3,9 @@
 ghost use Rattle.std.specs.Prelude.{◌≡◌, ◌<◌, ◌^◌, ◌++◌, length, IfOk, OnOk, slice_get, Option, option_map};
 ghost use Rattle.std.specs.Option.{option_to_list};
 ghost use Rattle.mpw_run.specs.Run.{answered, answers_of};
-ghost use Rattle.mpw_run.specs.Step.{Offer, new_tiles, next_from, offered, raised, answered_by, told};
-ghost use Rattle.mpw_run.specs.Prepared.{set_tile, answers_with};
+ghost use Rattle.mpw_run.specs.Step.{Offer, new_tiles, next_from, offered, raised, answered_by, handed_out};
+ghost use Rattle.mpw_run.specs.Prepared.{set_tile};
+ghost use Rattle.mpw_run.specs.Internal.Prepared.{answers_with};
 ghost use Rattle.mpw_run.specs.Stitching.{stitched, AreFilled};
 
 use crate::laws::stitched_computes;
@@ -202,8 +203,8 @@ fn add_answers(lists: &mut Vec<TileMarkers>, tiles: &[Tile]) -> Result<(), Alloc
 
 /// An unanswered tile before others: it is taken unless one of those was handed out fewer times.
 fn first_of(number: u32, tile: &Tile, others: Option<(u32, u64)>) -> Option<(u32, u64)>
-    ensures { (rest : Option Offer) → (others ≡ option_map told rest)
-        → result ≡ option_map told (offered tile.now.answer (record { number = number; tile = tile.now }) rest) }
+    ensures { (rest : Option Offer) → (others ≡ option_map handed_out rest)
+        → result ≡ option_map handed_out (offered tile.now.answer (record { number = number; tile = tile.now }) rest) }
 {
     if tile.answer.is_some() {
         return others;

@@ -39,7 +39,8 @@ Adds (Err errors.TooLong) old new rs = IsTrue (has_too_long rs) × (new ≡ old)
 Adds (Err errors.Memory) old new rs = new ≡ old
 
 -- What a call gives, seen by view: the records behind a front.
-abbrev pub Gives : {X : Type 0} → (X → List ℕ) → Result X SampleError → (front : List ℕ) → List RecordData → Type 0
+abbrev pub Gives : {X : Type 0} → (X → List ℕ) → Result X SampleError → (front : List ℕ)
+    → List RecordData → Type 0
 Gives view (Ok x) front rs = (has_too_long rs ≡ false) × (view x ≡ front ++ text_of rs)
 Gives view (Err errors.TooLong) front rs = IsTrue (has_too_long rs)
 Gives view (Err errors.Memory) front rs = Unit {0}
@@ -93,20 +94,28 @@ user_unit = 0x3E ∷ 0x41 ∷ 0x89 ∷ 0x37 ∷ 0x4B ∷ 0xC6 ∷ 0xA7 ∷ 0xF0 
 
 -- HEADER BGNLIB LIBNAME UNITS, of release 6 and of the name LB.
 abbrev pub head : List ℕ → List RecordData
-head unit = short HEADER 600 ∷ dates BGNLIB ∷ record { kind = LIBNAME; data_type = 6; bytes = 76 ∷ 66 ∷ [] } ∷ record { kind = UNITS; data_type = 5; bytes = user_unit ++ unit } ∷ []
+head unit = short HEADER 600 ∷ dates BGNLIB
+    ∷ record { kind = LIBNAME; data_type = 6; bytes = 76 ∷ 66 ∷ [] }
+    ∷ record { kind = UNITS; data_type = 5; bytes = user_unit ++ unit } ∷ []
 
 abbrev pub begin : List ℕ → List RecordData
 begin name = dates BGNSTR ∷ string STRNAME name ∷ []
 
 abbrev pub boundary : (layer datatype : ℕ) → List (ℤ × ℤ) → List RecordData
-boundary layer datatype ps = bare BOUNDARY ∷ short LAYER layer ∷ short DATATYPE datatype ∷ xy ps ∷ bare ENDEL ∷ []
+boundary layer datatype ps =
+    bare BOUNDARY ∷ short LAYER layer ∷ short DATATYPE datatype ∷ xy ps ∷ bare ENDEL ∷ []
 
 abbrev pub single : List ℕ → ℤ → ℤ → List RecordData
 single name x y = bare SREF ∷ string SNAME name ∷ xy ((x, y) ∷ []) ∷ bare ENDEL ∷ []
 
 abbrev pub array : List ℕ → (columns rows : ℕ) → List (ℤ × ℤ) → List RecordData
 array name columns rows ps =
-    bare AREF ∷ string SNAME name ∷ record { kind = COLROW; data_type = 2; bytes = two_bytes columns ++ two_bytes rows } ∷ xy ps ∷ bare ENDEL ∷ []
+    bare AREF ∷ string SNAME name ∷ record {
+      kind = COLROW;
+      data_type = 2;
+      bytes = two_bytes columns
+          ++ two_bytes rows;
+    } ∷ xy ps ∷ bare ENDEL ∷ []
 
 abbrev pub end : List RecordData
 end = bare ENDSTR ∷ []

@@ -16,26 +16,34 @@ use Rattle.mpw_script.specs.Settings.{GiveNoOptions, IsFaultOf}
 use Rattle.mpw_script.specs.declared.fault.ProgramFault.{ProgramFault}
 use Rattle.mpw_script.specs.declared.settings.Settings.TheVariants.{Script}
 
-find-map : {X Y : Type 0} (f : X → Y) (p : Y → Bool) (xs : List X) → find p (map f xs) ≡ option_map f (find (λ x. p (f x)) xs)
+find-map : {X Y : Type 0} (f : X → Y) (p : Y → Bool) (xs : List X)
+    → find p (map f xs) ≡ option_map f (find (λ x. p (f x)) xs)
 find-map f p [] = refl
-find-map f p (x ∷ xs) = elim (p (f x)) as (λ b. (if b then Some (f x) else find p (map f xs)) ≡ option_map f (if b then Some x else find (λ x. p (f x)) xs)) [ true ↦ refl | false ↦ find-map f p xs ]
+find-map f p (x ∷ xs) = elim (p (f x)) as
+    (λ b. (if b then Some (f x) else find p (map f xs)) ≡ option_map f
+    (if b then Some x else find (λ x. p (f x)) xs)) [ true ↦ refl | false ↦ find-map f p xs ]
 
 -- the first value of an option, as text
 pub first_is_value : (f : Found) (id : Text) → first_of id (rows_of f) ≡ first_value f id
-first_is_value f id = ap (option_and_then (λ r. slice_get r.values 0)) (find-map row_of (λ r. bytes_eq r.id id) f.entries.items)
+first_is_value f id = ap (option_and_then (λ r. slice_get r.values 0))
+    (find-map row_of (λ r. bytes_eq r.id id) f.entries.items)
     ∙ of_entry (find (λ e. bytes_eq e.0.now id) f.entries.items)
   where
-    front : (xs : List (Bor Text)) → slice_get (map (λ s. s.now) xs) 0 ≡ option_map (λ s. s.now) (slice_get xs 0)
+    front : (xs : List (Bor Text)) → slice_get (map (λ s. s.now) xs) 0 ≡ option_map (λ s. s.now)
+        (slice_get xs 0)
     front [] = refl
     front (x ∷ xs) = refl
 
-    of_entry : (o : Option Entry) → option_and_then (λ r. slice_get r.values 0) (option_map row_of o)
-        ≡ option_and_then (λ a. option_map (λ s. s.now) (slice_get a.vals.items 0)) (option_map (λ e. e.1) o)
+    of_entry : (o : Option Entry) → option_and_then (λ r. slice_get r.values 0)
+        (option_map row_of o)
+        ≡ option_and_then (λ a. option_map (λ s. s.now) (slice_get a.vals.items 0))
+        (option_map (λ e. e.1) o)
     of_entry None = refl
     of_entry (Some e) = front e.1.vals.items
 
 -- two parts of what may be there make the whole
-pub both_parts : {X Y : Type 0} (o : Option (X × Y)) (x : X) (y : Y) → option_map (λ p. p.0) o ≡ Some x → option_map (λ p. p.1) o ≡ Some y → o ≡ Some (x, y)
+pub both_parts : {X Y : Type 0} (o : Option (X × Y)) (x : X) (y : Y)
+    → option_map (λ p. p.0) o ≡ Some x → option_map (λ p. p.1) o ≡ Some y → o ≡ Some (x, y)
 both_parts None x y e f = absurd (search (e, rules))
 both_parts (Some (a, b)) x y e f = search (e, f, rules)
 
@@ -44,23 +52,31 @@ same-text a b e = cc
 
 -- options that give no settings
 pub no-officer : (rows : List Row) → first_of (codes "officer") rows ≡ None → GiveNoOptions rows
-no-officer rows none (Script officer digest) given = let e : None ≡ Some officer = sym none ∙ given.0 in cc
+no-officer rows none (Script officer digest) given =
+    let e : None ≡ Some officer = sym none ∙ given.0 in cc
 
 pub no-digits : (rows : List Row) → first_of (codes "digest") rows ≡ None → GiveNoOptions rows
-no-digits rows none (Script officer digest) given = let e : None ≡ Some given.2.0 = sym none ∙ given.2.1 in cc
+no-digits rows none (Script officer digest) given =
+    let e : None ≡ Some given.2.0 = sym none ∙ given.2.1 in cc
 
-pub bad-officer : (rows : List Row) (text : Text) → first_of (codes "officer") rows ≡ Some text → (IsName text → ⊥) → GiveNoOptions rows
-bad-officer rows text found bad (Script officer digest) given = bad (subst IsName (same-text officer text (sym given.0 ∙ found)) given.1)
+pub bad-officer : (rows : List Row) (text : Text) → first_of (codes "officer") rows ≡ Some text
+    → (IsName text → ⊥) → GiveNoOptions rows
+bad-officer rows text found bad (Script officer digest) given =
+    bad (subst IsName (same-text officer text (sym given.0 ∙ found)) given.1)
 
-pub bad-digits : (rows : List Row) (text : Text) → first_of (codes "digest") rows ≡ Some text → ((digest : List ℕ) → Spells text digest → length digest ≡ 32 → ⊥) → GiveNoOptions rows
+pub bad-digits : (rows : List Row) (text : Text) → first_of (codes "digest") rows ≡ Some text
+    → ((digest : List ℕ) → Spells text digest → length digest ≡ 32 → ⊥) → GiveNoOptions rows
 bad-digits rows text found bad (Script officer digest) given =
-    bad digest (subst (λ t. Spells t digest) (same-text given.2.0 text (sym given.2.1 ∙ found)) given.2.2) given.3
+    bad digest (subst (λ t. Spells t digest) (same-text given.2.0 text (sym given.2.1 ∙ found))
+    given.2.2) given.3
 
-pub told-more : (first second : Type 0) (fault : ProgramFault) → (first → second) → IsFaultOf first fault → IsFaultOf second fault
+pub told-more : (first second : Type 0) (fault : ProgramFault) → (first → second)
+    → IsFaultOf first fault → IsFaultOf second fault
 told-more first second fault more (inl memory) = inl memory
 told-more first second fault more (inr told) = inr (more told)
 
-pub refused-more : {X : Type 0} (result : Result X ProgramFault) (first second : Type 0) → (first → second) → IfErr result (IsFaultOf first) → IfErr result (IsFaultOf second)
+pub refused-more : {X : Type 0} (result : Result X ProgramFault) (first second : Type 0)
+    → (first → second) → IfErr result (IsFaultOf first) → IfErr result (IsFaultOf second)
 refused-more (Ok x) first second more told = tt
 refused-more (Err fault) first second more told = told-more first second fault more told
 

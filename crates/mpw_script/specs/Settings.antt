@@ -11,13 +11,16 @@ use Rattle.mpw_script.specs.declared.settings.Settings.TheVariants.{Script}
 
 -- an option that has to be given, with one value
 abbrev pub required_option : Text → Rule
-required_option name = record (new_rule name) { long = Some name; value_names = 1; required = true; action = Some Set }
+required_option name =
+    record (new_rule name) { long = Some name; value_names = 1; required = true; action = Some Set }
 
 abbrev pub script_app : App
-script_app = with_rule (with_rule (new_app (codes "script")) (required_option (codes "officer"))) (required_option (codes "digest"))
+script_app = with_rule (with_rule (new_app (codes "script")) (required_option (codes "officer")))
+    (required_option (codes "digest"))
 
 abbrev pub top_app : App
-top_app = let new = new_app (codes "mpw") in record new { top = record new.top { subcommand_required = true } }
+top_app = let new = new_app (codes "mpw") in
+    record new { top = record new.top { subcommand_required = true } }
 
 -- the command line's form
 unfoldable pub program_app : App
@@ -34,7 +37,8 @@ AreOptions (Script officer digest) rows =
 abbrev pub AreGiven : Settings → List Text → Type 0
 AreGiven settings words =
     (fault_of program_app words ≡ [])
-    × ((rows : List Row) × (subcommand_of program_app words ≡ Some (codes "script", rows)) × AreOptions settings rows)
+    × ((rows : List Row) × (subcommand_of program_app words ≡ Some (codes "script", rows))
+    × AreOptions settings rows)
 
 -- the options, or the words, give no settings
 abbrev pub GiveNoOptions : List Row → Type 0

@@ -41,24 +41,30 @@ stage_line number Stage.cutting = line.Cutting number
 stage_line number (Stage.checking done total) = line.Checking number done total
 stage_line number Stage.finished = line.Finished number
 
-phase_by : (number : ℕ) (phase : Phase) → checking.phase_line number phase ≡ stage_line number (stage_of phase)
+phase_by : (number : ℕ) (phase : Phase)
+    → checking.phase_line number phase ≡ stage_line number (stage_of phase)
 phase_by number Idle = refl
 phase_by number (Cutting planned) = refl
 phase_by number (Checking c) = refl
 phase_by number (Finished f) = refl
 
-same_inside : (conn : ℕ) (a b : State) → SameView conn a b → inside (is_some (session_of a.policy conn)) ≡ inside (is_some (session_of b.policy conn))
+same_inside : (conn : ℕ) (a b : State) → SameView conn a b
+    → inside (is_some (session_of a.policy conn)) ≡ inside (is_some (session_of b.policy conn))
 same_inside conn a b same = ap inside (same_session conn a b same)
 
-pub status_alike : (conn : ℕ) (a b : State) → SameView conn a b → checking.status a.policy a.run conn ≡ checking.status b.policy b.run conn
+pub status_alike : (conn : ℕ) (a b : State) → SameView conn a b
+    → checking.status a.policy a.run conn ≡ checking.status b.policy b.run conn
 unfolding checking.status
 status_alike conn a b same =
-    same_behind (inside (is_some (session_of a.policy conn))) (inside (is_some (session_of b.policy conn)))
-    (λ entered. Ok (stored (checking.phase_line a.run.number a.run.phase) ∷ [])) (λ entered. Ok (stored (checking.phase_line b.run.number b.run.phase) ∷ []))
+    same_behind (inside (is_some (session_of a.policy conn)))
+    (inside (is_some (session_of b.policy conn)))
+    (λ entered. Ok (stored (checking.phase_line a.run.number a.run.phase) ∷ []))
+    (λ entered. Ok (stored (checking.phase_line b.run.number b.run.phase) ∷ []))
     (same_inside conn a b same)
     (λ entered is.
     let told = phase_by a.run.number a.run.phase
-    ∙ ap (λ (r : RunSeen). stage_line r.number r.stage) ((same.sight (inside_tells (is_some (session_of a.policy conn)) entered is)).run)
+    ∙ ap (λ (r : RunSeen). stage_line r.number r.stage)
+    ((same.sight (inside_tells (is_some (session_of a.policy conn)) entered is)).run)
     ∙ sym (phase_by b.run.number b.run.phase) in
     ap (λ l. Ok (stored l ∷ [])) told)
 
@@ -75,8 +81,10 @@ names_of rules = map (λ (rule : Rule). rule.name) rules
 abbrev told_in : List Name → MarkerSeen → List Listed
 told_in names seen = told_by (slice_get names seen.key.rule) seen
 
-line_by : (shelf : List Submission) (user : Name) (m : Marker) (waiver : Option Waiver) (o : Option Rule)
-    → line_for shelf m o ≡ told_by (option_map (λ (rule : Rule). rule.name) o) (marker_of shelf user m waiver)
+line_by : (shelf : List Submission) (user : Name) (m : Marker) (waiver : Option Waiver)
+    (o : Option Rule)
+    → line_for shelf m o ≡ told_by (option_map (λ (rule : Rule). rule.name) o)
+    (marker_of shelf user m waiver)
 line_by shelf user m waiver None = refl
 line_by shelf user m waiver (Some rule) = refl
 
@@ -84,37 +92,51 @@ nil_right : {A : Type 0} (xs : List A) → xs ≡ xs ++ []
 nil_right [] = refl
 nil_right (x ∷ xs) = ap (λ l. x ∷ l) (nil_right xs)
 
-full_by : (rules : List Rule) (shelf : List Submission) (seen : List Bool) (user : Name) (m : Marker) (waiver : Option Waiver)
-    → full_line rules shelf seen m ≡ flat_map (told_in (names_of rules)) (marker_seen shelf seen user m waiver)
+full_by : (rules : List Rule) (shelf : List Submission) (seen : List Bool) (user : Name)
+    (m : Marker) (waiver : Option Waiver)
+    → full_line rules shelf seen m ≡ flat_map (told_in (names_of rules))
+    (marker_seen shelf seen user m waiver)
 full_by rules shelf seen user m waiver =
-    elim (is_full seen m) as (λ b. cond b (line_for shelf m (slice_get rules m.rule)) [] ≡ flat_map (told_in (names_of rules)) (cond b (marker_of shelf user m waiver ∷ []) [])) [
+    elim (is_full seen m) as (λ b. cond b (line_for shelf m (slice_get rules m.rule)) []
+    ≡ flat_map (told_in (names_of rules)) (cond b (marker_of shelf user m waiver ∷ []) [])) [
       | true ↦
           line_by shelf user m waiver (slice_get rules m.rule)
-          ∙ ap (λ o. told_by o (marker_of shelf user m waiver)) (sym (slice_get-map (λ (rule : Rule). rule.name) rules m.rule))
+          ∙ ap (λ o. told_by o (marker_of shelf user m waiver))
+          (sym (slice_get-map (λ (rule : Rule). rule.name) rules m.rule))
           ∙ nil_right (told_by (slice_get (names_of rules) m.rule) (marker_of shelf user m waiver))
       | false ↦ refl
     ]
 
-full_from : (rules : List Rule) (shelf : List Submission) (seen : List Bool) (user : Name) (waivers : List (Option Waiver)) (place : ℕ) (book : List Marker)
-    → full_lines rules shelf seen book ≡ flat_map (told_in (names_of rules)) (markers_seen shelf seen user waivers place book)
+full_from : (rules : List Rule) (shelf : List Submission) (seen : List Bool) (user : Name)
+    (waivers : List (Option Waiver)) (place : ℕ) (book : List Marker)
+    → full_lines rules shelf seen book ≡ flat_map (told_in (names_of rules))
+    (markers_seen shelf seen user waivers place book)
 unfolding full_lines markers_seen
 full_from rules shelf seen user waivers place [] = refl
 full_from rules shelf seen user waivers place (m ∷ book) =
-    (λ i. full_by rules shelf seen user m (waiver_at waivers place) i ++ full_from rules shelf seen user waivers (place + 1) book i)
-    ∙ sym (flat_map-append (told_in (names_of rules)) (marker_seen shelf seen user m (waiver_at waivers place)) (markers_seen shelf seen user waivers (place + 1) book))
+    (λ i. full_by rules shelf seen user m (waiver_at waivers place) i
+    ++ full_from rules shelf seen user waivers (place + 1) book i)
+    ∙ sym (flat_map-append (told_in (names_of rules))
+    (marker_seen shelf seen user m (waiver_at waivers place))
+    (markers_seen shelf seen user waivers (place + 1) book))
 
 abbrev rule_told : RuleSeen → List Listed
 rule_told seen = masked_line seen.name seen.masked
 
-masked_from : (seen : List Bool) (book : List Marker) (place : ℕ) (rules : List Rule) → masked_lines seen book place rules ≡ flat_map rule_told (rules_seen seen book place rules)
+masked_from : (seen : List Bool) (book : List Marker) (place : ℕ) (rules : List Rule)
+    → masked_lines seen book place rules ≡ flat_map rule_told (rules_seen seen book place rules)
 unfolding masked_lines masked_number rules_seen
 masked_from seen book place [] = refl
-masked_from seen book place (rule ∷ rules) = ap (λ l. masked_line rule.name (masked_number seen book place) ++ l) (masked_from seen book (place + 1) rules)
+masked_from seen book place (rule ∷ rules) =
+    ap (λ l. masked_line rule.name (masked_number seen book place) ++ l)
+    (masked_from seen book (place + 1) rules)
 
-pub names_from : (seen : List Bool) (book : List Marker) (place : ℕ) (rules : List Rule) → names_of rules ≡ map (λ (rule : RuleSeen). rule.name) (rules_seen seen book place rules)
+pub names_from : (seen : List Bool) (book : List Marker) (place : ℕ) (rules : List Rule)
+    → names_of rules ≡ map (λ (rule : RuleSeen). rule.name) (rules_seen seen book place rules)
 unfolding rules_seen
 names_from seen book place [] = refl
-names_from seen book place (rule ∷ rules) = ap (λ l. rule.name ∷ l) (names_from seen book (place + 1) rules)
+names_from seen book place (rule ∷ rules) =
+    ap (λ l. rule.name ∷ l) (names_from seen book (place + 1) rules)
 
 -- the names of the rules
 abbrev pub names_in : BookSeen → List Name
@@ -123,14 +145,17 @@ names_in book = map (λ (rule : RuleSeen). rule.name) book.rules
 abbrev book_told : BookSeen → List Listed
 book_told book = flat_map (told_in (names_in book)) book.markers ++ flat_map rule_told book.rules
 
-checked_by : (policy : Policy) (conn : ℕ) (waivers : List (Option Waiver)) (f : Checked) → checking.checked_lines policy conn f ≡ book_told (checked_view policy conn waivers f)
+checked_by : (policy : Policy) (conn : ℕ) (waivers : List (Option Waiver)) (f : Checked)
+    → checking.checked_lines policy conn f ≡ book_told (checked_view policy conn waivers f)
 checked_by policy conn waivers f =
     let rules = f.planned.snapshot.deck.rules in
     let shelf = f.planned.snapshot.shelf in
     let seen = seen_by policy conn shelf in
     let markers = markers_seen shelf seen (user_of policy conn) waivers 0 f.book in
-    (λ i. full_from rules shelf seen (user_of policy conn) waivers 0 f.book i ++ masked_from seen f.book 0 rules i)
-    ∙ ap (λ names. flat_map (told_in names) markers ++ flat_map rule_told (rules_seen seen f.book 0 rules)) (names_from seen f.book 0 rules)
+    (λ i. full_from rules shelf seen (user_of policy conn) waivers 0 f.book i
+    ++ masked_from seen f.book 0 rules i)
+    ∙ ap (λ names. flat_map (told_in names) markers
+    ++ flat_map rule_told (rules_seen seen f.book 0 rules)) (names_from seen f.book 0 rules)
 
 -- the rows behind their first test
 abbrev book_row : Option BookSeen → Result (List Listed) Ending
@@ -138,18 +163,23 @@ book_row None = Err (ending.Refused code.NotFinished)
 book_row (Some book) = Ok (book_told book)
 
 markers_by : (policy : Policy) (conn : ℕ) (waivers : List (Option Waiver)) (phase : Phase)
-    → (checking.finished phase >>= (λ f. Ok (checking.checked_lines policy conn f))) ≡ book_row (book_view policy conn waivers phase)
+    → (checking.finished phase >>= (λ f. Ok (checking.checked_lines policy conn f)))
+    ≡ book_row (book_view policy conn waivers phase)
 markers_by policy conn waivers Idle = refl
 markers_by policy conn waivers (Cutting planned) = refl
 markers_by policy conn waivers (Checking c) = refl
 markers_by policy conn waivers (Finished f) = ap (λ l. Ok l) (checked_by policy conn waivers f)
 
-pub markers_alike : (conn : ℕ) (a b : State) → SameView conn a b → checking.markers a.policy a.run conn ≡ checking.markers b.policy b.run conn
+pub markers_alike : (conn : ℕ) (a b : State) → SameView conn a b
+    → checking.markers a.policy a.run conn ≡ checking.markers b.policy b.run conn
 unfolding checking.markers
 markers_alike conn a b same =
-    same_behind (inside (is_some (session_of a.policy conn))) (inside (is_some (session_of b.policy conn)))
-    (λ entered. checking.finished a.run.phase >>= (λ f. Ok (checking.checked_lines a.policy conn f)))
-    (λ entered. checking.finished b.run.phase >>= (λ f. Ok (checking.checked_lines b.policy conn f)))
+    same_behind (inside (is_some (session_of a.policy conn)))
+    (inside (is_some (session_of b.policy conn)))
+    (λ entered. checking.finished a.run.phase
+    >>= (λ f. Ok (checking.checked_lines a.policy conn f)))
+    (λ entered. checking.finished b.run.phase
+    >>= (λ f. Ok (checking.checked_lines b.policy conn f)))
     (same_inside conn a b same)
     (λ entered is.
     markers_by a.policy conn a.waivers a.run.phase
@@ -159,7 +189,15 @@ markers_alike conn a b same =
 -- ---- waivers
 
 abbrev named_by : Name → Key → MarkerName
-named_by rule key = record { rule = rule; axis = key.axis; side = key.side; x1 = key.x1; x2 = key.x2; y0 = key.y0; y1 = key.y1 }
+named_by rule key = record {
+  rule = rule;
+  axis = key.axis;
+  side = key.side;
+  x1 = key.x1;
+  x2 = key.x2;
+  y0 = key.y0;
+  y1 = key.y1;
+}
 
 abbrev waiver_of : Key → Waiver → Option Name → List Line
 waiver_of key waiver None = []
@@ -172,30 +210,43 @@ waiver_by key (Some waiver) rule = waiver_of key waiver rule
 abbrev waiver_in : List Name → MarkerSeen → List Line
 waiver_in names seen = waiver_by seen.key seen.waiver (slice_get names seen.key.rule)
 
-rule_by : (m : Marker) (waiver : Waiver) (o : Option Rule) → rule_line m waiver o ≡ waiver_of (key_of m) waiver (option_map (λ (rule : Rule). rule.name) o)
+rule_by : (m : Marker) (waiver : Waiver) (o : Option Rule)
+    → rule_line m waiver o ≡ waiver_of (key_of m) waiver (option_map (λ (rule : Rule). rule.name) o)
 rule_by m waiver None = refl
 rule_by m waiver (Some rule) = refl
 
-marker_by : (rules : List Rule) (m : Marker) (o : Option Waiver) → marker_line rules m o ≡ waiver_by (key_of m) o (slice_get (names_of rules) m.rule)
+marker_by : (rules : List Rule) (m : Marker) (o : Option Waiver)
+    → marker_line rules m o ≡ waiver_by (key_of m) o (slice_get (names_of rules) m.rule)
 marker_by rules m None = refl
 marker_by rules m (Some waiver) =
-    rule_by m waiver (slice_get rules m.rule) ∙ ap (waiver_of (key_of m) waiver) (sym (slice_get-map (λ (rule : Rule). rule.name) rules m.rule))
+    rule_by m waiver (slice_get rules m.rule)
+    ∙ ap (waiver_of (key_of m) waiver)
+    (sym (slice_get-map (λ (rule : Rule). rule.name) rules m.rule))
 
-shown_by : (rules : List Rule) (shelf : List Submission) (seen : List Bool) (user : Name) (m : Marker) (o : Option Waiver)
-    → shown_line rules seen m o ≡ flat_map (waiver_in (names_of rules)) (marker_seen shelf seen user m o)
+shown_by : (rules : List Rule) (shelf : List Submission) (seen : List Bool) (user : Name)
+    (m : Marker) (o : Option Waiver)
+    → shown_line rules seen m o ≡ flat_map (waiver_in (names_of rules))
+    (marker_seen shelf seen user m o)
 shown_by rules shelf seen user m o =
-    elim (is_full seen m) as (λ b. cond b (marker_line rules m o) [] ≡ flat_map (waiver_in (names_of rules)) (cond b (marker_of shelf user m o ∷ []) [])) [
-      | true ↦ marker_by rules m o ∙ nil_right (waiver_by (key_of m) o (slice_get (names_of rules) m.rule))
+    elim (is_full seen m) as (λ b. cond b (marker_line rules m o) []
+    ≡ flat_map (waiver_in (names_of rules)) (cond b (marker_of shelf user m o ∷ []) [])) [
+      | true ↦ marker_by rules m o ∙ nil_right
+          (waiver_by (key_of m) o (slice_get (names_of rules) m.rule))
       | false ↦ refl
     ]
 
-waivers_from : (rules : List Rule) (shelf : List Submission) (seen : List Bool) (user : Name) (waivers : List (Option Waiver)) (place : ℕ) (book : List Marker)
-    → lines_from rules seen waivers place book ≡ flat_map (waiver_in (names_of rules)) (markers_seen shelf seen user waivers place book)
+waivers_from : (rules : List Rule) (shelf : List Submission) (seen : List Bool) (user : Name)
+    (waivers : List (Option Waiver)) (place : ℕ) (book : List Marker)
+    → lines_from rules seen waivers place book ≡ flat_map (waiver_in (names_of rules))
+    (markers_seen shelf seen user waivers place book)
 unfolding lines_from markers_seen
 waivers_from rules shelf seen user waivers place [] = refl
 waivers_from rules shelf seen user waivers place (m ∷ book) =
-    (λ i. shown_by rules shelf seen user m (waiver_at waivers place) i ++ waivers_from rules shelf seen user waivers (place + 1) book i)
-    ∙ sym (flat_map-append (waiver_in (names_of rules)) (marker_seen shelf seen user m (waiver_at waivers place)) (markers_seen shelf seen user waivers (place + 1) book))
+    (λ i. shown_by rules shelf seen user m (waiver_at waivers place) i
+    ++ waivers_from rules shelf seen user waivers (place + 1) book i)
+    ∙ sym (flat_map-append (waiver_in (names_of rules))
+    (marker_seen shelf seen user m (waiver_at waivers place))
+    (markers_seen shelf seen user waivers (place + 1) book))
 
 abbrev waivers_of : BookSeen → List Line
 waivers_of book = flat_map (waiver_in (names_in book)) book.markers
@@ -205,7 +256,9 @@ waivers_row None = Err (ending.Refused code.NotFinished)
 waivers_row (Some book) = Ok (map stored (waivers_of book))
 
 waivers_by : (policy : Policy) (conn : ℕ) (waivers : List (Option Waiver)) (phase : Phase)
-    → (signing.finished phase >>= (λ f. Ok (map stored (signing.waiver_lines policy conn f waivers)))) ≡ waivers_row (book_view policy conn waivers phase)
+    → (signing.finished phase >>= (λ f. Ok
+    (map stored (signing.waiver_lines policy conn f waivers)))) ≡ waivers_row
+    (book_view policy conn waivers phase)
 waivers_by policy conn waivers Idle = refl
 waivers_by policy conn waivers (Cutting planned) = refl
 waivers_by policy conn waivers (Checking c) = refl
@@ -215,16 +268,24 @@ waivers_by policy conn waivers (Finished f) =
     let seen = seen_by policy conn shelf in
     ap (λ l. Ok (map stored l))
     (waivers_from rules shelf seen (user_of policy conn) waivers 0 f.book
-    ∙ ap (λ names. flat_map (waiver_in names) (markers_seen shelf seen (user_of policy conn) waivers 0 f.book)) (names_from seen f.book 0 rules))
+    ∙ ap (λ names. flat_map (waiver_in names)
+    (markers_seen shelf seen (user_of policy conn) waivers 0 f.book))
+    (names_from seen f.book 0 rules))
 
-pub waivers_alike : (conn : ℕ) (a b : State) → SameView conn a b → signing.waivers_told a.policy a.run a.waivers conn ≡ signing.waivers_told b.policy b.run b.waivers conn
-unfolding signing.waivers_told
+pub waivers_alike : (conn : ℕ) (a b : State) → SameView conn a b
+    → signing.waivers_row a.policy a.run a.waivers conn ≡ signing.waivers_row b.policy b.run
+    b.waivers conn
+unfolding signing.waivers_row
 waivers_alike conn a b same =
-    same_behind (inside (is_some (session_of a.policy conn))) (inside (is_some (session_of b.policy conn)))
-    (λ entered. signing.finished a.run.phase >>= (λ f. Ok (map stored (signing.waiver_lines a.policy conn f a.waivers))))
-    (λ entered. signing.finished b.run.phase >>= (λ f. Ok (map stored (signing.waiver_lines b.policy conn f b.waivers))))
+    same_behind (inside (is_some (session_of a.policy conn)))
+    (inside (is_some (session_of b.policy conn)))
+    (λ entered. signing.finished a.run.phase
+    >>= (λ f. Ok (map stored (signing.waiver_lines a.policy conn f a.waivers))))
+    (λ entered. signing.finished b.run.phase
+    >>= (λ f. Ok (map stored (signing.waiver_lines b.policy conn f b.waivers))))
     (same_inside conn a b same)
     (λ entered is.
     waivers_by a.policy conn a.waivers a.run.phase
-    ∙ ap waivers_row ((same.sight (inside_tells (is_some (session_of a.policy conn)) entered is)).book)
+    ∙ ap waivers_row ((same.sight (inside_tells (is_some (session_of a.policy conn)) entered
+    is)).book)
     ∙ sym (waivers_by b.policy conn b.waivers b.run.phase))

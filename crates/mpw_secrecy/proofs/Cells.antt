@@ -36,77 +36,105 @@ both_false true b e = absurd (true≢false e)
 -- ---- cells
 
 -- a cell that no submission is of has no present one
-present_none : (number : ℕ) (shelf : List Submission) (cell : Name) → contains_name (map (λ s. s.cell) shelf) cell ≡ false → present_from number shelf cell ≡ None
+present_none : (number : ℕ) (shelf : List Submission) (cell : Name)
+    → contains_name (map (λ s. s.cell) shelf) cell ≡ false → present_from number shelf cell ≡ None
 present_none number [] cell none = refl
 present_none number (s ∷ shelf) cell none =
-    let apart = both_false (name_eq cell s.cell) (contains_name (map (λ s. s.cell) shelf) cell) none in
-    λ i. later (present_none (number + 1) shelf cell apart.1 i) (cond (apart_both cell s.cell apart.0 i) (Some number) None)
+    let apart =
+    both_false (name_eq cell s.cell) (contains_name (map (λ s. s.cell) shelf) cell) none in
+    λ i. later (present_none (number + 1) shelf cell apart.1 i)
+    (cond (apart_both cell s.cell apart.0 i) (Some number) None)
 
-not_present : (shelf : List Submission) (cell : Name) → contains_name (map (λ s. s.cell) shelf) cell ≡ false → present shelf cell ≡ None
+not_present : (shelf : List Submission) (cell : Name)
+    → contains_name (map (λ s. s.cell) shelf) cell ≡ false → present shelf cell ≡ None
 unfolding present
 not_present shelf cell none = present_none 0 shelf cell none
 
-nothing_told : (policy : Policy) (shelf : List Submission) (conn : ℕ) (cell : Name) → contains_name (map (λ s. s.cell) shelf) cell ≡ false
+nothing_told : (policy : Policy) (shelf : List Submission) (conn : ℕ) (cell : Name)
+    → contains_name (map (λ s. s.cell) shelf) cell ≡ false
     → readable_line policy shelf conn cell ≡ []
 nothing_told policy shelf conn cell none =
-    ap (λ o. cond (permits policy conn Read (object.Cell cell)) (cell_line (numbered_at shelf o)) []) (not_present shelf cell none)
-    ∙ (elim (permits policy conn Read (object.Cell cell)) as (λ b. cond b (let l : List Line = [] in l) [] ≡ []) [ true ↦ refl | false ↦ refl ])
+    ap (λ o. cond (permits policy conn Read (object.Cell cell)) (cell_line (numbered_at shelf o))
+    []) (not_present shelf cell none)
+    ∙ (elim (permits policy conn Read (object.Cell cell)) as
+    (λ b. cond b (let l : List Line = [] in l) [] ≡ []) [ true ↦ refl | false ↦ refl ])
 
 -- the line of a cell by what is seen of it
 abbrev seen_line : Name → Option CellSeen → List Line
 seen_line cell None = []
 seen_line cell (Some seen) = line.Cell cell seen.version seen.submitter ∷ []
 
-line_at : (policy : Policy) (conn : ℕ) (shelf : List Submission) (cell : Name) (number : ℕ) (o : Option Submission) → ((s : Submission) → o ≡ Some s → s.cell ≡ cell)
+line_at : (policy : Policy) (conn : ℕ) (shelf : List Submission) (cell : Name) (number : ℕ)
+    (o : Option Submission) → ((s : Submission) → o ≡ Some s → s.cell ≡ cell)
     → cell_line o ≡ seen_line cell (seen_at policy conn shelf number o)
 line_at policy conn shelf cell number None own = refl
-line_at policy conn shelf cell number (Some s) own = ap (λ name. line.Cell name s.version s.submitter ∷ []) (own s refl)
+line_at policy conn shelf cell number (Some s) own =
+    ap (λ name. line.Cell name s.version s.submitter ∷ []) (own s refl)
 
 module _ (presents : PresentAreOfTheirCell) where
-  line_of : (policy : Policy) (conn : ℕ) (shelf : List Submission) (cell : Name) → cell_line (present_submission shelf cell) ≡ seen_line cell (cell_view policy conn shelf cell)
+  line_of : (policy : Policy) (conn : ℕ) (shelf : List Submission) (cell : Name)
+      → cell_line (present_submission shelf cell) ≡ seen_line cell
+      (cell_view policy conn shelf cell)
   unfolding cell_view
   line_of policy conn shelf cell = go (present shelf cell) refl
     where
-      go : (o : Option ℕ) → present shelf cell ≡ o → cell_line (numbered_at shelf o) ≡ seen_line cell (cell_at policy conn shelf o)
+      go : (o : Option ℕ) → present shelf cell ≡ o
+          → cell_line (numbered_at shelf o) ≡ seen_line cell (cell_at policy conn shelf o)
       go None is = refl
       go (Some number) is =
           let p = presents shelf cell number is in
           line_at policy conn shelf cell number (slice_get shelf number)
-          (λ s e. subst (λ (q : Submission). q.cell ≡ cell) (same_Some p.submission s (sym p.is ∙ e)) p.same)
+          (λ s e. subst (λ (q : Submission). q.cell ≡ cell)
+          (same_Some p.submission s (sym p.is ∙ e)) p.same)
 
-  line_alike : (conn : ℕ) (a b : State) → SameView conn a b → is_some (session_of a.policy conn) ≡ true → (cell : Name)
+  line_alike : (conn : ℕ) (a b : State) → SameView conn a b
+      → is_some (session_of a.policy conn) ≡ true → (cell : Name)
       → readable_line a.policy a.shelf conn cell ≡ readable_line b.policy b.shelf conn cell
   line_alike conn a b same is cell =
       let told = cell_line (present_submission b.shelf cell) in
-      cond_alike (permits a.policy conn Read (object.Cell cell)) (cell_line (present_submission a.shelf cell)) told []
-      (λ may. line_of a.policy conn a.shelf cell ∙ ap (seen_line cell) ((same.sight is).cells cell may) ∙ sym (line_of b.policy conn b.shelf cell))
+      cond_alike (permits a.policy conn Read (object.Cell cell))
+      (cell_line (present_submission a.shelf cell)) told []
+      (λ may. line_of a.policy conn a.shelf cell
+      ∙ ap (seen_line cell) ((same.sight is).cells cell may)
+      ∙ sym (line_of b.policy conn b.shelf cell))
       ∙ ap (λ t. cond t told []) (same_grants conn a b same Read (object.Cell cell))
 
-  pub cells_alike : (conn : ℕ) (a b : State) → SameView conn a b → cells a.policy a.shelf conn ≡ cells b.policy b.shelf conn
+  pub cells_alike : (conn : ℕ) (a b : State) → SameView conn a b
+      → cells a.policy a.shelf conn ≡ cells b.policy b.shelf conn
   cells_alike conn a b same =
-      let lines_b : List Listed = map stored (flat_map (readable_line b.policy b.shelf conn) (cells_of b.shelf)) in
+      let lines_b : List Listed = map stored
+      (flat_map (readable_line b.policy b.shelf conn) (cells_of b.shelf)) in
       one_alike (is_some (session_of a.policy conn)) (ending.Denied denial.Session) _ lines_b
-      (λ is. ap (map stored) (told_alike (readable_line a.policy a.shelf conn) (readable_line b.policy b.shelf conn) (map (λ s. s.cell) a.shelf) (map (λ s. s.cell) b.shelf)
-      (line_alike conn a b same is) (nothing_told a.policy a.shelf conn) (nothing_told b.policy b.shelf conn)))
-      ∙ ap (λ s. decided ((s, ending.Denied denial.Session) ∷ []) lines_b) (same_session conn a b same)
+      (λ is. ap (map stored) (told_alike (readable_line a.policy a.shelf conn)
+      (readable_line b.policy b.shelf conn) (map (λ s. s.cell) a.shelf)
+      (map (λ s. s.cell) b.shelf)
+      (line_alike conn a b same is) (nothing_told a.policy a.shelf conn)
+      (nothing_told b.policy b.shelf conn)))
+      ∙ ap (λ s. decided ((s, ending.Denied denial.Session) ∷ []) lines_b)
+      (same_session conn a b same)
 
   -- ---- shapes
 
   abbrev shape_told : ShapeSeen → Listed
   shape_told s = shape s.cell s.version s.placing s.element
 
-  shape_at : (policy : Policy) (conn : ℕ) (item : Item) (o : Option Submission) → line_if (may_read policy conn) o item ≡ map shape_told (shape_seen policy conn item o)
+  shape_at : (policy : Policy) (conn : ℕ) (item : Item) (o : Option Submission)
+      → line_if (may_read policy conn) o item ≡ map shape_told (shape_seen policy conn item o)
   shape_at policy conn item None = refl
   shape_at policy conn item (Some s) =
-      elim (may_read policy conn s) as (λ b. cond b (shape_line s item ∷ []) [] ≡ map shape_told (cond b (shape_of s item ∷ []) [])) [ true ↦ refl | false ↦ refl ]
+      elim (may_read policy conn s) as (λ b. cond b (shape_line s item ∷ []) [] ≡ map shape_told
+      (cond b (shape_of s item ∷ []) [])) [ true ↦ refl | false ↦ refl ]
 
   shapes_at : (policy : Policy) (conn : ℕ) (shelf : List Submission) (items : List Item)
-      → flat_map (readable_shape policy shelf conn) items ≡ map shape_told (flat_map (λ item. shape_seen policy conn item (slice_get shelf item.origin)) items)
+      → flat_map (readable_shape policy shelf conn) items ≡ map shape_told
+      (flat_map (λ item. shape_seen policy conn item (slice_get shelf item.origin)) items)
   shapes_at policy conn shelf [] = refl
   shapes_at policy conn shelf (item ∷ items) =
       let seen = shape_seen policy conn item (slice_get shelf item.origin) in
-      let rest = flat_map (λ (i : Item). shape_seen policy conn i (slice_get shelf i.origin)) items in
-      (λ i. shape_at policy conn item (slice_get shelf item.origin) i ++ shapes_at policy conn shelf items i) ∙ sym (map-append shape_told seen rest)
+      let rest =
+      flat_map (λ (i : Item). shape_seen policy conn i (slice_get shelf i.origin)) items in
+      (λ i. shape_at policy conn item (slice_get shelf item.origin) i
+      ++ shapes_at policy conn shelf items i) ∙ sym (map-append shape_told seen rest)
 
   -- the shapes of a cell by what is seen of it
   abbrev shapes_told : Option CellSeen → Result (List Listed) Ending
@@ -114,27 +142,38 @@ module _ (presents : PresentAreOfTheirCell) where
   shapes_told (Some seen) = Ok (map shape_told seen.shapes)
 
   abbrev rest_of : Policy → ℕ → List Submission → Option ℕ → Result (List Listed) Ending
-  rest_of policy conn shelf o = shown o >>= (λ number. Ok (flat_map (readable_shape policy shelf conn) (flat shelf number)))
+  rest_of policy conn shelf o = shown o
+      >>= (λ number. Ok (flat_map (readable_shape policy shelf conn) (flat shelf number)))
 
-  shapes_by : (policy : Policy) (conn : ℕ) (shelf : List Submission) (cell : Name) → rest_of policy conn shelf (present shelf cell) ≡ shapes_told (cell_view policy conn shelf cell)
+  shapes_by : (policy : Policy) (conn : ℕ) (shelf : List Submission) (cell : Name)
+      → rest_of policy conn shelf (present shelf cell) ≡ shapes_told
+      (cell_view policy conn shelf cell)
   unfolding cell_view
   shapes_by policy conn shelf cell = go (present shelf cell) refl
     where
       there : (number : ℕ) (o : Option Submission) (s : Submission) → o ≡ Some s
-          → rest_of policy conn shelf (Some number) ≡ shapes_told (seen_at policy conn shelf number o)
+          → rest_of policy conn shelf (Some number) ≡ shapes_told
+          (seen_at policy conn shelf number o)
       there number None s e = absurd (none-some s e)
       there number (Some q) s e = ap (λ l. Ok l) (shapes_at policy conn shelf (flat shelf number))
 
-      go : (o : Option ℕ) → present shelf cell ≡ o → rest_of policy conn shelf o ≡ shapes_told (cell_at policy conn shelf o)
+      go : (o : Option ℕ) → present shelf cell ≡ o
+          → rest_of policy conn shelf o ≡ shapes_told (cell_at policy conn shelf o)
       go None is = refl
-      go (Some number) is = let p = presents shelf cell number is in there number (slice_get shelf number) p.submission p.is
+      go (Some number) is = let p = presents shelf cell number is in
+          there number (slice_get shelf number) p.submission p.is
 
-  pub shapes_alike : (conn : ℕ) (a b : State) → SameView conn a b → (cell : Name) → shapes a.policy a.shelf conn cell ≡ shapes b.policy b.shelf conn cell
+  pub shapes_alike : (conn : ℕ) (a b : State) → SameView conn a b → (cell : Name)
+      → shapes a.policy a.shelf conn cell ≡ shapes b.policy b.shelf conn cell
   unfolding shapes
   shapes_alike conn a b same cell =
-      same_behind (permitted a.policy conn Read (object.Cell cell)) (permitted b.policy conn Read (object.Cell cell))
-      (λ entered. rest_of a.policy conn a.shelf (present a.shelf cell)) (λ entered. rest_of b.policy conn b.shelf (present b.shelf cell))
+      same_behind (permitted a.policy conn Read (object.Cell cell))
+      (permitted b.policy conn Read (object.Cell cell))
+      (λ entered. rest_of a.policy conn a.shelf (present a.shelf cell))
+      (λ entered. rest_of b.policy conn b.shelf (present b.shelf cell))
       (same_permitted conn a b same Read (object.Cell cell))
       (λ entered is.
-      let may = allowed_tells Read (object.Cell cell) (is_some (session_of a.policy conn)) (permits a.policy conn Read (object.Cell cell)) entered is in
-      shapes_by a.policy conn a.shelf cell ∙ ap shapes_told ((same.sight may.0).cells cell may.1) ∙ sym (shapes_by b.policy conn b.shelf cell))
+      let may = allowed_tells Read (object.Cell cell) (is_some (session_of a.policy conn))
+      (permits a.policy conn Read (object.Cell cell)) entered is in
+      shapes_by a.policy conn a.shelf cell ∙ ap shapes_told ((same.sight may.0).cells cell may.1)
+      ∙ sym (shapes_by b.policy conn b.shelf cell))

@@ -6,6 +6,7 @@ pub mod Names
 pub mod Parts
 pub mod Places
 pub mod Signers
+pub mod SeenTests
 pub mod Signing
 pub mod Started
 pub mod Waived

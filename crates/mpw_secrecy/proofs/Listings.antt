@@ -41,22 +41,26 @@ pub record SameOutcome (conn : ℕ) (a b : Outcome) : Type 0 where
 
 -- a view has nothing of the trail, nor of whether the desk is closed
 pub besides : (conn : ℕ) (a b : State) (first second : List Entry) (c d : Bool) → SameView conn a b
-    → SameView conn (record a { trail = first; closed = c }) (record b { trail = second; closed = d })
+    → SameView conn (record a { trail = first; closed = c })
+    (record b { trail = second; closed = d })
 besides conn a b first second c d same = record {
   identity = same.identity;
-  sight = λ is. let s = same.sight is in record { grants = s.grants; cells = s.cells; run = s.run; book = s.book };
+  sight = λ is. let s = same.sight is in
+      record { grants = s.grants; cells = s.cells; run = s.run; book = s.book };
 }
 
 -- an outcome that leaves the state
 abbrev pub Leaves : State → Outcome → Type 0
 Leaves state o = (o.state ≡ state) × (o.changes ≡ false)
 
-pub of_listing : (conn : ℕ) (a b : State) (first second : Outcome) → SameView conn a b → first.response ≡ second.response
+pub of_listing : (conn : ℕ) (a b : State) (first second : Outcome) → SameView conn a b
+    → first.response ≡ second.response
     → Leaves a first → Leaves b second → SameOutcome conn first second
 of_listing conn a b first second same told leaves_a leaves_b = record {
   told = told;
   changes = leaves_a.1 ∙ sym leaves_b.1;
-  view = subst (λ s. SameView conn s second.state) (sym leaves_a.0) (subst (SameView conn a) (sym leaves_b.0) same);
+  view = subst (λ s. SameView conn s second.state) (sym leaves_a.0)
+      (subst (SameView conn a) (sym leaves_b.0) same);
 }
 
 -- ---- rows that list
@@ -65,47 +69,65 @@ abbrev reply_by : Result (List Listed) Ending → Reply
 reply_by (Ok lines) = reply.Ok lines
 reply_by (Err why) = ended_by why
 
-shelf_reply : (s : State) (row : Result (List Listed) Ending) → (over_shelf s (layouts.listed s.shelf row)).response ≡ response.Told (reply_by row)
+shelf_reply : (s : State) (row : Result (List Listed) Ending)
+    → (over_shelf s (layouts.listed s.shelf row)).response ≡ response.Told (reply_by row)
 shelf_reply s (Ok lines) = refl
 shelf_reply s (Err why) = refl
 
-shelf_left : (s : State) (row : Result (List Listed) Ending) → Leaves s (over_shelf s (layouts.listed s.shelf row))
+shelf_left : (s : State) (row : Result (List Listed) Ending)
+    → Leaves s (over_shelf s (layouts.listed s.shelf row))
 shelf_left s (Ok lines) = (refl, refl)
 shelf_left s (Err why) = (refl, refl)
 
-of_shelf : (conn : ℕ) (a b : State) (first second : Result (List Listed) Ending) → SameView conn a b → first ≡ second
-    → SameOutcome conn (over_shelf a (layouts.listed a.shelf first)) (over_shelf b (layouts.listed b.shelf second))
+of_shelf : (conn : ℕ) (a b : State) (first second : Result (List Listed) Ending) → SameView conn a b
+    → first ≡ second
+    → SameOutcome conn (over_shelf a (layouts.listed a.shelf first))
+    (over_shelf b (layouts.listed b.shelf second))
 of_shelf conn a b first second same e =
-    of_listing conn a b (over_shelf a (layouts.listed a.shelf first)) (over_shelf b (layouts.listed b.shelf second)) same
-    (shelf_reply a first ∙ ap (λ row. response.Told (reply_by row)) e ∙ sym (shelf_reply b second)) (shelf_left a first) (shelf_left b second)
+    of_listing conn a b (over_shelf a (layouts.listed a.shelf first))
+    (over_shelf b (layouts.listed b.shelf second)) same
+    (shelf_reply a first ∙ ap (λ row. response.Told (reply_by row)) e ∙ sym (shelf_reply b second))
+    (shelf_left a first) (shelf_left b second)
 
-run_reply : (s : State) (row : Result (List Listed) Ending) → (over_run s (checking.listed s.run row)).response ≡ response.Told (reply_by row)
+run_reply : (s : State) (row : Result (List Listed) Ending)
+    → (over_run s (checking.listed s.run row)).response ≡ response.Told (reply_by row)
 run_reply s (Ok lines) = refl
 run_reply s (Err why) = refl
 
-pub run_left : (s : State) (row : Result (List Listed) Ending) → Leaves s (over_run s (checking.listed s.run row))
+pub run_left : (s : State) (row : Result (List Listed) Ending)
+    → Leaves s (over_run s (checking.listed s.run row))
 run_left s (Ok lines) = (refl, refl)
 run_left s (Err why) = (refl, refl)
 
-of_run : (conn : ℕ) (a b : State) (first second : Result (List Listed) Ending) → SameView conn a b → first ≡ second
-    → SameOutcome conn (over_run a (checking.listed a.run first)) (over_run b (checking.listed b.run second))
+of_run : (conn : ℕ) (a b : State) (first second : Result (List Listed) Ending) → SameView conn a b
+    → first ≡ second
+    → SameOutcome conn (over_run a (checking.listed a.run first))
+    (over_run b (checking.listed b.run second))
 of_run conn a b first second same e =
-    of_listing conn a b (over_run a (checking.listed a.run first)) (over_run b (checking.listed b.run second)) same
-    (run_reply a first ∙ ap (λ row. response.Told (reply_by row)) e ∙ sym (run_reply b second)) (run_left a first) (run_left b second)
+    of_listing conn a b (over_run a (checking.listed a.run first))
+    (over_run b (checking.listed b.run second)) same
+    (run_reply a first ∙ ap (λ row. response.Told (reply_by row)) e ∙ sym (run_reply b second))
+    (run_left a first) (run_left b second)
 
-waivers_reply : (s : State) (row : Result (List Listed) Ending) → (over_waivers s (signing.listed s.waivers row)).response ≡ response.Told (reply_by row)
+waivers_reply : (s : State) (row : Result (List Listed) Ending)
+    → (over_waivers s (signing.listed s.waivers row)).response ≡ response.Told (reply_by row)
 waivers_reply s (Ok lines) = refl
 waivers_reply s (Err why) = refl
 
-waivers_left : (s : State) (row : Result (List Listed) Ending) → Leaves s (over_waivers s (signing.listed s.waivers row))
+waivers_left : (s : State) (row : Result (List Listed) Ending)
+    → Leaves s (over_waivers s (signing.listed s.waivers row))
 waivers_left s (Ok lines) = (refl, refl)
 waivers_left s (Err why) = (refl, refl)
 
-of_waivers : (conn : ℕ) (a b : State) (first second : Result (List Listed) Ending) → SameView conn a b → first ≡ second
-    → SameOutcome conn (over_waivers a (signing.listed a.waivers first)) (over_waivers b (signing.listed b.waivers second))
+of_waivers : (conn : ℕ) (a b : State) (first second : Result (List Listed) Ending)
+    → SameView conn a b → first ≡ second
+    → SameOutcome conn (over_waivers a (signing.listed a.waivers first))
+    (over_waivers b (signing.listed b.waivers second))
 of_waivers conn a b first second same e =
-    of_listing conn a b (over_waivers a (signing.listed a.waivers first)) (over_waivers b (signing.listed b.waivers second)) same
-    (waivers_reply a first ∙ ap (λ row. response.Told (reply_by row)) e ∙ sym (waivers_reply b second)) (waivers_left a first) (waivers_left b second)
+    of_listing conn a b (over_waivers a (signing.listed a.waivers first))
+    (over_waivers b (signing.listed b.waivers second)) same
+    (waivers_reply a first ∙ ap (λ row. response.Told (reply_by row)) e
+    ∙ sym (waivers_reply b second)) (waivers_left a first) (waivers_left b second)
 
 -- ---- whoami
 
@@ -115,7 +137,10 @@ whoami_told (Some who) = Ok who
 
 whoami_at : (policy : Policy) (o : Option Session)
     → decided ((is_some o, refusal.NoSession) ∷ [])
-    (identity_of policy (record { user = option_map_or (λ (s : Session). s.user) o []; active = option_map_or (λ (s : Session). s.active) o [] }))
+    (identity_of policy (record {
+      user = option_map_or (λ (s : Session). s.user) o [];
+      active = option_map_or (λ (s : Session). s.active) o [];
+    }))
     ≡ whoami_told (option_map (identity_of policy) o)
 whoami_at policy None = refl
 whoami_at policy (Some s) = refl
@@ -124,85 +149,114 @@ pub asked_left : (s : State) (row : Result Identity Refusal) → Leaves s (asked
 asked_left s (Ok who) = (refl, refl)
 asked_left s (Err why) = (refl, refl)
 
-asked_alike : (a b : State) (row : Result Identity Refusal) → (asked a identity_lines row).response ≡ (asked b identity_lines row).response
+asked_alike : (a b : State) (row : Result Identity Refusal)
+    → (asked a identity_lines row).response ≡ (asked b identity_lines row).response
 asked_alike a b (Ok who) = refl
 asked_alike a b (Err why) = refl
 
 of_whoami : (conn : ℕ) (a b : State) → SameView conn a b
-    → SameOutcome conn (asked a identity_lines (whoami a.policy conn)) (asked b identity_lines (whoami b.policy conn))
+    → SameOutcome conn (asked a identity_lines (whoami a.policy conn))
+    (asked b identity_lines (whoami b.policy conn))
 of_whoami conn a b same =
     let e : whoami a.policy conn ≡ whoami b.policy conn =
-    whoami_at a.policy (session_of a.policy conn) ∙ ap whoami_told same.identity ∙ sym (whoami_at b.policy (session_of b.policy conn)) in
-    of_listing conn a b (asked a identity_lines (whoami a.policy conn)) (asked b identity_lines (whoami b.policy conn)) same
+    whoami_at a.policy (session_of a.policy conn) ∙ ap whoami_told same.identity
+    ∙ sym (whoami_at b.policy (session_of b.policy conn)) in
+    of_listing conn a b (asked a identity_lines (whoami a.policy conn))
+    (asked b identity_lines (whoami b.policy conn)) same
     (asked_alike a b (whoami a.policy conn) ∙ ap (λ row. (asked b identity_lines row).response) e)
     (asked_left a (whoami a.policy conn)) (asked_left b (whoami b.policy conn))
 
 -- ---- each listing
 
-pub listing : PresentAreOfTheirCell → (conn : ℕ) (a b : State) (request : Request) → SameView conn a b → is_listing request ≡ true
+pub listing : PresentAreOfTheirCell → (conn : ℕ) (a b : State) (request : Request)
+    → SameView conn a b → is_listing request ≡ true
     → SameOutcome conn (outcome_of a conn request) (outcome_of b conn request)
 listing presents conn a b (ask.Policy request) same is = absurd cc
 listing presents conn a b ask.Whoami same is = of_whoami conn a b same
 listing presents conn a b (ask.Layout (layout.Submit cell top text)) same is = absurd cc
 listing presents conn a b (ask.Layout layout.Cells) same is =
-    of_shelf conn a b (layouts.cells a.policy a.shelf conn) (layouts.cells b.policy b.shelf conn) same (cells_alike presents conn a b same)
+    of_shelf conn a b (layouts.cells a.policy a.shelf conn) (layouts.cells b.policy b.shelf conn)
+    same (cells_alike presents conn a b same)
 listing presents conn a b (ask.Layout (layout.Shapes cell)) same is =
-    of_shelf conn a b (layouts.shapes a.policy a.shelf conn cell) (layouts.shapes b.policy b.shelf conn cell) same (shapes_alike presents conn a b same cell)
+    of_shelf conn a b (layouts.shapes a.policy a.shelf conn cell)
+    (layouts.shapes b.policy b.shelf conn cell) same (shapes_alike presents conn a b same cell)
 listing presents conn a b (ask.Wafer request) same is = absurd cc
 listing presents conn a b (ask.Run run.Run) same is = absurd cc
 listing presents conn a b (ask.Run run.Cancel) same is = absurd cc
 listing presents conn a b (ask.Run run.Status) same is =
-    of_run conn a b (checking.status a.policy a.run conn) (checking.status b.policy b.run conn) same (status_alike conn a b same)
+    of_run conn a b (checking.status a.policy a.run conn) (checking.status b.policy b.run conn) same
+    (status_alike conn a b same)
 listing presents conn a b (ask.Run run.Markers) same is =
-    of_run conn a b (checking.markers a.policy a.run conn) (checking.markers b.policy b.run conn) same (markers_alike conn a b same)
+    of_run conn a b (checking.markers a.policy a.run conn) (checking.markers b.policy b.run conn)
+    same (markers_alike conn a b same)
 listing presents conn a b (ask.SignOff (sign.Waive marker)) same is = absurd cc
 listing presents conn a b (ask.SignOff (sign.Sign marker)) same is = absurd cc
 listing presents conn a b (ask.SignOff sign.Waivers) same is =
-    of_waivers conn a b (signing.waivers_told a.policy a.run a.waivers conn) (signing.waivers_told b.policy b.run b.waivers conn) same (waivers_alike conn a b same)
+    of_waivers conn a b (signing.waivers_row a.policy a.run a.waivers conn)
+    (signing.waivers_row b.policy b.run b.waivers conn) same (waivers_alike conn a b same)
 listing presents conn a b (ask.SignOff sign.Verdict) same is = absurd cc
 listing presents conn a b ask.Trail same is = absurd cc
 
 -- ---- with the outcome of keeping
 
-pub settled_alike : (conn : ℕ) (a b : State) (request : Request) (kept : Bool) (first second : Outcome) → SameView conn a b → SameOutcome conn first second
-    → SameOutcome conn (settled a (event.Ask conn request) kept first) (settled b (event.Ask conn request) kept second)
+pub settled_alike : (conn : ℕ) (a b : State) (request : Request) (kept : Bool)
+    (first second : Outcome) → SameView conn a b → SameOutcome conn first second
+    → SameOutcome conn (settled a (event.Ask conn request) kept first)
+    (settled b (event.Ask conn request) kept second)
 settled_alike conn a b request kept first second same both =
     let e = event.Ask conn request in
     let closed : State → State = λ s. record s { closed = true } in
-    let of : Bool → State → Outcome → Outcome = λ changes s o. cond (changes && not kept) (left (unkept e) (closed s)) o in
-    subst (λ changes. SameOutcome conn (of changes a first) (of second.changes b second)) (sym both.changes)
-    (elim (second.changes && not kept) as (λ t. SameOutcome conn (cond t (left (unkept e) (closed a)) first) (cond t (left (unkept e) (closed b)) second)) [
-      | true ↦ record { told = refl; changes = refl; view = besides conn a b a.trail b.trail true true same }
+    let of : Bool → State → Outcome → Outcome = λ changes s o. cond (changes && not kept)
+    (left (unkept e) (closed s)) o in
+    subst (λ changes. SameOutcome conn (of changes a first) (of second.changes b second))
+    (sym both.changes)
+    (elim (second.changes && not kept) as
+    (λ t. SameOutcome conn (cond t (left (unkept e) (closed a)) first)
+    (cond t (left (unkept e) (closed b)) second)) [
+      | true ↦ record {
+        told = refl;
+        changes = refl;
+        view = besides conn a b a.trail b.trail true
+            true same;
+      }
       | false ↦ both
     ])
 
-pub step_alike : (conn : ℕ) (a b : State) (request : Request) (kept : Bool) → SameView conn a b → SameOutcome conn (outcome_of a conn request) (outcome_of b conn request)
+pub step_alike : (conn : ℕ) (a b : State) (request : Request) (kept : Bool) → SameView conn a b
+    → SameOutcome conn (outcome_of a conn request) (outcome_of b conn request)
     → SameOutcome conn (step a (event.Ask conn request) kept) (step b (event.Ask conn request) kept)
 unfolding step wanted
-step_alike conn a b request kept same both = settled_alike conn a b request kept (outcome_of a conn request) (outcome_of b conn request) same both
+step_alike conn a b request kept same both = settled_alike conn a b request kept
+    (outcome_of a conn request) (outcome_of b conn request) same both
 
-pub after_alike : (conn : ℕ) (a b : State) (request : Request) (kept : Bool) → SameOutcome conn (step a (event.Ask conn request) kept) (step b (event.Ask conn request) kept)
+pub after_alike : (conn : ℕ) (a b : State) (request : Request) (kept : Bool)
+    → SameOutcome conn (step a (event.Ask conn request) kept) (step b (event.Ask conn request) kept)
     → SameView conn (after a (event.Ask conn request) kept) (after b (event.Ask conn request) kept)
 after_alike conn a b request kept both =
     let e = event.Ask conn request in
     let first = step a e kept in
     let second = step b e kept in
-    besides conn first.state second.state (after a e kept).trail (after b e kept).trail first.state.closed second.state.closed both.view
+    besides conn first.state second.state (after a e kept).trail (after b e kept).trail
+    first.state.closed second.state.closed both.view
 
 -- ---- the laws
 
 pub equal_listings : PresentAreOfTheirCell → EqualViewsGiveEqualListings
-equal_listings presents conn a b request kept same is = (step_alike conn a b request kept same (listing presents conn a b request same is)).told
+equal_listings presents conn a b request kept same is =
+    (step_alike conn a b request kept same (listing presents conn a b request same is)).told
 
 pub views_left : PresentAreOfTheirCell → ListingsLeaveTheViews
-views_left presents conn a b request kept same is = after_alike conn a b request kept (step_alike conn a b request kept same (listing presents conn a b request same is))
+views_left presents conn a b request kept same is = after_alike conn a b request kept
+    (step_alike conn a b request kept same (listing presents conn a b request same is))
 
 pub equal_lists : PresentAreOfTheirCell → EqualViewsGiveEqualLists
 equal_lists presents conn a b [] same are = record { answers = refl; view = same }
 equal_lists presents conn a b (asked ∷ rest) same are =
     let e = event.Ask conn asked.request in
-    let behind = equal_lists presents conn (after a e asked.kept) (after b e asked.kept) rest (views_left presents conn a b asked.request asked.kept same are.0) are.1 in
+    let behind = equal_lists presents conn (after a e asked.kept) (after b e asked.kept) rest
+    (views_left presents conn a b asked.request asked.kept same are.0) are.1 in
     record {
-      answers = λ i. equal_listings presents conn a b asked.request asked.kept same are.0 i ∷ behind.answers i;
+      answers = λ i. equal_listings presents conn a b asked.request asked.kept same are.0 i
+          ∷ behind.answers i;
       view = behind.view;
     }

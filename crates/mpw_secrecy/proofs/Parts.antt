@@ -16,16 +16,19 @@ use Rattle.mpw_secrecy.specs.Views.{SameView}
 
 -- ---- rows
 
-on_alike : {A B : Type 0} (x : Result A Ending) (f g : A → Result B Ending) → ((value : A) → x ≡ Ok value → f value ≡ g value) → (x >>= f) ≡ (x >>= g)
+on_alike : {A B : Type 0} (x : Result A Ending) (f g : A → Result B Ending)
+    → ((value : A) → x ≡ Ok value → f value ≡ g value) → (x >>= f) ≡ (x >>= g)
 on_alike (Ok value) f g on = on value refl
 on_alike (Err why) f g on = refl
 
 -- rows that begin alike, and go on alike where they go on
-pub same_behind : {A B : Type 0} (x y : Result A Ending) (f g : A → Result B Ending) → x ≡ y → ((value : A) → x ≡ Ok value → f value ≡ g value) → (x >>= f) ≡ (y >>= g)
+pub same_behind : {A B : Type 0} (x y : Result A Ending) (f g : A → Result B Ending) → x ≡ y
+    → ((value : A) → x ≡ Ok value → f value ≡ g value) → (x >>= f) ≡ (y >>= g)
 same_behind x y f g e on = on_alike x f g on ∙ ap (λ z. z >>= g) e
 
 -- what a test lets through
-pub one_alike : {A : Type 0} (b : Bool) (why : Ending) (x y : A) → (b ≡ true → x ≡ y) → decided ((b, why) ∷ []) x ≡ decided ((b, why) ∷ []) y
+pub one_alike : {A : Type 0} (b : Bool) (why : Ending) (x y : A) → (b ≡ true → x ≡ y)
+    → decided ((b, why) ∷ []) x ≡ decided ((b, why) ∷ []) y
 one_alike true why x y on = ap (λ z. Ok z) (on refl)
 one_alike false why x y on = refl
 
@@ -35,28 +38,36 @@ cond_alike false x y z on = refl
 
 -- ---- the session
 
-some_seen : (policy : Policy) (o : Option Session) → is_some o ≡ is_some (option_map (identity_of policy) o)
+some_seen : (policy : Policy) (o : Option Session)
+    → is_some o ≡ is_some (option_map (identity_of policy) o)
 some_seen policy None = refl
 some_seen policy (Some s) = refl
 
-pub same_session : (conn : ℕ) (a b : State) → SameView conn a b → is_some (session_of a.policy conn) ≡ is_some (session_of b.policy conn)
-same_session conn a b same = some_seen a.policy (session_of a.policy conn) ∙ ap is_some same.identity ∙ sym (some_seen b.policy (session_of b.policy conn))
+pub same_session : (conn : ℕ) (a b : State) → SameView conn a b
+    → is_some (session_of a.policy conn) ≡ is_some (session_of b.policy conn)
+same_session conn a b same = some_seen a.policy (session_of a.policy conn)
+    ∙ ap is_some same.identity ∙ sym (some_seen b.policy (session_of b.policy conn))
 
 -- without a session nothing is granted
-no_grant : (policy : Policy) (operation : Operation) (object : Object) (o : Option Session) → is_some o ≡ false
-    → option_map_or (λ (session : Session). session_permits policy session operation object) o false ≡ false
+no_grant : (policy : Policy) (operation : Operation) (object : Object) (o : Option Session)
+    → is_some o ≡ false
+    → option_map_or (λ (session : Session). session_permits policy session operation object) o false
+    ≡ false
 no_grant policy operation object None e = refl
 no_grant policy operation object (Some s) e = absurd cc
 
-pub same_grants : (conn : ℕ) (a b : State) → SameView conn a b → (operation : Operation) (object : Object)
+pub same_grants : (conn : ℕ) (a b : State) → SameView conn a b
+    → (operation : Operation) (object : Object)
     → permits a.policy conn operation object ≡ permits b.policy conn operation object
 same_grants conn a b same operation object = go (is_some (session_of a.policy conn)) refl
   where
-    go : (s : Bool) → is_some (session_of a.policy conn) ≡ s → permits a.policy conn operation object ≡ permits b.policy conn operation object
+    go : (s : Bool) → is_some (session_of a.policy conn) ≡ s
+        → permits a.policy conn operation object ≡ permits b.policy conn operation object
     go true is = (same.sight is).grants operation object
     go false is =
         no_grant a.policy operation object (session_of a.policy conn) is
-        ∙ sym (no_grant b.policy operation object (session_of b.policy conn) (sym (same_session conn a b same) ∙ is))
+        ∙ sym (no_grant b.policy operation object (session_of b.policy conn)
+        (sym (same_session conn a b same) ∙ is))
 
 -- ---- tests
 
@@ -65,19 +76,23 @@ abbrev pub inside : Bool → Result (Unit {0}) Ending
 inside session = decided ((session, ending.Denied denial.Session) ∷ []) tt
 
 abbrev pub allowed : Operation → Object → Bool → Bool → Result (Unit {0}) Ending
-allowed operation object session granted = decided ((session, ending.Denied denial.Session) ∷ (granted, denied operation object) ∷ []) tt
+allowed operation object session granted =
+    decided ((session, ending.Denied denial.Session) ∷ (granted, denied operation object) ∷ []) tt
 
 pub inside_tells : (session : Bool) (x : Unit {0}) → inside session ≡ Ok x → session ≡ true
 inside_tells true x e = refl
 inside_tells false x e = absurd cc
 
-pub allowed_tells : (operation : Operation) (object : Object) (session granted : Bool) (x : Unit {0}) → allowed operation object session granted ≡ Ok x
+pub allowed_tells : (operation : Operation) (object : Object) (session granted : Bool)
+    (x : Unit {0}) → allowed operation object session granted ≡ Ok x
     → (session ≡ true) × (granted ≡ true)
 allowed_tells operation object true true x e = (refl, refl)
 allowed_tells operation object true false x e = absurd cc
 allowed_tells operation object false granted x e = absurd cc
 
-pub same_permitted : (conn : ℕ) (a b : State) → SameView conn a b → (operation : Operation) (object : Object)
+pub same_permitted : (conn : ℕ) (a b : State) → SameView conn a b
+    → (operation : Operation) (object : Object)
     → permitted a.policy conn operation object ≡ permitted b.policy conn operation object
 same_permitted conn a b same operation object =
-    λ i. allowed operation object (same_session conn a b same i) (same_grants conn a b same operation object i)
+    λ i. allowed operation object (same_session conn a b same i)
+    (same_grants conn a b same operation object i)

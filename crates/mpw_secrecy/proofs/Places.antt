@@ -21,28 +21,42 @@ use Rattle.mpw_secrecy.proofs.Waived.{IsNowhere, IsOnlyAt}
 -- ---- keys
 
 abbrev with_key : Key → Marker
-with_key k = record { rule = k.rule; axis = k.axis; side = k.side; x1 = k.x1; x2 = k.x2; y0 = k.y0; y1 = k.y1; met = [] }
+with_key k = record {
+  rule = k.rule;
+  axis = k.axis;
+  side = k.side;
+  x1 = k.x1;
+  x2 = k.x2;
+  y0 = k.y0;
+  y1 = k.y1;
+  met = [];
+}
 
 pub key_same : PlacesAreOfKeys → (k l : Key) → key_eq k l ≡ true → k ≡ l
 key_same keys k l e =
-    let at : place_in (with_key k ∷ []) l ≡ Some 0 = ap (λ b. cond (nat_lt (cond (not b) 1 0) 1) (Some (cond (not b) 1 0)) None) e in
+    let at : place_in (with_key k ∷ []) l ≡ Some 0 =
+    ap (λ b. cond (nat_lt (cond (not b) 1 0) 1) (Some (cond (not b) 1 0)) None) e in
     let found = keys (with_key k ∷ []) l 0 at in
     ap key_of (same_Some (with_key k) found.0 found.1) ∙ found.2
 
 -- no two markers of a book have one key
 apart : (m n : Marker) → IsFilled m → StandsBefore m n → key_of m ≡ key_of n → ⊥
 apart m n filled (inl less) same = line_before (line_of m) (line_of n) less (ap line_of_key same)
-apart m n filled (inr p) same = let first : m.y0 ≡ n.y0 = ap (λ (k : Key). k.y0) same in omega (arith, ints, p.1, first, filled)
+apart m n filled (inr p) same =
+    let first : m.y0 ≡ n.y0 = ap (λ (k : Key). k.y0) same in omega (arith, ints, p.1, first, filled)
 
-before : (book : List Marker) (i j : ℕ) (m n : Marker) → IsBook book → slice_get book i ≡ Some m → slice_get book j ≡ Some n → i < j → key_of m ≡ key_of n → ⊥
+before : (book : List Marker) (i j : ℕ) (m n : Marker) → IsBook book → slice_get book i ≡ Some m
+    → slice_get book j ≡ Some n → i < j → key_of m ≡ key_of n → ⊥
 before book i j m n is at there less same =
     let first = get_or_from_slice_get book i m m at in
     let second = get_or_from_slice_get book j n m there in
     let within = slice_get_within book j n there in
-    apart (get_or book i m) (get_or book j m) (is.filled i m (omega (arith, within, less))) (is.ordered i j m less within)
+    apart (get_or book i m) (get_or book j m) (is.filled i m (omega (arith, within, less)))
+    (is.ordered i j m less within)
     (ap key_of first ∙ same ∙ sym (ap key_of second))
 
-pub only_at : PlacesAreOfKeys → (book : List Marker) (key : Key) (i : ℕ) (m : Marker) → IsBook book → slice_get book i ≡ Some m → key_of m ≡ key → IsOnlyAt book key i
+pub only_at : PlacesAreOfKeys → (book : List Marker) (key : Key) (i : ℕ) (m : Marker) → IsBook book
+    → slice_get book i ≡ Some m → key_of m ≡ key → IsOnlyAt book key i
 only_at keys book key i m is at has j n there same =
     let of : key_of n ≡ key = key_same keys (key_of n) key same in
     elim (cases_lt j i) [
@@ -69,20 +83,26 @@ not_less n l k e less = elim (cases_lt k n) [
 pub nowhere : (book : List Marker) (key : Key) → place_in book key ≡ None → IsNowhere book key
 nowhere book key e j m there =
     let n = position_or_len (has_key key) book in
-    let less = not_less n (length book) j (past (nat_lt n (length book)) n e) (slice_get_within book j m there) in
-    ap (has_key key) (sym (get_or_from_slice_get book j m m there)) ∙ fails_before_first (has_key key) book j m less
+    let less = not_less n (length book) j (past (nat_lt n (length book)) n e)
+    (slice_get_within book j m there) in
+    ap (has_key key) (sym (get_or_from_slice_get book j m m there))
+    ∙ fails_before_first (has_key key) book j m less
 
-pub found_key : (book : List Marker) (key : Key) (i : ℕ) (m : Marker) → place_in book key ≡ Some i → slice_get book i ≡ Some m → key_eq (key_of m) key ≡ true
-found_key book key i m e at = ap (has_key key) (sym (get_or_from_slice_get book i m m at)) ∙ (position-Some (has_key key) book i m e).1
+pub found_key : (book : List Marker) (key : Key) (i : ℕ) (m : Marker) → place_in book key ≡ Some i
+    → slice_get book i ≡ Some m → key_eq (key_of m) key ≡ true
+found_key book key i m e at = ap (has_key key) (sym (get_or_from_slice_get book i m m at))
+    ∙ (position-Some (has_key key) book i m e).1
 
 -- ---- waivers
 
-pub put_here : (waivers : List (Option Waiver)) (i : ℕ) (o : Option Waiver) → i < length waivers → waiver_at (slice_set waivers i o) i ≡ o
+pub put_here : (waivers : List (Option Waiver)) (i : ℕ) (o : Option Waiver) → i < length waivers
+    → waiver_at (slice_set waivers i o) i ≡ o
 put_here [] i o less = absurd (omega (arith, less))
 put_here (w ∷ waivers) zero o less = refl
 put_here (w ∷ waivers) (suc i) o less = put_here waivers i o (omega (arith, less))
 
-pub put_there : (waivers : List (Option Waiver)) (i k : ℕ) (o : Option Waiver) → (k ≡ i → ⊥) → waiver_at (slice_set waivers i o) k ≡ waiver_at waivers k
+pub put_there : (waivers : List (Option Waiver)) (i k : ℕ) (o : Option Waiver) → (k ≡ i → ⊥)
+    → waiver_at (slice_set waivers i o) k ≡ waiver_at waivers k
 put_there [] i k o apart = refl
 put_there (w ∷ waivers) zero zero o apart = absurd (apart refl)
 put_there (w ∷ waivers) zero (suc k) o apart = refl

@@ -47,7 +47,9 @@ use Rattle.mpw_secrecy.specs.Apart.{EveryStateIsSignedApart, IsSignedApart}
 
 -- the waivers of a run that is so far
 abbrev SignedIn : Phase → List (Option Waiver) → Type 0
-SignedIn phase waivers = (place : ℕ) (waiver : Waiver) (signer : Name) → waiver_at waivers place ≡ Some waiver → waiver.signer ≡ Some signer → IsSignedApart phase place waiver signer
+SignedIn phase waivers = (place : ℕ) (waiver : Waiver) (signer : Name)
+    → waiver_at waivers place ≡ Some waiver → waiver.signer ≡ Some signer
+    → IsSignedApart phase place waiver signer
 
 abbrev Fit : State → Type 0
 Fit s = SignedIn s.run.phase s.waivers
@@ -67,58 +69,80 @@ of_none phase place waiver signer is by = absurd (no_waiver place waiver is)
 of_new : (phase : Phase) (size : ℕ) → SignedIn phase (none_asked size)
 of_new phase size place waiver signer is by = absurd (none_yet size place waiver is)
 
-of_unfinished : (phase : Phase) (c : Checks) (waivers : List (Option Waiver)) → SignedIn (Checking c) waivers → SignedIn phase waivers
-of_unfinished phase c waivers fit place waiver signer is by = absurd (let e = (fit place waiver signer is by).finished in cc)
+of_unfinished : (phase : Phase) (c : Checks) (waivers : List (Option Waiver))
+    → SignedIn (Checking c) waivers → SignedIn phase waivers
+of_unfinished phase c waivers fit place waiver signer is by =
+    absurd (let e = (fit place waiver signer is by).finished in cc)
 
-of_cutting : (phase : Phase) (planned : Planned) (waivers : List (Option Waiver)) → SignedIn (Cutting planned) waivers → SignedIn phase waivers
-of_cutting phase planned waivers fit place waiver signer is by = absurd (let e = (fit place waiver signer is by).finished in cc)
+of_cutting : (phase : Phase) (planned : Planned) (waivers : List (Option Waiver))
+    → SignedIn (Cutting planned) waivers → SignedIn phase waivers
+of_cutting phase planned waivers fit place waiver signer is by =
+    absurd (let e = (fit place waiver signer is by).finished in cc)
 
-of_restart : (phase : Phase) (waivers : List (Option Waiver)) → SignedIn phase waivers → SignedIn (restarted_phase phase) waivers
+of_restart : (phase : Phase) (waivers : List (Option Waiver)) → SignedIn phase waivers
+    → SignedIn (restarted_phase phase) waivers
 of_restart phase waivers fit place waiver signer is by =
     let f = fit place waiver signer is by in
-    record { checked = f.checked; marker = f.marker; finished = ap restarted_phase f.finished; at = f.at; apart = f.apart }
+    record {
+      checked = f.checked;
+      marker = f.marker;
+      finished = ap restarted_phase f.finished;
+      at = f.at;
+      apart = f.apart;
+    }
 
 -- ---- waivers that are put
 
-put_or_before : (waivers : List (Option Waiver)) (at place : ℕ) (o : Option Waiver) (waiver : Waiver) → waiver_at (slice_set waivers at o) place ≡ Some waiver
+put_or_before : (waivers : List (Option Waiver)) (at place : ℕ) (o : Option Waiver)
+    (waiver : Waiver) → waiver_at (slice_set waivers at o) place ≡ Some waiver
     → ((at ≡ place) × (o ≡ Some waiver)) ⊎ (waiver_at waivers place ≡ Some waiver)
 put_or_before [] at place o waiver e = inr e
 put_or_before (w ∷ waivers) zero zero o waiver e = inl (refl, e)
 put_or_before (w ∷ waivers) zero (suc place) o waiver e = inr e
 put_or_before (w ∷ waivers) (suc at) zero o waiver e = inr e
-put_or_before (w ∷ waivers) (suc at) (suc place) o waiver e = elim (put_or_before waivers at place o waiver e) [
-  | inl here ↦ inl (ap suc here.0, here.1)
-  | inr before ↦ inr before
-]
+put_or_before (w ∷ waivers) (suc at) (suc place) o waiver e =
+    elim (put_or_before waivers at place o waiver e) [
+      | inl here ↦ inl (ap suc here.0, here.1)
+      | inr before ↦ inr before
+    ]
 
-of_asked : (phase : Phase) (waivers : List (Option Waiver)) (at : ℕ) (asker : Name) → SignedIn phase waivers → SignedIn phase (with_asker waivers at asker)
+of_asked : (phase : Phase) (waivers : List (Option Waiver)) (at : ℕ) (asker : Name)
+    → SignedIn phase waivers → SignedIn phase (with_asker waivers at asker)
 of_asked phase waivers at asker fit place waiver signer is by =
     let made : Waiver = record { asker = asker; signer = None } in
     elim (put_or_before waivers at place (Some made) waiver is) [
-      | inl here ↦ absurd (none-some signer (ap (λ (w : Waiver). w.signer) (same_Some made waiver here.1) ∙ by))
+      | inl here ↦ absurd (none-some signer
+          (ap (λ (w : Waiver). w.signer) (same_Some made waiver here.1) ∙ by))
       | inr before ↦ fit place waiver signer before by
     ]
 
 abbrev signed_waiver : Waiver → Name → Waiver
 signed_waiver before user = record { asker = before.asker; signer = Some user }
 
-of_signed : (policy : Policy) (run : Run) (waivers : List (Option Waiver)) (conn : ℕ) (name : MarkerName) (now : List (Option Waiver))
-    → (s : IsSigned policy run waivers conn name now) → SignedIn run.phase waivers → SignedIn run.phase (with_signer waivers s.place (user_of policy conn))
+of_signed : (policy : Policy) (run : Run) (waivers : List (Option Waiver)) (conn : ℕ)
+    (name : MarkerName) (now : List (Option Waiver))
+    → (s : IsSigned policy run waivers conn name now) → SignedIn run.phase waivers
+    → SignedIn run.phase (with_signer waivers s.place (user_of policy conn))
 of_signed policy run waivers conn name now s fit place waiver signer is by =
     let user = user_of policy conn in
-    elim (put_or_before waivers s.place place (signed_by user (waiver_at waivers s.place)) waiver is) [
+    elim (put_or_before waivers s.place place (signed_by user (waiver_at waivers s.place)) waiver
+    is) [
       | inl here ↦
           let shelf : List Submission = s.checked.planned.snapshot.shelf in
           let made : Waiver = signed_waiver s.may.waiver user in
-          let same : made ≡ waiver = same_Some made waiver (sym (ap (signed_by user) s.may.is) ∙ here.1) in
-          let who : user ≡ signer = same_Some user signer (ap (λ (w : Waiver). w.signer) same ∙ by) in
-          let apart : IsApart shelf s.marker.met user made = record { asker = s.may.apart.asker; submitter = s.may.apart.submitter } in
+          let same : made ≡ waiver = same_Some made waiver (sym (ap (signed_by user) s.may.is)
+          ∙ here.1) in
+          let who : user ≡ signer = same_Some user signer (ap (λ (w : Waiver). w.signer) same
+          ∙ by) in
+          let apart : IsApart shelf s.marker.met user made =
+          record { asker = s.may.apart.asker; submitter = s.may.apart.submitter } in
           record {
             checked = s.checked;
             marker = s.marker;
             finished = s.finished;
             at = subst (λ k. slice_get s.checked.book k ≡ Some s.marker) here.0 s.shown.at;
-            apart = subst (λ w. IsApart shelf s.marker.met signer w) same (subst (λ u. IsApart shelf s.marker.met u made) who apart);
+            apart = subst (λ w. IsApart shelf s.marker.met signer w) same
+                (subst (λ u. IsApart shelf s.marker.met u made) who apart);
           }
       | inr before ↦ fit place waiver signer before by
     ]
@@ -129,7 +153,8 @@ fit-changed : (s : State) (row : Result Policy Refusal) → Fit s → Fit (chang
 fit-changed s (Ok q) fit = fit
 fit-changed s (Err r) fit = fit
 
-fit-asked : (s : State) (row : Result Identity Refusal) → Fit s → Fit (asked s identity_lines row).state
+fit-asked : (s : State) (row : Result Identity Refusal) → Fit s
+    → Fit (asked s identity_lines row).state
 fit-asked s (Ok who) fit = fit
 fit-asked s (Err r) fit = fit
 
@@ -137,25 +162,31 @@ fit-audited : (s : State) (row : Result (Unit {0}) Ending) → Fit s → Fit (au
 fit-audited s (Ok allowed) fit = fit
 fit-audited s (Err ending) fit = fit
 
-fit-begun : (s : State) (row : Result Planned Ending) → Fit s → Fit (over_run s (checking.begun_outcome s.run row)).state
+fit-begun : (s : State) (row : Result Planned Ending) → Fit s
+    → Fit (over_run s (checking.begun_outcome s.run row)).state
 fit-begun s (Ok planned) fit = of_none (Cutting planned)
 fit-begun s (Err ending) fit = fit
 
-fit-left : (s : State) (row : Result (Unit {0}) Ending) → Fit s → Fit (over_run s (checking.left_off_outcome s.run row)).state
+fit-left : (s : State) (row : Result (Unit {0}) Ending) → Fit s
+    → Fit (over_run s (checking.left_off_outcome s.run row)).state
 fit-left s (Ok x) fit = of_none Idle
 fit-left s (Err ending) fit = fit
 
-fit-listed : (s : State) (row : Result (List Listed) Ending) → Fit s → Fit (over_run s (checking.listed s.run row)).state
+fit-listed : (s : State) (row : Result (List Listed) Ending) → Fit s
+    → Fit (over_run s (checking.listed s.run row)).state
 fit-listed s (Ok lines) fit = fit
 fit-listed s (Err ending) fit = fit
 
-fit-run : (s : State) (conn : ℕ) (request : RunRequest) → Fit s → Fit (over_run s (checking.outcome_of s.policy s.shelf s.wafer s.run conn request)).state
-fit-run s conn run_ask.Run fit = fit-begun s (checking.begun s.policy s.shelf s.wafer s.run conn) fit
-fit-run s conn run_ask.Cancel fit = fit-left s (checking.left_off s.policy s.run conn) fit
+fit-run : (s : State) (conn : ℕ) (request : RunRequest) → Fit s
+    → Fit (over_run s (checking.outcome_of s.policy s.shelf s.wafer s.run conn request)).state
+fit-run s conn run_ask.Run fit =
+    fit-begun s (checking.run_row s.policy s.shelf s.wafer s.run conn) fit
+fit-run s conn run_ask.Cancel fit = fit-left s (checking.cancel_row s.policy s.run conn) fit
 fit-run s conn run_ask.Status fit = fit-listed s (checking.status s.policy s.run conn) fit
 fit-run s conn run_ask.Markers fit = fit-listed s (checking.markers s.policy s.run conn) fit
 
-fit-told : (phase : Phase) (waivers : List (Option Waiver)) (row : Result (List Listed) Ending) → SignedIn phase waivers → SignedIn phase (signing.listed waivers row).waivers
+fit-told : (phase : Phase) (waivers : List (Option Waiver)) (row : Result (List Listed) Ending)
+    → SignedIn phase waivers → SignedIn phase (signing.listed waivers row).waivers
 fit-told phase waivers (Ok lines) fit = fit
 fit-told phase waivers (Err ending) fit = fit
 
@@ -164,101 +195,141 @@ fit-told phase waivers (Err ending) fit = fit
 abbrev FitRun : State → RunOutcome → Type 0
 FitRun s o = Fit (of_run s o).state
 
-one_of : (s : State) (b : Bool) (x y : RunOutcome) → FitRun s x → FitRun s y → FitRun s (if b then x else y)
+one_of : (s : State) (b : Bool) (x y : RunOutcome) → FitRun s x → FitRun s y
+    → FitRun s (if b then x else y)
 one_of s true x y f g = f
 one_of s false x y f g = g
 
-fit-handed : (s : State) (c : Checks) (o : Option Offer) → Fit s → SignedIn (Checking c) s.waivers → FitRun s (handed s.run c o)
+fit-handed : (s : State) (c : Checks) (o : Option Offer) → Fit s → SignedIn (Checking c) s.waivers
+    → FitRun s (handed s.run c o)
 fit-handed s c None fit none = fit
 fit-handed s c (Some offer) fit none = of_unfinished _ c s.waivers none
 
-fit-taken : (s : State) (phase : Phase) → Fit s → SignedIn phase s.waivers → FitRun s (taken_in s.run phase)
+fit-taken : (s : State) (phase : Phase) → Fit s → SignedIn phase s.waivers
+    → FitRun s (taken_in s.run phase)
 fit-taken s Idle fit none = fit
 fit-taken s (Cutting planned) fit none = fit
 fit-taken s (Checking c) fit none = fit-handed s c (next_from 0 c.tiles) fit none
 fit-taken s (Finished f) fit same = fit
 
-fit-cut : (s : State) (answer : CutWindows) (phase : Phase) → Fit s → SignedIn phase s.waivers → FitRun s (cut_in s.run answer phase)
+fit-cut : (s : State) (answer : CutWindows) (phase : Phase) → Fit s → SignedIn phase s.waivers
+    → FitRun s (cut_in s.run answer phase)
 fit-cut s answer Idle fit none = fit
-fit-cut s answer (Cutting planned) fit none = one_of s (same_snapshot answer.job.snapshot planned.snapshot) _ _ (of_cutting _ planned s.waivers none) fit
+fit-cut s answer (Cutting planned) fit none =
+    one_of s (same_snapshot answer.job.snapshot planned.snapshot) _ _
+    (of_cutting _ planned s.waivers none) fit
 fit-cut s answer (Checking c) fit none = fit
 fit-cut s answer (Finished f) fit same = fit
 
-fit-kept : (s : State) (c : Checks) (now : List Tile) → SignedIn (Checking c) s.waivers → FitRun s (kept s.run c now)
-fit-kept s c now none = one_of s (answered now == tiles c.planned.plan) _ _ (of_new _ _) (of_unfinished _ c s.waivers none)
+fit-kept : (s : State) (c : Checks) (now : List Tile) → SignedIn (Checking c) s.waivers
+    → FitRun s (kept s.run c now)
+fit-kept s c now none = one_of s (answered now == tiles c.planned.plan) _ _ (of_new _ _)
+    (of_unfinished _ c s.waivers none)
 
-fit-compared : (s : State) (c : Checks) (answer : FoundMarkers) (tile : Tile) (a : Option (List Marker)) → Fit s → SignedIn (Checking c) s.waivers
+fit-compared : (s : State) (c : Checks) (answer : FoundMarkers) (tile : Tile)
+    (a : Option (List Marker)) → Fit s → SignedIn (Checking c) s.waivers
     → FitRun s (tile_compared s.run c answer tile a)
 fit-compared s c answer tile (Some m) fit none = fit
 fit-compared s c answer tile None fit none =
-    one_of s (same_task answer.job (tile_task s.run.number c answer.job.tile)) _ _ (fit-kept s c (slice_set c.tiles answer.job.tile (answered_by answer.markers tile)) none) fit
+    one_of s (same_task answer.job (tile_task s.run.number c answer.job.tile)) _ _
+    (fit-kept s c (slice_set c.tiles answer.job.tile (answered_by answer.markers tile)) none)
+    fit
 
-fit-checked : (s : State) (c : Checks) (answer : FoundMarkers) (tile : Option Tile) → Fit s → SignedIn (Checking c) s.waivers → FitRun s (tile_checked s.run c answer tile)
+fit-checked : (s : State) (c : Checks) (answer : FoundMarkers) (tile : Option Tile) → Fit s
+    → SignedIn (Checking c) s.waivers → FitRun s (tile_checked s.run c answer tile)
 fit-checked s c answer None fit none = fit
 fit-checked s c answer (Some tile) fit none = fit-compared s c answer tile tile.answer fit none
 
-fit-tile : (s : State) (answer : FoundMarkers) (phase : Phase) → Fit s → SignedIn phase s.waivers → FitRun s (tile_in s.run answer phase)
+fit-tile : (s : State) (answer : FoundMarkers) (phase : Phase) → Fit s → SignedIn phase s.waivers
+    → FitRun s (tile_in s.run answer phase)
 fit-tile s answer Idle fit none = fit
 fit-tile s answer (Cutting planned) fit none = fit
-fit-tile s answer (Checking c) fit none = fit-checked s c answer (slice_get c.tiles answer.job.tile) fit none
-fit-tile s answer (Finished f) fit same = one_of s (nat_lt answer.job.tile (tiles f.planned.plan)) _ _ fit fit
+fit-tile s answer (Checking c) fit none =
+    fit-checked s c answer (slice_get c.tiles answer.job.tile) fit none
+fit-tile s answer (Finished f) fit same =
+    one_of s (nat_lt answer.job.tile (tiles f.planned.plan)) _ _ fit fit
 
 -- ---- requests over the waivers
 
 abbrev SignedBehind : State → ℕ → SignOffRequest → Type 0
-SignedBehind s conn request = SignedIn s.run.phase (signing.outcome_of s.policy s.wafer s.run s.waivers conn request).waivers
+SignedBehind s conn request =
+    SignedIn s.run.phase (signing.outcome_of s.policy s.wafer s.run s.waivers conn request).waivers
 
 abbrev reply_to : State → ℕ → SignOffRequest → Reply
 reply_to s conn request = (signing.outcome_of s.policy s.wafer s.run s.waivers conn request).reply
 
 -- ---- every state
 
-module _ (shown : AskedAreShown) (apart : SignersStandApart) (leave : NegativesLeaveTheWaivers) where
-  fit-negative : (s : State) (conn : ℕ) (request : SignOffRequest) (r : Reply) → IsNegative r → reply_to s conn request ≡ r → Fit s → SignedBehind s conn request
+module _ (shown : AskedAreShown) (apart : SignersStandApart)
+    (leave : NegativesLeaveTheWaivers) where
+  fit-negative : (s : State) (conn : ℕ) (request : SignOffRequest) (r : Reply) → IsNegative r
+      → reply_to s conn request ≡ r → Fit s → SignedBehind s conn request
   fit-negative s conn request r negative e fit =
-      subst (SignedIn s.run.phase) (sym (leave s.policy s.wafer s.run s.waivers conn request (subst IsNegative (sym e) negative))) fit
+      subst (SignedIn s.run.phase) (sym
+      (leave s.policy s.wafer s.run s.waivers conn request (subst IsNegative (sym e) negative)))
+      fit
 
-  fit-waive : (s : State) (conn : ℕ) (name : MarkerName) (r : Reply) → reply_to s conn (sign_ask.Waive name) ≡ r → Fit s → SignedBehind s conn (sign_ask.Waive name)
+  fit-waive : (s : State) (conn : ℕ) (name : MarkerName) (r : Reply)
+      → reply_to s conn (sign_ask.Waive name) ≡ r → Fit s
+      → SignedBehind s conn (sign_ask.Waive name)
   fit-waive s conn name (reply.Ok lines) e fit =
       let is = shown s.policy s.wafer s.run s.waivers conn name lines e in
-      subst (SignedIn s.run.phase) (sym is.left) (of_asked s.run.phase s.waivers is.place (user_of s.policy conn) fit)
-  fit-waive s conn name (reply.Denied why) e fit = fit-negative s conn (sign_ask.Waive name) (reply.Denied why) tt e fit
-  fit-waive s conn name (reply.Refused why) e fit = fit-negative s conn (sign_ask.Waive name) (reply.Refused why) tt e fit
+      subst (SignedIn s.run.phase) (sym is.left)
+      (of_asked s.run.phase s.waivers is.place (user_of s.policy conn) fit)
+  fit-waive s conn name (reply.Denied why) e fit = fit-negative s conn (sign_ask.Waive name)
+      (reply.Denied why) tt e fit
+  fit-waive s conn name (reply.Refused why) e fit = fit-negative s conn (sign_ask.Waive name)
+      (reply.Refused why) tt e fit
 
-  fit-signing : (s : State) (conn : ℕ) (name : MarkerName) (r : Reply) → reply_to s conn (sign_ask.Sign name) ≡ r → Fit s → SignedBehind s conn (sign_ask.Sign name)
+  fit-signing : (s : State) (conn : ℕ) (name : MarkerName) (r : Reply)
+      → reply_to s conn (sign_ask.Sign name) ≡ r → Fit s → SignedBehind s conn (sign_ask.Sign name)
   fit-signing s conn name (reply.Ok lines) e fit =
       let is = apart s.policy s.wafer s.run s.waivers conn name lines e in
-      subst (SignedIn s.run.phase) (sym is.left) (of_signed s.policy s.run s.waivers conn name _ is fit)
-  fit-signing s conn name (reply.Denied why) e fit = fit-negative s conn (sign_ask.Sign name) (reply.Denied why) tt e fit
-  fit-signing s conn name (reply.Refused why) e fit = fit-negative s conn (sign_ask.Sign name) (reply.Refused why) tt e fit
+      subst (SignedIn s.run.phase) (sym is.left)
+      (of_signed s.policy s.run s.waivers conn name _ is fit)
+  fit-signing s conn name (reply.Denied why) e fit = fit-negative s conn (sign_ask.Sign name)
+      (reply.Denied why) tt e fit
+  fit-signing s conn name (reply.Refused why) e fit = fit-negative s conn (sign_ask.Sign name)
+      (reply.Refused why) tt e fit
 
   fit-sign : (s : State) (conn : ℕ) (request : SignOffRequest) → Fit s → SignedBehind s conn request
-  fit-sign s conn (sign_ask.Waive name) fit = fit-waive s conn name (reply_to s conn (sign_ask.Waive name)) refl fit
-  fit-sign s conn (sign_ask.Sign name) fit = fit-signing s conn name (reply_to s conn (sign_ask.Sign name)) refl fit
-  fit-sign s conn sign_ask.Waivers fit = fit-told s.run.phase s.waivers (signing.waivers_told s.policy s.run s.waivers conn) fit
-  fit-sign s conn sign_ask.Verdict fit = fit-told s.run.phase s.waivers (signing.verdict s.policy s.wafer s.run s.waivers conn) fit
+  fit-sign s conn (sign_ask.Waive name) fit =
+      fit-waive s conn name (reply_to s conn (sign_ask.Waive name)) refl fit
+  fit-sign s conn (sign_ask.Sign name) fit =
+      fit-signing s conn name (reply_to s conn (sign_ask.Sign name)) refl fit
+  fit-sign s conn sign_ask.Waivers fit = fit-told s.run.phase s.waivers
+      (signing.waivers_row s.policy s.run s.waivers conn) fit
+  fit-sign s conn sign_ask.Verdict fit = fit-told s.run.phase s.waivers
+      (signing.verdict_row s.policy s.wafer s.run s.waivers conn) fit
 
-  fit-request : (s : State) (conn : ℕ) (request : Request) → Fit s → Fit (outcome_of s conn request).state
+  fit-request : (s : State) (conn : ℕ) (request : Request) → Fit s
+      → Fit (outcome_of s conn request).state
   fit-request s conn (ask.Policy request) fit = fit-changed s (row_of s.policy conn request) fit
   fit-request s conn ask.Whoami fit = fit-asked s (rows.whoami s.policy conn) fit
   fit-request s conn (ask.Layout request) fit = fit
   fit-request s conn (ask.Wafer request) fit = fit
   fit-request s conn (ask.Run request) fit = fit-run s conn request fit
   fit-request s conn (ask.SignOff request) fit = fit-sign s conn request fit
-  fit-request s conn ask.Trail fit = fit-audited s (permitted s.policy conn operation.Audit object.Desk) fit
+  fit-request s conn ask.Trail fit = fit-audited s
+      (permitted s.policy conn operation.Audit object.Desk) fit
 
   fit-wanted : (s : State) (event : Event) → Fit s → Fit (wanted s event).state
   unfolding wanted
   fit-wanted s (event.Ask conn request) fit = fit-request s conn request fit
   fit-wanted s (event.Gone conn) fit = fit
   fit-wanted s (event.Take worker) fit = fit-taken s s.run.phase fit fit
-  fit-wanted s (event.Cut answer) fit = one_of s (s.run.number == answer.job.run) _ _ (fit-cut s answer s.run.phase fit fit) fit
-  fit-wanted s (event.Tile answer) fit = one_of s (s.run.number == answer.job.run) _ _ (fit-tile s answer s.run.phase fit fit) fit
+  fit-wanted s (event.Cut answer) fit = one_of s (s.run.number == answer.job.run) _ _
+      (fit-cut s answer s.run.phase fit fit) fit
+  fit-wanted s (event.Tile answer) fit = one_of s (s.run.number == answer.job.run) _ _
+      (fit-tile s answer s.run.phase fit fit) fit
   fit-wanted s event.Restart fit = of_restart s.run.phase s.waivers fit
 
-  fit-settled : (s : State) (event : Event) (was : Bool) (outcome : Outcome) → Fit s → Fit outcome.state → Fit (settled s event was outcome).state
+  fit-settled : (s : State) (event : Event) (was : Bool) (outcome : Outcome) → Fit s
+      → Fit outcome.state → Fit (settled s event was outcome).state
   fit-settled s event was outcome before now =
-      elim (outcome.changes && not was) as (λ b. Fit (cond b (left (unkept event) (record s { closed = true })) outcome).state) [ true ↦ before | false ↦ now ]
+      elim (outcome.changes && not was) as
+      (λ b. Fit (cond b (left (unkept event) (record s { closed = true })) outcome).state)
+      [ true ↦ before | false ↦ now ]
 
   fit-step : (s : State) (event : Event) (was : Bool) → Fit s → Fit (after s event was)
   unfolding step
@@ -266,7 +337,8 @@ module _ (shown : AskedAreShown) (apart : SignersStandApart) (leave : NegativesL
 
   fit-calls : (s : State) (calls : List Call) → Fit s → Fit (state_after s calls)
   fit-calls s [] fit = fit
-  fit-calls s (call ∷ calls) fit = fit-calls (after s call.event call.kept) calls (fit-step s call.event call.kept fit)
+  fit-calls s (call ∷ calls) fit = fit-calls (after s call.event call.kept) calls
+      (fit-step s call.event call.kept fit)
 
   pub signers_apart : EveryStateIsSignedApart
   unfolding new_state

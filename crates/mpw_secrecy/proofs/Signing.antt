@@ -25,7 +25,6 @@ use Rattle.mpw_rbac.specs.Rows.{user_of}
 use Rattle.mpw_replies.specs.Rows.{◌>>=◌, ended_by, permitted}
 use Rattle.mpw_replies.specs.Sight.{seen_by, is_full}
 use Rattle.mpw_replies.specs.declared.reply.Code.TheVariants as code
-use Rattle.mpw_replies.specs.declared.reply.Reply.{Reply}
 use Rattle.mpw_replies.specs.declared.reply.Reply.TheVariants as reply
 use Rattle.mpw_replies.specs.declared.row.Ending.{Ending}
 use Rattle.mpw_replies.specs.declared.row.Ending.TheVariants as ending
@@ -44,81 +43,40 @@ use Rattle.mpw_core.specs.declared.event.Response.TheVariants as response
 use Rattle.mpw_core.specs.Step.{State, over_waivers}
 use Rattle.mpw_secrecy.specs.Secrecy.{IsOrderly}
 use Rattle.mpw_secrecy.specs.Views.{BookSeen, MarkerSeen, SameView, book_view, checked_view, marker_of, markers_seen, rules_seen}
-use Rattle.mpw_secrecy.proofs.Books.{names_from, names_in, names_of}
+use Rattle.mpw_secrecy.proofs.Books.{names_from, names_of}
 use Rattle.mpw_secrecy.proofs.Listings.{SameOutcome}
 use Rattle.mpw_secrecy.proofs.Parts.{allowed_tells, same_behind, same_permitted}
 use Rattle.mpw_secrecy.proofs.Places.{found_key, nowhere, only_at, put_here, put_there}
 use Rattle.mpw_secrecy.proofs.Waived.{changed_at, marker_with, seen_at_place, seen_nowhere, with_waiver}
-
--- ---- what is told of a view
-
--- a user's test of a marker that is seen, and what a user makes of its waiver
-abbrev Test : Type 0
-Test = MarkerSeen → Result (Unit {0}) Ending
-
-abbrev Change : Type 0
-Change = Option Waiver → Option Waiver
-
-abbrev tested : Test → Key → Option MarkerSeen → Result Key Ending
-tested test key None = Err (ending.Refused code.NoMarker)
-tested test key (Some seen) = test seen >>= (λ passed. Ok key)
-
-abbrev of_rule : Test → MarkerName → List MarkerSeen → Option ℕ → Result Key Ending
-of_rule test name markers None = Err (ending.Refused code.NoMarker)
-of_rule test name markers (Some rule) = tested test (key_by name rule) (marker_with (key_by name rule) markers)
-
-abbrev of_book : Test → MarkerName → BookSeen → Result Key Ending
-of_book test name book = of_rule test name book.markers (position (λ n. name_eq n name.rule) (names_in book))
-
--- the key of the marker that is waived or signed
-abbrev row_seen : Test → MarkerName → Option BookSeen → Result Key Ending
-row_seen test name None = Err (ending.Refused code.NotFinished)
-row_seen test name (Some book) = of_book test name book
-
-abbrev key_reply : Result Key Ending → Reply
-key_reply (Ok key) = reply.Ok []
-key_reply (Err why) = ended_by why
-
-abbrev book_with : Change → Key → BookSeen → BookSeen
-book_with change key book = record { markers = map (with_waiver key change) book.markers; rules = book.rules }
-
--- what is left of the view
-abbrev view_left : Change → Result Key Ending → Option BookSeen → Option BookSeen
-view_left change (Ok key) book = option_map (book_with change key) book
-view_left change (Err why) book = book
-
--- ---- outcomes
-
--- the outcome of a waiver that is put at a place
-abbrev put_at : (Name → Change) → List (Option Waiver) → ℕ → Name → signing.Outcome
-put_at change waivers place user = signing.changed (slice_set waivers place (change user (waiver_at waivers place)))
-
--- an outcome is what is told of the view, and leaves what is told of it
-record IsTold (policy : Policy) (conn : ℕ) (change : Change) (phase : Phase) (old : List (Option Waiver)) (o : signing.Outcome) (told : Result Key Ending) : Type 0 where
-  reply : o.reply ≡ key_reply told
-  changes : o.changes ≡ is_ok told
-  view : book_view policy conn o.waivers phase ≡ view_left change told (book_view policy conn old phase)
+use Rattle.mpw_secrecy.proofs.SeenTests.{Test, Change, tested, of_rule, of_book, row_seen, key_reply, view_left, put_at, IsTold}
 
 -- ---- the marker of a name in a book
 
-before_of : (rules : List Rule) (nm : Name) → position_or_len (λ n. name_eq n nm) (names_of rules) ≡ position_or_len (λ (rule : Rule). name_eq rule.name nm) rules
+before_of : (rules : List Rule) (nm : Name) → position_or_len (λ n. name_eq n nm) (names_of rules)
+    ≡ position_or_len (λ (rule : Rule). name_eq rule.name nm) rules
 before_of [] nm = refl
-before_of (rule ∷ rules) nm = ap (λ n. cond (not (name_eq rule.name nm)) (1 + n) 0) (before_of rules nm)
+before_of (rule ∷ rules) nm =
+    ap (λ n. cond (not (name_eq rule.name nm)) (1 + n) 0) (before_of rules nm)
 
 many_of : (rules : List Rule) → length (names_of rules) ≡ length rules
 many_of [] = refl
 many_of (rule ∷ rules) = ap suc (many_of rules)
 
-rule_by_name : (rules : List Rule) (nm : Name) → position (λ n. name_eq n nm) (names_of rules) ≡ rule_place rules nm
-rule_by_name rules nm = λ i. cond (nat_lt (before_of rules nm i) (many_of rules i)) (Some (before_of rules nm i)) None
+rule_by_name : (rules : List Rule) (nm : Name)
+    → position (λ n. name_eq n nm) (names_of rules) ≡ rule_place rules nm
+rule_by_name rules nm =
+    λ i. cond (nat_lt (before_of rules nm i) (many_of rules i)) (Some (before_of rules nm i)) None
 
 -- a row gives the user and the place of the marker, by `end`, and `outcome` makes of it what is put there
-module _ {B : Type 0} (keys : PlacesAreOfKeys) (policy : Policy) (conn : ℕ) (f : Checked) (waivers : List (Option Waiver)) (change : Name → Change)
+module _ {B : Type 0} (keys : PlacesAreOfKeys) (policy : Policy) (conn : ℕ) (f : Checked)
+    (waivers : List (Option Waiver)) (change : Name → Change)
     (outcome : Result B Ending → signing.Outcome) (end : Named → B)
     (errs : (why : Ending) → outcome (Err why) ≡ signing.left (ended_by why) waivers)
-    (puts : (n : Named) → outcome (Ok (end n)) ≡ put_at change waivers n.place (user_of policy conn))
+    (puts : (n : Named) → outcome (Ok (end n)) ≡ put_at change waivers n.place
+    (user_of policy conn))
     (test : Named → Result (Unit {0}) Ending) (seen_test : Test)
-    (alike : (n : Named) → seen_test (marker_of f.planned.snapshot.shelf (user_of policy conn) n.marker (waiver_at waivers n.place)) ≡ test n)
+    (alike : (n : Named) → seen_test (marker_of f.planned.snapshot.shelf (user_of policy conn)
+    n.marker (waiver_at waivers n.place)) ≡ test n)
     (is : IsBook f.book) (places : length waivers ≡ length f.book) where
   abbrev shelf : List Submission
   shelf = f.planned.snapshot.shelf
@@ -139,63 +97,96 @@ module _ {B : Type 0} (keys : PlacesAreOfKeys) (policy : Policy) (conn : ℕ) (f
   tail n = test n >>= (λ free. Ok (end n))
 
   ended : (why : Ending) → Gives (outcome (Err why)) (Err why)
-  ended why = subst (λ o. Gives o (Err why)) (sym (errs why)) (record { reply = refl; changes = refl; view = refl })
+  ended why = subst (λ o. Gives o (Err why)) (sym (errs why))
+      (record { reply = refl; changes = refl; view = refl })
 
   abbrev new_at : ℕ → List (Option Waiver)
   new_at place = slice_set waivers place (change user (waiver_at waivers place))
 
-  left_at : (key : Key) (n : Named) → slice_get f.book n.place ≡ Some n.marker → place_in f.book key ≡ Some n.place → key_of n.marker ≡ key
-      → markers_seen shelf seen user (new_at n.place) 0 f.book ≡ map (with_waiver key (change user)) markers
+  left_at : (key : Key) (n : Named) → slice_get f.book n.place ≡ Some n.marker
+      → place_in f.book key ≡ Some n.place → key_of n.marker ≡ key
+      → markers_seen shelf seen user (new_at n.place) 0 f.book ≡ map (with_waiver key (change user))
+      markers
   left_at key n at e has =
       let here : 0 + n.place ≡ n.place = omega arith in
-      let within : n.place < length waivers = omega (arith, places, slice_get_within f.book n.place n.marker at) in
-      let put : waiver_at (new_at n.place) (0 + n.place) ≡ change user (waiver_at waivers (0 + n.place)) =
-      subst (λ k. waiver_at (new_at n.place) k ≡ change user (waiver_at waivers k)) (sym here) (put_here waivers n.place (change user (waiver_at waivers n.place)) within) in
-      changed_at shelf seen user key (change user) waivers (new_at n.place) 0 n.place n.marker f.book at
-      (found_key f.book key n.place n.marker e at) (only_at keys f.book key n.place n.marker is at has) put
-      (λ k other. put_there waivers n.place k (change user (waiver_at waivers n.place)) (λ q. other (q ∙ sym here)))
+      let within : n.place < length waivers =
+      omega (arith, places, slice_get_within f.book n.place n.marker at) in
+      let put : waiver_at (new_at n.place) (0 + n.place) ≡ change user
+      (waiver_at waivers (0 + n.place)) =
+      subst (λ k. waiver_at (new_at n.place) k ≡ change user (waiver_at waivers k)) (sym here)
+      (put_here waivers n.place (change user (waiver_at waivers n.place)) within) in
+      changed_at shelf seen user key (change user) waivers (new_at n.place) 0 n.place n.marker
+      f.book at
+      (found_key f.book key n.place n.marker e at)
+      (only_at keys f.book key n.place n.marker is at has) put
+      (λ k other. put_there waivers n.place k (change user (waiver_at waivers n.place))
+      (λ q. other (q ∙ sym here)))
 
-  by_test : (key : Key) (n : Named) → slice_get f.book n.place ≡ Some n.marker → place_in f.book key ≡ Some n.place → key_of n.marker ≡ key
-      → (r : Result (Unit {0}) Ending) → Gives (outcome (r >>= (λ free. Ok (end n)))) (r >>= (λ passed. Ok key))
+  by_test : (key : Key) (n : Named) → slice_get f.book n.place ≡ Some n.marker
+      → place_in f.book key ≡ Some n.place → key_of n.marker ≡ key
+      → (r : Result (Unit {0}) Ending) → Gives (outcome (r >>= (λ free. Ok (end n))))
+      (r >>= (λ passed. Ok key))
   by_test key n at e has (Err why) = ended why
   by_test key n at e has (Ok x) =
       subst (λ o. Gives o (Ok key)) (sym (puts n))
       (record {
         reply = refl;
         changes = refl;
-        view = ap (λ ms. Some (let b : BookSeen = record { markers = ms; rules = rules_seen seen f.book 0 f.planned.snapshot.deck.rules } in b)) (left_at key n at e has);
+        view =
+            ap (λ ms. Some (let b : BookSeen = record {
+              markers = ms;
+              rules = rules_seen seen f.book
+                  0 f.planned.snapshot.deck.rules;
+            } in b)) (left_at key n at e has);
       })
 
-  by_full : (key : Key) (n : Named) → slice_get f.book n.place ≡ Some n.marker → place_in f.book key ≡ Some n.place → key_of n.marker ≡ key → (b : Bool)
+  by_full : (key : Key) (n : Named) → slice_get f.book n.place ≡ Some n.marker
+      → place_in f.book key ≡ Some n.place → key_of n.marker ≡ key → (b : Bool)
       → Gives (outcome (cond b (Ok n) (Err (ending.Refused code.NoMarker)) >>= tail))
-      (tested seen_test key (cond b (Some (marker_of shelf user n.marker (waiver_at waivers n.place))) None))
+      (tested seen_test key (cond b (Some
+      (marker_of shelf user n.marker (waiver_at waivers n.place))) None))
   by_full key n at e has false = ended (ending.Refused code.NoMarker)
   by_full key n at e has true =
-      subst (λ r. Gives (outcome (test n >>= (λ free. Ok (end n)))) (r >>= (λ passed. Ok key))) (sym (alike n)) (by_test key n at e has (test n))
+      subst (λ r. Gives (outcome (test n >>= (λ free. Ok (end n)))) (r >>= (λ passed. Ok key)))
+      (sym (alike n)) (by_test key n at e has (test n))
 
-  by_key : (key : Key) (o : Option ℕ) → place_in f.book key ≡ o → Gives (outcome (signing.if_shown seen (found_at f.book o) >>= tail)) (tested seen_test key (marker_with key markers))
+  by_key : (key : Key) (o : Option ℕ) → place_in f.book key ≡ o
+      → Gives (outcome (signing.if_shown seen (found_at f.book o) >>= tail))
+      (tested seen_test key (marker_with key markers))
   by_key key None e =
-      subst (λ o. Gives (outcome (Err (ending.Refused code.NoMarker))) (tested seen_test key o)) (sym (seen_nowhere shelf seen user key waivers 0 f.book (nowhere f.book key e)))
+      subst (λ o. Gives (outcome (Err (ending.Refused code.NoMarker))) (tested seen_test key o))
+      (sym (seen_nowhere shelf seen user key waivers 0 f.book (nowhere f.book key e)))
       (ended (ending.Refused code.NoMarker))
   by_key key (Some i) e =
       let found = keys f.book key i e in
       let n : Named = record { place = i; marker = found.0 } in
       let here : 0 + i ≡ i = omega arith in
-      let at = seen_at_place shelf seen user key waivers 0 i found.0 f.book found.1 (found_key f.book key i found.0 e found.1) (only_at keys f.book key i found.0 is found.1 found.2) in
-      let told = at ∙ ap (λ k. cond (is_full seen found.0) (Some (marker_of shelf user found.0 (waiver_at waivers k))) None) here in
-      subst (λ o. Gives (outcome (signing.if_shown seen (with_place i o) >>= tail)) (tested seen_test key (marker_with key markers))) (sym found.1)
-      (subst (λ o. Gives (outcome (signing.if_full seen n >>= tail)) (tested seen_test key o)) (sym told) (by_full key n found.1 e found.2 (is_full seen found.0)))
+      let at = seen_at_place shelf seen user key waivers 0 i found.0 f.book found.1
+      (found_key f.book key i found.0 e found.1)
+      (only_at keys f.book key i found.0 is found.1 found.2) in
+      let told = at ∙ ap (λ k. cond (is_full seen found.0)
+      (Some (marker_of shelf user found.0 (waiver_at waivers k))) None) here in
+      subst (λ o. Gives (outcome (signing.if_shown seen (with_place i o) >>= tail))
+      (tested seen_test key (marker_with key markers))) (sym found.1)
+      (subst (λ o. Gives (outcome (signing.if_full seen n >>= tail)) (tested seen_test key o))
+      (sym told) (by_full key n found.1 e found.2 (is_full seen found.0)))
 
-  by_rule : (name : MarkerName) (o : Option ℕ) → Gives (outcome (signing.if_shown seen (found_by f.book name o) >>= tail)) (of_rule seen_test name markers o)
+  by_rule : (name : MarkerName) (o : Option ℕ)
+      → Gives (outcome (signing.if_shown seen (found_by f.book name o) >>= tail))
+      (of_rule seen_test name markers o)
   by_rule name None = ended (ending.Refused code.NoMarker)
   by_rule name (Some rule) = by_key (key_by name rule) (place_in f.book (key_by name rule)) refl
 
-  by_name_of : (name : MarkerName) → Gives (outcome (signing.shown policy conn f name >>= tail)) (of_book seen_test name (checked_view policy conn waivers f))
+  by_name_of : (name : MarkerName) → Gives (outcome (signing.shown policy conn f name >>= tail))
+      (of_book seen_test name (checked_view policy conn waivers f))
   unfolding signing.shown named_in
   by_name_of name =
       let rules = f.planned.snapshot.deck.rules in
-      subst (λ o. Gives (outcome (signing.if_shown seen (found_by f.book name (rule_place rules name.rule)) >>= tail)) (of_rule seen_test name markers o))
-      (sym (rule_by_name rules name.rule) ∙ ap (position (λ n. name_eq n name.rule)) (names_from seen f.book 0 rules))
+      subst (λ o. Gives (outcome (signing.if_shown seen
+      (found_by f.book name (rule_place rules name.rule)) >>= tail))
+      (of_rule seen_test name markers o))
+      (sym (rule_by_name rules name.rule) ∙ ap (position (λ n. name_eq n name.rule))
+      (names_from seen f.book 0 rules))
       (by_rule name (rule_place rules name.rule))
 
 -- ---- waive and sign
@@ -208,61 +199,86 @@ ask_seen marker = signing.passes (ask_test marker.waiver)
 
 abbrev sign_at : List Name → Name → Option Waiver → Result (Unit {0}) WaiverFault
 sign_at own who None = Err fault.NoWaiver
-sign_at own who (Some waiver) = cond (is_some waiver.signer) (Err fault.Known) (separation_test (slice_get own 0) waiver.asker who)
+sign_at own who (Some waiver) = cond (is_some waiver.signer) (Err fault.Known)
+    (separation_test (slice_get own 0) waiver.asker who)
 
 abbrev sign_seen : Name → Test
 sign_seen who marker = signing.passes (sign_at marker.own who marker.waiver)
 
-sign_alike : (stock : List Submission) (m : Marker) (who : Name) (o : Option Waiver) → sign_seen who (marker_of stock who m o) ≡ signing.passes (sign_test stock m.met who o)
+sign_alike : (stock : List Submission) (m : Marker) (who : Name) (o : Option Waiver)
+    → sign_seen who (marker_of stock who m o) ≡ signing.passes (sign_test stock m.met who o)
 unfolding least_own_cell
 sign_alike stock m who None = refl
 sign_alike stock m who (Some waiver) = refl
 
-early : (policy : Policy) (conn : ℕ) (change : Change) (waivers : List (Option Waiver)) (phase : Phase) (why : Ending)
+early : (policy : Policy) (conn : ℕ) (change : Change) (waivers : List (Option Waiver))
+    (phase : Phase) (why : Ending)
     → IsTold policy conn change phase waivers (signing.left (ended_by why) waivers) (Err why)
 early policy conn change waivers phase why = record { reply = refl; changes = refl; view = refl }
 
-behind : {B : Type 0} (policy : Policy) (conn : ℕ) (change : Change) (waivers : List (Option Waiver)) (phase : Phase)
-    → (outcome : Result B Ending → signing.Outcome) → ((why : Ending) → outcome (Err why) ≡ signing.left (ended_by why) waivers)
+behind : {B : Type 0} (policy : Policy) (conn : ℕ) (change : Change)
+    (waivers : List (Option Waiver)) (phase : Phase)
+    → (outcome : Result B Ending → signing.Outcome)
+    → ((why : Ending) → outcome (Err why) ≡ signing.left (ended_by why) waivers)
     → (p : Result (Unit {0}) Ending) (row : Result B Ending) (told : Result Key Ending)
-    → IsTold policy conn change phase waivers (outcome row) told → IsTold policy conn change phase waivers (outcome (p >>= (λ allowed. row))) (p >>= (λ allowed. told))
+    → IsTold policy conn change phase waivers (outcome row) told
+    → IsTold policy conn change phase waivers (outcome (p >>= (λ allowed. row)))
+    (p >>= (λ allowed. told))
 behind policy conn change waivers phase outcome errs (Ok x) row told is = is
 behind policy conn change waivers phase outcome errs (Err why) row told is =
-    subst (λ o. IsTold policy conn change phase waivers o (Err why)) (sym (errs why)) (early policy conn change waivers phase why)
+    subst (λ o. IsTold policy conn change phase waivers o (Err why)) (sym (errs why))
+    (early policy conn change waivers phase why)
 
-module _ (keys : PlacesAreOfKeys) (number : ℕ) (policy : Policy) (conn : ℕ) (waivers : List (Option Waiver)) (name : MarkerName) where
+module _ (keys : PlacesAreOfKeys) (number : ℕ) (policy : Policy) (conn : ℕ)
+    (waivers : List (Option Waiver)) (name : MarkerName) where
   waive_phase : (phase : Phase) → IsPhase number phase → length waivers ≡ book_size phase
       → IsTold policy conn (asked_by (user_of policy conn)) phase waivers
       (signing.waived_outcome waivers
-      (signing.finished phase >>= (λ f. signing.shown policy conn f name >>= (λ n. signing.passes (ask_test (waiver_at waivers n.place)) >>= (λ free. Ok (signing.by_user policy conn n))))))
+      (signing.finished phase >>= (λ f. signing.shown policy conn f name
+      >>= (λ n. signing.passes (ask_test (waiver_at waivers n.place))
+      >>= (λ free. Ok (signing.by_user policy conn n))))))
       (row_seen ask_seen name (book_view policy conn waivers phase))
-  waive_phase Idle is places = early policy conn (asked_by (user_of policy conn)) waivers Idle (ending.Refused code.NotFinished)
-  waive_phase (Cutting planned) is places = early policy conn (asked_by (user_of policy conn)) waivers (Cutting planned) (ending.Refused code.NotFinished)
-  waive_phase (Checking c) is places = early policy conn (asked_by (user_of policy conn)) waivers (Checking c) (ending.Refused code.NotFinished)
+  waive_phase Idle is places = early policy conn (asked_by (user_of policy conn)) waivers Idle
+      (ending.Refused code.NotFinished)
+  waive_phase (Cutting planned) is places = early policy conn (asked_by (user_of policy conn))
+      waivers (Cutting planned) (ending.Refused code.NotFinished)
+  waive_phase (Checking c) is places = early policy conn (asked_by (user_of policy conn)) waivers
+      (Checking c) (ending.Refused code.NotFinished)
   waive_phase (Finished f) is places =
-      by_name_of keys policy conn f waivers asked_by (signing.waived_outcome waivers) (signing.by_user policy conn) (λ why. refl) (λ n. refl)
-      (λ n. signing.passes (ask_test (waiver_at waivers n.place))) ask_seen (λ n. refl) is.1.0 places name
+      by_name_of keys policy conn f waivers asked_by (signing.waived_outcome waivers)
+      (signing.by_user policy conn) (λ why. refl) (λ n. refl)
+      (λ n. signing.passes (ask_test (waiver_at waivers n.place))) ask_seen (λ n. refl) is.1.0
+      places name
 
   sign_phase : (phase : Phase) → IsPhase number phase → length waivers ≡ book_size phase
       → IsTold policy conn (signed_by (user_of policy conn)) phase waivers
       (signing.signed_outcome waivers
-      (signing.finished phase >>= (λ f. signing.shown policy conn f name >>= (λ n. signing.apart f waivers n (user_of policy conn) >>= (λ free. Ok (signing.by_user policy conn n))))))
+      (signing.finished phase >>= (λ f. signing.shown policy conn f name
+      >>= (λ n. signing.apart f waivers n (user_of policy conn)
+      >>= (λ free. Ok (signing.by_user policy conn n))))))
       (row_seen (sign_seen (user_of policy conn)) name (book_view policy conn waivers phase))
-  sign_phase Idle is places = early policy conn (signed_by (user_of policy conn)) waivers Idle (ending.Refused code.NotFinished)
-  sign_phase (Cutting planned) is places = early policy conn (signed_by (user_of policy conn)) waivers (Cutting planned) (ending.Refused code.NotFinished)
-  sign_phase (Checking c) is places = early policy conn (signed_by (user_of policy conn)) waivers (Checking c) (ending.Refused code.NotFinished)
+  sign_phase Idle is places = early policy conn (signed_by (user_of policy conn)) waivers Idle
+      (ending.Refused code.NotFinished)
+  sign_phase (Cutting planned) is places = early policy conn (signed_by (user_of policy conn))
+      waivers (Cutting planned) (ending.Refused code.NotFinished)
+  sign_phase (Checking c) is places = early policy conn (signed_by (user_of policy conn)) waivers
+      (Checking c) (ending.Refused code.NotFinished)
   sign_phase (Finished f) is places =
-      by_name_of keys policy conn f waivers signed_by (signing.signed_outcome waivers) (signing.by_user policy conn) (λ why. refl) (λ n. refl)
+      by_name_of keys policy conn f waivers signed_by (signing.signed_outcome waivers)
+      (signing.by_user policy conn) (λ why. refl) (λ n. refl)
       (λ n. signing.apart f waivers n (user_of policy conn)) (sign_seen (user_of policy conn))
-      (λ n. sign_alike f.planned.snapshot.shelf n.marker (user_of policy conn) (waiver_at waivers n.place)) is.1.0 places name
+      (λ n. sign_alike f.planned.snapshot.shelf n.marker (user_of policy conn)
+      (waiver_at waivers n.place)) is.1.0 places name
 
 -- ---- of a state
 
 abbrev told_of : Operation → Test → MarkerName → State → ℕ → Result Key Ending
-told_of op test name s conn = permitted s.policy conn op object.Desk >>= (λ allowed. row_seen test name (book_view s.policy conn s.waivers s.run.phase))
+told_of op test name s conn = permitted s.policy conn op object.Desk
+    >>= (λ allowed. row_seen test name (book_view s.policy conn s.waivers s.run.phase))
 
 abbrev IsToldOf : State → ℕ → (Name → Change) → signing.Outcome → Result Key Ending → Type 0
-IsToldOf s conn change o told = IsTold s.policy conn (change (user_of s.policy conn)) s.run.phase s.waivers o told
+IsToldOf s conn change o told =
+    IsTold s.policy conn (change (user_of s.policy conn)) s.run.phase s.waivers o told
 
 abbrev waive_of : State → ℕ → MarkerName → signing.Outcome
 waive_of s conn name = signing.outcome_of s.policy s.wafer s.run s.waivers conn (sign.Waive name)
@@ -272,48 +288,69 @@ sign_of s conn name = signing.outcome_of s.policy s.wafer s.run s.waivers conn (
 
 waive_told : PlacesAreOfKeys → (s : State) (conn : ℕ) (name : MarkerName) → IsOrderly s
     → IsToldOf s conn asked_by (waive_of s conn name) (told_of operation.Waive ask_seen name s conn)
-unfolding signing.waived
+unfolding signing.waive_row
 waive_told keys s conn name orderly =
-    behind s.policy conn (asked_by (user_of s.policy conn)) s.waivers s.run.phase (signing.waived_outcome s.waivers) (λ why. refl)
+    behind s.policy conn (asked_by (user_of s.policy conn)) s.waivers s.run.phase
+    (signing.waived_outcome s.waivers) (λ why. refl)
     (permitted s.policy conn operation.Waive object.Desk)
-    (signing.finished s.run.phase >>= (λ f. signing.shown s.policy conn f name >>= (λ n. signing.passes (ask_test (waiver_at s.waivers n.place)) >>= (λ free. Ok (signing.by_user s.policy conn n)))))
+    (signing.finished s.run.phase >>= (λ f. signing.shown s.policy conn f name
+    >>= (λ n. signing.passes (ask_test (waiver_at s.waivers n.place))
+    >>= (λ free. Ok (signing.by_user s.policy conn n)))))
     (row_seen ask_seen name (book_view s.policy conn s.waivers s.run.phase))
-    (waive_phase keys s.run.number s.policy conn s.waivers name s.run.phase orderly.run orderly.places)
+    (waive_phase keys s.run.number s.policy conn s.waivers name s.run.phase orderly.run
+    orderly.places)
 
 sign_told : PlacesAreOfKeys → (s : State) (conn : ℕ) (name : MarkerName) → IsOrderly s
-    → IsToldOf s conn signed_by (sign_of s conn name) (told_of operation.Sign (sign_seen (user_of s.policy conn)) name s conn)
-unfolding signing.signed_off
+    → IsToldOf s conn signed_by (sign_of s conn name)
+    (told_of operation.Sign (sign_seen (user_of s.policy conn)) name s conn)
+unfolding signing.sign_row
 sign_told keys s conn name orderly =
-    behind s.policy conn (signed_by (user_of s.policy conn)) s.waivers s.run.phase (signing.signed_outcome s.waivers) (λ why. refl)
+    behind s.policy conn (signed_by (user_of s.policy conn)) s.waivers s.run.phase
+    (signing.signed_outcome s.waivers) (λ why. refl)
     (permitted s.policy conn operation.Sign object.Desk)
-    (signing.finished s.run.phase >>= (λ f. signing.shown s.policy conn f name >>= (λ n. signing.apart f s.waivers n (user_of s.policy conn) >>= (λ free. Ok (signing.by_user s.policy conn n)))))
-    (row_seen (sign_seen (user_of s.policy conn)) name (book_view s.policy conn s.waivers s.run.phase))
-    (sign_phase keys s.run.number s.policy conn s.waivers name s.run.phase orderly.run orderly.places)
+    (signing.finished s.run.phase >>= (λ f. signing.shown s.policy conn f name
+    >>= (λ n. signing.apart f s.waivers n (user_of s.policy conn)
+    >>= (λ free. Ok (signing.by_user s.policy conn n)))))
+    (row_seen (sign_seen (user_of s.policy conn)) name
+    (book_view s.policy conn s.waivers s.run.phase))
+    (sign_phase keys s.run.number s.policy conn s.waivers name s.run.phase orderly.run
+    orderly.places)
 
 -- ---- of two states
 
 user_seen : (policy : Policy) (o : Option Session)
-    → option_map_or (λ (s : Session). s.user) o [] ≡ option_map_or (λ (i : Identity). i.user) (option_map (identity_of policy) o) []
+    → option_map_or (λ (s : Session). s.user) o [] ≡ option_map_or (λ (i : Identity). i.user)
+    (option_map (identity_of policy) o) []
 user_seen policy None = refl
 user_seen policy (Some s) = refl
 
-same_user : (conn : ℕ) (a b : State) → SameView conn a b → user_of a.policy conn ≡ user_of b.policy conn
+same_user : (conn : ℕ) (a b : State) → SameView conn a b
+    → user_of a.policy conn ≡ user_of b.policy conn
 same_user conn a b same =
-    user_seen a.policy (session_of a.policy conn) ∙ ap (λ o. option_map_or (λ (i : Identity). i.user) o []) same.identity ∙ sym (user_seen b.policy (session_of b.policy conn))
+    user_seen a.policy (session_of a.policy conn)
+    ∙ ap (λ o. option_map_or (λ (i : Identity). i.user) o []) same.identity
+    ∙ sym (user_seen b.policy (session_of b.policy conn))
 
-told_alike : (conn : ℕ) (a b : State) → SameView conn a b → (op : Operation) (test : Name → Test) (name : MarkerName)
-    → told_of op (test (user_of a.policy conn)) name a conn ≡ told_of op (test (user_of b.policy conn)) name b conn
+told_alike : (conn : ℕ) (a b : State) → SameView conn a b
+    → (op : Operation) (test : Name → Test) (name : MarkerName)
+    → told_of op (test (user_of a.policy conn)) name a conn
+    ≡ told_of op (test (user_of b.policy conn)) name b conn
 told_alike conn a b same op test name =
     same_behind (permitted a.policy conn op object.Desk) (permitted b.policy conn op object.Desk)
-    (λ allowed. row_seen (test (user_of a.policy conn)) name (book_view a.policy conn a.waivers a.run.phase))
-    (λ allowed. row_seen (test (user_of b.policy conn)) name (book_view b.policy conn b.waivers b.run.phase))
+    (λ allowed. row_seen (test (user_of a.policy conn)) name
+    (book_view a.policy conn a.waivers a.run.phase))
+    (λ allowed. row_seen (test (user_of b.policy conn)) name
+    (book_view b.policy conn b.waivers b.run.phase))
     (same_permitted conn a b same op object.Desk)
     (λ allowed is.
-    let inside = (allowed_tells op object.Desk (is_some (session_of a.policy conn)) (permits a.policy conn op object.Desk) allowed is).0 in
+    let inside = (allowed_tells op object.Desk (is_some (session_of a.policy conn))
+    (permits a.policy conn op object.Desk) allowed is).0 in
     λ i. row_seen (test (same_user conn a b same i)) name ((same.sight inside).book i))
 
-both_alike : (conn : ℕ) (a b : State) → SameView conn a b → (change : Name → Change) (first second : signing.Outcome) (told other : Result Key Ending)
-    → IsToldOf a conn change first told → IsToldOf b conn change second other → told ≡ other → SameOutcome conn (over_waivers a first) (over_waivers b second)
+both_alike : (conn : ℕ) (a b : State) → SameView conn a b
+    → (change : Name → Change) (first second : signing.Outcome) (told other : Result Key Ending)
+    → IsToldOf a conn change first told → IsToldOf b conn change second other → told ≡ other
+    → SameOutcome conn (over_waivers a first) (over_waivers b second)
 both_alike conn a b same change first second told other of_a of_b e = record {
   told = ap (λ r. response.Told r) (of_a.reply ∙ ap key_reply e ∙ sym of_b.reply);
   changes = of_a.changes ∙ ap is_ok e ∙ sym of_b.changes;
@@ -325,20 +362,29 @@ both_alike conn a b same change first second told other of_a of_b e = record {
           grants = s.grants;
           cells = s.cells;
           run = s.run;
-          book = of_a.view ∙ (λ i. view_left (change (same_user conn a b same i)) (e i) (s.book i)) ∙ sym of_b.view;
+          book = of_a.view ∙ (λ i. view_left (change (same_user conn a b same i)) (e i) (s.book i))
+              ∙ sym of_b.view;
         };
   };
 }
 
-pub waive_alike : PlacesAreOfKeys → (conn : ℕ) (a b : State) → IsOrderly a → IsOrderly b → SameView conn a b → (name : MarkerName)
-    → SameOutcome conn (over_waivers a (waive_of a conn name)) (over_waivers b (waive_of b conn name))
+pub waive_alike : PlacesAreOfKeys → (conn : ℕ) (a b : State) → IsOrderly a → IsOrderly b
+    → SameView conn a b → (name : MarkerName)
+    → SameOutcome conn (over_waivers a (waive_of a conn name))
+    (over_waivers b (waive_of b conn name))
 waive_alike keys conn a b orderly ordered same name =
-    both_alike conn a b same asked_by (waive_of a conn name) (waive_of b conn name) (told_of operation.Waive ask_seen name a conn) (told_of operation.Waive ask_seen name b conn)
-    (waive_told keys a conn name orderly) (waive_told keys b conn name ordered) (told_alike conn a b same operation.Waive (λ who. ask_seen) name)
+    both_alike conn a b same asked_by (waive_of a conn name) (waive_of b conn name)
+    (told_of operation.Waive ask_seen name a conn)
+    (told_of operation.Waive ask_seen name b conn)
+    (waive_told keys a conn name orderly) (waive_told keys b conn name ordered)
+    (told_alike conn a b same operation.Waive (λ who. ask_seen) name)
 
-pub sign_alike_in : PlacesAreOfKeys → (conn : ℕ) (a b : State) → IsOrderly a → IsOrderly b → SameView conn a b → (name : MarkerName)
+pub sign_alike_in : PlacesAreOfKeys → (conn : ℕ) (a b : State) → IsOrderly a → IsOrderly b
+    → SameView conn a b → (name : MarkerName)
     → SameOutcome conn (over_waivers a (sign_of a conn name)) (over_waivers b (sign_of b conn name))
 sign_alike_in keys conn a b orderly ordered same name =
     both_alike conn a b same signed_by (sign_of a conn name) (sign_of b conn name)
-    (told_of operation.Sign (sign_seen (user_of a.policy conn)) name a conn) (told_of operation.Sign (sign_seen (user_of b.policy conn)) name b conn)
-    (sign_told keys a conn name orderly) (sign_told keys b conn name ordered) (told_alike conn a b same operation.Sign sign_seen name)
+    (told_of operation.Sign (sign_seen (user_of a.policy conn)) name a conn)
+    (told_of operation.Sign (sign_seen (user_of b.policy conn)) name b conn)
+    (sign_told keys a conn name orderly) (sign_told keys b conn name ordered)
+    (told_alike conn a b same operation.Sign sign_seen name)

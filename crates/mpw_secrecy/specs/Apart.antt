@@ -13,7 +13,8 @@ use Rattle.mpw_core.specs.History.{state_after}
 use Rattle.mpw_core.specs.Step.{State, new_state}
 
 -- A run is finished, at that place of its book stands a marker, and the signer neither asked for its waiver nor submitted what it meets.
-pub record IsSignedApart (phase : Phase) (place : ℕ) (waiver : Waiver) (signer : Name) : Type 0 where
+pub record IsSignedApart (phase : Phase) (place : ℕ) (waiver : Waiver) (signer : Name) :
+    Type 0 where
   pub checked : Checked
   pub marker : Marker
   pub finished : phase ≡ Finished checked
@@ -24,8 +25,10 @@ pub record IsSignedApart (phase : Phase) (place : ℕ) (waiver : Waiver) (signer
 abbrev pub AreSignedApart : State → Type 0
 AreSignedApart state =
     (place : ℕ) (waiver : Waiver) (signer : Name)
-    → waiver_at state.waivers place ≡ Some waiver → waiver.signer ≡ Some signer → IsSignedApart state.run.phase place waiver signer
+    → waiver_at state.waivers place ≡ Some waiver → waiver.signer ≡ Some signer
+    → IsSignedApart state.run.phase place waiver signer
 
 -- In every state that calls lead to.
 abbrev pub EveryStateIsSignedApart : Type 0
-EveryStateIsSignedApart = (officer digest : List ℕ) (calls : List Call) → AreSignedApart (state_after (new_state officer digest) calls)
+EveryStateIsSignedApart = (officer digest : List ℕ) (calls : List Call)
+    → AreSignedApart (state_after (new_state officer digest) calls)

@@ -20,15 +20,16 @@ use Rattle.mpw_core.specs.declared.event.Response.TheVariants as response
 use Rattle.mpw_core.specs.Step.{State, response_of}
 
 -- There is a waiver of a marker, and one signed it who neither asked for it nor submitted what the marker meets.
-pub record IsWaived (shelf : List Submission) (marker : Marker) (found : Option Waiver) : Type 0 where
+pub record IsWaived (shelf : List Submission) (marker : Marker) (found : Option Waiver) :
+    Type 0 where
   pub waiver : Waiver
   pub signer : Name
   pub is : found ≡ Some waiver
   pub signed : waiver.signer ≡ Some signer
   pub apart : IsApart shelf marker.met signer waiver
 
--- A run is finished whose deck and placings are those of the wafer, its book has just the markers of the flat layout that it looked
--- at, and each of them is waived so.
+-- A run is finished whose deck and placed submissions are those of the wafer, its book has just the markers of the flat layout that
+-- it looked at, and each of them is waived so.
 pub record MayStart (state : State) : Type 0 where
   pub checked : Checked
   pub finished : state.run.phase ≡ Finished checked
@@ -42,5 +43,6 @@ pub record MayStart (state : State) : Type 0 where
 abbrev pub CleanWafersMayStart : State → Type 0
 CleanWafersMayStart state =
     (conn : ℕ) (kept : Bool)
-    → response_of state (event.Ask conn (ask.SignOff Verdict)) kept ≡ response.Told (reply.Ok (stored line.Clean ∷ []))
+    → response_of state (event.Ask conn (ask.SignOff Verdict)) kept ≡ response.Told
+    (reply.Ok (stored line.Clean ∷ []))
     → MayStart state

@@ -57,12 +57,14 @@ pub record Asked : Type 0 where
 abbrev pub answers_to : ℕ → State → List Asked → List Response
 answers_to conn state [] = []
 answers_to conn state (asked ∷ rest) =
-    response_of state (event.Ask conn asked.request) asked.kept ∷ answers_to conn (after state (event.Ask conn asked.request) asked.kept) rest
+    response_of state (event.Ask conn asked.request) asked.kept
+    ∷ answers_to conn (after state (event.Ask conn asked.request) asked.kept) rest
 
 -- The state that they leave.
 abbrev pub state_behind : ℕ → State → List Asked → State
 state_behind conn state [] = state
-state_behind conn state (asked ∷ rest) = state_behind conn (after state (event.Ask conn asked.request) asked.kept) rest
+state_behind conn state (asked ∷ rest) =
+    state_behind conn (after state (event.Ask conn asked.request) asked.kept) rest
 
 pub record SameBehind (conn : ℕ) (a b : State) (requests : List Asked) : Type 0 where
   pub answers : answers_to conn a requests ≡ answers_to conn b requests
@@ -74,7 +76,8 @@ AreListings (asked ∷ rest) = (is_listing asked.request ≡ true) × AreListing
 
 abbrev pub EqualViewsGiveEqualLists : Type 0
 EqualViewsGiveEqualLists =
-    (conn : ℕ) (a b : State) (requests : List Asked) → SameView conn a b → AreListings requests → SameBehind conn a b requests
+    (conn : ℕ) (a b : State) (requests : List Asked) → SameView conn a b → AreListings requests
+    → SameBehind conn a b requests
 
 abbrev pub AreOfView : List Asked → Type 0
 AreOfView [] = Unit {0}
@@ -83,8 +86,10 @@ AreOfView (asked ∷ rest) = (is_of_view asked.request ≡ true) × AreOfView re
 abbrev pub EqualViewsGiveEqualAnswersToLists : Type 0
 EqualViewsGiveEqualAnswersToLists =
     (conn : ℕ) (a b : State) (requests : List Asked)
-    → IsOrderly a → IsOrderly b → SameView conn a b → AreOfView requests → SameBehind conn a b requests
+    → IsOrderly a → IsOrderly b → SameView conn a b → AreOfView requests
+    → SameBehind conn a b requests
 
 -- Of two states: what every list of these requests is answered.
 abbrev pub EqualViewsAreAnsweredAlike : State → State → Type 0
-EqualViewsAreAnsweredAlike a b = (conn : ℕ) (requests : List Asked) → SameView conn a b → AreOfView requests → SameBehind conn a b requests
+EqualViewsAreAnsweredAlike a b = (conn : ℕ) (requests : List Asked) → SameView conn a b
+    → AreOfView requests → SameBehind conn a b requests

@@ -54,7 +54,8 @@ pub record CellSeen : Type 0 where
   pub shapes : List ShapeSeen
 
 abbrev pub shape_of : Submission → Item → ShapeSeen
-shape_of s item = record { cell = s.cell; version = s.version; placing = item.placing; element = item.element }
+shape_of s item =
+    record { cell = s.cell; version = s.version; placing = item.placing; element = item.element }
 
 abbrev pub shape_seen : Policy → ℕ → Item → Option Submission → List ShapeSeen
 shape_seen policy conn item None = []
@@ -62,12 +63,18 @@ shape_seen policy conn item (Some s) = if may_read policy conn s then shape_of s
 
 -- The shapes of the submission of a number.
 abbrev pub shapes_seen : Policy → ℕ → List Submission → ℕ → List ShapeSeen
-shapes_seen policy conn shelf number = flat_map (λ item. shape_seen policy conn item (slice_get shelf item.origin)) (flat shelf number)
+shapes_seen policy conn shelf number =
+    flat_map (λ item. shape_seen policy conn item (slice_get shelf item.origin)) (flat shelf number)
 
 abbrev pub seen_at : Policy → ℕ → List Submission → ℕ → Option Submission → Option CellSeen
 seen_at policy conn shelf number None = None
 seen_at policy conn shelf number (Some s) =
-    Some (record { version = s.version; submitter = s.submitter; shapes = shapes_seen policy conn shelf number })
+    Some (record {
+      version = s.version;
+      submitter = s.submitter;
+      shapes = shapes_seen policy conn
+          shelf number;
+    })
 
 abbrev pub cell_at : Policy → ℕ → List Submission → Option ℕ → Option CellSeen
 cell_at policy conn shelf None = None
@@ -120,16 +127,25 @@ pub record BookSeen : Type 0 where
   pub rules : List RuleSeen
 
 abbrev pub marker_of : List Submission → Name → Marker → Option Waiver → MarkerSeen
-marker_of shelf user m waiver = record { key = key_of m; cells = met_cells shelf m.met; own = by_name (own_cells shelf m.met user); waiver = waiver }
+marker_of shelf user m waiver = record {
+  key = key_of m;
+  cells = met_cells shelf m.met;
+  own = by_name (own_cells shelf m.met user);
+  waiver = waiver;
+}
 
-abbrev pub marker_seen : List Submission → List Bool → Name → Marker → Option Waiver → List MarkerSeen
-marker_seen shelf seen user m waiver = if is_full seen m then marker_of shelf user m waiver ∷ [] else []
+abbrev pub marker_seen : List Submission → List Bool → Name → Marker → Option Waiver
+    → List MarkerSeen
+marker_seen shelf seen user m waiver =
+    if is_full seen m then marker_of shelf user m waiver ∷ [] else []
 
 -- Those from a place of the book on.
-unfoldable pub markers_seen : List Submission → List Bool → Name → List (Option Waiver) → ℕ → List Marker → List MarkerSeen
+unfoldable pub markers_seen : List Submission → List Bool → Name → List (Option Waiver) → ℕ
+    → List Marker → List MarkerSeen
 markers_seen shelf seen user waivers place [] = []
 markers_seen shelf seen user waivers place (m ∷ book) =
-    marker_seen shelf seen user m (waiver_at waivers place) ++ markers_seen shelf seen user waivers (place + 1) book
+    marker_seen shelf seen user m (waiver_at waivers place)
+    ++ markers_seen shelf seen user waivers (place + 1) book
 
 abbrev pub masked_of : List Bool → List Marker → ℕ → ℕ
 masked_of seen book rule = length (filter (λ m. (m.rule == rule) && is_masked seen m) book)
@@ -138,17 +154,24 @@ masked_of seen book rule = length (filter (λ m. (m.rule == rule) && is_masked s
 unfoldable pub rules_seen : List Bool → List Marker → ℕ → List Rule → List RuleSeen
 rules_seen seen book place [] = []
 rules_seen seen book place (rule ∷ rules) =
-    record { name = rule.name; masked = masked_of seen book place } ∷ rules_seen seen book (place + 1) rules
+    record { name = rule.name; masked = masked_of seen book place }
+    ∷ rules_seen seen book (place + 1) rules
 
-abbrev pub book_seen : List Submission → List Bool → Name → List (Option Waiver) → List Rule → List Marker → BookSeen
+abbrev pub book_seen : List Submission → List Bool → Name → List (Option Waiver) → List Rule
+    → List Marker → BookSeen
 book_seen shelf seen user waivers rules book =
-    record { markers = markers_seen shelf seen user waivers 0 book; rules = rules_seen seen book 0 rules }
+    record {
+      markers = markers_seen shelf seen user waivers 0 book;
+      rules = rules_seen seen book 0
+          rules;
+    }
 
 -- Of what a finished run found.
 abbrev pub checked_view : Policy → ℕ → List (Option Waiver) → Checked → BookSeen
 checked_view policy conn waivers f =
     let shelf = f.planned.snapshot.shelf in
-    book_seen shelf (seen_by policy conn shelf) (user_of policy conn) waivers f.planned.snapshot.deck.rules f.book
+    book_seen shelf (seen_by policy conn shelf) (user_of policy conn) waivers
+    f.planned.snapshot.deck.rules f.book
 
 -- Nothing where no run is finished.
 abbrev pub book_view : Policy → ℕ → List (Option Waiver) → Phase → Option BookSeen
@@ -162,11 +185,13 @@ book_view policy conn waivers (Finished f) = Some (checked_view policy conn waiv
 -- Whatever an operation and an object are, they are granted to the acting roles of both sessions or of neither; of each cell that
 -- may be read, of the run and of its book both see the same.
 pub record SameSight (conn : ℕ) (a b : State) : Type 0 where
-  pub grants : (operation : Operation) (object : Object) → permits a.policy conn operation object ≡ permits b.policy conn operation object
+  pub grants : (operation : Operation) (object : Object)
+      → permits a.policy conn operation object ≡ permits b.policy conn operation object
   pub cells : (cell : Name) → permits a.policy conn Read (object.Cell cell) ≡ true
       → cell_view a.policy conn a.shelf cell ≡ cell_view b.policy conn b.shelf cell
   pub run : run_view a.run ≡ run_view b.run
-  pub book : book_view a.policy conn a.waivers a.run.phase ≡ book_view b.policy conn b.waivers b.run.phase
+  pub book : book_view a.policy conn a.waivers a.run.phase ≡ book_view b.policy conn b.waivers
+      b.run.phase
 
 -- Two desks of which the sessions of a connection have the same view: both or neither have a session, of the same user with the same
 -- roles, and where there is one, it sees the same.

@@ -56,9 +56,9 @@ pub fn every_state_is_signed_apart()
     waivers_are_of_shown_markers();
 }
 
-/// A wafer may start where the verdict of its desk is `clean`, whoever asks: the run is finished, deck and placings are those that it
-/// looked at, its book has just the markers of the flat layout of these, and each of them has a waiver that was signed by one
-/// who neither asked for it nor submitted what the marker meets.
+/// A wafer may start where the verdict of its desk is `clean`, whoever asks: the run is finished, deck and placed submissions are
+/// those that it looked at, its book has just the markers of the flat layout that it looked at, and each of them has a waiver that
+/// was signed by one who neither asked for it nor submitted what the marker meets.
 pub fn clean_wafers_may_start(core: &Core)
     ensures { CleanWafersMayStart (state_of core.now) }
 {

@@ -2,9 +2,9 @@
 //!
 //! The view of a session is what it may know of a desk: who its user is, with the active and the authorized roles; what these may do;
 //! of each cell that it may read the present submission, with the shapes of it that come from cells that it may read; how far the
-//! run is; and of a run that is finished the markers that are shown in full, each with the cells that it meets, those of which the
-//! user submitted what it meets and its waiver, and per rule how many are masked. Two desks of which a connection's sessions
-//! have the same view give the same answers to `whoami`, `cells`, `shapes`, `status`, `markers`, `waivers`, `waive` and `sign`,
+//! run is, with its number; and of a run that is finished the markers that are shown in full, each with the cells that it meets,
+//! those of which the user submitted what it meets and its waiver, and per rule its name and how many are masked. Two desks of
+//! which a connection's sessions have the same view give the same answers to `whoami`, `cells`, `shapes`, `status`, `markers`, `waivers`, `waive` and `sign`,
 //! whatever else they hold, where neither desk is closed or at its limit and both or neither keep each change. The views are the
 //! same again behind them.
 //!

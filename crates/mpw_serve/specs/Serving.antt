@@ -27,9 +27,9 @@ pub data Answer : Type 0 where
   starved : Answer
 
 -- an answered line: one that asks something, and one that is no request's text
-pub data Turn : Type 0 where
-  asked : List ℕ → Request → Answer → Turn
-  malformed : List ℕ → Turn
+pub data AnsweredLine : Type 0 where
+  asked : List ℕ → Request → Answer → AnsweredLine
+  malformed : List ℕ → AnsweredLine
 
 -- what ended the connection: the end of the input (`closed`, which says nothing of the desk), a line that is too long or
 -- asks for too large a payload, an input that ends before what is to follow a line, no room for a request, a source that failed,
@@ -41,7 +41,7 @@ pub data Stop : Type 0 where
   starving : Stop
   unreadable : Stop
   spent : Stop
-  unwritten : Turn → Stop
+  unwritten : AnsweredLine → Stop
 
 -- the text of a response: what is told of a request. Nobody is told of the other events
 abbrev pub response_text : Response → List ℕ
@@ -55,13 +55,9 @@ abbrev pub answer_text : Answer → List ℕ
 answer_text (replied response) = response_text response
 answer_text starved = refusal_text refusal.Memory
 
-abbrev pub answer_of : Option Response → Answer
-answer_of None = starved
-answer_of (Some response) = replied response
-
-abbrev pub turn_text : Turn → List ℕ
-turn_text (asked line request answer) = answer_text answer
-turn_text (malformed line) = refusal_text refusal.Form
+abbrev pub answered_text : AnsweredLine → List ℕ
+answered_text (asked line request answer) = answer_text answer
+answered_text (malformed line) = refusal_text refusal.Form
 
 abbrev pub stop_text : Stop → List ℕ
 stop_text closed = []
@@ -70,26 +66,33 @@ stop_text cut = refusal_text refusal.Cut
 stop_text starving = refusal_text refusal.Memory
 stop_text unreadable = []
 stop_text spent = []
-stop_text (unwritten turn) = turn_text turn
+stop_text (unwritten turn) = answered_text turn
 
 -- the desk's response is its own, and the desk goes on with it, its keeper too; a run that is accepted is then worked off. Want of memory
 -- leaves both
 abbrev pub IsAnswer : ℕ → Request → KeptDesk → Answer → KeptDesk → Type 0
 IsAnswer conn request desk (replied response) desk' =
-    (asked : KeptDesk) × IsHandled desk (event.Ask conn request) response asked × WorksBehind request response asked desk'
+    (asked : KeptDesk) × IsHandled desk (event.Ask conn request) response asked
+    × WorksBehind request response asked desk'
 IsAnswer conn request desk starved desk' = desk' ≡ desk
 
 -- the text is taken off the input, and it gets what it asks; a line that is no request's text leaves the desk
-abbrev pub IsTurn : ℕ → Option (List ℕ) → KeptDesk → Turn → Option (List ℕ) → KeptDesk → Type 0
-IsTurn conn input desk (asked line request answer) input' desk' =
+abbrev pub IsAnsweredLine : ℕ → Option (List ℕ) → KeptDesk → AnsweredLine → Option (List ℕ)
+    → KeptDesk → Type 0
+IsAnsweredLine conn input desk (asked line request answer) input' desk' =
     IsText input input' line request × IsAnswer conn request desk answer desk'
-IsTurn conn input desk (malformed line) input' desk' = TakesLine input input' line × (ask_of line ≡ ask.Form) × (desk' ≡ desk)
+IsAnsweredLine conn input desk (malformed line) input' desk' =
+    TakesLine input input' line × (ask_of line ≡ ask.Form) × (desk' ≡ desk)
 
 -- the lines were answered one after the other
-pub data IsTrace (conn : ℕ) (input : Option (List ℕ)) (desk : KeptDesk) : List Turn → Option (List ℕ) → KeptDesk → Type 0 where
+pub data IsTrace (conn : ℕ) (input : Option (List ℕ)) (desk : KeptDesk) : List AnsweredLine
+    → Option (List ℕ) → KeptDesk → Type 0 where
   none : IsTrace conn input desk [] input desk
-  then : (turns : List Turn) (turn : Turn) (input' input'' : Option (List ℕ)) (desk' desk'' : KeptDesk)
-      → IsTrace conn input desk turns input' desk' → IsTurn conn input' desk' turn input'' desk'' → IsTrace conn input desk (turns ++ turn ∷ []) input'' desk''
+  then : (turns : List AnsweredLine) (turn : AnsweredLine) (input' input'' : Option (List ℕ))
+      (desk' desk'' : KeptDesk)
+      → IsTrace conn input desk turns input' desk'
+      → IsAnsweredLine conn input' desk' turn input'' desk''
+      → IsTrace conn input desk (turns ++ turn ∷ []) input'' desk''
 
 -- the greatest number of lines of one connection
 abbrev pub max_lines : ℕ
@@ -97,13 +100,20 @@ max_lines = 4096
 
 -- what ended the connection did so, after that many lines
 abbrev pub IsStop : ℕ → ℕ → Option (List ℕ) → KeptDesk → Stop → Option (List ℕ) → KeptDesk → Type 0
-IsStop conn lines input desk closed input' desk' = (lines < max_lines) × TakesNothing input input' × (desk' ≡ desk)
-IsStop conn lines input desk long input' desk' = (lines < max_lines) × TakesTooLong input input' × (desk' ≡ desk)
-IsStop conn lines input desk cut input' desk' = (lines < max_lines) × TakesCut input input' × (desk' ≡ desk)
-IsStop conn lines input desk starving input' desk' = (lines < max_lines) × BreaksMemory input input' × (desk' ≡ desk)
-IsStop conn lines input desk unreadable input' desk' = (lines < max_lines) × BreaksRead input input' × (desk' ≡ desk)
-IsStop conn lines input desk spent input' desk' = (lines ≡ max_lines) × (input' ≡ input) × (desk' ≡ desk)
-IsStop conn lines input desk (unwritten turn) input' desk' = (lines < max_lines) × IsTurn conn input desk turn input' desk'
+IsStop conn lines input desk closed input' desk' =
+    (lines < max_lines) × TakesNothing input input' × (desk' ≡ desk)
+IsStop conn lines input desk long input' desk' =
+    (lines < max_lines) × TakesTooLong input input' × (desk' ≡ desk)
+IsStop conn lines input desk cut input' desk' =
+    (lines < max_lines) × TakesCut input input' × (desk' ≡ desk)
+IsStop conn lines input desk starving input' desk' =
+    (lines < max_lines) × BreaksMemory input input' × (desk' ≡ desk)
+IsStop conn lines input desk unreadable input' desk' =
+    (lines < max_lines) × BreaksRead input input' × (desk' ≡ desk)
+IsStop conn lines input desk spent input' desk' =
+    (lines ≡ max_lines) × (input' ≡ input) × (desk' ≡ desk)
+IsStop conn lines input desk (unwritten turn) input' desk' =
+    (lines < max_lines) × IsAnsweredLine conn input desk turn input' desk'
 
 -- the end that is told where no device failed
 abbrev pub end_of : Stop → Option End
@@ -136,7 +146,8 @@ Tells stop (Err Memory) = ⊥
 abbrev pub Written : Option (List ℕ) → Option (List ℕ) → Option WireFault → List ℕ → List ℕ → Type 0
 Written output output' None before last = Appends output output' (before ++ last)
 Written output output' (Some Read) before last = Appends output output' (before ++ last)
-Written output output' (Some Write) before last = (front : List ℕ) × (rest : List ℕ) × (front ++ rest ≡ last) × Appends output output' (before ++ front)
+Written output output' (Some Write) before last = (front : List ℕ) × (rest : List ℕ)
+    × (front ++ rest ≡ last) × Appends output output' (before ++ front)
 Written output output' (Some Memory) before last = ⊥
 
 -- how often the sink has failed after a call with this fault: a fault of writing is a failure
@@ -147,26 +158,31 @@ write_failures (Some Write) failures = u64_saturate (failures + 1)
 write_failures (Some Memory) failures = failures
 
 -- the lines of a connection: those that were answered, what ended it, and the text of all that
-pub record ServesLines (conn : ℕ) (input input' output output' : Option (List ℕ)) (desk desk' : KeptDesk) (result : Result End WireFault) : Type 0 where
-  pub turns : List Turn
+pub record ServesLines (conn : ℕ) (input input' output output' : Option (List ℕ))
+    (desk desk' : KeptDesk) (result : Result End WireFault) : Type 0 where
+  pub turns : List AnsweredLine
   pub left : Option (List ℕ)
   pub reached : KeptDesk
   pub stop : Stop
   pub answered : IsTrace conn input desk turns left reached
   pub stopped : IsStop conn (length turns) left reached stop input' desk'
   pub told : Tells stop result
-  pub written : Written output output' (fault_of result) (flat_map turn_text turns) (stop_text stop)
+  pub written : Written output output' (fault_of result) (flat_map answered_text turns)
+      (stop_text stop)
 
 -- whether the end of the connection was handed to the desk: it was, with the desk's response; or there was no memory, and
 -- the desk is left
 abbrev pub IsGone : ℕ → KeptDesk → Bool → KeptDesk → Type 0
-IsGone conn desk true desk' = (response : Response) × IsHandled desk (event.Gone conn) response desk'
+IsGone conn desk true desk' =
+    (response : Response) × IsHandled desk (event.Gone conn) response desk'
 IsGone conn desk false desk' = desk' ≡ desk
 
 -- a connection: its lines, and then its end, however the lines ended
-abbrev pub Serves : ℕ → Option (List ℕ) → Option (List ℕ) → Option (List ℕ) → Option (List ℕ) → KeptDesk → KeptDesk → Served → Type 0
+abbrev pub Serves : ℕ → Option (List ℕ) → Option (List ℕ) → Option (List ℕ) → Option (List ℕ)
+    → KeptDesk → KeptDesk → Served → Type 0
 Serves conn input input' output output' desk desk' served =
-    (reached : KeptDesk) × ServesLines conn input input' output output' desk reached served.ended × IsGone conn reached served.is_gone desk'
+    (reached : KeptDesk) × ServesLines conn input input' output output' desk reached served.ended
+    × IsGone conn reached served.is_gone desk'
 
 -- where nothing was pending in the sink, nothing is, unless the sink failed
 abbrev pub LeavesNothingPending : Option WireFault → Bool → Bool → Type 0
@@ -176,20 +192,6 @@ LeavesNothingPending (Some Write) before behind = ⊤
 LeavesNothingPending (Some Memory) before behind = before ≡ false → behind ≡ false
 
 -- the end, where what is written for it was written
-abbrev pub told : {A : Type 0} → Option End → Result A WireFault → Result (Option End) WireFault
-told end (Ok answer) = Ok end
-told end (Err fault) = Err fault
-
--- one line ends the connection
-pub record StopsLine (conn : ℕ) (input input' output output' : Option (List ℕ)) (desk desk' : KeptDesk) (result : Result End WireFault) : Type 0 where
-  pub stop : Stop
-  pub stopped : IsStop conn 0 input desk stop input' desk'
-  pub told : Tells stop result
-  pub written : Written output output' (fault_of result) [] (stop_text stop)
-
--- one line is answered, or it ends the connection
-abbrev pub ServesLine : ℕ → Option (List ℕ) → Option (List ℕ) → Option (List ℕ) → Option (List ℕ) → KeptDesk → KeptDesk → Result (Option End) WireFault → Type 0
-ServesLine conn input input' output output' desk desk' (Ok None) =
-    (turn : Turn) × IsTurn conn input desk turn input' desk' × Appends output output' (turn_text turn)
-ServesLine conn input input' output output' desk desk' (Ok (Some end)) = StopsLine conn input input' output output' desk desk' (Ok end)
-ServesLine conn input input' output output' desk desk' (Err fault) = StopsLine conn input input' output output' desk desk' (Err fault)
+abbrev pub with_end : {A : Type 0} → Option End → Result A WireFault → Result (Option End) WireFault
+with_end end (Ok answer) = Ok end
+with_end end (Err fault) = Err fault

@@ -3,7 +3,8 @@ ghost use Rattle.std.specs.Prelude.{◌≡◌, ℕ, List, Option};
 ghost use Rattle.mpw_core.specs.History.{KeptDesk, GoesOnTo, kept_desk};
 ghost use Rattle.mpw_wire.specs.Reading.{read_failures};
 ghost use Rattle.mpw_wire.specs.Writing.{Writes, fault_of};
-ghost use Rattle.mpw_serve.specs.Serving.{Answer, told, IsAnswer, answer_of, answer_text, response_text, ServesLine, ServesLines, IsGone, LeavesNothingPending, Serves, write_failures};
+ghost use Rattle.mpw_serve.specs.Serving.{Answer, with_end, IsAnswer, answer_text, response_text, ServesLines, IsGone, LeavesNothingPending, Serves, write_failures};
+ghost use Rattle.mpw_serve.specs.Internal.Serving.{answer_of, ServesLine};
 
 use mpw_core::{Core, Event, Keeper, Response, keepers_have_the_changes_in_order};
 use mpw_requests::SharedRequest;
@@ -20,9 +21,9 @@ pub const MAX_LINES: usize = 4096;
 pub enum End {
     /// The input was read to its end.
     Closed,
-    /// A line was longer than 4096 bytes, or asked to submit more than 2^24.
+    /// A line was longer than 4096 bytes, or asked for a payload of more than 2^24.
     Long,
-    /// The input ended before the bytes that a line asked to submit.
+    /// The input ended before the payload that a line asked for.
     Cut,
     /// There was no room to read a line.
     Memory,
@@ -89,8 +90,8 @@ fn answer<K: Keeper, W: Sink, P: Progress>(
 }
 
 /// The end, where what is written for it was written.
-fn told(end: Option<End>, written: Result<(), WireFault>) -> Result<Option<End>, WireFault>
-    ensures { result ≡ told end written }
+fn with_end(end: Option<End>, written: Result<(), WireFault>) -> Result<Option<End>, WireFault>
+    ensures { result ≡ with_end end written }
 {
     match written {
         Ok(()) => Ok(end),
@@ -115,16 +116,16 @@ fn serve_line<K: Keeper, R: Source, W: Sink, P: Progress>(
     ensures handed { LeavesNothingPending (fault_of result) (W.pending writer.old) (W.pending writer.new) }
 {
     match read_request(alloc, reader) {
-        Ok(Asked::Request(request)) => told(
+        Ok(Asked::Request(request)) => with_end(
             None,
             answer(rt, alloc, core, keeper, conn, request, writer, progress),
         ),
-        Ok(Asked::Form) => told(None, write_refusal(Refusal::Form, writer)),
-        Ok(Asked::Long) => told(Some(End::Long), write_refusal(Refusal::Long, writer)),
-        Ok(Asked::Cut) => told(Some(End::Cut), write_refusal(Refusal::Cut, writer)),
+        Ok(Asked::Form) => with_end(None, write_refusal(Refusal::Form, writer)),
+        Ok(Asked::Long) => with_end(Some(End::Long), write_refusal(Refusal::Long, writer)),
+        Ok(Asked::Cut) => with_end(Some(End::Cut), write_refusal(Refusal::Cut, writer)),
         Ok(Asked::End) => Ok(Some(End::Closed)),
         Err(WireFault::Memory) => {
-            told(Some(End::Memory), write_refusal(Refusal::Memory, writer))
+            with_end(Some(End::Memory), write_refusal(Refusal::Memory, writer))
         }
         Err(WireFault::Read) => Err(WireFault::Read),
         Err(WireFault::Write) => Err(WireFault::Write),

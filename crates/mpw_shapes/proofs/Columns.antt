@@ -26,33 +26,90 @@ pub record Passes (U D U' D' ups downs ups' downs' : ℕ) (x c : ℤ) : Type 0 w
   pub up' : x ≤ℤ c → U' ≡ ups'
   pub down' : x ≤ℤ c → D' ≡ downs'
 
-pub filled_opening : (U D U' D' ups downs ups' downs' : ℕ) (x c start : ℤ) → Passes U D U' D' ups downs ups' downs' x c → ups ≡ downs → ups' ≢ downs' → filled U' D' ups' downs' c x ≡ filled U D ups downs c start
+pub filled_opening : (U D U' D' ups downs ups' downs' : ℕ) (x c start : ℤ)
+    → Passes U D U' D' ups downs ups' downs' x c → ups ≡ downs → ups' ≢ downs'
+    → filled U' D' ups' downs' c x ≡ filled U D ups downs c start
 filled_opening U D U' D' ups downs ups' downs' x c start p e n =
     elim (cases_lt_z c x) [
-      | inl lt ↦ rw (p.left_up lt, p.left_down lt, ne_eqb ups' downs' n, test_from_lt c x lt, eq-eqb ups downs e)
-      | inr le ↦ rw (p.up le, p.down le, p.up' le, p.down' le, ne_eqb ups' downs' n, not_lt_test c x le, eq-eqb ups downs e)
+      | inl lt ↦ rw (
+        p.left_up lt,
+        p.left_down lt,
+        ne_eqb ups' downs' n,
+        test_from_lt c x lt,
+        eq-eqb ups downs e,
+      )
+      | inr le ↦ rw (
+        p.up le,
+        p.down le,
+        p.up' le,
+        p.down' le,
+        ne_eqb ups' downs' n,
+        not_lt_test c x le,
+        eq-eqb ups downs e,
+      )
     ]
 
-pub filled_staying : (U D U' D' ups downs ups' downs' : ℕ) (x c start : ℤ) → Passes U D U' D' ups downs ups' downs' x c → ups ≢ downs → ups' ≢ downs' → start ≤ℤ x → filled U' D' ups' downs' c start ≡ filled U D ups downs c start
+pub filled_staying : (U D U' D' ups downs ups' downs' : ℕ) (x c start : ℤ)
+    → Passes U D U' D' ups downs ups' downs' x c → ups ≢ downs → ups' ≢ downs' → start ≤ℤ x
+    → filled U' D' ups' downs' c start ≡ filled U D ups downs c start
 filled_staying U D U' D' ups downs ups' downs' x c start p m n h =
     elim (cases_lt_z c x) [
       | inl lt ↦ rw (p.left_up lt, p.left_down lt, ne_eqb ups' downs' n, ne_eqb ups downs m)
       | inr le ↦
           let out : start ≤ℤ c = omega (arith, ints) in
-          rw (p.up le, p.down le, p.up' le, p.down' le, ne_eqb ups' downs' n, ne_eqb ups downs m, not_lt_test c start out)
+          rw (
+            p.up le,
+            p.down le,
+            p.up' le,
+            p.down' le,
+            ne_eqb ups' downs' n,
+            ne_eqb ups downs m,
+            not_lt_test c start out,
+          )
     ]
 
-pub filled_closing : (U D U' D' ups downs ups' downs' : ℕ) (x c start start' : ℤ) → Passes U D U' D' ups downs ups' downs' x c → ups ≢ downs → ups' ≡ downs' → start ≤ℤ x → (start ≤ℤ c → not (U == D) ≡ true) → filled U' D' ups' downs' c start' ≡ (filled U D ups downs c start || (int_le start c && int_lt c x))
+pub filled_closing : (U D U' D' ups downs ups' downs' : ℕ) (x c start start' : ℤ)
+    → Passes U D U' D' ups downs ups' downs' x c → ups ≢ downs → ups' ≡ downs' → start ≤ℤ x
+    → (start ≤ℤ c → not (U == D) ≡ true)
+    → filled U' D' ups' downs' c start'
+    ≡ (filled U D ups downs c start || (int_le start c && int_lt c x))
 filled_closing U D U' D' ups downs ups' downs' x c start start' p m e h inside =
     elim (cases_lt_z c x) [
       | inl lt ↦
           elim (cases_lt_z c start) [
-            | inl before ↦ rw (p.left_up lt, p.left_down lt, eq-eqb ups' downs' e, ne_eqb ups downs m, test_from_lt c start before, not_le_test start c before) (or_nothing (not (U == D)))
-            | inr after ↦ rw (p.left_up lt, p.left_down lt, eq-eqb ups' downs' e, ne_eqb ups downs m, inside after, not_lt_test c start after, test_from_le start c after, test_from_lt c x lt)
+            | inl before ↦ rw (
+              p.left_up lt,
+              p.left_down lt,
+              eq-eqb ups' downs' e,
+              ne_eqb ups downs m,
+              test_from_lt c start before,
+              not_le_test start c before,
+            )
+                (or_nothing (not (U == D)))
+            | inr after ↦ rw (
+              p.left_up lt,
+              p.left_down lt,
+              eq-eqb ups' downs' e,
+              ne_eqb ups downs m,
+              inside after,
+              not_lt_test c start after,
+              test_from_le start c after,
+              test_from_lt c x lt,
+            )
           ]
       | inr le ↦
           let out : start ≤ℤ c = omega (arith, ints) in
-          rw (p.up le, p.down le, p.up' le, p.down' le, eq-eqb ups' downs' e, ne_eqb ups downs m, not_lt_test c start out, not_lt_test c x le, test_from_le start c out)
+          rw (
+            p.up le,
+            p.down le,
+            p.up' le,
+            p.down' le,
+            eq-eqb ups' downs' e,
+            ne_eqb ups downs m,
+            not_lt_test c start out,
+            not_lt_test c x le,
+            test_from_le start c out,
+          )
     ]
   where
     or_nothing : (b : Bool) → (b && true) ≡ ((b && true) || false)

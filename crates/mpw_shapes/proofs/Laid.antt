@@ -18,8 +18,18 @@ half_of path = int_div path.width (pos 2)
 pub half_reach : (path : Path) → IsPath path → IsWithinReach (half_of path)
 half_reach path h =
     rw h.width (record {
-      above = omega (arith, ints, rw h.width at h.width_within_reach.above, rw h.width at h.width_within_reach.below);
-      below = omega (arith, ints, rw h.width at h.width_within_reach.above, rw h.width at h.width_within_reach.below);
+      above = omega (
+        arith,
+        ints,
+        rw h.width at h.width_within_reach.above,
+        rw h.width at h.width_within_reach.below,
+      );
+      below = omega (
+        arith,
+        ints,
+        rw h.width at h.width_within_reach.above,
+        rw h.width at h.width_within_reach.below,
+      );
     })
 
 -- the boxes of the path are in the list, but for those of the rest of the centre line
@@ -28,10 +38,13 @@ pub record Laid (path : Path) (wire : Wire) (rest : List Point) (boxes : List Bo
   pub behind : wire.behind ≡ half_of path
   pub before : IsWithinReach wire.before
   pub points : All IsPointWithinReach rest
-  pub squares : (s : Square) → (any_has_square boxes s || any_has_square (wire_boxes (half_of path) wire.before path.end rest) s) ≡ path_has path s
+  pub squares : (s : Square) → (any_has_square boxes s
+      || any_has_square (wire_boxes (half_of path) wire.before path.end rest) s) ≡ path_has path s
   pub area : All HasArea boxes
 
-pub laid_none : (path : Path) (wire : Wire) → IsPath path → wire ≡ record { half = half_of path; before = path.begin; behind = half_of path } → Laid path wire path.points []
+pub laid_none : (path : Path) (wire : Wire) → IsPath path
+    → wire ≡ record { half = half_of path; before = path.begin; behind = half_of path }
+    → Laid path wire path.points []
 unfolding path_has any_has_square
 laid_none path wire h e = rw e (record {
   half = refl;
@@ -50,21 +63,28 @@ or_false : (a : Bool) → (a || false) ≡ a
 or_false true = refl
 or_false false = refl
 
-first_box : (half before end : ℤ) (rest : List Point) (s : Square) → 2 < length rest → any_has_square (wire_boxes half before end rest) s ≡ (has_square (wire_box half before half (get_or rest 0 no_point) (get_or rest 1 no_point)) s || any_has_square (wire_boxes half half end (drop 1 rest)) s)
+first_box : (half before end : ℤ) (rest : List Point) (s : Square) → 2 < length rest
+    → any_has_square (wire_boxes half before end rest) s
+    ≡ (has_square (wire_box half before half (get_or rest 0 no_point) (get_or rest 1 no_point)) s
+    || any_has_square (wire_boxes half half end (drop 1 rest)) s)
 unfolding wire_boxes any_has_square
 first_box half before end [] s h = absurd (omega (arith, h))
 first_box half before end (p ∷ []) s h = absurd (omega (arith, h))
 first_box half before end (p ∷ q ∷ []) s h = absurd (omega (arith, h))
 first_box half before end (p ∷ q ∷ r ∷ ps) s h = refl
 
-last_box : (half before end : ℤ) (rest : List Point) (s : Square) → length rest ≡ 2 → any_has_square (wire_boxes half before end rest) s ≡ (has_square (wire_box half before end (get_or rest 0 no_point) (get_or rest 1 no_point)) s || false)
+last_box : (half before end : ℤ) (rest : List Point) (s : Square) → length rest ≡ 2
+    → any_has_square (wire_boxes half before end rest) s
+    ≡ (has_square (wire_box half before end (get_or rest 0 no_point) (get_or rest 1 no_point)) s
+    || false)
 unfolding wire_boxes any_has_square
 last_box half before end [] s h = absurd (omega (arith, h))
 last_box half before end (p ∷ []) s h = absurd (omega (arith, h))
 last_box half before end (p ∷ q ∷ []) s h = refl
 last_box half before end (p ∷ q ∷ r ∷ ps) s h = absurd (omega (arith, h))
 
-no_box_left : (half before end : ℤ) (rest : List Point) (s : Square) → length rest < 2 → any_has_square (wire_boxes half before end rest) s ≡ false
+no_box_left : (half before end : ℤ) (rest : List Point) (s : Square) → length rest < 2
+    → any_has_square (wire_boxes half before end rest) s ≡ false
 unfolding wire_boxes any_has_square
 no_box_left half before end [] s h = refl
 no_box_left half before end (p ∷ []) s h = refl
@@ -101,8 +121,15 @@ pub laid_last : (path : Path) (wire : Wire) (last : Wire) (rest : List Point)
     → ((s : Square) → any_has_square boxes' s ≡ (any_has_square boxes s || has_square b s))
     → (s : Square) → any_has_square boxes' s ≡ path_has path s
 laid_last path wire last rest boxes boxes' b t two e f added s =
-    rw (added s, e, f, t.half) (rw (last_box (half_of path) wire.before path.end rest s two, or_false (has_square (wire_box (half_of path) wire.before path.end (get_or rest 0 no_point) (get_or rest 1 no_point)) s)) at (t.squares s))
+    rw (added s, e, f, t.half) (rw (
+      last_box (half_of path) wire.before path.end rest s two,
+      or_false (has_square (wire_box (half_of path) wire.before path.end (get_or rest 0 no_point)
+          (get_or rest 1 no_point)) s),
+    ) at (t.squares s))
 
-pub laid_all : (path : Path) (wire : Wire) (rest : List Point) (boxes : List Box2) → Laid path wire rest boxes → length rest < 2 → (s : Square) → any_has_square boxes s ≡ path_has path s
+pub laid_all : (path : Path) (wire : Wire) (rest : List Point) (boxes : List Box2)
+    → Laid path wire rest boxes → length rest < 2 → (s : Square)
+    → any_has_square boxes s ≡ path_has path s
 laid_all path wire rest boxes t few s =
-    sym (or_false (any_has_square boxes s)) ∙ rw (no_box_left (half_of path) wire.before path.end rest s few) at (t.squares s)
+    sym (or_false (any_has_square boxes s))
+    ∙ rw (no_box_left (half_of path) wire.before path.end rest s few) at (t.squares s)

@@ -18,22 +18,32 @@ or_false : (a : Bool) → a ≡ (a || false)
 or_false true = refl
 or_false false = refl
 
-pub any_push : (boxes : List Box2) (b : Box2) (s : Square) → any_has_square (boxes ++ b ∷ []) s ≡ (any_has_square boxes s || has_square b s)
+pub any_push : (boxes : List Box2) (b : Box2) (s : Square)
+    → any_has_square (boxes ++ b ∷ []) s ≡ (any_has_square boxes s || has_square b s)
 unfolding any_has_square
-any_push boxes b s = list_any-append (λ b. has_square b s) boxes (b ∷ []) ∙ or_none (list_any (λ b. has_square b s) boxes) (has_square b s)
+any_push boxes b s = list_any-append (λ b. has_square b s) boxes (b ∷ [])
+    ∙ or_none (list_any (λ b. has_square b s) boxes) (has_square b s)
 
 -- a box without area has no square
 pub empty_box : (b : Box2) (s : Square) → ((b.x1 ≤ℤ b.x0) ⊎ (b.y1 ≤ℤ b.y0)) → has_square b s ≡ false
 empty_box b s e =
     false_from_ne_true (has_square b s) (λ h.
     let i = SquareIn-from_test b s h in
-    elim e [ inl x ↦ omega (arith, ints, i.left, i.right) | inr y ↦ omega (arith, ints, i.bottom, i.top) ])
+    elim e [
+      | inl x ↦ omega (arith, ints, i.left, i.right)
+      | inr y
+          ↦ omega (arith, ints, i.bottom, i.top)
+    ])
 
-pub any_push_empty : (boxes : List Box2) (b : Box2) (s : Square) → ((b.x1 ≤ℤ b.x0) ⊎ (b.y1 ≤ℤ b.y0)) → any_has_square boxes s ≡ (any_has_square boxes s || has_square b s)
+pub any_push_empty : (boxes : List Box2) (b : Box2) (s : Square) → ((b.x1 ≤ℤ b.x0) ⊎ (b.y1 ≤ℤ b.y0))
+    → any_has_square boxes s ≡ (any_has_square boxes s || has_square b s)
 any_push_empty boxes b s e = or_false (any_has_square boxes s) ∙ rw (empty_box b s e)
 
 -- a box with the rows of the box below it has the squares of both
-pub joined_boxes : (lower upper both : Box2) (s : Square) → HasArea lower → HasArea upper → lower.x0 ≡ upper.x0 → lower.x1 ≡ upper.x1 → lower.y1 ≡ upper.y0 → both ≡ record { x0 = upper.x0; y0 = lower.y0; x1 = upper.x1; y1 = upper.y1 } → has_square both s ≡ (has_square lower s || has_square upper s)
+pub joined_boxes : (lower upper both : Box2) (s : Square) → HasArea lower → HasArea upper
+    → lower.x0 ≡ upper.x0 → lower.x1 ≡ upper.x1 → lower.y1 ≡ upper.y0
+    → both ≡ record { x0 = upper.x0; y0 = lower.y0; x1 = upper.x1; y1 = upper.y1 }
+    → has_square both s ≡ (has_square lower s || has_square upper s)
 joined_boxes lower upper both s a b e f g is =
     let whole : Box2 = record { x0 = upper.x0; y0 = lower.y0; x1 = upper.x1; y1 = upper.y1 } in
     ap (λ (x : Box2). has_square x s) is
@@ -41,20 +51,39 @@ joined_boxes lower upper both s a b e f g is =
     (λ h.
     let i = SquareIn-from_test whole s h in
     elim (cases_lt_z s.row lower.y1) [
-      | inl below ↦ or_left (has_square lower s) (has_square upper s) (test_from_SquareIn lower s (record { left = omega (arith, ints, i.left); right = omega (arith, ints, i.right); bottom = i.bottom; top = below }))
-      | inr above ↦ or_right (has_square lower s) (has_square upper s) (test_from_SquareIn upper s (record { left = i.left; right = i.right; bottom = omega (arith, ints, g); top = i.top }))
+      | inl below ↦ or_left (has_square lower s) (has_square upper s)
+          (test_from_SquareIn lower s (record {
+            left = omega (arith, ints, i.left);
+            right = omega (arith, ints, i.right);
+            bottom = i.bottom;
+            top = below;
+          }))
+      | inr above ↦ or_right (has_square lower s) (has_square upper s)
+          (test_from_SquareIn upper s (record
+          { left = i.left; right = i.right; bottom = omega (arith, ints, g); top = i.top }))
     ])
     (λ h.
     elim (or_cases (has_square lower s) (has_square upper s) h) [
       | inl l ↦
           let i = SquareIn-from_test lower s l in
-          test_from_SquareIn whole s (record { left = omega (arith, ints, i.left); right = omega (arith, ints, i.right); bottom = i.bottom; top = omega (arith, ints, i.top, b.height, g) })
+          test_from_SquareIn whole s (record {
+            left = omega (arith, ints, i.left);
+            right = omega (arith, ints, i.right);
+            bottom = i.bottom;
+            top = omega (arith, ints, i.top, b.height, g);
+          })
       | inr u ↦
           let i = SquareIn-from_test upper s u in
-          test_from_SquareIn whole s (record { left = i.left; right = i.right; bottom = omega (arith, ints, i.bottom, a.height, g); top = i.top })
+          test_from_SquareIn whole s (record {
+            left = i.left;
+            right = i.right;
+            bottom = omega (arith, ints, i.bottom, a.height, g);
+            top = i.top;
+          })
     ])
 
-pub joined_area : (lower upper both : Box2) → HasArea lower → HasArea upper → lower.y1 ≡ upper.y0 → both ≡ record { x0 = upper.x0; y0 = lower.y0; x1 = upper.x1; y1 = upper.y1 } → HasArea both
+pub joined_area : (lower upper both : Box2) → HasArea lower → HasArea upper → lower.y1 ≡ upper.y0
+    → both ≡ record { x0 = upper.x0; y0 = lower.y0; x1 = upper.x1; y1 = upper.y1 } → HasArea both
 joined_area lower upper both a b g is =
     rw is (record { width = b.width; height = omega (arith, ints, a.height, b.height, g) })
 
@@ -65,7 +94,8 @@ or_swap false true false = refl
 or_swap false false true = refl
 or_swap false false false = refl
 
-any_first : (p : Box2 → Bool) (x : Box2) (xs : List Box2) (y : Box2) (b : Bool) → p y ≡ (p x || b) → (p y || list_any p xs) ≡ ((p x || list_any p xs) || b)
+any_first : (p : Box2 → Bool) (x : Box2) (xs : List Box2) (y : Box2) (b : Bool) → p y ≡ (p x || b)
+    → (p y || list_any p xs) ≡ ((p x || list_any p xs) || b)
 any_first p x xs y b h = rw h (or_swap (p x) b (list_any p xs))
 
 or_group : (a b c : Bool) → (a || (b || c)) ≡ ((a || b) || c)
@@ -73,15 +103,19 @@ or_group true b c = refl
 or_group false b c = refl
 
 -- one box of a list is exchanged for one with more squares
-list_any-set : (p : Box2 → Bool) (xs : List Box2) (k : ℕ) (y d : Box2) (b : Bool) → k < length xs → p y ≡ (p (get_or xs k d) || b) → list_any p (set xs k y) ≡ (list_any p xs || b)
+list_any-set : (p : Box2 → Bool) (xs : List Box2) (k : ℕ) (y d : Box2) (b : Bool) → k < length xs
+    → p y ≡ (p (get_or xs k d) || b) → list_any p (set xs k y) ≡ (list_any p xs || b)
 list_any-set p [] k y d b h e = absurd (omega (arith, h))
 list_any-set p (x ∷ xs) zero y d b h e = any_first p x xs y b e
 list_any-set p (x ∷ xs) (suc k) y d b h e =
     rw (list_any-set p xs k y d b (omega (arith, h)) e) (or_group (p x) (list_any p xs) b)
 
-pub any-set : (boxes : List Box2) (k : ℕ) (y d : Box2) (b : Bool) (s : Square) → k < length boxes → has_square y s ≡ (has_square (get_or boxes k d) s || b) → any_has_square (set boxes k y) s ≡ (any_has_square boxes s || b)
+pub any-set : (boxes : List Box2) (k : ℕ) (y d : Box2) (b : Bool) (s : Square) → k < length boxes
+    → has_square y s ≡ (has_square (get_or boxes k d) s || b)
+    → any_has_square (set boxes k y) s ≡ (any_has_square boxes s || b)
 unfolding any_has_square
 any-set boxes k y d b s h e = list_any-set (λ x. has_square x s) boxes k y d b h e
 
-pub area_at : (boxes : List Box2) (k : ℕ) (b : Box2) → All HasArea boxes → k < length boxes → b ≡ get_or boxes k b → HasArea b
+pub area_at : (boxes : List Box2) (k : ℕ) (b : Box2) → All HasArea boxes → k < length boxes
+    → b ≡ get_or boxes k b → HasArea b
 area_at boxes k b all h e = subst HasArea (sym e) (all k b h)

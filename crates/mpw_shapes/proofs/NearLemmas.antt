@@ -9,11 +9,12 @@ use Rattle.std.proofs.lemmas.List.Sums.{AllPass-from_list_all}
 use Rattle.mpw_geom.specs.declared.plane.Point.{Point}
 use Rattle.mpw_geom.proofs.Tests.{le_from_test}
 use Rattle.mpw_elements.specs.Element.{IsPointWithinReach}
-use Rattle.mpw_shapes.specs.Near.{is_near}
+use Rattle.mpw_shapes.specs.Internal.Near.{is_near}
 
 near_reach : (p : Point) → is_near p ≡ true → IsPointWithinReach p
 near_reach p h =
-    let a = and_parts (int_le (neg_ℤ (pos 1000)) p.x && int_le p.x (pos 1000)) (int_le (neg_ℤ (pos 1000)) p.y && int_le p.y (pos 1000)) h in
+    let a = and_parts (int_le (neg_ℤ (pos 1000)) p.x && int_le p.x (pos 1000))
+    (int_le (neg_ℤ (pos 1000)) p.y && int_le p.y (pos 1000)) h in
     let b = and_parts (int_le (neg_ℤ (pos 1000)) p.x) (int_le p.x (pos 1000)) a.0 in
     let c = and_parts (int_le (neg_ℤ (pos 1000)) p.y) (int_le p.y (pos 1000)) a.1 in
     let x0 = le_from_test (neg_ℤ (pos 1000)) p.x b.0 in
@@ -26,4 +27,5 @@ near_reach p h =
     }
 
 pub all_near : (ps : List Point) → list_all is_near ps ≡ true → All IsPointWithinReach ps
-all_near ps h = All-weaker (λ (p : Point). is_near p ≡ true) IsPointWithinReach near_reach ps (AllPass-from_list_all is_near ps h)
+all_near ps h = All-weaker (λ (p : Point). is_near p ≡ true) IsPointWithinReach near_reach ps
+    (AllPass-from_list_all is_near ps h)

@@ -16,7 +16,7 @@ use Rattle.std.proofs.lemmas.Bool.{true≢false, cases_lt}
 use Rattle.std.proofs.lemmas.Bool.Decides.{Decides-int_eq}
 use Rattle.mpw_geom.proofs.Tests.{lt_from_test}
 use Rattle.mpw_shapes.specs.declared.edge.Edge.{Edge}
-use Rattle.mpw_shapes.specs.Edges.{AreApart, AreFromLeft, AreFromBelow}
+use Rattle.mpw_shapes.specs.Internal.Edges.{AreApart, AreFromLeft, AreFromBelow}
 
 le_from_not_lt : (a b : ℤ) → int_lt a b ≡ false → b ≤ℤ a
 le_from_not_lt a b h = grind (arith, ints)
@@ -34,9 +34,12 @@ first_of_two Less p h = h
 first_of_two Equal p h = refl
 first_of_two Greater p h = refl
 
-pub from_left_from_sorted : (edges : List Edge) → IsSortedByKey (λ (e : Edge). e.x) int_cmp edges → AreFromLeft edges
+pub from_left_from_sorted : (edges : List Edge) → IsSortedByKey (λ (e : Edge). e.x) int_cmp edges
+    → AreFromLeft edges
 from_left_from_sorted edges sorted i j d l h =
-    le_from_cmp (get_or edges j d).x (get_or edges i d).x (sorted_far (λ (a b : Edge). is_lt (int_cmp a.x b.x)) (ranks_by int_cmp_total (λ (e : Edge). e.x)) edges sorted i j d l h)
+    le_from_cmp (get_or edges j d).x (get_or edges i d).x
+    (sorted_far (λ (a b : Edge). is_lt (int_cmp a.x b.x))
+    (ranks_by int_cmp_total (λ (e : Edge). e.x)) edges sorted i j d l h)
 
 pub from_below_from_apart : (rows : List ℤ) → AreApart rows → AreFromBelow rows
 from_below_from_apart rows apart i j d l h =
@@ -60,17 +63,24 @@ apart_from_strict : (rows : List ℤ) → IsStrictlySortedBy int_cmp rows → Ar
 unfolding IsStrictlySortedBy
 apart_from_strict [] strict i j d l h = absurd (omega (arith, h))
 apart_from_strict (x ∷ xs) strict zero zero d l h = absurd (omega (arith, l))
-apart_from_strict (x ∷ xs) strict zero (suc j) d l h = lt_from_less x (get_or xs j d) (All-from_recursion (λ y. int_cmp x y ≡ Less) xs strict.0 j d (omega (arith, h)))
+apart_from_strict (x ∷ xs) strict zero (suc j) d l h = lt_from_less x (get_or xs j d)
+    (All-from_recursion (λ y. int_cmp x y ≡ Less) xs strict.0 j d (omega (arith, h)))
 apart_from_strict (x ∷ xs) strict (suc i) zero d l h = absurd (omega (arith, l))
-apart_from_strict (x ∷ xs) strict (suc i) (suc j) d l h = apart_from_strict xs strict.1 i j d (omega (arith, l)) (omega (arith, h))
+apart_from_strict (x ∷ xs) strict (suc i) (suc j) d l h =
+    apart_from_strict xs strict.1 i j d (omega (arith, l)) (omega (arith, h))
 
 ties : (a b : ℤ) → int_eq a b ≡ eq_by_cmp int_cmp a b
 ties a b = refl
 
 -- what a sort and the removal of repeats leave
-pub apart_from_sorted : (sorted rows : List ℤ) → IsSorted int_cmp sorted → IsFiltered (DiffersFromLast int_eq) [] sorted rows → AreApart rows
-apart_from_sorted sorted rows up kept = rw (dedup_is int_eq sorted rows kept) (apart_from_strict _ (IsStrictlySortedBy-dedup int_cmp_total ties sorted up))
+pub apart_from_sorted : (sorted rows : List ℤ) → IsSorted int_cmp sorted
+    → IsFiltered (DiffersFromLast int_eq) [] sorted rows → AreApart rows
+apart_from_sorted sorted rows up kept = rw (dedup_is int_eq sorted rows kept)
+    (apart_from_strict _ (IsStrictlySortedBy-dedup int_cmp_total ties sorted up))
 
-pub kept_heights : (heights sorted rows : List ℤ) (y : ℤ) → IsPermutation heights sorted → IsFiltered (DiffersFromLast int_eq) [] sorted rows → Contains heights y → Contains rows y
+pub kept_heights : (heights sorted rows : List ℤ) (y : ℤ) → IsPermutation heights sorted
+    → IsFiltered (DiffersFromLast int_eq) [] sorted rows → Contains heights y → Contains rows y
 kept_heights heights sorted rows y same kept has =
-    rw (dedup_is int_eq sorted rows kept) (Contains-dedup int_eq_equiv (λ a b. (Decides-int_eq a b).0) sorted y (Contains-permutation heights sorted y same has))
+    rw (dedup_is int_eq sorted rows kept)
+    (Contains-dedup int_eq_equiv (λ a b. (Decides-int_eq a b).0) sorted y
+    (Contains-permutation heights sorted y same has))

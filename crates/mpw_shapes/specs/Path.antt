@@ -23,8 +23,10 @@ unfoldable pub wire_boxes : ℤ → ℤ → ℤ → List Point → List Box2
 wire_boxes half before end [] = []
 wire_boxes half before end (p ∷ []) = []
 wire_boxes half before end (p ∷ q ∷ []) = wire_box half before end p q ∷ []
-wire_boxes half before end (p ∷ q ∷ r ∷ ps) = wire_box half before half p q ∷ wire_boxes half half end (q ∷ r ∷ ps)
+wire_boxes half before end (p ∷ q ∷ r ∷ ps) =
+    wire_box half before half p q ∷ wire_boxes half half end (q ∷ r ∷ ps)
 
 -- the path has the unit square; a box without area has none
 unfoldable pub path_has : Path → Square → Bool
-path_has path s = any_has_square (wire_boxes (int_div path.width (pos 2)) path.begin path.end path.points) s
+path_has path s =
+    any_has_square (wire_boxes (int_div path.width (pos 2)) path.begin path.end path.points) s

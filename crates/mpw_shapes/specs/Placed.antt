@@ -19,4 +19,5 @@ BoundarySquaresArePlaced = (t : Placing) (corners : List Point) (s : Square)
 abbrev pub PathSquaresArePlaced : Type 0
 PathSquaresArePlaced = (t : Placing) (path : Path) (s : Square)
     → IsTrue (each_step is_segment path.points)
-    → path_has (record path { points = map (placed_point t) path.points }) (placed_square t s) ≡ path_has path s
+    → path_has (record path { points = map (placed_point t) path.points }) (placed_square t s)
+    ≡ path_has path s

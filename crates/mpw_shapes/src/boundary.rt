@@ -3,7 +3,7 @@
 ghost use Rattle.std.specs.Prelude.{◌≡◌, ℤ, All, Contains, IfOk, map};
 ghost use Rattle.mpw_geom.specs.Plane.{Square, HasArea, any_has_square};
 ghost use Rattle.mpw_shapes.specs.Boundary.{boundary_has};
-ghost use Rattle.mpw_shapes.specs.Edges.{AreApart};
+ghost use Rattle.mpw_shapes.specs.Internal.Edges.{AreApart};
 
 use crate::edge::edges_of;
 use crate::sweep::sweep;

@@ -3,8 +3,8 @@
 ghost use Rattle.std.specs.Prelude.{◌≡◌, ◌+◌, ℤ, List, All, Contains, IfOk, OnOk, count_by, if◌then◌else◌, map};
 ghost use Rattle.mpw_geom.specs.Plane.{Square};
 ghost use Rattle.mpw_shapes.specs.Boundary.{upward, downward, rises_across};
-ghost use Rattle.mpw_shapes.specs.Edges.{AreFromLeft, HasEndsAmong, rises_left, falls_left};
-ghost use Rattle.mpw_shapes.specs.Rows.{turn_of};
+ghost use Rattle.mpw_shapes.specs.Internal.Edges.{AreFromLeft, HasEndsAmong, rises_left, falls_left};
+ghost use Rattle.mpw_shapes.specs.Internal.Rows.{turn_of};
 
 use crate::rows::Added;
 use mpw_geom::Point;

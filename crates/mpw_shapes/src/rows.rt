@@ -7,7 +7,7 @@
 
 ghost use Rattle.std.specs.Prelude.{◌≡◌, ◌≢◌, ◌<◌, ◌+◌, ◌^◌, ◌↔◌, ℕ, ℤ, pos, ◌+ℤ◌, ◌≤ℤ◌, ◌<ℤ◌, IsTrue, List, IfOk, FitsSigned};
 ghost use Rattle.std.specs.Int.{int_max, w64};
-ghost use Rattle.mpw_shapes.specs.Rows.{IsBuilt, IsOutside, half_at, middle, past, raised, reach, size_of, state_at, turn_of};
+ghost use Rattle.mpw_shapes.specs.Internal.Rows.{IsBuilt, IsOutside, half_at, middle, past, raised, reach, size_of, state_at, turn_of};
 
 use crate::edge::Edge;
 use std::alloc::{AllocError, Global};
@@ -34,7 +34,7 @@ impl State {
     }
 
     /// The row with more turns round it.
-    #[tactic(auto, unfolding(crate::specs::Rows::raised))]
+    #[tactic(auto, unfolding(crate::specs::Internal::Rows::raised))]
     fn raised(self, added: Added) -> State
         requires fits { FitsSigned w64 (self.winding +ℤ added.winding) }
         ensures { result ≡ raised added self }

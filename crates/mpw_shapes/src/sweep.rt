@@ -6,7 +6,7 @@
 
 ghost use Rattle.std.specs.Prelude.{◌≡◌, ℤ, All, IfOk};
 ghost use Rattle.mpw_geom.specs.Plane.{Square, HasArea, any_has_square};
-ghost use Rattle.mpw_shapes.specs.Edges.{AreFromLeft, AreFromBelow, HasEndsAmong, IsBalanced, edges_have};
+ghost use Rattle.mpw_shapes.specs.Internal.Edges.{AreFromLeft, AreFromBelow, HasEndsAmong, IsBalanced, edges_have};
 
 use crate::edge::Edge;
 use crate::rows::{Rows, State};

@@ -7,9 +7,9 @@
 ghost use Rattle.std.specs.Prelude.{◌≡◌, ◌<◌, ◌+◌, ◌^◌, ◌||◌, ◌&&◌, ◌⊎◌, ◌↔◌, pos, ◌+ℤ◌, ◌<ℤ◌, ◌≤ℤ◌, length, IsTrue, IfOk, OnOk, All, FitsSigned, slice_index_or};
 ghost use Rattle.std.specs.Int.{w64};
 ghost use Rattle.mpw_geom.specs.Plane.{Square, HasArea, any_has_square};
-ghost use Rattle.mpw_shapes.specs.Edges.{AreFromBelow, is_between};
-ghost use Rattle.mpw_shapes.specs.Rows.{IsBuilt, closes, past, reach, turn_of};
-ghost use Rattle.mpw_shapes.specs.Turned.{IsClearIn, Turned};
+ghost use Rattle.mpw_shapes.specs.Internal.Edges.{AreFromBelow, is_between};
+ghost use Rattle.mpw_shapes.specs.Internal.Rows.{IsBuilt, closes, past, reach, turn_of};
+ghost use Rattle.mpw_shapes.specs.Internal.Turned.{IsClearIn, Turned};
 
 use crate::boxes::stack_box;
 use crate::edge::Edge;

@@ -35,7 +35,7 @@ use Rattle.mpw_waiver.specs.Waivers.{waiver_at, with_signer}
 use Rattle.mpw_signoff.specs.declared.rows.ByUser.{ByUser}
 use Rattle.mpw_signoff.specs.Laws.{SubmittersAreTold, AskersAreTold, SignOffsDenyWhatIsLacked}
 use Rattle.mpw_signoff.specs.Named.{Named, named_in}
-use Rattle.mpw_signoff.specs.SigningOff.{entered, finished, if_full, if_shown, shown, ending_of, passes, apart, by_user, waived, signed_off, waivers_told, verdict, waived_outcome, signed_outcome, listed, outcome_of}
+use Rattle.mpw_signoff.specs.SigningOff.{entered, finished, if_full, if_shown, shown, ending_of, passes, apart, by_user, waive_row, sign_row, waivers_row, verdict_row, waived_outcome, signed_outcome, listed, outcome_of}
 use Rattle.mpw_signoff.proofs.Parts.{parts, denial_ended}
 use Rattle.mpw_signoff.proofs.Shown.{finished_is, shown_is}
 
@@ -47,91 +47,118 @@ finished_denies (Cutting planned) why e = cc
 finished_denies (Checking c) why e = cc
 finished_denies (Finished f) why e = cc
 
-full_denies : (seen : List Bool) (n : Named) (why : Denial) → if_full seen n ≡ Err (ending.Denied why) → ⊥
+full_denies : (seen : List Bool) (n : Named) (why : Denial)
+    → if_full seen n ≡ Err (ending.Denied why) → ⊥
 full_denies seen n why e = go (is_full seen n.marker) e
   where
-    go : (b : Bool) → cond b (Ok n) (Err (ending.Refused code.NoMarker)) ≡ Err (ending.Denied why) → ⊥
+    go : (b : Bool) → cond b (Ok n) (Err (ending.Refused code.NoMarker)) ≡ Err (ending.Denied why)
+        → ⊥
     go true e = cc
     go false e = cc
 
-if_denies : (seen : List Bool) (o : Option Named) (why : Denial) → if_shown seen o ≡ Err (ending.Denied why) → ⊥
+if_denies : (seen : List Bool) (o : Option Named) (why : Denial)
+    → if_shown seen o ≡ Err (ending.Denied why) → ⊥
 if_denies seen None why e = cc
 if_denies seen (Some n) why e = full_denies seen n why e
 
-shown_denies : (policy : Policy) (conn : ℕ) (f : Checked) (name : MarkerName) (why : Denial) → shown policy conn f name ≡ Err (ending.Denied why) → ⊥
+shown_denies : (policy : Policy) (conn : ℕ) (f : Checked) (name : MarkerName) (why : Denial)
+    → shown policy conn f name ≡ Err (ending.Denied why) → ⊥
 unfolding shown
 shown_denies policy conn f name why e =
-    if_denies (seen_by policy conn f.planned.snapshot.shelf) (named_in f.planned.snapshot.deck.rules f.book name) why e
+    if_denies (seen_by policy conn f.planned.snapshot.shelf)
+    (named_in f.planned.snapshot.deck.rules f.book name) why e
 
-asking_denies : (o : Option Waiver) (why : Denial) → passes (ask_test o) ≡ Err (ending.Denied why) → ⊥
+asking_denies : (o : Option Waiver) (why : Denial) → passes (ask_test o) ≡ Err (ending.Denied why)
+    → ⊥
 asking_denies None why e = cc
 asking_denies (Some waiver) why e = cc
 
 -- a test of a waiver denies by its fault
-by_fault : (told : Result (Unit {0}) WaiverFault) (why : Denial) → passes told ≡ Err (ending.Denied why)
+by_fault : (told : Result (Unit {0}) WaiverFault) (why : Denial)
+    → passes told ≡ Err (ending.Denied why)
     → (f : WaiverFault) × (told ≡ Err f) × (ending_of f ≡ ending.Denied why)
 by_fault (Ok x) why e = absurd cc
 by_fault (Err f) why e = (f, refl, let same : ending_of f ≡ ending.Denied why = cc in same)
 
 -- ---- rows
 
-user_done : (by : ByUser) (why : Denial) → ◌≡◌ {A = Result ByUser Ending} (Ok by) (Err (ending.Denied why)) → ⊥
+user_done : (by : ByUser) (why : Denial)
+    → ◌≡◌ {A = Result ByUser Ending} (Ok by) (Err (ending.Denied why)) → ⊥
 user_done by why e = cc
 
-lines_done : (lines : List Listed) (why : Denial) → ◌≡◌ {A = Result (List Listed) Ending} (Ok lines) (Err (ending.Denied why)) → ⊥
+lines_done : (lines : List Listed) (why : Denial)
+    → ◌≡◌ {A = Result (List Listed) Ending} (Ok lines) (Err (ending.Denied why)) → ⊥
 lines_done lines why e = cc
 
-waiving_denies : (policy : Policy) (run : Run) (waivers : List (Option Waiver)) (conn : ℕ) (name : MarkerName) (why : Denial)
-    → waived policy run waivers conn name ≡ Err (ending.Denied why)
+waiving_denies : (policy : Policy) (run : Run) (waivers : List (Option Waiver)) (conn : ℕ)
+    (name : MarkerName) (why : Denial)
+    → waive_row policy run waivers conn name ≡ Err (ending.Denied why)
     → permitted policy conn operations.Waive objects.Desk ≡ Err (ending.Denied why)
-unfolding waived
-waiving_denies policy run waivers conn name why e = elim (parts (permitted policy conn operations.Waive objects.Desk) _ _ e) [
-  | inl first ↦ first
-  | inr allowed ↦ absurd (elim (parts (finished run.phase) _ _ allowed.2) [
-    | inl phase ↦ finished_denies run.phase why phase
-    | inr f ↦ elim (parts (shown policy conn f.0 name) _ _ f.2) [
-      | inl hidden ↦ shown_denies policy conn f.0 name why hidden
-      | inr n ↦ elim (parts (passes (ask_test (waiver_at waivers n.0.place))) _ _ n.2) [
-        | inl test ↦ asking_denies (waiver_at waivers n.0.place) why test
-        | inr done ↦ user_done (by_user policy conn n.0) why done.2
-      ]
+unfolding waive_row
+waiving_denies policy run waivers conn name why e =
+    elim (parts (permitted policy conn operations.Waive objects.Desk) _ _ e) [
+      | inl first ↦ first
+      | inr allowed ↦ absurd (elim (parts (finished run.phase) _ _ allowed.2) [
+        | inl phase ↦ finished_denies run.phase why phase
+        | inr f ↦ elim (parts (shown policy conn f.0 name) _ _ f.2) [
+          | inl hidden ↦ shown_denies policy conn f.0 name why hidden
+          | inr n ↦ elim (parts (passes (ask_test (waiver_at waivers n.0.place))) _ _ n.2) [
+            | inl test ↦ asking_denies (waiver_at waivers n.0.place) why test
+            | inr done ↦ user_done (by_user policy conn n.0) why done.2
+          ]
+        ]
+      ])
     ]
-  ])
-]
 
 -- the test of separation denies
-record IsKeptApart (policy : Policy) (run : Run) (waivers : List (Option Waiver)) (conn : ℕ) (name : MarkerName) (why : Denial) : Type 0 where
+record IsKeptApart (policy : Policy) (run : Run) (waivers : List (Option Waiver)) (conn : ℕ)
+    (name : MarkerName) (why : Denial) : Type 0 where
   f : Checked
   n : Named
   phase : run.phase ≡ Finished f
   is_shown : shown policy conn f name ≡ Ok n
   cause : WaiverFault
-  test : sign_test f.planned.snapshot.shelf n.marker.met (user_of policy conn) (waiver_at waivers n.place) ≡ Err cause
+  test : sign_test f.planned.snapshot.shelf n.marker.met (user_of policy conn)
+      (waiver_at waivers n.place) ≡ Err cause
   tells : ending_of cause ≡ ending.Denied why
 
-signing_denies : (policy : Policy) (run : Run) (waivers : List (Option Waiver)) (conn : ℕ) (name : MarkerName) (why : Denial)
-    → signed_off policy run waivers conn name ≡ Err (ending.Denied why)
-    → (permitted policy conn operations.Sign objects.Desk ≡ Err (ending.Denied why)) ⊎ IsKeptApart policy run waivers conn name why
-unfolding signed_off
-signing_denies policy run waivers conn name why e = elim (parts (permitted policy conn operations.Sign objects.Desk) _ _ e) [
-  | inl first ↦ inl first
-  | inr allowed ↦ elim (parts (finished run.phase) _ _ allowed.2) [
-    | inl phase ↦ absurd (finished_denies run.phase why phase)
-    | inr f ↦ elim (parts (shown policy conn f.0 name) _ _ f.2) [
-      | inl hidden ↦ absurd (shown_denies policy conn f.0 name why hidden)
-      | inr n ↦ elim (parts (apart f.0 waivers n.0 (user_of policy conn)) _ _ n.2) [
-        | inl test ↦
-            let cause = by_fault (sign_test f.0.planned.snapshot.shelf n.0.marker.met (user_of policy conn) (waiver_at waivers n.0.place)) why test in
-            inr (record { f = f.0; n = n.0; phase = finished_is run.phase f.0 f.1; is_shown = n.1; cause = cause.0; test = cause.1; tells = cause.2 })
-        | inr done ↦ absurd (user_done (by_user policy conn n.0) why done.2)
+signing_denies : (policy : Policy) (run : Run) (waivers : List (Option Waiver)) (conn : ℕ)
+    (name : MarkerName) (why : Denial)
+    → sign_row policy run waivers conn name ≡ Err (ending.Denied why)
+    → (permitted policy conn operations.Sign objects.Desk ≡ Err (ending.Denied why))
+    ⊎ IsKeptApart policy run waivers conn name why
+unfolding sign_row
+signing_denies policy run waivers conn name why e =
+    elim (parts (permitted policy conn operations.Sign objects.Desk) _ _ e) [
+      | inl first ↦ inl first
+      | inr allowed ↦ elim (parts (finished run.phase) _ _ allowed.2) [
+        | inl phase ↦ absurd (finished_denies run.phase why phase)
+        | inr f ↦ elim (parts (shown policy conn f.0 name) _ _ f.2) [
+          | inl hidden ↦ absurd (shown_denies policy conn f.0 name why hidden)
+          | inr n ↦ elim (parts (apart f.0 waivers n.0 (user_of policy conn)) _ _ n.2) [
+            | inl test ↦
+                let cause = by_fault (sign_test f.0.planned.snapshot.shelf n.0.marker.met
+                (user_of policy conn) (waiver_at waivers n.0.place)) why test in
+                inr (record {
+                  f = f.0;
+                  n = n.0;
+                  phase = finished_is run.phase f.0 f.1;
+                  is_shown = n.1;
+                  cause = cause.0;
+                  test = cause.1;
+                  tells = cause.2;
+                })
+            | inr done ↦ absurd (user_done (by_user policy conn n.0) why done.2)
+          ]
+        ]
       ]
     ]
-  ]
-]
 
-telling_denies : (policy : Policy) (run : Run) (waivers : List (Option Waiver)) (conn : ℕ) (why : Denial)
-    → waivers_told policy run waivers conn ≡ Err (ending.Denied why) → entered policy conn ≡ Err (ending.Denied why)
-unfolding waivers_told
+telling_denies : (policy : Policy) (run : Run) (waivers : List (Option Waiver)) (conn : ℕ)
+    (why : Denial)
+    → waivers_row policy run waivers conn ≡ Err (ending.Denied why)
+    → entered policy conn ≡ Err (ending.Denied why)
+unfolding waivers_row
 telling_denies policy run waivers conn why e = elim (parts (entered policy conn) _ _ e) [
   | inl first ↦ first
   | inr inside ↦ absurd (elim (parts (finished run.phase) _ _ inside.2) [
@@ -140,17 +167,19 @@ telling_denies policy run waivers conn why e = elim (parts (entered policy conn)
   ])
 ]
 
-verdict_denies : (policy : Policy) (wafer : Wafer) (run : Run) (waivers : List (Option Waiver)) (conn : ℕ) (why : Denial)
-    → verdict policy wafer run waivers conn ≡ Err (ending.Denied why)
+verdict_denies : (policy : Policy) (wafer : Wafer) (run : Run) (waivers : List (Option Waiver))
+    (conn : ℕ) (why : Denial)
+    → verdict_row policy wafer run waivers conn ≡ Err (ending.Denied why)
     → permitted policy conn operations.Verdict objects.Desk ≡ Err (ending.Denied why)
-unfolding verdict
-verdict_denies policy wafer run waivers conn why e = elim (parts (permitted policy conn operations.Verdict objects.Desk) _ _ e) [
-  | inl first ↦ first
-  | inr allowed ↦ absurd (elim (parts (finished run.phase) _ _ allowed.2) [
-    | inl phase ↦ finished_denies run.phase why phase
-    | inr f ↦ lines_done _ why f.2
-  ])
-]
+unfolding verdict_row
+verdict_denies policy wafer run waivers conn why e =
+    elim (parts (permitted policy conn operations.Verdict objects.Desk) _ _ e) [
+      | inl first ↦ first
+      | inr allowed ↦ absurd (elim (parts (finished run.phase) _ _ allowed.2) [
+        | inl phase ↦ finished_denies run.phase why phase
+        | inr f ↦ lines_done _ why f.2
+      ])
+    ]
 
 -- ---- outcomes
 
@@ -173,11 +202,13 @@ listed_ended waivers (Err other) why e = ap (λ x. Err x) (denial_ended other wh
 
 -- no session: that is no lack of a permission
 session_denies : (test : Bool) (operation : Operation) (object : Object)
-    → cond test (Ok (tt {0})) (Err (ending.Denied denial.Session)) ≡ Err (denied operation object) → ⊥
+    → cond test (Ok (tt {0})) (Err (ending.Denied denial.Session)) ≡ Err (denied operation object)
+    → ⊥
 session_denies true operation object e = cc
 session_denies false operation object e = cc
 
-apart_denies : (cause : WaiverFault) (operation : Operation) (object : Object) → ending_of cause ≡ denied operation object → ⊥
+apart_denies : (cause : WaiverFault) (operation : Operation) (object : Object)
+    → ending_of cause ≡ denied operation object → ⊥
 apart_denies fault.Known operation object e = cc
 apart_denies fault.NoWaiver operation object e = cc
 apart_denies (fault.Submitter cell) operation object e = cc
@@ -187,21 +218,25 @@ pub sign_off_denies : EnteringDeniesWhatIsLacked → SignOffsDenyWhatIsLacked
 sign_off_denies lacks policy wafer run waivers conn (ask.Waive name) operation object e =
     let why = denial.Permission operation object in
     lacks policy conn operations.Waive operation objects.Desk object
-    (waiving_denies policy run waivers conn name why (waived_ended waivers (waived policy run waivers conn name) why e))
+    (waiving_denies policy run waivers conn name why
+    (waived_ended waivers (waive_row policy run waivers conn name) why e))
 sign_off_denies lacks policy wafer run waivers conn (ask.Sign name) operation object e =
     let why = denial.Permission operation object in
-    elim (signing_denies policy run waivers conn name why (signed_ended waivers (signed_off policy run waivers conn name) why e)) [
+    elim (signing_denies policy run waivers conn name why
+    (signed_ended waivers (sign_row policy run waivers conn name) why e)) [
       | inl first ↦ lacks policy conn operations.Sign operation objects.Desk object first
       | inr kept ↦ absurd (apart_denies kept.cause operation object kept.tells)
     ]
 sign_off_denies lacks policy wafer run waivers conn ask.Waivers operation object e =
     let why = denial.Permission operation object in
     absurd (session_denies (is_some (session_of policy conn)) operation object
-    (telling_denies policy run waivers conn why (listed_ended waivers (waivers_told policy run waivers conn) why e)))
+    (telling_denies policy run waivers conn why
+    (listed_ended waivers (waivers_row policy run waivers conn) why e)))
 sign_off_denies lacks policy wafer run waivers conn ask.Verdict operation object e =
     let why = denial.Permission operation object in
     lacks policy conn operations.Verdict operation objects.Desk object
-    (verdict_denies policy wafer run waivers conn why (listed_ended waivers (verdict policy wafer run waivers conn) why e))
+    (verdict_denies policy wafer run waivers conn why
+    (listed_ended waivers (verdict_row policy wafer run waivers conn) why e))
 
 -- ---- separation
 
@@ -215,57 +250,74 @@ IsSeparation (denial.Dsd name) = ⊥
 IsSeparation (denial.Submitter cell) = Unit {0}
 IsSeparation denial.Asker = Unit {0}
 
-other_denial : (first why : Denial) → ending.Denied first ≡ ending.Denied why → IsSeparation why → IsSeparation first
+other_denial : (first why : Denial) → ending.Denied first ≡ ending.Denied why → IsSeparation why
+    → IsSeparation first
 other_denial first why e s = let same : first ≡ why = cc in subst IsSeparation (sym same) s
 
-session_separates : (test : Bool) (why : Denial) → cond test (Ok (tt {0})) (Err (ending.Denied denial.Session)) ≡ Err (ending.Denied why) → IsSeparation why → ⊥
+session_separates : (test : Bool) (why : Denial)
+    → cond test (Ok (tt {0})) (Err (ending.Denied denial.Session)) ≡ Err (ending.Denied why)
+    → IsSeparation why → ⊥
 session_separates true why e s = cc
-session_separates false why e s = other_denial denial.Session why (let same : ending.Denied denial.Session ≡ ending.Denied why = cc in same) s
+session_separates false why e s = other_denial denial.Session why
+    (let same : ending.Denied denial.Session ≡ ending.Denied why = cc in same) s
 
 permission_separates : (inside may : Bool) (operation : Operation) (object : Object) (why : Denial)
-    → decided ((inside, ending.Denied denial.Session) ∷ (may, denied operation object) ∷ []) (tt {0}) ≡ Err (ending.Denied why) → IsSeparation why → ⊥
+    → decided ((inside, ending.Denied denial.Session) ∷ (may, denied operation object) ∷ [])
+    (tt {0}) ≡ Err (ending.Denied why) → IsSeparation why → ⊥
 permission_separates true true operation object why e s = cc
 permission_separates true false operation object why e s =
-    other_denial (denial.Permission operation object) why (let same : denied operation object ≡ ending.Denied why = cc in same) s
+    other_denial (denial.Permission operation object) why
+    (let same : denied operation object ≡ ending.Denied why = cc in same) s
 permission_separates false may operation object why e s =
-    other_denial denial.Session why (let same : ending.Denied denial.Session ≡ ending.Denied why = cc in same) s
+    other_denial denial.Session why (let same : ending.Denied denial.Session ≡ ending.Denied
+    why = cc in same) s
 
 separates : (policy : Policy) (conn : ℕ) (operation : Operation) (object : Object) (why : Denial)
     → permitted policy conn operation object ≡ Err (ending.Denied why) → IsSeparation why → ⊥
 separates policy conn operation object why e s =
-    permission_separates (is_some (session_of policy conn)) (permits policy conn operation object) operation object why e s
+    permission_separates (is_some (session_of policy conn)) (permits policy conn operation object)
+    operation object why e s
 
 -- a denial by separation is of a request to sign
-record IsOfSigning (policy : Policy) (run : Run) (waivers : List (Option Waiver)) (conn : ℕ) (request : SignOffRequest) (why : Denial) : Type 0 where
+record IsOfSigning (policy : Policy) (run : Run) (waivers : List (Option Waiver)) (conn : ℕ)
+    (request : SignOffRequest) (why : Denial) : Type 0 where
   name : MarkerName
   is : request ≡ ask.Sign name
   kept : IsKeptApart policy run waivers conn name why
 
-by_separation : (policy : Policy) (wafer : Wafer) (run : Run) (waivers : List (Option Waiver)) (conn : ℕ) (request : SignOffRequest) (why : Denial)
+by_separation : (policy : Policy) (wafer : Wafer) (run : Run) (waivers : List (Option Waiver))
+    (conn : ℕ) (request : SignOffRequest) (why : Denial)
     → IsSeparation why → (outcome_of policy wafer run waivers conn request).reply ≡ reply.Denied why
     → IsOfSigning policy run waivers conn request why
 by_separation policy wafer run waivers conn (ask.Waive name) why s e =
     absurd (separates policy conn operations.Waive objects.Desk why
-    (waiving_denies policy run waivers conn name why (waived_ended waivers (waived policy run waivers conn name) why e)) s)
+    (waiving_denies policy run waivers conn name why
+    (waived_ended waivers (waive_row policy run waivers conn name) why e)) s)
 by_separation policy wafer run waivers conn (ask.Sign name) why s e =
-    elim (signing_denies policy run waivers conn name why (signed_ended waivers (signed_off policy run waivers conn name) why e)) [
+    elim (signing_denies policy run waivers conn name why
+    (signed_ended waivers (sign_row policy run waivers conn name) why e)) [
       | inl first ↦ absurd (separates policy conn operations.Sign objects.Desk why first s)
       | inr kept ↦ record { name = name; is = refl; kept = kept }
     ]
 by_separation policy wafer run waivers conn ask.Waivers why s e =
     absurd (session_separates (is_some (session_of policy conn)) why
-    (telling_denies policy run waivers conn why (listed_ended waivers (waivers_told policy run waivers conn) why e)) s)
+    (telling_denies policy run waivers conn why
+    (listed_ended waivers (waivers_row policy run waivers conn) why e)) s)
 by_separation policy wafer run waivers conn ask.Verdict why s e =
     absurd (separates policy conn operations.Verdict objects.Desk why
-    (verdict_denies policy wafer run waivers conn why (listed_ended waivers (verdict policy wafer run waivers conn) why e)) s)
+    (verdict_denies policy wafer run waivers conn why
+    (listed_ended waivers (verdict_row policy wafer run waivers conn) why e)) s)
 
-submitter_cause : (cause : WaiverFault) (cell : List ℕ) → ending_of cause ≡ ending.Denied (denial.Submitter cell) → cause ≡ fault.Submitter cell
+submitter_cause : (cause : WaiverFault) (cell : List ℕ)
+    → ending_of cause ≡ ending.Denied (denial.Submitter cell) → cause ≡ fault.Submitter cell
 submitter_cause fault.Known cell e = absurd cc
 submitter_cause fault.NoWaiver cell e = absurd cc
-submitter_cause (fault.Submitter other) cell e = let same : other ≡ cell = cc in ap fault.Submitter same
+submitter_cause (fault.Submitter other) cell e =
+    let same : other ≡ cell = cc in ap fault.Submitter same
 submitter_cause fault.Asker cell e = absurd cc
 
-asker_cause : (cause : WaiverFault) → ending_of cause ≡ ending.Denied denial.Asker → cause ≡ fault.Asker
+asker_cause : (cause : WaiverFault) → ending_of cause ≡ ending.Denied denial.Asker
+    → cause ≡ fault.Asker
 asker_cause fault.Known e = absurd cc
 asker_cause fault.NoWaiver e = absurd cc
 asker_cause (fault.Submitter other) e = absurd cc
@@ -278,7 +330,8 @@ submitters_told keys least policy wafer run waivers conn request cell e =
     let k = o.kept in
     let user = user_of policy conn in
     let test = k.test ∙ ap (λ c. Err c) (submitter_cause k.cause cell k.tells) in
-    let own = least k.f.planned.snapshot.shelf waivers k.n.place k.n.marker.met user cell (ap (λ t. if_passed t (with_signer waivers k.n.place user)) test) in (
+    let own = least k.f.planned.snapshot.shelf waivers k.n.place k.n.marker.met user cell
+    (ap (λ t. if_passed t (with_signer waivers k.n.place user)) test) in (
       o.name,
       o.is,
       record {
@@ -299,7 +352,8 @@ askers_told keys asked policy wafer run waivers conn request e =
     let k = o.kept in
     let user = user_of policy conn in
     let test = k.test ∙ ap (λ c. Err c) (asker_cause k.cause k.tells) in
-    let w = asked k.f.planned.snapshot.shelf waivers k.n.place k.n.marker.met user (ap (λ t. if_passed t (with_signer waivers k.n.place user)) test) in (
+    let w = asked k.f.planned.snapshot.shelf waivers k.n.place k.n.marker.met user
+    (ap (λ t. if_passed t (with_signer waivers k.n.place user)) test) in (
       o.name,
       o.is,
       record {

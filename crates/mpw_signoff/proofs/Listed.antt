@@ -18,81 +18,106 @@ use Rattle.mpw_waiver.specs.declared.waiver.Waiver.{Waiver}
 use Rattle.mpw_waiver.specs.Waivers.{waiver_at}
 use Rattle.mpw_signoff.specs.Laws.{IsTold, ToldAreShown}
 use Rattle.mpw_signoff.specs.Named.{name_for}
-use Rattle.mpw_signoff.specs.SigningOff.{entered, finished, waiver_lines, waivers_told, listed}
+use Rattle.mpw_signoff.specs.SigningOff.{entered, finished, waiver_lines, waivers_row, listed}
 use Rattle.mpw_signoff.specs.WaiverLines.{waiver_line, rule_line, marker_line, shown_line, lines_from}
 use Rattle.mpw_signoff.proofs.Parts.{passed}
 use Rattle.mpw_signoff.proofs.Shown.{finished_is}
 
 -- what is so of the line of each marker that is shown and has a waiver is so of all lines
-module _ (P : Line → Type 0) (rules : List Rule) (seen : List Bool) (waivers : List (Option Waiver)) (whole : List Marker) where
+module _ (P : Line → Type 0) (rules : List Rule) (seen : List Bool) (waivers : List (Option Waiver))
+    (whole : List Marker) where
   abbrev Each : Type 0
   Each =
-      (place : ℕ) (m : Marker) (waiver : Waiver) (rule : Rule) → slice_get whole place ≡ Some m → is_full seen m ≡ true
-      → waiver_at waivers place ≡ Some waiver → slice_get rules m.rule ≡ Some rule → P (waiver_line (name_for rule.name m) waiver.asker waiver.signer)
+      (place : ℕ) (m : Marker) (waiver : Waiver) (rule : Rule) → slice_get whole place ≡ Some m
+      → is_full seen m ≡ true
+      → waiver_at waivers place ≡ Some waiver → slice_get rules m.rule ≡ Some rule
+      → P (waiver_line (name_for rule.name m) waiver.asker waiver.signer)
 
-  of_rule : Each → (place : ℕ) (m : Marker) (waiver : Waiver) → slice_get whole place ≡ Some m → is_full seen m ≡ true → waiver_at waivers place ≡ Some waiver
+  of_rule : Each → (place : ℕ) (m : Marker) (waiver : Waiver) → slice_get whole place ≡ Some m
+      → is_full seen m ≡ true → waiver_at waivers place ≡ Some waiver
       → (o : Option Rule) → slice_get rules m.rule ≡ o → All P (rule_line m waiver o)
   of_rule each place m waiver at full is None e = All-nil P
   of_rule each place m waiver at full is (Some rule) e =
-      All-cons P (waiver_line (name_for rule.name m) waiver.asker waiver.signer) [] (each place m waiver rule at full is e) (All-nil P)
+      All-cons P (waiver_line (name_for rule.name m) waiver.asker waiver.signer) []
+      (each place m waiver rule at full is e) (All-nil P)
 
-  of_marker : Each → (place : ℕ) (m : Marker) → slice_get whole place ≡ Some m → is_full seen m ≡ true
+  of_marker : Each → (place : ℕ) (m : Marker) → slice_get whole place ≡ Some m
+      → is_full seen m ≡ true
       → (o : Option Waiver) → waiver_at waivers place ≡ o → All P (marker_line rules m o)
   of_marker each place m at full None e = All-nil P
-  of_marker each place m at full (Some waiver) e = of_rule each place m waiver at full e (slice_get rules m.rule) refl
+  of_marker each place m at full (Some waiver) e = of_rule each place m waiver at full e
+      (slice_get rules m.rule) refl
 
   of_shown : Each → (place : ℕ) (m : Marker) → slice_get whole place ≡ Some m
-      → (b : Bool) → is_full seen m ≡ b → All P (cond b (marker_line rules m (waiver_at waivers place)) [])
+      → (b : Bool) → is_full seen m ≡ b
+      → All P (cond b (marker_line rules m (waiver_at waivers place)) [])
   of_shown each place m at true full = of_marker each place m at full (waiver_at waivers place) refl
   of_shown each place m at false full = All-nil P
 
-  behind : (place k : ℕ) (m : Marker) → slice_get whole (place + suc k) ≡ Some m → slice_get whole ((place + 1) + k) ≡ Some m
-  behind place k m at = subst (λ n. slice_get whole n ≡ Some m) (let e : place + suc k ≡ (place + 1) + k = omega arith in e) at
+  behind : (place k : ℕ) (m : Marker) → slice_get whole (place + suc k) ≡ Some m
+      → slice_get whole ((place + 1) + k) ≡ Some m
+  behind place k m at = subst (λ n. slice_get whole n ≡ Some m)
+      (let e : place + suc k ≡ (place + 1) + k = omega arith in e) at
 
-  here : (place : ℕ) (m : Marker) → slice_get whole (place + 0) ≡ Some m → slice_get whole place ≡ Some m
-  here place m at = subst (λ n. slice_get whole n ≡ Some m) (let e : place + 0 ≡ place = omega arith in e) at
+  here : (place : ℕ) (m : Marker) → slice_get whole (place + 0) ≡ Some m
+      → slice_get whole place ≡ Some m
+  here place m at = subst (λ n. slice_get whole n ≡ Some m)
+      (let e : place + 0 ≡ place = omega arith in e) at
 
-  from : Each → (place : ℕ) (book : List Marker) → ((k : ℕ) (m : Marker) → slice_get book k ≡ Some m → slice_get whole (place + k) ≡ Some m)
+  from : Each → (place : ℕ) (book : List Marker)
+      → ((k : ℕ) (m : Marker) → slice_get book k ≡ Some m → slice_get whole (place + k) ≡ Some m)
       → All P (lines_from rules seen waivers place book)
   unfolding lines_from
   from each place [] at = All-nil P
   from each place (m ∷ book) at =
-      All-append P (shown_line rules seen m (waiver_at waivers place)) (lines_from rules seen waivers (place + 1) book)
+      All-append P (shown_line rules seen m (waiver_at waivers place))
+      (lines_from rules seen waivers (place + 1) book)
       (of_shown each place m (here place m (at 0 m refl)) (is_full seen m) refl)
       (from each (place + 1) book (λ k n e. behind place k n (at (suc k) n e)))
 
   pub of_lines : Each → All P (lines_from rules seen waivers 0 whole)
-  of_lines each = from each 0 whole (λ k m e. subst (λ n. slice_get whole n ≡ Some m) (let same : k ≡ 0 + k = omega arith in same) e)
+  of_lines each = from each 0 whole (λ k m e. subst (λ n. slice_get whole n ≡ Some m)
+      (let same : k ≡ 0 + k = omega arith in same) e)
 
 -- ---- the loop
 
 -- the lines so far, with those that are to come
-pub one_more : (rules : List Rule) (seen : List Bool) (waivers : List (Option Waiver)) (book : List Marker) (place : ℕ) (m : Marker) (before after : List Line)
-    → place < length book → m ≡ get_or book place m → after ≡ before ++ shown_line rules seen m (waiver_at waivers place)
-    → after ++ lines_from rules seen waivers (place + 1) (drop (place + 1) book) ≡ before ++ lines_from rules seen waivers place (drop place book)
+pub one_more : (rules : List Rule) (seen : List Bool) (waivers : List (Option Waiver))
+    (book : List Marker) (place : ℕ) (m : Marker) (before after : List Line)
+    → place < length book → m ≡ get_or book place m
+    → after ≡ before ++ shown_line rules seen m (waiver_at waivers place)
+    → after ++ lines_from rules seen waivers (place + 1) (drop (place + 1) book) ≡ before
+    ++ lines_from rules seen waivers place (drop place book)
 unfolding lines_from
 one_more rules seen waivers book place m before after within at e =
     let rest = lines_from rules seen waivers (place + 1) (drop (place + 1) book) in
-    let next : drop place book ≡ m ∷ drop (place + 1) book = drop_more book place m within ∙ ap (λ x. x ∷ drop (place + 1) book) (sym at) in
-    ap (λ l. l ++ rest) e ∙ (append_assoc before (shown_line rules seen m (waiver_at waivers place)) rest ∙ sym (ap (λ b. before ++ lines_from rules seen waivers place b) next))
+    let next : drop place book ≡ m ∷ drop (place + 1) book = drop_more book place m within
+    ∙ ap (λ x. x ∷ drop (place + 1) book) (sym at) in
+    ap (λ l. l ++ rest) e ∙ (append_assoc before (shown_line rules seen m (waiver_at waivers place))
+    rest ∙ sym (ap (λ b. before ++ lines_from rules seen waivers place b) next))
 
-pub at_end : (rules : List Rule) (seen : List Bool) (waivers : List (Option Waiver)) (book : List Marker) (place : ℕ) (lines : List Line)
+pub at_end : (rules : List Rule) (seen : List Bool) (waivers : List (Option Waiver))
+    (book : List Marker) (place : ℕ) (lines : List Line)
     → length book ≤ place → lines ++ lines_from rules seen waivers place (drop place book) ≡ lines
 unfolding lines_from
 at_end rules seen waivers book place lines past =
-    ap (λ b. lines ++ lines_from rules seen waivers place b) (drop_all place book past) ∙ append-nil lines
+    ap (λ b. lines ++ lines_from rules seen waivers place b) (drop_all place book past)
+    ∙ append-nil lines
 
 -- ---- the listing
 
-pub listed_is : (waivers : List (Option Waiver)) (row : Result (List Listed) Ending) (lines : List Listed)
+pub listed_is : (waivers : List (Option Waiver)) (row : Result (List Listed) Ending)
+    (lines : List Listed)
     → (listed waivers row).reply ≡ reply.Ok lines → row ≡ Ok lines
 listed_is waivers (Ok told) lines e = let same : told ≡ lines = cc in ap (λ l. Ok l) same
 listed_is waivers (Err (ending.Denied why)) lines e = absurd cc
 listed_is waivers (Err (ending.Refused why)) lines e = absurd cc
 
-pub told_is : (policy : Policy) (run : Run) (waivers : List (Option Waiver)) (conn : ℕ) (lines : List Listed)
-    → waivers_told policy run waivers conn ≡ Ok lines → (f : Checked) × (finished run.phase ≡ Ok f) × (map stored (waiver_lines policy conn f waivers) ≡ lines)
-unfolding waivers_told
+pub told_is : (policy : Policy) (run : Run) (waivers : List (Option Waiver)) (conn : ℕ)
+    (lines : List Listed)
+    → waivers_row policy run waivers conn ≡ Ok lines → (f : Checked) × (finished run.phase ≡ Ok f)
+    × (map stored (waiver_lines policy conn f waivers) ≡ lines)
+unfolding waivers_row
 told_is policy run waivers conn lines e =
     let inside = passed (entered policy conn) _ lines e in
     let f = passed (finished run.phase) _ lines inside.2 in
@@ -100,10 +125,12 @@ told_is policy run waivers conn lines e =
 
 pub told_are_shown : ToldAreShown
 told_are_shown policy wafer run waivers conn lines e =
-    let told = told_is policy run waivers conn lines (listed_is waivers (waivers_told policy run waivers conn) lines e) in
+    let told = told_is policy run waivers conn lines
+    (listed_is waivers (waivers_row policy run waivers conn) lines e) in
     let f = told.0 in
     let seen = seen_by policy conn f.planned.snapshot.shelf in
-    let all = of_lines (λ l. IsTold policy conn f waivers (stored l)) f.planned.snapshot.deck.rules seen waivers f.book
+    let all = of_lines (λ l. IsTold policy conn f waivers (stored l)) f.planned.snapshot.deck.rules
+    seen waivers f.book
     (λ place m waiver rule at full is of. record {
       place = place;
       marker = m;
@@ -112,5 +139,9 @@ told_are_shown policy wafer run waivers conn lines e =
       shown = record { rule = rule; at = at; of_rule = of; named = refl; full = full };
       is = is;
       line = refl;
-    }) in
-    (f, finished_is run.phase f told.1, subst (All (IsTold policy conn f waivers)) told.2 (All-map (IsTold policy conn f waivers) stored (waiver_lines policy conn f waivers) all))
+    }) in (
+      f,
+      finished_is run.phase f told.1,
+      subst (All (IsTold policy conn f waivers)) told.2
+          (All-map (IsTold policy conn f waivers) stored (waiver_lines policy conn f waivers) all),
+    )

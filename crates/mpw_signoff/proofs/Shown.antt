@@ -23,9 +23,9 @@ use Rattle.mpw_waiver.specs.Laws.{SignersAreApart}
 use Rattle.mpw_waiver.specs.Signing.{ask_test, sign_test, if_passed, signed}
 use Rattle.mpw_waiver.specs.Waivers.{waiver_at, with_signer}
 use Rattle.mpw_signoff.specs.declared.rows.ByUser.{ByUser}
-use Rattle.mpw_signoff.specs.Laws.{IsShown, AskedAreShown, SignersStandApart}
+use Rattle.mpw_signoff.specs.Laws.{IsShownInFull, AskedAreShown, SignersStandApart}
 use Rattle.mpw_signoff.specs.Named.{Named, named_in}
-use Rattle.mpw_signoff.specs.SigningOff.{finished, if_full, if_shown, shown, passes, apart, by_user, waived, signed_off, waived_outcome, signed_outcome}
+use Rattle.mpw_signoff.specs.SigningOff.{finished, if_full, if_shown, shown, passes, apart, by_user, waive_row, sign_row, waived_outcome, signed_outcome}
 use Rattle.mpw_signoff.proofs.Naming.{named_is}
 use Rattle.mpw_signoff.proofs.Parts.{passed}
 
@@ -35,29 +35,35 @@ finished_is (Cutting planned) f e = absurd cc
 finished_is (Checking c) f e = absurd cc
 finished_is (Finished g) f e = let same : g ≡ f = cc in ap Finished same
 
-full_is : (seen : List Bool) (o n : Named) → if_full seen o ≡ Ok n → (o ≡ n) × (is_full seen o.marker ≡ true)
+full_is : (seen : List Bool) (o n : Named) → if_full seen o ≡ Ok n
+    → (o ≡ n) × (is_full seen o.marker ≡ true)
 full_is seen o n e = go (is_full seen o.marker) refl e
   where
-    go : (b : Bool) → is_full seen o.marker ≡ b → cond b (Ok o) (Err (ending.Refused code.NoMarker)) ≡ Ok n → (o ≡ n) × (is_full seen o.marker ≡ true)
+    go : (b : Bool) → is_full seen o.marker ≡ b → cond b (Ok o) (Err (ending.Refused code.NoMarker))
+        ≡ Ok n → (o ≡ n) × (is_full seen o.marker ≡ true)
     go true is e = (cc, is)
     go false is e = absurd cc
 
-if_is : (seen : List Bool) (o : Option Named) (n : Named) → if_shown seen o ≡ Ok n → (o ≡ Some n) × (is_full seen n.marker ≡ true)
+if_is : (seen : List Bool) (o : Option Named) (n : Named) → if_shown seen o ≡ Ok n
+    → (o ≡ Some n) × (is_full seen n.marker ≡ true)
 if_is seen None n e = absurd cc
 if_is seen (Some m) n e =
     let both = full_is seen m n e in
     (ap Some both.0, ap (λ (x : Named). is_full seen x.marker) (sym both.0) ∙ both.1)
 
-pub shown_is : PlacesAreOfKeys → (policy : Policy) (conn : ℕ) (f : Checked) (name : MarkerName) (n : Named)
-    → shown policy conn f name ≡ Ok n → IsShown policy conn f name n.place n.marker
+pub shown_is : PlacesAreOfKeys → (policy : Policy) (conn : ℕ) (f : Checked) (name : MarkerName)
+    (n : Named)
+    → shown policy conn f name ≡ Ok n → IsShownInFull policy conn f name n.place n.marker
 unfolding shown
 shown_is keys policy conn f name n e =
     let rules = f.planned.snapshot.deck.rules in
-    let both = if_is (seen_by policy conn f.planned.snapshot.shelf) (named_in rules f.book name) n e in
+    let both =
+    if_is (seen_by policy conn f.planned.snapshot.shelf) (named_in rules f.book name) n e in
     let is = named_is keys rules f.book name n both.0 in
     record { rule = is.rule; at = is.at; of_rule = is.of_rule; named = is.named; full = both.1 }
 
-passes_is : (told : Result (Unit {0}) WaiverFault) (x : Unit {0}) → passes told ≡ Ok x → told ≡ Ok tt
+passes_is : (told : Result (Unit {0}) WaiverFault) (x : Unit {0}) → passes told ≡ Ok x
+    → told ≡ Ok tt
 passes_is (Ok tt) x e = refl
 passes_is (Err fault) x e = absurd cc
 
@@ -73,16 +79,18 @@ asked_ok waivers (Ok by) lines e = (by, refl)
 asked_ok waivers (Err why) lines e = absurd (no_lines why lines e)
 
 -- what an accepted row passed
-record IsPassed (policy : Policy) (run : Run) (conn : ℕ) (name : MarkerName) (by : ByUser) : Type 0 where
+record IsPassed (policy : Policy) (run : Run) (conn : ℕ) (name : MarkerName) (by : ByUser) :
+    Type 0 where
   f : Checked
   n : Named
   phase : run.phase ≡ Finished f
   is_shown : shown policy conn f name ≡ Ok n
   is : by ≡ by_user policy conn n
 
-waived_is : (policy : Policy) (run : Run) (waivers : List (Option Waiver)) (conn : ℕ) (name : MarkerName) (by : ByUser)
-    → waived policy run waivers conn name ≡ Ok by → IsPassed policy run conn name by
-unfolding waived
+waived_is : (policy : Policy) (run : Run) (waivers : List (Option Waiver)) (conn : ℕ)
+    (name : MarkerName) (by : ByUser)
+    → waive_row policy run waivers conn name ≡ Ok by → IsPassed policy run conn name by
+unfolding waive_row
 waived_is policy run waivers conn name by e =
     let allowed = passed (permitted policy conn operations.Waive objects.Desk) _ by e in
     let f = passed (finished run.phase) _ by allowed.2 in
@@ -92,7 +100,7 @@ waived_is policy run waivers conn name by e =
 
 pub asked_are_shown : PlacesAreOfKeys → AskedAreShown
 asked_are_shown keys policy wafer run waivers conn name lines e =
-    let row = waived policy run waivers conn name in
+    let row = waive_row policy run waivers conn name in
     let by = asked_ok waivers row lines e in
     let p = waived_is policy run waivers conn name by.0 by.1 in
     record {
@@ -111,27 +119,37 @@ signed_ok : (waivers : List (Option Waiver)) (row : Result ByUser Ending) (lines
 signed_ok waivers (Ok by) lines e = (by, refl)
 signed_ok waivers (Err why) lines e = absurd (no_lines why lines e)
 
-record IsPassedBy (policy : Policy) (run : Run) (waivers : List (Option Waiver)) (conn : ℕ) (name : MarkerName) (by : ByUser) : Type 0 where
+record IsPassedBy (policy : Policy) (run : Run) (waivers : List (Option Waiver)) (conn : ℕ)
+    (name : MarkerName) (by : ByUser) : Type 0 where
   row : IsPassed policy run conn name by
-  test : sign_test row.f.planned.snapshot.shelf row.n.marker.met (user_of policy conn) (waiver_at waivers row.n.place) ≡ Ok tt
+  test : sign_test row.f.planned.snapshot.shelf row.n.marker.met (user_of policy conn)
+      (waiver_at waivers row.n.place) ≡ Ok tt
 
-signed_is : (policy : Policy) (run : Run) (waivers : List (Option Waiver)) (conn : ℕ) (name : MarkerName) (by : ByUser)
-    → signed_off policy run waivers conn name ≡ Ok by → IsPassedBy policy run waivers conn name by
-unfolding signed_off
+signed_is : (policy : Policy) (run : Run) (waivers : List (Option Waiver)) (conn : ℕ)
+    (name : MarkerName) (by : ByUser)
+    → sign_row policy run waivers conn name ≡ Ok by → IsPassedBy policy run waivers conn name by
+unfolding sign_row
 signed_is policy run waivers conn name by e =
     let allowed = passed (permitted policy conn operations.Sign objects.Desk) _ by e in
     let f = passed (finished run.phase) _ by allowed.2 in
     let n = passed (shown policy conn f.0 name) _ by f.2 in
     let free = passed (apart f.0 waivers n.0 (user_of policy conn)) _ by n.2 in
     record {
-      row = record { f = f.0; n = n.0; phase = finished_is run.phase f.0 f.1; is_shown = n.1; is = cc };
-      test = passes_is (sign_test f.0.planned.snapshot.shelf n.0.marker.met (user_of policy conn) (waiver_at waivers n.0.place)) free.0 free.1;
+      row = record {
+        f = f.0;
+        n = n.0;
+        phase = finished_is run.phase f.0 f.1;
+        is_shown = n.1;
+        is = cc;
+      };
+      test = passes_is (sign_test f.0.planned.snapshot.shelf n.0.marker.met (user_of policy conn)
+          (waiver_at waivers n.0.place)) free.0 free.1;
     }
 
 pub signers_apart : PlacesAreOfKeys → SignersAreApart → SignersStandApart
 unfolding signed
 signers_apart keys apart policy wafer run waivers conn name lines e =
-    let row = signed_off policy run waivers conn name in
+    let row = sign_row policy run waivers conn name in
     let by = signed_ok waivers row lines e in
     let p = signed_is policy run waivers conn name by.0 by.1 in
     let n = p.row.n in
@@ -143,6 +161,7 @@ signers_apart keys apart policy wafer run waivers conn name lines e =
       marker = n.marker;
       finished = p.row.phase;
       shown = shown_is keys policy conn p.row.f name n p.row.is_shown;
-      may = (apart p.row.f.planned.snapshot.shelf waivers after n.place n.marker.met user (ap (λ t. if_passed t after) p.test)).0;
+      may = (apart p.row.f.planned.snapshot.shelf waivers after n.place n.marker.met user
+          (ap (λ t. if_passed t after) p.test)).0;
       left = ap (λ r. (signed_outcome waivers r).waivers) (by.1 ∙ ap (λ b. Ok b) p.row.is);
     }

@@ -25,20 +25,23 @@ use Rattle.mpw_waiver.specs.Laws.{NoneIsUnsigned}
 use Rattle.mpw_waiver.specs.Waivers.{waiver_at, is_signed, unsigned}
 use Rattle.mpw_run.specs.declared.phase.Phase.TheVariants.{Finished}
 use Rattle.mpw_signoff.specs.Laws.{CleanIsSignedOff, SignedOffIsClean}
-use Rattle.mpw_signoff.specs.SigningOff.{finished, is_present_with, is_present, verdict_line, verdict}
+use Rattle.mpw_signoff.specs.SigningOff.{finished, is_present_with, is_present, verdict_line, verdict_row}
 use Rattle.mpw_signoff.proofs.Listed.{listed_is}
 use Rattle.mpw_signoff.proofs.Parts.{passed}
 use Rattle.mpw_signoff.proofs.Shown.{finished_is}
 
-clean_is : (present : Bool) (number : ℕ) → verdict_line present number ≡ line.Clean → (present ≡ true) × (number ≡ 0)
+clean_is : (present : Bool) (number : ℕ) → verdict_line present number ≡ line.Clean
+    → (present ≡ true) × (number ≡ 0)
 clean_is false number e = absurd cc
 clean_is true number e = (refl, go (number == 0) refl e)
   where
-    go : (b : Bool) → (number == 0) ≡ b → cond b line.Clean (line.Open number) ≡ line.Clean → number ≡ 0
+    go : (b : Bool) → (number == 0) ≡ b → cond b line.Clean (line.Open number) ≡ line.Clean
+        → number ≡ 0
     go true is e = (Decides-eqb number 0).0 is
     go false is e = absurd cc
 
-present_is : TestsAreExact → (deck : Option Deck) (placings : List Placement) (s : Snapshot) → is_present_with deck placings s ≡ true
+present_is : TestsAreExact → (deck : Option Deck) (placings : List Placement) (s : Snapshot)
+    → is_present_with deck placings s ≡ true
     → (deck ≡ Some s.deck) × (roots_of placings ≡ s.roots)
 present_is exact None placings s e = absurd cc
 present_is exact (Some deck) placings s e =
@@ -53,43 +56,54 @@ record IsClean (wafer : Wafer) (run : Run) (waivers : List (Option Waiver)) : Ty
   present : is_present wafer f.planned.snapshot ≡ true
   none : unsigned waivers ≡ 0
 
-verdict_is : (policy : Policy) (wafer : Wafer) (run : Run) (waivers : List (Option Waiver)) (conn : ℕ)
-    → verdict policy wafer run waivers conn ≡ Ok (stored line.Clean ∷ []) → IsClean wafer run waivers
-unfolding verdict
+verdict_is : (policy : Policy) (wafer : Wafer) (run : Run) (waivers : List (Option Waiver))
+    (conn : ℕ)
+    → verdict_row policy wafer run waivers conn ≡ Ok (stored line.Clean ∷ [])
+    → IsClean wafer run waivers
+unfolding verdict_row
 verdict_is policy wafer run waivers conn e =
     let told = stored line.Clean ∷ [] in
     let allowed = passed (permitted policy conn operations.Verdict objects.Desk) _ told e in
     let f = passed (finished run.phase) _ told allowed.2 in
     let present = is_present wafer f.0.planned.snapshot in
-    let same : verdict_line present (unsigned waivers) ≡ line.Clean = one (verdict_line present (unsigned waivers)) f.2 in
+    let same : verdict_line present (unsigned waivers) ≡ line.Clean =
+    one (verdict_line present (unsigned waivers)) f.2 in
     let both = clean_is present (unsigned waivers) same in
     record { f = f.0; phase = f.1; present = both.0; none = both.1 }
   where
-    one : (l : Line) → ◌≡◌ {A = Result (List Listed) Ending} (Ok (stored l ∷ [])) (Ok (stored line.Clean ∷ [])) → l ≡ line.Clean
+    one : (l : Line) → ◌≡◌ {A = Result (List Listed) Ending} (Ok (stored l ∷ []))
+        (Ok (stored line.Clean ∷ [])) → l ≡ line.Clean
     one l e = cc
 
-all_signed : (waivers : List (Option Waiver)) → All (λ w. is_signed w ≡ true) waivers → (place : ℕ) → place < length waivers
+all_signed : (waivers : List (Option Waiver)) → All (λ w. is_signed w ≡ true) waivers → (place : ℕ)
+    → place < length waivers
     → is_signed (waiver_at waivers place) ≡ true
 all_signed waivers all place within =
-    ap (λ o. is_signed (option_flatten o)) (slice_get-get_or waivers place None within) ∙ all place None within
+    ap (λ o. is_signed (option_flatten o)) (slice_get-get_or waivers place None within)
+    ∙ all place None within
 
 pub clean_is_signed : TestsAreExact → NoneIsUnsigned → CleanIsSignedOff
 clean_is_signed exact none policy wafer run waivers conn e =
-    let c = verdict_is policy wafer run waivers conn (listed_is waivers (verdict policy wafer run waivers conn) (stored line.Clean ∷ []) e) in
+    let c = verdict_is policy wafer run waivers conn
+    (listed_is waivers (verdict_row policy wafer run waivers conn) (stored line.Clean ∷ [])
+    e) in
     let both = present_is exact wafer.deck wafer.placings c.f.planned.snapshot c.present in
     record {
       checked = c.f;
       finished = finished_is run.phase c.f c.phase;
       deck = both.0;
       roots = both.1;
-      signed = λ size place within. all_signed waivers ((none waivers).0 c.none) place (subst (λ n. place < n) (sym size) within);
+      signed = λ size place within. all_signed waivers ((none waivers).0 c.none) place
+          (subst (λ n. place < n) (sym size) within);
     }
 
 -- ---- the other way
 
-present_from : TestsAreExact → (deck : Option Deck) (placings : List Placement) (s : Snapshot) → deck ≡ Some s.deck → roots_of placings ≡ s.roots
+present_from : TestsAreExact → (deck : Option Deck) (placings : List Placement) (s : Snapshot)
+    → deck ≡ Some s.deck → roots_of placings ≡ s.roots
     → is_present_with deck placings s ≡ true
-present_from exact deck placings s same roots = ap (λ d. is_present_with d placings s) same ∙ (exact.snapshots now s).1 whole
+present_from exact deck placings s same roots =
+    ap (λ d. is_present_with d placings s) same ∙ (exact.snapshots now s).1 whole
   where
     now : Snapshot
     now = record { deck = s.deck; roots = roots_of placings; shelf = s.shelf }
@@ -97,10 +111,13 @@ present_from exact deck placings s same roots = ap (λ d. is_present_with d plac
     whole : now ≡ s
     whole = λ i. record { deck = s.deck; roots = roots i; shelf = s.shelf }
 
-verdict_told : (policy : Policy) (wafer : Wafer) (run : Run) (waivers : List (Option Waiver)) (conn : ℕ) (lines : List Listed)
-    → verdict policy wafer run waivers conn ≡ Ok lines
-    → (f : Checked) × (run.phase ≡ Finished f) × (stored (verdict_line (is_present wafer f.planned.snapshot) (unsigned waivers)) ∷ [] ≡ lines)
-unfolding verdict
+verdict_told : (policy : Policy) (wafer : Wafer) (run : Run) (waivers : List (Option Waiver))
+    (conn : ℕ) (lines : List Listed)
+    → verdict_row policy wafer run waivers conn ≡ Ok lines
+    → (f : Checked) × (run.phase ≡ Finished f)
+    × (stored (verdict_line (is_present wafer f.planned.snapshot) (unsigned waivers))
+    ∷ [] ≡ lines)
+unfolding verdict_row
 verdict_told policy wafer run waivers conn lines e =
     let allowed = passed (permitted policy conn operations.Verdict objects.Desk) _ lines e in
     let f = passed (finished run.phase) _ lines allowed.2 in
@@ -111,10 +128,14 @@ same_finding f g e = cc
 
 pub signed_is_clean : TestsAreExact → NoneIsUnsigned → SignedOffIsClean
 signed_is_clean exact none policy wafer run waivers conn f lines phase deck roots signed e =
-    let told = verdict_told policy wafer run waivers conn lines (listed_is waivers (verdict policy wafer run waivers conn) lines e) in
+    let told = verdict_told policy wafer run waivers conn lines
+    (listed_is waivers (verdict_row policy wafer run waivers conn) lines e) in
     let same : told.0 ≡ f = same_finding told.0 f (sym told.1 ∙ phase) in
     let present : is_present wafer told.0.planned.snapshot ≡ true =
-    ap (λ (x : Checked). is_present wafer x.planned.snapshot) same ∙ present_from exact wafer.deck wafer.placings f.planned.snapshot deck roots in
-    let one : verdict_line (is_present wafer told.0.planned.snapshot) (unsigned waivers) ≡ line.Clean =
-    ap (λ b. verdict_line b (unsigned waivers)) present ∙ ap (λ n. verdict_line true n) ((none waivers).1 signed) in
+    ap (λ (x : Checked). is_present wafer x.planned.snapshot) same
+    ∙ present_from exact wafer.deck wafer.placings f.planned.snapshot deck roots in
+    let one : verdict_line (is_present wafer told.0.planned.snapshot) (unsigned waivers)
+    ≡ line.Clean =
+    ap (λ b. verdict_line b (unsigned waivers)) present
+    ∙ ap (λ n. verdict_line true n) ((none waivers).1 signed) in
     sym told.2 ∙ ap (λ l. stored l ∷ []) one

@@ -1,8 +1,5 @@
 -- What answers to the requests that sign a run off are.
 use Rattle.std.specs.Prelude.{◌≡◌, Bool, true, false, List, Option}
-use Rattle.mpw_replies.specs.Rows.{ended_by}
-use Rattle.mpw_replies.specs.declared.row.Fault.{Fault}
-use Rattle.mpw_replies.specs.declared.row.Fault.TheVariants as fault
 use Rattle.mpw_waiver.specs.declared.waiver.Waiver.{Waiver}
 use Rattle.mpw_waiver.specs.Waivers.{with_asker, with_signer}
 use Rattle.mpw_signoff.specs.declared.answer.NextWaivers.{NextWaivers}
@@ -22,12 +19,8 @@ is_change (Ask place asker) = true
 is_change (Sign place signer) = true
 
 -- The answer gives the outcome: its reply, its waivers, and whether that is a change.
-pub record Gives (waivers : List (Option Waiver)) (outcome : Outcome) (answer : SignOffAnswer) : Type 0 where
+pub record Gives (waivers : List (Option Waiver)) (outcome : Outcome) (answer : SignOffAnswer) :
+    Type 0 where
   pub reply : answer.reply ≡ outcome.reply
   pub left : waivers_after waivers answer.next ≡ outcome.waivers
   pub changes : is_change answer.next ≡ outcome.changes
-
--- What ends a row is told, and leaves the waivers; want of memory gives no answer.
-abbrev pub IsEnd : Fault → SignOffAnswer → Type 0
-IsEnd fault.Memory answer = ⊥
-IsEnd (fault.Told ending) answer = (answer.reply ≡ ended_by ending) × (answer.next ≡ Same)

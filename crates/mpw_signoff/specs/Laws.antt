@@ -33,7 +33,8 @@ use Rattle.mpw_signoff.specs.WaiverLines.{waiver_line}
 -- ---- markers that are shown
 
 -- A marker of the book that stands at a place, is named so, and is shown in full to the session.
-pub record IsShown (policy : Policy) (conn : ℕ) (f : Checked) (name : MarkerName) (place : ℕ) (marker : Marker) : Type 0 where
+pub record IsShownInFull (policy : Policy) (conn : ℕ) (f : Checked) (name : MarkerName) (place : ℕ)
+    (marker : Marker) : Type 0 where
   pub rule : Rule
   pub at : slice_get f.book place ≡ Some marker
   pub of_rule : slice_get f.planned.snapshot.deck.rules marker.rule ≡ Some rule
@@ -41,52 +42,60 @@ pub record IsShown (policy : Policy) (conn : ℕ) (f : Checked) (name : MarkerNa
   pub full : is_full (seen_by policy conn f.planned.snapshot.shelf) marker ≡ true
 
 -- A request that was accepted is of such a marker, whose waiver was asked for by the session's user.
-pub record IsAsked (policy : Policy) (run : Run) (waivers : List (Option Waiver)) (conn : ℕ) (name : MarkerName) (after : List (Option Waiver)) : Type 0 where
+pub record IsAsked (policy : Policy) (run : Run) (waivers : List (Option Waiver)) (conn : ℕ)
+    (name : MarkerName) (after : List (Option Waiver)) : Type 0 where
   pub checked : Checked
   pub place : ℕ
   pub marker : Marker
   pub finished : run.phase ≡ Finished checked
-  pub shown : IsShown policy conn checked name place marker
+  pub shown : IsShownInFull policy conn checked name place marker
   pub left : after ≡ with_asker waivers place (user_of policy conn)
 
 -- Or it was signed by the session's user, who may sign it: who neither asked for it nor submitted what the marker meets.
-pub record IsSigned (policy : Policy) (run : Run) (waivers : List (Option Waiver)) (conn : ℕ) (name : MarkerName) (after : List (Option Waiver)) : Type 0 where
+pub record IsSigned (policy : Policy) (run : Run) (waivers : List (Option Waiver)) (conn : ℕ)
+    (name : MarkerName) (after : List (Option Waiver)) : Type 0 where
   pub checked : Checked
   pub place : ℕ
   pub marker : Marker
   pub finished : run.phase ≡ Finished checked
-  pub shown : IsShown policy conn checked name place marker
+  pub shown : IsShownInFull policy conn checked name place marker
   pub may : MaySign checked.planned.snapshot.shelf waivers place marker.met (user_of policy conn)
   pub left : after ≡ with_signer waivers place (user_of policy conn)
 
 -- A line of a listing tells the waiver of such a marker.
-pub record IsTold (policy : Policy) (conn : ℕ) (f : Checked) (waivers : List (Option Waiver)) (listed : Listed) : Type 0 where
+pub record IsTold (policy : Policy) (conn : ℕ) (f : Checked) (waivers : List (Option Waiver))
+    (listed : Listed) : Type 0 where
   pub place : ℕ
   pub marker : Marker
   pub name : MarkerName
   pub waiver : Waiver
-  pub shown : IsShown policy conn f name place marker
+  pub shown : IsShownInFull policy conn f name place marker
   pub is : waiver_at waivers place ≡ Some waiver
   pub line : listed ≡ stored (waiver_line name waiver.asker waiver.signer)
 
 -- What is accepted to be waived is shown.
 abbrev pub AskedAreShown : Type 0
 AskedAreShown =
-    (policy : Policy) (wafer : Wafer) (run : Run) (waivers : List (Option Waiver)) (conn : ℕ) (name : MarkerName) (lines : List Listed)
+    (policy : Policy) (wafer : Wafer) (run : Run) (waivers : List (Option Waiver)) (conn : ℕ)
+    (name : MarkerName) (lines : List Listed)
     → (outcome_of policy wafer run waivers conn (ask.Waive name)).reply ≡ reply.Ok lines
-    → IsAsked policy run waivers conn name (outcome_of policy wafer run waivers conn (ask.Waive name)).waivers
+    → IsAsked policy run waivers conn name
+    (outcome_of policy wafer run waivers conn (ask.Waive name)).waivers
 
 -- What is accepted to be signed is shown, and signed by one who stands apart.
 abbrev pub SignersStandApart : Type 0
 SignersStandApart =
-    (policy : Policy) (wafer : Wafer) (run : Run) (waivers : List (Option Waiver)) (conn : ℕ) (name : MarkerName) (lines : List Listed)
+    (policy : Policy) (wafer : Wafer) (run : Run) (waivers : List (Option Waiver)) (conn : ℕ)
+    (name : MarkerName) (lines : List Listed)
     → (outcome_of policy wafer run waivers conn (ask.Sign name)).reply ≡ reply.Ok lines
-    → IsSigned policy run waivers conn name (outcome_of policy wafer run waivers conn (ask.Sign name)).waivers
+    → IsSigned policy run waivers conn name
+    (outcome_of policy wafer run waivers conn (ask.Sign name)).waivers
 
 -- What is listed is shown.
 abbrev pub ToldAreShown : Type 0
 ToldAreShown =
-    (policy : Policy) (wafer : Wafer) (run : Run) (waivers : List (Option Waiver)) (conn : ℕ) (lines : List Listed)
+    (policy : Policy) (wafer : Wafer) (run : Run) (waivers : List (Option Waiver)) (conn : ℕ)
+    (lines : List Listed)
     → (outcome_of policy wafer run waivers conn ask.Waivers).reply ≡ reply.Ok lines
     → (f : Checked) × (run.phase ≡ Finished f) × All (IsTold policy conn f waivers) lines
 
@@ -95,29 +104,34 @@ ToldAreShown =
 -- A permission that is denied is lacked.
 abbrev pub SignOffsDenyWhatIsLacked : Type 0
 SignOffsDenyWhatIsLacked =
-    (policy : Policy) (wafer : Wafer) (run : Run) (waivers : List (Option Waiver)) (conn : ℕ) (request : SignOffRequest)
+    (policy : Policy) (wafer : Wafer) (run : Run) (waivers : List (Option Waiver)) (conn : ℕ)
+    (request : SignOffRequest)
     (operation : Operation) (object : Object)
-    → (outcome_of policy wafer run waivers conn request).reply ≡ reply.Denied (denial.Permission operation object)
+    → (outcome_of policy wafer run waivers conn request).reply ≡ reply.Denied
+    (denial.Permission operation object)
     → permits policy conn operation object ≡ false
 
 -- The user submitted a version of the cell that the marker meets, and none of a lesser cell.
-pub record IsSubmitter (policy : Policy) (run : Run) (conn : ℕ) (name : MarkerName) (cell : List ℕ) : Type 0 where
+pub record IsSubmitter (policy : Policy) (run : Run) (conn : ℕ) (name : MarkerName)
+    (cell : List ℕ) : Type 0 where
   pub checked : Checked
   pub place : ℕ
   pub marker : Marker
   pub finished : run.phase ≡ Finished checked
-  pub shown : IsShown policy conn checked name place marker
+  pub shown : IsShownInFull policy conn checked name place marker
   pub own : IsOwn checked.planned.snapshot.shelf marker.met (user_of policy conn) cell
-  pub least : (other : List ℕ) → IsOwn checked.planned.snapshot.shelf marker.met (user_of policy conn) other
+  pub least : (other : List ℕ) → IsOwn checked.planned.snapshot.shelf marker.met
+      (user_of policy conn) other
       → is_lt (name_cmp other cell) ≡ false
 
 -- The user asked for the marker's waiver.
-pub record IsAsker (policy : Policy) (run : Run) (waivers : List (Option Waiver)) (conn : ℕ) (name : MarkerName) : Type 0 where
+pub record IsAsker (policy : Policy) (run : Run) (waivers : List (Option Waiver)) (conn : ℕ)
+    (name : MarkerName) : Type 0 where
   pub checked : Checked
   pub place : ℕ
   pub marker : Marker
   pub finished : run.phase ≡ Finished checked
-  pub shown : IsShown policy conn checked name place marker
+  pub shown : IsShownInFull policy conn checked name place marker
   pub waiver : Waiver
   pub is : waiver_at waivers place ≡ Some waiver
   pub asker : waiver.asker ≡ user_of policy conn
@@ -125,27 +139,32 @@ pub record IsAsker (policy : Policy) (run : Run) (waivers : List (Option Waiver)
 -- Only who signs is denied as a submitter or as the asker, and is one.
 abbrev pub SubmittersAreTold : Type 0
 SubmittersAreTold =
-    (policy : Policy) (wafer : Wafer) (run : Run) (waivers : List (Option Waiver)) (conn : ℕ) (request : SignOffRequest) (cell : List ℕ)
-    → (outcome_of policy wafer run waivers conn request).reply ≡ reply.Denied (denial.Submitter cell)
+    (policy : Policy) (wafer : Wafer) (run : Run) (waivers : List (Option Waiver)) (conn : ℕ)
+    (request : SignOffRequest) (cell : List ℕ)
+    → (outcome_of policy wafer run waivers conn request).reply ≡ reply.Denied
+    (denial.Submitter cell)
     → (name : MarkerName) × (request ≡ ask.Sign name) × IsSubmitter policy run conn name cell
 
 abbrev pub AskersAreTold : Type 0
 AskersAreTold =
-    (policy : Policy) (wafer : Wafer) (run : Run) (waivers : List (Option Waiver)) (conn : ℕ) (request : SignOffRequest)
+    (policy : Policy) (wafer : Wafer) (run : Run) (waivers : List (Option Waiver)) (conn : ℕ)
+    (request : SignOffRequest)
     → (outcome_of policy wafer run waivers conn request).reply ≡ reply.Denied denial.Asker
     → (name : MarkerName) × (request ≡ ask.Sign name) × IsAsker policy run waivers conn name
 
 -- What is denied or refused leaves the waivers.
 abbrev pub NegativesLeaveTheWaivers : Type 0
 NegativesLeaveTheWaivers =
-    (policy : Policy) (wafer : Wafer) (run : Run) (waivers : List (Option Waiver)) (conn : ℕ) (request : SignOffRequest)
+    (policy : Policy) (wafer : Wafer) (run : Run) (waivers : List (Option Waiver)) (conn : ℕ)
+    (request : SignOffRequest)
     → IsNegative (outcome_of policy wafer run waivers conn request).reply
     → (outcome_of policy wafer run waivers conn request).waivers ≡ waivers
 
 -- A request leaves the number of places.
 abbrev pub PlacesAreLeft : Type 0
 PlacesAreLeft =
-    (policy : Policy) (wafer : Wafer) (run : Run) (waivers : List (Option Waiver)) (conn : ℕ) (request : SignOffRequest)
+    (policy : Policy) (wafer : Wafer) (run : Run) (waivers : List (Option Waiver)) (conn : ℕ)
+    (request : SignOffRequest)
     → length (outcome_of policy wafer run waivers conn request).waivers ≡ length waivers
 
 -- ---- verdicts and lines
@@ -157,26 +176,32 @@ pub record IsSignedOff (wafer : Wafer) (run : Run) (waivers : List (Option Waive
   pub finished : run.phase ≡ Finished checked
   pub deck : wafer.deck ≡ Some checked.planned.snapshot.deck
   pub roots : roots_of wafer.placings ≡ checked.planned.snapshot.roots
-  pub signed : length waivers ≡ length checked.book → (place : ℕ) → place < length checked.book → is_signed (waiver_at waivers place) ≡ true
+  pub signed : length waivers ≡ length checked.book → (place : ℕ) → place < length checked.book
+      → is_signed (waiver_at waivers place) ≡ true
 
 -- A run that is told to be clean is signed off.
 abbrev pub CleanIsSignedOff : Type 0
 CleanIsSignedOff =
     (policy : Policy) (wafer : Wafer) (run : Run) (waivers : List (Option Waiver)) (conn : ℕ)
-    → (outcome_of policy wafer run waivers conn ask.Verdict).reply ≡ reply.Ok (stored line.Clean ∷ [])
+    → (outcome_of policy wafer run waivers conn ask.Verdict).reply
+    ≡ reply.Ok (stored line.Clean ∷ [])
     → IsSignedOff wafer run waivers
 
 -- A run that is finished, with the deck and the placings that it looked at and with all waivers signed, is told to be clean.
 abbrev pub SignedOffIsClean : Type 0
 SignedOffIsClean =
-    (policy : Policy) (wafer : Wafer) (run : Run) (waivers : List (Option Waiver)) (conn : ℕ) (f : Checked) (lines : List Listed)
-    → run.phase ≡ Finished f → wafer.deck ≡ Some f.planned.snapshot.deck → roots_of wafer.placings ≡ f.planned.snapshot.roots
+    (policy : Policy) (wafer : Wafer) (run : Run) (waivers : List (Option Waiver)) (conn : ℕ)
+    (f : Checked) (lines : List Listed)
+    → run.phase ≡ Finished f → wafer.deck ≡ Some f.planned.snapshot.deck
+    → roots_of wafer.placings ≡ f.planned.snapshot.roots
     → All (λ waiver. is_signed waiver ≡ true) waivers
-    → (outcome_of policy wafer run waivers conn ask.Verdict).reply ≡ reply.Ok lines → lines ≡ stored line.Clean ∷ []
+    → (outcome_of policy wafer run waivers conn ask.Verdict).reply ≡ reply.Ok lines
+    → lines ≡ stored line.Clean ∷ []
 
 -- What is listed names only cells that the session may read.
 abbrev pub SignOffLinesAreOfReadable : Type 0
 SignOffLinesAreOfReadable =
-    (policy : Policy) (wafer : Wafer) (run : Run) (waivers : List (Option Waiver)) (conn : ℕ) (request : SignOffRequest) (lines : List Listed)
+    (policy : Policy) (wafer : Wafer) (run : Run) (waivers : List (Option Waiver)) (conn : ℕ)
+    (request : SignOffRequest) (lines : List Listed)
     → (outcome_of policy wafer run waivers conn request).reply ≡ reply.Ok lines
     → All (IsOfReadable policy conn) lines

@@ -3,3 +3,4 @@ pub mod Laws
 pub mod Named
 pub mod SigningOff
 pub mod WaiverLines
+pub mod Internal

@@ -7,7 +7,6 @@ use Rattle.mpw_markers.specs.declared.marker.Key.{Key}
 use Rattle.mpw_markers.specs.declared.marker.Marker.{Marker}
 use Rattle.mpw_markers.specs.Book.{place_in}
 use Rattle.mpw_requests.specs.declared.sign_off.MarkerName.{MarkerName}
-use Rattle.mpw_signoff.specs.declared.named.Named.{Named as NamedLook}
 
 -- The place of the first rule of that name.
 abbrev pub rule_place : List Rule → List ℕ → Option ℕ
@@ -41,10 +40,6 @@ name_for rule m = record {
 pub record Named : Type 0 where
   pub place : ℕ
   pub marker : Marker
-
--- What a function's look at such a marker shows.
-abbrev pub seen_named : NamedLook → Named
-seen_named n = record { place = n.place; marker = n.marker.now }
 
 abbrev pub with_place : ℕ → Option Marker → Option Named
 with_place place None = None

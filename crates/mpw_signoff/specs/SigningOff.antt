@@ -61,7 +61,8 @@ if_shown seen (Some n) = if_full seen n
 
 unfoldable pub shown : Policy → ℕ → Checked → MarkerName → Result Named Ending
 shown policy conn f name =
-    if_shown (seen_by policy conn f.planned.snapshot.shelf) (named_in f.planned.snapshot.deck.rules f.book name)
+    if_shown (seen_by policy conn f.planned.snapshot.shelf)
+    (named_in f.planned.snapshot.deck.rules f.book name)
 
 -- What ends a row where the test of a waiver fails.
 abbrev pub ending_of : WaiverFault → Ending
@@ -81,9 +82,10 @@ passes (Err fault) = Err (ending_of fault)
 abbrev pub by_user : Policy → ℕ → Named → ByUser
 by_user policy conn n = record { place = n.place; user = user_of policy conn }
 
--- A waiver of the marker may be asked for.
-unfoldable pub waived : Policy → Run → List (Option Waiver) → ℕ → MarkerName → Result ByUser Ending
-waived policy run waivers conn name = do
+-- The row of `waive`: a waiver of the marker may be asked for.
+unfoldable pub waive_row : Policy → Run → List (Option Waiver) → ℕ → MarkerName
+    → Result ByUser Ending
+waive_row policy run waivers conn name = do
   allowed ← permitted policy conn operation.Waive object.Desk
   f ← finished run.phase
   n ← shown policy conn f name
@@ -92,11 +94,13 @@ waived policy run waivers conn name = do
 
 -- Nothing keeps the user apart from the waiver of the marker.
 abbrev pub apart : Checked → List (Option Waiver) → Named → List ℕ → Result (Unit {0}) Ending
-apart f waivers n user = passes (sign_test f.planned.snapshot.shelf n.marker.met user (waiver_at waivers n.place))
+apart f waivers n user =
+    passes (sign_test f.planned.snapshot.shelf n.marker.met user (waiver_at waivers n.place))
 
--- The marker's waiver may be signed.
-unfoldable pub signed_off : Policy → Run → List (Option Waiver) → ℕ → MarkerName → Result ByUser Ending
-signed_off policy run waivers conn name = do
+-- The row of `sign`: the marker's waiver may be signed. Who may sign it is `sign_test`.
+unfoldable pub sign_row : Policy → Run → List (Option Waiver) → ℕ → MarkerName
+    → Result ByUser Ending
+sign_row policy run waivers conn name = do
   allowed ← permitted policy conn operation.Sign object.Desk
   f ← finished run.phase
   n ← shown policy conn f name
@@ -106,31 +110,38 @@ signed_off policy run waivers conn name = do
 -- The waivers of the markers that are shown in full.
 abbrev pub waiver_lines : Policy → ℕ → Checked → List (Option Waiver) → List Line
 waiver_lines policy conn f waivers =
-    lines_from f.planned.snapshot.deck.rules (seen_by policy conn f.planned.snapshot.shelf) waivers 0 f.book
+    lines_from f.planned.snapshot.deck.rules (seen_by policy conn f.planned.snapshot.shelf) waivers
+    0 f.book
 
-unfoldable pub waivers_told : Policy → Run → List (Option Waiver) → ℕ → Result (List Listed) Ending
-waivers_told policy run waivers conn = do
+-- The row of `waivers`.
+unfoldable pub waivers_row : Policy → Run → List (Option Waiver) → ℕ → Result (List Listed) Ending
+waivers_row policy run waivers conn = do
   inside ← entered policy conn
   f ← finished run.phase
   Ok (map stored (waiver_lines policy conn f waivers))
 
--- A run over the present deck and placings, on the same shelf, would look at what the run looked at: labels of placings are no part of it.
+-- The deck and the placed submissions are, by value, those that the run looked at. Labels of placings are no part of this, nor what
+-- was put on the shelf since.
 abbrev pub is_present_with : Option Deck → List Placement → Snapshot → Bool
 is_present_with None placings s = false
-is_present_with (Some deck) placings s = same_snapshot (record { deck = deck; roots = roots_of placings; shelf = s.shelf }) s
+is_present_with (Some deck) placings s =
+    same_snapshot (record { deck = deck; roots = roots_of placings; shelf = s.shelf }) s
 
 abbrev pub is_present : Wafer → Snapshot → Bool
 is_present wafer s = is_present_with wafer.deck wafer.placings s
 
--- So many markers have no signed waiver.
+-- The verdict where so many markers have no signed waiver.
 abbrev pub open_line : ℕ → Line
 open_line number = if number == 0 then line.Clean else line.Open number
 
+-- It is stale where deck or placed submissions aren't those of the run.
 abbrev pub verdict_line : Bool → ℕ → Line
 verdict_line present number = if present then open_line number else line.Stale
 
-unfoldable pub verdict : Policy → Wafer → Run → List (Option Waiver) → ℕ → Result (List Listed) Ending
-verdict policy wafer run waivers conn = do
+-- The row of `verdict`.
+unfoldable pub verdict_row : Policy → Wafer → Run → List (Option Waiver) → ℕ
+    → Result (List Listed) Ending
+verdict_row policy wafer run waivers conn = do
   allowed ← permitted policy conn operation.Verdict object.Desk
   f ← finished run.phase
   Ok (stored (verdict_line (is_present wafer f.planned.snapshot) (unsigned waivers)) ∷ [])
@@ -163,7 +174,11 @@ listed waivers (Err ending) = left (ended_by ending) waivers
 
 -- Each request by its row.
 abbrev pub outcome_of : Policy → Wafer → Run → List (Option Waiver) → ℕ → SignOffRequest → Outcome
-outcome_of policy wafer run waivers conn (ask.Waive marker) = waived_outcome waivers (waived policy run waivers conn marker)
-outcome_of policy wafer run waivers conn (ask.Sign marker) = signed_outcome waivers (signed_off policy run waivers conn marker)
-outcome_of policy wafer run waivers conn ask.Waivers = listed waivers (waivers_told policy run waivers conn)
-outcome_of policy wafer run waivers conn ask.Verdict = listed waivers (verdict policy wafer run waivers conn)
+outcome_of policy wafer run waivers conn (ask.Waive marker) =
+    waived_outcome waivers (waive_row policy run waivers conn marker)
+outcome_of policy wafer run waivers conn (ask.Sign marker) =
+    signed_outcome waivers (sign_row policy run waivers conn marker)
+outcome_of policy wafer run waivers conn ask.Waivers =
+    listed waivers (waivers_row policy run waivers conn)
+outcome_of policy wafer run waivers conn ask.Verdict =
+    listed waivers (verdict_row policy wafer run waivers conn)

@@ -29,7 +29,9 @@ abbrev pub shown_line : List Rule → List Bool → Marker → Option Waiver →
 shown_line rules seen m waiver = if is_full seen m then marker_line rules m waiver else []
 
 -- The lines of the markers from a place of the book on, in order.
-unfoldable pub lines_from : List Rule → List Bool → List (Option Waiver) → ℕ → List Marker → List Line
+unfoldable pub lines_from : List Rule → List Bool → List (Option Waiver) → ℕ → List Marker
+    → List Line
 lines_from rules seen waivers place [] = []
 lines_from rules seen waivers place (m ∷ book) =
-    shown_line rules seen m (waiver_at waivers place) ++ lines_from rules seen waivers (place + 1) book
+    shown_line rules seen m (waiver_at waivers place) ++ lines_from rules seen waivers (place + 1)
+    book

@@ -3,7 +3,8 @@ ghost use Rattle.std.specs.Prelude.{List, Result, IfOk};
 ghost use Rattle.mpw_replies.specs.Listing.{Listed};
 ghost use Rattle.mpw_replies.specs.Rows.{Answers};
 ghost use Rattle.mpw_replies.specs.declared.row.Ending.{Ending as AnyEnding};
-ghost use Rattle.mpw_signoff.specs.Answers.{Gives, IsEnd};
+ghost use Rattle.mpw_signoff.specs.Answers.{Gives};
+ghost use Rattle.mpw_signoff.specs.Internal.Answers.{IsEnd};
 ghost use Rattle.mpw_signoff.specs.SigningOff.{outcome_of, waived_outcome, signed_outcome, listed};
 ghost use Rattle.mpw_signoff.specs.declared.rows.ByUser.{ByUser as AnyUser};
 

@@ -4,7 +4,8 @@
 //! and then the key in the book, by halving.
 ghost use Rattle.std.specs.Prelude.{◌≡◌, ◌≤◌, length, option_map};
 ghost use Rattle.mpw_markers.specs.Book.{place_in};
-ghost use Rattle.mpw_signoff.specs.Named.{found_at, key_by, named_in, rule_place, seen_named};
+ghost use Rattle.mpw_signoff.specs.Named.{found_at, key_by, named_in, rule_place};
+ghost use Rattle.mpw_signoff.specs.Internal.Named.{seen_named};
 
 use mpw_deck::{Deck, Rule};
 use mpw_geom::Name;

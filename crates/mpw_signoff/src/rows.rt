@@ -4,7 +4,7 @@
 ghost use Rattle.std.specs.Prelude.{◌≡◌, ◌∷◌, [], IfOk, map};
 ghost use Rattle.mpw_replies.specs.Listing.{stored};
 ghost use Rattle.mpw_replies.specs.Rows.{Answers};
-ghost use Rattle.mpw_signoff.specs.Named.{seen_named};
+ghost use Rattle.mpw_signoff.specs.Internal.Named.{seen_named};
 ghost use Rattle.mpw_signoff.specs.SigningOff as row;
 ghost use Rattle.mpw_waiver.specs.Waivers.{unsigned};
 
@@ -93,7 +93,7 @@ fn passes(told: Result<(), WaiverFault>) -> Result<(), Fault>
 }
 
 /// The user who asks for a waiver, with the marker's place. What [`shown`] takes.
-#[tactic(auto, unfolding(crate::specs::SigningOff::waived))]
+#[tactic(auto, unfolding(crate::specs::SigningOff::waive_row))]
 pub(crate) fn waive(
     policy: &Policy,
     run: &Run,
@@ -101,7 +101,7 @@ pub(crate) fn waive(
     conn: u32,
     marker: &MarkerName,
 ) -> Result<ByUser, Fault>
-    ensures { Answers (λ by. by) result (row.waived policy.now run.now waivers.now conn marker.now) }
+    ensures { Answers (λ by. by) result (row.waive_row policy.now run.now waivers.now conn marker.now) }
 {
     let user = enter(policy, conn, Operation::Waive, Object::Desk)?;
     let checked = findings(run.phase())?;
@@ -125,7 +125,7 @@ fn is_apart(
 }
 
 /// The user who signs a waiver, with the marker's place. What [`shown`] takes, and a pass over the marker's met numbers.
-#[tactic(auto, unfolding(crate::specs::SigningOff::signed_off))]
+#[tactic(auto, unfolding(crate::specs::SigningOff::sign_row))]
 pub(crate) fn sign(
     policy: &Policy,
     run: &Run,
@@ -133,7 +133,7 @@ pub(crate) fn sign(
     conn: u32,
     marker: &MarkerName,
 ) -> Result<ByUser, Fault>
-    ensures { Answers (λ by. by) result (row.signed_off policy.now run.now waivers.now conn marker.now) }
+    ensures { Answers (λ by. by) result (row.sign_row policy.now run.now waivers.now conn marker.now) }
 {
     let user = enter(policy, conn, Operation::Sign, Object::Desk)?;
     let checked = findings(run.phase())?;
@@ -163,7 +163,7 @@ fn listed(
 }
 
 /// The lines of `waivers`: a look-up for each submission on the run's shelf, and a pass over the book.
-#[tactic(auto, unfolding(crate::specs::SigningOff::waivers_told))]
+#[tactic(auto, unfolding(crate::specs::SigningOff::waivers_row))]
 pub(crate) fn waivers(
     alloc: Global,
     policy: &Policy,
@@ -171,7 +171,7 @@ pub(crate) fn waivers(
     waivers: &Waivers,
     conn: u32,
 ) -> Result<Lines, Fault>
-    ensures { Answers (λ lines. lines) result (row.waivers_told policy.now run.now waivers.now conn) }
+    ensures { Answers (λ lines. lines) result (row.waivers_row policy.now run.now waivers.now conn) }
 {
     session(policy, conn)?;
     let checked = findings(run.phase())?;
@@ -201,7 +201,7 @@ fn one_line(alloc: Global, line: Line) -> Result<Lines, AllocError>
 }
 
 /// The line of `verdict`. Linear in the placings, the rules and the markers.
-#[tactic(auto, unfolding(crate::specs::SigningOff::verdict))]
+#[tactic(auto, unfolding(crate::specs::SigningOff::verdict_row))]
 pub(crate) fn verdict(
     alloc: Global,
     policy: &Policy,
@@ -210,7 +210,7 @@ pub(crate) fn verdict(
     waivers: &Waivers,
     conn: u32,
 ) -> Result<Lines, Fault>
-    ensures { Answers (λ lines. lines) result (row.verdict policy.now wafer.now run.now waivers.now conn) }
+    ensures { Answers (λ lines. lines) result (row.verdict_row policy.now wafer.now run.now waivers.now conn) }
 {
     enter(policy, conn, Operation::Verdict, Object::Desk)?;
     let checked = findings(run.phase())?;

@@ -26,11 +26,13 @@ use Rattle.mpw_walk.specs.Roots.{root_extent, roots_extent}
 use Rattle.std.specs.Result.{result_ok}
 use Rattle.mpw_region.proofs.Held.{Held-nil}
 use Rattle.mpw_tiles.specs.declared.listing.Rectangle.{Rectangle}
-use Rattle.mpw_tiles.specs.Listing.{IsListed, HasSquareOf, AddsSquares}
+use Rattle.mpw_tiles.specs.Listing.{IsListed, HasSquareOf}
+use Rattle.mpw_tiles.specs.Internal.Listing.{AddsSquares}
 use Rattle.mpw_tiles.specs.Shown.{IsShown}
 use Rattle.mpw_tiles.specs.Snapshots.{Snapshot, shown, plan_for, AreWindowsFor, StandFor}
 use Rattle.mpw_tiles.specs.Plan.{Tiling, greatest_distance, plan_of, tiles, tile_window}
-use Rattle.mpw_tiles.specs.Placed.{nearest_point, WindowsLieInPlane}
+use Rattle.mpw_tiles.specs.Placed.{WindowsLieInPlane}
+use Rattle.mpw_tiles.specs.Internal.Placed.{nearest_point}
 
 -- ---- near boxes
 
@@ -41,7 +43,8 @@ pub record AreClose (b : Box2) : Type 0 where
   pub y1 : IsClose b.y1
 
 close : (z : ℤ) → is_near z ≡ true → IsClose z
-close z e = let h = and_parts _ _ e in record { low = le_from_test _ _ h.0; high = le_from_test _ _ h.1 }
+close z e =
+    let h = and_parts _ _ e in record { low = le_from_test _ _ h.0; high = le_from_test _ _ h.1 }
 
 pub close_box : (b : Box2) → is_box_near b ≡ true → AreClose b
 unfolding is_box_near
@@ -53,27 +56,41 @@ close_box b e =
 
 pub same_box : (a b : Box2) → a.x0 ≡ b.x0 → a.y0 ≡ b.y0 → a.x1 ≡ b.x1 → a.y1 ≡ b.y1 → a ≡ b
 same_box a b e f g h =
-    ap (λ (p : ℤ × ℤ × ℤ × ℤ). let c : Box2 = record { x0 = p.0; y0 = p.1; x1 = p.2; y1 = p.3 } in c) (let k : (let q : ℤ × ℤ × ℤ × ℤ = (a.x0, a.y0, a.x1, a.y1) in q) ≡ (b.x0, b.y0, b.x1, b.y1) = cc in k)
+    ap (λ (p : ℤ × ℤ × ℤ × ℤ). let c : Box2 = record { x0 = p.0; y0 = p.1; x1 = p.2; y1 = p.3 } in
+    c) (let k : (let q : ℤ × ℤ × ℤ × ℤ = (a.x0, a.y0, a.x1, a.y1) in q)
+    ≡ (b.x0, b.y0, b.x1, b.y1) = cc in k)
 
 -- what a least or a greatest of numbers that fit is, as code shows it
-pub fitting : (f : ℤ → ℤ → ℤ) (a b r : ℤ) → SFits w64 a → SFits w64 b → SFits w64 r → r ≡ f (to_z w64 (of_z w64 a)) (to_z w64 (of_z w64 b)) → to_z w64 (of_z w64 r) ≡ f a b
+pub fitting : (f : ℤ → ℤ → ℤ) (a b r : ℤ) → SFits w64 a → SFits w64 b → SFits w64 r
+    → r ≡ f (to_z w64 (of_z w64 a)) (to_z w64 (of_z w64 b)) → to_z w64 (of_z w64 r) ≡ f a b
 fitting f a b r h k m e = rw (to_z-of_z w64 r m, e, to_z-of_z w64 a h, to_z-of_z w64 b k) refl
 
 -- what is near is not moved to the edge of the plane
-unmoved : (p q : Point) → is_box_near (box_between p q) ≡ true → box_between (nearest_point p) (nearest_point q) ≡ box_between p q
+unmoved : (p q : Point) → is_box_near (box_between p q) ≡ true
+    → box_between (nearest_point p) (nearest_point q) ≡ box_between p q
 unfolding box_between
 unmoved p q e =
-    let h = close_box (record { x0 = int_min p.x q.x; y0 = int_min p.y q.y; x1 = int_max p.x q.x; y1 = int_max p.y q.y }) e in
+    let h = close_box (record {
+      x0 = int_min p.x q.x;
+      y0 = int_min p.y q.y;
+      x1 = int_max p.x q.x;
+      y1 = int_max p.y q.y;
+    }) e in
     let a = h.x0.low in
     let b = h.x1.high in
     let c = h.y0.low in
     let d = h.y1.high in
-    same_box _ _ (omega (arith, ints, clamps)) (omega (arith, ints, clamps)) (omega (arith, ints, clamps)) (omega (arith, ints, clamps))
+    same_box _ _ (omega (arith, ints, clamps)) (omega (arith, ints, clamps))
+    (omega (arith, ints, clamps)) (omega (arith, ints, clamps))
 
-pub area_is_box : (t : Placing) (b : Box2) (x0 y0 x1 y1 : ℤ) → x0 ≡ b.x0 → y0 ≡ b.y0 → x1 ≡ b.x1 → y1 ≡ b.y1 → is_box_near (placed_box t b) ≡ true
-    → box_between (nearest_point (placed_point t (record { x = x0; y = y0 }))) (nearest_point (placed_point t (record { x = x1; y = y1 }))) ≡ placed_box t b
+pub area_is_box : (t : Placing) (b : Box2) (x0 y0 x1 y1 : ℤ) → x0 ≡ b.x0 → y0 ≡ b.y0 → x1 ≡ b.x1
+    → y1 ≡ b.y1 → is_box_near (placed_box t b) ≡ true
+    → box_between (nearest_point (placed_point t (record { x = x0; y = y0 })))
+    (nearest_point (placed_point t (record { x = x1; y = y1 }))) ≡ placed_box t b
 unfolding placed_box
-area_is_box t b x0 y0 x1 y1 e f g h n = rw (e, f, g, h) (unmoved (placed_point t (record { x = b.x0; y = b.y0 })) (placed_point t (record { x = b.x1; y = b.y1 })) n)
+area_is_box t b x0 y0 x1 y1 e f g h n =
+    rw (e, f, g, h) (unmoved (placed_point t (record { x = b.x0; y = b.y0 }))
+    (placed_point t (record { x = b.x1; y = b.y1 })) n)
 
 -- ---- the extent of roots
 
@@ -88,32 +105,43 @@ hull_assoc None b c = refl
 hull_assoc (Some a) None c = refl
 hull_assoc (Some a) (Some b) None = refl
 hull_assoc (Some a) (Some b) (Some c) =
-    ap Some (same_box (joined (joined a b) c) (joined a (joined b c)) (min_assoc a.x0 b.x0 c.x0) (min_assoc a.y0 b.y0 c.y0) (max_assoc a.x1 b.x1 c.x1) (max_assoc a.y1 b.y1 c.y1))
+    ap Some (same_box (joined (joined a b) c) (joined a (joined b c)) (min_assoc a.x0 b.x0 c.x0)
+    (min_assoc a.y0 b.y0 c.y0) (max_assoc a.x1 b.x1 c.x1) (max_assoc a.y1 b.y1 c.y1))
 
 hull_none : (a : Option Box2) → hull a None ≡ a
 hull_none None = refl
 hull_none (Some a) = refl
 
-pub hull_more : (ss : List Submission) (roots : List Root) (i : ℕ) (d : Root) (so_far : Option Box2) → i < length roots → hull so_far (roots_extent ss (drop i roots)) ≡ roots_extent ss roots
-    → hull (hull so_far (root_extent ss (get_or roots i d))) (roots_extent ss (drop (i + 1) roots)) ≡ roots_extent ss roots
+pub hull_more : (ss : List Submission) (roots : List Root) (i : ℕ) (d : Root) (so_far : Option Box2)
+    → i < length roots → hull so_far (roots_extent ss (drop i roots)) ≡ roots_extent ss roots
+    → hull (hull so_far (root_extent ss (get_or roots i d))) (roots_extent ss (drop (i + 1) roots))
+    ≡ roots_extent ss roots
 unfolding roots_extent
 hull_more ss roots i d so_far h e =
-    hull_assoc so_far (root_extent ss (get_or roots i d)) (roots_extent ss (drop (i + 1) roots)) ∙ ap (hull so_far) (sym (at_drop_more (roots_extent ss) roots i d h)) ∙ e
+    hull_assoc so_far (root_extent ss (get_or roots i d)) (roots_extent ss (drop (i + 1) roots))
+    ∙ ap (hull so_far) (sym (at_drop_more (roots_extent ss) roots i d h)) ∙ e
 
-pub hull_last : (ss : List Submission) (roots : List Root) (i : ℕ) (so_far whole : Option Box2) → length roots ≤ i → hull so_far (roots_extent ss (drop i roots)) ≡ whole → so_far ≡ whole
+pub hull_last : (ss : List Submission) (roots : List Root) (i : ℕ) (so_far whole : Option Box2)
+    → length roots ≤ i → hull so_far (roots_extent ss (drop i roots)) ≡ whole → so_far ≡ whole
 unfolding roots_extent
-hull_last ss roots i so_far whole h e = sym (hull_none so_far) ∙ ap (λ rest. hull so_far (roots_extent ss rest)) (sym (drop_all i roots h)) ∙ e
+hull_last ss roots i so_far whole h e = sym (hull_none so_far)
+    ∙ ap (λ rest. hull so_far (roots_extent ss rest)) (sym (drop_all i roots h)) ∙ e
 
 abbrev IsNearOption : Option Box2 → Type 0
 IsNearOption o = IfSome o (λ b. is_box_near b ≡ true)
 
 near_min : (a b : ℤ) → IsClose a → IsClose b → is_near (int_min a b) ≡ true
-near_min a b h k = and_from _ _ (test_from_le (neg_ℤ (pos (2 ^ 30))) (int_min a b) (omega (arith, ints, clamps))) (test_from_le (int_min a b) (pos (2 ^ 30)) (omega (arith, ints, clamps)))
+near_min a b h k = and_from _ _ (test_from_le (neg_ℤ (pos (2 ^ 30))) (int_min a b)
+    (omega (arith, ints, clamps))) (test_from_le (int_min a b) (pos (2 ^ 30))
+    (omega (arith, ints, clamps)))
 
 near_max : (a b : ℤ) → IsClose a → IsClose b → is_near (int_max a b) ≡ true
-near_max a b h k = and_from _ _ (test_from_le (neg_ℤ (pos (2 ^ 30))) (int_max a b) (omega (arith, ints, clamps))) (test_from_le (int_max a b) (pos (2 ^ 30)) (omega (arith, ints, clamps)))
+near_max a b h k = and_from _ _ (test_from_le (neg_ℤ (pos (2 ^ 30))) (int_max a b)
+    (omega (arith, ints, clamps))) (test_from_le (int_max a b) (pos (2 ^ 30))
+    (omega (arith, ints, clamps)))
 
-near_joined : (a b : Box2) → is_box_near a ≡ true → is_box_near b ≡ true → is_box_near (joined a b) ≡ true
+near_joined : (a b : Box2) → is_box_near a ≡ true → is_box_near b ≡ true
+    → is_box_near (joined a b) ≡ true
 unfolding is_box_near
 near_joined a b e f =
     let h = close_box a e in
@@ -131,21 +159,26 @@ near_hull (Some a) (Some b) h k = near_joined a b h k
 
 -- ---- plans
 
-least_distance : (n : ℕ) (rules : List Rule) → n ≤ 65535 → All IsRule rules → fold (λ greatest (rule : Rule). max greatest rule.distance) n rules ≤ 65535
+least_distance : (n : ℕ) (rules : List Rule) → n ≤ 65535 → All IsRule rules
+    → fold (λ greatest (rule : Rule). max greatest rule.distance) n rules ≤ 65535
 least_distance n [] h a = h
-least_distance n (rule ∷ rules) h a = let m = (All-head IsRule rule rules a).most in least_distance (max n rule.distance) rules (omega arith) (All-tail IsRule rule rules a)
+least_distance n (rule ∷ rules) h a = let m = (All-head IsRule rule rules a).most in
+    least_distance (max n rule.distance) rules (omega arith) (All-tail IsRule rule rules a)
 
-pub windows_in_plane : WindowsReachNoFurther → (deck : Deck) (extent : Box2) → IsDeck deck → IsOrdered extent → is_box_near extent ≡ true → WindowsLieInPlane (plan_of extent deck)
+pub windows_in_plane : WindowsReachNoFurther → (deck : Deck) (extent : Box2) → IsDeck deck
+    → IsOrdered extent → is_box_near extent ≡ true → WindowsLieInPlane (plan_of extent deck)
 windows_in_plane law deck extent d o n tile s u w =
     let h = close_box extent n in
     let a = h.x0.low in
     let b = h.y0.low in
     let c = h.x1.high in
     let e = h.y1.high in
-    let m : greatest_distance deck.rules ≤ 65535 = least_distance 0 deck.rules (omega arith) d.rules in
+    let m : greatest_distance deck.rules ≤ 65535 = least_distance 0 deck.rules (omega arith)
+    d.rules in
     let side = d.long in
     let least = d.short in
-    let r = law (plan_of extent deck).grid (plan_of extent deck).margin tile (2 ^ 30) (omega arith) o u (record { left = a; right = c; bottom = b; top = e }) in
+    let r = law (plan_of extent deck).grid (plan_of extent deck).margin tile (2 ^ 30) (omega arith)
+    o u (record { left = a; right = c; bottom = b; top = e }) in
     let i = SquareIn-from_test (tile_window (plan_of extent deck) tile) s w in
     let r0 = r.left in
     let r1 = r.right in
@@ -155,7 +188,12 @@ windows_in_plane law deck extent d o n tile s u w =
     let i1 = i.right in
     let i2 = i.bottom in
     let i3 = i.top in
-    record { left = omega (arith, ints); right = omega (arith, ints); bottom = omega (arith, ints); top = omega (arith, ints) }
+    record {
+      left = omega (arith, ints);
+      right = omega (arith, ints);
+      bottom = omega (arith, ints);
+      top = omega (arith, ints);
+    }
 
 pub near_in_plane : (b : Box2) → is_box_near b ≡ true → IsBoxInPlane b
 near_in_plane b n =
@@ -175,34 +213,44 @@ near_in_plane b n =
       y1 = record { low = omega (arith, ints); high = omega (arith, ints) };
     }
 
-pub if_some_ok : {A E : Type 0} (P : A → Type 0) (x : A) (r : Result A E) → P x → IfOk r (λ y. y ≡ x) → IfSome (result_ok r) P
+pub if_some_ok : {A E : Type 0} (P : A → Type 0) (x : A) (r : Result A E) → P x
+    → IfOk r (λ y. y ≡ x) → IfSome (result_ok r) P
 if_some_ok P x (Ok y) p e = subst P (sym e) p
 if_some_ok P x (Err f) p e = tt
 
 -- ---- windows
 
-pub if_ok_same : {A E : Type 0} (P : A → Type 0) (x : A) (r : Result A E) → P x → IfOk r (λ y. y ≡ x) → IfOk r P
+pub if_ok_same : {A E : Type 0} (P : A → Type 0) (x : A) (r : Result A E) → P x
+    → IfOk r (λ y. y ≡ x) → IfOk r P
 if_ok_same P x (Ok y) p e = subst P (sym e) p
 if_ok_same P x (Err f) p e = tt
 
-pub stand_for : (s : Snapshot) (plan : Tiling) (old new : List (List Rectangle)) → plan_for s ≡ Some plan → length old ≡ tiles plan → All (λ (w : List Rectangle). w ≡ []) old → AddsSquares plan old new (IsShown (shown s)) → StandFor s new
-stand_for s plan old new e count empty f = subst (λ (o : Option Tiling). AreWindowsFor o (shown s) new) (sym e) (record {
-  count = f.count ∙ count;
-  squares = λ tile q layer origin u w. (
-    λ l. elim ((f.squares tile q layer origin u w).0 l) [
-      | inl k ↦ absurd (Held-nil (λ (r : Rectangle). HasSquareOf r layer origin q) (subst (λ (xs : List Rectangle). IsListed xs layer origin q) (empty tile [] (subst (λ (n : ℕ). tile < n) (sym count) u)) k))
-      | inr p ↦ p
-    ],
-    λ p. (f.squares tile q layer origin u w).1 (inr p),
-  );
-  near = λ tile r u l. elim (f.near tile r u l) [
-    | inl k ↦ absurd (let c = subst (λ (xs : List Rectangle). Contains xs r) (empty tile [] (subst (λ (n : ℕ). tile < n) (sym count) u)) k in omega (arith, c.1))
-    | inr q ↦ q
-  ];
-})
+pub stand_for : (s : Snapshot) (plan : Tiling) (old new : List (List Rectangle))
+    → plan_for s ≡ Some plan → length old ≡ tiles plan → All (λ (w : List Rectangle). w ≡ []) old
+    → AddsSquares plan old new (IsShown (shown s)) → StandFor s new
+stand_for s plan old new e count empty f =
+    subst (λ (o : Option Tiling). AreWindowsFor o (shown s) new) (sym e) (record {
+      count = f.count ∙ count;
+      squares = λ tile q layer origin u w. (
+        λ l. elim ((f.squares tile q layer origin u w).0 l) [
+          | inl k ↦ absurd (Held-nil (λ (r : Rectangle). HasSquareOf r layer origin q)
+              (subst (λ (xs : List Rectangle). IsListed xs layer origin q)
+              (empty tile [] (subst (λ (n : ℕ). tile < n) (sym count) u)) k))
+          | inr p ↦ p
+        ],
+        λ p. (f.squares tile q layer origin u w).1 (inr p),
+      );
+      near = λ tile r u l. elim (f.near tile r u l) [
+        | inl k ↦ absurd (let c = subst (λ (xs : List Rectangle). Contains xs r)
+            (empty tile [] (subst (λ (n : ℕ). tile < n) (sym count) u)) k in omega (arith, c.1))
+        | inr q ↦ q
+      ];
+    })
 
-pub same_shown : (s : Snapshot) (shelf : List Submission) (roots : List Root) → shelf ≡ s.shelf → roots ≡ s.roots → flat_roots shelf roots ≡ shown s
-same_shown s shelf roots e f = ap (λ (ss : List Submission). flat_roots ss roots) e ∙ ap (flat_roots s.shelf) f
+pub same_shown : (s : Snapshot) (shelf : List Submission) (roots : List Root) → shelf ≡ s.shelf
+    → roots ≡ s.roots → flat_roots shelf roots ≡ shown s
+same_shown s shelf roots e f =
+    ap (λ (ss : List Submission). flat_roots ss roots) e ∙ ap (flat_roots s.shelf) f
 
 -- ---- equal boxes
 
@@ -214,10 +262,16 @@ corners_same a b e =
     let p = and_parts _ _ e in
     let q = and_parts _ _ p.1 in
     let r = and_parts _ _ q.1 in
-    same_box a b ((Decides-int_eq a.x0 b.x0).0 p.0) ((Decides-int_eq a.y0 b.y0).0 q.0) ((Decides-int_eq a.x1 b.x1).0 r.0) ((Decides-int_eq a.y1 b.y1).0 r.1)
+    same_box a b ((Decides-int_eq a.x0 b.x0).0 p.0) ((Decides-int_eq a.y0 b.y0).0 q.0)
+    ((Decides-int_eq a.x1 b.x1).0 r.0) ((Decides-int_eq a.y1 b.y1).0 r.1)
 
 own_corners : (a : Box2) → same_corners a a ≡ true
-own_corners a = and_from _ _ ((Decides-int_eq a.x0 a.x0).1 refl) (and_from _ _ ((Decides-int_eq a.y0 a.y0).1 refl) (and_from _ _ ((Decides-int_eq a.x1 a.x1).1 refl) ((Decides-int_eq a.y1 a.y1).1 refl)))
+own_corners a = and_from _ _ ((Decides-int_eq a.x0 a.x0).1 refl)
+    (and_from _ _ ((Decides-int_eq a.y0 a.y0).1 refl)
+    (and_from _ _ ((Decides-int_eq a.x1 a.x1).1 refl) ((Decides-int_eq a.y1 a.y1).1 refl)))
 
 pub same_area : (a b : Box2) (r : Bool) → r ≡ same_corners a b → IsTrue r ↔ (a ≡ b)
-same_area a b r e = (λ t. corners_same a b (sym e ∙ t), λ f. subst IsTrue (sym e) (subst (λ (x : Box2). same_corners a x ≡ true) f (own_corners a)))
+same_area a b r e = (
+  λ t. corners_same a b (sym e ∙ t),
+  λ f. subst IsTrue (sym e) (subst (λ (x : Box2). same_corners a x ≡ true) f (own_corners a)),
+)

@@ -17,7 +17,8 @@ use Rattle.mpw_shapes.specs.Element.{element_has}
 use Rattle.mpw_hier.specs.Items.{Item}
 use Rattle.mpw_tiles.specs.declared.listing.Rectangle.{Rectangle}
 use Rattle.mpw_tiles.specs.Plan.{Tiling, tiles, tile_window}
-use Rattle.mpw_tiles.specs.Listing.{IsListed, HasSquareOf, HasPlacedSquare, AddsSquares}
+use Rattle.mpw_tiles.specs.Listing.{IsListed, HasSquareOf}
+use Rattle.mpw_tiles.specs.Internal.Listing.{HasPlacedSquare, AddsSquares}
 use Rattle.mpw_tiles.specs.Placed.{IsSquareInPlane, WindowsLieInPlane}
 use Rattle.mpw_tiles.specs.Shown.{layer_of, ShowsSquare, IsShown}
 
@@ -28,47 +29,70 @@ abbrev Shows : Type 1
 Shows = Layer → ℕ → Square → Type 0
 
 -- the same in the windows of the plan
-abbrev pub AgreeInWindows : Tiling → (Layer → ℕ → Square → Type 0) → (Layer → ℕ → Square → Type 0) → Type 0
-AgreeInWindows plan P Q = (tile : ℕ) (s : Square) (layer : Layer) (origin : ℕ) → tile < tiles plan → has_square (tile_window plan tile) s ≡ true → P layer origin s ↔ Q layer origin s
+abbrev pub AgreeInWindows : Tiling → (Layer → ℕ → Square → Type 0) → (Layer → ℕ → Square → Type 0)
+    → Type 0
+AgreeInWindows plan P Q = (tile : ℕ) (s : Square) (layer : Layer) (origin : ℕ) → tile < tiles plan
+    → has_square (tile_window plan tile) s ≡ true → P layer origin s ↔ Q layer origin s
 
-abbrev either : (Layer → ℕ → Square → Type 0) → (Layer → ℕ → Square → Type 0) → Layer → ℕ → Square → Type 0
+abbrev either : (Layer → ℕ → Square → Type 0) → (Layer → ℕ → Square → Type 0) → Layer → ℕ → Square
+    → Type 0
 either P Q layer origin s = P layer origin s ⊎ Q layer origin s
 
 -- ---- adding
 
-pub adds_none : (plan : Tiling) (old : Tiles) (P : Layer → ℕ → Square → Type 0) → ((layer : Layer) (origin : ℕ) (s : Square) → P layer origin s → ⊥) → AddsSquares plan old old P
+pub adds_none : (plan : Tiling) (old : Tiles) (P : Layer → ℕ → Square → Type 0)
+    → ((layer : Layer) (origin : ℕ) (s : Square) → P layer origin s → ⊥)
+    → AddsSquares plan old old P
 adds_none plan old P none = record {
   count = refl;
-  squares = λ tile s layer origin u w. (λ l. inl l, λ p. elim p [ inl l ↦ l | inr q ↦ absurd (none layer origin s q) ]);
+  squares = λ tile s layer origin u w. (
+    λ l. inl l,
+    λ p. elim p [ inl l ↦ l | inr q ↦ absurd (none layer origin s q) ],
+  );
   near = λ tile x u c. inl c;
 }
 
-pub adds_next : (plan : Tiling) (a b c : Tiles) (P Q R : Layer → ℕ → Square → Type 0) → AgreeInWindows plan (either P Q) R → AddsSquares plan a b P → AddsSquares plan b c Q → AddsSquares plan a c R
+pub adds_next : (plan : Tiling) (a b c : Tiles) (P Q R : Layer → ℕ → Square → Type 0)
+    → AgreeInWindows plan (either P Q) R → AddsSquares plan a b P → AddsSquares plan b c Q
+    → AddsSquares plan a c R
 adds_next plan a b c P Q R agree f g = record {
   count = g.count ∙ f.count;
   squares = λ tile s layer origin u w. (to tile s layer origin u w, from tile s layer origin u w);
   near = λ tile x u l. elim (g.near tile x u l) [ inl m ↦ f.near tile x u m | inr q ↦ inr q ];
 }
   where
-    to : (tile : ℕ) (s : Square) (layer : Layer) (origin : ℕ) → tile < tiles plan → has_square (tile_window plan tile) s ≡ true → IsListed (get_or c tile []) layer origin s → IsListed (get_or a tile []) layer origin s ⊎ R layer origin s
+    to : (tile : ℕ) (s : Square) (layer : Layer) (origin : ℕ) → tile < tiles plan
+        → has_square (tile_window plan tile) s ≡ true → IsListed (get_or c tile []) layer origin s
+        → IsListed (get_or a tile []) layer origin s ⊎ R layer origin s
     to tile s layer origin u w l = elim ((g.squares tile s layer origin u w).0 l) [
-      | inl m ↦ elim ((f.squares tile s layer origin u w).0 m) [ inl k ↦ inl k | inr p ↦ inr ((agree tile s layer origin u w).0 (inl p)) ]
+      | inl m ↦ elim ((f.squares tile s layer origin u w).0 m)
+          [ inl k ↦ inl k | inr p ↦ inr ((agree tile s layer origin u w).0 (inl p)) ]
       | inr q ↦ inr ((agree tile s layer origin u w).0 (inr q))
     ]
 
-    from : (tile : ℕ) (s : Square) (layer : Layer) (origin : ℕ) → tile < tiles plan → has_square (tile_window plan tile) s ≡ true → IsListed (get_or a tile []) layer origin s ⊎ R layer origin s → IsListed (get_or c tile []) layer origin s
-    from tile s layer origin u w (inl k) = (g.squares tile s layer origin u w).1 (inl ((f.squares tile s layer origin u w).1 (inl k)))
+    from : (tile : ℕ) (s : Square) (layer : Layer) (origin : ℕ) → tile < tiles plan
+        → has_square (tile_window plan tile) s ≡ true → IsListed (get_or a tile []) layer origin s
+        ⊎ R layer origin s → IsListed (get_or c tile []) layer origin s
+    from tile s layer origin u w (inl k) = (g.squares tile s layer origin u w).1
+        (inl ((f.squares tile s layer origin u w).1 (inl k)))
     from tile s layer origin u w (inr r) = elim ((agree tile s layer origin u w).1 r) [
-      | inl p ↦ (g.squares tile s layer origin u w).1 (inl ((f.squares tile s layer origin u w).1 (inr p)))
+      | inl p ↦ (g.squares tile s layer origin u w).1
+          (inl ((f.squares tile s layer origin u w).1 (inr p)))
       | inr q ↦ (g.squares tile s layer origin u w).1 (inr q)
     ]
 
-pub adds_same : (plan : Tiling) (a b : Tiles) (P R : Layer → ℕ → Square → Type 0) → AgreeInWindows plan P R → AddsSquares plan a b P → AddsSquares plan a b R
+pub adds_same : (plan : Tiling) (a b : Tiles) (P R : Layer → ℕ → Square → Type 0)
+    → AgreeInWindows plan P R → AddsSquares plan a b P → AddsSquares plan a b R
 adds_same plan a b P R agree f = record {
   count = f.count;
   squares = λ tile s layer origin u w. (
-    λ l. elim ((f.squares tile s layer origin u w).0 l) [ inl k ↦ inl k | inr p ↦ inr ((agree tile s layer origin u w).0 p) ],
-    λ p. elim p [ inl k ↦ (f.squares tile s layer origin u w).1 (inl k) | inr r ↦ (f.squares tile s layer origin u w).1 (inr ((agree tile s layer origin u w).1 r)) ],
+    λ l. elim ((f.squares tile s layer origin u w).0 l)
+        [ inl k ↦ inl k | inr p ↦ inr ((agree tile s layer origin u w).0 p) ],
+    λ p. elim p [
+      | inl k ↦ (f.squares tile s layer origin u w).1 (inl k)
+      | inr r
+          ↦ (f.squares tile s layer origin u w).1 (inr ((agree tile s layer origin u w).1 r))
+    ],
   );
   near = f.near;
 }
@@ -76,7 +100,8 @@ adds_same plan a b P R agree f = record {
 -- ---- the square that a placing takes to a square
 
 same_square : (a b : Square) → a.column ≡ b.column → a.row ≡ b.row → a ≡ b
-same_square a b e f = ap (λ (p : ℤ × ℤ). let c : Square = record { column = p.0; row = p.1 } in c) (let k : (let q : ℤ × ℤ = (a.column, a.row) in q) ≡ (b.column, b.row) = cc in k)
+same_square a b e f = ap (λ (p : ℤ × ℤ). let c : Square = record { column = p.0; row = p.1 } in c)
+    (let k : (let q : ℤ × ℤ = (a.column, a.row) in q) ≡ (b.column, b.row) = cc in k)
 
 record Before (t : Placing) (s : Square) : Type 0 where
   square : Square
@@ -87,14 +112,60 @@ placing o d = record { orient = o; by = d }
 
 before : (o : Orient) (d : Point) (s : Square) → Before (placing o d) s
 unfolding placed_square oriented_square
-before R0 d s = record { square = record { column = s.column -ℤ d.x; row = s.row -ℤ d.y }; placed = same_square _ _ (omega (arith, ints)) (omega (arith, ints)) }
-before R90 d s = record { square = record { column = s.row -ℤ d.y; row = neg_ℤ (s.column -ℤ d.x) -ℤ pos 1 }; placed = same_square _ _ (omega (arith, ints)) (omega (arith, ints)) }
-before R180 d s = record { square = record { column = neg_ℤ (s.column -ℤ d.x) -ℤ pos 1; row = neg_ℤ (s.row -ℤ d.y) -ℤ pos 1 }; placed = same_square _ _ (omega (arith, ints)) (omega (arith, ints)) }
-before R270 d s = record { square = record { column = neg_ℤ (s.row -ℤ d.y) -ℤ pos 1; row = s.column -ℤ d.x }; placed = same_square _ _ (omega (arith, ints)) (omega (arith, ints)) }
-before M0 d s = record { square = record { column = s.column -ℤ d.x; row = neg_ℤ (s.row -ℤ d.y) -ℤ pos 1 }; placed = same_square _ _ (omega (arith, ints)) (omega (arith, ints)) }
-before M90 d s = record { square = record { column = s.row -ℤ d.y; row = s.column -ℤ d.x }; placed = same_square _ _ (omega (arith, ints)) (omega (arith, ints)) }
-before M180 d s = record { square = record { column = neg_ℤ (s.column -ℤ d.x) -ℤ pos 1; row = s.row -ℤ d.y }; placed = same_square _ _ (omega (arith, ints)) (omega (arith, ints)) }
-before M270 d s = record { square = record { column = neg_ℤ (s.row -ℤ d.y) -ℤ pos 1; row = neg_ℤ (s.column -ℤ d.x) -ℤ pos 1 }; placed = same_square _ _ (omega (arith, ints)) (omega (arith, ints)) }
+before R0 d s = record {
+  square = record { column = s.column -ℤ d.x; row = s.row -ℤ d.y };
+  placed = same_square _ _ (omega (arith, ints)) (omega (arith, ints));
+}
+before R90 d s = record {
+  square = record {
+    column = s.row -ℤ d.y;
+    row = neg_ℤ (s.column -ℤ d.x) -ℤ
+        pos 1;
+  };
+  placed = same_square _ _ (omega (arith, ints)) (omega (arith, ints));
+}
+before R180 d s = record {
+  square = record {
+    column = neg_ℤ (s.column -ℤ d.x) -ℤ pos 1;
+    row = neg_ℤ (s.row -ℤ d.y) -ℤ pos 1;
+  };
+  placed = same_square _ _ (omega (arith, ints))
+      (omega (arith, ints));
+}
+before R270 d s = record {
+  square = record {
+    column = neg_ℤ (s.row -ℤ d.y) -ℤ pos 1;
+    row = s.column -ℤ d.x;
+  };
+  placed = same_square _ _ (omega (arith, ints)) (omega (arith, ints));
+}
+before M0 d s = record {
+  square = record {
+    column = s.column -ℤ d.x;
+    row = neg_ℤ (s.row -ℤ d.y) -ℤ
+        pos 1;
+  };
+  placed = same_square _ _ (omega (arith, ints)) (omega (arith, ints));
+}
+before M90 d s = record {
+  square = record { column = s.row -ℤ d.y; row = s.column -ℤ d.x };
+  placed = same_square _ _ (omega (arith, ints)) (omega (arith, ints));
+}
+before M180 d s = record {
+  square = record {
+    column = neg_ℤ (s.column -ℤ d.x) -ℤ pos 1;
+    row = s.row -ℤ d.y;
+  };
+  placed = same_square _ _ (omega (arith, ints)) (omega (arith, ints));
+}
+before M270 d s = record {
+  square = record {
+    column = neg_ℤ (s.row -ℤ d.y) -ℤ pos 1;
+    row = neg_ℤ (s.column -ℤ d.x) -ℤ pos 1;
+  };
+  placed = same_square _ _ (omega (arith, ints))
+      (omega (arith, ints));
+}
 
 -- ---- boxes
 
@@ -109,43 +180,76 @@ or_cases : (a b : Bool) → (a || b) ≡ true → (a ≡ true) ⊎ (b ≡ true)
 or_cases true b e = inl refl
 or_cases false b e = inr e
 
-any_more : (boxes : List Box2) (i : ℕ) (d : Box2) (s : Square) → i < length boxes → any_has_square (take (i + 1) boxes) s ≡ (any_has_square (take i boxes) s || has_square (get_or boxes i d) s)
+any_more : (boxes : List Box2) (i : ℕ) (d : Box2) (s : Square) → i < length boxes
+    → any_has_square (take (i + 1) boxes) s
+    ≡ (any_has_square (take i boxes) s || has_square (get_or boxes i d) s)
 unfolding any_has_square
 any_more boxes i d s h = list_any_more (λ b. has_square b s) boxes i d h
 
 -- the placed box has just the placed squares of the box, as far as they lie in the plane
 abbrev pub IsPlacedArea : Placing → Box2 → Box2 → Type 0
-IsPlacedArea t b area = (s : Square) → IsSquareInPlane (placed_square t s) → has_square area (placed_square t s) ≡ has_square b s
+IsPlacedArea t b area = (s : Square) → IsSquareInPlane (placed_square t s)
+    → has_square area (placed_square t s) ≡ has_square b s
 
-pub no_boxes : (t : Placing) (own : Layer) (number : ℕ) (layer : Layer) (origin : ℕ) (s : Square) → HasPlacedSquare [] t own number layer origin s → ⊥
+pub no_boxes : (t : Placing) (own : Layer) (number : ℕ) (layer : Layer) (origin : ℕ) (s : Square)
+    → HasPlacedSquare [] t own number layer origin s → ⊥
 unfolding any_has_square
 no_boxes t own number layer origin s h = false≢true h.has
 
 abbrev rectangle_of : Box2 → Layer → ℕ → Rectangle
 rectangle_of area own number = record { area = area; layer = own; origin = number }
 
-pub boxes_more : (plan : Tiling) (boxes : List Box2) (i : ℕ) (d area : Box2) (t : Placing) (own : Layer) (number : ℕ) → WindowsLieInPlane plan → i < length boxes → IsPlacedArea t (get_or boxes i d) area
-    → AgreeInWindows plan (either (HasPlacedSquare (take i boxes) t own number) (HasSquareOf (rectangle_of area own number))) (HasPlacedSquare (take (i + 1) boxes) t own number)
+pub boxes_more : (plan : Tiling) (boxes : List Box2) (i : ℕ) (d area : Box2) (t : Placing)
+    (own : Layer) (number : ℕ) → WindowsLieInPlane plan → i < length boxes
+    → IsPlacedArea t (get_or boxes i d) area
+    → AgreeInWindows plan (either (HasPlacedSquare (take i boxes) t own number)
+    (HasSquareOf (rectangle_of area own number)))
+    (HasPlacedSquare (take (i + 1) boxes) t own number)
 boxes_more plan boxes i d area t own number plane h exact tile s layer origin u w = (to, from)
   where
-    more : (q : Square) → any_has_square (take (i + 1) boxes) q ≡ (any_has_square (take i boxes) q || has_square (get_or boxes i d) q)
+    more : (q : Square) → any_has_square (take (i + 1) boxes) q
+        ≡ (any_has_square (take i boxes) q || has_square (get_or boxes i d) q)
     more q = any_more boxes i d q h
 
-    to : HasPlacedSquare (take i boxes) t own number layer origin s ⊎ HasSquareOf (rectangle_of area own number) layer origin s → HasPlacedSquare (take (i + 1) boxes) t own number layer origin s
-    to (inl p) = record { on_layer = p.on_layer; of_origin = p.of_origin; square = p.square; has = more p.square ∙ or_left _ _ p.has; placed = p.placed }
+    to : HasPlacedSquare (take i boxes) t own number layer origin s
+        ⊎ HasSquareOf (rectangle_of area own number) layer origin s
+        → HasPlacedSquare (take (i + 1) boxes) t own number layer origin s
+    to (inl p) = record {
+      on_layer = p.on_layer;
+      of_origin = p.of_origin;
+      square = p.square;
+      has = more p.square ∙ or_left _ _ p.has;
+      placed = p.placed;
+    }
     to (inr p) =
         let b = before t.orient t.by s in
-        let k : has_square area (placed_square t b.square) ≡ true = subst (λ (x : Square). has_square area x ≡ true) (sym b.placed) p.has in
+        let k : has_square area (placed_square t b.square) ≡ true =
+        subst (λ (x : Square). has_square area x ≡ true) (sym b.placed) p.has in
         let e = exact b.square (subst IsSquareInPlane (sym b.placed) (plane tile s u w)) in
-        record { on_layer = p.on_layer; of_origin = p.of_origin; square = b.square; has = more b.square ∙ or_right _ _ (sym e ∙ k); placed = b.placed }
+        record {
+          on_layer = p.on_layer;
+          of_origin = p.of_origin;
+          square = b.square;
+          has = more b.square ∙ or_right _ _ (sym e ∙ k);
+          placed = b.placed;
+        }
 
-    from : HasPlacedSquare (take (i + 1) boxes) t own number layer origin s → HasPlacedSquare (take i boxes) t own number layer origin s ⊎ HasSquareOf (rectangle_of area own number) layer origin s
+    from : HasPlacedSquare (take (i + 1) boxes) t own number layer origin s
+        → HasPlacedSquare (take i boxes) t own number layer origin s
+        ⊎ HasSquareOf (rectangle_of area own number) layer origin s
     from p = elim (or_cases _ _ (sym (more p.square) ∙ p.has)) [
-      | inl e ↦ inl (record { on_layer = p.on_layer; of_origin = p.of_origin; square = p.square; has = e; placed = p.placed })
+      | inl e ↦ inl (record {
+        on_layer = p.on_layer;
+        of_origin = p.of_origin;
+        square = p.square;
+        has = e;
+        placed = p.placed;
+      })
       | inr e ↦ inr (record {
         on_layer = p.on_layer;
         of_origin = p.of_origin;
-        has = subst (λ (x : Square). has_square area x ≡ true) p.placed (exact p.square (subst IsSquareInPlane (sym p.placed) (plane tile s u w)) ∙ e);
+        has = subst (λ (x : Square). has_square area x ≡ true) p.placed
+            (exact p.square (subst IsSquareInPlane (sym p.placed) (plane tile s u w)) ∙ e);
       })
     ]
 
@@ -155,15 +259,31 @@ same_layer : (a b : Layer) → (let some : Option Layer = Some a in some) ≡ So
 same_layer a b e = cc
 
 -- the boxes of a shape, placed, are the shape's squares
-pub boxes_show : (plan : Tiling) (item : Item) (boxes : List Box2) (own : Layer) → layer_of item.element ≡ Some own → ((s : Square) → any_has_square boxes s ≡ element_has item.element s) → AgreeInWindows plan (HasPlacedSquare boxes item.placing own item.origin) (ShowsSquare item)
+pub boxes_show : (plan : Tiling) (item : Item) (boxes : List Box2) (own : Layer)
+    → layer_of item.element ≡ Some own
+    → ((s : Square) → any_has_square boxes s ≡ element_has item.element s)
+    → AgreeInWindows plan (HasPlacedSquare boxes item.placing own item.origin) (ShowsSquare item)
 boxes_show plan item boxes own e same tile s layer origin u w = (
-  λ p. record { on_layer = e ∙ ap Some p.on_layer; of_origin = p.of_origin; square = p.square; has = sym (same p.square) ∙ p.has; placed = p.placed },
-  λ p. record { on_layer = same_layer own layer (sym e ∙ p.on_layer); of_origin = p.of_origin; square = p.square; has = same p.square ∙ p.has; placed = p.placed },
+  λ p. record {
+    on_layer = e ∙ ap Some p.on_layer;
+    of_origin = p.of_origin;
+    square = p.square;
+    has = sym (same p.square) ∙ p.has;
+    placed = p.placed;
+  },
+  λ p. record {
+    on_layer = same_layer own layer (sym e ∙ p.on_layer);
+    of_origin = p.of_origin;
+    square = p.square;
+    has = same p.square ∙ p.has;
+    placed = p.placed;
+  },
 )
 
 -- ---- lists of shapes
 
-pub shown_more : (plan : Tiling) (done : List Item) (item : Item) → AgreeInWindows plan (either (IsShown done) (ShowsSquare item)) (IsShown (done ++ item ∷ []))
+pub shown_more : (plan : Tiling) (done : List Item) (item : Item)
+    → AgreeInWindows plan (either (IsShown done) (ShowsSquare item)) (IsShown (done ++ item ∷ []))
 shown_more plan done item tile s layer origin u w = (
   λ p. elim p [
     | inl l ↦ Held-push_left (λ (i : Item). ShowsSquare i layer origin s) done item l

@@ -18,19 +18,23 @@ use Rattle.mpw_tiles.specs.Snapshots.{Snapshot, shown, shown_extent, plan_over, 
 use Rattle.mpw_tiles.specs.Laws.{Meet, box_on, piece_box, WindowsShowLayers, WindowsListWhatIsShown, MetSquaresLieInWindows, WindowsTellMet}
 use Rattle.mpw_tiles.proofs.Tiles.{no_greater}
 
-windows_show : (s : Snapshot) (plan : Tiling) (windows : List (List Rectangle)) → plan_for s ≡ Some plan → StandFor s windows → ShowItems plan (shown s) windows
-windows_show s plan windows e f = subst (λ (o : Option Tiling). AreWindowsFor o (shown s) windows) e f
+windows_show : (s : Snapshot) (plan : Tiling) (windows : List (List Rectangle))
+    → plan_for s ≡ Some plan → StandFor s windows → ShowItems plan (shown s) windows
+windows_show s plan windows e f =
+    subst (λ (o : Option Tiling). AreWindowsFor o (shown s) windows) e f
 
 -- ---- squares
 
 pub show_layers : WindowsShowLayers
 show_layers s plan windows tile layer a listed e stand u shows lists i j l r d t =
     let q : Square = record { column = i; row = j } in
-    let w = test_from_SquareIn (tile_window plan tile) q (record { left = l; right = r; bottom = d; top = t }) in
+    let w = test_from_SquareIn (tile_window plan tile) q
+    (record { left = l; right = r; bottom = d; top = t }) in
     let f = windows_show s plan windows e stand in
     same_tests (a i j) (listed i j)
     (λ k. let p = shows.shown i j k in lists.all i j p.0 ((f.squares tile q layer p.0 u w).1 p.1))
-    (λ k. let p = lists.listed_at i j k in shows.all i j p.0 ((f.squares tile q layer p.0 u w).0 p.1))
+    (λ k. let p = lists.listed_at i j k in
+    shows.all i j p.0 ((f.squares tile q layer p.0 u w).0 p.1))
 
 pub list_shown : WindowsListWhatIsShown
 list_shown s plan windows tile r e stand u c =
@@ -40,7 +44,8 @@ list_shown s plan windows tile r e stand u c =
       square = n.square;
       inside = n.first;
       has = n.second;
-      shown_there = (f.squares tile n.square r.layer r.origin u n.first).0 (r, c, record { on_layer = refl; of_origin = refl; has = n.second });
+      shown_there = (f.squares tile n.square r.layer r.origin u n.first).0
+          (r, c, record { on_layer = refl; of_origin = refl; has = n.second });
     }
 
 -- ---- squares that meet the box of a run
@@ -65,13 +70,22 @@ next_to b s m =
     let k1 = k.right in
     let k2 = k.bottom in
     let k3 = k.top in
-    record { left = omega (arith, ints); right = omega (arith, ints); bottom = omega (arith, ints); top = omega (arith, ints) }
+    record {
+      left = omega (arith, ints);
+      right = omega (arith, ints);
+      bottom = omega (arith, ints);
+      top = omega (arith, ints);
+    }
 
 -- the first and the last row of a run have the pair step
 abbrev HasEnds : Rule → Squares → Squares → Box2 → Axis → ℕ → (x1 x2 y0 y1 : ℤ) → Type 0
-HasEnds rule a b core axis side x1 x2 y0 y1 = HasStep rule a b core axis side x1 x2 y0 × HasStep rule a b core axis side x1 x2 (y1 -ℤ pos 1)
+HasEnds rule a b core axis side x1 x2 y0 y1 =
+    HasStep rule a b core axis side x1 x2 y0 × HasStep rule a b core axis side x1 x2 (y1 -ℤ pos 1)
 
-near_run : (rule : Rule) (a b : Squares) (core : Box2) (greatest : ℕ) (axis : Axis) (side : ℕ) (x1 x2 y0 y1 : ℤ) (s : Square) → rule.distance ≤ greatest → HasEnds rule a b core axis side x1 x2 y0 y1 → IsNext (box_on axis x1 x2 y0 y1) s → SquareIn (widened core (greatest + 1)) s
+near_run : (rule : Rule) (a b : Squares) (core : Box2) (greatest : ℕ) (axis : Axis) (side : ℕ)
+    (x1 x2 y0 y1 : ℤ) (s : Square) → rule.distance ≤ greatest
+    → HasEnds rule a b core axis side x1 x2 y0 y1 → IsNext (box_on axis x1 x2 y0 y1) s
+    → SquareIn (widened core (greatest + 1)) s
 near_run rule a b core greatest V side x1 x2 y0 y1 s h ends n =
     let first = ends.0 in
     let last = ends.1 in
@@ -84,7 +98,12 @@ near_run rule a b core greatest V side x1 x2 y0 y1 s h ends n =
     let n1 = n.right in
     let n2 = n.bottom in
     let n3 = n.top in
-    record { left = omega (arith, ints); right = omega (arith, ints); bottom = omega (arith, ints); top = omega (arith, ints) }
+    record {
+      left = omega (arith, ints);
+      right = omega (arith, ints);
+      bottom = omega (arith, ints);
+      top = omega (arith, ints);
+    }
 near_run rule a b core greatest H side x1 x2 y0 y1 s h ends n =
     let first = ends.0 in
     let last = ends.1 in
@@ -97,7 +116,12 @@ near_run rule a b core greatest H side x1 x2 y0 y1 s h ends n =
     let n1 = n.right in
     let n2 = n.bottom in
     let n3 = n.top in
-    record { left = omega (arith, ints); right = omega (arith, ints); bottom = omega (arith, ints); top = omega (arith, ints) }
+    record {
+      left = omega (arith, ints);
+      right = omega (arith, ints);
+      bottom = omega (arith, ints);
+      top = omega (arith, ints);
+    }
 
 pub met_in_window : MetSquaresLieInWindows
 met_in_window extent deck rule tile a b p s c piece m =
@@ -105,7 +129,9 @@ met_in_window extent deck rule tile a b p s c piece m =
     let f = piece.filled in
     let first = piece.steps p.y0 (omega (arith, ints)) f in
     let last = piece.steps (p.y1 -ℤ pos 1) (omega (arith, ints)) (omega (arith, ints)) in
-    test_from_SquareIn (tile_window (plan_of extent deck) tile) s (near_run rule a b core (greatest_distance deck.rules) p.axis p.side p.x1 p.x2 p.y0 p.y1 s (no_greater deck.rules rule c) (first, last) (next_to (piece_box p) s m))
+    test_from_SquareIn (tile_window (plan_of extent deck) tile) s
+    (near_run rule a b core (greatest_distance deck.rules) p.axis p.side p.x1 p.x2 p.y0 p.y1 s
+    (no_greater deck.rules rule c) (first, last) (next_to (piece_box p) s m))
 
 -- ---- origins
 
@@ -117,16 +143,37 @@ record IsOver (deck : Deck) (plan : Tiling) : Type 0 where
   extent : Box2
   is : plan ≡ plan_of extent deck
 
-plan_is : (deck : Deck) (o : Option Box2) (plan : Tiling) → plan_over deck o ≡ Some plan → IsOver deck plan
+plan_is : (deck : Deck) (o : Option Box2) (plan : Tiling) → plan_over deck o ≡ Some plan
+    → IsOver deck plan
 plan_is deck None plan e = cc
-plan_is deck (Some extent) plan e = record { extent = extent; is = small (nat_le (tiles (plan_of extent deck)) 4096) (plan_of extent deck) plan e }
+plan_is deck (Some extent) plan e =
+    record {
+      extent = extent;
+      is = small (nat_le (tiles (plan_of extent deck)) 4096)
+          (plan_of extent deck) plan e;
+    }
 
 pub tell_met : WindowsTellMet
 tell_met s plan windows rule tile a b p origin e stand u c piece =
     let f = windows_show s plan windows e stand in
     let over = plan_is s.deck (shown_extent s) plan e in
-    let within : (q : Square) → Meet (closed_square q) (piece_box p) → has_square (tile_window plan tile) q ≡ true =
-    λ q m. subst (λ (x : Tiling). has_square (tile_window x tile) q ≡ true) (sym over.is) (met_in_window over.extent s.deck rule tile a b p q c (subst (λ (x : Tiling). IsPiece rule a b (tile_core x tile) p) over.is piece) m) in (
-      λ h. record { layer = h.layer; square = h.square; is_listed = (f.squares tile h.square h.layer origin u (within h.square h.meets)).1 h.shown; meets = h.meets },
-      λ h. record { layer = h.layer; square = h.square; shown = (f.squares tile h.square h.layer origin u (within h.square h.meets)).0 h.is_listed; meets = h.meets },
+    let within : (q : Square) → Meet (closed_square q) (piece_box p)
+    → has_square (tile_window plan tile) q ≡ true =
+    λ q m. subst (λ (x : Tiling). has_square (tile_window x tile) q ≡ true) (sym over.is)
+    (met_in_window over.extent s.deck rule tile a b p q c
+    (subst (λ (x : Tiling). IsPiece rule a b (tile_core x tile) p) over.is piece) m) in (
+      λ h. record {
+        layer = h.layer;
+        square = h.square;
+        is_listed = (f.squares tile h.square h.layer origin u (within h.square h.meets)).1
+            h.shown;
+        meets = h.meets;
+      },
+      λ h. record {
+        layer = h.layer;
+        square = h.square;
+        shown = (f.squares tile h.square h.layer origin u (within h.square h.meets)).0
+            h.is_listed;
+        meets = h.meets;
+      },
     )

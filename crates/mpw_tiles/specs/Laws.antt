@@ -36,43 +36,55 @@ IsStepOn rule a b V = IsPairStep rule.check rule.distance a b
 IsStepOn rule a b H = IsPairStep rule.check rule.distance (exchanged a) (exchanged b)
 
 -- The pair step belongs to the core of this tile, and to no other.
-pub record IsOnlyTile (plan : Tiling) (rule : Rule) (a b : Squares) (axis : Axis) (side : ℕ) (x1 x2 j : ℤ) (tile : ℕ) : Type 0 where
+pub record IsOnlyTile (plan : Tiling) (rule : Rule) (a b : Squares) (axis : Axis) (side : ℕ)
+    (x1 x2 j : ℤ) (tile : ℕ) : Type 0 where
   pub within : tile < tiles plan
   pub inside : HasStep rule a b (tile_core plan tile) axis side x1 x2 j
-  pub only : (other : ℕ) → other < tiles plan → HasStep rule a b (tile_core plan other) axis side x1 x2 j → other ≡ tile
+  pub only : (other : ℕ) → other < tiles plan
+      → HasStep rule a b (tile_core plan other) axis side x1 x2 j → other ≡ tile
 
 -- Each pair step of a layout belongs to the core of exactly one tile of a plan over the layout's extent.
 abbrev pub EachStepHasOneTile : Type 0
 EachStepHasOneTile =
     (plan : Tiling) (rule : Rule) (a b : Squares) (axis : Axis) (side : ℕ) (x1 x2 j : ℤ)
     → 1 ≤ plan.grid.side → LieIn plan.grid.extent a → LieIn plan.grid.extent b
-    → IsStepOn rule a b axis side x1 x2 j → (tile : ℕ) × IsOnlyTile plan rule a b axis side x1 x2 j tile
+    → IsStepOn rule a b axis side x1 x2 j
+    → (tile : ℕ) × IsOnlyTile plan rule a b axis side x1 x2 j tile
 
 -- What a tile's core finds of a rule of the deck depends on the squares of its window alone.
 abbrev pub EachWindowDecides : Type 0
 EachWindowDecides =
-    (extent : Box2) (deck : Deck) (rule : Rule) (tile : ℕ) (a b a' b' : Squares) → Contains deck.rules rule
-    → AreSameIn (tile_window (plan_of extent deck) tile) a a' → AreSameIn (tile_window (plan_of extent deck) tile) b b'
-    → (p : Piece) → IsPiece rule a b (tile_core (plan_of extent deck) tile) p ↔ IsPiece rule a' b' (tile_core (plan_of extent deck) tile) p
+    (extent : Box2) (deck : Deck) (rule : Rule) (tile : ℕ) (a b a' b' : Squares)
+    → Contains deck.rules rule
+    → AreSameIn (tile_window (plan_of extent deck) tile) a a'
+    → AreSameIn (tile_window (plan_of extent deck) tile) b b'
+    → (p : Piece) → IsPiece rule a b (tile_core (plan_of extent deck) tile) p
+    ↔ IsPiece rule a' b' (tile_core (plan_of extent deck) tile) p
 
 -- So it is row by row: which pair steps lie in a tile's core depends on the squares of its window alone.
 abbrev pub EachWindowDecidesRows : Type 0
 EachWindowDecidesRows =
-    (extent : Box2) (deck : Deck) (rule : Rule) (tile : ℕ) (a b a' b' : Squares) → Contains deck.rules rule
-    → AreSameIn (tile_window (plan_of extent deck) tile) a a' → AreSameIn (tile_window (plan_of extent deck) tile) b b'
+    (extent : Box2) (deck : Deck) (rule : Rule) (tile : ℕ) (a b a' b' : Squares)
+    → Contains deck.rules rule
+    → AreSameIn (tile_window (plan_of extent deck) tile) a a'
+    → AreSameIn (tile_window (plan_of extent deck) tile) b b'
     → (axis : Axis) (side : ℕ) (x1 x2 j : ℤ)
     → HasStep rule a b (tile_core (plan_of extent deck) tile) axis side x1 x2 j
     ↔ HasStep rule a' b' (tile_core (plan_of extent deck) tile) axis side x1 x2 j
 
 -- The squares are those that shapes of the list have on the layer.
 pub record AreShownOn (items : List Item) (layer : Layer) (a : Squares) : Type 0 where
-  pub shown : (i j : ℤ) → a i j ≡ true → (origin : ℕ) × IsShown items layer origin (record { column = i; row = j })
-  pub all : (i j : ℤ) (origin : ℕ) → IsShown items layer origin (record { column = i; row = j }) → a i j ≡ true
+  pub shown : (i j : ℤ) → a i j ≡ true
+      → (origin : ℕ) × IsShown items layer origin (record { column = i; row = j })
+  pub all : (i j : ℤ) (origin : ℕ) → IsShown items layer origin (record { column = i; row = j })
+      → a i j ≡ true
 
 -- The squares are those that the listed rectangles have on the layer.
 pub record AreListedOn (listed : List Rectangle) (layer : Layer) (a : Squares) : Type 0 where
-  pub listed_at : (i j : ℤ) → a i j ≡ true → (origin : ℕ) × IsListed listed layer origin (record { column = i; row = j })
-  pub all : (i j : ℤ) (origin : ℕ) → IsListed listed layer origin (record { column = i; row = j }) → a i j ≡ true
+  pub listed_at : (i j : ℤ) → a i j ≡ true
+      → (origin : ℕ) × IsListed listed layer origin (record { column = i; row = j })
+  pub all : (i j : ℤ) (origin : ℕ) → IsListed listed layer origin (record { column = i; row = j })
+      → a i j ≡ true
 
 -- The unit square lies in a box, and this is it.
 pub record IsInBox (box : Option Box2) (s : Square) : Type 0 where
@@ -82,28 +94,35 @@ pub record IsInBox (box : Option Box2) (s : Square) : Type 0 where
 
 -- A shape's squares, where it is placed, lie in its placed box; those of a list lie in the least box that holds the boxes of the list.
 abbrev pub SquaresLieInBoxes : Type 0
-SquaresLieInBoxes = (item : Item) (layer : Layer) (origin : ℕ) (s : Square) → ShowsSquare item layer origin s → IsInBox (item_box item) s
+SquaresLieInBoxes = (item : Item) (layer : Layer) (origin : ℕ) (s : Square)
+    → ShowsSquare item layer origin s → IsInBox (item_box item) s
 
 abbrev pub SquaresLieInExtents : Type 0
-SquaresLieInExtents = (items : List Item) (layer : Layer) (origin : ℕ) (s : Square) → IsShown items layer origin s → IsInBox (extent_of items) s
+SquaresLieInExtents = (items : List Item) (layer : Layer) (origin : ℕ) (s : Square)
+    → IsShown items layer origin s → IsInBox (extent_of items) s
 
 -- So do the squares of a layer.
 abbrev pub LayersLieInExtents : Type 0
 LayersLieInExtents =
-    (items : List Item) (extent : Box2) (layer : Layer) (a : Squares) → extent_of items ≡ Some extent → AreShownOn items layer a → LieIn extent a
+    (items : List Item) (extent : Box2) (layer : Layer) (a : Squares)
+    → extent_of items ≡ Some extent → AreShownOn items layer a → LieIn extent a
 
 -- The squares that roots show lie in the plane.
 abbrev pub SquaresLieInPlane : Type 0
 SquaresLieInPlane =
-    (ss : List Submission) (roots : List Root) (layer : Layer) (origin : ℕ) (s : Square) → All (IsRoot ss) roots
+    (ss : List Submission) (roots : List Root) (layer : Layer) (origin : ℕ) (s : Square)
+    → All (IsRoot ss) roots
     → IsShown (flat_roots ss roots) layer origin s → IsSquareInPlane s
 
 -- In the window of a tile, the rectangles that are listed for it have the squares of the shapes on each layer.
 abbrev pub WindowsShowLayers : Type 0
 WindowsShowLayers =
-    (snapshot : Snapshot) (plan : Tiling) (windows : List (List Rectangle)) (tile : ℕ) (layer : Layer) (a listed : Squares)
-    → plan_for snapshot ≡ Some plan → StandFor snapshot windows → tile < tiles plan → AreShownOn (shown snapshot) layer a
-    → AreListedOn (slice_index_or windows tile []) layer listed → AreSameIn (tile_window plan tile) a listed
+    (snapshot : Snapshot) (plan : Tiling) (windows : List (List Rectangle)) (tile : ℕ)
+    (layer : Layer) (a listed : Squares)
+    → plan_for snapshot ≡ Some plan → StandFor snapshot windows → tile < tiles plan
+    → AreShownOn (shown snapshot) layer a
+    → AreListedOn (slice_index_or windows tile []) layer listed
+    → AreSameIn (tile_window plan tile) a listed
 
 -- A rectangle that is listed for a tile has a unit square of the tile's window that a shape of its layer and origin has.
 pub record ListsWhatIsShown (items : List Item) (window : Box2) (r : Rectangle) : Type 0 where
@@ -114,8 +133,10 @@ pub record ListsWhatIsShown (items : List Item) (window : Box2) (r : Rectangle) 
 
 abbrev pub WindowsListWhatIsShown : Type 0
 WindowsListWhatIsShown =
-    (snapshot : Snapshot) (plan : Tiling) (windows : List (List Rectangle)) (tile : ℕ) (r : Rectangle)
-    → plan_for snapshot ≡ Some plan → StandFor snapshot windows → tile < tiles plan → Contains (slice_index_or windows tile []) r
+    (snapshot : Snapshot) (plan : Tiling) (windows : List (List Rectangle)) (tile : ℕ)
+    (r : Rectangle)
+    → plan_for snapshot ≡ Some plan → StandFor snapshot windows → tile < tiles plan
+    → Contains (slice_index_or windows tile []) r
     → ListsWhatIsShown (shown snapshot) (tile_window plan tile) r
 
 -- The closed box of a run: on the axis V from x1 to x2 over its rows, on H with the coordinates exchanged.
@@ -133,8 +154,10 @@ Meet a b = (p : Point) × IsTrue (has_point a p) × IsTrue (has_point b p)
 -- A closed unit square that meets the closed box of a run inside a tile's core lies in the tile's window.
 abbrev pub MetSquaresLieInWindows : Type 0
 MetSquaresLieInWindows =
-    (extent : Box2) (deck : Deck) (rule : Rule) (tile : ℕ) (a b : Squares) (p : Piece) (s : Square) → Contains deck.rules rule
-    → IsPiece rule a b (tile_core (plan_of extent deck) tile) p → Meet (closed_square s) (piece_box p)
+    (extent : Box2) (deck : Deck) (rule : Rule) (tile : ℕ) (a b : Squares) (p : Piece) (s : Square)
+    → Contains deck.rules rule
+    → IsPiece rule a b (tile_core (plan_of extent deck) tile) p
+    → Meet (closed_square s) (piece_box p)
     → has_square (tile_window (plan_of extent deck) tile) s ≡ true
 
 -- On some layer, a closed unit square of that origin meets the closed box: one of a shape of the list, and one of a listed rectangle.
@@ -153,7 +176,10 @@ pub record IsListedMet (listed : List Rectangle) (box : Box2) (origin : ℕ) : T
 -- Which origins meet the box of a run that a tile's core finds, its window alone tells.
 abbrev pub WindowsTellMet : Type 0
 WindowsTellMet =
-    (snapshot : Snapshot) (plan : Tiling) (windows : List (List Rectangle)) (rule : Rule) (tile : ℕ) (a b : Squares) (p : Piece) (origin : ℕ)
-    → plan_for snapshot ≡ Some plan → StandFor snapshot windows → tile < tiles plan → Contains snapshot.deck.rules rule
+    (snapshot : Snapshot) (plan : Tiling) (windows : List (List Rectangle)) (rule : Rule) (tile : ℕ)
+    (a b : Squares) (p : Piece) (origin : ℕ)
+    → plan_for snapshot ≡ Some plan → StandFor snapshot windows → tile < tiles plan
+    → Contains snapshot.deck.rules rule
     → IsPiece rule a b (tile_core plan tile) p
-    → IsMet (shown snapshot) (piece_box p) origin ↔ IsListedMet (slice_index_or windows tile []) (piece_box p) origin
+    → IsMet (shown snapshot) (piece_box p) origin ↔ IsListedMet (slice_index_or windows tile [])
+    (piece_box p) origin

@@ -4,3 +4,4 @@ pub mod Listing
 pub mod Placed
 pub mod Shown
 pub mod Snapshots
+pub mod Internal

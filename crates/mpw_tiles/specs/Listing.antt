@@ -1,17 +1,14 @@
 -- Rectangles that windows list.
-use Rattle.std.specs.Prelude.{◌≡◌, ◌≤◌, ◌<◌, ℕ, true, List, [], length, slice_index_or, Contains, ◌⊎◌, ◌↔◌}
+use Rattle.std.specs.Prelude.{◌≡◌, ◌<◌, ℕ, true, List, [], length, slice_index_or, Contains, ◌↔◌}
 use Rattle.mpw_geom.specs.declared.plane.Layer.{Layer}
-use Rattle.mpw_geom.specs.declared.placing.Placing.{Placing}
-use Rattle.mpw_geom.specs.declared.plane.Box2.{Box2}
-use Rattle.mpw_geom.specs.Plane.{Square, has_square, any_has_square}
-use Rattle.mpw_geom.specs.Placing.{placed_square}
-use Rattle.mpw_grid.specs.declared.grid.Block.{Block}
-use Rattle.mpw_grid.specs.Grid.{Cells, column_of, row_of, ShareSquare}
+use Rattle.mpw_geom.specs.Plane.{Square, has_square}
+use Rattle.mpw_grid.specs.Grid.{ShareSquare}
 use Rattle.mpw_tiles.specs.declared.listing.Rectangle.{Rectangle}
 use Rattle.mpw_tiles.specs.Plan.{Tiling, tiles, tile_window}
 
 -- The rectangle is of that layer and origin, and has the unit square.
-pub record HasSquareOf (rectangle : Rectangle) (layer : Layer) (origin : ℕ) (s : Square) : Type 0 where
+pub record HasSquareOf (rectangle : Rectangle) (layer : Layer) (origin : ℕ) (s : Square) :
+    Type 0 where
   pub on_layer : rectangle.layer ≡ layer
   pub of_origin : rectangle.origin ≡ origin
   pub has : has_square rectangle.area s ≡ true
@@ -20,38 +17,14 @@ pub record HasSquareOf (rectangle : Rectangle) (layer : Layer) (origin : ℕ) (s
 abbrev pub IsListed : List Rectangle → Layer → ℕ → Square → Type 0
 IsListed listed layer origin s = (r : Rectangle) × Contains listed r × HasSquareOf r layer origin s
 
--- To the lists of the tiles of P, and to no others, the rectangle was added.
-pub record Lists (old new : List (List Rectangle)) (rectangle : Rectangle) (P : ℕ → Type 0) : Type 0 where
-  pub count : length new ≡ length old
-  pub listed : (tile : ℕ) (r : Rectangle) → Contains (slice_index_or new tile []) r ↔ (Contains (slice_index_or old tile []) r ⊎ (P tile × (r ≡ rectangle)))
-
--- The tile's column and row lie within these.
-abbrev pub IsInRow : Cells → (from to row : ℕ) → ℕ → Type 0
-IsInRow g from to row tile = (from ≤ column_of g tile) × (column_of g tile < to) × (row_of g tile ≡ row)
-
-abbrev pub IsInRows : Cells → Block → (to : ℕ) → ℕ → Type 0
-IsInRows g block to tile = (block.column0 ≤ column_of g tile) × (column_of g tile < block.column1) × (block.row0 ≤ row_of g tile) × (row_of g tile < to)
-
--- To each tile's window were added rectangles that have just the squares of P in it, and each of them has one there.
-pub record AddsSquares (plan : Tiling) (old new : List (List Rectangle)) (P : Layer → ℕ → Square → Type 0) : Type 0 where
-  pub count : length new ≡ length old
-  pub squares : (tile : ℕ) (s : Square) (layer : Layer) (origin : ℕ) → tile < tiles plan → has_square (tile_window plan tile) s ≡ true
-      → IsListed (slice_index_or new tile []) layer origin s ↔ (IsListed (slice_index_or old tile []) layer origin s ⊎ P layer origin s)
-  pub near : (tile : ℕ) (r : Rectangle) → tile < tiles plan → Contains (slice_index_or new tile []) r
-      → Contains (slice_index_or old tile []) r ⊎ ShareSquare (tile_window plan tile) r.area
-
--- A box of the list, placed, has the unit square, and these are its layer and origin.
-pub record HasPlacedSquare (boxes : List Box2) (placing : Placing) (own : Layer) (number : ℕ) (layer : Layer) (origin : ℕ) (s : Square) : Type 0 where
-  pub on_layer : own ≡ layer
-  pub of_origin : number ≡ origin
-  pub square : Square
-  pub has : any_has_square boxes square ≡ true
-  pub placed : placed_square placing square ≡ s
-
 -- One list a tile, with just the squares of the rectangles in the tile's window: by layer and origin, a listed rectangle has a
 -- square of the window exactly where one of the rectangles has it. Nothing is listed that has no square of the window.
-pub record AreWindowsOf (plan : Tiling) (rectangles : List Rectangle) (windows : List (List Rectangle)) : Type 0 where
+pub record AreWindowsOf (plan : Tiling) (rectangles : List Rectangle)
+    (windows : List (List Rectangle)) : Type 0 where
   pub count : length windows ≡ tiles plan
-  pub squares : (tile : ℕ) (s : Square) (layer : Layer) (origin : ℕ) → tile < tiles plan → has_square (tile_window plan tile) s ≡ true
-      → IsListed (slice_index_or windows tile []) layer origin s ↔ IsListed rectangles layer origin s
-  pub near : (tile : ℕ) (r : Rectangle) → tile < tiles plan → Contains (slice_index_or windows tile []) r → ShareSquare (tile_window plan tile) r.area
+  pub squares : (tile : ℕ) (s : Square) (layer : Layer) (origin : ℕ) → tile < tiles plan
+      → has_square (tile_window plan tile) s ≡ true
+      → IsListed (slice_index_or windows tile []) layer origin s
+      ↔ IsListed rectangles layer origin s
+  pub near : (tile : ℕ) (r : Rectangle) → tile < tiles plan
+      → Contains (slice_index_or windows tile []) r → ShareSquare (tile_window plan tile) r.area

@@ -57,11 +57,14 @@ plan_for s = plan_over s.deck (shown_extent s)
 
 -- One window a tile. In each, by layer and origin, a listed rectangle has a unit square of the window exactly where a shape has it.
 -- Nothing is listed that has no square of the window.
-pub record ShowItems (plan : Tiling) (items : List Item) (windows : List (List Rectangle)) : Type 0 where
+pub record ShowItems (plan : Tiling) (items : List Item) (windows : List (List Rectangle)) :
+    Type 0 where
   pub count : length windows ≡ tiles plan
-  pub squares : (tile : ℕ) (s : Square) (layer : Layer) (origin : ℕ) → tile < tiles plan → has_square (tile_window plan tile) s ≡ true
+  pub squares : (tile : ℕ) (s : Square) (layer : Layer) (origin : ℕ) → tile < tiles plan
+      → has_square (tile_window plan tile) s ≡ true
       → IsListed (slice_index_or windows tile []) layer origin s ↔ IsShown items layer origin s
-  pub near : (tile : ℕ) (r : Rectangle) → tile < tiles plan → Contains (slice_index_or windows tile []) r → ShareSquare (tile_window plan tile) r.area
+  pub near : (tile : ℕ) (r : Rectangle) → tile < tiles plan
+      → Contains (slice_index_or windows tile []) r → ShareSquare (tile_window plan tile) r.area
 
 abbrev pub AreWindowsFor : Option Tiling → List Item → List (List Rectangle) → Type 0
 AreWindowsFor None items windows = windows ≡ []

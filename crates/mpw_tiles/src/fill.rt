@@ -6,7 +6,8 @@ ghost use Rattle.std.specs.Prelude.{◌≡◌, ◌≤◌, ◌<◌, [], length, A
 ghost use Rattle.mpw_geom.specs.Plane.{IsBoxInPlane};
 ghost use Rattle.mpw_grid.specs.Grid.{columns, rows, column_of, row_of, IsInBlock};
 ghost use Rattle.mpw_tiles.specs.Plan.{tiles};
-ghost use Rattle.mpw_tiles.specs.Listing.{Lists, IsInRow, HasSquareOf, IsListed, AddsSquares, AreWindowsOf};
+ghost use Rattle.mpw_tiles.specs.Listing.{HasSquareOf, IsListed, AreWindowsOf};
+ghost use Rattle.mpw_tiles.specs.Internal.Listing.{Lists, IsInRow, AddsSquares};
 
 use crate::listing::{Listed, Rectangle, Windows, list_at, windows_from};
 use crate::plan::Plan;

@@ -4,7 +4,7 @@
 //! [`Window`], which is shared by its copies.
 
 ghost use Rattle.std.specs.Prelude.{◌≡◌, ◌↔◌, ◌<◌, [], ◌∷◌, ◌++◌, length, IfOk, OnOk, IsTrue};
-ghost use Rattle.mpw_tiles.specs.Listing.{Lists};
+ghost use Rattle.mpw_tiles.specs.Internal.Listing.{Lists};
 
 use mpw_geom::{Box2, Layer};
 use std::alloc::{AllocError, Global};

@@ -4,7 +4,8 @@ ghost use Rattle.mpw_hier.specs.Boxes.{placed_box, is_box_near};
 ghost use Rattle.std.specs.Prelude.{◌≡◌, true, ◌+ℤ◌, neg_ℤ};
 ghost use Rattle.mpw_geom.specs.Plane.{Square, IsBoxInPlane, IsOrdered, has_square};
 ghost use Rattle.mpw_geom.specs.Placing.{placed_point, placed_square};
-ghost use Rattle.mpw_tiles.specs.Placed.{nearest, nearest_point, IsSquareInPlane};
+ghost use Rattle.mpw_tiles.specs.Placed.{IsSquareInPlane};
+ghost use Rattle.mpw_tiles.specs.Internal.Placed.{nearest, nearest_point};
 
 use mpw_geom::{Box2, Orient, Placing, Point};
 

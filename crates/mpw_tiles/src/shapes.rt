@@ -5,7 +5,7 @@ ghost use Rattle.mpw_elements.specs.Element.{IsElement};
 ghost use Rattle.mpw_geom.specs.Plane.{HasArea};
 ghost use Rattle.mpw_walk.specs.Turns.{given};
 ghost use Rattle.mpw_walk.specs.Way.{item_of};
-ghost use Rattle.mpw_tiles.specs.Listing.{AddsSquares, HasPlacedSquare};
+ghost use Rattle.mpw_tiles.specs.Internal.Listing.{AddsSquares, HasPlacedSquare};
 ghost use Rattle.mpw_tiles.specs.Placed.{WindowsLieInPlane};
 ghost use Rattle.mpw_tiles.specs.Plan.{tiles};
 ghost use Rattle.mpw_tiles.specs.Shown.{layer_of, ShowsSquare, IsShown};

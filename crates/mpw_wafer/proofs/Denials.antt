@@ -22,60 +22,93 @@ use Rattle.mpw_replies.specs.declared.row.Ending.{Ending}
 use Rattle.mpw_replies.specs.declared.row.Ending.TheVariants as ending
 use Rattle.mpw_wafer.specs.declared.wafer.Wafer.{Wafer}
 use Rattle.mpw_wafer.specs.Laws.{WafersDenyWhatIsLacked}
-use Rattle.mpw_wafer.specs.Wafers.{by_table, placed, unplaced, by_text, decked, placed_outcome, unplaced_outcome, decked_outcome}
+use Rattle.mpw_wafer.specs.Wafers.{by_table, place_row, unplace_row, by_text, deck_row, placed_outcome, unplaced_outcome, decked_outcome}
 use Rattle.mpw_wafer.proofs.Parts.{parts}
 
-table_denies : (told : Result (List Placement) PlacingFault) (operation : Operation) (object : Object) → by_table told ≡ Err (denied operation object) → ⊥
+table_denies : (told : Result (List Placement) PlacingFault) (operation : Operation)
+    (object : Object) → by_table told ≡ Err (denied operation object) → ⊥
 table_denies (Ok ps) operation object e = cc
 table_denies (Err fault) operation object e = cc
 
-text_denies : (told : Result Deck DeckFault) (operation : Operation) (object : Object) → by_text told ≡ Err (denied operation object) → ⊥
+text_denies : (told : Result Deck DeckFault) (operation : Operation) (object : Object)
+    → by_text told ≡ Err (denied operation object) → ⊥
 text_denies (Ok deck) operation object e = cc
 text_denies (Err fault) operation object e = cc
 
-placed_denies : EnteringDeniesWhatIsLacked → (policy : Policy) (shelf : List Submission) (ps : List Placement) (conn : ℕ) (cell label : List ℕ) (placing : Placing) (operation : Operation) (object : Object) → placed policy shelf ps conn cell label placing ≡ Err (denied operation object) → permits policy conn operation object ≡ false
-unfolding placed
-placed_denies lacks policy shelf ps conn cell label placing operation object e = elim (parts (permitted policy conn operations.Place (objects.Cell cell)) _ _ e) [
-  | inl first ↦ lacks policy conn operations.Place operation (objects.Cell cell) object first
-  | inr rest ↦ absurd (table_denies (table.placed shelf ps cell label placing) operation object rest.2)
-]
+placed_denies : EnteringDeniesWhatIsLacked
+    → (policy : Policy) (shelf : List Submission) (ps : List Placement) (conn : ℕ)
+    (cell label : List ℕ) (placing : Placing) (operation : Operation) (object : Object)
+    → place_row policy shelf ps conn cell label placing ≡ Err (denied operation object)
+    → permits policy conn operation object ≡ false
+unfolding place_row
+placed_denies lacks policy shelf ps conn cell label placing operation object e =
+    elim (parts (permitted policy conn operations.Place (objects.Cell cell)) _ _ e) [
+      | inl first ↦ lacks policy conn operations.Place operation (objects.Cell cell) object first
+      | inr rest ↦ absurd (table_denies (table.placed shelf ps cell label placing) operation object
+          rest.2)
+    ]
 
-unplaced_denies : EnteringDeniesWhatIsLacked → (policy : Policy) (ps : List Placement) (conn : ℕ) (cell label : List ℕ) (operation : Operation) (object : Object) → unplaced policy ps conn cell label ≡ Err (denied operation object) → permits policy conn operation object ≡ false
-unfolding unplaced
-unplaced_denies lacks policy ps conn cell label operation object e = elim (parts (permitted policy conn operations.Place (objects.Cell cell)) _ _ e) [
-  | inl first ↦ lacks policy conn operations.Place operation (objects.Cell cell) object first
-  | inr rest ↦ absurd (table_denies (table.unplaced ps cell label) operation object rest.2)
-]
+unplaced_denies : EnteringDeniesWhatIsLacked
+    → (policy : Policy) (ps : List Placement) (conn : ℕ) (cell label : List ℕ)
+    (operation : Operation) (object : Object)
+    → unplace_row policy ps conn cell label ≡ Err (denied operation object)
+    → permits policy conn operation object ≡ false
+unfolding unplace_row
+unplaced_denies lacks policy ps conn cell label operation object e =
+    elim (parts (permitted policy conn operations.Place (objects.Cell cell)) _ _ e) [
+      | inl first ↦ lacks policy conn operations.Place operation (objects.Cell cell) object first
+      | inr rest ↦ absurd (table_denies (table.unplaced ps cell label) operation object rest.2)
+    ]
 
-decked_denies : EnteringDeniesWhatIsLacked → (policy : Policy) (conn : ℕ) (text : List ℕ) (operation : Operation) (object : Object) → decked policy conn text ≡ Err (denied operation object) → permits policy conn operation object ≡ false
-unfolding decked
-decked_denies lacks policy conn text operation object e = elim (parts (permitted policy conn operations.Deck objects.Desk) _ _ e) [
-  | inl first ↦ lacks policy conn operations.Deck operation objects.Desk object first
-  | inr rest ↦ absurd (text_denies (deck_of text) operation object rest.2)
-]
+decked_denies : EnteringDeniesWhatIsLacked
+    → (policy : Policy) (conn : ℕ) (text : List ℕ) (operation : Operation) (object : Object)
+    → deck_row policy conn text ≡ Err (denied operation object)
+    → permits policy conn operation object ≡ false
+unfolding deck_row
+decked_denies lacks policy conn text operation object e =
+    elim (parts (permitted policy conn operations.Deck objects.Desk) _ _ e) [
+      | inl first ↦ lacks policy conn operations.Deck operation objects.Desk object first
+      | inr rest ↦ absurd (text_denies (deck_of text) operation object rest.2)
+    ]
 
 -- ---- outcomes
 
-permission_ended : (e : Ending) (operation : Operation) (object : Object) → ended_by e ≡ reply.Denied (denial.Permission operation object) → e ≡ denied operation object
-permission_ended (ending.Denied why) operation object told = let same : why ≡ denial.Permission operation object = cc in ap (λ d. ending.Denied d) same
+permission_ended : (e : Ending) (operation : Operation) (object : Object)
+    → ended_by e ≡ reply.Denied (denial.Permission operation object) → e ≡ denied operation object
+permission_ended (ending.Denied why) operation object told =
+    let same : why ≡ denial.Permission operation object = cc in ap (λ d. ending.Denied d) same
 permission_ended (ending.Refused why) operation object told = absurd cc
 
-place_ended : (shelf : List Submission) (wafer : Wafer) (cell label : List ℕ) (row : Result (List Placement) Ending) (operation : Operation) (object : Object) → (placed_outcome shelf wafer cell label row).reply ≡ reply.Denied (denial.Permission operation object) → row ≡ Err (denied operation object)
+place_ended : (shelf : List Submission) (wafer : Wafer) (cell label : List ℕ)
+    (row : Result (List Placement) Ending) (operation : Operation) (object : Object)
+    → (placed_outcome shelf wafer cell label row).reply ≡ reply.Denied
+    (denial.Permission operation object) → row ≡ Err (denied operation object)
 place_ended shelf wafer cell label (Ok ps) operation object e = absurd cc
-place_ended shelf wafer cell label (Err ending) operation object e = ap (λ x. Err x) (permission_ended ending operation object e)
+place_ended shelf wafer cell label (Err ending) operation object e =
+    ap (λ x. Err x) (permission_ended ending operation object e)
 
-unplace_ended : (wafer : Wafer) (row : Result (List Placement) Ending) (operation : Operation) (object : Object) → (unplaced_outcome wafer row).reply ≡ reply.Denied (denial.Permission operation object) → row ≡ Err (denied operation object)
+unplace_ended : (wafer : Wafer) (row : Result (List Placement) Ending) (operation : Operation)
+    (object : Object) → (unplaced_outcome wafer row).reply ≡ reply.Denied
+    (denial.Permission operation object) → row ≡ Err (denied operation object)
 unplace_ended wafer (Ok ps) operation object e = absurd cc
-unplace_ended wafer (Err ending) operation object e = ap (λ x. Err x) (permission_ended ending operation object e)
+unplace_ended wafer (Err ending) operation object e =
+    ap (λ x. Err x) (permission_ended ending operation object e)
 
-deck_ended : (wafer : Wafer) (row : Result Deck Ending) (operation : Operation) (object : Object) → (decked_outcome wafer row).reply ≡ reply.Denied (denial.Permission operation object) → row ≡ Err (denied operation object)
+deck_ended : (wafer : Wafer) (row : Result Deck Ending) (operation : Operation) (object : Object)
+    → (decked_outcome wafer row).reply ≡ reply.Denied (denial.Permission operation object)
+    → row ≡ Err (denied operation object)
 deck_ended wafer (Ok deck) operation object e = absurd cc
-deck_ended wafer (Err ending) operation object e = ap (λ x. Err x) (permission_ended ending operation object e)
+deck_ended wafer (Err ending) operation object e =
+    ap (λ x. Err x) (permission_ended ending operation object e)
 
 pub wafer_denies : EnteringDeniesWhatIsLacked → WafersDenyWhatIsLacked
 wafer_denies lacks policy shelf wafer conn (ask.Place cell label placing) operation object e =
-    placed_denies lacks policy shelf wafer.placings conn cell label placing operation object (place_ended shelf wafer cell label (placed policy shelf wafer.placings conn cell label placing) operation object e)
+    placed_denies lacks policy shelf wafer.placings conn cell label placing operation object
+    (place_ended shelf wafer cell label
+    (place_row policy shelf wafer.placings conn cell label placing) operation object e)
 wafer_denies lacks policy shelf wafer conn (ask.Unplace cell label) operation object e =
-    unplaced_denies lacks policy wafer.placings conn cell label operation object (unplace_ended wafer (unplaced policy wafer.placings conn cell label) operation object e)
+    unplaced_denies lacks policy wafer.placings conn cell label operation object
+    (unplace_ended wafer (unplace_row policy wafer.placings conn cell label) operation object e)
 wafer_denies lacks policy shelf wafer conn (ask.Deck text) operation object e =
-    decked_denies lacks policy conn text operation object (deck_ended wafer (decked policy conn text) operation object e)
+    decked_denies lacks policy conn text operation object
+    (deck_ended wafer (deck_row policy conn text) operation object e)

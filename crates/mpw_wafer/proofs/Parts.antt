@@ -11,11 +11,12 @@ use Rattle.mpw_rbac.specs.declared.permission.Object.TheVariants as objects
 use Rattle.mpw_rbac.specs.Policy.{Policy}
 use Rattle.mpw_replies.specs.Rows.{◌>>=◌, Told, permitted}
 use Rattle.mpw_replies.specs.declared.row.Ending.{Ending}
-use Rattle.mpw_wafer.specs.Answers.{fault_of}
-use Rattle.mpw_wafer.specs.Wafers.{by_table, placed, unplaced}
+use Rattle.mpw_wafer.specs.Internal.Answers.{fault_of}
+use Rattle.mpw_wafer.specs.Wafers.{by_table, place_row, unplace_row}
 
 -- a fault of the table, as the row tells it
-pub refused : (fault : PlacingFault) (told : Result (List Placement) PlacingFault) → table.Refuses fault told → Told (fault_of fault) (by_table told)
+pub refused : (fault : PlacingFault) (told : Result (List Placement) PlacingFault)
+    → table.Refuses fault told → Told (fault_of fault) (by_table told)
 refused placings.NoCell told e = ap by_table e
 refused placings.Known told e = ap by_table e
 refused placings.Extent told e = ap by_table e
@@ -25,25 +26,35 @@ refused placings.Unknown told e = ap by_table e
 refused placings.Memory told e = tt
 
 -- a row ends in its first part, or behind it
-pub parts : {A B : Type 0} (x : Result A Ending) (f : A → Result B Ending) (r : Ending) → (x >>= f) ≡ Err r → (x ≡ Err r) ⊎ ((a : A) × (x ≡ Ok a) × (f a ≡ Err r))
+pub parts : {A B : Type 0} (x : Result A Ending) (f : A → Result B Ending) (r : Ending)
+    → (x >>= f) ≡ Err r → (x ≡ Err r) ⊎ ((a : A) × (x ≡ Ok a) × (f a ≡ Err r))
 parts (Ok a) f r e = inr (a, refl, e)
 parts (Err s) f r e = inl (let same : s ≡ r = cc in ap (λ t. Err t) same)
 
 -- a row that gives a value passes both
-passed : {A B : Type 0} (x : Result A Ending) (f : A → Result B Ending) (y : B) → (x >>= f) ≡ Ok y → (a : A) × (x ≡ Ok a) × (f a ≡ Ok y)
+passed : {A B : Type 0} (x : Result A Ending) (f : A → Result B Ending) (y : B) → (x >>= f) ≡ Ok y
+    → (a : A) × (x ≡ Ok a) × (f a ≡ Ok y)
 passed (Ok a) f y e = (a, refl, e)
 passed (Err s) f y e = absurd cc
 
-table_ok : (told : Result (List Placement) PlacingFault) (ps : List Placement) → by_table told ≡ Ok ps → told ≡ Ok ps
+table_ok : (told : Result (List Placement) PlacingFault) (ps : List Placement)
+    → by_table told ≡ Ok ps → told ≡ Ok ps
 table_ok (Ok qs) ps e = let same : qs ≡ ps = cc in ap (λ xs. Ok xs) same
 table_ok (Err fault) ps e = absurd cc
 
-pub placed_ok : (policy : Policy) (shelf : List Submission) (before after : List Placement) (conn : ℕ) (cell label : List ℕ) (placing : Placing) → placed policy shelf before conn cell label placing ≡ Ok after → table.placed shelf before cell label placing ≡ Ok after
-unfolding placed
+pub placed_ok : (policy : Policy) (shelf : List Submission) (before after : List Placement)
+    (conn : ℕ) (cell label : List ℕ) (placing : Placing)
+    → place_row policy shelf before conn cell label placing ≡ Ok after
+    → table.placed shelf before cell label placing ≡ Ok after
+unfolding place_row
 placed_ok policy shelf before after conn cell label placing e =
-    table_ok (table.placed shelf before cell label placing) after (passed (permitted policy conn operations.Place (objects.Cell cell)) _ after e).2
+    table_ok (table.placed shelf before cell label placing) after
+    (passed (permitted policy conn operations.Place (objects.Cell cell)) _ after e).2
 
-pub unplaced_ok : (policy : Policy) (before after : List Placement) (conn : ℕ) (cell label : List ℕ) → unplaced policy before conn cell label ≡ Ok after → table.unplaced before cell label ≡ Ok after
-unfolding unplaced
+pub unplaced_ok : (policy : Policy) (before after : List Placement) (conn : ℕ) (cell label : List ℕ)
+    → unplace_row policy before conn cell label ≡ Ok after
+    → table.unplaced before cell label ≡ Ok after
+unfolding unplace_row
 unplaced_ok policy before after conn cell label e =
-    table_ok (table.unplaced before cell label) after (passed (permitted policy conn operations.Place (objects.Cell cell)) _ after e).2
+    table_ok (table.unplaced before cell label) after
+    (passed (permitted policy conn operations.Place (objects.Cell cell)) _ after e).2

@@ -20,8 +20,10 @@ use Rattle.mpw_wafer.specs.Wafers.{outcome_of}
 -- A permission that is denied is lacked.
 abbrev pub WafersDenyWhatIsLacked : Type 0
 WafersDenyWhatIsLacked =
-    (policy : Policy) (shelf : List Submission) (wafer : Wafer) (conn : ℕ) (request : WaferRequest) (operation : Operation) (object : Object)
-    → (outcome_of policy shelf wafer conn request).reply ≡ reply.Denied (denial.Permission operation object)
+    (policy : Policy) (shelf : List Submission) (wafer : Wafer) (conn : ℕ) (request : WaferRequest)
+    (operation : Operation) (object : Object)
+    → (outcome_of policy shelf wafer conn request).reply ≡ reply.Denied
+    (denial.Permission operation object)
     → permits policy conn operation object ≡ false
 
 -- What is denied or refused leaves the wafer.
@@ -39,7 +41,8 @@ ChangesKeepPlacings =
     → ArePlacings shelf (outcome_of policy shelf wafer conn request).wafer.placings
 
 -- The cell has a present submission, and its version is told.
-pub record TellsVersion (shelf : List Submission) (cell : List ℕ) (lines : List Listed) : Type 0 where
+pub record TellsVersion (shelf : List Submission) (cell : List ℕ) (lines : List Listed) :
+    Type 0 where
   pub number : ℕ
   pub submission : Submission
   pub present_is : present shelf cell ≡ Some number
@@ -48,6 +51,7 @@ pub record TellsVersion (shelf : List Submission) (cell : List ℕ) (lines : Lis
 
 abbrev pub PlacingsTellTheirVersion : Type 0
 PlacingsTellTheirVersion =
-    (policy : Policy) (shelf : List Submission) (wafer : Wafer) (conn : ℕ) (cell label : List ℕ) (placing : Placing) (lines : List Listed)
+    (policy : Policy) (shelf : List Submission) (wafer : Wafer) (conn : ℕ) (cell label : List ℕ)
+    (placing : Placing) (lines : List Listed)
     → (outcome_of policy shelf wafer conn (ask.Place cell label placing)).reply ≡ reply.Ok lines
     → TellsVersion shelf cell lines

@@ -44,15 +44,17 @@ abbrev pub by_table : Result (List Placement) PlacingFault → Result (List Plac
 by_table (Ok ps) = Ok ps
 by_table (Err fault) = Err (ending.Refused (code_of fault))
 
--- The placings with the present submission of the cell under that label.
-unfoldable pub placed : Policy → List Submission → List Placement → ℕ → Name → Name → Placing → Result (List Placement) Ending
-placed policy shelf ps conn cell label placing = do
+-- The row of `place`: the placings with the present submission of the cell under that label.
+unfoldable pub place_row : Policy → List Submission → List Placement → ℕ → Name → Name → Placing
+    → Result (List Placement) Ending
+place_row policy shelf ps conn cell label placing = do
   entered ← permitted policy conn operation.Place (object.Cell cell)
   by_table (table.placed shelf ps cell label placing)
 
--- The placings without the one of that cell and label.
-unfoldable pub unplaced : Policy → List Placement → ℕ → Name → Name → Result (List Placement) Ending
-unplaced policy ps conn cell label = do
+-- The row of `unplace`: the placings without the one of that cell and label.
+unfoldable pub unplace_row : Policy → List Placement → ℕ → Name → Name
+    → Result (List Placement) Ending
+unplace_row policy ps conn cell label = do
   entered ← permitted policy conn operation.Place (object.Cell cell)
   by_table (table.unplaced ps cell label)
 
@@ -60,9 +62,9 @@ abbrev pub by_text : Result Deck DeckFault → Result Deck Ending
 by_text (Ok deck) = Ok deck
 by_text (Err fault) = Err (ending.Refused (code.Deck fault))
 
--- The deck that a text spells.
-unfoldable pub decked : Policy → ℕ → List ℕ → Result Deck Ending
-decked policy conn text = do
+-- The row of `deck`: the deck that a text spells.
+unfoldable pub deck_row : Policy → ℕ → List ℕ → Result Deck Ending
+deck_row policy conn text = do
   entered ← permitted policy conn operation.Deck object.Desk
   by_text (deck_of text)
 
@@ -85,7 +87,8 @@ version_lines None = []
 version_lines (Some version) = line.Version version ∷ []
 
 -- What is placed goes last, and its version is told.
-abbrev pub placed_outcome : List Submission → Wafer → Name → Name → Result (List Placement) Ending → Outcome
+abbrev pub placed_outcome : List Submission → Wafer → Name → Name → Result (List Placement) Ending
+    → Outcome
 placed_outcome shelf wafer cell label (Ok ps) =
     changed (version_lines (version_at shelf ps cell label)) (record wafer { placings = ps })
 placed_outcome shelf wafer cell label (Err ending) = left ending wafer
@@ -102,6 +105,9 @@ decked_outcome wafer (Err ending) = left ending wafer
 -- Each request by its row.
 abbrev pub outcome_of : Policy → List Submission → Wafer → ℕ → WaferRequest → Outcome
 outcome_of policy shelf wafer conn (ask.Place cell label placing) =
-    placed_outcome shelf wafer cell label (placed policy shelf wafer.placings conn cell label placing)
-outcome_of policy shelf wafer conn (ask.Unplace cell label) = unplaced_outcome wafer (unplaced policy wafer.placings conn cell label)
-outcome_of policy shelf wafer conn (ask.Deck text) = decked_outcome wafer (decked policy conn text)
+    placed_outcome shelf wafer cell label
+    (place_row policy shelf wafer.placings conn cell label placing)
+outcome_of policy shelf wafer conn (ask.Unplace cell label) =
+    unplaced_outcome wafer (unplace_row policy wafer.placings conn cell label)
+outcome_of policy shelf wafer conn (ask.Deck text) =
+    decked_outcome wafer (deck_row policy conn text)

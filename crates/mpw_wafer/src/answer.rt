@@ -2,7 +2,8 @@
 ghost use Rattle.std.specs.Prelude.{◌≡◌, List, Result, Option, IfOk, map};
 ghost use Rattle.mpw_deck.specs.Decks.{Deck as DeckTold};
 ghost use Rattle.mpw_placings.specs.declared.placement.Placement.{Placement};
-ghost use Rattle.mpw_wafer.specs.Answers.{Gives, IsEnd};
+ghost use Rattle.mpw_wafer.specs.Answers.{Gives};
+ghost use Rattle.mpw_wafer.specs.Internal.Answers.{IsEnd};
 ghost use Rattle.mpw_wafer.specs.Wafers.{outcome_of, placed_outcome, unplaced_outcome, decked_outcome, version_lines};
 ghost use Rattle.mpw_replies.specs.Listing.{stored};
 ghost use Rattle.mpw_replies.specs.Rows.{Answers};

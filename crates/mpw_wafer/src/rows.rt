@@ -2,7 +2,7 @@
 //!
 //! Each is a function that gives its value, or what ends the row, or tells want of memory.
 ghost use Rattle.std.specs.Prelude.{◌≡◌};
-ghost use Rattle.mpw_wafer.specs.Answers.{fault_of};
+ghost use Rattle.mpw_wafer.specs.Internal.Answers.{fault_of};
 ghost use Rattle.mpw_wafer.specs.Wafers as row;
 ghost use Rattle.mpw_replies.specs.Rows.{Answers};
 
@@ -30,7 +30,7 @@ fn fault_of(fault: PlacingFault) -> Fault
 }
 
 /// The placings with the cell's present submission under that label. Linear in the placings.
-#[tactic(auto, unfolding(crate::specs::Wafers::placed))]
+#[tactic(auto, unfolding(crate::specs::Wafers::place_row))]
 pub(crate) fn place(
     alloc: Global,
     policy: &Policy,
@@ -41,7 +41,7 @@ pub(crate) fn place(
     label: &Name,
     placing: Placing,
 ) -> Result<Placings, Fault>
-    ensures { Answers (λ placings. placings) result (row.placed policy.now shelf.now placings.now conn cell.now label.now placing) }
+    ensures { Answers (λ placings. placings) result (row.place_row policy.now shelf.now placings.now conn cell.now label.now placing) }
 {
     enter(policy, conn, Operation::Place, Object::Cell(cell.copy()?))?;
     match placings.place(alloc, shelf, cell, label, placing) {
@@ -51,7 +51,7 @@ pub(crate) fn place(
 }
 
 /// The placings without that of the cell under that label. Linear in the placings.
-#[tactic(auto, unfolding(crate::specs::Wafers::unplaced))]
+#[tactic(auto, unfolding(crate::specs::Wafers::unplace_row))]
 pub(crate) fn unplace(
     alloc: Global,
     policy: &Policy,
@@ -60,7 +60,7 @@ pub(crate) fn unplace(
     cell: &Name,
     label: &Name,
 ) -> Result<Placings, Fault>
-    ensures { Answers (λ placings. placings) result (row.unplaced policy.now placings.now conn cell.now label.now) }
+    ensures { Answers (λ placings. placings) result (row.unplace_row policy.now placings.now conn cell.now label.now) }
 {
     enter(policy, conn, Operation::Place, Object::Cell(cell.copy()?))?;
     match placings.unplace(alloc, cell, label) {
@@ -70,14 +70,14 @@ pub(crate) fn unplace(
 }
 
 /// The deck that a text spells: in constant time, where it was read already.
-#[tactic(auto, unfolding(crate::specs::Wafers::decked))]
+#[tactic(auto, unfolding(crate::specs::Wafers::deck_row))]
 pub(crate) fn deck(
     alloc: Global,
     policy: &Policy,
     conn: u32,
     text: &DeckText,
 ) -> Result<Deck, Fault>
-    ensures { Answers (λ deck. deck) result (row.decked policy.now conn text.now) }
+    ensures { Answers (λ deck. deck) result (row.deck_row policy.now conn text.now) }
 {
     enter(policy, conn, Operation::Deck, Object::Desk)?;
     match text.deck(alloc) {

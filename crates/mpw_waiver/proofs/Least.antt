@@ -15,7 +15,8 @@ use Rattle.std.proofs.lemmas.List.Folds.{list_any-append}
 use Rattle.std.proofs.lemmas.List.MinMax.{ranks_by}
 use Rattle.mpw_geom.specs.Names.{name_eq, name_cmp, contains_name, placed_by_name}
 use Rattle.mpw_geom.proofs.Linked.{same_name, name_eq-refl, or_right, or_cases}
-use Rattle.mpw_waiver.specs.Least.{least_name, lesser, IsLeast}
+use Rattle.mpw_waiver.specs.Least.{least_name}
+use Rattle.mpw_waiver.specs.Internal.Least.{lesser, IsLeast}
 
 abbrev Name : Type 0
 Name = List ℕ
@@ -47,16 +48,20 @@ abbrev Entry : Type 0
 Entry = Name × Unit {0}
 
 first-put : (n : Name) (placed : List Entry)
-    → slice_get (map (λ (e : Entry). e.0) (put name_cmp n tt placed)) 0 ≡ earlier n (slice_get (map (λ (e : Entry). e.0) placed) 0)
+    → slice_get (map (λ (e : Entry). e.0) (put name_cmp n tt placed)) 0
+    ≡ earlier n (slice_get (map (λ (e : Entry). e.0) placed) 0)
 first-put n [] = refl
 first-put n (e ∷ es) =
-    elim (name_cmp n e.0) as (λ o. slice_get (map (λ (x : Entry). x.0) (by_order o ((n, tt) ∷ e ∷ es) ((e.0, tt) ∷ es) (e ∷ put name_cmp n tt es))) 0 ≡ by_order o (Some n) (Some e.0) (Some e.0)) [
+    elim (name_cmp n e.0) as (λ o. slice_get
+    (map (λ (x : Entry). x.0) (by_order o ((n, tt) ∷ e ∷ es) ((e.0, tt) ∷ es)
+    (e ∷ put name_cmp n tt es))) 0 ≡ by_order o (Some n) (Some e.0) (Some e.0)) [
       | Less ↦ refl
       | Equal ↦ refl
       | Greater ↦ refl
     ]
 
-least-earlier : (n : Name) (ns : List Name) (o : Option Name) → IsLeast ns o → IsLeast (n ∷ ns) (earlier n o)
+least-earlier : (n : Name) (ns : List Name) (o : Option Name) → IsLeast ns o
+    → IsLeast (n ∷ ns) (earlier n o)
 least-earlier n ns None none = (
   ap (λ b. b || contains_name ns n) (name_eq-refl n),
   λ m there. elim (or_cases (name_eq m n) (contains_name ns m) there) [
@@ -65,7 +70,8 @@ least-earlier n ns None none = (
   ],
 )
 least-earlier n ns (Some y) least =
-    elim (name_cmp n y) as (λ o. name_cmp n y ≡ o → IsLeast (n ∷ ns) (by_order o (Some n) (Some y) (Some y))) [
+    elim (name_cmp n y) as (λ o. name_cmp n y ≡ o
+    → IsLeast (n ∷ ns) (by_order o (Some n) (Some y) (Some y))) [
       | Less ↦ λ is. (
         ap (λ b. b || contains_name ns n) (name_eq-refl n),
         λ m there. elim (or_cases (name_eq m n) (contains_name ns m) there) [
@@ -88,10 +94,12 @@ least-earlier n ns (Some y) least =
 
 pub least-is : (ns : List Name) → IsLeast ns (least_name ns)
 least-is [] = λ m. refl
-least-is (n ∷ ns) = subst (IsLeast (n ∷ ns)) (sym (first-put n (placed_by_name ns))) (least-earlier n ns (least_name ns) (least-is ns))
+least-is (n ∷ ns) = subst (IsLeast (n ∷ ns)) (sym (first-put n (placed_by_name ns)))
+    (least-earlier n ns (least_name ns) (least-is ns))
 
 tied : (a b : Name) → less a b ≡ false → less b a ≡ false → a ≡ b
-tied a b p q = slice_cmp-IsAntisymmetric nat_cmp-IsAntisymmetric a b (by (name_cmp a b) (name_cmp b a) (nat_list_cmp_total.antisymm a b) p q)
+tied a b p q = slice_cmp-IsAntisymmetric nat_cmp-IsAntisymmetric a b
+    (by (name_cmp a b) (name_cmp b a) (nat_list_cmp_total.antisymm a b) p q)
   where
     by : (o r : Ordering) → o ≡ ordering_reverse r → is_lt o ≡ false → is_lt r ≡ false → o ≡ Equal
     by Less r e f g = absurd (true≢false f)
@@ -115,7 +123,8 @@ or_none : (a b : Bool) → a ≡ false → b ≡ false → (a || b) ≡ false
 or_none a b p q = λ i. (p i) || (q i)
 
 -- the least of two lists together
-least-both : (xs ys zs : List Name) (a b : Option Name) → ((m : Name) → contains_name zs m ≡ (contains_name xs m || contains_name ys m))
+least-both : (xs ys zs : List Name) (a b : Option Name)
+    → ((m : Name) → contains_name zs m ≡ (contains_name xs m || contains_name ys m))
     → IsLeast xs a → IsLeast ys b → IsLeast zs (lesser a b)
 least-both xs ys zs None None all p q = λ m. all m ∙ or_none _ _ (p m) (q m)
 least-both xs ys zs None (Some b) all p q = (
@@ -150,18 +159,23 @@ least-both xs ys zs (Some a) (Some b) all p q =
       )
     ] refl
 
-least-push : (ns : List Name) (n : Name) (o : Option Name) → IsLeast ns o → IsLeast (ns ++ n ∷ []) (lesser o (Some n))
+least-push : (ns : List Name) (n : Name) (o : Option Name) → IsLeast ns o
+    → IsLeast (ns ++ n ∷ []) (lesser o (Some n))
 least-push ns n o least =
-    least-both ns (n ∷ []) (ns ++ n ∷ []) o (Some n) (λ m. list_any-append (name_eq m) ns (n ∷ [])) least (least-earlier n [] None (λ m. refl))
+    least-both ns (n ∷ []) (ns ++ n ∷ []) o (Some n) (λ m. list_any-append (name_eq m) ns (n ∷ []))
+    least (least-earlier n [] None (λ m. refl))
 
-least-option : (ns : List Name) (a o : Option Name) → IsLeast ns o → IsLeast (ns ++ cons_option a []) (lesser o a)
+least-option : (ns : List Name) (a o : Option Name) → IsLeast ns o
+    → IsLeast (ns ++ cons_option a []) (lesser o a)
 least-option ns None None least = rw (append-nil ns) least
 least-option ns None (Some one) least = rw (append-nil ns) least
 least-option ns (Some n) o least = least-push ns n o least
 
 -- a loop's turn at a number that may give a name
 pub least-turn : (gives : ℕ → Option Name) (numbers : List ℕ) (i : ℕ) (o : Option Name)
-    → i < length numbers → IsLeast (filter_map gives (take i numbers)) o → IsLeast (filter_map gives (take (i + 1) numbers)) (lesser o (gives (get_or numbers i 0)))
+    → i < length numbers → IsLeast (filter_map gives (take i numbers)) o
+    → IsLeast (filter_map gives (take (i + 1) numbers)) (lesser o (gives (get_or numbers i 0)))
 least-turn gives numbers i o inside least =
     let number : ℕ = get_or numbers i 0 in
-    rw (take_more numbers i 0 inside, filter_map-append gives (take i numbers) (number ∷ [])) (least-option (filter_map gives (take i numbers)) (gives number) o least)
+    rw (take_more numbers i 0 inside, filter_map-append gives (take i numbers) (number ∷ []))
+    (least-option (filter_map gives (take i numbers)) (gives number) o least)

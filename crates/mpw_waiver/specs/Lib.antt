@@ -2,3 +2,4 @@ pub mod Laws
 pub mod Least
 pub mod Signing
 pub mod Waivers
+pub mod Internal

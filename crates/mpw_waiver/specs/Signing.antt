@@ -32,21 +32,26 @@ separation_test (Some cell) asker user = Err (Submitter cell)
 separation_test None asker user = if name_eq asker user then Err Asker else Ok tt
 
 -- A waiver can be signed where there is one that nobody signed, by a user whom nothing keeps apart from it.
-abbrev pub sign_test : List Submission → List ℕ → List ℕ → Option Waiver → Result (Unit {0}) WaiverFault
+abbrev pub sign_test : List Submission → List ℕ → List ℕ → Option Waiver
+    → Result (Unit {0}) WaiverFault
 sign_test shelf met user None = Err NoWaiver
 sign_test shelf met user (Some waiver) =
-    if is_some waiver.signer then Err Known else separation_test (least_own_cell shelf met user) waiver.asker user
+    if is_some waiver.signer then Err Known else separation_test (least_own_cell shelf met user)
+    waiver.asker user
 
 -- What is left where a test passes.
-abbrev pub if_passed : Result (Unit {0}) WaiverFault → List (Option Waiver) → Result (List (Option Waiver)) WaiverFault
+abbrev pub if_passed : Result (Unit {0}) WaiverFault → List (Option Waiver)
+    → Result (List (Option Waiver)) WaiverFault
 if_passed (Ok passed) waivers = Ok waivers
 if_passed (Err fault) waivers = Err fault
 
 -- The waivers with one that the user asked for, of the marker at that place.
 unfoldable pub asked : List (Option Waiver) → ℕ → List ℕ → Result (List (Option Waiver)) WaiverFault
-asked waivers place user = if_passed (ask_test (waiver_at waivers place)) (with_asker waivers place user)
+asked waivers place user =
+    if_passed (ask_test (waiver_at waivers place)) (with_asker waivers place user)
 
 -- The waivers with that of the marker at that place signed by the user. The marker meets the submissions of these numbers.
-unfoldable pub signed : List Submission → List (Option Waiver) → ℕ → List ℕ → List ℕ → Result (List (Option Waiver)) WaiverFault
+unfoldable pub signed : List Submission → List (Option Waiver) → ℕ → List ℕ → List ℕ
+    → Result (List (Option Waiver)) WaiverFault
 signed shelf waivers place met user =
     if_passed (sign_test shelf met user (waiver_at waivers place)) (with_signer waivers place user)

@@ -22,7 +22,8 @@ unsigned waivers = length (filter (λ waiver. not (is_signed waiver)) waivers)
 
 -- The waivers with one that the user asked for and nobody signed, of the marker at that place, if there is such a marker.
 abbrev pub with_asker : List (Option Waiver) → ℕ → List ℕ → List (Option Waiver)
-with_asker waivers place asker = slice_set waivers place (Some (record { asker = asker; signer = None }))
+with_asker waivers place asker =
+    slice_set waivers place (Some (record { asker = asker; signer = None }))
 
 -- The waiver as signed by that user.
 abbrev pub signed_by : List ℕ → Option Waiver → Option Waiver
@@ -31,4 +32,5 @@ signed_by signer (Some waiver) = Some (record { asker = waiver.asker; signer = S
 
 -- The waivers with the one at that place signed by that user.
 abbrev pub with_signer : List (Option Waiver) → ℕ → List ℕ → List (Option Waiver)
-with_signer waivers place signer = slice_set waivers place (signed_by signer (waiver_at waivers place))
+with_signer waivers place signer =
+    slice_set waivers place (signed_by signer (waiver_at waivers place))

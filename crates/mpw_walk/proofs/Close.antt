@@ -24,19 +24,62 @@ use Rattle.mpw_walk.proofs.Placings.{placed_point_again}
 close_turned : (o : Orient) (p : Point) → IsClosePoint p → IsClosePoint (oriented_point o p)
 unfolding oriented_point
 close_turned R0 p h = h
-close_turned R90 p h = record { x = record { low = omega (arith, ints, h.y.high); high = omega (arith, ints, h.y.low) }; y = h.x }
-close_turned R180 p h = record { x = record { low = omega (arith, ints, h.x.high); high = omega (arith, ints, h.x.low) }; y = record { low = omega (arith, ints, h.y.high); high = omega (arith, ints, h.y.low) } }
-close_turned R270 p h = record { x = record { low = omega (arith, ints, h.y.low); high = omega (arith, ints, h.y.high) }; y = record { low = omega (arith, ints, h.x.high); high = omega (arith, ints, h.x.low) } }
-close_turned M0 p h = record { x = h.x; y = record { low = omega (arith, ints, h.y.high); high = omega (arith, ints, h.y.low) } }
-close_turned M90 p h = record { x = record { low = omega (arith, ints, h.y.low); high = omega (arith, ints, h.y.high) }; y = h.x }
-close_turned M180 p h = record { x = record { low = omega (arith, ints, h.x.high); high = omega (arith, ints, h.x.low) }; y = record { low = omega (arith, ints, h.y.low); high = omega (arith, ints, h.y.high) } }
-close_turned M270 p h = record { x = record { low = omega (arith, ints, h.y.high); high = omega (arith, ints, h.y.low) }; y = record { low = omega (arith, ints, h.x.high); high = omega (arith, ints, h.x.low) } }
+close_turned R90 p h = record {
+  x = record {
+    low = omega (arith, ints, h.y.high);
+    high = omega (arith, ints, h.y.low);
+  };
+  y = h.x;
+}
+close_turned R180 p h = record {
+  x = record {
+    low = omega (arith, ints, h.x.high);
+    high = omega (arith, ints, h.x.low);
+  };
+  y = record { low = omega (arith, ints, h.y.high); high = omega (arith, ints, h.y.low) };
+}
+close_turned R270 p h = record {
+  x = record {
+    low = omega (arith, ints, h.y.low);
+    high = omega (arith, ints, h.y.high);
+  };
+  y = record { low = omega (arith, ints, h.x.high); high = omega (arith, ints, h.x.low) };
+}
+close_turned M0 p h = record {
+  x = h.x;
+  y = record { low = omega (arith, ints, h.y.high); high = omega (arith, ints, h.y.low) };
+}
+close_turned M90 p h = record {
+  x = record {
+    low = omega (arith, ints, h.y.low);
+    high = omega (arith, ints, h.y.high);
+  };
+  y = h.x;
+}
+close_turned M180 p h = record {
+  x = record {
+    low = omega (arith, ints, h.x.high);
+    high = omega (arith, ints, h.x.low);
+  };
+  y = record { low = omega (arith, ints, h.y.low); high = omega (arith, ints, h.y.high) };
+}
+close_turned M270 p h = record {
+  x = record {
+    low = omega (arith, ints, h.y.high);
+    high = omega (arith, ints, h.y.low);
+  };
+  y = record { low = omega (arith, ints, h.x.high); high = omega (arith, ints, h.x.low) };
+}
 
 short_between : (a d : ℤ) → IsClose a → IsClose (a +ℤ d) → IsShort d
 short_between a d h l =
-    record { low = omega (arith, ints, h.low, h.high, l.low, l.high); high = omega (arith, ints, h.low, h.high, l.low, l.high) }
+    record {
+      low = omega (arith, ints, h.low, h.high, l.low, l.high);
+      high = omega (arith, ints, h.low, h.high, l.low, l.high);
+    }
 
-within_between : (t : Placing) (p : Point) → IsClosePoint p → IsClosePoint (placed_point t p) → IsWithin t.by
+within_between : (t : Placing) (p : Point) → IsClosePoint p → IsClosePoint (placed_point t p)
+    → IsWithin t.by
 unfolding placed_point
 within_between t p h l =
     let q = close_turned t.orient p h in record {
@@ -44,12 +87,15 @@ within_between t p h l =
       y = short_between (oriented_point t.orient p).y t.by.y q.y l.y;
     }
 
-pub short_placing : (t : Placing) (i : Item) → IsCloseItem i → IsCloseItem (placed_item t i) → IsWithin t.by
+pub short_placing : (t : Placing) (i : Item) → IsCloseItem i → IsCloseItem (placed_item t i)
+    → IsWithin t.by
 short_placing t i h l =
     let both : Some h.corner ≡ Some l.corner = sym h.is ∙ l.is in
     let same : l.corner ≡ h.corner = cc in
-    let there = subst (λ c. IsClosePoint (placed_point (placed_again t i.placing) c)) same l.close in
-    within_between t (placed_point i.placing h.corner) h.close (subst IsClosePoint (placed_point_again t i.placing h.corner) there)
+    let there =
+    subst (λ c. IsClosePoint (placed_point (placed_again t i.placing) c)) same l.close in
+    within_between t (placed_point i.placing h.corner) h.close
+    (subst IsClosePoint (placed_point_again t i.placing h.corner) there)
 
 -- ---- boxes and the points in them
 
@@ -115,24 +161,40 @@ none_drawn (i ∷ items) d none =
     go a None e = absurd cc
     go a (Some b) e = absurd cc
 
-pub extent_covers : (items : List Item) → All IsDrawn items → (box : Box2) → extent_of items ≡ Some box → All (IsCovered box) items
+pub extent_covers : (items : List Item) → All IsDrawn items → (box : Box2)
+    → extent_of items ≡ Some box → All (IsCovered box) items
 unfolding extent_of
 extent_covers [] d box is = All-nil (IsCovered box)
 extent_covers (i ∷ items) d box is =
     let c = item_covered i (All-head IsDrawn i items d) in
-    go (none_drawn items (All-tail IsDrawn i items d)) (extent_covers items (All-tail IsDrawn i items d)) c.0 c.2 (extent_of items) refl (ap (λ o. hull o (extent_of items)) (sym c.1) ∙ is)
+    go (none_drawn items (All-tail IsDrawn i items d))
+    (extent_covers items (All-tail IsDrawn i items d)) c.0 c.2 (extent_of items) refl
+    (ap (λ o. hull o (extent_of items)) (sym c.1) ∙ is)
   where
-    wider : (a b : Box2) → ((p : Point) → PointIn a p → PointIn b p) → (xs : List Item) → All (IsCovered a) xs → All (IsCovered b) xs
-    wider a b more xs all = λ k d' lt. let h = all k d' lt in record { corner = h.corner; is = h.is; covered = more _ h.covered }
+    wider : (a b : Box2) → ((p : Point) → PointIn a p → PointIn b p) → (xs : List Item)
+        → All (IsCovered a) xs → All (IsCovered b) xs
+    wider a b more xs all = λ k d' lt. let h = all k d' lt in
+        record { corner = h.corner; is = h.is; covered = more _ h.covered }
 
-    go : (extent_of items ≡ None → items ≡ []) → ((box : Box2) → extent_of items ≡ Some box → All (IsCovered box) items) → (a : Box2) → IsCovered a i → (o : Option Box2) → extent_of items ≡ o → hull (Some a) o ≡ Some box → All (IsCovered box) (i ∷ items)
+    go : (extent_of items ≡ None → items ≡ [])
+        → ((box : Box2) → extent_of items ≡ Some box → All (IsCovered box) items) → (a : Box2)
+        → IsCovered a i → (o : Option Box2) → extent_of items ≡ o → hull (Some a) o ≡ Some box
+        → All (IsCovered box) (i ∷ items)
     go alone rest a here None none whole =
         let box_is : a ≡ box = cc in
-        subst (λ (xs : List Item). All (IsCovered box) (i ∷ xs)) (sym (alone none)) (All-cons (IsCovered box) i [] (subst (λ (x : Box2). IsCovered x i) box_is here) (All-nil (IsCovered box)))
+        subst (λ (xs : List Item). All (IsCovered box) (i ∷ xs)) (sym (alone none))
+        (All-cons (IsCovered box) i [] (subst (λ (x : Box2). IsCovered x i) box_is here)
+        (All-nil (IsCovered box)))
     go alone rest a here (Some b) some whole =
         let same : Some (joined a b) ≡ Some box = whole in
         let box_is : joined a b ≡ box = cc in
-        subst (λ (x : Box2). All (IsCovered x) (i ∷ items)) box_is (All-cons (IsCovered (joined a b)) i items (record { corner = here.corner; is = here.is; covered = covers_left a b _ here.covered }) (wider b (joined a b) (covers_right a b) items (rest b some)))
+        subst (λ (x : Box2). All (IsCovered x) (i ∷ items)) box_is
+        (All-cons (IsCovered (joined a b)) i items
+        (record {
+          corner = here.corner;
+          is = here.is;
+          covered = covers_left a b _ here.covered;
+        }) (wider b (joined a b) (covers_right a b) items (rest b some)))
 
 -- ---- near boxes
 
@@ -151,57 +213,89 @@ close_in b p near h =
     let y0 = near_parts b.y0 k.1 in
     let x1 = near_parts b.x1 g.1 in
     let y1 = near_parts b.y1 f.1 in record {
-      x = record { low = omega (arith, ints, x0.low, h.left); high = omega (arith, ints, x1.high, h.right) };
-      y = record { low = omega (arith, ints, y0.low, h.bottom); high = omega (arith, ints, y1.high, h.top) };
+      x = record {
+        low = omega (arith, ints, x0.low, h.left);
+        high = omega (arith, ints, x1.high, h.right);
+      };
+      y = record {
+        low = omega (arith, ints, y0.low, h.bottom);
+        high = omega (arith, ints, y1.high, h.top);
+      };
     }
 
 -- the flat list of a near extent
-pub items_close : (items : List Item) → All IsDrawn items → IfSome (extent_of items) (λ box. is_box_near box ≡ true) → All IsCloseItem items
-items_close items d near = go (none_drawn items d) (extent_covers items d) (extent_of items) refl near
+pub items_close : (items : List Item) → All IsDrawn items
+    → IfSome (extent_of items) (λ box. is_box_near box ≡ true) → All IsCloseItem items
+items_close items d near =
+    go (none_drawn items d) (extent_covers items d) (extent_of items) refl near
   where
-    go : (extent_of items ≡ None → items ≡ []) → ((box : Box2) → extent_of items ≡ Some box → All (IsCovered box) items) → (o : Option Box2) → extent_of items ≡ o → IfSome o (λ box. is_box_near box ≡ true) → All IsCloseItem items
-    go alone covers None none near = subst (All IsCloseItem) (sym (alone none)) (All-nil IsCloseItem)
+    go : (extent_of items ≡ None → items ≡ [])
+        → ((box : Box2) → extent_of items ≡ Some box → All (IsCovered box) items)
+        → (o : Option Box2) → extent_of items ≡ o → IfSome o (λ box. is_box_near box ≡ true)
+        → All IsCloseItem items
+    go alone covers None none near = subst (All IsCloseItem) (sym (alone none))
+        (All-nil IsCloseItem)
     go alone covers (Some box) some near =
-        λ k d' lt. let h = covers box some k d' lt in record { corner = h.corner; is = h.is; close = close_in box _ near h.covered }
+        λ k d' lt. let h = covers box some k d' lt in
+        record { corner = h.corner; is = h.is; close = close_in box _ near h.covered }
 
 -- the flat list of an extent that is near where it is placed
-placed_in : (t : Placing) (box : Box2) (p : Point) → PointIn box p → PointIn (placed_box t box) (placed_point t p)
+placed_in : (t : Placing) (box : Box2) (p : Point) → PointIn box p
+    → PointIn (placed_box t box) (placed_point t p)
 unfolding placed_box
 placed_in t box p h =
-    PointIn-from_test (placed_box t box) (placed_point t p) (placed_points t box p (omega (arith, ints, h.left, h.right)) (omega (arith, ints, h.bottom, h.top)) ∙ test_from_PointIn box p h)
+    PointIn-from_test (placed_box t box) (placed_point t p)
+    (placed_points t box p (omega (arith, ints, h.left, h.right))
+    (omega (arith, ints, h.bottom, h.top)) ∙ test_from_PointIn box p h)
 
-pub placed_close : (t : Placing) (items : List Item) → All IsDrawn items → IfSome (extent_of items) (λ box. is_box_near (placed_box t box) ≡ true) → All IsCloseItem (map (placed_item t) items)
+pub placed_close : (t : Placing) (items : List Item) → All IsDrawn items
+    → IfSome (extent_of items) (λ box. is_box_near (placed_box t box) ≡ true)
+    → All IsCloseItem (map (placed_item t) items)
 placed_close t items d near =
-    All-map IsCloseItem (placed_item t) items (go (none_drawn items d) (extent_covers items d) (extent_of items) refl near)
+    All-map IsCloseItem (placed_item t) items
+    (go (none_drawn items d) (extent_covers items d) (extent_of items) refl near)
   where
-    go : (extent_of items ≡ None → items ≡ []) → ((box : Box2) → extent_of items ≡ Some box → All (IsCovered box) items) → (o : Option Box2) → extent_of items ≡ o → IfSome o (λ box. is_box_near (placed_box t box) ≡ true) → All (λ i. IsCloseItem (placed_item t i)) items
+    go : (extent_of items ≡ None → items ≡ [])
+        → ((box : Box2) → extent_of items ≡ Some box → All (IsCovered box) items)
+        → (o : Option Box2) → extent_of items ≡ o
+        → IfSome o (λ box. is_box_near (placed_box t box) ≡ true)
+        → All (λ i. IsCloseItem (placed_item t i)) items
     go alone covers None none near =
-        subst (All (λ i. IsCloseItem (placed_item t i))) (sym (alone none)) (All-nil (λ i. IsCloseItem (placed_item t i)))
+        subst (All (λ i. IsCloseItem (placed_item t i))) (sym (alone none))
+        (All-nil (λ i. IsCloseItem (placed_item t i)))
     go alone covers (Some box) some near =
         λ k d' lt. let h = covers box some k d' lt in record {
           corner = h.corner;
           is = h.is;
-          close = subst IsClosePoint (sym (placed_point_again t _ h.corner)) (close_in (placed_box t box) _ near (placed_in t box _ h.covered));
+          close = subst IsClosePoint (sym (placed_point_again t _ h.corner))
+              (close_in (placed_box t box) _ near (placed_in t box _ h.covered));
         }
 
 -- ---- a near box that is near where it is placed
 
-pub near_corners : (b : Box2) → is_box_near b ≡ true → IsClosePoint (record { x = b.x0; y = b.y0 }) × IsClosePoint (record { x = b.x1; y = b.y1 })
+pub near_corners : (b : Box2) → is_box_near b ≡ true → IsClosePoint (record { x = b.x0; y = b.y0 })
+    × IsClosePoint (record { x = b.x1; y = b.y1 })
 unfolding is_box_near
 near_corners b near =
     let f = and_parts _ _ near in
     let g = and_parts _ _ f.0 in
-    let k = and_parts _ _ g.0 in
-    (record { x = near_parts b.x0 k.0; y = near_parts b.y0 k.1 }, record { x = near_parts b.x1 g.1; y = near_parts b.y1 f.1 })
+    let k = and_parts _ _ g.0 in (
+      record { x = near_parts b.x0 k.0; y = near_parts b.y0 k.1 },
+      record { x = near_parts b.x1 g.1; y = near_parts b.y1 f.1 },
+    )
 
-pub near_both : (t : Placing) (b : Box2) → is_box_near b ≡ true → is_box_near (placed_box t b) ≡ true → IsWithin t.by
+pub near_both : (t : Placing) (b : Box2) → is_box_near b ≡ true
+    → is_box_near (placed_box t b) ≡ true → IsWithin t.by
 unfolding placed_box
 near_both t b near there =
     let c : Point = record { x = b.x0; y = b.y0 } in
     let e : Point = record { x = b.x1; y = b.y1 } in
-    within_between t c (near_corners b near).0 (close_in (placed_box t b) (placed_point t c) there (covers_corner (placed_point t c) (placed_point t e)))
+    within_between t c (near_corners b near).0
+    (close_in (placed_box t b) (placed_point t c) there
+    (covers_corner (placed_point t c) (placed_point t e)))
 
-pub far_placed : (t : Placing) (b : Box2) → is_box_near b ≡ true → (IsWithin t.by → ⊥) → is_box_near (placed_box t b) ≡ false
+pub far_placed : (t : Placing) (b : Box2) → is_box_near b ≡ true → (IsWithin t.by → ⊥)
+    → is_box_near (placed_box t b) ≡ false
 far_placed t b near far = go (is_box_near (placed_box t b)) refl
   where
     go : (x : Bool) → is_box_near (placed_box t b) ≡ x → x ≡ false

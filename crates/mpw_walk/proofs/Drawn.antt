@@ -26,19 +26,23 @@ unfolding hull_of_points
 points_drawn [] h = absurd (omega (arith, h))
 points_drawn (p ∷ ps) h = go (hull_of_points ps)
   where
-    go : (o : Option Box2) → (b : Box2) × (hull (Some (record { x0 = p.x; y0 = p.y; x1 = p.x; y1 = p.y })) o ≡ Some b)
+    go : (o : Option Box2) → (b : Box2)
+        × (hull (Some (record { x0 = p.x; y0 = p.y; x1 = p.x; y1 = p.y })) o ≡ Some b)
     go None = (record { x0 = p.x; y0 = p.y; x1 = p.x; y1 = p.y }, refl)
     go (Some b) = (_, refl)
 
-more_drawn : (a : Option Box2) (b : Box2) (o : Option Box2) → a ≡ Some b → (c : Box2) × (hull a o ≡ Some c)
+more_drawn : (a : Option Box2) (b : Box2) (o : Option Box2) → a ≡ Some b
+    → (c : Box2) × (hull a o ≡ Some c)
 more_drawn a b None e = (b, ap (λ x. hull x None) e)
 more_drawn a b (Some c) e = (_, ap (λ x. hull x (Some c)) e)
 
-pub element_drawn : (e : Element) → IsElement e → is_shape e ≡ true → (b : Box2) × (element_box e ≡ Some b)
+pub element_drawn : (e : Element) → IsElement e → is_shape e ≡ true
+    → (b : Box2) × (element_box e ≡ Some b)
 unfolding element_box
 element_drawn (elements.Boundary b) h shape = points_drawn b.points h.corners
 element_drawn (elements.Path p) h shape =
-    let d = points_drawn p.points (omega (arith, h.points)) in more_drawn (hull_of_points p.points) d.0 _ d.1
+    let d = points_drawn p.points (omega (arith, h.points)) in more_drawn (hull_of_points p.points)
+    d.0 _ d.1
 element_drawn (elements.Reference r) h shape = absurd cc
 
 own_drawn : (n : ℕ) (es : List Element) → All IsElement es → All IsDrawn (own_items n es)
@@ -46,16 +50,20 @@ own_drawn n [] h = All-nil IsDrawn
 own_drawn n (e ∷ es) h =
     go e (All-head IsElement e es h) (own_drawn n es (All-tail IsElement e es h))
   where
-    go : (x : Element) → IsElement x → All IsDrawn (own_items n es) → All IsDrawn (own_items n (x ∷ es))
-    go (elements.Boundary b) q rest = All-cons IsDrawn _ _ (element_drawn (elements.Boundary b) q refl) rest
+    go : (x : Element) → IsElement x → All IsDrawn (own_items n es)
+        → All IsDrawn (own_items n (x ∷ es))
+    go (elements.Boundary b) q rest = All-cons IsDrawn _ _
+        (element_drawn (elements.Boundary b) q refl) rest
     go (elements.Path p) q rest = All-cons IsDrawn _ _ (element_drawn (elements.Path p) q refl) rest
     go (elements.Reference r) q rest = rest
 
-pub all_flat : {X Y : Type 0} (P : Y → Type 0) (f : X → List Y) (xs : List X) → ((x : X) → All P (f x)) → All P (flat_map f xs)
+pub all_flat : {X Y : Type 0} (P : Y → Type 0) (f : X → List Y) (xs : List X)
+    → ((x : X) → All P (f x)) → All P (flat_map f xs)
 all_flat P f [] h = All-nil P
 all_flat P f (x ∷ xs) h = All-append P (f x) (flat_map f xs) (h x) (all_flat P f xs h)
 
-shown_drawn : (n : ℕ) (s : Structure) (below : List ℕ → List Item) → IsStructure s → ((target : List ℕ) → All IsDrawn (below target)) → All IsDrawn (shown_items n s below)
+shown_drawn : (n : ℕ) (s : Structure) (below : List ℕ → List Item) → IsStructure s
+    → ((target : List ℕ) → All IsDrawn (below target)) → All IsDrawn (shown_items n s below)
 shown_drawn n s below read down =
     All-append IsDrawn (own_items n s.elements) _ (own_drawn n s.elements read.elements)
     (all_flat IsDrawn (λ (r : Reference). placed_items r (below r.name)) (references s.elements)
@@ -76,30 +84,44 @@ module _ {V : Type 0} (P : V → Type 0) (shown : Structure → (List ℕ → V)
       found None s e = absurd cc
       found (Some k) s e = at_all IsStructure library k s read e
 
-      go : ((target : List ℕ) → P (by_levels shown nothing outside_shown n library target)) → (o : Option Structure) → structure_of library name ≡ o → P (at_structure (λ s. shown s (λ target. by_levels shown nothing outside_shown n library target)) (outside_shown name) o)
+      go : ((target : List ℕ) → P (by_levels shown nothing outside_shown n library target))
+          → (o : Option Structure) → structure_of library name ≡ o
+          → P (at_structure (λ s. shown s (λ target. by_levels shown nothing outside_shown n library
+          target)) (outside_shown name) o)
       go below None e = outside name
       go below (Some s) e = step s _ (found (place_of library name) s e) below
 
-numbers_drawn : (before : List (List Item)) → All (All IsDrawn) before → (o : Option ℕ) → All IsDrawn (at_number [] before o)
+numbers_drawn : (before : List (List Item)) → All (All IsDrawn) before → (o : Option ℕ)
+    → All IsDrawn (at_number [] before o)
 numbers_drawn before all None = All-nil IsDrawn
 numbers_drawn [] all (Some n) = All-nil IsDrawn
 numbers_drawn (items ∷ before) all (Some zero) = All-head (All IsDrawn) items before all
 numbers_drawn (items ∷ before) all (Some (suc n)) =
     numbers_drawn before (All-tail (All IsDrawn) items before all) (Some n)
 
-pub names_drawn : (before : List (List Item)) (s : Submission) → IsLibrary s.library → All (All IsDrawn) before → (name : List ℕ) → All IsDrawn (structure_items before s name)
+pub names_drawn : (before : List (List Item)) (s : Submission) → IsLibrary s.library
+    → All (All IsDrawn) before → (name : List ℕ) → All IsDrawn (structure_items before s name)
 names_drawn before s read all name =
-    levels_keep (All IsDrawn) (shown_items (length before)) [] _ s.library read (All-nil IsDrawn) (λ outside. numbers_drawn before all (bound_number s.bound outside)) (shown_drawn (length before)) (levels_of s.library) name
+    levels_keep (All IsDrawn) (shown_items (length before)) [] _ s.library read (All-nil IsDrawn)
+    (λ outside. numbers_drawn before all (bound_number s.bound outside))
+    (shown_drawn (length before)) (levels_of s.library) name
 
-firsts_drawn : (before : List (List Item)) → All (All IsDrawn) before → (ss : List Submission) → All (λ (s : Submission). IsLibrary s.library) ss → All (All IsDrawn) (from_first flat_of before ss)
+firsts_drawn : (before : List (List Item)) → All (All IsDrawn) before → (ss : List Submission)
+    → All (λ (s : Submission). IsLibrary s.library) ss
+    → All (All IsDrawn) (from_first flat_of before ss)
 unfolding from_first
 firsts_drawn before all [] read = all
 firsts_drawn before all (s ∷ ss) read =
-    firsts_drawn (before ++ flat_of before s ∷ []) (All-push (All IsDrawn) before (flat_of before s) all (names_drawn before s (All-head (λ (s : Submission). IsLibrary s.library) s ss read) all s.top)) ss (All-tail (λ (s : Submission). IsLibrary s.library) s ss read)
+    firsts_drawn (before ++ flat_of before s ∷ [])
+    (All-push (All IsDrawn) before (flat_of before s) all
+    (names_drawn before s (All-head (λ (s : Submission). IsLibrary s.library) s ss read) all
+    s.top)) ss (All-tail (λ (s : Submission). IsLibrary s.library) s ss read)
 
-pub all_drawn : (ss : List Submission) → All (λ (s : Submission). IsLibrary s.library) ss → All (All IsDrawn) (flats ss)
+pub all_drawn : (ss : List Submission) → All (λ (s : Submission). IsLibrary s.library) ss
+    → All (All IsDrawn) (flats ss)
 unfolding flats
 all_drawn ss read = firsts_drawn [] (All-nil (All IsDrawn)) ss read
 
-pub number_drawn : (ss : List Submission) (number : ℕ) → All (λ (s : Submission). IsLibrary s.library) ss → All IsDrawn (get_or (flats ss) number [])
+pub number_drawn : (ss : List Submission) (number : ℕ)
+    → All (λ (s : Submission). IsLibrary s.library) ss → All IsDrawn (get_or (flats ss) number [])
 number_drawn ss number read = numbers_drawn (flats ss) (all_drawn ss read) (Some number)

@@ -14,12 +14,15 @@ use Rattle.mpw_hier.specs.Sizes.{IsExtentNear}
 use Rattle.mpw_hier.specs.Values.{structure_items, flats}
 use Rattle.mpw_walk.specs.declared.frame.Frame.{Frame}
 use Rattle.mpw_walk.specs.declared.root.Root.{Root}
-use Rattle.mpw_walk.specs.Turns.{Turn, enter, given, placed_turn, first_given, behind_first}
-use Rattle.mpw_walk.specs.Frames.{named_turns, turns_to_come, turns_within, IsFrame, IsNext, IsWithin, IsNearArray, Shows, ShowsName, behind_instance}
-use Rattle.mpw_walk.specs.Named.{NamesAreWalked}
+use Rattle.mpw_walk.specs.Turns.{Turn, enter, given, placed_turn, behind_first}
+use Rattle.mpw_walk.specs.Internal.Turns.{first_given}
+use Rattle.mpw_walk.specs.Frames.{named_turns, turns_to_come, turns_within, IsFrame, IsWithin}
+use Rattle.mpw_walk.specs.Internal.Frames.{IsNext, IsNearArray, Shows, ShowsName, behind_instance}
+use Rattle.mpw_walk.specs.Internal.Named.{NamesAreWalked}
 use Rattle.mpw_walk.specs.Near.{IsCloseItem}
 use Rattle.mpw_walk.specs.Window.{is_in, taken}
-use Rattle.mpw_walk.specs.Way.{left_of, left_in, work_left, IsOnWay, GoesOn}
+use Rattle.mpw_walk.specs.Way.{left_of, left_in, IsOnWay}
+use Rattle.mpw_walk.specs.Internal.Way.{work_left, GoesOn}
 use Rattle.mpw_walk.proofs.Given.{given_append, given_placed}
 use Rattle.mpw_walk.proofs.Entered.{named_give}
 use Rattle.mpw_walk.proofs.Shows.{placed_shows}

@@ -12,12 +12,15 @@ use Rattle.mpw_hier.specs.Sizes.{IsExtentNear}
 use Rattle.mpw_hier.specs.Values.{structure_items, flats}
 use Rattle.mpw_walk.specs.declared.frame.Frame.{Frame}
 use Rattle.mpw_walk.specs.declared.root.Root.{Root}
-use Rattle.mpw_walk.specs.Turns.{Turn, enter, given, entered, placed_turn, turns_of, root_turns, roots_turns, first_given, behind_first}
-use Rattle.mpw_walk.specs.Frames.{named_turns, turns_to_come, IsWithin, Shows, ShowsName}
-use Rattle.mpw_walk.specs.Named.{NamesAreWalked}
+use Rattle.mpw_walk.specs.Turns.{Turn, enter, given, entered, placed_turn, turns_of, root_turns, roots_turns, behind_first}
+use Rattle.mpw_walk.specs.Internal.Turns.{first_given}
+use Rattle.mpw_walk.specs.Frames.{named_turns, turns_to_come, IsWithin}
+use Rattle.mpw_walk.specs.Internal.Frames.{Shows, ShowsName}
+use Rattle.mpw_walk.specs.Internal.Named.{NamesAreWalked}
 use Rattle.mpw_walk.specs.Near.{IsCloseItem}
 use Rattle.mpw_walk.specs.Window.{is_in, taken}
-use Rattle.mpw_walk.specs.Way.{left_of, left_in, work_left, IsOnWay, GoesOn}
+use Rattle.mpw_walk.specs.Way.{left_of, left_in, IsOnWay}
+use Rattle.mpw_walk.specs.Internal.Way.{work_left, GoesOn}
 use Rattle.mpw_walk.proofs.Fronts.{at_all}
 use Rattle.mpw_walk.proofs.Given.{given_append, given_placed}
 use Rattle.mpw_walk.proofs.Entered.{named_give, nothing_named}

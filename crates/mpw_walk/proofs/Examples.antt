@@ -17,7 +17,8 @@ abbrev at : ℕ → ℕ → Point
 at x y = record { x = pos x; y = pos y }
 
 abbrev dot : Element
-dot = elements.Boundary (record { layer = record { layer = 1; datatype = 0 }; points = at 0 0 ∷ [] })
+dot =
+    elements.Boundary (record { layer = record { layer = 1; datatype = 0 }; points = at 0 0 ∷ [] })
 
 -- an array of so many columns and rows of a name
 abbrev array : ℕ → ℕ → List ℕ → Element
@@ -37,7 +38,15 @@ one name elements = record { name = name ∷ []; elements = elements }
 -- submission 0 shows a dot; submission 1 an empty cell, an array of submission 0 in two columns and three rows, and a dot
 abbrev shelf : List Submission
 shelf =
-    record { cell = 65 ∷ []; version = 1; submitter = []; library = one 84 (dot ∷ []) ∷ []; top = 84 ∷ []; bound = [] }
+    record {
+      cell = 65 ∷ [];
+      version = 1;
+      submitter = [];
+      library = one 84 (dot ∷ []) ∷ [];
+      top = 84
+          ∷ [];
+      bound = [];
+    }
     ∷ record {
       cell = 66 ∷ [];
       version = 1;
@@ -55,6 +64,7 @@ abbrev shown_at : Item → ℕ × Point
 shown_at i = (i.origin, i.placing.by)
 
 -- its own dot comes first, and then the array row by row, the column running fastest, each turned and moved
-pub seven_items : map shown_at (flat_roots shelf roots) ≡ (1, at 1000 0) ∷ (0, at 1000 0) ∷ (0, at 1000 10) ∷ (0, at 900 0) ∷ (0, at 900 10) ∷ (0, at 800 0) ∷ (0, at 800 10) ∷ []
+pub seven_items : map shown_at (flat_roots shelf roots) ≡ (1, at 1000 0) ∷ (0, at 1000 0)
+    ∷ (0, at 1000 10) ∷ (0, at 900 0) ∷ (0, at 900 10) ∷ (0, at 800 0) ∷ (0, at 800 10) ∷ []
 unfolding flat_roots flats from_first by_levels instances placed_again placed_point oriented_point
 seven_items = refl

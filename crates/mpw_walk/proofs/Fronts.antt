@@ -17,15 +17,19 @@ use Rattle.mpw_hier.specs.declared.submission.Submission.{Submission}
 use Rattle.mpw_hier.specs.Nodes.{AreNodes, AreNodesOf}
 use Rattle.mpw_hier.specs.Values.{flats, heights}
 use Rattle.mpw_walk.specs.declared.frame.Frame.{Frame}
-use Rattle.mpw_walk.specs.Frames.{IsFront, IsFrame, IsWithin}
+use Rattle.mpw_walk.specs.Frames.{IsFrame, IsWithin}
+use Rattle.mpw_walk.specs.Internal.Frames.{IsFront}
 
-pub at_all : {X : Type 0} (P : X → Type 0) (xs : List X) (k : ℕ) (x : X) → All P xs → slice_get xs k ≡ Some x → P x
+pub at_all : {X : Type 0} (P : X → Type 0) (xs : List X) (k : ℕ) (x : X) → All P xs
+    → slice_get xs k ≡ Some x → P x
 at_all P xs k x all is =
     let within = slice_get_within xs k x is in
     subst P (get_or_from_slice_get xs k x x is) (all k x within)
 
 -- an element of a structure is one that reading gives
-pub element_read : (library : List Structure) (k : ℕ) (s : Structure) (i : ℕ) (e : Element) → IsLibrary library → slice_get library k ≡ Some s → slice_get s.elements i ≡ Some e → IsElement e
+pub element_read : (library : List Structure) (k : ℕ) (s : Structure) (i : ℕ) (e : Element)
+    → IsLibrary library → slice_get library k ≡ Some s → slice_get s.elements i ≡ Some e
+    → IsElement e
 element_read library k s i e read is at =
     at_all IsElement s.elements i e (at_all IsStructure library k s read is).elements at
 
@@ -34,31 +38,38 @@ pub front_is : (ss : List Submission) (number : ℕ) (nodes : List Node) (place 
     → slice_get w.submission.library f.node.now.structure ≡ Some structure → IsWithin f.placing.by
     → f.submission ≡ number → f.nodes.now ≡ nodes → f.elements.now ≡ structure.elements
     → f.shape ≡ 0 → f.child ≡ 0 → f.row ≡ 0 → f.column ≡ 0 → IsFront ss number nodes place f
-front_is ss number nodes place f w structure at named near number_is nodes_are elements_are shape child row column = record {
-  frame = record {
-    submission = w.submission;
-    is = subst (λ n. slice_get ss n ≡ Some w.submission) (sym number_is) w.is;
-    nodes = subst (λ n. AreNodesOf (flats (take n ss)) (heights (take n ss)) w.submission f.nodes.now) (sym number_is) (subst (λ ns. AreNodesOf (flats (take number ss)) (heights (take number ss)) w.submission ns) (sym nodes_are) w.shown);
-    place = place;
-    at = subst (λ ns. slice_get ns place ≡ Some f.node.now) (sym nodes_are) at;
-    structure = structure;
-    named = named;
-    elements_are = elements_are;
-    within = λ c r child_is reference_is. let q : IsReference r =
-        element_read w.submission.library f.node.now.structure structure c.element
-        (elements.Reference r) w.shown.library named
-        (subst (λ es. slice_get es c.element ≡ Some (elements.Reference r)) elements_are
-        reference_is) in (omega (arith, row, q.rows.least), omega (arith, column, q.columns.least));
-    near = near;
-  };
-  number_is = number_is;
-  nodes_are = nodes_are;
-  node_is = at;
-  shape = shape;
-  child = child;
-  row = row;
-  column = column;
-}
+front_is ss number nodes place f w structure at named near number_is nodes_are elements_are shape
+    child row column = record {
+      frame = record {
+        submission = w.submission;
+        is = subst (λ n. slice_get ss n ≡ Some w.submission) (sym number_is) w.is;
+        nodes = subst (λ n. AreNodesOf (flats (take n ss)) (heights (take n ss)) w.submission
+            f.nodes.now) (sym number_is) (subst
+            (λ ns. AreNodesOf (flats (take number ss)) (heights (take number ss)) w.submission ns)
+            (sym nodes_are) w.shown);
+        place = place;
+        at = subst (λ ns. slice_get ns place ≡ Some f.node.now) (sym nodes_are) at;
+        structure = structure;
+        named = named;
+        elements_are = elements_are;
+        within = λ c r child_is reference_is. let q : IsReference r =
+            element_read w.submission.library f.node.now.structure structure c.element
+            (elements.Reference r) w.shown.library named
+            (subst (λ es. slice_get es c.element ≡ Some (elements.Reference r)) elements_are
+            reference_is) in (
+              omega (arith, row, q.rows.least),
+              omega (arith, column, q.columns.least),
+            );
+        near = near;
+      };
+      number_is = number_is;
+      nodes_are = nodes_are;
+      node_is = at;
+      shape = shape;
+      child = child;
+      row = row;
+      column = column;
+    }
 
 -- the same structure, at other places within its elements and arrays, or placed elsewhere
 pub frame_at : (ss : List Submission) (f : Frame) → IsFrame ss f
@@ -82,20 +93,29 @@ frame_at ss f q shape child row column placing within near = record {
 }
 
 -- what `get` gives
-pub got : {X : Type 0} (xs : List X) (k : ℕ) (o : Option (Bor X)) (x : Bor X) → o ≡ Some x → IfSome o (λ (y : Bor X). y.now ≡ get_or xs k y.now) → k < length xs → slice_get xs k ≡ Some x.now
+pub got : {X : Type 0} (xs : List X) (k : ℕ) (o : Option (Bor X)) (x : Bor X) → o ≡ Some x
+    → IfSome o (λ (y : Bor X). y.now ≡ get_or xs k y.now) → k < length xs
+    → slice_get xs k ≡ Some x.now
 got {X = X} xs k o x is at within =
-    let h = subst (λ (p : Option (Bor X)). IfSome p (λ (y : Bor X). y.now ≡ get_or xs k y.now)) is at in
+    let h =
+    subst (λ (p : Option (Bor X)). IfSome p (λ (y : Bor X). y.now ≡ get_or xs k y.now)) is at in
     slice_get_read xs (length xs) k x.now refl within h
 
 pub one : {X : Type 0} (o : Option X) (x y : X) → o ≡ Some x → o ≡ Some y → x ≡ y
 one o x y e f = let g : Some x ≡ Some y = sym e ∙ f in cc
 
-pub structure_within : (ss : List Submission) (number : ℕ) (nodes : List Node) (place : ℕ) (node : Node) (w : AreNodes ss number nodes) → slice_get nodes place ≡ Some node → node.structure < length w.submission.library
+pub structure_within : (ss : List Submission) (number : ℕ) (nodes : List Node) (place : ℕ)
+    (node : Node) (w : AreNodes ss number nodes) → slice_get nodes place ≡ Some node
+    → node.structure < length w.submission.library
 structure_within ss number nodes place node w at =
-    slice_get_within w.submission.library node.structure (w.shown.each place node at).structure (w.shown.each place node at).is
+    slice_get_within w.submission.library node.structure (w.shown.each place node at).structure
+    (w.shown.each place node at).is
 
-pub some_within : {X : Type 0} (o : Option X) (x : X) (k n : ℕ) → o ≡ Some x → is_some o ≡ nat_lt k n → k < n
-some_within o x k n is told = let e : nat_lt k n ≡ true = sym told ∙ ap is_some is in grind (arith, nat_tests)
+pub some_within : {X : Type 0} (o : Option X) (x : X) (k n : ℕ) → o ≡ Some x
+    → is_some o ≡ nat_lt k n → k < n
+some_within o x k n is told =
+    let e : nat_lt k n ≡ true = sym told ∙ ap is_some is in grind (arith, nat_tests)
 
 pub none_within : {X : Type 0} (o : Option X) (k n : ℕ) → o ≡ None → is_some o ≡ nat_lt k n → n ≤ k
-none_within o k n is told = let e : nat_lt k n ≡ false = sym told ∙ ap is_some is in grind (arith, nat_tests)
+none_within o k n is told =
+    let e : nat_lt k n ≡ false = sym told ∙ ap is_some is in grind (arith, nat_tests)

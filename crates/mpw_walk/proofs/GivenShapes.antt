@@ -17,12 +17,15 @@ use Rattle.mpw_hier.specs.Sizes.{IsExtentNear}
 use Rattle.mpw_walk.specs.declared.frame.Frame.{Frame}
 use Rattle.mpw_walk.specs.declared.root.Root.{Root}
 use Rattle.mpw_walk.specs.declared.root.Placed.{Placed}
-use Rattle.mpw_walk.specs.Turns.{give, given, first_given, behind_first}
-use Rattle.mpw_walk.specs.Frames.{turns_to_come, IsFrame, IsShape, IsWithin}
-use Rattle.mpw_walk.specs.Named.{NamesAreWalked}
+use Rattle.mpw_walk.specs.Turns.{give, given, behind_first}
+use Rattle.mpw_walk.specs.Internal.Turns.{first_given}
+use Rattle.mpw_walk.specs.Frames.{turns_to_come, IsFrame, IsWithin}
+use Rattle.mpw_walk.specs.Internal.Frames.{IsShape}
+use Rattle.mpw_walk.specs.Internal.Named.{NamesAreWalked}
 use Rattle.mpw_walk.specs.Near.{IsCloseItem}
 use Rattle.mpw_walk.specs.Window.{is_taken, taken}
-use Rattle.mpw_walk.specs.Way.{left_of, left_in, work_left, IsOnWay, GoesOn, GivesFirst, IsPlaceable, item_of}
+use Rattle.mpw_walk.specs.Way.{left_of, left_in, IsOnWay, IsPlaceable, item_of}
+use Rattle.mpw_walk.specs.Internal.Way.{work_left, GoesOn, GivesFirst}
 use Rattle.mpw_walk.proofs.Fronts.{at_all}
 use Rattle.mpw_walk.proofs.Nexts.{shape_within, shape_next, shape_frame}
 use Rattle.mpw_walk.proofs.Depth.{frame_high}
@@ -147,7 +150,12 @@ module _ (law : NamesAreWalked) (window : Option Box2) (ss : List Submission) (r
           behind = ap behind_first same;
           count = ap (λ left. turns + length left) same;
         },
-        omega (arith, long, length-append frames (f ∷ []), length-append frames ((record f { shape = f.shape + 1 }) ∷ [])),
+        omega (
+          arith,
+          long,
+          length-append frames (f ∷ []),
+          length-append frames ((record f { shape = f.shape + 1 }) ∷ []),
+        ),
       )
 
   pub given_placeable : (placed : Placed) → IsShape f placed → IsPlaceable placed

@@ -17,7 +17,7 @@ use Rattle.mpw_hier.specs.Boxes.{hull, placed_box, item_box, extent_of}
 use Rattle.mpw_hier.specs.Holding.{IsHeld, ExtentsArePlaced}
 use Rattle.mpw_hier.specs.Values.{at_number, bound_number}
 use Rattle.mpw_walk.specs.Turns.{Turn, enter, give, given, placed_turn, entered, placed_turns, shown_turns, structure_turns, submission_turns, all_turns, turns_of}
-use Rattle.mpw_walk.specs.Extents.{ExtentsAreWalked}
+use Rattle.mpw_walk.specs.Internal.Extents.{ExtentsAreWalked}
 use Rattle.mpw_walk.specs.Frames.{named_turns}
 use Rattle.mpw_walk.specs.Window.{turn_box}
 use Rattle.mpw_walk.proofs.Entered.{named_is}

@@ -6,11 +6,13 @@ use Rattle.mpw_geom.specs.declared.plane.Box2.{Box2}
 use Rattle.mpw_hier.specs.declared.submission.Submission.{Submission}
 use Rattle.mpw_walk.specs.declared.frame.Frame.{Frame}
 use Rattle.mpw_walk.specs.declared.root.Root.{Root}
-use Rattle.mpw_walk.specs.Turns.{given, first_given, behind_first}
-use Rattle.mpw_walk.specs.Named.{NamesAreWalked}
+use Rattle.mpw_walk.specs.Turns.{given, behind_first}
+use Rattle.mpw_walk.specs.Internal.Turns.{first_given}
+use Rattle.mpw_walk.specs.Internal.Named.{NamesAreWalked}
 use Rattle.mpw_walk.specs.Near.{IsCloseItem}
 use Rattle.mpw_walk.specs.Window.{taken}
-use Rattle.mpw_walk.specs.Way.{left_of, left_in, work_left, IsOnWay, GoesOn}
+use Rattle.mpw_walk.specs.Way.{left_of, left_in, IsOnWay}
+use Rattle.mpw_walk.specs.Internal.Way.{work_left, GoesOn}
 use Rattle.mpw_walk.proofs.Nexts.{frame_over}
 use Rattle.mpw_walk.proofs.FrameStacks.{left_more, each_front}
 

@@ -6,7 +6,7 @@ use Rattle.mpw_geom.specs.declared.placing.Placing.{Placing}
 use Rattle.mpw_hier.specs.Items.{Item}
 use Rattle.mpw_hier.specs.Boxes.{placed_box, extent_of}
 use Rattle.mpw_hier.specs.Values.{structure_items, flats, flat, heights}
-use Rattle.mpw_walk.specs.Extents.{ExtentsAreWalked}
+use Rattle.mpw_walk.specs.Internal.Extents.{ExtentsAreWalked}
 use Rattle.mpw_walk.specs.Missed.{RootsCarryTheirExtents, InstancesCarryTheirExtents, MissedRootsShowNothing, MissedInstancesShowNothing}
 use Rattle.mpw_walk.specs.Turns.{Turn, enter, given, placed_turn, entered, structure_turns, all_turns, turns_of}
 use Rattle.mpw_walk.specs.Window.{is_met, turns_met}
@@ -14,18 +14,23 @@ use Rattle.mpw_walk.proofs.Given.{named_gives, all_give, number_gives}
 use Rattle.mpw_walk.proofs.Held.{Holds, number_holds, structure_holds}
 use Rattle.mpw_walk.proofs.Taken.{taken_out, missed_taken}
 
-carried : (turns : List Turn) (items : List Item) (t : Placing) → given turns ≡ items → 0 < length items → entered turns t ≡ enter (option_map (placed_box t) (extent_of items)) ∷ map (placed_turn t) turns
+carried : (turns : List Turn) (items : List Item) (t : Placing) → given turns ≡ items
+    → 0 < length items → entered turns t ≡ enter (option_map (placed_box t) (extent_of items))
+    ∷ map (placed_turn t) turns
 carried [] items t e some = absurd (omega (arith, some, ap length e))
 carried (turn ∷ turns) items t e some =
-    ap (λ is. enter (option_map (placed_box t) (extent_of is)) ∷ map (placed_turn t) (turn ∷ turns)) e
+    ap (λ is. enter (option_map (placed_box t) (extent_of is)) ∷ map (placed_turn t) (turn ∷ turns))
+    e
 
 pub roots_carry : RootsCarryTheirExtents
 roots_carry ss root some =
-    carried (turns_of ss root.submission) (flat ss root.submission) root.placing (number_gives ss root.submission).items_given some
+    carried (turns_of ss root.submission) (flat ss root.submission) root.placing
+    (number_gives ss root.submission).items_given some
 
 pub instances_carry : InstancesCarryTheirExtents
 instances_carry ss s name t some =
-    carried (structure_turns (all_turns ss) s name) (structure_items (flats ss) s name) t (named_gives (all_turns ss) (flats ss) (heights ss) s (all_give ss) name).items_given some
+    carried (structure_turns (all_turns ss) s name) (structure_items (flats ss) s name) t
+    (named_gives (all_turns ss) (flats ss) (heights ss) s (all_give ss) name).items_given some
 
 module _ (law : ExtentsAreWalked) where
   missed : (w : Box2) (turns : List Turn) (items : List Item) (t : Placing) → Holds turns

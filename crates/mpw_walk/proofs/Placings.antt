@@ -16,12 +16,16 @@ use Rattle.mpw_walk.specs.Turns.{Turn, enter, give, placed_turn}
 
 -- ---- orientations
 
-turns_go : {A B : Type 0} (turn : A → A) (turn' : B → B) (f : A → B) → ((a : A) → f (turn a) ≡ turn' (f a)) → (n : ℕ) (a : A) → f (times turn n a) ≡ times turn' n (f a)
+turns_go : {A B : Type 0} (turn : A → A) (turn' : B → B) (f : A → B)
+    → ((a : A) → f (turn a) ≡ turn' (f a)) → (n : ℕ) (a : A)
+    → f (times turn n a) ≡ times turn' n (f a)
 turns_go turn turn' f g zero a = refl
 turns_go turn turn' f g (suc n) a = g (times turn n a) ∙ ap turn' (turns_go turn turn' f g n a)
 
 -- what goes with the mirror and with the turn goes with each orientation
-orients_go : {A B : Type 0} (mirror turn : A → A) (mirror' turn' : B → B) (f : A → B) → ((a : A) → f (mirror a) ≡ mirror' (f a)) → ((a : A) → f (turn a) ≡ turn' (f a)) → (o : Orient) (a : A) → f (by_orient mirror turn o a) ≡ by_orient mirror' turn' o (f a)
+orients_go : {A B : Type 0} (mirror turn : A → A) (mirror' turn' : B → B) (f : A → B)
+    → ((a : A) → f (mirror a) ≡ mirror' (f a)) → ((a : A) → f (turn a) ≡ turn' (f a))
+    → (o : Orient) (a : A) → f (by_orient mirror turn o a) ≡ by_orient mirror' turn' o (f a)
 orients_go m t m' t' f h g R0 a = refl
 orients_go m t m' t' f h g R90 a = turns_go t t' f g 1 a
 orients_go m t m' t' f h g R180 a = turns_go t t' f g 2 a
@@ -31,7 +35,8 @@ orients_go m t m' t' f h g M90 a = turns_go t t' f g 1 (m a) ∙ ap (times t' 1)
 orients_go m t m' t' f h g M180 a = turns_go t t' f g 2 (m a) ∙ ap (times t' 2) (h a)
 orients_go m t m' t' f h g M270 a = turns_go t t' f g 3 (m a) ∙ ap (times t' 3) (h a)
 
-mirrored_acts : (p : Point) (o : Orient) → oriented_point (mirrored o) p ≡ mirrored_point (oriented_point o p)
+mirrored_acts : (p : Point) (o : Orient)
+    → oriented_point (mirrored o) p ≡ mirrored_point (oriented_point o p)
 unfolding oriented_point
 mirrored_acts p R0 = refl
 mirrored_acts p R90 = same_point _ _ (omega (arith, ints)) (omega (arith, ints))
@@ -42,7 +47,8 @@ mirrored_acts p M90 = same_point _ _ (omega (arith, ints)) (omega (arith, ints))
 mirrored_acts p M180 = same_point _ _ (omega (arith, ints)) (omega (arith, ints))
 mirrored_acts p M270 = same_point _ _ (omega (arith, ints)) (omega (arith, ints))
 
-turned_acts : (p : Point) (o : Orient) → oriented_point (turned o) p ≡ turned_point (oriented_point o p)
+turned_acts : (p : Point) (o : Orient)
+    → oriented_point (turned o) p ≡ turned_point (oriented_point o p)
 unfolding oriented_point
 turned_acts p R0 = refl
 turned_acts p R90 = refl
@@ -53,10 +59,12 @@ turned_acts p M90 = refl
 turned_acts p M180 = refl
 turned_acts p M270 = same_point _ _ (omega (arith, ints)) (omega (arith, ints))
 
-pub oriented_again : (o i : Orient) (p : Point) → oriented_point (by_orient mirrored turned o i) p ≡ oriented_point o (oriented_point i p)
+pub oriented_again : (o i : Orient) (p : Point) → oriented_point (by_orient mirrored turned o i) p
+    ≡ oriented_point o (oriented_point i p)
 unfolding oriented_point
 oriented_again o i p =
-    orients_go mirrored turned mirrored_point turned_point (λ (a : Orient). oriented_point a p) (mirrored_acts p) (turned_acts p) o i
+    orients_go mirrored turned mirrored_point turned_point (λ (a : Orient). oriented_point a p)
+    (mirrored_acts p) (turned_acts p) o i
 
 -- an orientation is known by where it takes one point
 abbrev probe : Point
@@ -87,23 +95,33 @@ same_orient a b same = sym (told_is a) ∙ ap told (same probe) ∙ told_is b
 
 pub same_placing : (a b : Placing) → a.orient ≡ b.orient → a.by ≡ b.by → a ≡ b
 same_placing a b e f =
-    let h : ◌≡◌ {A = Placing} (record { orient = a.orient; by = a.by }) (record { orient = b.orient; by = b.by }) = cc in h
+    let h : ◌≡◌ {A = Placing} (record { orient = a.orient; by = a.by })
+    (record { orient = b.orient; by = b.by }) = cc in h
 
-pub placed_point_again : (a b : Placing) (p : Point) → placed_point (placed_again a b) p ≡ placed_point a (placed_point b p)
+pub placed_point_again : (a b : Placing) (p : Point)
+    → placed_point (placed_again a b) p ≡ placed_point a (placed_point b p)
 unfolding placed_again
-placed_point_again a b p = placed-placed_point b a (placed_again a b) p (oriented_again a.orient b.orient p) refl
+placed_point_again a b p =
+    placed-placed_point b a (placed_again a b) p (oriented_again a.orient b.orient p) refl
 
-pub placed_again_again : (a b c : Placing) → placed_again (placed_again a b) c ≡ placed_again a (placed_again b c)
+pub placed_again_again : (a b c : Placing)
+    → placed_again (placed_again a b) c ≡ placed_again a (placed_again b c)
 unfolding placed_again
 placed_again_again a b c =
     let o = by_orient mirrored turned in
-    same_placing _ _ (same_orient _ _ (λ p. oriented_again (o a.orient b.orient) c.orient p ∙ oriented_again a.orient b.orient (oriented_point c.orient p) ∙ ap (oriented_point a.orient) (sym (oriented_again b.orient c.orient p)) ∙ sym (oriented_again a.orient (o b.orient c.orient) p))) (placed_point_again a b c.by)
+    same_placing _ _ (same_orient _ _ (λ p. oriented_again (o a.orient b.orient) c.orient p
+    ∙ oriented_again a.orient b.orient (oriented_point c.orient p)
+    ∙ ap (oriented_point a.orient) (sym (oriented_again b.orient c.orient p))
+    ∙ sym (oriented_again a.orient (o b.orient c.orient) p))) (placed_point_again a b c.by)
 
 -- the placing that is one and then another, as it is computed
-pub then_is : (inner outer result : Placing) → result.by ≡ placed_point outer inner.by → ((p : Point) → placed_point result p ≡ placed_point outer (placed_point inner p)) → result ≡ placed_again outer inner
+pub then_is : (inner outer result : Placing) → result.by ≡ placed_point outer inner.by
+    → ((p : Point) → placed_point result p ≡ placed_point outer (placed_point inner p))
+    → result ≡ placed_again outer inner
 unfolding placed_again placed_point
 then_is inner outer result by points =
-    same_placing _ _ (same_orient _ _ (λ p. moved_same result.by (oriented_point result.orient p) (oriented_point (by_orient mirrored turned outer.orient inner.orient) p) (go p))) by
+    same_placing _ _ (same_orient _ _ (λ p. moved_same result.by (oriented_point result.orient p)
+    (oriented_point (by_orient mirrored turned outer.orient inner.orient) p) (go p))) by
   where
     moved_same : (d p q : Point) → moved_point d p ≡ moved_point d q → p ≡ q
     moved_same d p q e =
@@ -111,8 +129,11 @@ then_is inner outer result by points =
         let ey : p.y +ℤ d.y ≡ q.y +ℤ d.y = ap (λ (r : Point). r.y) e in
         same_point p q (omega (arith, ints)) (omega (arith, ints))
 
-    go : (p : Point) → moved_point result.by (oriented_point result.orient p) ≡ moved_point result.by (oriented_point (by_orient mirrored turned outer.orient inner.orient) p)
-    go p = points p ∙ sym (placed_point_again outer inner p) ∙ ap (λ (d : Point). moved_point d (oriented_point (by_orient mirrored turned outer.orient inner.orient) p)) (sym by)
+    go : (p : Point) → moved_point result.by (oriented_point result.orient p) ≡ moved_point
+        result.by (oriented_point (by_orient mirrored turned outer.orient inner.orient) p)
+    go p = points p ∙ sym (placed_point_again outer inner p)
+        ∙ ap (λ (d : Point). moved_point d
+        (oriented_point (by_orient mirrored turned outer.orient inner.orient) p)) (sym by)
 
 -- where a shape stands that is placed by its structure's placing alone
 abbrev pub here : Placing
@@ -132,7 +153,8 @@ placed_here t = same_placing _ _ (whole t.orient) (still t.orient t.by)
     whole M180 = refl
     whole M270 = refl
 
-    still : (o : Orient) (d : Point) → moved_point d (by_orient mirrored_point turned_point o (record { x = pos 0; y = pos 0 })) ≡ d
+    still : (o : Orient) (d : Point) → moved_point d
+        (by_orient mirrored_point turned_point o (record { x = pos 0; y = pos 0 })) ≡ d
     still R0 d = same_point _ _ (omega (arith, ints)) (omega (arith, ints))
     still R90 d = same_point _ _ (omega (arith, ints)) (omega (arith, ints))
     still R180 d = same_point _ _ (omega (arith, ints)) (omega (arith, ints))
@@ -144,10 +166,13 @@ placed_here t = same_placing _ _ (whole t.orient) (still t.orient t.by)
 
 -- ---- items and turns
 
-pub placed_item_again : (p q : Placing) (i : Item) → placed_item p (placed_item q i) ≡ placed_item (placed_again p q) i
-placed_item_again p q i = ap (λ t. record { origin = i.origin; placing = t; element = i.element }) (sym (placed_again_again p q i.placing))
+pub placed_item_again : (p q : Placing) (i : Item)
+    → placed_item p (placed_item q i) ≡ placed_item (placed_again p q) i
+placed_item_again p q i = ap (λ t. record { origin = i.origin; placing = t; element = i.element })
+    (sym (placed_again_again p q i.placing))
 
-pub items_again : (p q : Placing) (is : List Item) → map (placed_item p) (map (placed_item q) is) ≡ map (placed_item (placed_again p q)) is
+pub items_again : (p q : Placing) (is : List Item)
+    → map (placed_item p) (map (placed_item q) is) ≡ map (placed_item (placed_again p q)) is
 items_again p q [] = refl
 items_again p q (i ∷ is) = rw (placed_item_again p q i, items_again p q is) refl
 

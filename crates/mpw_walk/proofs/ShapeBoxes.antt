@@ -14,7 +14,7 @@ use Rattle.mpw_hier.specs.Sizes.{IsExtentNear}
 use Rattle.mpw_hier.specs.declared.submission.Submission.{Submission}
 use Rattle.mpw_walk.specs.declared.frame.Frame.{Frame}
 use Rattle.mpw_walk.specs.Frames.{named_turns, shape_turns, turns_of_shapes, turns_of_children, IsFrame}
-use Rattle.mpw_walk.specs.Named.{NamesAreWalked}
+use Rattle.mpw_walk.specs.Internal.Named.{NamesAreWalked}
 use Rattle.mpw_walk.specs.Near.{IsClose}
 use Rattle.mpw_walk.specs.Turns.{Turn, give, given}
 use Rattle.mpw_walk.proofs.Close.{near_corners}
@@ -61,12 +61,17 @@ held_near (Some a) (Some b) h ordered near = near_inside a b ordered h near
 
 -- ---- a frame's next shape
 
-flat_part : (P : Turn → Type 0) (g : ℕ → List Turn) (xs : List ℕ) (k : ℕ) → k < length xs → All P (flat_map g xs) → All P (g (slice_index xs k))
+flat_part : (P : Turn → Type 0) (g : ℕ → List Turn) (xs : List ℕ) (k : ℕ) → k < length xs
+    → All P (flat_map g xs) → All P (g (slice_index xs k))
 flat_part P g [] k h all = absurd (omega (arith, h))
 flat_part P g (x ∷ xs) zero h all = all_left P (g x) (flat_map g xs) all
-flat_part P g (x ∷ xs) (suc k) h all = flat_part P g xs k (omega (arith, h)) (all_right P (g x) (flat_map g xs) all)
+flat_part P g (x ∷ xs) (suc k) h all =
+    flat_part P g xs k (omega (arith, h)) (all_right P (g x) (flat_map g xs) all)
 
-pub shape_near : (law : NamesAreWalked) (ss : List Submission) (f : Frame) → IsFrame ss f → (e : Element) → f.shape < length f.node.now.shapes.items → slice_get f.elements.now (slice_index f.node.now.shapes.items f.shape) ≡ Some e → IsExtentNear (element_box e)
+pub shape_near : (law : NamesAreWalked) (ss : List Submission) (f : Frame) → IsFrame ss f
+    → (e : Element) → f.shape < length f.node.now.shapes.items
+    → slice_get f.elements.now (slice_index f.node.now.shapes.items f.shape) ≡ Some e
+    → IsExtentNear (element_box e)
 shape_near law ss f q e h is =
     let n = f.submission in
     let m = q.nodes.each q.place f.node.now q.at in
@@ -76,13 +81,17 @@ shape_near law ss f q e h is =
     let turns = named_turns ss n name in
     let outer = extent_of (given turns) in
     let In : Turn → Type 0 = IsTurnIn outer in
-    let whole = own_turns ss n q.submission q.is law f.nodes.now q.place f.node.now q.structure name q.nodes q.at q.named m.named in
-    let parts = node_turns ss n q.submission q.is f.nodes.now q.place f.node.now q.structure q.nodes q.at q.named in
+    let whole = own_turns ss n q.submission q.is law f.nodes.now q.place f.node.now q.structure name
+    q.nodes q.at q.named m.named in
+    let parts = node_turns ss n q.submission q.is f.nodes.now q.place f.node.now q.structure q.nodes
+    q.at q.named in
     let holds = named_holds law.extents.placed ss n q.submission q.is name in
     let all = subst (All In) (whole ∙ sym parts) (turns_held law.extents turns holds) in
-    let shapes = all_left In (turns_of_shapes n es places) (turns_of_children (named_turns ss n) es 0 0 f.node.now.children.items) all in
+    let shapes = all_left In (turns_of_shapes n es places)
+    (turns_of_children (named_turns ss n) es 0 0 f.node.now.children.items) all in
     let one = flat_part In (λ place. shape_turns n (slice_get es place)) places f.shape h shapes in
-    let at : slice_get es (slice_index places f.shape) ≡ Some e = subst (λ l. slice_get l (slice_index places f.shape) ≡ Some e) q.elements_are is in
+    let at : slice_get es (slice_index places f.shape) ≡ Some e =
+    subst (λ l. slice_get l (slice_index places f.shape) ≡ Some e) q.elements_are is in
     let here = All-head In (give _) [] (subst (λ o. All In (shape_turns n o)) at one) in
     let own = law.extents.unmoved n e in
     let held = subst (λ o. IsHeld o outer) own here.0 in

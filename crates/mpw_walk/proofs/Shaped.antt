@@ -29,14 +29,17 @@ own_shapes n (elements.Boundary b ∷ es) = All-cons IsOfShape _ _ refl (own_sha
 own_shapes n (elements.Path p ∷ es) = All-cons IsOfShape _ _ refl (own_shapes n es)
 own_shapes n (elements.Reference r ∷ es) = own_shapes n es
 
-shown_shapes : (n : ℕ) (s : Structure) (below : List ℕ → List Item) → ((target : List ℕ) → All IsOfShape (below target)) → All IsOfShape (shown_items n s below)
+shown_shapes : (n : ℕ) (s : Structure) (below : List ℕ → List Item)
+    → ((target : List ℕ) → All IsOfShape (below target)) → All IsOfShape (shown_items n s below)
 shown_shapes n s below down =
     All-append IsOfShape (own_items n s.elements) _ (own_shapes n s.elements)
     (all_flat IsOfShape (λ (r : Reference). placed_items r (below r.name)) (references s.elements)
     (λ r. all_flat IsOfShape (λ t. map (placed_item t) (below r.name)) (instances r)
     (λ t. All-map IsOfShape (placed_item t) (below r.name) (down r.name))))
 
-names_shapes : (xs ys zs : List (List Item)) (s : Submission) → Related AreOfShapes xs ys zs → (name : List ℕ) → AreOfShapes (structure_items xs s name) (structure_items ys s name) (structure_items zs s name)
+names_shapes : (xs ys zs : List (List Item)) (s : Submission) → Related AreOfShapes xs ys zs
+    → (name : List ℕ) → AreOfShapes (structure_items xs s name) (structure_items ys s name)
+    (structure_items zs s name)
 names_shapes xs ys zs s r name =
     levels_related AreOfShapes (shown_items (length xs)) (shown_items (length ys))
     (shown_items (length zs)) [] [] [] (λ outside. at_number [] xs (bound_number s.bound outside))
@@ -49,12 +52,17 @@ names_shapes xs ys zs s r name =
 all_shapes : (ss : List Submission) → Related AreOfShapes (flats ss) (flats ss) (flats ss)
 unfolding flats
 all_shapes ss =
-    firsts_related AreOfShapes flat_of flat_of flat_of (λ xs ys zs s r. names_shapes xs ys zs s r s.top) [] [] [] none ss
+    firsts_related AreOfShapes flat_of flat_of flat_of
+    (λ xs ys zs s r. names_shapes xs ys zs s r s.top) [] [] [] none ss
 
-pub number_shapes : (ss : List Submission) (number : ℕ) → All (λ (i : Item). is_shape i.element ≡ true) (flat ss number)
+pub number_shapes : (ss : List Submission) (number : ℕ)
+    → All (λ (i : Item). is_shape i.element ≡ true) (flat ss number)
 number_shapes ss number = related_at (all_shapes ss) [] [] [] (All-nil IsOfShape) number
 
-pub roots_shapes : (ss : List Submission) (roots : List Root) → All (λ (i : Item). is_shape i.element ≡ true) (flat_roots ss roots)
+pub roots_shapes : (ss : List Submission) (roots : List Root)
+    → All (λ (i : Item). is_shape i.element ≡ true) (flat_roots ss roots)
 unfolding flat_roots
 roots_shapes ss roots =
-    all_flat IsOfShape (flat_root ss) roots (λ root. All-map IsOfShape (placed_item root.placing) (flat ss root.submission) (number_shapes ss root.submission))
+    all_flat IsOfShape (flat_root ss) roots
+    (λ root. All-map IsOfShape (placed_item root.placing) (flat ss root.submission)
+    (number_shapes ss root.submission))

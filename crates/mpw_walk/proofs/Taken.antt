@@ -13,7 +13,7 @@ use Rattle.mpw_geom.proofs.Meets.{common_point, spans_from_point}
 use Rattle.mpw_geom.proofs.Tests.{le_from_test, test_from_le}
 use Rattle.mpw_hier.specs.Boxes.{placed_box, item_box, extent_of}
 use Rattle.mpw_hier.specs.Holding.{IsInside, IsHeld}
-use Rattle.mpw_walk.specs.Extents.{ExtentsAreWalked}
+use Rattle.mpw_walk.specs.Internal.Extents.{ExtentsAreWalked}
 use Rattle.mpw_walk.specs.Turns.{Turn, enter, give, given, placed_turn}
 use Rattle.mpw_walk.specs.Window.{do_meet, is_met, turn_box, items_met, turns_met, is_taken, taken}
 use Rattle.mpw_walk.proofs.Given.{given_placed}
@@ -31,8 +31,11 @@ both false b e f = e
 
 pub meeting : (a b : Box2) → (do_meet a b ≡ true) ↔ Meet a b
 unfolding do_meet
-meeting a b =
-    (λ h. let f = and_parts _ _ h in common_point a b f.0 f.1, λ h. let f = spans_from_point a b h in both _ _ f.0 f.1)
+meeting a b = (
+  λ h. let f = and_parts _ _ h in common_point a b f.0 f.1,
+  λ h. let f = spans_from_point a b h
+      in both _ _ f.0 f.1,
+)
 
 same_test : (x y : Bool) (P : Type 0) → IsTrue x ↔ P → (y ≡ true) ↔ P → x ≡ y
 same_test true true P e f = refl
@@ -68,22 +71,27 @@ missed_within w (Some a) (Some b) h missed = go (do_meet a w) refl
 
 -- ---- lists of turns
 
-pub taken_in : (window : Option Box2) (turn : Turn) (turns : List Turn) → is_taken window turn ≡ true → taken window (turn ∷ turns) ≡ turn ∷ taken window turns
+pub taken_in : (window : Option Box2) (turn : Turn) (turns : List Turn)
+    → is_taken window turn ≡ true → taken window (turn ∷ turns) ≡ turn ∷ taken window turns
 taken_in window turn turns e =
     ap (λ b. cond b (turn ∷ taken window turns) (taken window turns)) e
 
-pub taken_out : (window : Option Box2) (turn : Turn) (turns : List Turn) → is_taken window turn ≡ false → taken window (turn ∷ turns) ≡ taken window turns
+pub taken_out : (window : Option Box2) (turn : Turn) (turns : List Turn)
+    → is_taken window turn ≡ false → taken window (turn ∷ turns) ≡ taken window turns
 taken_out window turn turns e =
     ap (λ b. cond b (turn ∷ taken window turns) (taken window turns)) e
 
-pub taken_append : (window : Option Box2) (a b : List Turn) → taken window (a ++ b) ≡ taken window a ++ taken window b
+pub taken_append : (window : Option Box2) (a b : List Turn) → taken window (a ++ b) ≡ taken window a
+    ++ taken window b
 taken_append window a b = filter-append (is_taken window) a b
 
-pub taken_few : (window : Option Box2) (turns : List Turn) → length (taken window turns) ≤ length turns
+pub taken_few : (window : Option Box2) (turns : List Turn)
+    → length (taken window turns) ≤ length turns
 taken_few window [] = omega arith
 taken_few window (turn ∷ turns) = go (is_taken window turn) (taken_few window turns)
   where
-    go : (b : Bool) → length (taken window turns) ≤ length turns → length (cond b (turn ∷ taken window turns) (taken window turns)) ≤ suc (length turns)
+    go : (b : Bool) → length (taken window turns) ≤ length turns
+        → length (cond b (turn ∷ taken window turns) (taken window turns)) ≤ suc (length turns)
     go true h = omega (arith, h)
     go false h = omega (arith, h)
 
@@ -113,15 +121,20 @@ missed_taken law (Some w) t turns h missed =
     (turns_held law there (holds_placed law.placed t turns h))
 
 -- the turns that meet a window give the shapes that do
-pub given_met : (w : Box2) (turns : List Turn) → given (turns_met w turns) ≡ items_met w (given turns)
+pub given_met : (w : Box2) (turns : List Turn)
+    → given (turns_met w turns) ≡ items_met w (given turns)
 given_met w [] = refl
 given_met w (enter e ∷ turns) = go (is_met w e) (given_met w turns)
   where
-    go : (b : Bool) → given (turns_met w turns) ≡ items_met w (given turns) → given (cond b (enter e ∷ turns_met w turns) (turns_met w turns)) ≡ items_met w (given turns)
+    go : (b : Bool) → given (turns_met w turns) ≡ items_met w (given turns)
+        → given (cond b (enter e ∷ turns_met w turns) (turns_met w turns)) ≡ items_met w
+        (given turns)
     go true same = same
     go false same = same
 given_met w (give i ∷ turns) = go (is_met w (item_box i)) (given_met w turns)
   where
-    go : (b : Bool) → given (turns_met w turns) ≡ items_met w (given turns) → given (cond b (give i ∷ turns_met w turns) (turns_met w turns)) ≡ cond b (i ∷ items_met w (given turns)) (items_met w (given turns))
+    go : (b : Bool) → given (turns_met w turns) ≡ items_met w (given turns)
+        → given (cond b (give i ∷ turns_met w turns) (turns_met w turns))
+        ≡ cond b (i ∷ items_met w (given turns)) (items_met w (given turns))
     go true e = ap (λ is. i ∷ is) e
     go false e = e

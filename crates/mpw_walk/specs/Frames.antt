@@ -1,5 +1,5 @@
 -- A structure that a walk has entered, and the turns that are still to come of it.
-use Rattle.std.specs.Prelude.{◌≡◌, ◌≤ℤ◌, ◌<◌, ◌^◌, ◌+◌, ◌-◌, ℕ, ℤ, pos, neg_ℤ, List, [], ◌∷◌, ◌++◌, map, drop, take, slice_get, slice_index, nat_lt, Option, Some, None, if◌then◌else◌}
+use Rattle.std.specs.Prelude.{◌≡◌, ◌≤ℤ◌, ◌<◌, ◌^◌, ◌+◌, ◌-◌, ℕ, ℤ, pos, List, [], ◌∷◌, ◌++◌, map, drop, take, slice_get, Option, Some, None, neg_ℤ}
 use Rattle.std.specs.List.{flat_map, range_with_len}
 use Rattle.mpw_geom.specs.declared.plane.Point.{Point}
 use Rattle.mpw_geom.specs.declared.plane.Orient.TheVariants.{R0}
@@ -8,16 +8,12 @@ use Rattle.mpw_elements.specs.declared.element.Element.{Element}
 use Rattle.mpw_elements.specs.declared.element.Element.TheVariants as elements
 use Rattle.mpw_elements.specs.declared.element.Reference.{Reference}
 use Rattle.mpw_library.specs.declared.structures.Structure.{Structure}
-use Rattle.mpw_hier.specs.declared.node.Node.{Node}
 use Rattle.mpw_hier.specs.declared.node.Child.{Child}
-use Rattle.mpw_hier.specs.declared.node.Target.{Target}
 use Rattle.mpw_hier.specs.declared.submission.Submission.{Submission}
 use Rattle.mpw_hier.specs.Items.{instance, row_of}
-use Rattle.mpw_hier.specs.Nodes.{AreNodesOf, structure_levels}
-use Rattle.mpw_hier.specs.Sizes.{IsSizeOf}
-use Rattle.mpw_hier.specs.Values.{structure_items, flats, heights}
+use Rattle.mpw_hier.specs.Nodes.{AreNodesOf}
+use Rattle.mpw_hier.specs.Values.{flats, heights}
 use Rattle.mpw_walk.specs.declared.frame.Frame.{Frame}
-use Rattle.mpw_walk.specs.declared.root.Placed.{Placed}
 use Rattle.mpw_walk.specs.Turns.{Turn, give, placed_turn, placed_turns, entered, structure_turns, all_turns}
 
 -- ---- what is to come
@@ -34,15 +30,24 @@ named_turns ss number name = turns_at ss number (slice_get ss number) name
 abbrev pub shape_turns : ℕ → Option Element → List Turn
 shape_turns number None = []
 shape_turns number (Some e) =
-    give (record { origin = number; placing = record { orient = R0; by = record { x = pos 0; y = pos 0 } }; element = e }) ∷ []
+    give (record {
+      origin = number;
+      placing = record {
+        orient = R0;
+        by = record { x = pos 0; y = pos 0 };
+      };
+      element = e;
+    }) ∷ []
 
 abbrev pub turns_of_shapes : ℕ → List Element → List ℕ → List Turn
-turns_of_shapes number es places = flat_map (λ place. shape_turns number (slice_get es place)) places
+turns_of_shapes number es places =
+    flat_map (λ place. shape_turns number (slice_get es place)) places
 
 -- The instances of an array from a row and a column on.
 abbrev pub instances_from : Reference → (row column : ℕ) → List Placing
 instances_from r row column =
-    map (instance r row) (range_with_len column (r.columns - column)) ++ flat_map (row_of r) (range_with_len (row + 1) (r.rows - (row + 1)))
+    map (instance r row) (range_with_len column (r.columns - column))
+    ++ flat_map (row_of r) (range_with_len (row + 1) (r.rows - (row + 1)))
 
 -- The turns of a reference, and those from a row and a column on.
 abbrev pub reference_turns : (List ℕ → List Turn) → Option Element → List Turn
@@ -58,15 +63,19 @@ instance_turns below row column (Some (elements.Path p)) = []
 instance_turns below row column (Some (elements.Reference r)) =
     flat_map (entered (below r.name)) (instances_from r row column)
 
-abbrev pub turns_of_children : (List ℕ → List Turn) → List Element → (row column : ℕ) → List Child → List Turn
+abbrev pub turns_of_children : (List ℕ → List Turn) → List Element → (row column : ℕ) → List Child
+    → List Turn
 turns_of_children below es row column [] = []
 turns_of_children below es row column (c ∷ cs) =
-    instance_turns below row column (slice_get es c.element) ++ flat_map (λ (c : Child). reference_turns below (slice_get es c.element)) cs
+    instance_turns below row column (slice_get es c.element)
+    ++ flat_map (λ (c : Child). reference_turns below (slice_get es c.element)) cs
 
 -- What is still to come of a frame's structure, in the structure's own coordinates, and as it is placed.
 unfoldable pub turns_within : List Submission → Frame → List Turn
 turns_within ss f =
-    turns_of_shapes f.submission f.elements.now (drop f.shape f.node.now.shapes.items) ++ turns_of_children (named_turns ss f.submission) f.elements.now f.row f.column (drop f.child f.node.now.children.items)
+    turns_of_shapes f.submission f.elements.now (drop f.shape f.node.now.shapes.items)
+    ++ turns_of_children (named_turns ss f.submission) f.elements.now f.row f.column
+    (drop f.child f.node.now.children.items)
 
 unfoldable pub turns_to_come : List Submission → Frame → List Turn
 turns_to_come ss f = map (placed_turn f.placing) (turns_within ss f)
@@ -86,62 +95,14 @@ pub record IsWithin (p : Point) : Type 0 where
 pub record IsFrame (ss : List Submission) (f : Frame) : Type 0 where
   pub submission : Submission
   pub is : slice_get ss f.submission ≡ Some submission
-  pub nodes : AreNodesOf (flats (take f.submission ss)) (heights (take f.submission ss)) submission f.nodes.now
+  pub nodes : AreNodesOf (flats (take f.submission ss)) (heights (take f.submission ss)) submission
+      f.nodes.now
   pub place : ℕ
   pub at : slice_get f.nodes.now place ≡ Some f.node.now
   pub structure : Structure
   pub named : slice_get submission.library f.node.now.structure ≡ Some structure
   pub elements_are : f.elements.now ≡ structure.elements
-  pub within : (c : Child) (r : Reference) → slice_get f.node.now.children.items f.child ≡ Some c → slice_get f.elements.now c.element ≡ Some (elements.Reference r) → (f.row < r.rows) × (f.column < r.columns)
+  pub within : (c : Child) (r : Reference) → slice_get f.node.now.children.items f.child ≡ Some c
+      → slice_get f.elements.now c.element ≡ Some (elements.Reference r)
+      → (f.row < r.rows) × (f.column < r.columns)
   pub near : IsWithin f.placing.by
-
--- The frame of a node before any of its turns.
-pub record IsFront (ss : List Submission) (number : ℕ) (nodes : List Node) (place : ℕ) (f : Frame) : Type 0 where
-  pub frame : IsFrame ss f
-  pub number_is : f.submission ≡ number
-  pub nodes_are : f.nodes.now ≡ nodes
-  pub node_is : slice_get nodes place ≡ Some f.node.now
-  pub shape : f.shape ≡ 0
-  pub child : f.child ≡ 0
-  pub row : f.row ≡ 0
-  pub column : f.column ≡ 0
-
--- A frame shows what a name means to a submission, and its node has the size of that.
-pub record Shows (ss : List Submission) (number : ℕ) (s : Submission) (name : List ℕ) (f : Frame) : Type 0 where
-  pub frame : IsFrame ss f
-  pub turns : turns_within ss f ≡ named_turns ss number name
-  pub size : IsSizeOf (structure_items (flats (take number ss)) s name) (structure_levels (heights (take number ss)) s name) f.node.now.size
-
-abbrev pub ShowsName : List Submission → ℕ → (Submission → List ℕ) → Frame → Type 0
-ShowsName ss number name f = (s : Submission) → slice_get ss number ≡ Some s → Shows ss number s (name s) f
-
--- ---- steps
-
--- What a frame places next.
-pub record IsNext (f : Frame) (target : Target) (r : Reference) : Type 0 where
-  pub child : Child
-  pub child_is : slice_get f.node.now.children.items f.child ≡ Some child
-  pub target_is : child.target ≡ target
-  pub reference_is : slice_get f.elements.now child.element ≡ Some (elements.Reference r)
-
--- The next child, if there is one, is a reference.
-abbrev pub HasReference : Frame → Type 0
-HasReference f =
-    (c : Child) → slice_get f.node.now.children.items f.child ≡ Some c → (r : Reference) × (slice_get f.elements.now c.element ≡ Some (elements.Reference r))
-
--- Each instance of an array is within 2^31 nm.
-abbrev pub IsNearArray : Reference → Type 0
-IsNearArray r = (row column : ℕ) → row < r.rows → column < r.columns → IsWithin (instance r row column).by
-
--- The next shape of a frame.
-pub record IsShape (f : Frame) (placed : Placed) : Type 0 where
-  pub origin : placed.origin ≡ f.submission
-  pub placing : placed.placing ≡ f.placing
-  pub element : slice_get f.elements.now (slice_index f.node.now.shapes.items f.shape) ≡ Some placed.element.now
-
--- The frame behind the next instance: the next column, the next row, or the next child.
-abbrev pub behind_instance : Frame → Reference → Frame
-behind_instance f r =
-    if nat_lt (f.column + 1) r.columns then record f { column = f.column + 1 }
-    else if nat_lt (f.row + 1) r.rows then record f { row = f.row + 1; column = 0 }
-    else record f { child = f.child + 1; row = 0; column = 0 }

@@ -1,11 +1,9 @@
 pub mod Turns
 pub mod Window
 pub mod Frames
-pub mod Stack
 pub mod Near
 pub mod Way
 pub mod Walk
 pub mod Roots
 pub mod Missed
-pub mod Extents
-pub mod Named
+pub mod Internal

@@ -14,19 +14,25 @@ use Rattle.mpw_walk.specs.Window.{is_met, turns_met}
 abbrev pub RootsCarryTheirExtents : Type 0
 RootsCarryTheirExtents =
     (ss : List Submission) (root : Root) → 0 < count ss root.submission
-    → root_turns ss root ≡ enter (root_extent ss root) ∷ map (placed_turn root.placing) (turns_of ss root.submission)
+    → root_turns ss root ≡ enter (root_extent ss root)
+    ∷ map (placed_turn root.placing) (turns_of ss root.submission)
 
 abbrev pub InstancesCarryTheirExtents : Type 0
 InstancesCarryTheirExtents =
-    (ss : List Submission) (s : Submission) (name : List ℕ) (t : Placing) → 0 < length (structure_items (flats ss) s name)
-    → entered (structure_turns (all_turns ss) s name) t ≡ enter (option_map (placed_box t) (extent_of (structure_items (flats ss) s name))) ∷ map (placed_turn t) (structure_turns (all_turns ss) s name)
+    (ss : List Submission) (s : Submission) (name : List ℕ) (t : Placing)
+    → 0 < length (structure_items (flats ss) s name)
+    → entered (structure_turns (all_turns ss) s name) t
+    ≡ enter (option_map (placed_box t) (extent_of (structure_items (flats ss) s name)))
+    ∷ map (placed_turn t) (structure_turns (all_turns ss) s name)
 
 -- Where it misses the window, no turn of what is shown meets it.
 abbrev pub MissedRootsShowNothing : Type 0
 MissedRootsShowNothing =
-    (window : Box2) (ss : List Submission) (root : Root) → is_met window (root_extent ss root) ≡ false → turns_met window (root_turns ss root) ≡ []
+    (window : Box2) (ss : List Submission) (root : Root)
+    → is_met window (root_extent ss root) ≡ false → turns_met window (root_turns ss root) ≡ []
 
 abbrev pub MissedInstancesShowNothing : Type 0
 MissedInstancesShowNothing =
     (window : Box2) (ss : List Submission) (s : Submission) (name : List ℕ) (t : Placing)
-    → is_met window (option_map (placed_box t) (extent_of (structure_items (flats ss) s name))) ≡ false → turns_met window (entered (structure_turns (all_turns ss) s name) t) ≡ []
+    → is_met window (option_map (placed_box t) (extent_of (structure_items (flats ss) s name)))
+    ≡ false → turns_met window (entered (structure_turns (all_turns ss) s name) t) ≡ []

@@ -10,7 +10,10 @@ use Rattle.mpw_walk.specs.declared.root.Root.{Root}
 
 -- A submission where it was drawn, neither turned nor moved.
 abbrev pub unmoved_root : ℕ → Root
-unmoved_root number = record { submission = number; placing = record { orient = R0; by = record { x = pos 0; y = pos 0 } } }
+unmoved_root number = record {
+  submission = number;
+  placing = record { orient = R0; by = record { x = pos 0; y = pos 0 } };
+}
 
 -- The extent of a submission, placed.
 abbrev pub root_extent : List Submission → Root → Option Box2

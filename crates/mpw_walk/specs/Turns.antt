@@ -1,6 +1,6 @@
 -- The turns of a walk over placed submissions: one to enter each instance that shows something, with its placed extent, and one
 -- for each shape.
-use Rattle.std.specs.Prelude.{ℕ, List, [], ◌∷◌, ◌++◌, map, length, slice_index_or, Option, Some, None, option_map}
+use Rattle.std.specs.Prelude.{ℕ, List, [], ◌∷◌, ◌++◌, map, length, slice_index_or, Option, option_map}
 use Rattle.std.specs.List.{flat_map}
 use Rattle.mpw_geom.specs.declared.plane.Box2.{Box2}
 use Rattle.mpw_geom.specs.declared.placing.Placing.{Placing}
@@ -48,19 +48,23 @@ placed_turn t (give item) = give (placed_item t item)
 -- nothing has none.
 abbrev pub entered : List Turn → Placing → List Turn
 entered [] t = []
-entered (turn ∷ turns) t = map (placed_turn t) (enter (extent_of (given (turn ∷ turns))) ∷ turn ∷ turns)
+entered (turn ∷ turns) t =
+    map (placed_turn t) (enter (extent_of (given (turn ∷ turns))) ∷ turn ∷ turns)
 
 abbrev pub placed_turns : Reference → List Turn → List Turn
 placed_turns r turns = flat_map (entered turns) (instances r)
 
 -- The turns of a structure: its own shapes, and then its targets, in file order.
 abbrev pub shown_turns : ℕ → Structure → (List ℕ → List Turn) → List Turn
-shown_turns number s below = map give (own_items number s.elements) ++ flat_map (λ r. placed_turns r (below r.name)) (references s.elements)
+shown_turns number s below = map give (own_items number s.elements)
+    ++ flat_map (λ r. placed_turns r (below r.name)) (references s.elements)
 
 -- The turns of a structure of a submission behind others with these turns, and of its top.
 abbrev pub structure_turns : List (List Turn) → Submission → List ℕ → List Turn
 structure_turns before s name =
-    by_levels (shown_turns (length before)) [] (λ outside. at_number [] before (bound_number s.bound outside)) (levels_of s.library) s.library name
+    by_levels (shown_turns (length before)) []
+    (λ outside. at_number [] before (bound_number s.bound outside)) (levels_of s.library)
+    s.library name
 
 abbrev pub submission_turns : List (List Turn) → Submission → List Turn
 submission_turns before s = structure_turns before s s.top
@@ -85,12 +89,6 @@ roots_turns ss roots = flat_map (root_turns ss) roots
 pub record Walked : Type 0 where
   pub turns : ℕ
   pub left : List Turn
-
--- The first shape that turns give, and the turns behind it.
-abbrev pub first_given : List Turn → Option Item
-first_given [] = None
-first_given (enter extent ∷ turns) = first_given turns
-first_given (give item ∷ turns) = Some item
 
 abbrev pub behind_first : List Turn → List Turn
 behind_first [] = []

@@ -8,4 +8,5 @@ use Rattle.mpw_walk.specs.declared.root.Root.{Root}
 -- A root is on the shelf, and what it shows is near where it is placed.
 pub record IsRoot (ss : List Submission) (root : Root) : Type 0 where
   pub present : root.submission < length ss
-  pub near : IfSome (extent ss root.submission) (λ box. is_box_near (placed_box root.placing box) ≡ true)
+  pub near : IfSome (extent ss root.submission)
+      (λ box. is_box_near (placed_box root.placing box) ≡ true)

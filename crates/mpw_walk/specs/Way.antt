@@ -1,5 +1,5 @@
 -- The way of a walk: the structures that it has entered, the turns to come of them, and what is true on the way.
-use Rattle.std.specs.Prelude.{◌≡◌, ◌≤◌, ◌<◌, ◌+◌, ◌-◌, ◌*◌, ◌^◌, ℕ, List, [], ◌++◌, length, drop, slice_get, fold, All, Option, Some}
+use Rattle.std.specs.Prelude.{◌≡◌, ◌≤◌, ◌<◌, ◌+◌, ◌^◌, ℕ, List, ◌++◌, length, drop, slice_get, fold, All, Option, Some}
 use Rattle.mpw_geom.specs.declared.plane.Box2.{Box2}
 use Rattle.mpw_geom.specs.Plane.{IsInPlane}
 use Rattle.mpw_elements.specs.Element.{IsElement}
@@ -10,9 +10,7 @@ use Rattle.mpw_walk.specs.declared.frame.Frame.{Frame}
 use Rattle.mpw_walk.specs.declared.root.Root.{Root}
 use Rattle.mpw_walk.specs.declared.root.Placed.{Placed}
 use Rattle.mpw_walk.specs.declared.way.Way.{Way}
-use Rattle.mpw_walk.specs.declared.way.Step.{Step}
-use Rattle.mpw_walk.specs.declared.way.Step.TheVariants as steps
-use Rattle.mpw_walk.specs.Turns.{Turn, given, roots_turns, Walked, first_given, behind_first}
+use Rattle.mpw_walk.specs.Turns.{Turn, given, roots_turns, Walked}
 use Rattle.mpw_walk.specs.Window.{taken}
 use Rattle.mpw_walk.specs.Near.{IsCloseItem}
 use Rattle.mpw_walk.specs.Frames.{turns_to_come, IsFrame}
@@ -23,31 +21,28 @@ AreRead ss = All (λ (s : Submission). IsLibrary s.library) ss
 
 -- The turns to come of frames, the last one's first, and then those of the roots to come: all of them, and those that a walk takes.
 unfoldable pub left_of : List Submission → List Root → ℕ → List Frame → List Turn
-left_of ss roots root frames = fold (λ turns f. turns_to_come ss f ++ turns) (roots_turns ss (drop root roots)) frames
+left_of ss roots root frames =
+    fold (λ turns f. turns_to_come ss f ++ turns) (roots_turns ss (drop root roots)) frames
 
 abbrev pub left_in : Option Box2 → List Submission → List Root → ℕ → List Frame → List Turn
 left_in window ss roots root frames = taken window (left_of ss roots root frames)
 
 abbrev pub walked : Way → List Frame → Walked
-walked w frames = record { turns = w.turns; left = left_in w.window w.shelf.now w.roots.now w.root frames }
+walked w frames =
+    record { turns = w.turns; left = left_in w.window w.shelf.now w.roots.now w.root frames }
 
 -- The turns to come of a way.
 abbrev pub left : Way → List Turn
 left w = left_in w.window w.shelf.now w.roots.now w.root w.frames.items
 
--- What falls with each step.
-abbrev pub work_left : List Submission → List Root → ℕ → List Frame → ℕ
-work_left ss roots root frames = 2 * length (left_of ss roots root frames) + length frames + (length roots - root)
-
-abbrev pub work : Way → List Frame → ℕ
-work w frames = work_left w.shelf.now w.roots.now w.root frames
-
 -- Frames on the way down, each with fewer levels than the one before, so many turns from the beginning.
-pub record IsOnWay (window : Option Box2) (ss : List Submission) (roots : List Root) (root turns : ℕ) (frames : List Frame) : Type 0 where
+pub record IsOnWay (window : Option Box2) (ss : List Submission) (roots : List Root)
+    (root turns : ℕ) (frames : List Frame) : Type 0 where
   pub read : AreRead ss
   pub present : All (λ (root : Root). root.submission < length ss) roots
   pub begun : root ≤ length roots
-  pub each : (k : ℕ) (f : Frame) → slice_get frames k ≡ Some f → IsFrame ss f × (k + f.node.now.size.height ≤ 64)
+  pub each : (k : ℕ) (f : Frame) → slice_get frames k ≡ Some f
+      → IsFrame ss f × (k + f.node.now.size.height ≤ 64)
   pub close : All IsCloseItem (given (left_of ss roots root frames))
   pub few : turns + length (left_in window ss roots root frames) < 2 ^ 64
 
@@ -58,37 +53,10 @@ IsWay w frames = IsOnWay w.window w.shelf.now w.roots.now w.root w.turns frames
 
 -- A shape in a flat list, as it is given.
 abbrev pub item_of : Placed → Item
-item_of placed = record { origin = placed.origin; placing = placed.placing; element = placed.element.now }
-
--- A walk has gone on without giving a shape.
-pub record GoesOn (old new : Walked) : Type 0 where
-  pub first : first_given old.left ≡ first_given new.left
-  pub behind : behind_first old.left ≡ behind_first new.left
-  pub count : old.turns + length old.left ≡ new.turns + length new.left
+item_of placed =
+    record { origin = placed.origin; placing = placed.placing; element = placed.element.now }
 
 -- A shape that can be placed: an element as reading gives it, and a displacement that a caller may hand in.
 pub record IsPlaceable (placed : Placed) : Type 0 where
   pub element : IsElement placed.element.now
   pub displacement : IsInPlane placed.placing.by
-
--- A walk has given its first shape.
-pub record GivesFirst (old new : Walked) (placed : Placed) : Type 0 where
-  pub placeable : IsPlaceable placed
-  pub first : first_given old.left ≡ Some (item_of placed)
-  pub behind : behind_first old.left ≡ new.left
-  pub count : old.turns + length old.left ≡ new.turns + length new.left
-
--- A walk is at its end.
-pub record IsOver (old new : Walked) : Type 0 where
-  pub none : old.left ≡ []
-  pub same : new ≡ old
-
--- What a step did to a walk and to the work that is left.
-abbrev pub Did : Step → Walked → ℕ → Walked → ℕ → Type 0
-Did steps.On old most new less = GoesOn old new × (less < most)
-Did (steps.Given placed) old most new less = GivesFirst old new placed
-Did steps.Ended old most new less = IsOver old new
-
--- What it did to a way with these frames.
-abbrev pub Does : Step → Way → List Frame → Way → Type 0
-Does step old frames new = Did step (walked old frames) (work old frames) (walked new new.frames.items) (work new new.frames.items)

@@ -8,7 +8,8 @@ use Rattle.mpw_walk.specs.Turns.{Turn, enter, give}
 
 -- The closed boxes share a column of points and a row of points.
 unfoldable pub do_meet : Box2 → Box2 → Bool
-do_meet a b = int_le (int_max a.x0 b.x0) (int_min a.x1 b.x1) && int_le (int_max a.y0 b.y0) (int_min a.y1 b.y1)
+do_meet a b =
+    int_le (int_max a.x0 b.x0) (int_min a.x1 b.x1) && int_le (int_max a.y0 b.y0) (int_min a.y1 b.y1)
 
 -- A box meets the window. What has no box doesn't.
 abbrev pub is_met : Box2 → Option Box2 → Bool

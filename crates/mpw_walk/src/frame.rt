@@ -3,7 +3,8 @@
 ghost use Rattle.std.specs.Prelude.{◌≡◌, ◌<◌, ◌≤◌, ◌-◌, length, slice_get, slice_index, IfSome, IfNone, None};
 ghost use Rattle.mpw_hier.specs.Items.{instance, stepped};
 ghost use Rattle.mpw_hier.specs.Nodes.{AreNodes};
-ghost use Rattle.mpw_walk.specs.Frames.{IsFront, IsFrame, IsWithin, ShowsName, IsNext, IsShape, HasReference, IsNearArray, behind_instance};
+ghost use Rattle.mpw_walk.specs.Frames.{IsFrame, IsWithin};
+ghost use Rattle.mpw_walk.specs.Internal.Frames.{IsFront, ShowsName, IsNext, IsShape, HasReference, IsNearArray, behind_instance};
 
 use crate::laws::names_are_walked;
 use crate::root::Placed;

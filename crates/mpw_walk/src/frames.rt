@@ -18,7 +18,7 @@ pub struct Frames<'a> {
 }
 
 impl<'a> Model for Frames<'a> {
-    ghost use Rattle.mpw_walk.specs.Stack.{Stack, stack_of, AreFrames};
+    ghost use Rattle.mpw_walk.specs.Internal.Stack.{Stack, stack_of, AreFrames};
 
     ghost Value = { Stack };
 

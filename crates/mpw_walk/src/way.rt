@@ -6,9 +6,10 @@
 //! levels.
 
 ghost use Rattle.std.specs.Prelude.{◌≡◌, ◌≤◌, ◌<◌, ◌+◌, [], ◌∷◌, ◌++◌, length, slice_get, Some, IfSome, IfNone};
-ghost use Rattle.mpw_walk.specs.Frames.{IsNext, ShowsName};
+ghost use Rattle.mpw_walk.specs.Internal.Frames.{IsNext, ShowsName};
 ghost use Rattle.mpw_walk.specs.Turns.{given, behind_first};
-ghost use Rattle.mpw_walk.specs.Way.{IsWay, IsPlaceable, Does, left, item_of};
+ghost use Rattle.mpw_walk.specs.Way.{IsWay, IsPlaceable, left, item_of};
+ghost use Rattle.mpw_walk.specs.Internal.Way.{Does};
 ghost use Rattle.mpw_walk.specs.declared.way.Step.TheVariants as steps;
 
 use crate::frame::{Frame, instance};

@@ -7,6 +7,7 @@ pub mod PlacementLemmas
 pub mod KeyLemmas
 pub mod AskedLemmas
 mod FieldLemmas
+mod FormLemmas
 mod RowLemmas
 mod ReplyLemmas
 mod ListingLemmas

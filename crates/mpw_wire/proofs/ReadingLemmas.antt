@@ -7,15 +7,18 @@ use Rattle.std.specs.Result.{IsErrAnd}
 use Rattle.mpw_wire.specs.declared.fault.WireFault.{WireFault}
 use Rattle.mpw_wire.specs.declared.fault.WireFault.TheVariants.{Read, Write, Memory}
 use Rattle.mpw_wire.specs.declared.request.LineAsk.{LineAsk}
-use Rattle.mpw_wire.specs.Reading.{IsUnbroken, Breaks, BreaksLine, BreaksBytes, TakesSome, TakesUpTo, TakesOffer, following}
+use Rattle.mpw_wire.specs.Reading.{IsUnbroken, Breaks, TakesSome, TakesUpTo, TakesOffer, following}
+use Rattle.mpw_wire.specs.Internal.Reading.{BreaksLine, BreaksBytes}
 use Rattle.mpw_wire.specs.declared.operand.Origin.{Origin}
 use Rattle.mpw_wire.specs.Names.{name_of, ◌>>=◌}
 use Rattle.mpw_wire.specs.Request.{names_of}
 use Rattle.std.proofs.KnownBytes.{Consumes-trans}
 use Rattle.std.specs.Io.KnownBytes.{Consumes}
 
-pub Consumes-end : (old mid new : Option (List ℕ)) (bytes : List ℕ) → Consumes old mid bytes → Consumes mid new [] → Consumes old new bytes
-Consumes-end old mid new bytes p q = subst (Consumes old new) (append-nil bytes) (Consumes-trans old mid new bytes [] p q)
+pub Consumes-end : (old mid new : Option (List ℕ)) (bytes : List ℕ) → Consumes old mid bytes
+    → Consumes mid new [] → Consumes old new bytes
+Consumes-end old mid new bytes p q =
+    subst (Consumes old new) (append-nil bytes) (Consumes-trans old mid new bytes [] p q)
 
 -- the names so far, and those of the words that are left
 abbrev pub with_names : List (List ℕ) → Option (List (List ℕ)) → Option (List (List ℕ))
@@ -26,51 +29,86 @@ with_no_names None = refl
 with_no_names (Some names) = refl
 
 -- a word that is a name is the next of them
-pub names_next : (origin : Origin) (front : List (List ℕ)) (words : List (List ℕ)) (i : ℕ) (word name : List ℕ) → i < length words → get_or words i [] ≡ word → name_of origin word ≡ Some name
-    → with_names (front ++ name ∷ []) (names_of origin (drop (i + 1) words)) ≡ with_names front (names_of origin (drop i words))
+pub names_next : (origin : Origin) (front : List (List ℕ)) (words : List (List ℕ)) (i : ℕ)
+    (word name : List ℕ) → i < length words → get_or words i [] ≡ word
+    → name_of origin word ≡ Some name
+    → with_names (front ++ name ∷ []) (names_of origin (drop (i + 1) words)) ≡ with_names front
+    (names_of origin (drop i words))
 unfolding names_of
 names_next origin front words i word name lt at told =
     let more = at_drop_more (names_of origin) words i [] lt in
-    let here : names_of origin (get_or words i [] ∷ drop (i + 1) words) ≡ option_map (λ names. name ∷ names) (names_of origin (drop (i + 1) words)) =
-    ap (λ w. name_of origin w >>= λ n. option_map (λ names. n ∷ names) (names_of origin (drop (i + 1) words))) at
-    ∙ ap (λ o. o >>= λ n. option_map (λ names. n ∷ names) (names_of origin (drop (i + 1) words))) told in
-    pushed front name (names_of origin (drop (i + 1) words)) ∙ sym (ap (with_names front) (more ∙ here))
+    let here : names_of origin (get_or words i [] ∷ drop (i + 1) words)
+    ≡ option_map (λ names. name ∷ names) (names_of origin (drop (i + 1) words)) =
+    ap (λ w. name_of origin w >>= λ n. option_map (λ names. n ∷ names)
+    (names_of origin (drop (i + 1) words))) at
+    ∙ ap (λ o. o >>= λ n. option_map (λ names. n ∷ names) (names_of origin (drop (i + 1) words)))
+    told in
+    pushed front name (names_of origin (drop (i + 1) words))
+    ∙ sym (ap (with_names front) (more ∙ here))
   where
-    pushed : (front : List (List ℕ)) (name : List ℕ) (rest : Option (List (List ℕ))) → with_names (front ++ name ∷ []) rest ≡ with_names front (option_map (λ names. name ∷ names) rest)
+    pushed : (front : List (List ℕ)) (name : List ℕ) (rest : Option (List (List ℕ)))
+        → with_names (front ++ name ∷ []) rest ≡ with_names front
+        (option_map (λ names. name ∷ names) rest)
     pushed front name None = refl
     pushed front name (Some names) = ap (λ l. Some l) (append_assoc front (name ∷ []) names)
 
 -- a word that is no name leaves none
-pub names_none : (origin : Origin) (front : List (List ℕ)) (words : List (List ℕ)) (i : ℕ) (word : List ℕ) → i < length words → get_or words i [] ≡ word → name_of origin word ≡ None
+pub names_none : (origin : Origin) (front : List (List ℕ)) (words : List (List ℕ)) (i : ℕ)
+    (word : List ℕ) → i < length words → get_or words i [] ≡ word → name_of origin word ≡ None
     → with_names front (names_of origin (drop i words)) ≡ None
 unfolding names_of
 names_none origin front words i word lt at told =
     let more = at_drop_more (names_of origin) words i [] lt in
     let here : names_of origin (get_or words i [] ∷ drop (i + 1) words) ≡ None =
-    ap (λ w. name_of origin w >>= λ n. option_map (λ names. n ∷ names) (names_of origin (drop (i + 1) words))) at
-    ∙ ap (λ o. o >>= λ n. option_map (λ names. n ∷ names) (names_of origin (drop (i + 1) words))) told in
+    ap (λ w. name_of origin w >>= λ n. option_map (λ names. n ∷ names)
+    (names_of origin (drop (i + 1) words))) at
+    ∙ ap (λ o. o >>= λ n. option_map (λ names. n ∷ names) (names_of origin (drop (i + 1) words)))
+    told in
     ap (with_names front) (more ∙ here)
 
-pub unbroken_push : (line : List ℕ) (byte : ℕ) → IsUnbroken line → (byte ≡ 0x0A → ⊥) → IsUnbroken (line ++ byte ∷ [])
+pub unbroken_push : (line : List ℕ) (byte : ℕ) → IsUnbroken line → (byte ≡ 0x0A → ⊥)
+    → IsUnbroken (line ++ byte ∷ [])
 unbroken_push line byte all other = All-push (λ b. b ≢ 0x0A) line byte all other
 
 -- want of memory, handed on
-pub memory_breaks : {A : Type 0} (result : Result A WireFault) (old new : Option (List ℕ)) → IsErrAnd result (λ e. e ≡ Memory) → TakesSome old new → IfErr result (BreaksLine old new)
+pub memory_breaks : {A : Type 0} (result : Result A WireFault) (old new : Option (List ℕ))
+    → IsErrAnd result (λ e. e ≡ Memory) → TakesSome old new → IfErr result (BreaksLine old new)
 memory_breaks (Ok answer) old new h t = tt
 memory_breaks (Err e) old new h t = subst (BreaksLine old new) (sym h) t
 
 -- the same while bytes are taken
-pub memory_breaks_bytes : {A : Type 0} (result : Result A WireFault) (old new : Option (List ℕ)) (most : ℕ) → IsErrAnd result (λ e. e ≡ Memory) → TakesUpTo old new most → IfErr result (BreaksBytes old new most)
+pub memory_breaks_bytes : {A : Type 0} (result : Result A WireFault) (old new : Option (List ℕ))
+    (most : ℕ) → IsErrAnd result (λ e. e ≡ Memory) → TakesUpTo old new most
+    → IfErr result (BreaksBytes old new most)
 memory_breaks_bytes (Ok answer) old new most h t = tt
 memory_breaks_bytes (Err e) old new most h t = subst (BreaksBytes old new most) (sym h) t
 
 -- reading the bytes that are to follow a line broke off
-pub offer_breaks : {A : Type 0} (result : Result A WireFault) (fault : WireFault) (old mid new : Option (List ℕ)) (line : List ℕ) (asked : LineAsk) (most : ℕ)
-    → IsErrAnd result (λ e. e ≡ fault) → TakesOffer old mid line asked → following asked ≡ Some most → BreaksBytes mid new most fault → IfErr result (Breaks old new)
+pub offer_breaks : {A : Type 0} (result : Result A WireFault) (fault : WireFault)
+    (old mid new : Option (List ℕ)) (line : List ℕ) (asked : LineAsk) (most : ℕ)
+    → IsErrAnd result (λ e. e ≡ fault) → TakesOffer old mid line asked → following asked ≡ Some most
+    → BreaksBytes mid new most fault → IfErr result (Breaks old new)
 offer_breaks (Ok answer) fault old mid new line asked most h offer counted broken = tt
-offer_breaks (Err e) fault old mid new line asked most h offer counted broken = subst (Breaks old new) (sym h) (breaks fault broken)
+offer_breaks (Err e) fault old mid new line asked most h offer counted broken =
+    subst (Breaks old new) (sym h) (breaks fault broken)
   where
     breaks : (fault : WireFault) → BreaksBytes mid new most fault → Breaks old new fault
-    breaks Read front = inr (record { line = line; asked = asked; length_asked = most; mid = mid; offer = offer; counted = counted; front = front })
+    breaks Read front = inr (record {
+      line = line;
+      asked = asked;
+      length_asked = most;
+      mid = mid;
+      offer = offer;
+      counted = counted;
+      front = front;
+    })
     breaks Write front = absurd front
-    breaks Memory front = inr (record { line = line; asked = asked; length_asked = most; mid = mid; offer = offer; counted = counted; front = front })
+    breaks Memory front = inr (record {
+      line = line;
+      asked = asked;
+      length_asked = most;
+      mid = mid;
+      offer = offer;
+      counted = counted;
+      front = front;
+    })

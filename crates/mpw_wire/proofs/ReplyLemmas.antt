@@ -3,17 +3,18 @@ use Rattle.std.proofs.Common.{◌≡◌, [], length, refl, append_assoc}
 use Rattle.std.specs.List.{flat_map}
 use Rattle.mpw_deck.specs.declared.deck.DeckFault.{DeckFault}
 use Rattle.mpw_records.specs.declared.fault.ReadFault.{ReadFault}
-use Rattle.mpw_replies.specs.Verdicts.{verdict_of}
+use Rattle.mpw_replies.specs.FirstLines.{first_line_of}
 use Rattle.mpw_replies.specs.declared.reply.Reply.{Reply}
 use Rattle.mpw_replies.specs.declared.reply.Reply.TheVariants as reply
 use Rattle.mpw_replies.specs.declared.reply.Code.{Code}
 use Rattle.mpw_replies.specs.declared.reply.Code.TheVariants.{Read, Deck, NoTop, Cycle, NoCell, Extent, Shapes, Deep, Full, Tiles, Opened, NoRun, Unknown, Known, Used, Loop, Running, NoDeck, Empty, NotFinished, NoMarker, NoWaiver, Ended, Store, Closed}
 use Rattle.mpw_wire.specs.Reply.{listed_text, accepted_text, reply_text, IsLedBy}
 use Rattle.mpw_wire.specs.Setting.{line_feed}
-use Rattle.mpw_wire.specs.Verdict.{code_text, count_text, refused_text, refusal_of, verdict_text}
+use Rattle.mpw_wire.specs.FirstLine.{code_text, count_text, refused_text, refusal_of, first_line_text}
 
 -- that of any but a text's fault has no place
-pub refused_alone : (code : Code) → ((f : ReadFault) → code ≡ Read f → ⊥) → ((f : DeckFault) → code ≡ Deck f → ⊥) → refused_text code ≡ refusal_of (code_text code)
+pub refused_alone : (code : Code) → ((f : ReadFault) → code ≡ Read f → ⊥)
+    → ((f : DeckFault) → code ≡ Deck f → ⊥) → refused_text code ≡ refusal_of (code_text code)
 refused_alone (Read f) other another = absurd (other f refl)
 refused_alone (Deck f) other another = absurd (another f refl)
 refused_alone NoTop other another = refl
@@ -40,8 +41,12 @@ refused_alone Ended other another = refl
 refused_alone Store other another = refl
 refused_alone Closed other another = refl
 
-pub led_by_verdict : (r : Reply) → IsLedBy (verdict_text (verdict_of r)) (reply_text r)
+pub led_by_first_line : (r : Reply) → IsLedBy (first_line_text (first_line_of r)) (reply_text r)
 unfolding reply_text accepted_text
-led_by_verdict (reply.Ok lines) = (flat_map listed_text lines, append_assoc (count_text (length lines)) line_feed (flat_map listed_text lines))
-led_by_verdict (reply.Denied why) = ([], refl)
-led_by_verdict (reply.Refused why) = ([], refl)
+led_by_first_line (reply.Ok lines) = (
+  flat_map listed_text lines,
+  append_assoc (count_text (length lines)) line_feed
+      (flat_map listed_text lines),
+)
+led_by_first_line (reply.Denied why) = ([], refl)
+led_by_first_line (reply.Refused why) = ([], refl)

@@ -17,7 +17,8 @@ use Rattle.mpw_wire.specs.Names.{◌>>=◌, name_of}
 
 -- where the marker of a key lies
 abbrev pub spot_of : Key → Spot
-spot_of key = record { axis = key.axis; side = key.side; x1 = key.x1; x2 = key.x2; y0 = key.y0; y1 = key.y1 }
+spot_of key =
+    record { axis = key.axis; side = key.side; x1 = key.x1; x2 = key.x2; y0 = key.y0; y1 = key.y1 }
 
 -- where a marker lies that a request names
 abbrev pub named_spot : MarkerName → Spot
@@ -25,7 +26,15 @@ named_spot m = record { axis = m.axis; side = m.side; x1 = m.x1; x2 = m.x2; y0 =
 
 -- the marker of a rule that lies there
 abbrev pub marker_at : List ℕ → Spot → MarkerName
-marker_at rule spot = record { rule = rule; axis = spot.axis; side = spot.side; x1 = spot.x1; x2 = spot.x2; y0 = spot.y0; y1 = spot.y1 }
+marker_at rule spot = record {
+  rule = rule;
+  axis = spot.axis;
+  side = spot.side;
+  x1 = spot.x1;
+  x2 = spot.x2;
+  y0 = spot.y0;
+  y1 = spot.y1;
+}
 
 -- ---- writing
 

@@ -1,4 +1,3 @@
-pub mod Device
 pub mod Digest
 pub mod Keys
 pub mod Names
@@ -9,6 +8,7 @@ pub mod Request
 pub mod Rows
 pub mod Setting
 pub mod Stored
-pub mod Verdict
+pub mod FirstLine
 pub mod Words
 pub mod Writing
+pub mod Internal

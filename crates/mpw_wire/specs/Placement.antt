@@ -49,7 +49,8 @@ negative number = neg_ℤ (pos number)
 unfoldable pub coordinate_of : Origin → List ℕ → Option ℤ
 coordinate_of origin [] = None
 coordinate_of origin (first ∷ rest) =
-    if first == 0x2D then option_map negative (number_of 1 (farthest_below origin) rest) else option_map pos (number_of 0 (farthest_above origin) (first ∷ rest))
+    if first == 0x2D then option_map negative (number_of 1 (farthest_below origin) rest)
+    else option_map pos (number_of 0 (farthest_above origin) (first ∷ rest))
 
 -- a number of 64 bits
 abbrev pub IsSigned : ℤ → Type 0

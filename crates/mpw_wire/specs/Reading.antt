@@ -6,7 +6,6 @@ use Rattle.mpw_wire.specs.declared.fault.WireFault.{WireFault}
 use Rattle.mpw_wire.specs.declared.fault.WireFault.TheVariants.{Read, Write, Memory}
 use Rattle.mpw_wire.specs.declared.read.Asked.{Asked}
 use Rattle.mpw_wire.specs.declared.read.Asked.TheVariants as asked
-use Rattle.mpw_wire.specs.declared.line.Taken.{Taken}
 use Rattle.mpw_wire.specs.declared.line.Taken.TheVariants as taken
 use Rattle.mpw_requests.specs.declared.request.Request.{Request}
 use Rattle.mpw_requests.specs.declared.request.Request.TheVariants.{Layout, Wafer}
@@ -28,15 +27,18 @@ IsUnbroken bytes = All (λ byte. byte ≢ 0x0A) bytes
 abbrev pub TakesLine : Option (List ℕ) → Option (List ℕ) → List ℕ → Type 0
 TakesLine old new line =
     IsUnbroken line × (length line ≤ max_line)
-    × (Consumes old new (line ++ 0x0A ∷ []) ⊎ ((1 ≤ length line) × Consumes old new line × IsAtEnd new))
+    × (Consumes old new (line ++ 0x0A ∷ [])
+    ⊎ ((1 ≤ length line) × Consumes old new line × IsAtEnd new))
 
 -- more bytes than a line may have are taken off the front
 abbrev pub TakesLong : Option (List ℕ) → Option (List ℕ) → Type 0
-TakesLong old new = (front : List ℕ) × IsUnbroken front × (length front ≡ max_line + 1) × Consumes old new front
+TakesLong old new =
+    (front : List ℕ) × IsUnbroken front × (length front ≡ max_line + 1) × Consumes old new front
 
 -- bytes of a line that isn't read to its end are taken off the front
 abbrev pub TakesFront : Option (List ℕ) → Option (List ℕ) → Type 0
-TakesFront old new = (front : List ℕ) × IsUnbroken front × (length front ≤ max_line + 1) × Consumes old new front
+TakesFront old new =
+    (front : List ℕ) × IsUnbroken front × (length front ≤ max_line + 1) × Consumes old new front
 
 -- a line, or bytes of one
 abbrev pub TakesSome : Option (List ℕ) → Option (List ℕ) → Type 0
@@ -46,33 +48,17 @@ TakesSome old new = TakesFront old new ⊎ ((line : List ℕ) × TakesLine old n
 abbrev pub TakesNothing : Option (List ℕ) → Option (List ℕ) → Type 0
 TakesNothing old new = Consumes old new [] × IsAtEnd new
 
-abbrev pub Takes : Option (List ℕ) → Option (List ℕ) → Taken → Type 0
-Takes old new (taken.Line line) = TakesLine old new line.items
-Takes old new taken.Long = TakesLong old new
-Takes old new taken.End = TakesNothing old new
-
 -- ---- what follows a line
-
--- so many bytes are taken off the front
-abbrev pub TakesPayload : Option (List ℕ) → Option (List ℕ) → ℕ → List ℕ → Type 0
-TakesPayload old new length_asked payload = (length payload ≡ length_asked) × Consumes old new payload
 
 -- the input ends before so many bytes
 abbrev pub TakesTooFew : Option (List ℕ) → Option (List ℕ) → ℕ → Type 0
-TakesTooFew old new length_asked = (front : List ℕ) × (length front < length_asked) × Consumes old new front × IsAtEnd new
+TakesTooFew old new length_asked =
+    (front : List ℕ) × (length front < length_asked) × Consumes old new front × IsAtEnd new
 
 -- at most so many bytes are taken off the front
 abbrev pub TakesUpTo : Option (List ℕ) → Option (List ℕ) → ℕ → Type 0
-TakesUpTo old new length_asked = (front : List ℕ) × (length front ≤ length_asked) × Consumes old new front
-
-abbrev pub TakesBytes : Option (List ℕ) → Option (List ℕ) → ℕ → Option (List ℕ) → Type 0
-TakesBytes old new length_asked (Some payload) = TakesPayload old new length_asked payload
-TakesBytes old new length_asked None = TakesTooFew old new length_asked
-
-abbrev pub BreaksBytes : Option (List ℕ) → Option (List ℕ) → ℕ → WireFault → Type 0
-BreaksBytes old new length_asked Read = TakesUpTo old new length_asked
-BreaksBytes old new length_asked Write = ⊥
-BreaksBytes old new length_asked Memory = TakesUpTo old new length_asked
+TakesUpTo old new length_asked =
+    (front : List ℕ) × (length front ≤ length_asked) × Consumes old new front
 
 -- how many bytes follow a line that asks this
 abbrev pub following : LineAsk → Option ℕ
@@ -91,14 +77,20 @@ pub record TakesOffer (old new : Option (List ℕ)) (line : List ℕ) (asked : L
 
 -- the text of a request: its line, or the line that asks to submit, or to bring a deck, with the bytes behind it
 pub data IsText (old new : Option (List ℕ)) (line : List ℕ) : Request → Type 0 where
-  alone : {request : Request} → TakesLine old new line → ask_of line ≡ ask.Request request → IsText old new line request
-  followed : {cell top payload : List ℕ} (mid : Option (List ℕ)) → TakesOffer old mid line (ask.Submission cell top (length payload)) → Consumes mid new payload
+  alone : {request : Request} → TakesLine old new line → ask_of line ≡ ask.Request request
+      → IsText old new line request
+  followed : {cell top payload : List ℕ} (mid : Option (List ℕ))
+      → TakesOffer old mid line (ask.Submission cell top (length payload))
+      → Consumes mid new payload
       → IsText old new line (Layout (Submit cell top payload))
-  deck : {payload : List ℕ} (mid : Option (List ℕ)) → TakesOffer old mid line (ask.Deck (length payload)) → Consumes mid new payload → IsText old new line (Wafer (Deck payload))
+  deck : {payload : List ℕ} (mid : Option (List ℕ))
+      → TakesOffer old mid line (ask.Deck (length payload)) → Consumes mid new payload
+      → IsText old new line (Wafer (Deck payload))
 
 -- a line that is too long, or one behind which too much is to follow
 abbrev pub TakesTooLong : Option (List ℕ) → Option (List ℕ) → Type 0
-TakesTooLong old new = TakesLong old new ⊎ ((line : List ℕ) × TakesLine old new line × (ask_of line ≡ ask.Long))
+TakesTooLong old new =
+    TakesLong old new ⊎ ((line : List ℕ) × TakesLine old new line × (ask_of line ≡ ask.Long))
 
 -- a line that bytes are to follow, and fewer of them than it says
 pub record TakesCut (old new : Option (List ℕ)) : Type 0 where
@@ -139,12 +131,6 @@ abbrev pub Breaks : Option (List ℕ) → Option (List ℕ) → WireFault → Ty
 Breaks old new Read = BreaksRead old new
 Breaks old new Write = ⊥
 Breaks old new Memory = BreaksMemory old new
-
--- the same of a line
-abbrev pub BreaksLine : Option (List ℕ) → Option (List ℕ) → WireFault → Type 0
-BreaksLine old new Read = TakesFront old new
-BreaksLine old new Write = ⊥
-BreaksLine old new Memory = TakesSome old new
 
 -- how often the source has failed after a call with this fault: a fault of reading is a failure
 abbrev pub read_failures : Option WireFault → ℕ → ℕ

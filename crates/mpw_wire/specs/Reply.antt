@@ -12,7 +12,7 @@ use Rattle.mpw_elements.specs.declared.element.Element.TheVariants as elements
 use Rattle.mpw_markers.specs.declared.marker.Key.{Key}
 use Rattle.mpw_requests.specs.declared.sign_off.MarkerName.{MarkerName}
 use Rattle.mpw_replies.specs.Listing.{Listed, stored, shape, marker, masked, entry}
-use Rattle.mpw_replies.specs.Verdicts.{verdict_of}
+use Rattle.mpw_replies.specs.FirstLines.{first_line_of}
 use Rattle.mpw_replies.specs.declared.reply.Line.{Line}
 use Rattle.mpw_replies.specs.declared.reply.Line.TheVariants.{User, Active, Authorized, Version}
 use Rattle.mpw_replies.specs.declared.reply.Line.TheVariants as line
@@ -23,7 +23,7 @@ use Rattle.mpw_wire.specs.declared.reply.Refusal.TheVariants as refusal
 use Rattle.mpw_wire.specs.Keys.{spot_of, key_text, marker_key}
 use Rattle.mpw_wire.specs.Rows.{entry_text}
 use Rattle.mpw_wire.specs.Setting.{line_feed}
-use Rattle.mpw_wire.specs.Verdict.{count_text, denial_text, refused_text, refusal_of, verdict_text}
+use Rattle.mpw_wire.specs.FirstLine.{count_text, denial_text, refused_text, refusal_of, first_line_text}
 
 -- a line of a word and a name
 abbrev pub named_text : List ℕ → List ℕ → List ℕ
@@ -35,11 +35,13 @@ numbered_text word number = concat (word ∷ decimal number ∷ line_feed ∷ []
 
 -- the line of a run that checks tiles: its number, how many are checked, and how many there are
 abbrev pub checking_text : ℕ → ℕ → ℕ → List ℕ
-checking_text run done total = concat (codes "checking " ∷ decimal run ∷ codes " " ∷ decimal done ∷ codes " " ∷ decimal total ∷ line_feed ∷ [])
+checking_text run done total = concat (codes "checking " ∷ decimal run ∷ codes " " ∷ decimal done
+    ∷ codes " " ∷ decimal total ∷ line_feed ∷ [])
 
 -- the line of a cell: its name, the version of its present submission, and who submitted it
 abbrev pub cell_text : List ℕ → ℕ → List ℕ → List ℕ
-cell_text cell version submitter = concat (cell ∷ codes " " ∷ decimal version ∷ codes " " ∷ submitter ∷ line_feed ∷ [])
+cell_text cell version submitter =
+    concat (cell ∷ codes " " ∷ decimal version ∷ codes " " ∷ submitter ∷ line_feed ∷ [])
 
 -- what stands behind the key of a marker for which a waiver was asked, and of one whose waiver is signed
 abbrev pub asked_part : List ℕ → List ℕ
@@ -88,7 +90,8 @@ shape_end placing points = points_text placing points ++ line_feed
 -- how the line of a boundary begins: the cell and the version that it comes from, and its layer and datatype
 abbrev pub boundary_head : List ℕ → ℕ → Layer → List ℕ
 boundary_head cell version layer =
-    concat (cell ∷ codes " " ∷ decimal version ∷ codes " " ∷ decimal layer.layer ∷ codes "/" ∷ decimal layer.datatype ∷ codes " boundary" ∷ [])
+    concat (cell ∷ codes " " ∷ decimal version ∷ codes " " ∷ decimal layer.layer ∷ codes "/"
+    ∷ decimal layer.datatype ∷ codes " boundary" ∷ [])
 
 -- that of a path, with its width, and how far it is lengthened at its begin and its end, in nm
 abbrev pub path_head : List ℕ → ℕ → Path → List ℕ
@@ -112,8 +115,10 @@ path_head cell version p =
 -- the line of a shape: a boundary with its corners in file order, without the closing point, or a path with the points of its centre
 -- line, each point where the placing takes it. A reference is no shape
 unfoldable pub shape_text : List ℕ → ℕ → Placing → Element → List ℕ
-shape_text cell version placing (elements.Boundary b) = boundary_head cell version b.layer ++ shape_end placing b.points
-shape_text cell version placing (elements.Path p) = path_head cell version p ++ shape_end placing p.points
+shape_text cell version placing (elements.Boundary b) =
+    boundary_head cell version b.layer ++ shape_end placing b.points
+shape_text cell version placing (elements.Path p) =
+    path_head cell version p ++ shape_end placing p.points
 shape_text cell version placing (elements.Reference r) = []
 
 -- a cell that a marker meets, behind a space
@@ -130,7 +135,8 @@ marker_text rule key cells = key_text rule (spot_of key) ++ met_text cells
 
 -- the line of a rule with masked markers, and how many they are
 abbrev pub masked_text : List ℕ → ℕ → List ℕ
-masked_text rule number = concat (codes "masked " ∷ rule ∷ codes " " ∷ decimal number ∷ line_feed ∷ [])
+masked_text rule number =
+    concat (codes "masked " ∷ rule ∷ codes " " ∷ decimal number ∷ line_feed ∷ [])
 
 -- a line, as it is kept
 abbrev pub listed_text : Listed → List ℕ
@@ -161,10 +167,10 @@ reply_text (reply.Refused code) = refused_text code ++ line_feed
 
 -- ---- what the trail tells of a reply
 
--- the text begins with what the verdict says, and a line feed
+-- the text begins with what the first line says, and a line feed
 abbrev pub IsLedBy : List ℕ → List ℕ → Type 0
 IsLedBy first text = (rest : List ℕ) × (text ≡ first ++ (line_feed ++ rest))
 
 -- what the trail tells of a request is the first line of its reply
-abbrev pub AreLedByVerdicts : Type 0
-AreLedByVerdicts = (r : Reply) → IsLedBy (verdict_text (verdict_of r)) (reply_text r)
+abbrev pub AreLedByFirstLines : Type 0
+AreLedByFirstLines = (r : Reply) → IsLedBy (first_line_text (first_line_of r)) (reply_text r)

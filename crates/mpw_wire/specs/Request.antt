@@ -114,7 +114,8 @@ pair_of origin first second = do
 -- names, one a word
 unfoldable pub names_of : Origin → List (List ℕ) → Option (List (List ℕ))
 names_of origin [] = Some []
-names_of origin (word ∷ words) = name_of origin word >>= λ name. option_map (λ names. name ∷ names) (names_of origin words)
+names_of origin (word ∷ words) =
+    name_of origin word >>= λ name. option_map (λ names. name ∷ names) (names_of origin words)
 
 -- a set of roles of which nobody may have that many: its name, that number and the roles, where they have the form of one
 unfoldable pub set_of : Origin → List ℕ → List ℕ → List (List ℕ) → Option SeparationSet
@@ -177,23 +178,31 @@ request_of_one origin verb word =
 -- those of a verb and two words
 unfoldable pub request_of_two : Origin → List ℕ → List ℕ → List ℕ → Option PolicyRequest
 request_of_two origin verb first second =
-    if name_eq verb (codes "open") then option_map (λ login. Open login.0 login.1) (login_of origin first second)
-    else if name_eq verb (codes "adduser") then option_map (λ login. AddUser login.0 login.1) (login_of origin first second)
-    else if name_eq verb (codes "assign") then option_map (λ pair. Assign pair.0 pair.1) (pair_of origin first second)
-    else if name_eq verb (codes "deassign") then option_map (λ pair. Deassign pair.0 pair.1) (pair_of origin first second)
-    else if name_eq verb (codes "inherit") then option_map (λ pair. Inherit pair.0 pair.1) (pair_of origin first second)
-    else if name_eq verb (codes "uninherit") then option_map (λ pair. Uninherit pair.0 pair.1) (pair_of origin first second)
+    if name_eq verb (codes "open") then option_map (λ login. Open login.0 login.1)
+    (login_of origin first second)
+    else if name_eq verb (codes "adduser") then option_map (λ login. AddUser login.0 login.1)
+    (login_of origin first second)
+    else if name_eq verb (codes "assign") then option_map (λ pair. Assign pair.0 pair.1)
+    (pair_of origin first second)
+    else if name_eq verb (codes "deassign") then option_map (λ pair. Deassign pair.0 pair.1)
+    (pair_of origin first second)
+    else if name_eq verb (codes "inherit") then option_map (λ pair. Inherit pair.0 pair.1)
+    (pair_of origin first second)
+    else if name_eq verb (codes "uninherit") then option_map (λ pair. Uninherit pair.0 pair.1)
+    (pair_of origin first second)
     else None
 
 -- those of a verb and three words
 unfoldable pub request_of_three : Origin → List ℕ → List ℕ → List ℕ → List ℕ → Option PolicyRequest
 request_of_three origin verb operation object role =
     if name_eq verb (codes "grant") then option_map Grant (grant_of origin operation object role)
-    else if name_eq verb (codes "revoke") then option_map Revoke (grant_of origin operation object role)
+    else if name_eq verb (codes "revoke")
+    then option_map Revoke (grant_of origin operation object role)
     else None
 
 -- those of a verb, a set's name and cardinality, and two roles or more
-unfoldable pub request_of_more : Origin → List ℕ → List ℕ → List ℕ → List (List ℕ) → Option PolicyRequest
+unfoldable pub request_of_more : Origin → List ℕ → List ℕ → List ℕ → List (List ℕ)
+    → Option PolicyRequest
 request_of_more origin verb name cardinality roles =
     if name_eq verb (codes "ssd") then option_map Ssd (set_of origin name cardinality roles)
     else if name_eq verb (codes "dsd") then option_map Dsd (set_of origin name cardinality roles)
@@ -239,7 +248,8 @@ submission_to origin (Some cell) (Some top) length = offered origin (ask.Submiss
 
 -- to submit a cell with a structure, and how many bytes follow
 unfoldable pub submission_of : Origin → List ℕ → List ℕ → List ℕ → LineAsk
-submission_of origin cell top length = submission_to origin (name_of origin cell) (name_of origin top) length
+submission_of origin cell top length =
+    submission_to origin (name_of origin cell) (name_of origin top) length
 
 -- to bring a deck, of which so many bytes follow
 unfoldable pub deck_of : Origin → List ℕ → LineAsk
@@ -248,27 +258,33 @@ deck_of origin length = offered origin ask.Deck length
 -- what a verb and one word ask
 unfoldable pub ask_of_one : Origin → List ℕ → List ℕ → LineAsk
 ask_of_one origin verb word =
-    if name_eq verb (codes "shapes") then asked (option_map (λ cell. Layout (Shapes cell)) (name_of origin word))
+    if name_eq verb (codes "shapes") then asked
+    (option_map (λ cell. Layout (Shapes cell)) (name_of origin word))
     else if name_eq verb (codes "deck") then deck_of origin word
-    else if name_eq verb (codes "waive") then asked_sign_off (option_map sign_off.Waive (key_of origin word))
-    else if name_eq verb (codes "sign") then asked_sign_off (option_map sign_off.Sign (key_of origin word))
+    else if name_eq verb (codes "waive")
+    then asked_sign_off (option_map sign_off.Waive (key_of origin word))
+    else if name_eq verb (codes "sign")
+    then asked_sign_off (option_map sign_off.Sign (key_of origin word))
     else asked_policy (request_of_one origin verb word)
 
 -- what a verb and two words ask
 unfoldable pub ask_of_two : Origin → List ℕ → List ℕ → List ℕ → LineAsk
 ask_of_two origin verb first second =
-    if name_eq verb (codes "unplace") then asked_wafer (option_map (λ names. wafer.Unplace names.0 names.1) (pair_of origin first second))
+    if name_eq verb (codes "unplace") then asked_wafer
+    (option_map (λ names. wafer.Unplace names.0 names.1) (pair_of origin first second))
     else asked_policy (request_of_two origin verb first second)
 
 -- what a verb and three words ask
 unfoldable pub ask_of_three : Origin → List ℕ → List ℕ → List ℕ → List ℕ → LineAsk
 ask_of_three origin verb first second third =
-    if name_eq verb (codes "submit") then submission_of origin first second third else asked_policy (request_of_three origin verb first second third)
+    if name_eq verb (codes "submit") then submission_of origin first second third
+    else asked_policy (request_of_three origin verb first second third)
 
 -- what a verb and four words or more ask
 unfoldable pub ask_of_more : Origin → List ℕ → List ℕ → List ℕ → List (List ℕ) → LineAsk
 ask_of_more origin verb first second rest =
-    if name_eq verb (codes "place") then asked_wafer (placement_of origin first second rest) else asked_policy (request_of_more origin verb first second rest)
+    if name_eq verb (codes "place") then asked_wafer (placement_of origin first second rest)
+    else asked_policy (request_of_more origin verb first second rest)
 
 -- what the words of a line ask
 abbrev pub ask_by : Origin → List (List ℕ) → LineAsk

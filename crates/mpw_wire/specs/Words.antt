@@ -1,9 +1,7 @@
 -- The words of a line.
-use Rattle.std.specs.Prelude.{◌≡◌, ◌≤◌, ◌&&◌, ℕ, Bool, nat_le, List, [], ◌∷◌, length}
+use Rattle.std.specs.Prelude.{◌&&◌, ℕ, Bool, nat_le, List, length}
 use Rattle.std.specs.List.{list_all}
 use Rattle.mpw_text.specs.Text.{words_of}
-use Rattle.mpw_wire.specs.declared.words.Arguments.{Arguments}
-use Rattle.mpw_wire.specs.declared.words.Arguments.TheVariants.{Zero, One, Two, Three, More}
 
 -- the words of a line are what its spaces part: two spaces have an empty word between them
 unfoldable pub words : List ℕ → List (List ℕ)
@@ -15,12 +13,5 @@ is_visible byte = nat_le 0x21 byte && nat_le byte 0x7E
 
 -- whether a word is 1 to 255 bytes of 21 to 7E hex
 unfoldable pub is_visible_word : List ℕ → Bool
-is_visible_word word = nat_le 1 (length word) && (nat_le (length word) 255 && list_all is_visible word)
-
--- which words the arguments of a request are
-abbrev pub AreArguments : Arguments → List (List ℕ) → Type 0
-AreArguments Zero words = words ≡ []
-AreArguments (One first) words = words ≡ first.now ∷ []
-AreArguments (Two first second) words = words ≡ first.now ∷ second.now ∷ []
-AreArguments (Three first second third) words = words ≡ first.now ∷ second.now ∷ third.now ∷ []
-AreArguments (More first second rest) line_words = (line_words ≡ first.now ∷ second.now ∷ words rest.now) × (2 ≤ length (words rest.now))
+is_visible_word word =
+    nat_le 1 (length word) && (nat_le (length word) 255 && list_all is_visible word)

@@ -7,7 +7,7 @@ ghost use Rattle.std.specs.Prelude.{◌≡◌, ℕ, Bool, true, false, List, ◌
 ghost use Rattle.std.specs.Io.KnownBytes.{Keeps, ReadConsumes, WriteAppends};
 ghost use Rattle.std.specs.Io.Iter.{u64_saturate};
 ghost use Rattle.std.specs.Io.{ReadsAtMost, WritesAtMost};
-ghost use Rattle.mpw_wire.specs.Device.{GivesByte, failures_after};
+ghost use Rattle.mpw_wire.specs.Internal.Device.{GivesByte, failures_after};
 
 use std::io;
 use std::io::{ErrorKind, Read, Write};

@@ -1,9 +1,12 @@
 //! The forms of requests: a verb, and how many words stand behind it.
-ghost use Rattle.std.specs.Prelude.{◌≡◌, IfOk};
+ghost use Rattle.std.specs.Prelude.{◌≡◌, ℕ, List, IfOk, Some};
+ghost use Rattle.mpw_wire.specs.Names.{name_of};
+ghost use Rattle.mpw_wire.specs.declared.operand.Origin.{Origin};
 ghost use Rattle.mpw_wire.specs.Request.{bare_request, request_of_one, request_of_two, request_of_three, request_of_more};
 ghost use Rattle.mpw_wire.specs.Words.{words};
 
 use crate::operand::{Origin, grant, is, login, name, pair, set};
+use mpw_geom::Name;
 use mpw_requests::{LayoutRequest, PolicyRequest, Request, RunRequest, SignOffRequest};
 use std::alloc::{AllocError, Global};
 
@@ -37,8 +40,32 @@ pub(crate) fn bare(verb: &[u8]) -> Option<Request>
     }
 }
 
-/// The requests of the policy of a verb and one name.
+/// The request of the policy of a verb and a name.
 #[tactic(auto, unfolding(crate::specs::Request::request_of_one))]
+fn of_name(verb: &[u8], name: Name) -> Option<PolicyRequest>
+    ensures { (origin : Origin) (word : List ℕ) → name_of origin word ≡ Some name → result ≡ request_of_one origin verb.now word }
+{
+    if is(verb, "activate") {
+        Some(PolicyRequest::Activate { role: name })
+    } else if is(verb, "drop") {
+        Some(PolicyRequest::DropRole { role: name })
+    } else if is(verb, "deluser") {
+        Some(PolicyRequest::DelUser { user: name })
+    } else if is(verb, "addrole") {
+        Some(PolicyRequest::AddRole { role: name })
+    } else if is(verb, "delrole") {
+        Some(PolicyRequest::DelRole { role: name })
+    } else if is(verb, "unssd") {
+        Some(PolicyRequest::UnSsd { name })
+    } else if is(verb, "undsd") {
+        Some(PolicyRequest::UnDsd { name })
+    } else {
+        None
+    }
+}
+
+/// The requests of the policy of a verb and one name.
+#[tactic(auto, using(crate::proofs::FormLemmas::unnamed))]
 pub(crate) fn of_one(
     alloc: Global,
     origin: Origin,
@@ -47,22 +74,9 @@ pub(crate) fn of_one(
 ) -> Result<Option<PolicyRequest>, AllocError>
     ensures { IfOk result (λ request. request ≡ request_of_one origin verb.now word.now) }
 {
-    if is(verb, "activate") {
-        Ok(name(alloc, origin, word)?.map(|role| PolicyRequest::Activate { role }))
-    } else if is(verb, "drop") {
-        Ok(name(alloc, origin, word)?.map(|role| PolicyRequest::DropRole { role }))
-    } else if is(verb, "deluser") {
-        Ok(name(alloc, origin, word)?.map(|user| PolicyRequest::DelUser { user }))
-    } else if is(verb, "addrole") {
-        Ok(name(alloc, origin, word)?.map(|role| PolicyRequest::AddRole { role }))
-    } else if is(verb, "delrole") {
-        Ok(name(alloc, origin, word)?.map(|role| PolicyRequest::DelRole { role }))
-    } else if is(verb, "unssd") {
-        Ok(name(alloc, origin, word)?.map(|name| PolicyRequest::UnSsd { name }))
-    } else if is(verb, "undsd") {
-        Ok(name(alloc, origin, word)?.map(|name| PolicyRequest::UnDsd { name }))
-    } else {
-        Ok(None)
+    match name(alloc, origin, word)? {
+        Some(name) => Ok(of_name(verb, name)),
+        None => Ok(None),
     }
 }
 

@@ -4,7 +4,7 @@
 ghost use Rattle.std.specs.Prelude.{◌≡◌, Some, None, IfOk, IfSome, IfNone};
 ghost use Rattle.mpw_text.specs.Text.{number_of};
 ghost use Rattle.mpw_wire.specs.Keys.{spot_of, named_spot, axis_text, key_text, marker_key, cut_last, axis_of, greatest_side, last_coordinate, last_side, last_axis, last_spot, key_of};
-ghost use Rattle.mpw_wire.specs.Setting.{set_text};
+ghost use Rattle.mpw_wire.specs.Internal.Setting.{set_text};
 ghost use Rattle.mpw_wire.specs.Writing.{Writes};
 
 use crate::operand::{Origin, is, name};

@@ -1,6 +1,7 @@
 //! Lines: bytes up to a line feed or up to the end of the input.
 ghost use Rattle.std.specs.Prelude.{◌≡◌, IfOk, IfErr, option_map};
-ghost use Rattle.mpw_wire.specs.Reading.{Takes, BreaksLine, TakesBytes, BreaksBytes, read_failures};
+ghost use Rattle.mpw_wire.specs.Reading.{read_failures};
+ghost use Rattle.mpw_wire.specs.Internal.Reading.{Takes, BreaksLine, TakesBytes, BreaksBytes};
 ghost use Rattle.mpw_wire.specs.Writing.{fault_of};
 
 use crate::{Source, WireFault};

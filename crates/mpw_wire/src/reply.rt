@@ -1,15 +1,15 @@
 //! The text of replies.
 ghost use Rattle.std.specs.Prelude.{◌≡◌, IfOk, false};
 ghost use Rattle.std.specs.List.{flat_map};
-ghost use Rattle.mpw_wire.specs.Reply.{line_text, listed_text, accepted_text, refusal_words, refusal_text, reply_text, AreLedByVerdicts};
+ghost use Rattle.mpw_wire.specs.Reply.{line_text, listed_text, accepted_text, refusal_words, refusal_text, reply_text, AreLedByFirstLines};
 ghost use Rattle.mpw_wire.specs.Writing.{Writes};
 
+use crate::first_line::{write_code, write_count, write_denial};
 use crate::markers::write_markers;
 use crate::reply_line::write_line;
 use crate::setting::{Setting, write_set};
 use crate::shape::write_shapes;
 use crate::trail::write_trail;
-use crate::verdict::{write_code, write_count, write_denial};
 use crate::write::flush;
 use crate::{Sink, WireFault};
 use mpw_replies::{Kept, Line, Lines, Reply};
@@ -107,6 +107,6 @@ pub fn write_reply<W: Sink>(reply: &Reply, writer: &mut W) -> Result<(), WireFau
 }
 
 /// The text of a reply begins with what the trail tells of its request, and a line feed.
-pub fn replies_begin_with_their_verdicts()
-    ensures { AreLedByVerdicts }
+pub fn replies_begin_with_their_first_lines()
+    ensures { AreLedByFirstLines }
 {}

@@ -4,7 +4,8 @@
 ghost use Rattle.std.specs.Prelude.{◌≡◌, ◌++◌};
 ghost use Rattle.std.specs.List.{flat_map, list_any};
 ghost use Rattle.csv.specs.Writing.{default_writer, escaped, field_text, needs_quotes, quoted};
-ghost use Rattle.mpw_wire.specs.Setting.{line_feed, next_field, set_text};
+ghost use Rattle.mpw_wire.specs.Setting.{line_feed};
+ghost use Rattle.mpw_wire.specs.Internal.Setting.{next_field, set_text};
 ghost use Rattle.mpw_wire.specs.Writing.{Writes};
 
 use crate::write::{write_bytes, write_parts};

@@ -1,7 +1,8 @@
 //! The words of a line: what its spaces part.
 ghost use Rattle.std.specs.Prelude.{◌≡◌, ◌==◌, [], ◌∷◌, position};
 ghost use Rattle.std.specs.Option.{option_map_or};
-ghost use Rattle.mpw_wire.specs.Words.{words, AreArguments};
+ghost use Rattle.mpw_wire.specs.Words.{words};
+ghost use Rattle.mpw_wire.specs.Internal.Words.{AreArguments};
 
 /// The words after the first of a line.
 pub(crate) enum Arguments<'a> {

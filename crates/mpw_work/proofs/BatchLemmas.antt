@@ -5,7 +5,8 @@ use lib.Seq.{take-add}
 
 -- what comes of a front and of the batch behind it comes of the longer front
 pub front_grows : {X Y : Type 0} (f : X → Y) (xs more : List X) (ys : List Y) (from to : ℕ)
-    → from ≤ to → map f xs ≡ take from ys → map f more ≡ slice_range ys from to → map f (xs ++ more) ≡ take to ys
+    → from ≤ to → map f xs ≡ take from ys → map f more ≡ slice_range ys from to
+    → map f (xs ++ more) ≡ take to ys
 front_grows f xs more ys from to le before batch =
     let whole : from + (to - from) ≡ to = omega arith in
     map-append f xs more ∙ ap (λ l. l ++ map f more) before ∙ ap (λ l. take from ys ++ l) batch

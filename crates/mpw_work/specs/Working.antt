@@ -1,8 +1,8 @@
--- How a run is worked off: its snapshot is cut, the jobs of its tiles are done in one batch, and what comes of them is handed to the
--- desk in order. Want of memory ends it at any place, and leaves the run as it stands.
-use Rattle.std.specs.Prelude.{◌≡◌, ℕ, Bool, true, false, List, [], ◌∷◌, map, Option, None, Some, IfSome, ◌&&◌}
+-- How a run is worked off: its snapshot is cut, the jobs of its tiles are done, and what comes of them is handed to the desk
+-- in order. Want of memory ends it at any place, and leaves the run as it stands.
+use Rattle.std.specs.Prelude.{◌≡◌, ℕ, Bool, true, false, List, [], ◌∷◌, map, Option, None, Some, ◌&&◌}
 use Rattle.std.specs.List.{range_with_len}
-use Rattle.mpw_core.specs.History.{KeptDesk, IsHandled, restarts}
+use Rattle.mpw_core.specs.History.{KeptDesk, IsHandled}
 use Rattle.mpw_core.specs.declared.event.Event.{Event}
 use Rattle.mpw_core.specs.declared.event.Event.TheVariants as event
 use Rattle.mpw_core.specs.declared.event.Response.{Response}
@@ -65,10 +65,6 @@ is_over (Some response) = ends response
 
 -- ---- tiles
 
--- The event is of the run, and no restart.
-abbrev pub IsOfRun : Event → Type 0
-IsOfRun e = restarts e ≡ false
-
 -- The event is handed to the desk. Whether nothing more is handed in behind it.
 pub record HandsOver (d : KeptDesk) (e : Event) (over : Bool) (d' : KeptDesk) : Type 0 where
   pub came : Option Response
@@ -77,13 +73,16 @@ pub record HandsOver (d : KeptDesk) (e : Event) (over : Bool) (d' : KeptDesk) : 
 
 -- The desk is called for a job, and then handed what came of a tile's. Whether that was all.
 pub data HandsTile (d : KeptDesk) (tile : Event) : Bool → KeptDesk → Type 0 where
-  uncalled : (d' : KeptDesk) → HandsOver d (event.Take own_worker) true d' → HandsTile d tile true d'
-  handed : (over : Bool) (d' d'' : KeptDesk) → HandsOver d (event.Take own_worker) false d' → HandsOver d' tile over d'' → HandsTile d tile over d''
+  uncalled : (d' : KeptDesk) → HandsOver d (event.Take own_worker) true d'
+      → HandsTile d tile true d'
+  handed : (over : Bool) (d' d'' : KeptDesk) → HandsOver d (event.Take own_worker) false d'
+      → HandsOver d' tile over d'' → HandsTile d tile over d''
 
 -- One tile after the other, up to the last that is handed in.
 pub data HandsTiles : KeptDesk → List Event → KeptDesk → Type 0 where
   none : (d : KeptDesk) → HandsTiles d [] d
-  last : (d : KeptDesk) (tile : Event) (rest : List Event) (d' : KeptDesk) → HandsTile d tile true d' → HandsTiles d (tile ∷ rest) d'
+  last : (d : KeptDesk) (tile : Event) (rest : List Event) (d' : KeptDesk)
+      → HandsTile d tile true d' → HandsTiles d (tile ∷ rest) d'
   next : (d : KeptDesk) (tile : Event) (rest : List Event) (d' d'' : KeptDesk)
       → HandsTile d tile false d' → HandsTiles d' rest d'' → HandsTiles d (tile ∷ rest) d''
 
@@ -93,7 +92,8 @@ job_at snapshot plan windows run tile = jobs.Tile (task_of snapshot plan windows
 
 abbrev pub jobs_by : CutWindows → Option Tiling → List Job
 jobs_by a None = []
-jobs_by a (Some plan) = map (job_at a.job.snapshot plan a.windows a.job.run) (range_with_len 0 (tiles plan))
+jobs_by a (Some plan) =
+    map (job_at a.job.snapshot plan a.windows a.job.run) (range_with_len 0 (tiles plan))
 
 abbrev pub jobs_of : CutWindows → List Job
 jobs_of a = jobs_by a (plan_for a.job.snapshot)
@@ -153,7 +153,8 @@ was_kept None = false
 was_kept (Some response) = is_kept response
 
 -- The windows are handed to the desk. Whether they were kept.
-pub record HandsCut (d : KeptDesk) (job : CutJob) (a : CutWindows) (kept : Bool) (d' : KeptDesk) : Type 0 where
+pub record HandsCut (d : KeptDesk) (job : CutJob) (a : CutWindows) (kept : Bool) (d' : KeptDesk) :
+    Type 0 where
   pub came : Option Response
   pub handled : CameOf d (event.Cut a) came d'
   pub keeps : was_kept came ≡ kept
@@ -162,26 +163,24 @@ pub record HandsCut (d : KeptDesk) (job : CutJob) (a : CutWindows) (kept : Bool)
 -- The jobs of all tiles are done, and what came of them is handed in; or a job finds no memory.
 pub data WorksTiles (d : KeptDesk) (a : CutWindows) : KeptDesk → Type 0 where
   unworked : WorksTiles d a d
-  worked : (events : List Event) (d' : KeptDesk) → IsDone a events → HandsTiles d events d' → WorksTiles d a d'
+  worked : (events : List Event) (d' : KeptDesk) → IsDone a events → HandsTiles d events d'
+      → WorksTiles d a d'
 
 -- The snapshot is cut, the windows are handed in, and where they are kept the jobs of all tiles are done and handed in. Where a job
 -- finds no memory the run stays as it stands.
 pub data WorksCut (d : KeptDesk) (job : CutJob) : KeptDesk → Type 0 where
   uncut : WorksCut d job d
   unkept : (a : CutWindows) (d' : KeptDesk) → HandsCut d job a false d' → WorksCut d job d'
-  kept : (a : CutWindows) (d' d'' : KeptDesk) → HandsCut d job a true d' → WorksTiles d' a d'' → WorksCut d job d''
+  kept : (a : CutWindows) (d' d'' : KeptDesk) → HandsCut d job a true d' → WorksTiles d' a d''
+      → WorksCut d job d''
 
 -- The desk is called for a job; where that is to cut, the run is worked off.
 pub data WorksOff (d : KeptDesk) : KeptDesk → Type 0 where
-  uncalled : (call : Option Response) (d' : KeptDesk) → CameOf d (event.Take own_worker) call d' → cut_called call ≡ None → WorksOff d d'
+  uncalled : (call : Option Response) (d' : KeptDesk) → CameOf d (event.Take own_worker) call d'
+      → cut_called call ≡ None → WorksOff d d'
   called : (call : Option Response) (job : CutJob) (d' d'' : KeptDesk)
-      → CameOf d (event.Take own_worker) call d' → cut_called call ≡ Some job → WorksCut d' job d'' → WorksOff d d''
-
--- What a call for a job came to, and the job of cutting that is taken from it; none where there is none, or memory is wanting.
-pub record CallsFor (d : KeptDesk) (job : Option CutJob) (d' : KeptDesk) : Type 0 where
-  pub call : Option Response
-  pub handled : CameOf d (event.Take own_worker) call d'
-  pub taken : IfSome job (λ j. cut_called call ≡ Some j)
+      → CameOf d (event.Take own_worker) call d' → cut_called call ≡ Some job → WorksCut d' job d''
+      → WorksOff d d''
 
 -- ---- behind which replies
 

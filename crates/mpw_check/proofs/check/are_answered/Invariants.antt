@@ -1,6 +1,6 @@
 use Rattle.std.proofs.Common.{take}
 use Rattle.std.specs.Prelude.{All}
-use Rattle.mpw_check.specs.Tiled.{IsAnswered}
+use Rattle.mpw_check.specs.Internal.Tiled.{IsAnswered}
 use Rattle.mpw_check.proofs.check.are_answered.Given as goal
 
 abbrev pub invariant-loop-answer : goal.invariant-loop-answer

@@ -1,5 +1,5 @@
 use Rattle.std.proofs.Common.{◌≡◌, map, take}
-use Rattle.mpw_check.specs.Tiled.{markers_in}
+use Rattle.mpw_check.specs.Internal.Tiled.{markers_in}
 use Rattle.mpw_check.proofs.check.lists_of.Given as goal
 
 abbrev pub invariant-loop-answer : goal.invariant-loop-answer

@@ -10,6 +10,8 @@ put-requires-clause-bound c =
 
 pub returns-in-Err-clause-faults : goal.returns-in-Err-clause-faults
 returns-in-Err-clause-faults c =
-    let whole = subst (λ names. AreExternals c.args.library c.args.top.now names) c.requires.whole c.requires.outline.externals in
-    refused-from-empty c.new-shelf.result c.in_ok-submission.submission c.args.top.now c.args.library c.in-Err.fault
+    let whole = subst (λ names. AreExternals c.args.library c.args.top.now names) c.requires.whole
+    c.requires.outline.externals in
+    refused-from-empty c.new-shelf.result c.in_ok-submission.submission c.args.top.now
+    c.args.library c.in-Err.fault
     c.new-shelf.ensures c.in_ok-submission.ensures whole c.in-Err.ensures.faults

@@ -8,8 +8,18 @@ loop-run-init c = HasAdded-none c.args.window.now c.args.boxes.now.items
 
 pub loop-run-preserved : goal.loop-run-preserved
 loop-run-preserved c =
-    subst (λ (bs : List Box2). HasAdded c.args.window.now c.args.boxes.now.items bs (take (c.loop-run.run-index + 1) c.args.runs.now)) (sym c.in_ok-push.ensures.items) (HasAdded-push c.args.window.now c.args.boxes.now.items c.loop-run.boxes.items c.args.runs.now c.loop-run.run-index c.across.result c.loop-run-test.true c.loop-run.invariant
-    (record { left = c.across.ensures.left; right = c.across.ensures.right; from = c.across.ensures.from; to = c.across.ensures.to }))
+    subst (λ (bs : List Box2). HasAdded c.args.window.now c.args.boxes.now.items bs
+    (take (c.loop-run.run-index + 1) c.args.runs.now)) (sym c.in_ok-push.ensures.items)
+    (HasAdded-push c.args.window.now c.args.boxes.now.items c.loop-run.boxes.items
+    c.args.runs.now c.loop-run.run-index c.across.result c.loop-run-test.true
+    c.loop-run.invariant
+    (record {
+      left = c.across.ensures.left;
+      right = c.across.ensures.right;
+      from = c.across.ensures.from;
+      to = c.across.ensures.to;
+    }))
 
 pub returns : goal.returns
-returns c = (HasAdded-end c.args.window.now c.args.boxes.now.items c.loop-run.boxes.items c.args.runs.now c.loop-run.run-index c.loop-run-test.false c.loop-run.invariant).squares
+returns c = (HasAdded-end c.args.window.now c.args.boxes.now.items c.loop-run.boxes.items
+    c.args.runs.now c.loop-run.run-index c.loop-run-test.false c.loop-run.invariant).squares

@@ -3,4 +3,5 @@ use Rattle.mpw_checks.proofs.Rows.{HasAdded}
 use Rattle.mpw_checks.proofs.across.add_across.Given as goal
 
 abbrev pub invariant-loop-run : goal.invariant-loop-run
-invariant-loop-run l = HasAdded l.window l.initial.boxes.items l.boxes.items (take l.run-index l.runs)
+invariant-loop-run l =
+    HasAdded l.window l.initial.boxes.items l.boxes.items (take l.run-index l.runs)

@@ -6,8 +6,10 @@ use Rattle.mpw_checks.proofs.cells.+add_core.Goals as goal
 pub returns : goal.returns
 returns t c =
     on_ok_weaker c.add_core-2.result
-    (λ h. AddsStrips-halves c.args.distance c.args.strips.now.items c.add_core.new.strips.items c.add_core-2.new.strips.items c.args.layers.now.first.items c.args.layers.now.second.items
-    c.in_ok-low.low.first.items c.in_ok-low.low.second.items c.in_ok-high.high.first.items c.in_ok-high.high.second.items
+    (λ h. AddsStrips-halves c.args.distance c.args.strips.now.items c.add_core.new.strips.items
+    c.add_core-2.new.strips.items c.args.layers.now.first.items c.args.layers.now.second.items
+    c.in_ok-low.low.first.items c.in_ok-low.low.second.items c.in_ok-high.high.first.items
+    c.in_ok-high.high.second.items
     c.args.core c.halves.result.0 c.halves.result.1 V c.halves.ensures.cores
     (seen_slices _ _ c.as_slice-first.ensures.value _ _ c.in_ok-low.ensures.first)
     (seen_slices _ _ c.as_slice-second.ensures.value _ _ c.in_ok-low.ensures.second)

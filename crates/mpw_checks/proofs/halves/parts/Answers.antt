@@ -10,10 +10,17 @@ pub loop-b-preserved : goal.loop-b-preserved
 loop-b-preserved c =
     elim c.if-has_area.branch [
       | then-has_area+in_ok-push w ↦
-          rw (w.found-is, w.in_ok-push.ensures.items) (ArePartsOf-push c.args.window.now c.args.boxes.now c.loop-b.found.items c.loop-b.b-index c.part-part.result c.loop-b-test.true c.loop-b.invariant (part_is _ c.args.window.now c.part-part.result c.part-part.ensures))
+          rw (w.found-is, w.in_ok-push.ensures.items)
+          (ArePartsOf-push c.args.window.now c.args.boxes.now c.loop-b.found.items
+          c.loop-b.b-index c.part-part.result c.loop-b-test.true c.loop-b.invariant
+          (part_is _ c.args.window.now c.part-part.result c.part-part.ensures))
       | else-has_area w ↦
-          rw w.found-is (ArePartsOf-skip c.args.window.now c.args.boxes.now c.loop-b.found.items c.loop-b.b-index c.part-part.result c.loop-b-test.true c.loop-b.invariant (part_is _ c.args.window.now c.part-part.result c.part-part.ensures) (when_false _ _ w.if-has_area.false c.has_area.ensures))
+          rw w.found-is (ArePartsOf-skip c.args.window.now c.args.boxes.now c.loop-b.found.items
+          c.loop-b.b-index c.part-part.result c.loop-b-test.true c.loop-b.invariant
+          (part_is _ c.args.window.now c.part-part.result c.part-part.ensures)
+          (when_false _ _ w.if-has_area.false c.has_area.ensures))
     ]
 
 pub returns : goal.returns
-returns c = same_in_window c.args.window.now c.args.boxes.now c.loop-b.found.items c.loop-b.b-index c.loop-b-test.false c.loop-b.invariant
+returns c = same_in_window c.args.window.now c.args.boxes.now c.loop-b.found.items c.loop-b.b-index
+    c.loop-b-test.false c.loop-b.invariant

@@ -6,5 +6,7 @@ use Rattle.mpw_checks.proofs.halves.seen.Goals as goal
 
 pub returns : goal.returns
 returns c = λ i j l u low high.
-    let same = subst (λ (bs : List Box2). (i j : ℤ) → covers c.in_ok-boxes.boxes.items i j ≡ covers bs i j) c.as_slice-2.ensures.value c.in_ok-boxes.ensures in
+    let same = subst (λ (bs : List Box2). (i j : ℤ)
+    → covers c.in_ok-boxes.boxes.items i j ≡ covers bs i j) c.as_slice-2.ensures.value
+    c.in_ok-boxes.ensures in
     c.in_ok-parts.ensures i j l u low high ∙ sym (same i j)

@@ -1,5 +1,5 @@
 use Rattle.std.proofs.Common.{refl}
-use Rattle.mpw_core.specs.Answer.{open_state}
+use Rattle.mpw_core.specs.Internal.Answer.{open_state}
 use Rattle.mpw_core.specs.Step.{State}
 use Rattle.mpw_core.proofs.answer.ask.Goals as goal
 

@@ -10,6 +10,11 @@ returns c = λ state same.
     let p = c.args.policy.now in
     let r = c.args.request.now in
     let conn = c.args.conn in
-    let ok : OnOk c.make-made.result (row_of p conn r ≡ Ok c.make-made.new.policy) = subst (λ (q : Policy). OnOk c.make-made.result (row_of q conn r ≡ Ok c.make-made.new.policy)) c.in_ok-next.ensures c.make-made.ensures.ok in
-    let err : IfErr c.make-made.result (IsFaultOf (row_of p conn r)) = subst (λ (q : Policy). IfErr c.make-made.result (IsFaultOf (row_of q conn r))) c.in_ok-next.ensures c.make-made.ensures.refused in
+    let ok : OnOk c.make-made.result (row_of p conn r ≡ Ok c.make-made.new.policy) =
+    subst (λ (q : Policy). OnOk c.make-made.result
+    (row_of q conn r ≡ Ok c.make-made.new.policy)) c.in_ok-next.ensures
+    c.make-made.ensures.ok in
+    let err : IfErr c.make-made.result (IsFaultOf (row_of p conn r)) =
+    subst (λ (q : Policy). IfErr c.make-made.result (IsFaultOf (row_of q conn r)))
+    c.in_ok-next.ensures c.make-made.ensures.refused in
     c.changed.ensures state (row_of p conn r) ok err

@@ -8,4 +8,7 @@ returns c =
     let runs = c.runs_are_left_unless_a_request_is_accepted.ensures.left in
     let no_runs = c.runs_are_left_unless_a_request_is_accepted.ensures.same in
     let waivers = c.waivers_are_left_unless_a_request_is_accepted.ensures in
-    record { denied = denied-leaves shelves wafers runs no_runs waivers; refused = refused-leaves shelves wafers runs no_runs waivers }
+    record {
+      denied = denied-leaves shelves wafers runs no_runs waivers;
+      refused = refused-leaves shelves wafers runs no_runs waivers;
+    }

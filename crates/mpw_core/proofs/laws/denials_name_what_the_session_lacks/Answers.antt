@@ -8,4 +8,7 @@ returns c =
     let runs = c.denials_over_the_run_name_what_is_lacked.ensures in
     let waivers = c.denials_over_the_sign_off_name_what_is_lacked.ensures in
     let entering = c.entering_denies_what_is_lacked.ensures in
-    record { permission = lacks-permission shelves wafers runs waivers entering; activation = lacks-role }
+    record {
+      permission = lacks-permission shelves wafers runs waivers entering;
+      activation = lacks-role;
+    }

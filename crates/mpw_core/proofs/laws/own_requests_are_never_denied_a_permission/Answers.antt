@@ -11,13 +11,21 @@ use Rattle.mpw_core.proofs.PolicyReplies.{permission-row}
 use Rattle.mpw_core.proofs.laws.own_requests_are_never_denied_a_permission.Goals as goal
 
 pub returns : goal.returns
-returns c = λ s conn request kept operation object is e. never conn request is s.policy operation object (permission-row s conn request kept operation object e)
+returns c = λ s conn request kept operation object is e. never conn request is s.policy operation
+    object (permission-row s conn request kept operation object e)
   where
-    never : (conn : ℕ) (request : PolicyRequest) → is_administration request ≡ false → (p : Policy) (operation : Operation) (object : Object) → row_of p conn request ≡ Err (refusal.NotPermitted operation object) → ⊥
-    never conn (Open user digest) is p operation object told = c.own_requests_need_no_permission.ensures.open_session conn user digest p operation object told
-    never conn Close is p operation object told = c.own_requests_need_no_permission.ensures.close_session conn p operation object told
-    never conn (Activate role) is p operation object told = c.own_requests_need_no_permission.ensures.activate conn role p operation object told
-    never conn (DropRole role) is p operation object told = c.own_requests_need_no_permission.ensures.drop_role conn role p operation object told
+    never : (conn : ℕ) (request : PolicyRequest) → is_administration request ≡ false
+        → (p : Policy) (operation : Operation) (object : Object)
+        → row_of p conn request ≡ Err (refusal.NotPermitted operation object) → ⊥
+    never conn (Open user digest) is p operation object told =
+        c.own_requests_need_no_permission.ensures.open_session conn user digest p operation object
+        told
+    never conn Close is p operation object told =
+        c.own_requests_need_no_permission.ensures.close_session conn p operation object told
+    never conn (Activate role) is p operation object told =
+        c.own_requests_need_no_permission.ensures.activate conn role p operation object told
+    never conn (DropRole role) is p operation object told =
+        c.own_requests_need_no_permission.ensures.drop_role conn role p operation object told
     never conn (AddUser user digest) is p operation object told = true≢false is
     never conn (DelUser user) is p operation object told = true≢false is
     never conn (AddRole role) is p operation object told = true≢false is

@@ -13,7 +13,9 @@ returns-in-Err-clause-fault c = λ n.
     let lines = c.args.lines.now in
     let i = c.loop-i.i in
     let told = told_from_refuses _ _ c.in-Err.ensures.reads n in
-    sym c.loop-i.invariant.read ∙ rules_fault c.loop-i.rules.items (map (λ x. x.now) lines) i (get_or lines i no_line).now c.in-Err.kind (inside lines i c.loop-i-test.true) (line_at lines i no_line c.loop-i-test.true) (rw c.as_slice.ensures.value at told)
+    sym c.loop-i.invariant.read ∙ rules_fault c.loop-i.rules.items (map (λ x. x.now) lines) i
+    (get_or lines i no_line).now c.in-Err.kind (inside lines i c.loop-i-test.true)
+    (line_at lines i no_line c.loop-i-test.true) (rw c.as_slice.ensures.value at told)
 
 pub loop-i-preserved : goal.loop-i-preserved
 loop-i-preserved c =
@@ -21,9 +23,14 @@ loop-i-preserved c =
     let i = c.loop-i.i in
     let told = c.in-Ok.ensures.reads in
     let seen = rw c.as_slice.ensures.value at told in
-    let next = rules_next c.loop-i.rules.items (map (λ x. x.now) lines) i (get_or lines i no_line).now c.in-Ok.rule (inside lines i c.loop-i-test.true) (line_at lines i no_line c.loop-i-test.true) seen in
+    let next = rules_next c.loop-i.rules.items (map (λ x. x.now) lines) i
+    (get_or lines i no_line).now c.in-Ok.rule (inside lines i c.loop-i-test.true)
+    (line_at lines i no_line c.loop-i-test.true) seen in
     record {
       read = rw c.in-Ok-push.ensures.items (next ∙ c.loop-i.invariant.read);
-      few = rw c.in-Ok-push.ensures.items (let room = c.in-Ok.ensures.room in simp length-append (omega arith));
-      rules = rw c.in-Ok-push.ensures.items (All-push IsRule c.loop-i.rules.items c.in-Ok.rule c.loop-i.invariant.rules c.in-Ok.ensures.rule);
+      few = rw c.in-Ok-push.ensures.items
+          (let room = c.in-Ok.ensures.room in simp length-append (omega arith));
+      rules = rw c.in-Ok-push.ensures.items
+          (All-push IsRule c.loop-i.rules.items c.in-Ok.rule c.loop-i.invariant.rules
+          c.in-Ok.ensures.rule);
     }

@@ -6,7 +6,8 @@ use Rattle.mpw_deck.proofs.read.rules.Given as goal
 
 abbrev pub invariant-loop-i : goal.invariant-loop-i
 invariant-loop-i l = record {
-  read : rules_of (l.i + 2) l.rules.items (drop l.i (map (λ x. x.now) l.lines)) ≡ rules_of 2 [] (map (λ x. x.now) l.lines);
+  read : rules_of (l.i + 2) l.rules.items (drop l.i (map (λ x. x.now) l.lines)) ≡ rules_of 2 []
+      (map (λ x. x.now) l.lines);
   few : length l.rules.items ≤ 256;
   rules : All IsRule l.rules.items;
 }

@@ -1,7 +1,7 @@
 use Rattle.std.proofs.Common.{◌∙◌, map, refl}
 use Rattle.mpw_region.specs.Squares.{covers}
 use Rattle.mpw_edges.specs.Edges.{IsRise, IsFall}
-use Rattle.mpw_edges.specs.Pairs.{rise_of, fall_of}
+use Rattle.mpw_edges.specs.Internal.Pairs.{rise_of, fall_of}
 use Rattle.mpw_edges.proofs.Region.{rises_are, falls_are}
 use Rattle.mpw_edges.proofs.Found.{finds_either, pair_limits, adds_is}
 use Rattle.mpw_edges.proofs.edges.enclosings.Goals as goal
@@ -10,9 +10,16 @@ pub returns : goal.returns
 returns c =
     let a = c.args.outer.now in
     let b = c.args.inner.now in
-    let one = adds_is _ _ c.add_pairs.new.runs.items 0 (pair_limits c.args.distance c.args.core) _ _ _ _ c.new-runs.ensures.items (c.as_slice.ensures.value ∙ c.in_ok-outside.ensures.edges) (c.as_slice-2.ensures.value ∙ c.in_ok-inside.ensures.edges) c.in_ok-add_pairs.ensures in
-    let two = adds_is c.add_pairs.new.runs.items _ c.add_pairs-2.new.runs.items 1 (pair_limits c.args.distance c.args.core) _ _ _ _ refl (c.as_slice-3.ensures.value ∙ c.in_ok-inside-2.ensures.edges) (c.as_slice-4.ensures.value ∙ c.in_ok-outside-2.ensures.edges) c.in_ok-add_pairs-2.ensures in
-    finds_either c.add_pairs.new.runs.items c.add_pairs-2.new.runs.items c.args.distance c.args.core (map rise_of a) (map rise_of b) (map fall_of b) (map fall_of a)
+    let one = adds_is _ _ c.add_pairs.new.runs.items 0 (pair_limits c.args.distance c.args.core) _ _
+    _ _ c.new-runs.ensures.items (c.as_slice.ensures.value ∙ c.in_ok-outside.ensures.edges)
+    (c.as_slice-2.ensures.value ∙ c.in_ok-inside.ensures.edges) c.in_ok-add_pairs.ensures in
+    let two = adds_is c.add_pairs.new.runs.items _ c.add_pairs-2.new.runs.items 1
+    (pair_limits c.args.distance c.args.core) _ _ _ _ refl (c.as_slice-3.ensures.value
+    ∙ c.in_ok-inside-2.ensures.edges) (c.as_slice-4.ensures.value
+    ∙ c.in_ok-outside-2.ensures.edges) c.in_ok-add_pairs-2.ensures in
+    finds_either c.add_pairs.new.runs.items c.add_pairs-2.new.runs.items c.args.distance c.args.core
+    (map rise_of a) (map rise_of b) (map fall_of b) (map fall_of a)
     (IsRise (covers a)) (IsRise (covers b)) (IsFall (covers b)) (IsFall (covers a))
-    (rises_are a c.requires.outer) (rises_are b c.requires.inner) (falls_are b c.requires.inner) (falls_are a c.requires.outer)
+    (rises_are a c.requires.outer) (rises_are b c.requires.inner) (falls_are b c.requires.inner)
+    (falls_are a c.requires.outer)
     one two

@@ -1,10 +1,12 @@
 use Rattle.std.proofs.Common.{List, sym, subst}
 use Rattle.std.proofs.lemmas.Result.{IfOk-weaker}
 use Rattle.mpw_edges.specs.declared.pair.Edge.{Edge}
-use Rattle.mpw_edges.specs.Pairs.{AreEdges}
-use Rattle.mpw_edges.proofs.Pairing.{rises_ordered}
+use Rattle.mpw_edges.specs.Internal.Pairs.{AreEdges}
+use Rattle.mpw_edges.proofs.Bounding.{rises_ordered}
 use Rattle.mpw_edges.proofs.edges.rises.Goals as goal
 
 pub returns-clause-ordered : goal.returns-clause-ordered
 returns-clause-ordered c =
-    IfOk-weaker c.rise_edges.result _ _ (λ v e. subst (λ (es : List Edge). AreEdges es) (sym e) (rises_ordered c.args.boxes.now c.requires)) c.rise_edges.ensures
+    IfOk-weaker c.rise_edges.result _ _
+    (λ v e. subst (λ (es : List Edge). AreEdges es) (sym e)
+    (rises_ordered c.args.boxes.now c.requires)) c.rise_edges.ensures

@@ -1,18 +1,25 @@
-use Rattle.mpw_edges.specs.Pairs.{IsPairPlace}
+use Rattle.mpw_edges.specs.Internal.Pairs.{IsPairPlace}
 use Rattle.mpw_region.proofs.Adding.{Adds-more, Adds-all}
 use Rattle.mpw_edges.proofs.Region.{no_edge}
 use Rattle.mpw_edges.proofs.Pairing.{pairs_from_start, pairs_from_past}
 use Rattle.mpw_edges.proofs.pair.add_pairs_from.Goals as goal
 
 pub loop-k-init : goal.loop-k-init
-loop-k-init c = pairs_from_start c.args.side c.args.limits.now c.args.from.now c.args.tos.now c.args.runs.now.items _ c.place_of-k.ensures.left
+loop-k-init c = pairs_from_start c.args.side c.args.limits.now c.args.from.now c.args.tos.now
+    c.args.runs.now.items _ c.place_of-k.ensures.left
 
 pub returns-then-is_past : goal.returns-then-is_past
 returns-then-is_past c =
-    pairs_from_past c.args.side c.args.limits.now c.args.from.now c.args.tos.now c.args.runs.now.items c.loop-k.runs.items c.loop-k.k c.requires c.loop-k-test.true (c.is_past.ensures c.if-is_past.true) c.loop-k.invariant
+    pairs_from_past c.args.side c.args.limits.now c.args.from.now c.args.tos.now
+    c.args.runs.now.items c.loop-k.runs.items c.loop-k.k c.requires c.loop-k-test.true
+    (c.is_past.ensures c.if-is_past.true) c.loop-k.invariant
 
 pub loop-k-preserved : goal.loop-k-preserved
-loop-k-preserved c = Adds-more c.args.runs.now.items _ _ (λ to. IsPairPlace c.args.side c.args.limits.now c.args.from.now to) c.args.tos.now c.loop-k.k no_edge c.loop-k-test.true c.loop-k.invariant c.in_ok-add_pair.ensures
+loop-k-preserved c = Adds-more c.args.runs.now.items _ _
+    (λ to. IsPairPlace c.args.side c.args.limits.now c.args.from.now to) c.args.tos.now c.loop-k.k
+    no_edge c.loop-k-test.true c.loop-k.invariant c.in_ok-add_pair.ensures
 
 pub returns : goal.returns
-returns c = Adds-all c.args.runs.now.items _ (λ to. IsPairPlace c.args.side c.args.limits.now c.args.from.now to) c.args.tos.now c.loop-k.k c.loop-k-test.false c.loop-k.invariant
+returns c = Adds-all c.args.runs.now.items _
+    (λ to. IsPairPlace c.args.side c.args.limits.now c.args.from.now to) c.args.tos.now c.loop-k.k
+    c.loop-k-test.false c.loop-k.invariant

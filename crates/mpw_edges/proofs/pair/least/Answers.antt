@@ -4,6 +4,10 @@ use Rattle.mpw_edges.proofs.pair.least.Goals as goal
 
 pub returns : goal.returns
 returns c = λ j. (
-  λ h. (omega (arith, ints, clamps, h), omega (arith, ints, clamps, h), omega (arith, ints, clamps, h)),
+  λ h. (
+    omega (arith, ints, clamps, h),
+    omega (arith, ints, clamps, h),
+    omega (arith, ints, clamps, h),
+  ),
   λ h. omega (arith, ints, clamps, h.0, h.1, h.2),
 )

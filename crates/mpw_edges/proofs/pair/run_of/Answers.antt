@@ -19,8 +19,10 @@ returns c =
     let left_is = to_z-of_z w64 c.args.limits.now.core.x0 left_fits in
     let right_is = to_z-of_z w64 c.args.limits.now.core.x1 right_fits in
     let rows = c.in_ok-y0.ensures in
-    let after = ge_from_test c.args.from.now.x c.args.limits.now.core.x0 (rw (x1_is, left_is) at c.if-from-core.false) in
-    let before = gt_from_test c.args.limits.now.core.x1 c.args.from.now.x (rw (x1_is, right_is) at c.if-core-from.false) in
+    let after = ge_from_test c.args.from.now.x c.args.limits.now.core.x0
+    (rw (x1_is, left_is) at c.if-from-core.false) in
+    let before = gt_from_test c.args.limits.now.core.x1 c.args.from.now.x
+    (rw (x1_is, right_is) at c.if-core-from.false) in
     rw (x1_is, x2_is, low_is, high_is) (
       rows.0,
       λ line j. (

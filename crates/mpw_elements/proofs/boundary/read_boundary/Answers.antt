@@ -6,5 +6,6 @@ use Rattle.mpw_elements.proofs.boundary.read_boundary.Goals as goal
 pub returns-clause-shape : goal.returns-clause-shape
 unfolding least_size
 returns-clause-shape c =
-    let ring = corners_ring c.args.unit (raw c.in_ok-xy.xy) c.in_ok-points.points c.requires.unit c.in_ok-xy.ensures.least c.in_ok-points.ensures in
+    let ring = corners_ring c.args.unit (raw c.in_ok-xy.xy) c.in_ok-points.points c.requires.unit
+    c.in_ok-xy.ensures.least c.in_ok-points.ensures in
     record { corners = ring.corners; manhattan = ring.manhattan; within_reach = ring.within_reach }

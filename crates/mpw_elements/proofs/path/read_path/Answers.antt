@@ -1,5 +1,6 @@
 use Rattle.mpw_records.specs.Records.{raw}
-use Rattle.mpw_elements.specs.Element.{IsWidth, IsWithinReach}
+use Rattle.mpw_elements.specs.Element.{IsWithinReach}
+use Rattle.mpw_elements.specs.Internal.Element.{IsWidth}
 use Rattle.mpw_elements.proofs.Shapes.{centre_line, kept}
 use Rattle.mpw_elements.proofs.path.read_path.Goals as goal
 
@@ -9,9 +10,11 @@ returns-clause-shape c =
     let begin : IsWithinReach c.in_ok-begin.begin = c.in_ok-begin.ensures.reach in
     let end : IsWithinReach c.in_ok-end.end = c.in_ok-end.ensures.reach in
     let given = kept IsWidth c.in_ok-width.width width.within_reach width in
-    let first = c.lengthening.ensures.reach given (kept IsWithinReach c.in_ok-begin.begin begin begin) in
+    let first =
+    c.lengthening.ensures.reach given (kept IsWithinReach c.in_ok-begin.begin begin begin) in
     let last = c.lengthening-2.ensures.reach given (kept IsWithinReach c.in_ok-end.end end end) in
-    let line = centre_line c.args.unit (raw c.in_ok-demand.field-0) c.in_ok-points.points c.requires c.in_ok-points.ensures in
+    let line = centre_line c.args.unit (raw c.in_ok-demand.field-0) c.in_ok-points.points c.requires
+    c.in_ok-points.ensures in
     record {
       half = given.half;
       width = given.value;

@@ -7,18 +7,26 @@ use Rattle.mpw_elements.proofs.reading.next_field.Goals as goal
 pub returns-in_err-record-clause-field : goal.returns-in_err-record-clause-field
 returns-in_err-record-clause-field c =
     let p = err_from_is_err_and c.from_residual.result c.from_residual.ensures.1 in
-    rw (p.1, p.2) (sym c.loop-outcome.invariant.same ∙ field_err c.args.start _ c.next.new.self c.in_err-record.field-0.0 (c.in-Some.ensures.some ∙ ap (λ o. seen o ∷ c.next.new.self) c.in_err-record.was))
+    rw (p.1, p.2) (sym c.loop-outcome.invariant.same ∙ field_err c.args.start _ c.next.new.self
+    c.in_err-record.field-0.0 (c.in-Some.ensures.some
+    ∙ ap (λ o. seen o ∷ c.next.new.self) c.in_err-record.was))
 
 pub returns-then-not-is_skipped-clause-field : goal.returns-then-not-is_skipped-clause-field
 returns-then-not-is_skipped-clause-field c =
-    sym c.loop-outcome.invariant.same ∙ field_ok c.args.start _ c.next.new.self (raw c.in_ok-record.record) (c.in-Some.ensures.some ∙ ap (λ o. seen o ∷ c.next.new.self) c.in_ok-record.was) (sym c.is_skipped.ensures ∙ c.if-not-is_skipped.true)
+    sym c.loop-outcome.invariant.same ∙ field_ok c.args.start _ c.next.new.self
+    (raw c.in_ok-record.record) (c.in-Some.ensures.some
+    ∙ ap (λ o. seen o ∷ c.next.new.self) c.in_ok-record.was)
+    (sym c.is_skipped.ensures ∙ c.if-not-is_skipped.true)
 
 pub loop-outcome-preserved : goal.loop-outcome-preserved
 loop-outcome-preserved c = record {
   same =
-      sym (field_skip c.args.start _ c.next.new.self (raw c.in_ok-record.record) (c.in-Some.ensures.some ∙ ap (λ o. seen o ∷ c.next.new.self) c.in_ok-record.was) (sym c.is_skipped.ensures ∙ c.if-not-is_skipped.false)) ∙ c.loop-outcome.invariant.same;
+      sym (field_skip c.args.start _ c.next.new.self (raw c.in_ok-record.record)
+      (c.in-Some.ensures.some ∙ ap (λ o. seen o ∷ c.next.new.self) c.in_ok-record.was)
+      (sym c.is_skipped.ensures ∙ c.if-not-is_skipped.false)) ∙ c.loop-outcome.invariant.same;
   rest = omega (arith, ap length c.in-Some.ensures.some);
 }
 
 pub returns-clause-field : goal.returns-clause-field
-returns-clause-field c = sym c.loop-outcome.invariant.same ∙ field_end c.args.start _ c.in_default.ensures.none
+returns-clause-field c =
+    sym c.loop-outcome.invariant.same ∙ field_end c.args.start _ c.in_default.ensures.none

@@ -5,5 +5,8 @@ use Rattle.mpw_elements.proofs.shape.all_points.Goals as goal
 
 pub loop-index-preserved : goal.loop-index-preserved
 loop-index-preserved c =
-    let more = map-range_with_len_more (point_at c.args.unit c.args.bytes.now) 0 c.loop-index.index c.loop-index.index (omega arith) in
-    rw (c.in_ok-push.ensures.items, c.point.ensures.point, more) (ap (λ ps. ps ++ point_at c.args.unit c.args.bytes.now c.loop-index.index ∷ []) c.loop-index.invariant)
+    let more = map-range_with_len_more (point_at c.args.unit c.args.bytes.now) 0 c.loop-index.index
+    c.loop-index.index (omega arith) in
+    rw (c.in_ok-push.ensures.items, c.point.ensures.point, more)
+    (ap (λ ps. ps ++ point_at c.args.unit c.args.bytes.now c.loop-index.index ∷ [])
+    c.loop-index.invariant)

@@ -7,4 +7,6 @@ use Rattle.mpw_elements.proofs.shape.is_manhattan.Goals as goal
 pub returns : goal.returns
 returns c =
     let left = drop (c.loop-index.index - 1) c.args.points.now in
-    sym (short_true is_manhattan_step no_point left (omega (arith, length-drop (c.loop-index.index - 1) c.args.points.now))) ∙ c.loop-index.invariant
+    sym (short_true is_manhattan_step no_point left
+    (omega (arith, length-drop (c.loop-index.index - 1) c.args.points.now)))
+    ∙ c.loop-index.invariant

@@ -4,4 +4,5 @@ use Rattle.mpw_elements.proofs.shape.is_manhattan.Given as goal
 
 -- the steps that are left decide
 abbrev pub invariant-loop-index : goal.invariant-loop-index
-invariant-loop-index l = each_step is_manhattan_step (drop (l.index - 1) l.points) ≡ each_step is_manhattan_step l.points
+invariant-loop-index l =
+    each_step is_manhattan_step (drop (l.index - 1) l.points) ≡ each_step is_manhattan_step l.points

@@ -13,11 +13,14 @@ outcome r whole = if whole then Ok tt else Err (fault_at Magnification r)
 pub returns-then-not-is_whole : goal.returns-then-not-is_whole
 unfolding magnification_of outcome
 returns-then-not-is_whole c =
-    let whole = ap (λ value. is_whole value (pos 1)) (sym c.read.ensures) ∙ sym c.is_whole.ensures in
-    sym (ap (outcome (raw c.args.from)) (whole ∙ c.if-not-is_whole.true) ∙ ap (λ fault. Err fault) (sym c.fault_of.ensures))
+    let whole =
+    ap (λ value. is_whole value (pos 1)) (sym c.read.ensures) ∙ sym c.is_whole.ensures in
+    sym (ap (outcome (raw c.args.from)) (whole ∙ c.if-not-is_whole.true)
+    ∙ ap (λ fault. Err fault) (sym c.fault_of.ensures))
 
 pub returns : goal.returns
 unfolding magnification_of outcome
 returns c =
-    let whole = ap (λ value. is_whole value (pos 1)) (sym c.read.ensures) ∙ sym c.is_whole.ensures in
+    let whole =
+    ap (λ value. is_whole value (pos 1)) (sym c.read.ensures) ∙ sym c.is_whole.ensures in
     sym (ap (outcome (raw c.args.from)) (whole ∙ c.if-not-is_whole.false))

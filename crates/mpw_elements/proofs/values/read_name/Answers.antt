@@ -6,4 +6,5 @@ use Rattle.mpw_elements.proofs.values.read_name.Goals as goal
 
 pub returns-in-Ok-clause-name : goal.returns-in-Ok-clause-name
 returns-in-Ok-clause-name c =
-    named (raw c.args.from) (subst IsName c.trim_nuls.ensures c.in-Ok.ensures.is_name) ∙ ap Ok (sym (c.in-Ok.ensures.ok ∙ c.trim_nuls.ensures))
+    named (raw c.args.from) (subst IsName c.trim_nuls.ensures c.in-Ok.ensures.is_name)
+    ∙ ap Ok (sym (c.in-Ok.ensures.ok ∙ c.trim_nuls.ensures))

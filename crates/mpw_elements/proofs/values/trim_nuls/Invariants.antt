@@ -4,7 +4,10 @@ use Rattle.mpw_elements.proofs.values.trim_nuls.Given as goal
 
 -- only NULs stand behind the end
 abbrev pub invariant-loop-end : goal.invariant-loop-end
-invariant-loop-end l = record { within : l.end ≤ length l.bytes; same : without_nuls (take l.end l.bytes) ≡ without_nuls l.bytes }
+invariant-loop-end l = record {
+  within : l.end ≤ length l.bytes;
+  same : without_nuls (take l.end l.bytes) ≡ without_nuls l.bytes;
+}
 
 abbrev pub decreases-loop-end : goal.decreases-loop-end
 decreases-loop-end l = l.end

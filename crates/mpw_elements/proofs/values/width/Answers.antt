@@ -9,4 +9,5 @@ unfolding width_of
 returns-clause-width c = search rules
 
 pub returns-clause-even : goal.returns-clause-even
-returns-clause-even c = width_is c.args.unit (raw c.args.from) _ c.requires.unit (sym (returns-clause-width c))
+returns-clause-even c =
+    width_is c.args.unit (raw c.args.from) _ c.requires.unit (sym (returns-clause-width c))

@@ -1,5 +1,5 @@
 use Rattle.std.proofs.Common.{take}
-use Rattle.mpw_hier.specs.Building.{ShowsBindings}
+use Rattle.mpw_hier.specs.Internal.Building.{ShowsBindings}
 use Rattle.mpw_hier.proofs.hierarchy.table_of.Given as goal
 
 -- the bindings so far

@@ -7,5 +7,7 @@ unfolding graph_of
 returns c =
     let ss = c.args.library.now in
     let items = c.structures-structure-items.result.now in
-    let all : take c.loop-structure.structure-index items ≡ ss = take_all c.loop-structure.structure-index items c.loop-structure-test.false ∙ c.structures-structure-items.ensures in
+    let all : take c.loop-structure.structure-index items ≡ ss =
+    take_all c.loop-structure.structure-index items c.loop-structure-test.false
+    ∙ c.structures-structure-items.ensures in
     c.loop-structure.invariant ∙ ap (map (places_from ss)) all

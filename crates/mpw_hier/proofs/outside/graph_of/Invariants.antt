@@ -4,4 +4,5 @@ use Rattle.mpw_hier.proofs.outside.graph_of.Given as goal
 
 -- the structures so far
 abbrev pub invariant-loop-structure : goal.invariant-loop-structure
-invariant-loop-structure l = l.graph ≡ map (places_from l.library) (take l.structure-index l.structure-items)
+invariant-loop-structure l =
+    l.graph ≡ map (places_from l.library) (take l.structure-index l.structure-items)

@@ -1,6 +1,6 @@
 use Rattle.std.proofs.Common.{get_or, ap, sym, ◌∙◌}
 use Rattle.mpw_library.specs.declared.structures.Structure.{Structure}
-use Rattle.mpw_hier.specs.Outside.{outside_from_all}
+use Rattle.mpw_hier.specs.Internal.Outside.{outside_from_all}
 use Rattle.mpw_hier.proofs.Shown.{outside_next}
 use Rattle.mpw_hier.proofs.outside.outside_from.Goals as goal
 
@@ -17,4 +17,6 @@ loop-place-preserved c =
     let at = c.index-structures-place.is in
     let is = at ∙ ap (λ xs. get_or xs (get_or places i 0) s) c.structures-structures.ensures in
     let elements = c.as_slice.ensures ∙ ap (λ (t : Structure). t.elements) (sym at) in
-    rw (c.in_ok-add_outside.ensures, elements, c.loop-place.invariant) (sym (outside_next ss places i s c.loop-place-test.true (c.requires i 0 c.loop-place-test.true) is))
+    rw (c.in_ok-add_outside.ensures, elements, c.loop-place.invariant)
+    (sym (outside_next ss places i s c.loop-place-test.true
+    (c.requires i 0 c.loop-place-test.true) is))

@@ -1,5 +1,5 @@
 use Rattle.std.proofs.Common.{◌≡◌, take}
-use Rattle.mpw_hier.specs.Outside.{outside_from_all}
+use Rattle.mpw_hier.specs.Internal.Outside.{outside_from_all}
 use Rattle.mpw_hier.proofs.outside.outside_from.Given as goal
 
 -- the names of the places so far

@@ -1,8 +1,10 @@
 use Rattle.std.proofs.Common.{◌≡◌, ◌++◌, drop}
-use Rattle.mpw_hier.specs.Structures.{names_of}
+use Rattle.mpw_hier.specs.Structures.{referenced_names}
 use Rattle.mpw_hier.specs.Outside.{places_of}
 use Rattle.mpw_hier.proofs.outside.places_of.Given as goal
 
 -- the places so far, and those to come
 abbrev pub invariant-loop-element : goal.invariant-loop-element
-invariant-loop-element l = l.places.items ++ places_of l.library (names_of (drop l.element-index l.elements)) ≡ places_of l.library (names_of l.elements)
+invariant-loop-element l = l.places.items
+    ++ places_of l.library (referenced_names (drop l.element-index l.elements))
+    ≡ places_of l.library (referenced_names l.elements)

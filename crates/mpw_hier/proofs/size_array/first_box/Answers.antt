@@ -23,4 +23,10 @@ apply-q-requires-clause-point c =
 
 pub returns : goal.returns
 unfolding placed_box
-returns c = rw (c.between.ensures, c.apply-p.ensures, c.apply-q.ensures, c.low_corner.ensures, c.high_corner.ensures) refl
+returns c = rw (
+  c.between.ensures,
+  c.apply-p.ensures,
+  c.apply-q.ensures,
+  c.low_corner.ensures,
+  c.high_corner.ensures,
+) refl

@@ -8,4 +8,9 @@ pub returns : goal.returns
 returns c =
     let a = c.args.a in
     let b = c.args.b in
-    same_box _ _ (fitting int_min a.x0 b.x0 _ (search rules) (search rules) (search rules) c.min.ensures.value) (fitting int_min a.y0 b.y0 _ (search rules) (search rules) (search rules) c.min-2.ensures.value) (fitting int_max a.x1 b.x1 _ (search rules) (search rules) (search rules) c.max.ensures.value) (fitting int_max a.y1 b.y1 _ (search rules) (search rules) (search rules) c.max-2.ensures.value)
+    same_box _ _ (fitting int_min a.x0 b.x0 _ (search rules) (search rules) (search rules)
+    c.min.ensures.value) (fitting int_min a.y0 b.y0 _ (search rules) (search rules)
+    (search rules) c.min-2.ensures.value)
+    (fitting int_max a.x1 b.x1 _ (search rules) (search rules) (search rules)
+    c.max.ensures.value) (fitting int_max a.y1 b.y1 _ (search rules) (search rules)
+    (search rules) c.max-2.ensures.value)

@@ -5,16 +5,22 @@ use Rattle.mpw_hier.proofs.size_shape.path_box.Goals as goal
 
 pub loop-rest-init : goal.loop-rest-init
 loop-rest-init c =
-    boxed_none c.args.path.now c.first_wire-wire.result _ _ c.requires c.first_wire-wire.ensures c.as_slice-rest.ensures c.points_box-extent.ensures
+    boxed_none c.args.path.now c.first_wire-wire.result _ _ c.requires c.first_wire-wire.ensures
+    c.as_slice-rest.ensures c.points_box-extent.ensures
 
 pub segment_box-requires-clause-half : goal.segment_box-requires-clause-half
-segment_box-requires-clause-half c = boxed_reach c.args.path.now c.loop-rest.wire _ _ c.requires c.loop-rest.invariant
+segment_box-requires-clause-half c =
+    boxed_reach c.args.path.now c.loop-rest.wire _ _ c.requires c.loop-rest.invariant
 
 pub loop-rest-preserved : goal.loop-rest-preserved
 loop-rest-preserved c =
     let rest = c.loop-rest.rest.now in
-    let whole : take (length rest - 1) (drop 1 rest) ≡ drop 1 rest = take_all (length rest - 1) (drop 1 rest) (omega (arith, length-drop 1 rest)) in
-    boxed_more c.args.path.now c.loop-rest.wire c.from_inner-wire.result rest _ _ _ _ c.requires c.loop-rest.invariant c.loop-rest-test.true whole c.segment_box.ensures c.hull-extent.ensures c.from_inner-wire.ensures
+    let whole : take (length rest - 1) (drop 1 rest) ≡ drop 1 rest =
+    take_all (length rest - 1) (drop 1 rest) (omega (arith, length-drop 1 rest)) in
+    boxed_more c.args.path.now c.loop-rest.wire c.from_inner-wire.result rest _ _ _ _ c.requires
+    c.loop-rest.invariant c.loop-rest-test.true whole c.segment_box.ensures
+    c.hull-extent.ensures c.from_inner-wire.ensures
 
 pub returns : goal.returns
-returns c = boxed_all c.args.path.now c.loop-rest.wire _ _ c.loop-rest.invariant (omega (arith, c.loop-rest-test.false))
+returns c = boxed_all c.args.path.now c.loop-rest.wire _ _ c.loop-rest.invariant
+    (omega (arith, c.loop-rest-test.false))

@@ -7,9 +7,14 @@ use Rattle.mpw_hier.proofs.size_shape.points_box.Goals as goal
 
 pub loop-point-preserved : goal.loop-point-preserved
 loop-point-preserved c =
-    points_on c.args.points.now c.loop-point.point-index _ _ _ _ c.loop-point-test.true (get_or_default c.args.points.now c.loop-point.point-index _ _ c.loop-point-test.true) (c.hull-extent.ensures ∙ ap (λ b. hull c.loop-point.extent (Some b)) c.dot.ensures) c.loop-point.invariant
+    points_on c.args.points.now c.loop-point.point-index _ _ _ _ c.loop-point-test.true
+    (get_or_default c.args.points.now c.loop-point.point-index _ _ c.loop-point-test.true)
+    (c.hull-extent.ensures ∙ ap (λ b. hull c.loop-point.extent (Some b)) c.dot.ensures)
+    c.loop-point.invariant
 
 pub returns : goal.returns
 unfolding hull_of_points
 returns c =
-    sym (hull_none c.loop-point.extent) ∙ sym (at_drop_all (λ left. hull c.loop-point.extent (hull_of_points left)) c.args.points.now c.loop-point.point-index c.loop-point-test.false) ∙ c.loop-point.invariant
+    sym (hull_none c.loop-point.extent)
+    ∙ sym (at_drop_all (λ left. hull c.loop-point.extent (hull_of_points left))
+    c.args.points.now c.loop-point.point-index c.loop-point-test.false) ∙ c.loop-point.invariant

@@ -10,8 +10,25 @@ returns c =
     let end = c.args.path.now.end in
     let rest = c.args.rest.now in
     let least = c.requires.least in
-    let segment : (behind : ℤ) × (behind ≡ cond (eqb (length rest) 2) end wire.half) × (c.if-rest-eq2.segment ≡ record { half = wire.half; before = wire.before; behind = behind }) = elim c.if-rest-eq2.branch [
-      | then-rest-eq2 w ↦ (end, sym (last_end (length rest) wire.half end w.if-rest-eq2.true), w.segment-is ∙ w.to_end_of-segment.ensures)
-      | else-rest-eq2 w ↦ (wire.behind, c.requires.behind ∙ sym (inner_end (length rest) wire.half end w.if-rest-eq2.false), w.segment-is)
+    let segment : (behind : ℤ) × (behind ≡ cond (eqb (length rest) 2) end wire.half)
+    × (c.if-rest-eq2.segment ≡ record {
+      half = wire.half;
+      before = wire.before;
+      behind = behind;
+    }) = elim c.if-rest-eq2.branch [
+      | then-rest-eq2 w ↦ (
+        end,
+        sym (last_end (length rest) wire.half end w.if-rest-eq2.true),
+        w.segment-is ∙ w.to_end_of-segment.ensures,
+      )
+      | else-rest-eq2 w ↦ (
+        wire.behind,
+        c.requires.behind
+            ∙ sym (inner_end (length rest) wire.half end w.if-rest-eq2.false),
+        w.segment-is,
+      )
     ] in
-    segment_on wire c.if-rest-eq2.segment end segment.0 rest _ _ c.box_along.result c.if_area.result least (get_or_default rest 0 _ _ (omega (arith, least))) (get_or_default rest 1 _ _ (omega (arith, least))) segment.1 segment.2 c.box_along.ensures c.if_area.ensures
+    segment_on wire c.if-rest-eq2.segment end segment.0 rest _ _ c.box_along.result c.if_area.result
+    least (get_or_default rest 0 _ _ (omega (arith, least)))
+    (get_or_default rest 1 _ _ (omega (arith, least))) segment.1 segment.2 c.box_along.ensures
+    c.if_area.ensures

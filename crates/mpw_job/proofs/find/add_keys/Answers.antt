@@ -4,4 +4,5 @@ use Rattle.mpw_job.proofs.find.add_keys.Goals as goal
 pub loop-run-preserved : goal.loop-run-preserved
 loop-run-preserved c =
     rw c.in_ok-push.ensures.items
-    (adds_one c.args.place c.args.runs.now c.loop-run.run-index _ c.args.keys.now.items c.loop-run.keys.items c.key.result c.loop-run-test.true c.loop-run.invariant c.key.ensures)
+    (adds_one c.args.place c.args.runs.now c.loop-run.run-index _ c.args.keys.now.items
+    c.loop-run.keys.items c.key.result c.loop-run-test.true c.loop-run.invariant c.key.ensures)

@@ -3,17 +3,21 @@ use Rattle.std.specs.Prelude.{All}
 use Rattle.mpw_geom.specs.Plane.{IsOrdered}
 use Rattle.mpw_tiles.specs.declared.listing.Rectangle.{Rectangle}
 use Rattle.mpw_markers.specs.declared.marker.Key.{Key}
-use Rattle.mpw_job.specs.Found.{key_box, AreMarkersOfKeys}
+use Rattle.mpw_job.specs.Internal.Found.{key_box, AreMarkersOfKeys}
 use Rattle.mpw_job.proofs.Adding.{boxes_ordered, answers_from}
 use Rattle.mpw_job.proofs.find.found.Goals as goal
 
 pub markers_of-requires : goal.markers_of-requires
 markers_of-requires c =
-    subst (λ (ks : List Key). All (λ (k : Key). IsOrdered (key_box k)) ks) (sym c.as_slice-2.ensures.value)
+    subst (λ (ks : List Key). All (λ (k : Key). IsOrdered (key_box k)) ks)
+    (sym c.as_slice-2.ensures.value)
     (boxes_ordered c.args.job.now c.in_ok-keys.keys.items c.in_ok-keys.ensures)
 
 pub returns : goal.returns
 returns c =
-    answers_from c.args.job.now c.in_ok-keys.keys.items c.in_ok-markers.markers.items c.in_ok-keys.ensures
-    (subst (λ (w : List Rectangle). AreMarkersOfKeys w c.in_ok-keys.keys.items c.in_ok-markers.markers.items) (c.as_slice.ensures ∙ c.window.ensures)
-    (subst (λ (ks : List Key). AreMarkersOfKeys c.as_slice.result.now ks c.in_ok-markers.markers.items) c.as_slice-2.ensures.value c.in_ok-markers.ensures))
+    answers_from c.args.job.now c.in_ok-keys.keys.items c.in_ok-markers.markers.items
+    c.in_ok-keys.ensures
+    (subst (λ (w : List Rectangle). AreMarkersOfKeys w c.in_ok-keys.keys.items
+    c.in_ok-markers.markers.items) (c.as_slice.ensures ∙ c.window.ensures)
+    (subst (λ (ks : List Key). AreMarkersOfKeys c.as_slice.result.now ks
+    c.in_ok-markers.markers.items) c.as_slice-2.ensures.value c.in_ok-markers.ensures))

@@ -10,10 +10,17 @@ pub loop-rectangle-preserved : goal.loop-rectangle-preserved
 loop-rectangle-preserved c =
     elim c.if-same_layer.branch [
       | then-same_layer+in_ok-push w ↦
-          rw (w.areas-is, w.in_ok-push.ensures.items) (one_more c.args.rectangles.now c.args.layer c.loop-rectangle.rectangle-index _ c.loop-rectangle.areas.items c.loop-rectangle-test.true c.loop-rectangle.invariant (sym c.same_layer.ensures ∙ w.if-same_layer.true))
+          rw (w.areas-is, w.in_ok-push.ensures.items)
+          (one_more c.args.rectangles.now c.args.layer c.loop-rectangle.rectangle-index _
+          c.loop-rectangle.areas.items c.loop-rectangle-test.true c.loop-rectangle.invariant
+          (sym c.same_layer.ensures ∙ w.if-same_layer.true))
       | else-same_layer w ↦
-          rw w.areas-is (passed_over c.args.rectangles.now c.args.layer c.loop-rectangle.rectangle-index _ c.loop-rectangle.areas.items c.loop-rectangle-test.true c.loop-rectangle.invariant (sym c.same_layer.ensures ∙ w.if-same_layer.false))
+          rw w.areas-is (passed_over c.args.rectangles.now c.args.layer
+          c.loop-rectangle.rectangle-index _ c.loop-rectangle.areas.items
+          c.loop-rectangle-test.true c.loop-rectangle.invariant (sym c.same_layer.ensures
+          ∙ w.if-same_layer.false))
     ]
 
 pub returns : goal.returns
-returns c = all_of c.args.rectangles.now c.args.layer c.loop-rectangle.rectangle-index c.loop-rectangle.areas.items c.loop-rectangle-test.false c.loop-rectangle.invariant
+returns c = all_of c.args.rectangles.now c.args.layer c.loop-rectangle.rectangle-index
+    c.loop-rectangle.areas.items c.loop-rectangle-test.false c.loop-rectangle.invariant

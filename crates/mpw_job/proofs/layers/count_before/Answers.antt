@@ -6,9 +6,15 @@ use Rattle.mpw_job.proofs.layers.count_before.Goals as goal
 pub returns-clause-before : goal.returns-clause-before
 returns-clause-before c =
     before c.args.rectangles.now c.args.code c.partition_point.result
-    (IsPartitionPoint-from_clause (IsFront c.args.code) c.args.rectangles.now c.partition_point.result c.partition_point.ensures.partitioned (IsPartitionedBy-ltb code_of c.args.rectangles.now c.args.code c.requires) (λ a r f k. search rules))
+    (IsPartitionPoint-from_clause (IsFront c.args.code) c.args.rectangles.now
+    c.partition_point.result c.partition_point.ensures.partitioned
+    (IsPartitionedBy-ltb code_of c.args.rectangles.now c.args.code c.requires)
+    (λ a r f k. search rules))
 
 pub returns-clause-behind : goal.returns-clause-behind
 returns-clause-behind c =
     behind c.args.rectangles.now c.args.code c.partition_point.result
-    (IsPartitionPoint-from_clause (IsFront c.args.code) c.args.rectangles.now c.partition_point.result c.partition_point.ensures.partitioned (IsPartitionedBy-ltb code_of c.args.rectangles.now c.args.code c.requires) (λ a r f k. search rules))
+    (IsPartitionPoint-from_clause (IsFront c.args.code) c.args.rectangles.now
+    c.partition_point.result c.partition_point.ensures.partitioned
+    (IsPartitionedBy-ltb code_of c.args.rectangles.now c.args.code c.requires)
+    (λ a r f k. search rules))

@@ -4,4 +4,6 @@ use Rattle.mpw_job.proofs.met.markers_of.Goals as goal
 
 pub returns : goal.returns
 returns c =
-    are_markers c.args.window.now c.args.keys.now c.in_ok-mets.mets.items c.in_ok-markers.markers.items c.in_ok-markers.ensures.keys (c.in_ok-markers.ensures.mets ∙ c.as_slice.ensures.value) c.in_ok-mets.ensures
+    are_markers c.args.window.now c.args.keys.now c.in_ok-mets.mets.items
+    c.in_ok-markers.markers.items c.in_ok-markers.ensures.keys (c.in_ok-markers.ensures.mets
+    ∙ c.as_slice.ensures.value) c.in_ok-mets.ensures

@@ -6,7 +6,12 @@ use Rattle.mpw_library.proofs.read.read_elements.Given as goal
 
 -- the elements so far, and those to come
 abbrev pub invariant-loop-elements : goal.invariant-loop-elements
-invariant-loop-elements l = record { same : ElementsTo l.unit l.elements.items l.records (all_elements l.unit l.initial.records); rest : length l.records ≤ length l.initial.records; shape : All IsElement l.elements.items }
+invariant-loop-elements l = record {
+  same : ElementsTo l.unit l.elements.items l.records
+      (all_elements l.unit l.initial.records);
+  rest : length l.records ≤ length l.initial.records;
+  shape : All IsElement l.elements.items;
+}
 
 abbrev pub decreases-loop-elements : goal.decreases-loop-elements
 decreases-loop-elements l = length l.records

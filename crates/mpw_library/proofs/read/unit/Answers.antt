@@ -11,11 +11,14 @@ second_real xs = sym (take_all (length xs - 8) (drop 8 xs) (omega (arith, length
 pub returns-in-Some-clause-unit : goal.returns-in-Some-clause-unit
 unfolding unit_of
 returns-in-Some-clause-unit c =
-    let value = ap (λ xs. nanometres (real_value xs)) (second_real c.args.from.bytes.now) ∙ ap nanometres (sym c.read.ensures) ∙ sym c.nanometres.ensures.value in
+    let value = ap (λ xs. nanometres (real_value xs)) (second_real c.args.from.bytes.now)
+    ∙ ap nanometres (sym c.read.ensures) ∙ sym c.nanometres.ensures.value in
     sym (ap (λ o. unit_or_fault o (raw c.args.from)) (value ∙ c.in-Some.is))
 
 pub returns-in-None-clause-unit : goal.returns-in-None-clause-unit
 unfolding unit_of
 returns-in-None-clause-unit c =
-    let value = ap (λ xs. nanometres (real_value xs)) (second_real c.args.from.bytes.now) ∙ ap nanometres (sym c.read.ensures) ∙ sym c.nanometres.ensures.value in
-    sym (ap (λ o. unit_or_fault o (raw c.args.from)) (value ∙ c.in-None.is) ∙ ap (λ fault. Err fault) (sym c.fault_of.ensures))
+    let value = ap (λ xs. nanometres (real_value xs)) (second_real c.args.from.bytes.now)
+    ∙ ap nanometres (sym c.read.ensures) ∙ sym c.nanometres.ensures.value in
+    sym (ap (λ o. unit_or_fault o (raw c.args.from)) (value ∙ c.in-None.is)
+    ∙ ap (λ fault. Err fault) (sym c.fault_of.ensures))

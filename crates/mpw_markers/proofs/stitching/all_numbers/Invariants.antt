@@ -4,4 +4,5 @@ use Rattle.mpw_markers.specs.declared.marker.Marker.{Marker}
 use Rattle.mpw_markers.proofs.stitching.all_numbers.Given as goal
 
 abbrev pub invariant-loop-marker : goal.invariant-loop-marker
-invariant-loop-marker l = l.numbers.items ≡ flat_map (λ (m : Marker). m.met) (take l.marker-index l.markers)
+invariant-loop-marker l =
+    l.numbers.items ≡ flat_map (λ (m : Marker). m.met) (take l.marker-index l.markers)

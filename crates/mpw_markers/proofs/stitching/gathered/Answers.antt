@@ -6,4 +6,5 @@ use Rattle.mpw_markers.proofs.stitching.gathered.Goals as goal
 
 pub returns-clause-markers : goal.returns-clause-markers
 returns-clause-markers c =
-    c.loop-list.invariant.markers ∙ ap (flat_map (λ (list : List Marker). list)) (take_all c.loop-list.list-index c.args.lists.now c.loop-list-test.false)
+    c.loop-list.invariant.markers ∙ ap (flat_map (λ (list : List Marker). list))
+    (take_all c.loop-list.list-index c.args.lists.now c.loop-list-test.false)

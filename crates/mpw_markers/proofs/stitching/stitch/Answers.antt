@@ -11,10 +11,16 @@ use Rattle.mpw_markers.proofs.stitching.stitch.Goals as goal
 
 pub joined-requires-clause-filled : goal.joined-requires-clause-filled
 joined-requires-clause-filled c =
-    subst (λ (ms : List Marker). All IsFilled ms) (sym c.as_slice.ensures.value) (All-permutation IsFilled c.in_ok-all.all.items c.in_ok-all-2.all.items c.in_ok-all-2.ensures.moved c.in_ok-all.ensures.filled)
+    subst (λ (ms : List Marker). All IsFilled ms) (sym c.as_slice.ensures.value)
+    (All-permutation IsFilled c.in_ok-all.all.items c.in_ok-all-2.all.items
+    c.in_ok-all-2.ensures.moved c.in_ok-all.ensures.filled)
 
 pub returns : goal.returns
 returns c =
     IfOk-weaker c.from_vec.result _ _
-    (λ book e. subst (IsStitched c.args.lists.now) (sym e) (IsJoined-same (Contains c.as_slice.result.now) (IsListed c.args.lists.now) c.in_ok-markers.markers.items (same_parts c.args.lists.now c.in_ok-all.all.items c.in_ok-all-2.all.items c.as_slice.result.now c.in_ok-all.ensures.markers c.in_ok-all-2.ensures.moved c.as_slice.ensures.value) c.in_ok-markers.ensures))
+    (λ book e. subst (IsStitched c.args.lists.now) (sym e)
+    (IsJoined-same (Contains c.as_slice.result.now) (IsListed c.args.lists.now)
+    c.in_ok-markers.markers.items (same_parts c.args.lists.now c.in_ok-all.all.items
+    c.in_ok-all-2.all.items c.as_slice.result.now c.in_ok-all.ensures.markers
+    c.in_ok-all-2.ensures.moved c.as_slice.ensures.value) c.in_ok-markers.ensures))
     c.from_vec.ensures

@@ -3,4 +3,5 @@ use Rattle.std.proofs.Common.{refl}
 use Rattle.mpw_origins.proofs.Filled.{Fills-one}
 
 pub returns : goal.returns
-returns c = Fills-one c.args.common.now c.args.rectangles.now c.args.item.now c.args.mets.now.items _ c.in_ok-met.met c.requires refl c.in_ok-met.ensures
+returns c = Fills-one c.args.common.now c.args.rectangles.now c.args.item.now c.args.mets.now.items
+    _ c.in_ok-met.met c.requires refl c.in_ok-met.ensures

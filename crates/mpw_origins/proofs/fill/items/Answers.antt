@@ -8,8 +8,15 @@ use Rattle.mpw_origins.proofs.Filled.{AreItemsBefore-more, AreItemsOf-all}
 pub loop-place-preserved : goal.loop-place-preserved
 loop-place-preserved c =
     let place = c.loop-place.place in
-    let item : Item = record { place = c.loop-place.place; area = get_or c.args.boxes.now c.loop-place.place no_box } in
-    rw c.in_ok-push.ensures.items (AreItemsBefore-more c.args.boxes.now place c.loop-place.items.items item c.loop-place.invariant refl (λ d. get_or_default c.args.boxes.now place d no_box c.loop-place-test.true))
+    let item : Item = record {
+      place = c.loop-place.place;
+      area = get_or c.args.boxes.now
+          c.loop-place.place no_box;
+    } in
+    rw c.in_ok-push.ensures.items (AreItemsBefore-more c.args.boxes.now place
+    c.loop-place.items.items item c.loop-place.invariant refl
+    (λ d. get_or_default c.args.boxes.now place d no_box c.loop-place-test.true))
 
 pub returns : goal.returns
-returns c = AreItemsOf-all c.args.boxes.now c.loop-place.place c.loop-place.items.items (omega arith) c.loop-place.invariant
+returns c = AreItemsOf-all c.args.boxes.now c.loop-place.place c.loop-place.items.items
+    (omega arith) c.loop-place.invariant

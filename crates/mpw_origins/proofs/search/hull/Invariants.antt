@@ -1,7 +1,7 @@
 use Rattle.std.proofs.Common.{take}
 use Rattle.std.specs.Prelude.{Contains}
 use Rattle.mpw_origins.specs.declared.search.Item.{Item}
-use Rattle.mpw_origins.specs.Search.{IsWithin}
+use Rattle.mpw_origins.specs.Internal.Search.{IsWithin}
 use Rattle.mpw_origins.proofs.search.hull.Given as goal
 
 abbrev pub invariant-loop-item : goal.invariant-loop-item

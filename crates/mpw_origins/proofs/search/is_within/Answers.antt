@@ -3,4 +3,9 @@ use Rattle.std.proofs.lemmas.Int.{ints}
 use Rattle.mpw_origins.proofs.search.is_within.Goals as goal
 
 pub returns : goal.returns
-returns c = λ _. record { left = omega (arith, ints); right = omega (arith, ints); bottom = omega (arith, ints); top = omega (arith, ints) }
+returns c = λ _. record {
+  left = omega (arith, ints);
+  right = omega (arith, ints);
+  bottom = omega (arith, ints);
+  top = omega (arith, ints);
+}

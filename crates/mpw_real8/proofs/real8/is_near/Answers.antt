@@ -4,10 +4,12 @@ use Rattle.mpw_real8.proofs.Scale.{near_above, near_below, near_far_below, power
 use Rattle.mpw_real8.proofs.real8.is_near.Goals as goal
 
 pub returns-then-exponent-ge78 : goal.returns-then-exponent-ge78
-returns-then-exponent-ge78 c = near_above c.args.mantissa c.args.number c.args.exponent (c.args.exponent - 78) (omega arith) c.requires.least c.requires.most
+returns-then-exponent-ge78 c = near_above c.args.mantissa c.args.number c.args.exponent
+    (c.args.exponent - 78) (omega arith) c.requires.least c.requires.most
 
 pub returns-then-below-gt21 : goal.returns-then-below-gt21
-returns-then-below-gt21 c = near_far_below c.args.mantissa c.args.number c.args.exponent c.from-below.result (omega arith) (omega arith) c.requires.mantissa c.requires.least
+returns-then-below-gt21 c = near_far_below c.args.mantissa c.args.number c.args.exponent
+    c.from-below.result (omega arith) (omega arith) c.requires.mantissa c.requires.least
 
 pub pow-requires : goal.pow-requires
 pow-requires c = let h = power_le c.from-below.result 21 (omega arith) in omega (arith, h)
@@ -26,4 +28,5 @@ overflow_mul-result c =
 
 pub returns : goal.returns
 returns c =
-    rw (c.abs_diff.ensures, c.from-value.ensures, c.from.ensures, c.pow.ensures) (near_below c.args.mantissa c.args.number c.args.exponent c.from-below.result (omega arith))
+    rw (c.abs_diff.ensures, c.from-value.ensures, c.from.ensures, c.pow.ensures)
+    (near_below c.args.mantissa c.args.number c.args.exponent c.from-below.result (omega arith))

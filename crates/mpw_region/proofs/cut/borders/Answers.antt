@@ -15,13 +15,17 @@ loop-b-preserved c =
     let fits1 : SFits w64 b.y1 = search rules in
     let first = rw (to_z-of_z w64 b.y0 fits0) at c.in_ok-push.ensures.items in
     let second = rw (to_z-of_z w64 b.y1 fits1) at c.in_ok-push-2.ensures.items in
-    borders_more c.loop-b.rows.items c.push-in-loop-b.new.self.items c.args.boxes.now c.loop-b.b-index no_box c.loop-b-test.true c.loop-b.invariant
+    borders_more c.loop-b.rows.items c.push-in-loop-b.new.self.items c.args.boxes.now
+    c.loop-b.b-index no_box c.loop-b-test.true c.loop-b.invariant
     (second ∙ ap (λ (rows : List ℤ). rows ++ b.y1 ∷ []) first)
 
 pub returns-clause-ordered : goal.returns-clause-ordered
-returns-clause-ordered c = ordered_from_sort c.sort_unstable.new.self.items c.sort_unstable.ensures.sorted
+returns-clause-ordered c =
+    ordered_from_sort c.sort_unstable.new.self.items c.sort_unstable.ensures.sorted
 
 pub returns-clause-all : goal.returns-clause-all
 returns-clause-all c =
-    borders_moved c.loop-b.rows.items c.sort_unstable.new.self.items c.args.boxes.now c.sort_unstable.ensures.permutation
-    (subst (λ (bs : List Box2). All (HasBorders c.loop-b.rows.items) bs) (take_all c.loop-b.b-index c.args.boxes.now c.loop-b-test.false) c.loop-b.invariant)
+    borders_moved c.loop-b.rows.items c.sort_unstable.new.self.items c.args.boxes.now
+    c.sort_unstable.ensures.permutation
+    (subst (λ (bs : List Box2). All (HasBorders c.loop-b.rows.items) bs)
+    (take_all c.loop-b.b-index c.args.boxes.now c.loop-b-test.false) c.loop-b.invariant)

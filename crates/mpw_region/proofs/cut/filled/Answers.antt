@@ -15,10 +15,16 @@ loop-b-preserved c =
     let i = c.loop-b.b-index in
     elim c.if-has_area.branch [
       | then-has_area+in_ok-push w ↦
-          rw (w.kept-is, w.in_ok-push.ensures.items) (HoldsJust-push c.args.boxes.now c.loop-b.kept.items HasArea i no_box c.loop-b-test.true c.loop-b.invariant (when_true _ _ w.if-has_area.true c.has_area.ensures))
+          rw (w.kept-is, w.in_ok-push.ensures.items)
+          (HoldsJust-push c.args.boxes.now c.loop-b.kept.items HasArea i no_box
+          c.loop-b-test.true c.loop-b.invariant
+          (when_true _ _ w.if-has_area.true c.has_area.ensures))
       | else-has_area w ↦
-          rw w.kept-is (HoldsJust-skip c.args.boxes.now c.loop-b.kept.items HasArea i no_box c.loop-b-test.true c.loop-b.invariant (when_false _ _ w.if-has_area.false c.has_area.ensures))
+          rw w.kept-is (HoldsJust-skip c.args.boxes.now c.loop-b.kept.items HasArea i no_box
+          c.loop-b-test.true c.loop-b.invariant
+          (when_false _ _ w.if-has_area.false c.has_area.ensures))
     ]
 
 pub returns : goal.returns
-returns c = HoldsJust-all c.args.boxes.now c.loop-b.kept.items HasArea c.loop-b.b-index c.loop-b-test.false c.loop-b.invariant
+returns c = HoldsJust-all c.args.boxes.now c.loop-b.kept.items HasArea c.loop-b.b-index
+    c.loop-b-test.false c.loop-b.invariant

@@ -1,6 +1,6 @@
 use Rattle.std.proofs.Common.{take}
 use Rattle.mpw_geom.specs.Plane.{HasArea}
-use Rattle.mpw_region.specs.Sweep.{HoldsJust}
+use Rattle.mpw_region.specs.Internal.Sweep.{HoldsJust}
 use Rattle.mpw_region.proofs.cut.filled.Given as goal
 
 abbrev pub invariant-loop-b : goal.invariant-loop-b

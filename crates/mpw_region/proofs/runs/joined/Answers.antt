@@ -5,7 +5,7 @@ use Rattle.std.proofs.lemmas.List.{nil_from_length}
 use Rattle.std.proofs.lemmas.List.Sorted.{All-permutation}
 use Rattle.mpw_region.specs.declared.runs.Run.{Run}
 use Rattle.mpw_region.specs.Runs.{IsFilled, CoversPlace}
-use Rattle.mpw_region.specs.Order.{AreInOrder}
+use Rattle.mpw_region.specs.Internal.Order.{AreInOrder}
 use Rattle.mpw_region.proofs.Joins.{no_run, first_and_rest, same_places-permutation}
 use Rattle.mpw_region.proofs.runs.joined.Goals as goal
 
@@ -13,25 +13,34 @@ pub returns-in-empty-clause-places : goal.returns-in-empty-clause-places
 returns-in-empty-clause-places c = λ line at.
     let moved = c.in_order-runs.ensures.moved in
     let empty = nil_from_length c.in_order-runs.result.items (omega arith) in
-    let same = same_places-permutation c.args.runs.items c.in_order-runs.result.items moved line at in
+    let same =
+    same_places-permutation c.args.runs.items c.in_order-runs.result.items moved line at in
     rw c.new.ensures.items (rw empty at same)
 
 pub join-requires-clause-filled : goal.join-requires-clause-filled
 join-requires-clause-filled c =
-    subst (λ (zs : List Run). All IsFilled zs) (sym (first_and_rest c.as_slice.result.now no_run c.in-len1-up.len_at_least ∙ c.as_slice.ensures.value))
-    (All-permutation IsFilled c.args.runs.items c.in_order-runs.result.items c.in_order-runs.ensures.moved c.requires)
+    subst (λ (zs : List Run). All IsFilled zs)
+    (sym (first_and_rest c.as_slice.result.now no_run c.in-len1-up.len_at_least
+    ∙ c.as_slice.ensures.value))
+    (All-permutation IsFilled c.args.runs.items c.in_order-runs.result.items
+    c.in_order-runs.ensures.moved c.requires)
 
 pub join-requires-clause-ordered : goal.join-requires-clause-ordered
 join-requires-clause-ordered c =
-    subst (λ (zs : List Run). AreInOrder zs) (sym (first_and_rest c.as_slice.result.now no_run c.in-len1-up.len_at_least ∙ c.as_slice.ensures.value))
+    subst (λ (zs : List Run). AreInOrder zs)
+    (sym (first_and_rest c.as_slice.result.now no_run c.in-len1-up.len_at_least
+    ∙ c.as_slice.ensures.value))
     c.in_order-runs.ensures.ordered
 
 pub returns-clause-places : goal.returns-clause-places
 returns-clause-places c =
-    let e = first_and_rest c.as_slice.result.now no_run c.in-len1-up.len_at_least ∙ c.as_slice.ensures.value in
-    let same = same_places-permutation c.args.runs.items c.in_order-runs.result.items c.in_order-runs.ensures.moved in
+    let e = first_and_rest c.as_slice.result.now no_run c.in-len1-up.len_at_least
+    ∙ c.as_slice.ensures.value in
+    let same = same_places-permutation c.args.runs.items c.in_order-runs.result.items
+    c.in_order-runs.ensures.moved in
     IfOk-weaker c.join.result _ _
     (λ v h line at.
-    let told = subst (λ (zs : List Run). CoversPlace v.items line at ↔ CoversPlace zs line at) e (h line at) in
+    let told = subst (λ (zs : List Run). CoversPlace v.items line at ↔ CoversPlace zs line at) e
+    (h line at) in
     (λ p. (same line at).0 (told.0 p), λ p. told.1 ((same line at).1 p)))
     c.join.ensures.places

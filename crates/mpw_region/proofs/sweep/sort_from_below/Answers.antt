@@ -4,4 +4,6 @@ use Rattle.mpw_region.proofs.Active.{rising_from_sort_by_key}
 use Rattle.mpw_region.proofs.sweep.sort_from_below.Goals as goal
 
 pub returns-clause-ordered : goal.returns-clause-ordered
-returns-clause-ordered c = rising_from_sort_by_key (λ (b : Box2). b.y0) c.sort_unstable_by_key.new.self.items c.sort_unstable_by_key.ensures.sorted (λ a r q k. search rules)
+returns-clause-ordered c = rising_from_sort_by_key (λ (b : Box2). b.y0)
+    c.sort_unstable_by_key.new.self.items c.sort_unstable_by_key.ensures.sorted
+    (λ a r q k. search rules)

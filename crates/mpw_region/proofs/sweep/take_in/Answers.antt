@@ -6,7 +6,7 @@ use Rattle.std.proofs.lemmas.List.Elements.{All-more}
 use Rattle.mpw_geom.specs.declared.plane.Box2.{Box2}
 use Rattle.mpw_geom.proofs.Tests.{lt_from_test}
 use Rattle.mpw_geom.proofs.Squares.{no_box}
-use Rattle.mpw_region.specs.Sweep.{HoldsJust}
+use Rattle.mpw_region.specs.Internal.Sweep.{HoldsJust}
 use Rattle.mpw_region.proofs.Active.{HoldsJust-push, HoldsJust-skip, HoldsJust-row, HoldsJust-all, ahead, le_from_not_lt}
 use Rattle.mpw_region.proofs.sweep.take_in.Goals as goal
 use Rattle.mpw_region.proofs.sweep.take_in.Goals.{then-row-b-2+in_ok-push, else-row-b-2}
@@ -15,7 +15,8 @@ pub returns-then-row-b-clause-exact : goal.returns-then-row-b-clause-exact
 returns-then-row-b-clause-exact c =
     let b : Box2 = get_or c.args.boxes.now c.loop-n.n no_box in
     let fits : SFits w64 b.y0 = search rules in
-    let above = lt_from_test c.args.row b.y0 (rw (to_z-of_z w64 c.args.row c.ranges.row, to_z-of_z w64 b.y0 fits) at c.if-row-b.true) in
+    let above = lt_from_test c.args.row b.y0
+    (rw (to_z-of_z w64 c.args.row c.ranges.row, to_z-of_z w64 b.y0 fits) at c.if-row-b.true) in
     let row_is = to_z-of_z w64 c.args.row c.ranges.row in
     let active = rw row_is at c.loop-n.invariant.active in
     let begun = rw row_is at c.loop-n.invariant.begun in
@@ -29,29 +30,41 @@ loop-n-preserved c =
     let fits : SFits w64 b.y0 = search rules in
     let ends_fit : SFits w64 b.y1 = search rules in
     let row_is = to_z-of_z w64 c.args.row c.ranges.row in
-    let begun = le_from_not_lt c.args.row b.y0 (rw (row_is, to_z-of_z w64 b.y0 fits) at c.if-row-b.false) in
+    let begun =
+    le_from_not_lt c.args.row b.y0 (rw (row_is, to_z-of_z w64 b.y0 fits) at c.if-row-b.false) in
     let old_active = rw row_is at c.loop-n.invariant.active in
     let old_begun = rw row_is at c.loop-n.invariant.begun in
-    let more = All-more (λ (x : Box2). x.y0 ≤ℤ c.args.row) c.args.boxes.now n no_box c.loop-n-test.true old_begun begun in
+    let more = All-more (λ (x : Box2). x.y0 ≤ℤ c.args.row) c.args.boxes.now n no_box
+    c.loop-n-test.true old_begun begun in
     elim c.if-row-b-2.branch [
       | then-row-b-2+in_ok-push w ↦
-          let above = lt_from_test c.args.row b.y1 (rw (row_is, to_z-of_z w64 b.y1 ends_fit) at w.if-row-b-2.true) in
+          let above = lt_from_test c.args.row b.y1
+          (rw (row_is, to_z-of_z w64 b.y1 ends_fit) at w.if-row-b-2.true) in
           record {
             begun = rw row_is more;
-            active = rw (w.active-is, w.in_ok-push.ensures.items, row_is) (HoldsJust-push c.args.boxes.now c.loop-n.active.items (λ (x : Box2). c.args.row <ℤ x.y1) n no_box c.loop-n-test.true old_active above);
+            active = rw (w.active-is, w.in_ok-push.ensures.items, row_is)
+                (HoldsJust-push c.args.boxes.now c.loop-n.active.items
+                (λ (x : Box2). c.args.row <ℤ x.y1) n no_box c.loop-n-test.true old_active above);
           }
       | else-row-b-2 w ↦
-          let ended = le_from_not_lt c.args.row b.y1 (rw (row_is, to_z-of_z w64 b.y1 ends_fit) at w.if-row-b-2.false) in
+          let ended = le_from_not_lt c.args.row b.y1
+          (rw (row_is, to_z-of_z w64 b.y1 ends_fit) at w.if-row-b-2.false) in
           record {
             begun = rw row_is more;
-            active = rw (w.active-is, row_is) (HoldsJust-skip c.args.boxes.now c.loop-n.active.items (λ (x : Box2). c.args.row <ℤ x.y1) n no_box c.loop-n-test.true old_active (λ p. omega (arith, ints, p, ended)));
+            active = rw (w.active-is, row_is)
+                (HoldsJust-skip c.args.boxes.now c.loop-n.active.items
+                (λ (x : Box2). c.args.row <ℤ x.y1) n no_box c.loop-n-test.true old_active
+                (λ p. omega (arith, ints, p, ended)));
           }
     ]
 
 pub returns-clause-active : goal.returns-clause-active
 returns-clause-active c =
-    let e : c.loop-n.n ≡ length c.args.boxes.now = omega (arith, c.loop-n.auto.n-end c.requires.within) in
-    subst (λ (m : ℕ). HoldsJust (take m c.args.boxes.now) (λ b. c.args.row <ℤ b.y1) c.loop-n.active.items) e (rw (to_z-of_z w64 c.args.row c.ranges.row) at c.loop-n.invariant.active)
+    let e : c.loop-n.n ≡ length c.args.boxes.now =
+    omega (arith, c.loop-n.auto.n-end c.requires.within) in
+    subst (λ (m : ℕ). HoldsJust (take m c.args.boxes.now) (λ b. c.args.row <ℤ b.y1)
+    c.loop-n.active.items) e (rw (to_z-of_z w64 c.args.row c.ranges.row) at
+    c.loop-n.invariant.active)
 
 pub returns-clause-exact : goal.returns-clause-exact
 returns-clause-exact c =
@@ -62,7 +75,9 @@ returns-clause-exact c =
     (λ k d l g. absurd (omega (arith, l, g, c.loop-n-test.false)))
 
 pub loop-n-init : goal.loop-n-init
-loop-n-init c = rw (to_z-of_z w64 c.args.row c.ranges.row) (record { begun = c.requires.begun; active = c.requires.active })
+loop-n-init c = rw (to_z-of_z w64 c.args.row c.ranges.row)
+    (record { begun = c.requires.begun; active = c.requires.active })
 
 pub returns-then-row-b-clause-active : goal.returns-then-row-b-clause-active
-returns-then-row-b-clause-active c = rw (to_z-of_z w64 c.args.row c.ranges.row) at c.loop-n.invariant.active
+returns-then-row-b-clause-active c =
+    rw (to_z-of_z w64 c.args.row c.ranges.row) at c.loop-n.invariant.active

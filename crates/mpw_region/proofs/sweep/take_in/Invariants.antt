@@ -1,6 +1,6 @@
 use Rattle.std.proofs.Common.{take, ◌≤ℤ◌, ◌<ℤ◌, ◌≤◌, length}
 use Rattle.std.specs.Prelude.{All}
-use Rattle.mpw_region.specs.Sweep.{HoldsJust}
+use Rattle.mpw_region.specs.Internal.Sweep.{HoldsJust}
 use Rattle.mpw_region.proofs.sweep.take_in.Given as goal
 
 abbrev pub invariant-loop-n : goal.invariant-loop-n

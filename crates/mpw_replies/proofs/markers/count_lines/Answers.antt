@@ -8,5 +8,6 @@ pub returns : goal.returns
 returns c names =
     let full = shown_lines names c.args.rules.now c.args.seen.now c.args.book.now in
     let masked = numbered_lines c.args.numbers.now 0 c.args.rules.now in
-    ap (λ n. n + c.count_numbered.result) (c.count_shown.ensures.count ∙ sym (shown_count names c.args.rules.now c.args.seen.now c.args.book.now))
+    ap (λ n. n + c.count_numbered.result) (c.count_shown.ensures.count
+    ∙ sym (shown_count names c.args.rules.now c.args.seen.now c.args.book.now))
     ∙ ap (λ n. length full + n) c.count_numbered.ensures.count ∙ sym (length-append full masked)

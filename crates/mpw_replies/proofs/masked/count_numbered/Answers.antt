@@ -10,13 +10,26 @@ loop-place-preserved c =
       | then-numbers-place-ne0 w ↦
           let more = counted_on c.args.numbers.now c.args.rules.now l.place c.loop-place-test.true
           (omega (arith, w.if-numbers-place-ne0.true)) in
-          rw w.count-is (omega (arith, l.invariant.0), omega (arith, c.loop-place-test.true), omega (arith, l.invariant.2, more))
+          rw w.count-is (
+            omega (arith, l.invariant.0),
+            omega (arith, c.loop-place-test.true),
+            omega (arith, l.invariant.2, more),
+          )
       | else-numbers-place-ne0 w ↦
           let same = counted_skip c.args.numbers.now c.args.rules.now l.place c.loop-place-test.true
           (omega (arith, w.if-numbers-place-ne0.false)) in
-          rw w.count-is (omega (arith, l.invariant.0), omega (arith, c.loop-place-test.true), omega (arith, l.invariant.2, same))
+          rw w.count-is (
+            omega (arith, l.invariant.0),
+            omega (arith, c.loop-place-test.true),
+            omega (arith, l.invariant.2, same),
+          )
     ]
 
 pub returns-clause-count : goal.returns-clause-count
 returns-clause-count c =
-    omega (arith, c.loop-place.invariant.2, counted_over c.args.numbers.now c.args.rules.now c.loop-place.place c.loop-place-test.false)
+    omega (
+      arith,
+      c.loop-place.invariant.2,
+      counted_over c.args.numbers.now c.args.rules.now
+          c.loop-place.place c.loop-place-test.false,
+    )

@@ -9,7 +9,9 @@ returns-then-number-ne0-clause-some c =
 
 pub loop-at-preserved : goal.loop-at-preserved
 loop-at-preserved c =
-    numbered_skip c.args.numbers.now c.args.rules.now _ c.loop-at.at c.loop-at.invariant c.loop-at-test.true (omega (arith, c.if-number-ne0.false))
+    numbered_skip c.args.numbers.now c.args.rules.now _ c.loop-at.at c.loop-at.invariant
+    c.loop-at-test.true (omega (arith, c.if-number-ne0.false))
 
 pub returns-clause-none : goal.returns-clause-none
-returns-clause-none c = numbered_over c.args.numbers.now c.args.rules.now _ c.loop-at.at c.loop-at.invariant c.loop-at-test.false
+returns-clause-none c = numbered_over c.args.numbers.now c.args.rules.now _ c.loop-at.at
+    c.loop-at.invariant c.loop-at-test.false

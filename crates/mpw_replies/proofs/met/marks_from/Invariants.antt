@@ -5,5 +5,6 @@ use Rattle.mpw_replies.proofs.met.marks_from.Given as goal
 
 abbrev pub invariant-loop-number : goal.invariant-loop-number
 invariant-loop-number l = (i : ℕ) → i < 64
-    → (slice_index_or l.marks i false || is_met_at l.fn.ranks (drop l.number-index l.fn.met) (l.fn.base + i))
+    → (slice_index_or l.marks i false || is_met_at l.fn.ranks (drop l.number-index l.fn.met)
+    (l.fn.base + i))
     ≡ is_met_at l.fn.ranks l.fn.met (l.fn.base + i)

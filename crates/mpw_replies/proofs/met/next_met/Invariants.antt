@@ -5,7 +5,8 @@ use Rattle.mpw_replies.proofs.met.next_met.Given as goal
 abbrev pub invariant-loop-turn : goal.invariant-loop-turn
 invariant-loop-turn l =
     IsMarked l.fn.ranks l.fn.met l.turn
-    × (met_left l.fn.cells l.fn.ranks l.fn.met l.initial.turn ≡ met_left l.fn.cells l.fn.ranks l.fn.met l.turn)
+    × (met_left l.fn.cells l.fn.ranks l.fn.met l.initial.turn ≡ met_left l.fn.cells l.fn.ranks
+    l.fn.met l.turn)
 
 abbrev pub decreases-loop-turn : goal.decreases-loop-turn
 decreases-loop-turn l = length l.cells - l.turn.at

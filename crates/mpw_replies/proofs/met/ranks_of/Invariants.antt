@@ -1,5 +1,5 @@
 use Rattle.std.proofs.Common.{◌≡◌, length, take}
-use Rattle.mpw_replies.specs.Ranks.{AreRanks}
+use Rattle.mpw_replies.specs.Internal.Ranks.{AreRanks}
 use Rattle.mpw_replies.proofs.met.ranks_of.Given as goal
 
 abbrev pub invariant-loop-submission : goal.invariant-loop-submission

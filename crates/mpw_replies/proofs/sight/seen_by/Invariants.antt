@@ -3,4 +3,5 @@ use Rattle.mpw_replies.specs.Sight.{seen_by}
 use Rattle.mpw_replies.proofs.sight.seen_by.Given as goal
 
 abbrev pub invariant-loop-submission : goal.invariant-loop-submission
-invariant-loop-submission l = l.seen.items ≡ seen_by l.fn.policy l.fn.conn (take l.submission-index l.fn.submissions)
+invariant-loop-submission l =
+    l.seen.items ≡ seen_by l.fn.policy l.fn.conn (take l.submission-index l.fn.submissions)

@@ -11,4 +11,5 @@ returns g c =
     (adds_more _ _ _ _ _ _ _ _ c.in_ok-put_part-2.was
     (adds_more _ _ _ _ _ _ _ _ c.in_ok-put_path.was
     (adds_more _ _ _ _ _ _ _ _ c.in_ok-put_part.was
-    c.put_part.ensures c.put_path.ensures) c.put_part-2.ensures) c.put_name.ensures) c.put_part-3.ensures) c.put_pair.ensures) c.put_part-4.ensures
+    c.put_part.ensures c.put_path.ensures) c.put_part-2.ensures) c.put_name.ensures)
+    c.put_part-3.ensures) c.put_pair.ensures) c.put_part-4.ensures

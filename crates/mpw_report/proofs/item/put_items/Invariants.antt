@@ -6,4 +6,5 @@ use Rattle.mpw_report.proofs.item.put_items.Given as goal
 
 abbrev pub invariant-loop-marker : goal.invariant-loop-marker
 invariant-loop-marker g l =
-    Appends (g.W.Write.contents l.initial.writer) (g.W.Write.contents l.writer) (flat_map (item_of l.rules l.top) (take l.marker-index l.markers))
+    Appends (g.W.Write.contents l.initial.writer) (g.W.Write.contents l.writer)
+    (flat_map (item_of l.rules l.top) (take l.marker-index l.markers))

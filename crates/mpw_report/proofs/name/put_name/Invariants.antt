@@ -6,4 +6,5 @@ use Rattle.mpw_report.proofs.name.put_name.Given as goal
 
 abbrev pub invariant-loop-byte : goal.invariant-loop-byte
 invariant-loop-byte g l =
-    Appends (g.W.Write.contents l.initial.writer) (g.W.Write.contents l.writer) (flat_map character (take l.byte-index l.fn.name))
+    Appends (g.W.Write.contents l.initial.writer) (g.W.Write.contents l.writer)
+    (flat_map character (take l.byte-index l.fn.name))

@@ -5,4 +5,5 @@ use Rattle.mpw_report.proofs.put.put.Given as goal
 
 abbrev pub invariant-loop-part : goal.invariant-loop-part
 invariant-loop-part g l =
-    Appends (g.W.Write.contents l.initial.writer) (g.W.Write.contents l.writer) (flat_map (λ part. part.now) (take l.part-index l.parts))
+    Appends (g.W.Write.contents l.initial.writer) (g.W.Write.contents l.writer)
+    (flat_map (λ part. part.now) (take l.part-index l.parts))

@@ -4,4 +4,5 @@ use Rattle.mpw_samples.proofs.encode.points_bytes.Given as goal
 
 -- the points so far, and those to come
 abbrev pub invariant-loop-point : goal.invariant-loop-point
-invariant-loop-point l = l.bytes.items ++ points_bytes (drop l.point-index l.points) ≡ points_bytes l.points
+invariant-loop-point l =
+    l.bytes.items ++ points_bytes (drop l.point-index l.points) ≡ points_bytes l.points

@@ -9,15 +9,20 @@ pub returns-in_err-add : goal.returns-in_err-add
 returns-in_err-add c =
     let rs = c.args.records.now in
     let p = err_from_is_err_and c.from_residual.result c.from_residual.ensures.1 in
-    rw (p.1, p.2) (gives_err {X = Vec ℕ Global} (λ text. text.items) [] (map raw rs) c.in_err-add.field-0.0 (λ e. found_too_long rs c.loop-new.new-index _ c.loop-new-test.true c.loop-new.invariant.fits (c.in_err-add.ensures.too_long e)))
+    rw (p.1, p.2) (gives_err {X = Vec ℕ Global} (λ text. text.items) [] (map raw rs)
+    c.in_err-add.field-0.0 (λ e. found_too_long rs c.loop-new.new-index _ c.loop-new-test.true
+    c.loop-new.invariant.fits (c.in_err-add.ensures.too_long e)))
 
 pub loop-new-preserved : goal.loop-new-preserved
 loop-new-preserved c =
     let rs = c.args.records.now in
     let i = c.loop-new.new-index in
     record {
-      same = rw (c.in_ok-add.ensures.ok, append_assoc, ← text_more rs i _ c.loop-new-test.true) c.loop-new.invariant.same;
-      fits = sym (too_long_more rs i _ c.loop-new-test.true ∙ ap (λ b. b || has_too_long (map raw (drop (i + 1) rs))) c.in_ok-add.ensures.fits) ∙ c.loop-new.invariant.fits;
+      same = rw (c.in_ok-add.ensures.ok, append_assoc, ← text_more rs i _ c.loop-new-test.true)
+          c.loop-new.invariant.same;
+      fits = sym (too_long_more rs i _ c.loop-new-test.true
+          ∙ ap (λ b. b || has_too_long (map raw (drop (i + 1) rs))) c.in_ok-add.ensures.fits)
+          ∙ c.loop-new.invariant.fits;
     }
 
 pub returns : goal.returns

@@ -5,6 +5,7 @@ use Rattle.mpw_samples.proofs.record.text_of.Given as goal
 -- the records so far, and those to come
 abbrev pub invariant-loop-new : goal.invariant-loop-new
 invariant-loop-new l = record {
-  same : l.text.items ++ text_of (map raw (drop l.new-index l.records)) ≡ text_of (map raw l.records);
+  same : l.text.items ++ text_of (map raw (drop l.new-index l.records))
+      ≡ text_of (map raw l.records);
   fits : has_too_long (map raw (drop l.new-index l.records)) ≡ has_too_long (map raw l.records);
 }

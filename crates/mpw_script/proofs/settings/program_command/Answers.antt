@@ -8,8 +8,12 @@ use Rattle.mpw_script.proofs.settings.program_command.Goals as goal
 pub returns : goal.returns
 unfolding program_app
 returns c =
-    let about_is : app_of c.about.result ≡ new_app (codes "mpw") = ap app_of_fields c.about.ensures ∙ c.new.ensures.app in
+    let about_is : app_of c.about.result ≡ new_app (codes "mpw") = ap app_of_fields c.about.ensures
+    ∙ c.new.ensures.app in
     let top_is : app_of c.subcommand_required.result ≡ top_app =
-    ap app_of_fields c.subcommand_required.ensures ∙ ap (λ (a : App). record a { top = record a.top { subcommand_required = true } }) about_is in
+    ap app_of_fields c.subcommand_required.ensures
+    ∙ ap (λ (a : App). record a { top = record a.top { subcommand_required = true } })
+    about_is in
     let script = c.in_ok-script_command.ensures in
-    IfOk-weaker c.subcommand.result _ _ (λ r h. h.shape script.local ∙ ap₂ with_subcommand top_is (ap (λ (a : App). a.top) script.app)) c.subcommand.ensures
+    IfOk-weaker c.subcommand.result _ _ (λ r h. h.shape script.local
+    ∙ ap₂ with_subcommand top_is (ap (λ (a : App). a.top) script.app)) c.subcommand.ensures

@@ -18,17 +18,23 @@ is_free = refl
 pub returns-in-Ok-clause-ok : goal.returns-in-Ok-clause-ok
 returns-in-Ok-clause-ok c =
     let app_is = c.in_ok-program_command.ensures in
-    let found = (c.in-Ok.ensures.matches (ap is_simple app_is ∙ is_ready)).1 ∙ ap (λ (a : App). subcommand_of a (map (λ word. word.now) c.args.words.now)) app_is in
-    let taken = ap (λ (a : App). fault_of a (map (λ word. word.now) c.args.words.now)) (sym app_is) ∙ c.in-Ok.ensures.kinds (ap is_simple_and_free app_is ∙ is_free) in
-    IfOk-weaker c.chosen.result _ _ (λ settings h. (taken, (h.0, sym found ∙ h.1, h.2))) c.chosen.ensures.ok
+    let found = (c.in-Ok.ensures.matches (ap is_simple app_is ∙ is_ready)).1
+    ∙ ap (λ (a : App). subcommand_of a (map (λ word. word.now) c.args.words.now)) app_is in
+    let taken = ap (λ (a : App). fault_of a (map (λ word. word.now) c.args.words.now)) (sym app_is)
+    ∙ c.in-Ok.ensures.kinds (ap is_simple_and_free app_is ∙ is_free) in
+    IfOk-weaker c.chosen.result _ _ (λ settings h. (taken, (h.0, sym found ∙ h.1, h.2)))
+    c.chosen.ensures.ok
 
 pub returns-in-Ok-clause-refused : goal.returns-in-Ok-clause-refused
 returns-in-Ok-clause-refused c =
     let app_is = c.in_ok-program_command.ensures in
-    let found = (c.in-Ok.ensures.matches (ap is_simple app_is ∙ is_ready)).1 ∙ ap (λ (a : App). subcommand_of a (map (λ word. word.now) c.args.words.now)) app_is in
-    refused-more c.chosen.result _ _ (λ none settings given. none given.1.0 (found ∙ given.1.1) settings given.1.2) c.chosen.ensures.refused
+    let found = (c.in-Ok.ensures.matches (ap is_simple app_is ∙ is_ready)).1
+    ∙ ap (λ (a : App). subcommand_of a (map (λ word. word.now) c.args.words.now)) app_is in
+    refused-more c.chosen.result _ _ (λ none settings given. none given.1.0 (found ∙ given.1.1)
+    settings given.1.2) c.chosen.ensures.refused
 
-pub returns-in_ok-to_string-in-Err-2-clause-refused : goal.returns-in_ok-to_string-in-Err-2-clause-refused
+pub returns-in_ok-to_string-in-Err-2-clause-refused :
+    goal.returns-in_ok-to_string-in-Err-2-clause-refused
 returns-in_ok-to_string-in-Err-2-clause-refused c =
     let app_is = c.in_ok-program_command.ensures in
     let words = map (λ word. word.now) c.args.words.now in
@@ -37,4 +43,6 @@ returns-in_ok-to_string-in-Err-2-clause-refused c =
     let same : c.kind.result ≡ OutOfMemory = c.kind.ensures ∙ memory in
     let equal = rw same at c.eq.ensures in
     true≢false (sym equal ∙ c.if-eq.false) in
-    inr (λ settings given. no-kind c.in-Err.error other (subst (λ k. HasKind k c.in-Err.error) (ap (λ (a : App). fault_of a words) app_is ∙ given.0) kinds))
+    inr (λ settings given. no-kind c.in-Err.error other
+    (subst (λ k. HasKind k c.in-Err.error) (ap (λ (a : App). fault_of a words) app_is ∙ given.0)
+    kinds))

@@ -7,5 +7,13 @@ returns c = λ conn requests same are.
     let second = c.args.second.now in
     let places = c.every_state_has_a_place_for_each_marker.ensures in
     c.equal_views_give_equal_answers.ensures.lists conn (state_of first) (state_of second) requests
-    (record { run = c.run_is_sound.ensures.run; places = places first.officer first.digest first.history })
-    (record { run = c.run_is_sound-2.ensures.run; places = places second.officer second.digest second.history }) same are
+    (record {
+      run = c.run_is_sound.ensures.run;
+      places = places first.officer first.digest
+          first.history;
+    })
+    (record {
+      run = c.run_is_sound-2.ensures.run;
+      places = places second.officer second.digest
+          second.history;
+    }) same are

@@ -1,12 +1,13 @@
 use Rattle.std.proofs.Common.{arith, pos, true, false, get_or}
 use Rattle.std.specs.Prelude.{int_lt, if◌then◌else◌}
 use Rattle.std.proofs.lemmas.Int.{ints, clamps}
-use Rattle.mpw_shapes.specs.Rows.{IsOutside, middle, state_at}
+use Rattle.mpw_shapes.specs.Internal.Rows.{IsOutside, middle, state_at}
 use Rattle.mpw_shapes.proofs.RowStates.{raised_none, size_none}
 use Rattle.mpw_shapes.proofs.rows.joined.Goals as goal
 
 pub returns-2-clause-states : goal.returns-2-clause-states
-returns-2-clause-states c = λ rows from to row. rw (c.deref_mut-2.ensures.value, c.deref_mut.ensures.value) (raised_none _)
+returns-2-clause-states c =
+    λ rows from to row. rw (c.deref_mut-2.ensures.value, c.deref_mut.ensures.value) (raised_none _)
 
 pub returns-2-clause-built : goal.returns-2-clause-built
 returns-2-clause-built c = λ rows from to less b a.
@@ -18,11 +19,14 @@ returns-2-clause-built c = λ rows from to less b a.
       less,
       b,
       a,
-      λ row. rw raised_none (elim (int_lt row (get_or rows (middle from to) (pos 0))) as (λ t. IsOutside c.narrowed.result (if t then state_at below rows from (middle from to) row else state_at above rows (middle from to) to row).winding) [
-        | true ↦ c.narrowed.ensures.one _ (one rows from (middle from to) b row)
-        | false ↦ c.narrowed.ensures.other _ (other rows (middle from to) to a row)
-      ]),
+      λ row. rw raised_none (elim (int_lt row (get_or rows (middle from to) (pos 0))) as
+          (λ t. IsOutside c.narrowed.result (if t then state_at below rows from (middle from to) row
+          else state_at above rows (middle from to) to row).winding) [
+            | true ↦ c.narrowed.ensures.one _ (one rows from (middle from to) b row)
+            | false ↦ c.narrowed.ensures.other _ (other rows (middle from to) to a row)
+          ]),
     )
 
 pub returns-2-clause-reach : goal.returns-2-clause-reach
-returns-2-clause-reach c = rw (c.deref_mut-2.ensures.value, c.deref_mut.ensures.value, size_none) (omega (arith, ints, clamps))
+returns-2-clause-reach c = rw (c.deref_mut-2.ensures.value, c.deref_mut.ensures.value, size_none)
+    (omega (arith, ints, clamps))

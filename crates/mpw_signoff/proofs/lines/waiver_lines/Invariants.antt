@@ -6,5 +6,6 @@ use Rattle.mpw_signoff.proofs.lines.waiver_lines.Given as goal
 abbrev pub invariant-loop-place : goal.invariant-loop-place
 invariant-loop-place l = record {
   within : l.place ≤ length l.book;
-  lines : l.lines.items ++ lines_from l.rules l.seen l.waivers l.place (drop l.place l.book) ≡ lines_from l.rules l.seen l.waivers 0 l.book;
+  lines : l.lines.items ++ lines_from l.rules l.seen l.waivers l.place (drop l.place l.book)
+      ≡ lines_from l.rules l.seen l.waivers 0 l.book;
 }

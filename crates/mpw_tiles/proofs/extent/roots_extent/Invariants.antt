@@ -6,6 +6,7 @@ use Rattle.mpw_tiles.proofs.extent.roots_extent.Given as goal
 
 abbrev pub invariant-loop-root : goal.invariant-loop-root
 invariant-loop-root l = record {
-  whole : hull l.extent (roots_extent l.shelf (drop l.root-index l.roots)) ≡ roots_extent l.shelf l.roots;
+  whole : hull l.extent (roots_extent l.shelf (drop l.root-index l.roots)) ≡ roots_extent l.shelf
+      l.roots;
   near : IfSome l.extent (λ b. is_box_near b ≡ true);
 }

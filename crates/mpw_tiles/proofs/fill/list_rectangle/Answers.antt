@@ -7,12 +7,18 @@ use Rattle.mpw_tiles.proofs.fill.list_rectangle.Goals.{then-area-via-then-area, 
 pub returns-then-area : goal.returns-then-area
 returns-then-area c = record {
   ok = elim c.then-area.branch [
-    | then-area-via-then-area w ↦ adds_nothing c.args.plan.now c.args.lists.now.items c.args.rectangle.now (no_width c.args.rectangle.now (let h = w.if-area.true in omega (arith, ints)))
-    | then-area-via-else-area+then-area-2 w ↦ adds_nothing c.args.plan.now c.args.lists.now.items c.args.rectangle.now (no_height c.args.rectangle.now (let h = w.if-area-2.true in omega (arith, ints)))
+    | then-area-via-then-area w ↦ adds_nothing c.args.plan.now c.args.lists.now.items
+        c.args.rectangle.now (no_width c.args.rectangle.now
+        (let h = w.if-area.true in omega (arith, ints)))
+    | then-area-via-else-area+then-area-2 w ↦ adds_nothing c.args.plan.now c.args.lists.now.items
+        c.args.rectangle.now (no_height c.args.rectangle.now
+        (let h = w.if-area-2.true in omega (arith, ints)))
   ];
 }
 
 pub returns : goal.returns
 returns c = record {
-  ok = adds_rectangle c.args.plan.now c.args.lists.now.items c.list_in_block.new.lists.items c.args.rectangle.now c.meeting-block.result c.requires.count c.in_ok-list_in_block.ensures.ok c.meeting-block.ensures.exact;
+  ok = adds_rectangle c.args.plan.now c.args.lists.now.items c.list_in_block.new.lists.items
+      c.args.rectangle.now c.meeting-block.result c.requires.count c.in_ok-list_in_block.ensures.ok
+      c.meeting-block.ensures.exact;
 }

@@ -6,6 +6,9 @@ use Rattle.mpw_tiles.proofs.fill.windows_of.Goals as goal
 
 pub returns : goal.returns
 returns c =
-    if_ok_same (AreWindowsOf c.args.plan.now c.args.rectangles.now) c.list_all.new.lists.items c.windows_from.result
-    (are_windows c.args.plan.now c.in_ok-lists.lists.items c.list_all.new.lists.items c.args.rectangles.now (c.in_ok-lists.ensures.count ∙ c.tiles.ensures) c.in_ok-lists.ensures.empty c.in_ok-list_all.ensures.ok)
+    if_ok_same (AreWindowsOf c.args.plan.now c.args.rectangles.now) c.list_all.new.lists.items
+    c.windows_from.result
+    (are_windows c.args.plan.now c.in_ok-lists.lists.items c.list_all.new.lists.items
+    c.args.rectangles.now (c.in_ok-lists.ensures.count ∙ c.tiles.ensures)
+    c.in_ok-lists.ensures.empty c.in_ok-list_all.ensures.ok)
     c.windows_from.ensures

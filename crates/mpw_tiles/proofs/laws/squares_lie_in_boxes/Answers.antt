@@ -6,5 +6,6 @@ returns c = record {
   boxes = in_boxes;
   extents = in_extents c.extents_are_least_boxes.ensures.holds;
   layers = layers_in_extents c.extents_are_least_boxes.ensures.holds;
-  plane = in_plane c.extents_are_least_boxes.ensures.holds c.roots_show_what_their_submissions_do.ensures.extent;
+  plane = in_plane c.extents_are_least_boxes.ensures.holds
+      c.roots_show_what_their_submissions_do.ensures.extent;
 }

@@ -7,5 +7,9 @@ use Rattle.mpw_tiles.proofs.listing.list_at.Goals as goal
 
 pub returns : goal.returns
 returns c = record {
-  ok = Lists-at c.args.lists.now.items _ c.args.tile c.args.rectangle c.requires (ap (λ (l : List Rectangle). slice_set c.args.lists.now.items c.args.tile l) (c.in_ok-push.ensures.ok ∙ ap (λ (l : List Rectangle). l ++ c.args.rectangle ∷ []) (c.index_mut.ensures.value ∙ get_or_default c.args.lists.now.items c.args.tile c.index_mut.result.now [] c.requires)));
+  ok = Lists-at c.args.lists.now.items _ c.args.tile c.args.rectangle c.requires
+      (ap (λ (l : List Rectangle). slice_set c.args.lists.now.items c.args.tile l)
+      (c.in_ok-push.ensures.ok ∙ ap (λ (l : List Rectangle). l ++ c.args.rectangle ∷ [])
+      (c.index_mut.ensures.value ∙ get_or_default c.args.lists.now.items c.args.tile
+      c.index_mut.result.now [] c.requires)));
 }

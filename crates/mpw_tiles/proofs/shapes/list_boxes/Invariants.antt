@@ -1,6 +1,7 @@
 use Rattle.std.proofs.Common.{take}
-use Rattle.mpw_tiles.specs.Listing.{AddsSquares, HasPlacedSquare}
+use Rattle.mpw_tiles.specs.Internal.Listing.{AddsSquares, HasPlacedSquare}
 use Rattle.mpw_tiles.proofs.shapes.list_boxes.Given as goal
 
 abbrev pub invariant-loop-b : goal.invariant-loop-b
-invariant-loop-b l = AddsSquares l.plan l.initial.lists.items l.lists.items (HasPlacedSquare (take l.b-index l.boxes) l.placing l.layer l.origin)
+invariant-loop-b l = AddsSquares l.plan l.initial.lists.items l.lists.items
+    (HasPlacedSquare (take l.b-index l.boxes) l.placing l.layer l.origin)

@@ -1,6 +1,6 @@
 use Rattle.std.proofs.Common.{◌∙◌, sym}
 use Rattle.mpw_walk.specs.Way.{item_of}
-use Rattle.mpw_tiles.specs.Listing.{HasPlacedSquare}
+use Rattle.mpw_tiles.specs.Internal.Listing.{HasPlacedSquare}
 use Rattle.mpw_tiles.specs.Shown.{ShowsSquare}
 use Rattle.mpw_tiles.proofs.Showing.{adds_same, boxes_show}
 use Rattle.mpw_tiles.proofs.shapes.list_shape.Goals as goal
@@ -10,7 +10,9 @@ returns c =
     let item = item_of c.args.placed.now in
     let boxes = c.in_ok-boxes.boxes.items in
     record {
-      ok = adds_same c.args.plan.now c.args.lists.now.items c.list_boxes.new.lists.items (HasPlacedSquare boxes item.placing c.in-Some.layer item.origin) (ShowsSquare item)
-          (boxes_show c.args.plan.now item boxes c.in-Some.layer (sym c.layer_of.ensures ∙ c.in-Some.is) c.in_ok-boxes.ensures.squares)
+      ok = adds_same c.args.plan.now c.args.lists.now.items c.list_boxes.new.lists.items
+          (HasPlacedSquare boxes item.placing c.in-Some.layer item.origin) (ShowsSquare item)
+          (boxes_show c.args.plan.now item boxes c.in-Some.layer
+          (sym c.layer_of.ensures ∙ c.in-Some.is) c.in_ok-boxes.ensures.squares)
           (rw c.as_slice.ensures.value at c.in_ok-list_boxes.ensures.ok);
     }

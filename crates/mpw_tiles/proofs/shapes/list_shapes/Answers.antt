@@ -12,7 +12,8 @@ pub loop-placed-init : goal.loop-placed-init
 loop-placed-init c = (
   [],
   refl,
-  adds_none c.args.plan.now c.args.lists.now.items (IsShown []) (λ layer origin s h. Held-nil (λ (i : Item). ShowsSquare i layer origin s) h),
+  adds_none c.args.plan.now c.args.lists.now.items (IsShown [])
+      (λ layer origin s h. Held-nil (λ (i : Item). ShowsSquare i layer origin s) h),
 )
 
 pub loop-placed-preserved : goal.loop-placed-preserved
@@ -20,6 +21,10 @@ loop-placed-preserved c =
     let done = c.loop-placed.invariant.0 in
     let item = item_of c.in-Some.placed in (
       done ++ item ∷ [],
-      append_assoc done (item ∷ []) (given c.next.new.self.left) ∙ ap (λ rest. done ++ rest) (sym c.in-Some.ensures.some) ∙ c.loop-placed.invariant.1,
-      adds_next c.args.plan.now c.args.lists.now.items c.loop-placed.lists.items c.list_shape.new.lists.items (IsShown done) (ShowsSquare item) (IsShown (done ++ item ∷ [])) (shown_more c.args.plan.now done item) c.loop-placed.invariant.2 c.in_ok-list_shape.ensures.ok,
+      append_assoc done (item ∷ []) (given c.next.new.self.left)
+          ∙ ap (λ rest. done ++ rest) (sym c.in-Some.ensures.some) ∙ c.loop-placed.invariant.1,
+      adds_next c.args.plan.now c.args.lists.now.items c.loop-placed.lists.items
+          c.list_shape.new.lists.items (IsShown done) (ShowsSquare item)
+          (IsShown (done ++ item ∷ [])) (shown_more c.args.plan.now done item)
+          c.loop-placed.invariant.2 c.in_ok-list_shape.ensures.ok,
     )

@@ -7,4 +7,5 @@ not_true b e t = absurd cc
 
 pub returns-else-is_short : goal.returns-else-is_short
 returns-else-is_short c =
-    c.if-is_short.false ∙ sym (far_placed c.args.placing c.args.b c.requires (λ w. not_true c.is_short.result c.if-is_short.false (c.is_short.ensures.1 w)))
+    c.if-is_short.false ∙ sym (far_placed c.args.placing c.args.b c.requires
+    (λ w. not_true c.is_short.result c.if-is_short.false (c.is_short.ensures.1 w)))

@@ -12,4 +12,6 @@ returns c =
     let f : FitsSigned w64 n = search rules in
     let g : FitsSigned w64 s.x = search rules in
     let h : FitsSigned w64 s.y = search rules in
-    same_point _ _ (computed p.x n s.x f g c.requires.from.x (rw e c.requires.to.x) ∙ ap (λ m. p.x +ℤ (m *ℤ s.x)) e) (computed p.y n s.y f h c.requires.from.y (rw e c.requires.to.y) ∙ ap (λ m. p.y +ℤ (m *ℤ s.y)) e)
+    same_point _ _ (computed p.x n s.x f g c.requires.from.x (rw e c.requires.to.x)
+    ∙ ap (λ m. p.x +ℤ (m *ℤ s.x)) e) (computed p.y n s.y f h c.requires.from.y
+    (rw e c.requires.to.y) ∙ ap (λ m. p.y +ℤ (m *ℤ s.y)) e)

@@ -1,4 +1,4 @@
-use Rattle.mpw_walk.specs.Named.{own_turns}
+use Rattle.mpw_walk.specs.Internal.Named.{own_turns}
 use Rattle.mpw_walk.specs.Turns.{placed_turns}
 use Rattle.mpw_walk.proofs.laws.names_are_walked.Goals as goal
 

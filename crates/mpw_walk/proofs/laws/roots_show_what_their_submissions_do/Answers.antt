@@ -3,6 +3,7 @@ use Rattle.mpw_walk.proofs.laws.roots_show_what_their_submissions_do.Goals as go
 
 pub returns : goal.returns
 returns c = record {
-  extent = roots_reach c.extents_are_least_boxes.ensures.joined c.extents_are_least_boxes.ensures.placed;
+  extent =
+      roots_reach c.extents_are_least_boxes.ensures.joined c.extents_are_least_boxes.ensures.placed;
   count = roots_counted;
 }

@@ -3,6 +3,7 @@ use Rattle.mpw_walk.proofs.laws.unmoved_roots_show_their_submission.Goals as goa
 
 pub returns : goal.returns
 returns c = record {
-  fits = unmoved_fits c.shelves_have_their_numbers.ensures.limits c.extents_are_least_boxes.ensures.placed;
+  fits = unmoved_fits c.shelves_have_their_numbers.ensures.limits
+      c.extents_are_least_boxes.ensures.placed;
   shapes = unmoved_shapes;
 }

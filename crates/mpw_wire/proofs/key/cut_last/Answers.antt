@@ -7,8 +7,10 @@ loop-at-init c = (cut_none c.args.word.now, omega arith)
 
 pub returns-then-word-at-eq58-clause-some : goal.returns-then-word-at-eq58-clause-some
 returns-then-word-at-eq58-clause-some c =
-    cut_found c.args.word.now c.loop-at.at 0 (search rules) c.loop-at.invariant.1 (search rules) c.loop-at.invariant.0
+    cut_found c.args.word.now c.loop-at.at 0 (search rules) c.loop-at.invariant.1 (search rules)
+    c.loop-at.invariant.0
 
 pub loop-at-preserved : goal.loop-at-preserved
 loop-at-preserved c =
-    cut_on c.args.word.now c.loop-at.at 0 (search rules) c.loop-at.invariant.1 (search rules) c.loop-at.invariant.0
+    cut_on c.args.word.now c.loop-at.at 0 (search rules) c.loop-at.invariant.1 (search rules)
+    c.loop-at.invariant.0

@@ -5,7 +5,8 @@ use Rattle.mpw_wire.proofs.markers.write_full.Given as goal
 
 abbrev pub invariant-loop-marker : goal.invariant-loop-marker
 invariant-loop-marker g l =
-    IsWritten listed_text (g.W.Sink.contents l.initial.writer) (g.W.Sink.contents l.writer) (g.W.Sink.failures l.initial.writer) (g.W.Sink.failures l.writer) l.initial.views l.views
+    IsWritten listed_text (g.W.Sink.contents l.initial.writer) (g.W.Sink.contents l.writer)
+    (g.W.Sink.failures l.initial.writer) (g.W.Sink.failures l.writer) l.initial.views l.views
 
 abbrev pub decreases-loop-marker : goal.decreases-loop-marker
 decreases-loop-marker g l = length l.views

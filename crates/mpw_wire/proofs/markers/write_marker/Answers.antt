@@ -10,13 +10,17 @@ unfolding marker_text
 returns-in_err-write_key g c =
     let fault = c.in_err-write_key.field-0.0 in
     let m = c.args.marker in
-    Writes_same _ _ _ _ _ (key_text m.rule.now c.of_key.result ++ met_text m.cells) _ (ap (λ spot. key_text m.rule.now spot ++ met_text m.cells) c.of_key.ensures)
+    Writes_same _ _ _ _ _ (key_text m.rule.now c.of_key.result ++ met_text m.cells) _
+    (ap (λ spot. key_text m.rule.now spot ++ met_text m.cells) c.of_key.ensures)
     (Writes_first _ _ _ _ fault _ _ (key_text m.rule.now c.of_key.result) (met_text m.cells)
-    (ap fault_of c.in_err-write_key.was) (handed_on c.from_residual.result fault c.from_residual.ensures.1) c.write_key.ensures)
+    (ap fault_of c.in_err-write_key.was)
+    (handed_on c.from_residual.result fault c.from_residual.ensures.1) c.write_key.ensures)
 
 pub returns : goal.returns
 unfolding marker_text
 returns g c =
     let m = c.args.marker in
-    Writes_same _ _ _ _ _ (key_text m.rule.now c.of_key.result ++ met_text m.cells) _ (ap (λ spot. key_text m.rule.now spot ++ met_text m.cells) c.of_key.ensures)
-    (Writes_both _ _ _ _ _ _ _ _ (key_text m.rule.now c.of_key.result) (met_text m.cells) (ap fault_of c.in_ok-write_key.was) c.write_key.ensures c.write_met.ensures)
+    Writes_same _ _ _ _ _ (key_text m.rule.now c.of_key.result ++ met_text m.cells) _
+    (ap (λ spot. key_text m.rule.now spot ++ met_text m.cells) c.of_key.ensures)
+    (Writes_both _ _ _ _ _ _ _ _ (key_text m.rule.now c.of_key.result) (met_text m.cells)
+    (ap fault_of c.in_ok-write_key.was) c.write_key.ensures c.write_met.ensures)

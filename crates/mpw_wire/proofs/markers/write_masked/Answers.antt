@@ -8,12 +8,18 @@ use Rattle.mpw_wire.proofs.markers.write_masked.Goals as goal
 
 pub loop-view-preserved : goal.loop-view-preserved
 loop-view-preserved g c =
-    written_more listed_text _ _ _ _ _ _ _ _ _ (number_line c.in-Some.view) c.loop-view.invariant c.in-Some.ensures.some
-    (subst (λ told. WritesKnown (g.W.Sink.contents c.loop-view.writer) (g.W.Sink.contents c.write_number.new.writer) (g.W.Sink.failures c.loop-view.writer) (g.W.Sink.failures c.write_number.new.writer) told (listed_text (number_line c.in-Some.view)))
+    written_more listed_text _ _ _ _ _ _ _ _ _ (number_line c.in-Some.view) c.loop-view.invariant
+    c.in-Some.ensures.some
+    (subst (λ told. WritesKnown (g.W.Sink.contents c.loop-view.writer)
+    (g.W.Sink.contents c.write_number.new.writer) (g.W.Sink.failures c.loop-view.writer)
+    (g.W.Sink.failures c.write_number.new.writer) told
+    (listed_text (number_line c.in-Some.view)))
     (ap fault_of c.in_ok-write_number.was) c.write_number.ensures)
 
 pub returns-in_err-write_number : goal.returns-in_err-write_number
 returns-in_err-write_number g c =
     let fault = c.in_err-write_number.field-0.0 in
-    written_stop listed_text _ _ _ _ _ _ _ _ _ (number_line c.in-Some.view) fault _ _ (ap fault_of c.in_err-write_number.was) (handed_on c.from_residual.result fault c.from_residual.ensures.1)
+    written_stop listed_text _ _ _ _ _ _ _ _ _ (number_line c.in-Some.view) fault _ _
+    (ap fault_of c.in_err-write_number.was)
+    (handed_on c.from_residual.result fault c.from_residual.ensures.1)
     c.loop-view.invariant c.in-Some.ensures.some c.write_number.ensures

@@ -5,7 +5,8 @@ use Rattle.mpw_wire.proofs.markers.write_masked.Given as goal
 
 abbrev pub invariant-loop-view : goal.invariant-loop-view
 invariant-loop-view g l =
-    IsWritten listed_text (g.W.Sink.contents l.initial.writer) (g.W.Sink.contents l.writer) (g.W.Sink.failures l.initial.writer) (g.W.Sink.failures l.writer) l.initial.views l.views
+    IsWritten listed_text (g.W.Sink.contents l.initial.writer) (g.W.Sink.contents l.writer)
+    (g.W.Sink.failures l.initial.writer) (g.W.Sink.failures l.writer) l.initial.views l.views
 
 abbrev pub decreases-loop-view : goal.decreases-loop-view
 decreases-loop-view g l = length l.views

@@ -10,30 +10,41 @@ pub loop-word-init : goal.loop-word-init
 unfolding words
 loop-word-init c =
     let items = c.deref-word-items.result.now in
-    let words_are : map (λ word. word.now) items ≡ words c.args.text.now = ap (map (λ word. word.now)) c.deref-word-items.ensures.value ∙ c.in_ok-words.ensures in
-    ap (λ n. with_names n (names_of c.args.origin (map (λ word. word.now) items))) c.new-names.ensures ∙ with_no_names _ ∙ ap (names_of c.args.origin) words_are
+    let words_are : map (λ word. word.now) items ≡ words c.args.text.now =
+    ap (map (λ word. word.now)) c.deref-word-items.ensures.value ∙ c.in_ok-words.ensures in
+    ap (λ n. with_names n (names_of c.args.origin (map (λ word. word.now) items)))
+    c.new-names.ensures ∙ with_no_names _ ∙ ap (names_of c.args.origin) words_are
 
 pub returns-in-None : goal.returns-in-None
 returns-in-None c =
     let items = c.deref-word-items.result.now in
     let ws = map (λ word. word.now) items in
-    let within : c.loop-word.word-index < length ws = subst (λ n. c.loop-word.word-index < n) (sym (length-map items (λ word. word.now))) (search rules) in
-    let none = names_none c.args.origin c.loop-word.names ws c.loop-word.word-index _ within (get_or-map (λ word. word.now) items c.loop-word.word-index _ [] (search rules)) (sym c.in_ok-name.ensures ∙ c.in-None.is) in
+    let within : c.loop-word.word-index < length ws = subst (λ n. c.loop-word.word-index < n)
+    (sym (length-map items (λ word. word.now))) (search rules) in
+    let none = names_none c.args.origin c.loop-word.names ws c.loop-word.word-index _ within
+    (get_or-map (λ word. word.now) items c.loop-word.word-index _ [] (search rules))
+    (sym c.in_ok-name.ensures ∙ c.in-None.is) in
     sym none ∙ c.loop-word.invariant
 
 pub loop-word-preserved : goal.loop-word-preserved
 loop-word-preserved c =
     let items = c.deref-word-items.result.now in
     let ws = map (λ word. word.now) items in
-    let within : c.loop-word.word-index < length ws = subst (λ n. c.loop-word.word-index < n) (sym (length-map items (λ word. word.now))) (search rules) in
-    let next = names_next c.args.origin c.loop-word.names ws c.loop-word.word-index _ c.in-Some.name within (get_or-map (λ word. word.now) items c.loop-word.word-index _ [] (search rules)) (sym c.in_ok-name.ensures ∙ c.in-Some.is) in
-    ap (λ n. with_names n (names_of c.args.origin (drop (c.loop-word.word-index + 1) ws))) c.in_ok-push-in-Some.ensures.ok ∙ next ∙ c.loop-word.invariant
+    let within : c.loop-word.word-index < length ws = subst (λ n. c.loop-word.word-index < n)
+    (sym (length-map items (λ word. word.now))) (search rules) in
+    let next = names_next c.args.origin c.loop-word.names ws c.loop-word.word-index _ c.in-Some.name
+    within (get_or-map (λ word. word.now) items c.loop-word.word-index _ [] (search rules))
+    (sym c.in_ok-name.ensures ∙ c.in-Some.is) in
+    ap (λ n. with_names n (names_of c.args.origin (drop (c.loop-word.word-index + 1) ws)))
+    c.in_ok-push-in-Some.ensures.ok ∙ next ∙ c.loop-word.invariant
 
 pub returns : goal.returns
 unfolding names_of
 returns c =
     let items = c.deref-word-items.result.now in
     let ws = map (λ word. word.now) items in
-    let past : length ws ≤ c.loop-word.word-index = subst (λ n. n ≤ c.loop-word.word-index) (sym (length-map items (λ word. word.now))) (search rules) in
-    let whole = ap (λ rest. with_names c.loop-word.names (names_of c.args.origin rest)) (drop_of_length-le ws past) ∙ ap (λ names. Some names) (append-nil c.loop-word.names) in
+    let past : length ws ≤ c.loop-word.word-index = subst (λ n. n ≤ c.loop-word.word-index)
+    (sym (length-map items (λ word. word.now))) (search rules) in
+    let whole = ap (λ rest. with_names c.loop-word.names (names_of c.args.origin rest))
+    (drop_of_length-le ws past) ∙ ap (λ names. Some names) (append-nil c.loop-word.names) in
     sym whole ∙ c.loop-word.invariant

@@ -6,4 +6,6 @@ use Rattle.mpw_wire.proofs.operand.names.Given as goal
 
 -- the names so far, and those of the words that are left, are the names of all words
 abbrev pub invariant-loop-word : goal.invariant-loop-word
-invariant-loop-word l = with_names l.names (names_of l.origin (drop l.word-index (map (λ word. word.now) l.word-items))) ≡ names_of l.origin (words l.text)
+invariant-loop-word l = with_names l.names
+    (names_of l.origin (drop l.word-index (map (λ word. word.now) l.word-items)))
+    ≡ names_of l.origin (words l.text)

@@ -8,4 +8,5 @@ pub returns-clause-text : goal.returns-clause-text
 returns-clause-text g c =
     let text = reply_text c.args.reply.now in
     subst (WritesKnown _ _ _ _ _) (append-nil text)
-    (Writes_both _ _ _ _ _ _ _ _ text [] (ap fault_of c.in_ok-write_text.was) c.write_text.ensures c.flush.ensures.text)
+    (Writes_both _ _ _ _ _ _ _ _ text [] (ap fault_of c.in_ok-write_text.was) c.write_text.ensures
+    c.flush.ensures.text)

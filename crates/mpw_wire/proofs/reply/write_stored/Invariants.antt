@@ -6,5 +6,6 @@ use Rattle.mpw_wire.proofs.reply.write_stored.Given as goal
 
 abbrev pub invariant-loop-line : goal.invariant-loop-line
 invariant-loop-line g l =
-    Appends (g.W.Sink.contents l.initial.writer) (g.W.Sink.contents l.writer) (flat_map line_text (take l.line-index l.lines))
+    Appends (g.W.Sink.contents l.initial.writer) (g.W.Sink.contents l.writer)
+    (flat_map line_text (take l.line-index l.lines))
     × (g.W.Sink.failures l.writer ≡ g.W.Sink.failures l.initial.writer)

@@ -10,7 +10,9 @@ unfolding asked_text
 returns-in_err-write_marker_key g c =
     let fault = c.in_err-write_marker_key.field-0.0 in
     Writes_first _ _ _ _ fault _ _ (marker_key c.args.marker.now) (asked_part c.args.asker.now)
-    (ap fault_of c.in_err-write_marker_key.was) (handed_on c.from_residual.result fault c.from_residual.ensures.1) c.write_marker_key.ensures
+    (ap fault_of c.in_err-write_marker_key.was)
+    (handed_on c.from_residual.result fault c.from_residual.ensures.1)
+    c.write_marker_key.ensures
 
 pub returns : goal.returns
 unfolding asked_text

@@ -5,7 +5,9 @@ use Rattle.mpw_wire.proofs.setting.write_escaped.Given as goal
 
 abbrev pub invariant-loop-piece : goal.invariant-loop-piece
 invariant-loop-piece g l =
-    IsPut (g.W.Sink.contents l.initial.writer) (g.W.Sink.contents l.writer) (g.W.Sink.failures l.initial.writer) (g.W.Sink.failures l.writer) (escaped default_writer l.text) l.pieces
+    IsPut (g.W.Sink.contents l.initial.writer) (g.W.Sink.contents l.writer)
+    (g.W.Sink.failures l.initial.writer) (g.W.Sink.failures l.writer)
+    (escaped default_writer l.text) l.pieces
 
 abbrev pub decreases-loop-piece : goal.decreases-loop-piece
 decreases-loop-piece g l = length l.pieces

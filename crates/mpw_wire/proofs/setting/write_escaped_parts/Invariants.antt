@@ -6,5 +6,6 @@ use Rattle.mpw_wire.proofs.setting.write_escaped_parts.Given as goal
 
 abbrev pub invariant-loop-part : goal.invariant-loop-part
 invariant-loop-part g l =
-    Appends (g.W.Sink.contents l.initial.writer) (g.W.Sink.contents l.writer) (flat_map (λ part. escaped default_writer part.now) (take l.part-index l.parts))
+    Appends (g.W.Sink.contents l.initial.writer) (g.W.Sink.contents l.writer)
+    (flat_map (λ part. escaped default_writer part.now) (take l.part-index l.parts))
     × (g.W.Sink.failures l.writer ≡ g.W.Sink.failures l.initial.writer)

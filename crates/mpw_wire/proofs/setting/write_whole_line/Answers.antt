@@ -9,7 +9,8 @@ pub returns-in_err-write_parts : goal.returns-in_err-write_parts
 returns-in_err-write_parts g c =
     let fault = c.in_err-write_parts.field-0.0 in
     Writes_first _ _ _ _ fault _ _ (flat_map (λ part. part.now) c.args.parts.now) line_feed
-    (ap fault_of c.in_err-write_parts.was) (handed_on c.from_residual.result fault c.from_residual.ensures.1) c.write_parts.ensures
+    (ap fault_of c.in_err-write_parts.was)
+    (handed_on c.from_residual.result fault c.from_residual.ensures.1) c.write_parts.ensures
 
 pub returns : goal.returns
 returns g c =

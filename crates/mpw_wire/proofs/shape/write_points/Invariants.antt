@@ -7,5 +7,6 @@ use Rattle.mpw_wire.proofs.shape.write_points.Given as goal
 
 abbrev pub invariant-loop-point : goal.invariant-loop-point
 invariant-loop-point g l =
-    Appends (g.W.Sink.contents l.initial.writer) (g.W.Sink.contents l.writer) (flat_map (λ p. point_text (placed_point l.placing p)) (take l.point-index l.points))
+    Appends (g.W.Sink.contents l.initial.writer) (g.W.Sink.contents l.writer)
+    (flat_map (λ p. point_text (placed_point l.placing p)) (take l.point-index l.points))
     × (g.W.Sink.failures l.writer ≡ g.W.Sink.failures l.initial.writer)

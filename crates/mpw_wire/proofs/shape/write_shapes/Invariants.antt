@@ -5,7 +5,8 @@ use Rattle.mpw_wire.proofs.shape.write_shapes.Given as goal
 
 abbrev pub invariant-loop-shape : goal.invariant-loop-shape
 invariant-loop-shape g l =
-    IsWritten listed_text (g.W.Sink.contents l.initial.writer) (g.W.Sink.contents l.writer) (g.W.Sink.failures l.initial.writer) (g.W.Sink.failures l.writer) l.initial.views l.views
+    IsWritten listed_text (g.W.Sink.contents l.initial.writer) (g.W.Sink.contents l.writer)
+    (g.W.Sink.failures l.initial.writer) (g.W.Sink.failures l.writer) l.initial.views l.views
 
 abbrev pub decreases-loop-shape : goal.decreases-loop-shape
 decreases-loop-shape g l = length l.views

@@ -10,4 +10,6 @@ returns-in-Some c =
     let text = c.args.text.now in
     let behind = c.in-Some.at + 1 in
     words_found text c.in-Some.at (sym c.in-Some.ensures)
-    ∙ ap (λ rest. take c.in-Some.at text ∷ words rest) (sym (take_all (length text - behind) (drop behind text) (omega (arith, length-drop behind text))))
+    ∙ ap (λ rest. take c.in-Some.at text ∷ words rest)
+    (sym (take_all (length text - behind) (drop behind text)
+    (omega (arith, length-drop behind text))))

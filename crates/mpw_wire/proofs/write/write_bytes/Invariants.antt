@@ -4,7 +4,8 @@ use Rattle.mpw_wire.proofs.write.write_bytes.Given as goal
 
 abbrev pub invariant-loop-written : goal.invariant-loop-written
 invariant-loop-written g l =
-    Appends (g.W.Sink.contents l.initial.writer) (g.W.Sink.contents l.writer) (take l.written l.bytes)
+    Appends (g.W.Sink.contents l.initial.writer) (g.W.Sink.contents l.writer)
+    (take l.written l.bytes)
     × (g.W.Sink.failures l.writer ≡ g.W.Sink.failures l.initial.writer)
     × (l.written ≤ length l.bytes)
 

@@ -3,7 +3,8 @@ use Rattle.mpw_job.specs.Carried.{job_of}
 use Rattle.mpw_work.proofs.working.all_done.Given as goal
 
 abbrev pub invariant-loop-from : goal.invariant-loop-from
-invariant-loop-from g l = (map job_of l.done.items ≡ take l.from l.fn.jobs) × (l.from ≤ length l.fn.jobs)
+invariant-loop-from g l =
+    (map job_of l.done.items ≡ take l.from l.fn.jobs) × (l.from ≤ length l.fn.jobs)
 
 abbrev pub decreases-loop-from : goal.decreases-loop-from
 decreases-loop-from g l = length l.fn.jobs - l.from

@@ -5,4 +5,5 @@ use Rattle.mpw_work.specs.Working.{job_at}
 use Rattle.mpw_work.proofs.working.jobs_over.Given as goal
 
 abbrev pub invariant-loop-tile : goal.invariant-loop-tile
-invariant-loop-tile l = l.jobs.items ≡ map (job_at l.fn.snapshot l.fn.plan l.fn.windows l.fn.run) (range_with_len 0 l.tile)
+invariant-loop-tile l = l.jobs.items ≡ map (job_at l.fn.snapshot l.fn.plan l.fn.windows l.fn.run)
+    (range_with_len 0 l.tile)

@@ -3,4 +3,5 @@ use Rattle.mpw_hier.specs.Shelf.{bound_to}
 use Rattle.runs_layouts.proofs.shelves.put.Goals as goal
 
 pub put-requires-clause-bound : goal.put-requires-clause-bound
-put-requires-clause-bound c = ap (bound_to c.args.shelf.now) (sym c.as_slice.ensures) ∙ c.in_ok-bound.ensures.ok
+put-requires-clause-bound c =
+    ap (bound_to c.args.shelf.now) (sym c.as_slice.ensures) ∙ c.in_ok-bound.ensures.ok

@@ -8,8 +8,10 @@ use Rattle.runs_markers.proofs.asked.all_ordered.Goals as goal
 
 pub loop-b-preserved : goal.loop-b-preserved
 loop-b-preserved c =
-    All-more IsOrdered c.args.boxes.now c.loop-b.b-index _ c.loop-b-test.true c.loop-b.invariant (c.if-not-is_ordered.ensures refl)
+    All-more IsOrdered c.args.boxes.now c.loop-b.b-index _ c.loop-b-test.true c.loop-b.invariant
+    (c.if-not-is_ordered.ensures refl)
 
 pub returns : goal.returns
 returns c =
-    λ _. subst (λ (xs : List Box2). All IsOrdered xs) (take_all c.loop-b.b-index c.args.boxes.now c.loop-b-test.false) c.loop-b.invariant
+    λ _. subst (λ (xs : List Box2). All IsOrdered xs)
+    (take_all c.loop-b.b-index c.args.boxes.now c.loop-b-test.false) c.loop-b.invariant

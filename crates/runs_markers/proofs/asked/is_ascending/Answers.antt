@@ -3,4 +3,5 @@ use Rattle.std.proofs.lemmas.List.Kept.{AllPairs-from_increasing}
 use Rattle.runs_markers.proofs.asked.is_ascending.Goals as goal
 
 pub returns : goal.returns
-returns c = λ _. AllPairs-from_increasing c.args.numbers.now (λ k l. c.loop-i.invariant k (omega arith))
+returns c =
+    λ _. AllPairs-from_increasing c.args.numbers.now (λ k l. c.loop-i.invariant k (omega arith))

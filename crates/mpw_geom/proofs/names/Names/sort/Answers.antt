@@ -6,4 +6,5 @@ use Rattle.mpw_geom.proofs.NamesLemmas.{by_name-sorted}
 use Rattle.mpw_geom.proofs.names.Names.sort.Goals as goal
 
 pub returns-clause-ok : goal.returns-clause-ok
-returns-clause-ok c = rw (← c.self.view_is) (dedup_is name_eq _ _ c.dedup.ensures.filtered ∙ sym (by_name-sorted _ _ c.in_ok-sort.ensures.permutation c.in_ok-sort.ensures.sorted))
+returns-clause-ok c = rw (← c.self.view_is) (dedup_is name_eq _ _ c.dedup.ensures.filtered
+    ∙ sym (by_name-sorted _ _ c.in_ok-sort.ensures.permutation c.in_ok-sort.ensures.sorted))

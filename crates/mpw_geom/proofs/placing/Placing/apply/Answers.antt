@@ -6,4 +6,5 @@ use Rattle.mpw_geom.proofs.placing.Placing.apply.Goals as goal
 
 pub returns : goal.returns
 unfolding placed_point
-returns c = rw (← c.apply-x.ensures.point) (same_point _ _ (omega (arith, ints)) (omega (arith, ints)))
+returns c =
+    rw (← c.apply-x.ensures.point) (same_point _ _ (omega (arith, ints)) (omega (arith, ints)))

@@ -4,4 +4,10 @@ use Rattle.mpw_geom.proofs.plane.Orient.then.Goals as goal
 pub returns-in-M270-clause-squares : goal.returns-in-M270-clause-squares
 unfolding oriented_square
 returns-in-M270-clause-squares c =
-    λ s. rw (c.turned-in-M270-3.ensures.squares s, c.turned-in-M270-2.ensures.squares s, c.turned-in-M270.ensures.squares s, c.mirrored-in-M270.ensures.squares s, c.in-M270.is)
+    λ s. rw (
+      c.turned-in-M270-3.ensures.squares s,
+      c.turned-in-M270-2.ensures.squares s,
+      c.turned-in-M270.ensures.squares s,
+      c.mirrored-in-M270.ensures.squares s,
+      c.in-M270.is,
+    )

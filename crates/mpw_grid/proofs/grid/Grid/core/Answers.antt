@@ -7,12 +7,14 @@ use Rattle.mpw_grid.proofs.Cores.{columns_short, rows_short, core_is, core_near}
 use Rattle.mpw_grid.proofs.grid.Grid.core.Goals as goal
 
 pub distance-requires : goal.distance-requires
-distance-requires c = let p = columns_short _ c.self.inside.columns c.self.inside.rows c.args.cell c.self.invariant in omega arith
+distance-requires c = let p = columns_short _ c.self.inside.columns c.self.inside.rows c.args.cell
+    c.self.invariant in omega arith
 
 pub distance-requires-2 : goal.distance-requires-2
 distance-requires-2 c =
     let g : Cells = record { extent = c.self.inside.extent; side = c.self.inside.side } in
-    let u : c.args.cell < cells g = subst (λ (g : Cells). c.args.cell < cells g) (sym c.self.view_is) c.requires in
+    let u : c.args.cell < cells g = subst (λ (g : Cells). c.args.cell < cells g)
+    (sym c.self.view_is) c.requires in
     let p = rows_short g c.self.inside.columns c.self.inside.rows c.args.cell c.self.invariant u in
     omega arith
 
@@ -27,7 +29,8 @@ overflow_add-x0 c =
 pub overflow_add-y0 : goal.overflow_add-y0
 overflow_add-y0 c =
     let g : Cells = record { extent = c.self.inside.extent; side = c.self.inside.side } in
-    let u : c.args.cell < cells g = subst (λ (g : Cells). c.args.cell < cells g) (sym c.self.view_is) c.requires in
+    let u : c.args.cell < cells g = subst (λ (g : Cells). c.args.cell < cells g)
+    (sym c.self.view_is) c.requires in
     let p = rows_short g c.self.inside.columns c.self.inside.rows c.args.cell c.self.invariant u in
     let q = c.distance-2.ensures in
     let l = c.self.invariant.plane.y0.low in
@@ -47,7 +50,8 @@ overflow_add-result c =
 pub overflow_add-result-2 : goal.overflow_add-result-2
 overflow_add-result-2 c =
     let g : Cells = record { extent = c.self.inside.extent; side = c.self.inside.side } in
-    let u : c.args.cell < cells g = subst (λ (g : Cells). c.args.cell < cells g) (sym c.self.view_is) c.requires in
+    let u : c.args.cell < cells g = subst (λ (g : Cells). c.args.cell < cells g)
+    (sym c.self.view_is) c.requires in
     let p = rows_short g c.self.inside.columns c.self.inside.rows c.args.cell c.self.invariant u in
     let q = c.distance-2.ensures in
     let l = c.self.invariant.plane.y0.low in
@@ -59,7 +63,8 @@ overflow_add-result-2 c =
 pub returns-clause-core : goal.returns-clause-core
 returns-clause-core c =
     let g : Cells = record { extent = c.self.inside.extent; side = c.self.inside.side } in
-    let u : c.args.cell < cells g = subst (λ (g : Cells). c.args.cell < cells g) (sym c.self.view_is) c.requires in
+    let u : c.args.cell < cells g = subst (λ (g : Cells). c.args.cell < cells g)
+    (sym c.self.view_is) c.requires in
     let p = columns_short g c.self.inside.columns c.self.inside.rows c.args.cell c.self.invariant in
     let p' = rows_short g c.self.inside.columns c.self.inside.rows c.args.cell c.self.invariant u in
     let q = c.distance.ensures in
@@ -70,12 +75,15 @@ returns-clause-core c =
     let r' = c.self.invariant.plane.y0.high in
     let s = c.self.invariant.short in
     let t = c.from-side.ensures in
-    rw (← c.self.view_is) (core_is g c.self.inside.columns c.self.inside.rows c.args.cell _ c.self.invariant (omega (arith, ints)) (omega (arith, ints)) (omega (arith, ints)) (omega (arith, ints)))
+    rw (← c.self.view_is) (core_is g c.self.inside.columns c.self.inside.rows c.args.cell _
+    c.self.invariant (omega (arith, ints)) (omega (arith, ints)) (omega (arith, ints))
+    (omega (arith, ints)))
 
 pub returns-clause-reach : goal.returns-clause-reach
 returns-clause-reach c =
     let g : Cells = record { extent = c.self.inside.extent; side = c.self.inside.side } in
-    let u : c.args.cell < cells g = subst (λ (g : Cells). c.args.cell < cells g) (sym c.self.view_is) c.requires in
+    let u : c.args.cell < cells g = subst (λ (g : Cells). c.args.cell < cells g)
+    (sym c.self.view_is) c.requires in
     let p = columns_short g c.self.inside.columns c.self.inside.rows c.args.cell c.self.invariant in
     let p' = rows_short g c.self.inside.columns c.self.inside.rows c.args.cell c.self.invariant u in
     let q = c.distance.ensures in
@@ -86,12 +94,20 @@ returns-clause-reach c =
     let r' = c.self.invariant.plane.y0.high in
     let s = c.self.invariant.short in
     let t = c.from-side.ensures in
-    record { left = omega (arith, ints); right = omega (arith, ints); bottom = omega (arith, ints); top = omega (arith, ints) }
+    record {
+      left = omega (arith, ints);
+      right = omega (arith, ints);
+      bottom = omega (arith, ints);
+      top = omega (arith, ints);
+    }
 
 pub returns-clause-near : goal.returns-clause-near
 returns-clause-near c = λ m b.
     let g : Cells = record { extent = c.self.inside.extent; side = c.self.inside.side } in
-    let u : c.args.cell < cells g = subst (λ (g : Cells). c.args.cell < cells g) (sym c.self.view_is) c.requires in
-    let b' : IsBoxWithin m g.extent = subst (λ (g : Cells). IsBoxWithin m g.extent) (sym c.self.view_is) b in
+    let u : c.args.cell < cells g = subst (λ (g : Cells). c.args.cell < cells g)
+    (sym c.self.view_is) c.requires in
+    let b' : IsBoxWithin m g.extent = subst (λ (g : Cells). IsBoxWithin m g.extent)
+    (sym c.self.view_is) b in
     subst (λ (x : Box2). IsBoxWithin (m + 2 ^ 32) x) (sym (returns-clause-core c))
-    (subst (λ (g : Cells). IsBoxWithin (m + 2 ^ 32) (core_of g c.args.cell)) c.self.view_is (core_near g c.self.inside.columns c.self.inside.rows c.args.cell m c.self.invariant u b'))
+    (subst (λ (g : Cells). IsBoxWithin (m + 2 ^ 32) (core_of g c.args.cell)) c.self.view_is
+    (core_near g c.self.inside.columns c.self.inside.rows c.args.cell m c.self.invariant u b'))

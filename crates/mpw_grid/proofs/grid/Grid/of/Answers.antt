@@ -4,7 +4,8 @@ use Rattle.std.proofs.lemmas.Grind.{common_steps}
 use Rattle.mpw_grid.specs.Grid.{Cells, sides_between, columns, rows, cells, IsGrid}
 use Rattle.mpw_grid.proofs.grid.Grid.of.Goals as goal
 
-columns_are : (g : Cells) (n : ℕ) → n ≡ sides_between g.side g.extent.x0 g.extent.x1 → n + 1 ≡ columns g
+columns_are : (g : Cells) (n : ℕ) → n ≡ sides_between g.side g.extent.x0 g.extent.x1
+    → n + 1 ≡ columns g
 unfolding columns
 columns_are g n e = ap (λ (n : ℕ). n + 1) e
 
@@ -22,8 +23,10 @@ invariant_of-result c =
     let k : SFits w64 c.args.extent.x1 = search rules in
     let f' : SFits w64 c.args.extent.y0 = search rules in
     let k' : SFits w64 c.args.extent.y1 = search rules in
-    let e = columns_are g c.sides_between-columns.result (simp to_z-of_z at c.sides_between-columns.ensures) in
-    let d = rows_are g c.sides_between-rows.result (simp to_z-of_z at c.sides_between-rows.ensures) in
+    let e = columns_are g c.sides_between-columns.result
+    (simp to_z-of_z at c.sides_between-columns.ensures) in
+    let d =
+    rows_are g c.sides_between-rows.result (simp to_z-of_z at c.sides_between-rows.ensures) in
     let n = counted g c.sides_between-columns.result c.sides_between-rows.result e d in
     let m = c.in-Some.ensures.1 in
     record {
@@ -43,8 +46,10 @@ returns-clause-few c =
     let k : SFits w64 c.args.extent.x1 = search rules in
     let f' : SFits w64 c.args.extent.y0 = search rules in
     let k' : SFits w64 c.args.extent.y1 = search rules in
-    let e = columns_are g c.sides_between-columns.result (simp to_z-of_z at c.sides_between-columns.ensures) in
-    let d = rows_are g c.sides_between-rows.result (simp to_z-of_z at c.sides_between-rows.ensures) in
+    let e = columns_are g c.sides_between-columns.result
+    (simp to_z-of_z at c.sides_between-columns.ensures) in
+    let d =
+    rows_are g c.sides_between-rows.result (simp to_z-of_z at c.sides_between-rows.ensures) in
     let n = counted g c.sides_between-columns.result c.sides_between-rows.result e d in
     let m = c.in-Some.ensures.1 in
     omega arith
@@ -56,8 +61,10 @@ returns-then-cells-from-clause-none c =
     let k : SFits w64 c.args.extent.x1 = search rules in
     let f' : SFits w64 c.args.extent.y0 = search rules in
     let k' : SFits w64 c.args.extent.y1 = search rules in
-    let e = columns_are g c.sides_between-columns.result (simp to_z-of_z at c.sides_between-columns.ensures) in
-    let d = rows_are g c.sides_between-rows.result (simp to_z-of_z at c.sides_between-rows.ensures) in
+    let e = columns_are g c.sides_between-columns.result
+    (simp to_z-of_z at c.sides_between-columns.ensures) in
+    let d =
+    rows_are g c.sides_between-rows.result (simp to_z-of_z at c.sides_between-rows.ensures) in
     let n = counted g c.sides_between-columns.result c.sides_between-rows.result e d in
     let m = c.in-Some.ensures.1 in
     omega arith
@@ -69,8 +76,11 @@ returns-in_default-clause-none c =
     let k : SFits w64 c.args.extent.x1 = search rules in
     let f' : SFits w64 c.args.extent.y0 = search rules in
     let k' : SFits w64 c.args.extent.y1 = search rules in
-    let e = columns_are g c.sides_between-columns.result (simp to_z-of_z at c.sides_between-columns.ensures) in
-    let d = rows_are g c.sides_between-rows.result (simp to_z-of_z at c.sides_between-rows.ensures) in
+    let e = columns_are g c.sides_between-columns.result
+    (simp to_z-of_z at c.sides_between-columns.ensures) in
+    let d =
+    rows_are g c.sides_between-rows.result (simp to_z-of_z at c.sides_between-rows.ensures) in
     let n = counted g c.sides_between-columns.result c.sides_between-rows.result e d in
-    let m : (c.sides_between-rows.result + 1) * (c.sides_between-columns.result + 1) < 2 ^ 64 → ⊥ = c.in_default.ensures in
+    let m : (c.sides_between-rows.result + 1) * (c.sides_between-columns.result + 1) < 2 ^ 64
+    → ⊥ = c.in_default.ensures in
     omega arith

@@ -6,16 +6,20 @@ use Rattle.mpw_grid.proofs.Cores.{same_box}
 use Rattle.mpw_grid.proofs.grid.Grid.window.Goals as goal
 
 pub overflow_sub-result : goal.overflow_sub-result
-overflow_sub-result c = let m = c.requires.margin in let l = c.core-core.ensures.reach.left in omega (arith, ints)
+overflow_sub-result c =
+    let m = c.requires.margin in let l = c.core-core.ensures.reach.left in omega (arith, ints)
 
 pub overflow_sub-result-2 : goal.overflow_sub-result-2
-overflow_sub-result-2 c = let m = c.requires.margin in let l = c.core-core.ensures.reach.bottom in omega (arith, ints)
+overflow_sub-result-2 c =
+    let m = c.requires.margin in let l = c.core-core.ensures.reach.bottom in omega (arith, ints)
 
 pub overflow_add-result : goal.overflow_add-result
-overflow_add-result c = let m = c.requires.margin in let l = c.core-core.ensures.reach.right in omega (arith, ints)
+overflow_add-result c =
+    let m = c.requires.margin in let l = c.core-core.ensures.reach.right in omega (arith, ints)
 
 pub overflow_add-result-2 : goal.overflow_add-result-2
-overflow_add-result-2 c = let m = c.requires.margin in let l = c.core-core.ensures.reach.top in omega (arith, ints)
+overflow_add-result-2 c =
+    let m = c.requires.margin in let l = c.core-core.ensures.reach.top in omega (arith, ints)
 
 pub returns-clause-window : goal.returns-clause-window
 returns-clause-window c =
@@ -28,7 +32,8 @@ returns-clause-window c =
     let l' = c.core-core.ensures.reach.bottom in
     let r = c.core-core.ensures.reach.right in
     let r' = c.core-core.ensures.reach.top in
-    same_box _ _ (omega (arith, ints)) (omega (arith, ints)) (omega (arith, ints)) (omega (arith, ints))
+    same_box _ _ (omega (arith, ints)) (omega (arith, ints)) (omega (arith, ints))
+    (omega (arith, ints))
 
 pub returns-clause-near : goal.returns-clause-near
 returns-clause-near c = λ k b.
@@ -38,4 +43,9 @@ returns-clause-near c = λ k b.
     let d = n.bottom in
     let t = n.top in
     let m = c.requires.margin in
-    record { left = omega (arith, ints); right = omega (arith, ints); bottom = omega (arith, ints); top = omega (arith, ints) }
+    record {
+      left = omega (arith, ints);
+      right = omega (arith, ints);
+      bottom = omega (arith, ints);
+      top = omega (arith, ints);
+    }

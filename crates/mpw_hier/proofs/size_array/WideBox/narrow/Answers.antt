@@ -27,4 +27,5 @@ overflow_cast-result-4 c =
 pub returns : goal.returns
 returns c =
     let h = close_box _ c.requires in
-    same_box _ _ (omega (arith, ints)) (omega (arith, ints)) (omega (arith, ints)) (omega (arith, ints))
+    same_box _ _ (omega (arith, ints)) (omega (arith, ints)) (omega (arith, ints))
+    (omega (arith, ints))

@@ -6,8 +6,15 @@ pub append-requires-clause-nodes : goal.append-requires-clause-nodes
 append-requires-clause-nodes c =
     let ss = c.self.inside.submissions.items in
     let i = c.loop-number.number in
-    let within : i < length ss = omega (arith, c.loop-number-test.true, c.len-number-end.ensures, c.self.inside.submissions.ok.0) in
-    let h = shelved_at c.self.inside.present c.self.inside.nodes.items ss c.self.invariant i within c.index.result.now c.index.ensures c.index-in-loop-number.result.now c.index-in-loop-number.ensures in
+    let within : i < length ss = omega (
+      arith,
+      c.loop-number-test.true,
+      c.len-number-end.ensures,
+      c.self.inside.submissions.ok.0,
+    ) in
+    let h = shelved_at c.self.inside.present c.self.inside.nodes.items ss c.self.invariant i within
+    c.index.result.now c.index.ensures c.index-in-loop-number.result.now
+    c.index-in-loop-number.ensures in
     let front = c.loop-number.invariant ∙ ap (take i) (sym c.self.view_is) in
     rw (front, c.in_ok-submission.ensures, c.in_ok-nodes.ensures) h.0
 
@@ -15,7 +22,14 @@ pub append-requires-clause-submitted : goal.append-requires-clause-submitted
 append-requires-clause-submitted c =
     let ss = c.self.inside.submissions.items in
     let i = c.loop-number.number in
-    let within : i < length ss = omega (arith, c.loop-number-test.true, c.len-number-end.ensures, c.self.inside.submissions.ok.0) in
-    let h = shelved_at c.self.inside.present c.self.inside.nodes.items ss c.self.invariant i within c.index.result.now c.index.ensures c.index-in-loop-number.result.now c.index-in-loop-number.ensures in
+    let within : i < length ss = omega (
+      arith,
+      c.loop-number-test.true,
+      c.len-number-end.ensures,
+      c.self.inside.submissions.ok.0,
+    ) in
+    let h = shelved_at c.self.inside.present c.self.inside.nodes.items ss c.self.invariant i within
+    c.index.result.now c.index.ensures c.index-in-loop-number.result.now
+    c.index-in-loop-number.ensures in
     let front = c.loop-number.invariant ∙ ap (take i) (sym c.self.view_is) in
     rw (front, c.in_ok-submission.ensures) h.1

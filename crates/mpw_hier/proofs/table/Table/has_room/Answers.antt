@@ -14,5 +14,8 @@ returns-else-is_some c =
     let ss = c.self.inside.submissions.items in
     let few : nat_lt (length ss) 4096 ≡ true = search rules in
     let none : is_some (present ss c.args.cell.now) ≡ false = search rules in
-    let count = c.len-else-is_some.ensures.len ∙ cells_of c.self.inside.present ss c.len-else-is_some.ensures.ordered c.self.invariant.present_at in
-    subst (λ xs. nat_lt c.len-else-is_some.result 1024 ≡ has_room_for xs c.args.cell.now) c.self.view_is (ap (λ n. nat_lt n 1024) count ∙ else_room _ _ _ few none)
+    let count = c.len-else-is_some.ensures.len
+    ∙ cells_of c.self.inside.present ss c.len-else-is_some.ensures.ordered
+    c.self.invariant.present_at in
+    subst (λ xs. nat_lt c.len-else-is_some.result 1024 ≡ has_room_for xs c.args.cell.now)
+    c.self.view_is (ap (λ n. nat_lt n 1024) count ∙ else_room _ _ _ few none)

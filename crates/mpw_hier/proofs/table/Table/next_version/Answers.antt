@@ -11,7 +11,8 @@ use Rattle.mpw_hier.proofs.table.Table.next_version.Goals as goal
 pub index-requires : goal.index-requires
 index-requires c =
     let ss = c.self.inside.submissions.items in
-    let at : present ss c.args.cell.now ≡ Some c.in-Some.number = ap (λ xs. present xs c.args.cell.now) c.self.view_is ∙ sym c.in-Some.ensures in
+    let at : present ss c.args.cell.now ≡ Some c.in-Some.number =
+    ap (λ xs. present xs c.args.cell.now) c.self.view_is ∙ sym c.in-Some.ensures in
     let h = present_is ss c.args.cell.now c.in-Some.number at in
     omega (arith, slice_get_within ss c.in-Some.number h.0 h.1, c.self.inside.submissions.ok.0)
 
@@ -20,9 +21,11 @@ overflow_add-result c =
     let ss = c.self.inside.submissions.items in
     let n = c.in-Some.number in
     let s = c.index.result.now in
-    let at : present ss c.args.cell.now ≡ Some n = ap (λ xs. present xs c.args.cell.now) c.self.view_is ∙ sym c.in-Some.ensures in
+    let at : present ss c.args.cell.now ≡ Some n = ap (λ xs. present xs c.args.cell.now)
+    c.self.view_is ∙ sym c.in-Some.ensures in
     let h = present_is ss c.args.cell.now n at in
-    let is = slice_get_read ss (length ss) n s refl (slice_get_within ss n h.0 h.1) c.index.ensures in
+    let is =
+    slice_get_read ss (length ss) n s refl (slice_get_within ss n h.0 h.1) c.index.ensures in
     let version = next_version ss c.args.cell.now n s c.self.invariant.submitted at is in
     let few = count_by-le-length (λ (t : Submission). name_eq t.cell c.args.cell.now) ss in
     omega (arith, version, few, shelf_few ss c.self.invariant.submitted)
@@ -32,10 +35,14 @@ returns-in-Some c =
     let ss = c.self.inside.submissions.items in
     let n = c.in-Some.number in
     let s = c.index.result.now in
-    let at : present ss c.args.cell.now ≡ Some n = ap (λ xs. present xs c.args.cell.now) c.self.view_is ∙ sym c.in-Some.ensures in
+    let at : present ss c.args.cell.now ≡ Some n = ap (λ xs. present xs c.args.cell.now)
+    c.self.view_is ∙ sym c.in-Some.ensures in
     let h = present_is ss c.args.cell.now n at in
-    let is = slice_get_read ss (length ss) n s refl (slice_get_within ss n h.0 h.1) c.index.ensures in
-    ap (λ k. k + 1) (next_version ss c.args.cell.now n s c.self.invariant.submitted at is ∙ ap (λ xs. versions xs c.args.cell.now) c.self.view_is)
+    let is =
+    slice_get_read ss (length ss) n s refl (slice_get_within ss n h.0 h.1) c.index.ensures in
+    ap (λ k. k + 1) (next_version ss c.args.cell.now n s c.self.invariant.submitted at is
+    ∙ ap (λ xs. versions xs c.args.cell.now) c.self.view_is)
 
 pub returns-in-None : goal.returns-in-None
-returns-in-None c = ap (λ k. k + 1) (sym (first_version c.args.self.now c.args.cell.now (sym c.in-None.ensures)))
+returns-in-None c =
+    ap (λ k. k + 1) (sym (first_version c.args.self.now c.args.cell.now (sym c.in-None.ensures)))

@@ -8,18 +8,21 @@ returns-clause-some c =
     let nodes = c.in_ok-nodes.nodes.now in
     let w = c.in_ok-nodes.ensures.some in
     let last : length nodes - 1 < length nodes = omega (arith, w.shown.some) in
-    (shelf_size c.args.self.now c.args.number nodes w _ (slice_get-get_or nodes (length nodes - 1) c.index-nodes-nodes.result last)).0
+    (shelf_size c.args.self.now c.args.number nodes w _
+    (slice_get-get_or nodes (length nodes - 1) c.index-nodes-nodes.result last)).0
 
 pub returns-clause-few : goal.returns-clause-few
 returns-clause-few c =
     let nodes = c.in_ok-nodes.nodes.now in
     let w = c.in_ok-nodes.ensures.some in
     let last : length nodes - 1 < length nodes = omega (arith, w.shown.some) in
-    (shelf_size c.args.self.now c.args.number nodes w _ (slice_get-get_or nodes (length nodes - 1) c.index-nodes-nodes.result last)).1.0
+    (shelf_size c.args.self.now c.args.number nodes w _
+    (slice_get-get_or nodes (length nodes - 1) c.index-nodes-nodes.result last)).1.0
 
 pub returns-clause-low : goal.returns-clause-low
 returns-clause-low c =
     let nodes = c.in_ok-nodes.nodes.now in
     let w = c.in_ok-nodes.ensures.some in
     let last : length nodes - 1 < length nodes = omega (arith, w.shown.some) in
-    (shelf_size c.args.self.now c.args.number nodes w _ (slice_get-get_or nodes (length nodes - 1) c.index-nodes-nodes.result last)).1.1
+    (shelf_size c.args.self.now c.args.number nodes w _
+    (slice_get-get_or nodes (length nodes - 1) c.index-nodes-nodes.result last)).1.1

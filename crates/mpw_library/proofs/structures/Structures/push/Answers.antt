@@ -11,6 +11,13 @@ pub invariant_of-self-2 : goal.invariant_of-self-2
 invariant_of-self-2 c =
     let old = c.self.inside in
     let s = c.args.structure in
-    let new = subst (λ (ss : List Structure). place_of ss s.name ≡ None) (sym c.self.view_is) c.requires in
-    let updates = subst (λ (name : List ℕ). (q : List ℕ) → tree.get (slice_cmp nat_cmp) c.insert.new.self q ≡ cond (is_eq (slice_cmp nat_cmp name q)) (Some c.len-place.result) (tree.get (slice_cmp nat_cmp) old.places q)) c.in_ok-name.ensures c.in_ok-insert.ensures.updates.0 in
-    rw (c.in_ok-push.ensures.items, c.in_ok-reserve.ensures.items) (indexed_push old.places c.insert.new.self old.items.items s c.len-place.result (omega (arith, c.len-place.ensures, c.in_ok-reserve.ensures.len, old.items.ok.0)) c.self.invariant new updates)
+    let new = subst (λ (ss : List Structure). place_of ss s.name ≡ None) (sym c.self.view_is)
+    c.requires in
+    let updates = subst (λ (name : List ℕ). (q : List ℕ)
+    → tree.get (slice_cmp nat_cmp) c.insert.new.self q ≡ cond (is_eq (slice_cmp nat_cmp name q))
+    (Some c.len-place.result) (tree.get (slice_cmp nat_cmp) old.places q)) c.in_ok-name.ensures
+    c.in_ok-insert.ensures.updates.0 in
+    rw (c.in_ok-push.ensures.items, c.in_ok-reserve.ensures.items)
+    (indexed_push old.places c.insert.new.self old.items.items s c.len-place.result
+    (omega (arith, c.len-place.ensures, c.in_ok-reserve.ensures.len, old.items.ok.0))
+    c.self.invariant new updates)

@@ -14,13 +14,17 @@ use Rattle.mpw_library.proofs.text.LibraryText.read.Goals.{in-Ok, in-Err-Fault}
 abbrev Outcome : Type 0
 Outcome = Result (List Structure) ReadError
 
-read_ok : (text : List ℕ) (o : Outcome) (library : List Structure) → GivesValue (λ (l : List Structure). l) o (library_of text) → IfOk o IsLibrary → o ≡ Ok library → IsRead text (Ok library)
+read_ok : (text : List ℕ) (o : Outcome) (library : List Structure)
+    → GivesValue (λ (l : List Structure). l) o (library_of text) → IfOk o IsLibrary → o ≡ Ok library
+    → IsRead text (Ok library)
 read_ok text o library gives shape is = record {
   is = subst (λ (p : Outcome). GivesValue (λ (l : List Structure). l) p (library_of text)) is gives;
   shape = subst (λ (p : Outcome). IfOk p IsLibrary) is shape;
 }
 
-read_fault : (text : List ℕ) (o : Outcome) (fault : ReadFault) → GivesValue (λ (l : List Structure). l) o (library_of text) → o ≡ Err (errors.Fault fault) → IsRead text (Err fault)
+read_fault : (text : List ℕ) (o : Outcome) (fault : ReadFault)
+    → GivesValue (λ (l : List Structure). l) o (library_of text) → o ≡ Err (errors.Fault fault)
+    → IsRead text (Err fault)
 read_fault text o fault gives is = record {
   is = subst (λ (p : Outcome). GivesValue (λ (l : List Structure). l) p (library_of text)) is gives;
   shape = tt;
@@ -28,8 +32,13 @@ read_fault text o fault gives is = record {
 
 pub invariant_of-result : goal.invariant_of-result
 invariant_of-result c =
-    let text : c.deref.result.now ≡ c.in_ok-bytes.bytes.value.items = c.deref.ensures.value ∙ sym (ap (λ v. v.items) c.in_ok-bytes.ensures.ok) in
-    subst (λ (xs : List ℕ). IsRead xs c.match-read_library.outcome) text (elim c.match-read_library.branch [
-      | in-Ok w ↦ rw w.outcome-is (read_ok c.deref.result.now c.read_library.result _ c.read_library.ensures.library c.read_library.ensures.shape w.in-Ok.is)
-      | in-Err-Fault w ↦ rw w.outcome-is (read_fault c.deref.result.now c.read_library.result _ c.read_library.ensures.library (w.in-Err-Fault.is ∙ ap (λ e. Err e) w.in-Err-Fault.field-0-is))
+    let text : c.deref.result.now ≡ c.in_ok-bytes.bytes.value.items = c.deref.ensures.value
+    ∙ sym (ap (λ v. v.items) c.in_ok-bytes.ensures.ok) in
+    subst (λ (xs : List ℕ). IsRead xs c.match-read_library.outcome) text
+    (elim c.match-read_library.branch [
+      | in-Ok w ↦ rw w.outcome-is (read_ok c.deref.result.now c.read_library.result _
+          c.read_library.ensures.library c.read_library.ensures.shape w.in-Ok.is)
+      | in-Err-Fault w ↦ rw w.outcome-is
+          (read_fault c.deref.result.now c.read_library.result _ c.read_library.ensures.library
+          (w.in-Err-Fault.is ∙ ap (λ e. Err e) w.in-Err-Fault.field-0-is))
     ])

@@ -9,15 +9,20 @@ use Rattle.mpw_real8.proofs.real8.Real8.nanometres.Goals.{else-self-via-then-sel
 pub returns-then-self-ne0-clause-value : goal.returns-then-self-ne0-clause-value
 returns-then-self-ne0-clause-value c =
     let old = c.self.inside in
-    let p = mul-le 1 1 old.mantissa (16 ^ old.exponent) (omega arith) (let h = power_pos old.exponent in omega (arith, h)) in
-    rw (← c.self.view_is, c.if-self.true) (none_below (old.mantissa * 16 ^ old.exponent) (omega (arith, p)))
+    let p = mul-le 1 1 old.mantissa (16 ^ old.exponent) (omega arith)
+    (let h = power_pos old.exponent in omega (arith, h)) in
+    rw (← c.self.view_is, c.if-self.true)
+    (none_below (old.mantissa * 16 ^ old.exponent) (omega (arith, p)))
 
 pub returns-clause-value : goal.returns-clause-value
 returns-clause-value c =
     let old = c.self.inside in
     let value = old.mantissa * 16 ^ old.exponent in
     let which : (old.negative ≡ false) ⊎ (value ≡ 0) = elim c.else-self.branch [
-      | else-self-via-then-self+else-self-ne0 w ↦ inr (let z : old.mantissa ≡ 0 = omega arith in ap (λ m. m * 16 ^ old.exponent) z ∙ omega arith)
+      | else-self-via-then-self+else-self-ne0 w
+          ↦ inr (let z : old.mantissa ≡ 0 = omega arith in ap (λ m. m * 16 ^ old.exponent) z
+          ∙ omega arith)
       | else-self-via-else-self w ↦ inl w.if-self.false
     ] in
-    c.nearest.ensures.value ∙ ap nanometres (sym (not_below old.negative value which) ∙ c.self.view_is)
+    c.nearest.ensures.value ∙ ap nanometres (sym (not_below old.negative value which)
+    ∙ c.self.view_is)

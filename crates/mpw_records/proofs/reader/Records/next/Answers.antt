@@ -10,9 +10,13 @@ returns-clause-some c =
     elim c.match-outcome.branch [
       | in-Ok w ↦
           let r = w.in-Ok.record in
-          let n = next_ok old.ended old.bytes.now old.offset (raw r) c.args.self.now c.if-self.false c.self.view_is c.self.invariant (sym c.record_at-outcome.ensures.outcome ∙ ap seen w.in-Ok.is) in
+          let n = next_ok old.ended old.bytes.now old.offset (raw r) c.args.self.now c.if-self.false
+          c.self.view_is c.self.invariant (sym c.record_at-outcome.ensures.outcome
+          ∙ ap seen w.in-Ok.is) in
           rw (w.in-Ok.is, w.self-is) n
       | in-Err w ↦
-          let n = next_err old.ended old.bytes.now old.offset w.in-Err.field-0 c.args.self.now c.if-self.false c.self.view_is (sym c.record_at-outcome.ensures.outcome ∙ ap seen w.in-Err.is) in
+          let n = next_err old.ended old.bytes.now old.offset w.in-Err.field-0 c.args.self.now
+          c.if-self.false c.self.view_is (sym c.record_at-outcome.ensures.outcome
+          ∙ ap seen w.in-Err.is) in
           rw (w.in-Err.is, w.self-is) n
     ]

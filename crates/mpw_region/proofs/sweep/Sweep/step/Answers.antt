@@ -3,7 +3,7 @@ use Rattle.std.specs.Prelude.{All, take}
 use mir.Val.{to_z, of_z}
 use Rattle.std.proofs.lemmas.Int.{to_z-of_z}
 use Rattle.mpw_geom.specs.declared.plane.Box2.{Box2}
-use Rattle.mpw_region.specs.Sweep.{HasRow, HoldsJust}
+use Rattle.mpw_region.specs.Internal.Sweep.{HasRow, HoldsJust}
 use Rattle.mpw_region.proofs.Active.{HoldsJust-drop, HoldsJust-moved}
 use Rattle.mpw_region.proofs.sweep.Sweep.step.Goals as goal
 
@@ -11,19 +11,28 @@ pub take_in-requires-clause-active : goal.take_in-requires-clause-active
 take_in-requires-clause-active c =
     let row_is = to_z-of_z w64 c.args.row c.ranges.row in
     rw (c.as_slice.ensures.value, c.drop_ended.ensures, row_is)
-    (HoldsJust-drop (take c.args.self.now.next c.args.self.now.boxes.items) c.args.self.now.active.items c.args.self.now.row c.args.row c.requires.upwards c.requires.sweep.active)
+    (HoldsJust-drop (take c.args.self.now.next c.args.self.now.boxes.items)
+    c.args.self.now.active.items c.args.self.now.row c.args.row c.requires.upwards
+    c.requires.sweep.active)
 
 pub returns-clause-sweep : goal.returns-clause-sweep
 returns-clause-sweep c =
     let seen = c.as_slice.ensures.value in
-    let within = subst (λ (bs : List Box2). c.in_ok-next.next ≤ length bs) seen c.in_ok-next.ensures.within in
-    let begun = subst (λ (bs : List Box2). All (λ (b : Box2). b.y0 ≤ℤ to_z w64 (of_z w64 c.args.row)) (take c.in_ok-next.next bs)) seen c.in_ok-next.ensures.begun in
-    let active = subst (λ (bs : List Box2). HoldsJust (take c.in_ok-next.next bs) (λ b. to_z w64 (of_z w64 c.args.row) <ℤ b.y1) c.take_in.new.active.items) seen c.in_ok-next.ensures.active in
+    let within = subst (λ (bs : List Box2). c.in_ok-next.next ≤ length bs) seen
+    c.in_ok-next.ensures.within in
+    let begun = subst (λ (bs : List Box2).
+    All (λ (b : Box2). b.y0 ≤ℤ to_z w64 (of_z w64 c.args.row)) (take c.in_ok-next.next bs)) seen
+    c.in_ok-next.ensures.begun in
+    let active = subst (λ (bs : List Box2). HoldsJust (take c.in_ok-next.next bs)
+    (λ b. to_z w64 (of_z w64 c.args.row) <ℤ b.y1) c.take_in.new.active.items) seen
+    c.in_ok-next.ensures.active in
     record {
       within = within;
       ordered = c.requires.sweep.ordered;
       begun = begun;
-      active = HoldsJust-moved (take c.in_ok-next.next c.args.self.now.boxes.items) c.take_in.new.active.items c.sort_from_left.new.boxes.items (λ b. to_z w64 (of_z w64 c.args.row) <ℤ b.y1) c.in_ok-sort_from_left.ensures.moved active;
+      active = HoldsJust-moved (take c.in_ok-next.next c.args.self.now.boxes.items)
+          c.take_in.new.active.items c.sort_from_left.new.boxes.items
+          (λ b. to_z w64 (of_z w64 c.args.row) <ℤ b.y1) c.in_ok-sort_from_left.ensures.moved active;
     }
 
 pub returns-clause-exact : goal.returns-clause-exact
@@ -31,4 +40,6 @@ returns-clause-exact c =
     let row_is = to_z-of_z w64 c.args.row c.ranges.row in
     let seen = c.as_slice.ensures.value in
     let told = rw (seen, row_is) at c.in_ok-next.ensures.exact in
-    HoldsJust-moved c.args.self.now.boxes.items c.take_in.new.active.items c.sort_from_left.new.boxes.items (λ b. HasRow b c.args.row) c.in_ok-sort_from_left.ensures.moved told
+    HoldsJust-moved c.args.self.now.boxes.items c.take_in.new.active.items
+    c.sort_from_left.new.boxes.items (λ b. HasRow b c.args.row)
+    c.in_ok-sort_from_left.ensures.moved told

@@ -5,6 +5,8 @@ use Rattle.mpw_run.proofs.run.Run.check_begun.Goals as goal
 
 pub returns : goal.returns
 returns c =
-    cut_is c.args.self.now c.args.planned.now c.args.answer.now c.in_ok-windows.windows c.in_ok-tiles.tiles
+    cut_is c.args.self.now c.args.planned.now c.args.answer.now c.in_ok-windows.windows
+    c.in_ok-tiles.tiles
     c.requires.phase c.is_counted.ensures c.is_run.ensures c.requires.snapshot c.is_answer.ensures
-    (c.in_ok-windows.ensures ∙ c.windows.ensures) (c.in_ok-tiles.ensures ∙ ap new_tiles c.total.ensures)
+    (c.in_ok-windows.ensures ∙ c.windows.ensures)
+    (c.in_ok-tiles.ensures ∙ ap new_tiles c.total.ensures)

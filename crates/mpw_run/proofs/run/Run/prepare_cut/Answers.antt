@@ -6,5 +6,6 @@ use Rattle.mpw_run.proofs.run.Run.prepare_cut.Goals as goal
 pub check_begun-requires-clause-snapshot : goal.check_begun-requires-clause-snapshot
 check_begun-requires-clause-snapshot c =
     sym (ap (λ (job : CutJob). job.snapshot) c.job-in-Cutting.ensures)
-    ∙ (snapshots c.job-in-Cutting.result.now.snapshot c.snapshot.result.now).0 (sym c.is_same_snapshot.ensures ∙ c.if-not-is_same_snapshot.false)
+    ∙ (snapshots c.job-in-Cutting.result.now.snapshot c.snapshot.result.now).0
+    (sym c.is_same_snapshot.ensures ∙ c.if-not-is_same_snapshot.false)
     ∙ c.snapshot.ensures

@@ -5,9 +5,11 @@ use Rattle.mpw_run.proofs.run.Run.prepare_tile_job.Goals as goal
 
 pub task-requires-clause-tile : goal.task-requires-clause-tile
 task-requires-clause-tile c =
-    offered_within c.args.self.now c.args.c.now c.in-Some.tile c.requires.phase c.is_run.ensures (sym c.in-Some.is ∙ c.next.ensures)
+    offered_within c.args.self.now c.args.c.now c.in-Some.tile c.requires.phase c.is_run.ensures
+    (sym c.in-Some.is ∙ c.next.ensures)
 
 pub returns : goal.returns
 returns c =
-    take_is c.args.self.now c.args.c.now c.in-Some.tile c.in_ok-job.job c.requires.phase c.is_counted.ensures c.is_run.ensures (sym c.in-Some.is ∙ c.next.ensures)
+    take_is c.args.self.now c.args.c.now c.in-Some.tile c.in_ok-job.job c.requires.phase
+    c.is_counted.ensures c.is_run.ensures (sym c.in-Some.is ∙ c.next.ensures)
     (c.in_ok-job.ensures ∙ ap (λ n. tile_task n c.args.c.now c.in-Some.tile) c.number.ensures)

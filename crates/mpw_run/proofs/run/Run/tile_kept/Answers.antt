@@ -1,6 +1,6 @@
 use Rattle.std.proofs.Common.{◌∙◌, sym, subst, ap, arith, List}
 use Rattle.mpw_markers.specs.declared.marker.Marker.{Marker}
-use Rattle.mpw_run.specs.Prepared.{answers_with}
+use Rattle.mpw_run.specs.Internal.Prepared.{answers_with}
 use Rattle.mpw_run.specs.Stitching.{stitched, AreFilled}
 use Rattle.mpw_run.proofs.Changes.{IsOpen, keep_is, filled_is, finish_is}
 use Rattle.mpw_run.proofs.run.Run.tile_kept.Goals as goal
@@ -16,7 +16,8 @@ returns-then-done-total c =
       task = c.requires.task;
       right = c.is_answer.ensures;
     } in
-    keep_is c.args.self.now c.args.c.now c.args.answer.now c.args.number c.in_ok-copy.field-0 free (c.in_ok-copy.ensures ∙ c.markers-markers.ensures)
+    keep_is c.args.self.now c.args.c.now c.args.answer.now c.args.number c.in_ok-copy.field-0 free
+    (c.in_ok-copy.ensures ∙ c.markers-markers.ensures)
     (let t = c.if-done-total.true in omega (arith, t, c.done.ensures, c.total.ensures))
 
 pub book_with-requires-clause-filled : goal.book_with-requires-clause-filled
@@ -30,8 +31,10 @@ book_with-requires-clause-filled c =
       task = c.requires.task;
       right = c.is_answer.ensures;
     } in
-    let filled = filled_is c.args.self.now c.args.c.now c.args.answer.now c.args.number free (let t = c.if-done-total.false in omega (arith, t, c.done.ensures, c.total.ensures)) in
-    subst (λ (m : List Marker). AreFilled (answers_with m c.args.number c.args.c.now.tiles)) (sym c.markers-markers.ensures) filled
+    let filled = filled_is c.args.self.now c.args.c.now c.args.answer.now c.args.number free
+    (let t = c.if-done-total.false in omega (arith, t, c.done.ensures, c.total.ensures)) in
+    subst (λ (m : List Marker). AreFilled (answers_with m c.args.number c.args.c.now.tiles))
+    (sym c.markers-markers.ensures) filled
 
 pub returns : goal.returns
 returns c =
@@ -44,6 +47,8 @@ returns c =
       task = c.requires.task;
       right = c.is_answer.ensures;
     } in
-    finish_is c.answers_make_the_layout.ensures c.stitched_computes.ensures c.args.self.now c.args.c.now c.args.answer.now c.args.number c.in_ok-book.book free
+    finish_is c.answers_make_the_layout.ensures c.stitched_computes.ensures c.args.self.now
+    c.args.c.now c.args.answer.now c.args.number c.in_ok-book.book free
     (let t = c.if-done-total.false in omega (arith, t, c.done.ensures, c.total.ensures))
-    (c.in_ok-book.ensures ∙ ap (λ (m : List Marker). stitched (answers_with m c.args.number c.args.c.now.tiles)) c.markers-markers.ensures)
+    (c.in_ok-book.ensures ∙ ap (λ (m : List Marker).
+    stitched (answers_with m c.args.number c.args.c.now.tiles)) c.markers-markers.ensures)

@@ -3,10 +3,12 @@ use Rattle.std.specs.Int.{w64, saturate_signed}
 use Rattle.std.proofs.lemmas.Int.{ints}
 use Rattle.mpw_shapes.proofs.rows.Gap.raised.Goals as goal
 
-under : (a b w r : ℤ) → w ≤ℤ a → FitsSigned w64 (w +ℤ b) → r ≡ saturate_signed w64 (a +ℤ b) → (w +ℤ b) ≤ℤ r
+under : (a b w r : ℤ) → w ≤ℤ a → FitsSigned w64 (w +ℤ b) → r ≡ saturate_signed w64 (a +ℤ b)
+    → (w +ℤ b) ≤ℤ r
 under a b w r h f e = grind (arith, ints)
 
-over : (a b w r : ℤ) → a ≤ℤ w → FitsSigned w64 (w +ℤ b) → r ≡ saturate_signed w64 (a +ℤ b) → r ≤ℤ (w +ℤ b)
+over : (a b w r : ℤ) → a ≤ℤ w → FitsSigned w64 (w +ℤ b) → r ≡ saturate_signed w64 (a +ℤ b)
+    → r ≤ℤ (w +ℤ b)
 over a b w r h f e = grind (arith, ints)
 
 pub returns : goal.returns
@@ -20,6 +22,8 @@ returns c =
     let f : to_z w64 (of_z w64 c.args.self.down) ≡ c.args.self.down = omega (arith, ints) in
     let g : to_z w64 (of_z w64 c.args.self.up) ≡ c.args.self.up = omega (arith, ints) in
     λ w fits h. elim h [
-      | inl x ↦ let r = under c.args.self.down c.args.added.winding w _ x fits (rw (e, f) at c.saturating_add.ensures) in inl (omega (arith, ints, r))
-      | inr x ↦ let r = over c.args.self.up c.args.added.winding w _ x fits (rw (e, g) at c.saturating_add-2.ensures) in inr (omega (arith, ints, r))
+      | inl x ↦ let r = under c.args.self.down c.args.added.winding w _ x fits
+          (rw (e, f) at c.saturating_add.ensures) in inl (omega (arith, ints, r))
+      | inr x ↦ let r = over c.args.self.up c.args.added.winding w _ x fits
+          (rw (e, g) at c.saturating_add-2.ensures) in inr (omega (arith, ints, r))
     ]

@@ -9,5 +9,7 @@ pub returns-clause-exact : goal.returns-clause-exact
 returns-clause-exact c = λ tile u.
     let p : Tiling = record { grid = c.self.inside.grid; margin = c.self.inside.margin } in
     let u' : tile < tiles p = subst (λ (p : Tiling). tile < tiles p) (sym c.self.view_is) u in
-    subst (λ (p : Tiling). IsInBlock c.meeting.result (column_of p.grid tile) (row_of p.grid tile) ↔ ShareSquare (tile_window p tile) c.args.b) c.self.view_is
-    (c.meeting.ensures.exact (column_of p.grid tile) (row_of p.grid tile) (column_within p.grid tile) (row_within p.grid tile u'))
+    subst (λ (p : Tiling). IsInBlock c.meeting.result (column_of p.grid tile) (row_of p.grid tile)
+    ↔ ShareSquare (tile_window p tile) c.args.b) c.self.view_is
+    (c.meeting.ensures.exact (column_of p.grid tile) (row_of p.grid tile)
+    (column_within p.grid tile) (row_within p.grid tile u'))

@@ -12,4 +12,7 @@ pub returns-clause-plane : goal.returns-clause-plane
 returns-clause-plane c =
     let extent = c.in_ok-extent.extent in
     let deck = c.self.inside.deck in
-    subst (λ o. IfSome o WindowsLieInPlane) (sym c.ok.ensures.value) (if_some_ok WindowsLieInPlane (plan_of extent deck) c.of.result (windows_in_plane c.windows_reach_no_further.ensures deck extent c.self.invariant.deck c.in_ok-extent.ensures.ordered c.in_ok-extent.ensures.near) c.of.ensures.ok)
+    subst (λ o. IfSome o WindowsLieInPlane) (sym c.ok.ensures.value)
+    (if_some_ok WindowsLieInPlane (plan_of extent deck) c.of.result
+    (windows_in_plane c.windows_reach_no_further.ensures deck extent c.self.invariant.deck
+    c.in_ok-extent.ensures.ordered c.in_ok-extent.ensures.near) c.of.ensures.ok)

@@ -9,7 +9,10 @@ pub invariant_of-result : goal.invariant_of-result
 invariant_of-result c =
     let ss = c.args.shelf.now in
     let roots = c.args.roots.now in
-    subst (λ (fs : List Frame). IsOnWay c.args.window ss roots 0 0 fs) (sym c.new.ensures) (start_way c.args.window ss roots (shelf_kept c.shelves_have_their_numbers.ensures.limits ss c.is_shelf.ensures) c.requires.roots c.requires.few)
+    subst (λ (fs : List Frame). IsOnWay c.args.window ss roots 0 0 fs) (sym c.new.ensures)
+    (start_way c.args.window ss roots
+    (shelf_kept c.shelves_have_their_numbers.ensures.limits ss c.is_shelf.ensures)
+    c.requires.roots c.requires.few)
 
 pub returns-clause-left : goal.returns-clause-left
 returns-clause-left c =

@@ -21,9 +21,12 @@ returns-clause-way c =
     let f = c.args.frame.now in
     elim c.match-reference.branch [
       | in-Some w ↦ rw w.self-is w.enter.ensures.way
-      | in_default w ↦ let none = none_next c.reference.result _ c.reference.ensures.none w.in_default.is in
-          let over : length f.node.now.shapes.items ≤ f.shape = omega (arith, c.if-frame-len.false, c.len.ensures, f.node.now.shapes.ok.0) in
-          rw w.self-is (left_way c.names_are_walked.ensures v.window v.shelf.now v.roots.now v.root v.turns v.frames.items f c.requires over none)
+      | in_default w ↦ let none = none_next c.reference.result _ c.reference.ensures.none
+          w.in_default.is in
+          let over : length f.node.now.shapes.items ≤ f.shape =
+          omega (arith, c.if-frame-len.false, c.len.ensures, f.node.now.shapes.ok.0) in
+          rw w.self-is (left_way c.names_are_walked.ensures v.window v.shelf.now v.roots.now v.root
+          v.turns v.frames.items f c.requires over none)
     ]
 
 pub returns-clause-does : goal.returns-clause-does
@@ -32,7 +35,10 @@ returns-clause-does c =
     let f = c.args.frame.now in
     elim c.match-reference.branch [
       | in-Some w ↦ rw w.self-is w.enter.ensures.does
-      | in_default w ↦ let none = none_next c.reference.result _ c.reference.ensures.none w.in_default.is in
-          let over : length f.node.now.shapes.items ≤ f.shape = omega (arith, c.if-frame-len.false, c.len.ensures, f.node.now.shapes.ok.0) in
-          rw w.self-is (left_does c.names_are_walked.ensures v.window v.shelf.now v.roots.now v.root v.turns v.frames.items f c.requires over none)
+      | in_default w ↦ let none = none_next c.reference.result _ c.reference.ensures.none
+          w.in_default.is in
+          let over : length f.node.now.shapes.items ≤ f.shape =
+          omega (arith, c.if-frame-len.false, c.len.ensures, f.node.now.shapes.ok.0) in
+          rw w.self-is (left_does c.names_are_walked.ensures v.window v.shelf.now v.roots.now v.root
+          v.turns v.frames.items f c.requires over none)
     ]

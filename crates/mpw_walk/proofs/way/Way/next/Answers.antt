@@ -7,7 +7,9 @@ returns-in-Given-clause-some c =
     let old = walked c.args.self.now c.args.self.now.frames.items in
     let now = walked c.loop-placed.self c.loop-placed.self.frames.items in
     let new = walked c.step.new.self c.step.new.self.frames.items in
-    gives_item old new c.in-Given.placed (last_gives old now new c.in-Given.placed c.loop-placed.invariant.on c.in-Given.ensures.does)
+    gives_item old new c.in-Given.placed
+    (last_gives old now new c.in-Given.placed c.loop-placed.invariant.on
+    c.in-Given.ensures.does)
 
 pub returns-in-Ended-clause-none : goal.returns-in-Ended-clause-none
 returns-in-Ended-clause-none c =

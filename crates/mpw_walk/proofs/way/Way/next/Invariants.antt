@@ -1,4 +1,5 @@
-use Rattle.mpw_walk.specs.Way.{IsWay, GoesOn, walked, work}
+use Rattle.mpw_walk.specs.Way.{IsWay, walked}
+use Rattle.mpw_walk.specs.Internal.Way.{GoesOn, work}
 use Rattle.mpw_walk.proofs.way.Way.next.Given as goal
 
 abbrev pub invariant-loop-placed : goal.invariant-loop-placed

@@ -1,0 +1,92 @@
+//! The answer to an event of the run: the response is a copy of the run's reply, and what finishes the run comes with a
+//! place for a waiver of each of its markers.
+ghost use Rattle.std.specs.Prelude.{◌≡◌, IfOk};
+ghost use Rattle.mpw_run.specs.Prepared.{IsPrepared};
+ghost use Rattle.mpw_run.specs.Step.{Outcome as RunOutcome};
+ghost use Rattle.mpw_core.specs.Answer.{run_response};
+ghost use Rattle.mpw_core.specs.Internal.Answer.{Gives, moved, places_for};
+ghost use Rattle.mpw_core.specs.Step.{State, finishes, of_run};
+
+use crate::answer::{Answer, Next};
+use crate::{Response, SharedRunReply};
+use mpw_run::{Prepared, Run, RunReply};
+use mpw_waiver::Waivers;
+use std::alloc::{AllocError, Global};
+
+/// What the run answers, shared by its copies. One allocation, and those of a job's copy.
+///
+/// # Errors
+/// Where there is no room for it, or no more copies can be counted.
+fn run_response(alloc: Global, reply: &RunReply) -> Result<Response, AllocError>
+    ensures { IfOk result (λ response. response ≡ run_response reply.now) }
+{
+    let reply = reply.copy(alloc)?;
+    Ok(Response::Run(SharedRunReply::new(alloc, reply)?))
+}
+
+/// Whether the reply finishes a run.
+fn finishes(reply: &RunReply) -> bool
+    ensures { result ≡ finishes reply.now }
+{
+    matches!(reply, RunReply::Finished)
+}
+
+/// Places for the waivers of a run that the prepared change finishes. One allocation.
+///
+/// # Errors
+/// Where there is no room for them.
+fn places_for(alloc: Global, run: &Run, prepared: &Prepared) -> Result<Option<Waivers>, AllocError>
+    ensures { IfOk result (λ places. places ≡ places_for run.now prepared.now) }
+{
+    if !finishes(&prepared.reply) {
+        return Ok(None);
+    }
+    let size = run.next_size(prepared);
+    Ok(Some(Waivers::new(alloc, size)?))
+}
+
+/// What moves in of what was prepared for the run: what finishes the run has to be kept, and has places for waivers.
+fn moved(prepared: Prepared, places: Option<Waivers>) -> Next
+    ensures { result ≡ moved prepared places }
+{
+    match places {
+        Some(waivers) => Next::Finish(prepared, waivers),
+        None => Next::Move(prepared),
+    }
+}
+
+/// What an event of the run is answered, and the places for waivers of a run that it finishes.
+#[derive(Drop)]
+struct Answered {
+    response: Response,
+    places: Option<Waivers>,
+}
+
+/// What is made aside for an event of the run.
+///
+/// # Errors
+/// Where there is no room for it, or no more copies can be counted.
+fn prepared_answer(alloc: Global, run: &Run, prepared: &Prepared) -> Result<Answered, AllocError>
+    ensures response { IfOk result (λ made. made.response ≡ run_response prepared.now.reply) }
+    ensures places { IfOk result (λ made. made.places ≡ places_for run.now prepared.now) }
+{
+    let places = places_for(alloc, run, prepared)?;
+    let response = run_response(alloc, &prepared.reply)?;
+    Ok(Answered { response, places })
+}
+
+/// The answer to an event of the run.
+///
+/// # Errors
+/// Where there is no room for the reply's copy or for the waivers' places, or no more copies can be counted.
+pub(crate) fn of_run(alloc: Global, run: &Run, prepared: Prepared) -> Result<Answer, AllocError>
+    ensures { (state : State) (outcome : RunOutcome) → state.run ≡ run.now → IsPrepared prepared state.run outcome → IfOk result (λ answer. Gives state (of_run state outcome) answer.response answer.next) }
+{
+    match prepared_answer(alloc, run, &prepared) {
+        Ok(made) => Ok(Answer {
+            response: made.response,
+            next: moved(prepared, made.places),
+        }),
+        Err(error) => Err(error),
+    }
+}

@@ -1,0 +1,22 @@
+-- What private functions and proofs need of this: what a read element satisfies.
+use Rattle.std.specs.Prelude.{◌≡◌, ℕ, ◌*◌, ◌≤◌, IsTrue, ℤ, pos, List, length, All}
+use Rattle.mpw_geom.specs.declared.plane.Point.{Point}
+use Rattle.mpw_elements.specs.Element.{IsWithinReach, IsPointWithinReach, is_manhattan_step, each_step, closed, is_segment}
+
+-- Corners: at least one, and each edge, the closing one too, is horizontal or vertical.
+pub record IsRing (ps : List Point) : Type 0 where
+  pub corners : 1 ≤ length ps
+  pub manhattan : IsTrue (each_step is_manhattan_step (closed ps))
+  pub within_reach : All IsPointWithinReach ps
+
+-- A centre line has at least one segment.
+pub record IsLine (ps : List Point) : Type 0 where
+  pub points : 2 ≤ length ps
+  pub segments : IsTrue (each_step is_segment ps)
+  pub within_reach : All IsPointWithinReach ps
+
+-- A width in nm: not negative, and even.
+pub record IsWidth (z : ℤ) : Type 0 where
+  pub half : ℕ
+  pub value : z ≡ pos (2 * half)
+  pub within_reach : IsWithinReach z

@@ -1,0 +1,13 @@
+-- What private functions and proofs need of this: what references name in a library, and what they name outside it.
+use Rattle.std.specs.Prelude.{ℕ, List, slice_get}
+use Rattle.std.specs.List.{flat_map}
+use Rattle.mpw_library.specs.declared.structures.Structure.{Structure}
+use Rattle.mpw_hier.specs.Structures.{target_names}
+use Rattle.mpw_hier.specs.Outside.{names_outside}
+
+-- The names outside the library to which the structures at these places refer.
+abbrev pub outside_from : List Structure → ℕ → List (List ℕ)
+outside_from library place = names_outside library (target_names (slice_get library place))
+
+unfoldable pub outside_from_all : List Structure → List ℕ → List (List ℕ)
+outside_from_all library places = flat_map (outside_from library) places

@@ -1,0 +1,59 @@
+-- How a run of markers is found among markers in order.
+use Rattle.std.specs.Prelude.{◌≡◌, ℕ, ◌≤◌, ℤ, ◌≤ℤ◌, ◌<ℤ◌, List, [], ◌∷◌, ◌++◌, length, take, drop, Contains, ◌↔◌}
+use Rattle.std.specs.Int.{int_max}
+use Rattle.mpw_markers.specs.declared.marker.Marker.{Marker}
+use Rattle.mpw_markers.specs.declared.marker.Key.{Key}
+use Rattle.mpw_markers.specs.Met.{IsAscending}
+use Rattle.mpw_markers.specs.Markers.{line_of_key, key_of, CoversRow, LiesIn}
+use Rattle.mpw_markers.specs.Order.{StandsBefore}
+
+-- a marker of that key that meets nothing
+abbrev pub bare : Key → Marker
+bare k = record {
+  rule = k.rule;
+  axis = k.axis;
+  side = k.side;
+  x1 = k.x1;
+  x2 = k.x2;
+  y0 = k.y0;
+  y1 = k.y1;
+  met = [];
+}
+
+-- the run, lengthened to the end of the marker
+abbrev pub lengthened : Key → Marker → Key
+lengthened k m = record {
+  rule = k.rule;
+  axis = k.axis;
+  side = k.side;
+  x1 = k.x1;
+  x2 = k.x2;
+  y0 = k.y0;
+  y1 = int_max k.y1 m.y1;
+}
+
+-- the run has just the rows of the markers, and each lies in it
+pub record IsRunOf (markers : List Marker) (run : Key) : Type 0 where
+  pub filled : run.y0 <ℤ run.y1
+  pub rows : (j : ℤ) → run.y0 ≤ℤ j → j <ℤ run.y1 → CoversRow markers (line_of_key run) j
+  pub within : (m : Marker) → Contains markers m → LiesIn m (bare run)
+
+-- the run of the first markers, that many; the others stand behind it, with a gap
+pub record IsFirstRun (markers : List Marker) (count : ℕ) (first : Key) : Type 0 where
+  pub some : 1 ≤ count
+  pub within : count ≤ length markers
+  pub run : IsRunOf (take count markers) first
+  pub others : (m : Marker) → Contains (drop count markers) m → StandsBefore (bare first) m
+
+-- the numbers are those of the submissions that the markers meet
+pub record AreMetBy (markers : List Marker) (numbers : List ℕ) : Type 0 where
+  pub ascending : IsAscending numbers
+  pub exact : (origin : ℕ) → Contains numbers origin
+      ↔ ((m : Marker) × Contains markers m × Contains m.met origin)
+
+-- to the markers was added that of the run of the first ones of the list
+pub record AddsRun (markers : List Marker) (count : ℕ) (old new : List Marker) : Type 0 where
+  pub marker : Marker
+  pub added : new ≡ old ++ marker ∷ []
+  pub run : IsFirstRun markers count (key_of marker)
+  pub met : AreMetBy (take count markers) marker.met

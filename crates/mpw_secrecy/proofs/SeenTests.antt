@@ -1,0 +1,78 @@
+-- What waive and sign are told of a view.
+use Rattle.std.proofs.Common.{◌≡◌, ℕ, List, [], map, slice_set, Option, None, Some, Result, Ok, Err}
+use Rattle.std.specs.Prelude.{is_ok, option_map}
+use Rattle.std.specs.List.{position}
+use Rattle.mpw_geom.specs.Names.{name_eq}
+use Rattle.mpw_markers.specs.declared.marker.Key.{Key}
+use Rattle.mpw_requests.specs.declared.sign_off.MarkerName.{MarkerName}
+use Rattle.mpw_roles.specs.Hierarchy.{Name}
+use Rattle.mpw_rbac.specs.Policy.{Policy}
+use Rattle.mpw_replies.specs.Rows.{◌>>=◌, ended_by}
+use Rattle.mpw_replies.specs.declared.reply.Code.TheVariants as code
+use Rattle.mpw_replies.specs.declared.reply.Reply.{Reply}
+use Rattle.mpw_replies.specs.declared.reply.Reply.TheVariants as reply
+use Rattle.mpw_replies.specs.declared.row.Ending.{Ending}
+use Rattle.mpw_replies.specs.declared.row.Ending.TheVariants as ending
+use Rattle.mpw_run.specs.declared.phase.Phase.{Phase}
+use Rattle.mpw_waiver.specs.declared.waiver.Waiver.{Waiver}
+use Rattle.mpw_waiver.specs.Waivers.{waiver_at}
+use Rattle.mpw_signoff.specs.Named.{key_by}
+use Rattle.mpw_signoff.specs.SigningOff as signing
+use Rattle.mpw_secrecy.specs.Views.{BookSeen, MarkerSeen, book_view}
+use Rattle.mpw_secrecy.proofs.Books.{names_in}
+use Rattle.mpw_secrecy.proofs.Waived.{marker_with, with_waiver}
+
+-- ---- what is told of a view
+
+-- a user's test of a marker that is seen, and what a user makes of its waiver
+abbrev pub Test : Type 0
+Test = MarkerSeen → Result (Unit {0}) Ending
+
+abbrev pub Change : Type 0
+Change = Option Waiver → Option Waiver
+
+abbrev pub tested : Test → Key → Option MarkerSeen → Result Key Ending
+tested test key None = Err (ending.Refused code.NoMarker)
+tested test key (Some seen) = test seen >>= (λ passed. Ok key)
+
+abbrev pub of_rule : Test → MarkerName → List MarkerSeen → Option ℕ → Result Key Ending
+of_rule test name markers None = Err (ending.Refused code.NoMarker)
+of_rule test name markers (Some rule) =
+    tested test (key_by name rule) (marker_with (key_by name rule) markers)
+
+abbrev pub of_book : Test → MarkerName → BookSeen → Result Key Ending
+of_book test name book =
+    of_rule test name book.markers (position (λ n. name_eq n name.rule) (names_in book))
+
+-- the key of the marker that is waived or signed
+abbrev pub row_seen : Test → MarkerName → Option BookSeen → Result Key Ending
+row_seen test name None = Err (ending.Refused code.NotFinished)
+row_seen test name (Some book) = of_book test name book
+
+abbrev pub key_reply : Result Key Ending → Reply
+key_reply (Ok key) = reply.Ok []
+key_reply (Err why) = ended_by why
+
+abbrev book_with : Change → Key → BookSeen → BookSeen
+book_with change key book =
+    record { markers = map (with_waiver key change) book.markers; rules = book.rules }
+
+-- what is left of the view
+abbrev pub view_left : Change → Result Key Ending → Option BookSeen → Option BookSeen
+view_left change (Ok key) book = option_map (book_with change key) book
+view_left change (Err why) book = book
+
+-- ---- outcomes
+
+-- the outcome of a waiver that is put at a place
+abbrev pub put_at : (Name → Change) → List (Option Waiver) → ℕ → Name → signing.Outcome
+put_at change waivers place user =
+    signing.changed (slice_set waivers place (change user (waiver_at waivers place)))
+
+-- an outcome is what is told of the view, and leaves what is told of it
+pub record IsTold (policy : Policy) (conn : ℕ) (change : Change) (phase : Phase)
+    (old : List (Option Waiver)) (o : signing.Outcome) (told : Result Key Ending) : Type 0 where
+  pub reply : o.reply ≡ key_reply told
+  pub changes : o.changes ≡ is_ok told
+  pub view : book_view policy conn o.waivers phase ≡ view_left change told
+      (book_view policy conn old phase)

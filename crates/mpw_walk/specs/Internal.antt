@@ -1,0 +1,7 @@
+-- What private functions and proofs alone need: no public contract speaks of it.
+pub mod Extents
+pub mod Frames
+pub mod Named
+pub mod Stack
+pub mod Turns
+pub mod Way

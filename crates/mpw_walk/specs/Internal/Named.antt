@@ -1,0 +1,25 @@
+-- What names show to a submission, and the turns of that.
+use Rattle.std.specs.Prelude.{◌≡◌, ℕ, List, length, map}
+use Rattle.mpw_library.specs.declared.structures.Structure.{Structure}
+use Rattle.mpw_hier.specs.declared.submission.Submission.{Submission}
+use Rattle.mpw_hier.specs.Items.{own_items}
+use Rattle.mpw_hier.specs.Values.{flats}
+use Rattle.mpw_hier.specs.Named.{OwnNamesAreShown, OuterNamesAreShown, LastNodesAreTops, OwnNamesAreListed, OuterNamesAreListed, TopsAreListed}
+use Rattle.mpw_walk.specs.Internal.Extents.{ExtentsAreWalked}
+use Rattle.mpw_walk.specs.Turns.{Turn, give, placed_turns}
+
+-- The turns of a structure's own shapes.
+abbrev pub own_turns : ℕ → Structure → List Turn
+own_turns number s = map give (own_items number s.elements)
+
+-- A name shows what its structure, or the top of its submission, shows; and so do its turns.
+-- Extents are least boxes.
+pub record NamesAreWalked : Type 0 where
+  pub own : OwnNamesAreShown
+  pub outer : OuterNamesAreShown
+  pub last : LastNodesAreTops
+  pub many : (ss : List Submission) → length (flats ss) ≡ length ss
+  pub own_turns_are : OwnNamesAreListed own_turns placed_turns
+  pub outer_turns_are : OuterNamesAreListed own_turns placed_turns
+  pub top_turns_are : TopsAreListed own_turns placed_turns
+  pub extents : ExtentsAreWalked

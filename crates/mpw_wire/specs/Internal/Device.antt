@@ -1,0 +1,16 @@
+-- What a device's calls do to the bytes that it tells and to the number of its failures.
+use Rattle.std.specs.Prelude.{ℕ, ◌+◌, List, [], ◌∷◌, Option, None, Some, Result, Ok, Err}
+use Rattle.std.specs.Io.KnownBytes.{Keeps, Consumes, IsAtEnd}
+use Rattle.std.specs.Io.Iter.{u64_saturate}
+
+-- how often a device has failed after a call, counted up to 2^64 - 1
+abbrev pub failures_after : {A E : Type 0} → Result A E → ℕ → ℕ
+failures_after (Ok answer) failures = failures
+failures_after (Err fault) failures = u64_saturate (failures + 1)
+
+-- the byte is taken off the front; there is none only at the end, and a failure takes none
+abbrev pub GivesByte : {E : Type 0} → Option (List ℕ) → Option (List ℕ) → Result (Option ℕ) E
+    → Type 0
+GivesByte old new (Ok (Some byte)) = Consumes old new (byte ∷ [])
+GivesByte old new (Ok None) = Consumes old new [] × IsAtEnd new
+GivesByte old new (Err fault) = Keeps old new
