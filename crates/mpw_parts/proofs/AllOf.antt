@@ -10,10 +10,6 @@ use Rattle.mpw_parts.specs.Reading.{all_of, numbers_from, ◌>>=◌}
 abbrev pub with_front : {A : Type 0} → List A → Option (List A) → Option (List A)
 with_front front rest = option_map (λ xs. front ++ xs) rest
 
-pub with_no_front : {A : Type 0} (rest : Option (List A)) → with_front [] rest ≡ rest
-with_no_front None = refl
-with_no_front (Some xs) = refl
-
 pushed : {A : Type 0} (front : List A) (x : A) (rest : Option (List A))
     → with_front (front ++ x ∷ []) rest ≡ with_front front (option_map (λ xs. x ∷ xs) rest)
 pushed front x None = refl

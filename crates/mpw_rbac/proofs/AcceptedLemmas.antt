@@ -12,7 +12,7 @@ use Rattle.mpw_rbac.specs.declared.permission.Operation.TheVariants.{Admin}
 use Rattle.mpw_rbac.specs.declared.refusal.Refusal.TheVariants.{Opened, Login, NotPermitted, NotAuthorized, Ssd, Dsd}
 use Rattle.mpw_rbac.specs.Policy.{Policy, permits, trim}
 use Rattle.mpw_rbac.specs.Rows as rows
-use Rattle.mpw_rbac.proofs.DenialLemmas.{none-denied, permission-plain, dsd-permission, ssd-plain, dsd-plain, dsd-static, ssd-dynamic, admin-static, admin-dynamic}
+use Rattle.mpw_rbac.proofs.Denying.{none-denied, permission-plain, dsd-permission, ssd-plain, dsd-plain, dsd-static, ssd-dynamic, admin-static, admin-dynamic}
 use Rattle.mpw_rbac.proofs.RowLemmas.{all-pass}
 use Rattle.mpw_rbac.proofs.RowTests as row
 

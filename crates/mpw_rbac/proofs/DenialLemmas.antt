@@ -1,146 +1,29 @@
 -- A denial names what the session lacks.
-use Rattle.std.proofs.Common.{◌≡◌, ℕ, Bool, true, false, cond, not, ◌||◌, ◌&&◌, inl, inr, List, [], ◌∷◌, ◌++◌, Option, None, Some, Result, Ok, Err, refl, ap, subst, true≢false}
+use Rattle.std.proofs.Common.{[], ◌≡◌, ℕ, Bool, true, false, cond, not, ◌&&◌, List, ◌∷◌, ◌++◌, Option, None, Some, Result, Ok, Err, refl, subst, true≢false}
 use Rattle.std.specs.Prelude.{nat_lt, length}
-use Rattle.std.specs.List.{list_any, list_all}
+use Rattle.std.specs.List.{list_all}
 use Rattle.mpw_geom.specs.Names.{contains_name}
 use Rattle.mpw_roles.specs.Decided.{decided}
 use Rattle.mpw_roles.specs.Hierarchy.{Name, is_role, is_immediate}
-use Rattle.mpw_roles.specs.Order.{at_least, roles_below}
-use Rattle.mpw_roles.proofs.CallerLemmas.{or_cases, or_right, roles_below-grows}
+use Rattle.mpw_roles.specs.Order.{at_least}
 use Rattle.mpw_separation.specs.Least.{least_name, IsLeast}
 use Rattle.mpw_separation.specs.Separation.{broken_names, has_set}
 use Rattle.mpw_separation.specs.Set.{SeparationSet}
 use Rattle.mpw_separation.proofs.LeastLemmas.{least-is}
-use Rattle.mpw_rbac.specs.Grant.{operation_eq, object_eq}
 use Rattle.mpw_rbac.specs.Laws.{DeniesRightly, IsLeastStatic, IsLeastDynamic}
 use Rattle.mpw_rbac.specs.declared.session.Identity.{Identity}
-use Rattle.mpw_rbac.specs.Policy.{Policy, identity_of, authorized, assigned_roles, is_user, permits, is_granted_to, session_permits, trim, assigned_lists, active_lists}
+use Rattle.mpw_rbac.specs.Policy.{Policy, identity_of, authorized, assigned_roles, is_user, trim, assigned_lists, active_lists}
 use Rattle.mpw_rbac.specs.Rows as rows
 use Rattle.mpw_rbac.specs.declared.permission.Grant.{Grant}
 use Rattle.mpw_rbac.specs.declared.permission.Object.{Object}
-use Rattle.mpw_rbac.specs.declared.permission.Object.TheVariants.{Desk}
 use Rattle.mpw_rbac.specs.declared.permission.Operation.{Operation}
-use Rattle.mpw_rbac.specs.declared.permission.Operation.TheVariants.{Admin}
 use Rattle.mpw_rbac.specs.declared.refusal.Refusal.{Refusal}
-use Rattle.mpw_rbac.specs.declared.refusal.Refusal.TheVariants.{Opened, Login, NoSession, NotPermitted, NotAuthorized, Unknown, Known, Full, Used, Loop, Ssd, Dsd}
+use Rattle.mpw_rbac.specs.declared.refusal.Refusal.TheVariants.{Opened, Login, NoSession, NotPermitted, NotAuthorized, Unknown, Known, Full, Loop, Ssd, Dsd}
 use Rattle.mpw_rbac.specs.Sound.{sets_hold}
 use Rattle.mpw_rbac.proofs.LawLemmas.{static-holds}
 use Rattle.mpw_rbac.proofs.RowLemmas.{AllPass}
 use Rattle.mpw_rbac.proofs.RowTests as row
-
-and_three : (a b c d : Bool) → (c ≡ true → d ≡ true) → (a && (b && c)) ≡ true
-    → (a && (b && d)) ≡ true
-and_three true true c d more is = more is
-and_three true false c d more is = is
-and_three false b c d more is = is
-
-any-more : {X : Type 0} (p q : X → Bool) → ((x : X) → p x ≡ true → q x ≡ true) → (xs : List X)
-    → list_any p xs ≡ true → list_any q xs ≡ true
-any-more p q more [] is = is
-any-more p q more (x ∷ xs) is = elim (or_cases (p x) (list_any p xs) is) [
-  | inl here ↦ ap (λ b. b || list_any q xs) (more x here)
-  | inr later ↦ or_right (q x) (list_any q xs) (any-more p q more xs later)
-]
-
-pub permits-more : (policy : Policy) (user : Name) (few many : List Name) (operation : Operation)
-    (object : Object) → ((role : Name) → contains_name few role ≡ true
-    → contains_name many role ≡ true)
-    → session_permits policy (record { user = user; active = few }) operation object ≡ true
-    → session_permits policy (record { user = user; active = many }) operation object ≡ true
-permits-more policy user few many operation object more is =
-    any-more (is_granted_to (roles_below policy.roles few) operation object)
-    (is_granted_to (roles_below policy.roles many) operation object)
-    (λ g. and_three (operation_eq operation g.operation) (object_eq object g.object)
-    (contains_name (roles_below policy.roles few) g.role)
-    (contains_name (roles_below policy.roles many) g.role)
-    (λ was. roles_below-grows policy.roles policy.roles few many (λ a b p. p) (λ r p. p) more g.role
-    was))
-    policy.granted is
-
-abbrev pub refused : Refusal → Result Policy Refusal
-refused r = Err r
-
-refusal-same : (a b : Refusal) → refused a ≡ refused b → a ≡ b
-refusal-same a b e = cc
-
--- none of the tests denies this
-abbrev pub NoneDenies : Refusal → List rows.Test → Type 0
-NoneDenies denial [] = Unit {0}
-NoneDenies denial (t ∷ ts) = (t.1 ≡ denial → ⊥) × NoneDenies denial ts
-
-pub none-denied : (denial : Refusal) (tests : List rows.Test) (next : Policy)
-    → NoneDenies denial tests → decided tests next ≡ refused denial → ⊥
-none-denied denial [] next none is = cc
-none-denied denial (t ∷ ts) next none is =
-    elim t.0 as (λ b. cond b (decided ts next) (Err t.1) ≡ refused denial → ⊥) [
-      | true ↦ λ later. none-denied denial ts next none.1 later
-      | false ↦ λ here. none.0 (refusal-same t.1 denial here)
-    ] is
-
-admin-denied : (p : Policy) (conn : ℕ) (operation : Operation) (object : Object)
-    (tests : List rows.Test) (next : Policy) → NoneDenies (NotPermitted operation object) tests
-    → decided (rows.in_session p conn ∷ rows.administers p conn ∷ tests) next
-    ≡ Err (NotPermitted operation object) → permits p conn operation object ≡ false
-admin-denied p conn operation object tests next none is =
-    by (rows.in_session p conn).0 (permits p conn Admin Desk) refl is
-  where
-    by : (a b : Bool) → permits p conn Admin Desk ≡ b
-        → cond a (cond b (decided tests next) (refused (NotPermitted Admin Desk)))
-        (refused NoSession) ≡ refused (NotPermitted operation object)
-        → permits p conn operation object ≡ false
-    by true true e f = absurd (none-denied (NotPermitted operation object) tests next none f)
-    by true false e f = cc
-    by false b e f = cc
-
--- refusals of other kinds
-abbrev pub IsPlain : Refusal → Type 0
-IsPlain denial = (Known ≡ denial → ⊥) × (Unknown ≡ denial → ⊥) × (Full ≡ denial → ⊥)
-    × (Used ≡ denial → ⊥) × (Loop ≡ denial → ⊥) × (NoSession ≡ denial → ⊥)
-
-pub permission-plain : (operation : Operation) (object : Object)
-    → IsPlain (NotPermitted operation object)
-permission-plain operation object = (λ e. cc, λ e. cc, λ e. cc, λ e. cc, λ e. cc, λ e. cc)
-
-activation-plain : (role : Name) → IsPlain (NotAuthorized role)
-activation-plain role = (λ e. cc, λ e. cc, λ e. cc, λ e. cc, λ e. cc, λ e. cc)
-
-pub ssd-plain : (name : Name) → IsPlain (Ssd name)
-ssd-plain name = (λ e. cc, λ e. cc, λ e. cc, λ e. cc, λ e. cc, λ e. cc)
-
-pub dsd-plain : (name : Name) → IsPlain (Dsd name)
-dsd-plain name = (λ e. cc, λ e. cc, λ e. cc, λ e. cc, λ e. cc, λ e. cc)
-
-ssd-permission : (operation : Operation) (object : Object) (o : Option Name)
-    → (rows.none_broken Ssd o).1 ≡ NotPermitted operation object → ⊥
-ssd-permission operation object None e = cc
-ssd-permission operation object (Some n) e = cc
-
-pub dsd-permission : (operation : Operation) (object : Object) (o : Option Name)
-    → (rows.none_broken Dsd o).1 ≡ NotPermitted operation object → ⊥
-dsd-permission operation object None e = cc
-dsd-permission operation object (Some n) e = cc
-
-dsd-activation : (role : Name) (o : Option Name) → (rows.none_broken Dsd o).1 ≡ NotAuthorized role
-    → ⊥
-dsd-activation role None e = cc
-dsd-activation role (Some n) e = cc
-
-pub dsd-static : (name : Name) (o : Option Name) → (rows.none_broken Dsd o).1 ≡ Ssd name → ⊥
-dsd-static name None e = cc
-dsd-static name (Some n) e = cc
-
-pub ssd-dynamic : (name : Name) (o : Option Name) → (rows.none_broken Ssd o).1 ≡ Dsd name → ⊥
-ssd-dynamic name None e = cc
-ssd-dynamic name (Some n) e = cc
-
-pub admin-static : (name : Name) → NotPermitted Admin Desk ≡ Ssd name → ⊥
-admin-static name e = cc
-
-pub admin-dynamic : (name : Name) → NotPermitted Admin Desk ≡ Dsd name → ⊥
-admin-dynamic name e = cc
-
-pub activation-dynamic : (role name : Name) → NotAuthorized role ≡ Dsd name → ⊥
-activation-dynamic role name e = cc
+use Rattle.mpw_rbac.proofs.Denying.{refused, refusal-same, NoneDenies, none-denied, admin-denied, permission-plain, activation-plain, ssd-plain, dsd-plain, ssd-permission, dsd-permission, dsd-activation, dsd-static, ssd-dynamic, admin-static, admin-dynamic, activation-dynamic}
 
 pub denies-adduser : (conn : ℕ) (user digest : List ℕ)
     → DeniesRightly conn (λ p. rows.adduser p conn user digest)

@@ -8,7 +8,7 @@ use Rattle.mpw_roles.specs.declared.fault.RolesFault.TheVariants as faults
 use Rattle.mpw_separation.specs.Separation.{least_broken}
 use Rattle.mpw_rbac.specs.Policy.{Policy, assigned_lists, active_lists, trim}
 use Rattle.mpw_rbac.specs.Rows as rows
-use Rattle.mpw_rbac.proofs.RowLemmas.{administered-facts}
+use Rattle.mpw_rbac.proofs.RowFacts.{administered-facts}
 
 -- where the hierarchy takes the pair, its tests passed
 passed : (h : Hierarchy) (senior junior : Name) (after : Hierarchy)

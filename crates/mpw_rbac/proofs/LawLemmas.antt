@@ -11,6 +11,7 @@ use Rattle.mpw_rbac.specs.declared.refusal.Refusal.TheVariants.{Ssd, Dsd}
 use Rattle.mpw_rbac.specs.Rows as rows
 use Rattle.mpw_rbac.specs.Sound.{active_authorized, Sound, sets_hold}
 use Rattle.mpw_rbac.proofs.KeepLemmas as keep
+use Rattle.mpw_rbac.proofs.KeepTrimmed as trimmed
 use Rattle.mpw_rbac.proofs.RowLemmas.{decided-value, all-pass, login-user}
 use Rattle.mpw_rbac.proofs.RowTests as row
 use Rattle.mpw_rbac.proofs.SeparationLemmas.{parts, not_true, holds-of_none, test-none}
@@ -119,11 +120,11 @@ sound-adduser_row conn user digest p q is s =
 
 pub keeps-deluser : (conn : ℕ) (user : List ℕ) → KeepsAuthorization (λ p. rows.deluser p conn user)
 keeps-deluser conn user p q is s = keeps (row.administer-tests p conn (row.deluser-tests p user))
-    (trim (row.user_deleted p user)) q is (keep.trim-authorized (row.user_deleted p user))
+    (trim (row.user_deleted p user)) q is (trimmed.trim-authorized (row.user_deleted p user))
 
 pub sound-deluser : (conn : ℕ) (user : List ℕ) → KeepsSound (λ p. rows.deluser p conn user)
 sound-deluser conn user p q is s = sound (row.administer-tests p conn (row.deluser-tests p user))
-    (trim (row.user_deleted p user)) q is (keep.keep-deluser p user s)
+    (trim (row.user_deleted p user)) q is (trimmed.keep-deluser p user s)
 
 pub keeps-addrole : (conn : ℕ) (role : List ℕ) → KeepsAuthorization (λ p. rows.addrole p conn role)
 keeps-addrole conn role p q is s = keeps (row.administer-tests p conn (row.addrole-tests p role))
@@ -136,7 +137,7 @@ sound-addrole_row conn role p q is s =
 
 pub keeps-delrole : (conn : ℕ) (role : List ℕ) → KeepsAuthorization (λ p. rows.delrole p conn role)
 keeps-delrole conn role p q is s = keeps (row.administer-tests p conn (row.delrole-tests p role))
-    (trim (rows.without_role_of p role)) q is (keep.trim-authorized (rows.without_role_of p role))
+    (trim (rows.without_role_of p role)) q is (trimmed.trim-authorized (rows.without_role_of p role))
 
 pub sound-delrole : (conn : ℕ) (role : List ℕ) → KeepsSound (λ p. rows.delrole p conn role)
 sound-delrole conn role p q is s =
@@ -144,7 +145,7 @@ sound-delrole conn role p q is s =
     (trim (rows.without_role_of p role)) q is in
     sound (row.administer-tests p conn (row.delrole-tests p role))
     (trim (rows.without_role_of p role)) q is
-    (keep.keep-delrole p role (keep.unused
+    (trimmed.keep-delrole p role (keep.unused
     (not_true (uses_role p.ssd role || uses_role p.dsd role) t.1.1.1.0)).0
     (keep.unused (not_true (uses_role p.ssd role || uses_role p.dsd role) t.1.1.1.0)).1 s)
 
@@ -166,13 +167,13 @@ pub keeps-deassign : (conn : ℕ) (user role : List ℕ)
     → KeepsAuthorization (λ p. rows.deassign p conn user role)
 keeps-deassign conn user role p q is s =
     keeps (row.administer-tests p conn (row.deassign-tests p user role))
-    (trim (row.deassigned p user role)) q is (keep.trim-authorized (row.deassigned p user role))
+    (trim (row.deassigned p user role)) q is (trimmed.trim-authorized (row.deassigned p user role))
 
 pub sound-deassign : (conn : ℕ) (user role : List ℕ)
     → KeepsSound (λ p. rows.deassign p conn user role)
 sound-deassign conn user role p q is s =
     sound (row.administer-tests p conn (row.deassign-tests p user role))
-    (trim (row.deassigned p user role)) q is (keep.keep-deassign p user role s)
+    (trim (row.deassigned p user role)) q is (trimmed.keep-deassign p user role s)
 
 pub keeps-grant : (conn : ℕ) (new : Grant) → KeepsAuthorization (λ p. rows.grant p conn new)
 keeps-grant conn new p q is s =
@@ -197,7 +198,7 @@ keeps-inherit conn senior junior p q is s =
     (row.inherited p senior junior) q is in
     keeps (row.administer-tests p conn (row.inherit-tests p senior junior))
     (row.inherited p senior junior) q is
-    (keep.authorized-inherit p senior junior
+    (trimmed.authorized-inherit p senior junior
     (parts (is_role p.roles senior) (is_role p.roles junior) t.1.1.0).0 s)
 
 pub sound-inherit : (conn : ℕ) (senior junior : List ℕ)
@@ -207,7 +208,7 @@ sound-inherit conn senior junior p q is s =
     (row.inherited p senior junior) q is in
     sound (row.administer-tests p conn (row.inherit-tests p senior junior))
     (row.inherited p senior junior) q is
-    (keep.keep-inherit p senior junior
+    (trimmed.keep-inherit p senior junior
     (parts (is_role p.roles senior) (is_role p.roles junior) t.1.1.0).0
     (static-holds (row.inherited p senior junior) t.1.1.1.1.1.0)
     (dynamic-holds (row.inherited p senior junior) t.1.1.1.1.1.1.0) s)
@@ -217,7 +218,7 @@ pub keeps-uninherit : (conn : ℕ) (senior junior : List ℕ)
 keeps-uninherit conn senior junior p q is s =
     keeps (row.administer-tests p conn (row.uninherit-tests p senior junior))
     (trim (row.uninherited p senior junior)) q is
-    (keep.trim-authorized (row.uninherited p senior junior))
+    (trimmed.trim-authorized (row.uninherited p senior junior))
 
 pub sound-uninherit : (conn : ℕ) (senior junior : List ℕ)
     → KeepsSound (λ p. rows.uninherit p conn senior junior)
@@ -226,7 +227,7 @@ sound-uninherit conn senior junior p q is s =
     (trim (row.uninherited p senior junior)) q is in
     sound (row.administer-tests p conn (row.uninherit-tests p senior junior))
     (trim (row.uninherited p senior junior)) q is
-    (keep.keep-uninherit p senior junior t.1.1.0 s)
+    (trimmed.keep-uninherit p senior junior t.1.1.0 s)
 
 pub keeps-ssd : (conn : ℕ) (set : SeparationSet) → KeepsAuthorization (λ p. rows.ssd p conn set)
 keeps-ssd conn set p q is s =

@@ -20,3 +20,8 @@ pub mod TrimLemmas
 mod ExistingLemmas
 mod KeptTables
 mod AcceptedLemmas
+pub mod Denying
+pub mod HeldLemmas
+pub mod KeepTrimmed
+pub mod KeptSessions
+pub mod RowFacts

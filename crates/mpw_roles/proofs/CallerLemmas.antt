@@ -4,9 +4,11 @@ use Rattle.mpw_geom.specs.Names.{contains_name}
 use Rattle.mpw_roles.specs.Hierarchy.{Name, Hierarchy, role_names, is_role, is_immediate, with_role}
 use Rattle.mpw_roles.specs.Order.{at_least, is_below, roles_below}
 use Rattle.mpw_geom.proofs.Linked.{some_name, any_name}
-use Rattle.mpw_roles.proofs.HierarchyLemmas.{names-with_role, at_least-fewer, contains-filter, contains-append, juniors-with_role}
+use Rattle.mpw_roles.proofs.HierarchyLemmas.{contains-filter}
+use Rattle.mpw_roles.proofs.RoleLemmas.{names-with_role, at_least-fewer, contains-append, juniors-with_role}
 pub use Rattle.mpw_geom.proofs.Linked.{same_name, name_eq-refl, or_right, or_cases, some_name, any_name}
-pub use Rattle.mpw_roles.proofs.HierarchyLemmas.{contains-filter, contains-append, contains-without, at_least-fewer, names-with_juniors, juniors-with_role, pairs-with_pair, pairs-without_pair, pairs-without_role, names-without_role, roles-left}
+pub use Rattle.mpw_roles.proofs.HierarchyLemmas.{contains-filter, contains-without, names-with_juniors, pairs-with_pair, pairs-without_pair, pairs-without_role, names-without_role, roles-left}
+pub use Rattle.mpw_roles.proofs.RoleLemmas.{contains-append, at_least-fewer, juniors-with_role}
 pub use Rattle.mpw_roles.proofs.SearchLemmas.{first_role}
 
 both_parts : (a b : Bool) → (a && b) ≡ true → (a ≡ true) × (b ≡ true)

@@ -5,3 +5,5 @@ pub mod MaskLemmas
 pub mod PlacesLemmas
 pub mod SearchLemmas
 pub mod TableLemmas
+pub mod BitLemmas
+pub mod RoleLemmas

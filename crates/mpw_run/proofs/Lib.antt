@@ -10,3 +10,6 @@ pub mod Fewest
 pub mod Books
 pub mod Uniting
 pub mod Joining
+pub mod Answering
+pub mod ExactPlane
+pub mod Insertion

@@ -11,3 +11,4 @@ mod FormLemmas
 mod RowLemmas
 mod ReplyLemmas
 mod ListingLemmas
+pub mod RequestAsks

@@ -2,7 +2,7 @@
 use Rattle.std.proofs.Common.{◌∙◌, ap, [], ◌∷◌, ◌++◌}
 use Rattle.mpw_roles.specs.Hierarchy.{role_names, immediate_juniors}
 use Rattle.mpw_roles.proofs.CallerLemmas.{names-with_juniors}
-use Rattle.mpw_rbac.proofs.RowLemmas.{inherited-pair}
+use Rattle.mpw_rbac.proofs.RowFacts.{inherited-pair}
 use Rattle.mpw_rbac.proofs.hierarchy.with_pair.Goals as goal
 
 pub with_pairs-requires : goal.with_pairs-requires

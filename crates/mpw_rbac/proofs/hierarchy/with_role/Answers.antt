@@ -1,7 +1,7 @@
 -- A role more goes last.
 use Rattle.std.proofs.Common.{◌∙◌, ap, [], ◌∷◌, ◌++◌}
 use Rattle.mpw_roles.specs.Hierarchy.{role_names}
-use Rattle.mpw_roles.proofs.HierarchyLemmas.{names-with_role}
+use Rattle.mpw_roles.proofs.RoleLemmas.{names-with_role}
 use Rattle.mpw_rbac.proofs.RowLemmas.{added-role}
 use Rattle.mpw_rbac.proofs.hierarchy.with_role.Goals as goal
 

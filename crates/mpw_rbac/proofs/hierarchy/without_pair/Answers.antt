@@ -3,7 +3,7 @@ use Rattle.std.proofs.Common.{◌∙◌, ap}
 use Rattle.mpw_geom.specs.Names.{without_name}
 use Rattle.mpw_roles.specs.Hierarchy.{role_names, immediate_juniors}
 use Rattle.mpw_roles.proofs.CallerLemmas.{names-with_juniors}
-use Rattle.mpw_rbac.proofs.RowLemmas.{uninherited-pair}
+use Rattle.mpw_rbac.proofs.RowFacts.{uninherited-pair}
 use Rattle.mpw_rbac.proofs.hierarchy.without_pair.Goals as goal
 
 pub with_pairs-requires : goal.with_pairs-requires

@@ -1,15 +1,16 @@
+use Rattle.mpw_rbac.proofs.KeptSessions as sessions
 use Rattle.mpw_rbac.proofs.KeptTables as kept
 use Rattle.mpw_rbac.proofs.tables.each_request_keeps_the_tables.Goals as goal
 
 pub returns : goal.returns
 returns c = record {
-  new_desk = kept.kept-new_desk;
-  end_session = kept.kept-end_session;
-  end_sessions = kept.kept-end_sessions;
-  open_session = kept.kept-open_session;
-  close_session = kept.kept-close_session;
-  activate = kept.kept-activate;
-  drop_role = kept.kept-drop_role;
+  new_desk = sessions.kept-new_desk;
+  end_session = sessions.kept-end_session;
+  end_sessions = sessions.kept-end_sessions;
+  open_session = sessions.kept-open_session;
+  close_session = sessions.kept-close_session;
+  activate = sessions.kept-activate;
+  drop_role = sessions.kept-drop_role;
   adduser = kept.kept-adduser;
   deluser = kept.kept-deluser;
   addrole = kept.kept-addrole;

@@ -3,7 +3,7 @@ use Rattle.std.proofs.Common.{◌≡◌, ◌++◌, ◌+◌, ◌∙◌, sym, ap, 
 use Rattle.mpw_roles.specs.Marks.{marked_names}
 use Rattle.mpw_roles.proofs.MarksLemmas.{marked_names-drop}
 use Rattle.mpw_roles.specs.Places.{marks_from}
-use Rattle.mpw_roles.proofs.PlacesLemmas.{mark-at, length-marks_from}
+use Rattle.mpw_roles.proofs.BitLemmas.{mark-at, length-marks_from}
 use Rattle.mpw_roles.proofs.below.push_marked.Goals as goal
 
 pub returns-then-not-contains : goal.returns-then-not-contains

@@ -6,7 +6,8 @@ use Rattle.std.specs.Prelude.{Some, position}
 use Rattle.mpw_geom.specs.Names.{name_eq}
 use Rattle.mpw_rbac.specs.Grant.{grant_eq}
 use Rattle.mpw_rbac.specs.Internal.Holders.{Permissions, holds}
-use Rattle.mpw_rbac.proofs.GrantedLemmas.{granted-bit, there}
+use Rattle.mpw_rbac.proofs.GrantedLemmas.{granted-bit}
+use Rattle.mpw_rbac.proofs.HeldLemmas.{there}
 use Rattle.mpw_rbac.proofs.permissions.Permissions.has_grant.Goals as goal
 
 pub returns : goal.returns

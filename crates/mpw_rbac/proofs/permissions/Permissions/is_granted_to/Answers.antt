@@ -8,7 +8,8 @@ use Rattle.mpw_roles.specs.Places.{is_place_below}
 use Rattle.mpw_rbac.specs.Grant.{operation_index}
 use Rattle.mpw_rbac.specs.Internal.Holders.{Permissions, holds, is_place_granted}
 use Rattle.mpw_rbac.specs.Policy.{is_granted_to}
-use Rattle.mpw_rbac.proofs.GrantedLemmas.{meets-granted, there}
+use Rattle.mpw_rbac.proofs.GrantedLemmas.{meets-granted}
+use Rattle.mpw_rbac.proofs.HeldLemmas.{there}
 use Rattle.mpw_rbac.proofs.permissions.Permissions.is_granted_to.Goals as goal
 
 pub returns : goal.returns

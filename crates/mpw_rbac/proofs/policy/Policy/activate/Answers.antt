@@ -8,7 +8,8 @@ use Rattle.mpw_rbac.specs.Rows as rows
 use Rattle.mpw_rbac.specs.declared.refusal.Refusal.TheVariants.{Dsd}
 use Rattle.mpw_rbac.specs.declared.session.Session.{Session}
 use Rattle.mpw_rbac.proofs.LawLemmas.{sound-activate_row}
-use Rattle.mpw_rbac.proofs.RowLemmas.{activate-ok, activate-broken, activate-same}
+use Rattle.mpw_rbac.proofs.RowLemmas.{activate-ok, activate-broken}
+use Rattle.mpw_rbac.proofs.RowFacts.{activate-same}
 use Rattle.mpw_rbac.specs.Masked.{IsBelow}
 use Rattle.mpw_rbac.proofs.policy.Policy.activate.Goals as goal
 

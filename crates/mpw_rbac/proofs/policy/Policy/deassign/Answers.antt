@@ -7,8 +7,9 @@ use Rattle.mpw_rbac.specs.Internal.Policy.{users_and_roles}
 use Rattle.mpw_rbac.specs.Rows as rows
 use Rattle.mpw_rbac.specs.Sound.{Sound}
 use Rattle.mpw_rbac.specs.Table.{with_value}
-use Rattle.mpw_rbac.proofs.KeepLemmas.{keep-deassign}
-use Rattle.mpw_rbac.proofs.RowLemmas.{deassign-ok, assigned-user}
+use Rattle.mpw_rbac.proofs.KeepTrimmed.{keep-deassign}
+use Rattle.mpw_rbac.proofs.RowLemmas.{deassign-ok}
+use Rattle.mpw_rbac.proofs.RowFacts.{assigned-user}
 use Rattle.mpw_rbac.proofs.TableLemmas.{insert-present}
 use Rattle.mpw_rbac.specs.Masked.{AreActing, AreAuthorized}
 use Rattle.mpw_rbac.proofs.policy.Policy.deassign.Goals as goal

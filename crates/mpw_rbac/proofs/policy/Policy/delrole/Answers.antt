@@ -6,8 +6,10 @@ use Rattle.mpw_rbac.specs.Policy.{Policy, policy_of, trim, kept_sessions}
 use Rattle.mpw_rbac.specs.Internal.Policy.{users_and_roles}
 use Rattle.mpw_rbac.specs.Rows as rows
 use Rattle.mpw_rbac.specs.Sound.{Sound}
-use Rattle.mpw_rbac.proofs.KeepLemmas.{keep-delrole, unused}
-use Rattle.mpw_rbac.proofs.RowLemmas.{removed-role, delrole-ok}
+use Rattle.mpw_rbac.proofs.KeepLemmas.{unused}
+use Rattle.mpw_rbac.proofs.KeepTrimmed.{keep-delrole}
+use Rattle.mpw_rbac.proofs.RowLemmas.{delrole-ok}
+use Rattle.mpw_rbac.proofs.RowFacts.{removed-role}
 use Rattle.mpw_rbac.specs.Masked.{AreActing, AreAuthorized}
 use Rattle.mpw_rbac.proofs.policy.Policy.delrole.Goals as goal
 

@@ -5,7 +5,7 @@ use Rattle.mpw_rbac.specs.Policy.{policy_of, trim, kept_sessions}
 use Rattle.mpw_rbac.specs.Internal.Policy.{users_and_roles}
 use Rattle.mpw_rbac.specs.Sound.{Sound}
 use Rattle.mpw_rbac.specs.Table.{without_key}
-use Rattle.mpw_rbac.proofs.KeepLemmas.{keep-deluser}
+use Rattle.mpw_rbac.proofs.KeepTrimmed.{keep-deluser}
 use Rattle.mpw_rbac.specs.Masked.{AreActing, AreAuthorized}
 use Rattle.mpw_rbac.proofs.policy.Policy.deluser.Goals as goal
 

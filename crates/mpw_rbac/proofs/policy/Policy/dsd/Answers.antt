@@ -9,7 +9,8 @@ use Rattle.mpw_rbac.specs.Rows as rows
 use Rattle.mpw_rbac.specs.Sound.{Sound}
 use Rattle.mpw_rbac.specs.declared.refusal.Refusal.TheVariants.{Dsd}
 use Rattle.mpw_rbac.proofs.LawLemmas.{sound-dsd}
-use Rattle.mpw_rbac.proofs.RowLemmas.{dsd-ok, dsd-broken, dsd-refused, made-set}
+use Rattle.mpw_rbac.proofs.RowLemmas.{dsd-ok, dsd-broken, dsd-refused}
+use Rattle.mpw_rbac.proofs.RowFacts.{made-set}
 use Rattle.mpw_rbac.proofs.policy.Policy.dsd.Goals as goal
 
 pub returns-then-is_broken_by_sessions-clause-refused :

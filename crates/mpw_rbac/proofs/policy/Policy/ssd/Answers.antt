@@ -9,7 +9,8 @@ use Rattle.mpw_rbac.specs.Rows as rows
 use Rattle.mpw_rbac.specs.Sound.{Sound}
 use Rattle.mpw_rbac.specs.declared.refusal.Refusal.TheVariants.{Ssd}
 use Rattle.mpw_rbac.proofs.LawLemmas.{sound-ssd}
-use Rattle.mpw_rbac.proofs.RowLemmas.{ssd-ok, ssd-broken, ssd-refused, made-set}
+use Rattle.mpw_rbac.proofs.RowLemmas.{ssd-ok, ssd-broken, ssd-refused}
+use Rattle.mpw_rbac.proofs.RowFacts.{made-set}
 use Rattle.mpw_rbac.proofs.policy.Policy.ssd.Goals as goal
 
 pub returns-then-is_broken_by_users-clause-refused :

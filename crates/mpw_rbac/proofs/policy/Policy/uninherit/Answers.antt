@@ -6,8 +6,8 @@ use Rattle.mpw_rbac.specs.Internal.Policy.{users_and_roles}
 use Rattle.mpw_rbac.specs.Sound.{Sound}
 use Rattle.mpw_rbac.specs.Rows as rows
 use Rattle.mpw_rbac.proofs.InheritLemmas.{uninherit-ok}
-use Rattle.mpw_rbac.proofs.KeepLemmas.{keep-uninherit}
-use Rattle.mpw_rbac.proofs.RowLemmas.{uninherited-pair}
+use Rattle.mpw_rbac.proofs.KeepTrimmed.{keep-uninherit}
+use Rattle.mpw_rbac.proofs.RowFacts.{uninherited-pair}
 use Rattle.mpw_rbac.specs.Masked.{AreActing, AreAuthorized}
 use Rattle.mpw_rbac.proofs.policy.Policy.uninherit.Goals as goal
 

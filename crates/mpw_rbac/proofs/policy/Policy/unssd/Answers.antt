@@ -4,7 +4,7 @@ use Rattle.mpw_separation.specs.Separation.{without_set}
 use Rattle.mpw_rbac.specs.Policy.{policy_of}
 use Rattle.mpw_rbac.specs.Sound.{Sound}
 use Rattle.mpw_rbac.proofs.KeepLemmas.{keep-unssd}
-use Rattle.mpw_rbac.proofs.RowLemmas.{removed-set}
+use Rattle.mpw_rbac.proofs.RowFacts.{removed-set}
 use Rattle.mpw_rbac.proofs.policy.Policy.unssd.Goals as goal
 
 pub invariant_of-self-2 : goal.invariant_of-self-2

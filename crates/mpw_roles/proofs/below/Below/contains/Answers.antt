@@ -6,7 +6,7 @@ use Rattle.mpw_roles.specs.Hierarchy.{role_names, is_role}
 use Rattle.mpw_roles.proofs.MarksLemmas.{read-first, is_marked-none, contains-marked_names, length-names}
 use Rattle.mpw_roles.proofs.TableLemmas.{is_role-lookup}
 use Rattle.mpw_roles.specs.Places.{marks_from}
-use Rattle.mpw_roles.proofs.PlacesLemmas.{mark-at, length-marks_from}
+use Rattle.mpw_roles.proofs.BitLemmas.{mark-at, length-marks_from}
 use Rattle.mpw_roles.proofs.below.Below.contains.Goals as goal
 
 pub returns-in-Some : goal.returns-in-Some

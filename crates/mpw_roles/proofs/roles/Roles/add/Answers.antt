@@ -5,7 +5,7 @@ use Rattle.mpw_geom.specs.Names.{name_eq}
 use Rattle.mpw_roles.specs.Hierarchy.{is_role, with_role}
 use Rattle.mpw_roles.specs.Mask.{has}
 use Rattle.mpw_roles.specs.Places.{IsRoles, mask_at}
-use Rattle.mpw_roles.proofs.HierarchyLemmas.{IsHierarchy-with_role}
+use Rattle.mpw_roles.proofs.RoleLemmas.{IsHierarchy-with_role}
 use Rattle.mpw_roles.proofs.PlacesLemmas.{IsMasked-with_role, written-back}
 use Rattle.mpw_roles.proofs.TableLemmas.{add-ok, insert-new}
 use Rattle.mpw_roles.proofs.roles.Roles.add.Goals as goal

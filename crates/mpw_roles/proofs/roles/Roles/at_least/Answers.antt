@@ -2,7 +2,8 @@
 use Rattle.std.proofs.Common.{◌∙◌, sym, ap, arith, is_some}
 use Rattle.mpw_roles.specs.Mask.{has}
 use Rattle.mpw_roles.specs.Order.{at_least}
-use Rattle.mpw_roles.proofs.PlacesLemmas.{bit-at_least, stranger-above, stranger-below, mask-there}
+use Rattle.mpw_roles.proofs.PlacesLemmas.{mask-there}
+use Rattle.mpw_roles.proofs.BitLemmas.{bit-at_least, stranger-above, stranger-below}
 use Rattle.mpw_roles.proofs.TableLemmas.{is_role-lookup}
 use Rattle.mpw_roles.proofs.roles.Roles.at_least.Goals as goal
 use Rattle.mpw_roles.proofs.roles.Roles.at_least.Goals.{in_default-via-in-Some+in_default, in_default-via-in_default}

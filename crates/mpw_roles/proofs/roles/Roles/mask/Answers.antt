@@ -2,7 +2,8 @@
 use Rattle.std.proofs.Common.{◌∙◌, sym, ap, arith}
 use Rattle.mpw_roles.specs.Mask.{has}
 use Rattle.mpw_roles.specs.Places.{is_place_under}
-use Rattle.mpw_roles.proofs.PlacesLemmas.{mask-found, mask-none, mask-there}
+use Rattle.mpw_roles.proofs.PlacesLemmas.{mask-found, mask-there}
+use Rattle.mpw_roles.proofs.BitLemmas.{mask-none}
 use Rattle.mpw_roles.proofs.TableLemmas.{is_role-lookup}
 use Rattle.mpw_roles.proofs.roles.Roles.mask.Goals as goal
 

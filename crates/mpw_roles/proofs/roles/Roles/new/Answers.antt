@@ -1,6 +1,6 @@
 use Rattle.std.proofs.Common.{sym, subst, arith}
 use Rattle.mpw_roles.specs.Places.{IsRoles}
-use Rattle.mpw_roles.proofs.HierarchyLemmas.{IsHierarchy-empty}
+use Rattle.mpw_roles.proofs.RoleLemmas.{IsHierarchy-empty}
 use Rattle.mpw_roles.proofs.roles.Roles.new.Goals as goal
 
 pub invariant_of-result : goal.invariant_of-result

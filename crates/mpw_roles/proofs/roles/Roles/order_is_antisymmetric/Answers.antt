@@ -1,6 +1,6 @@
 use Rattle.std.proofs.Common.{subst}
 use Rattle.mpw_roles.specs.Order.{IsHierarchy}
-use Rattle.mpw_roles.proofs.HierarchyLemmas.{antisymmetric}
+use Rattle.mpw_roles.proofs.RoleLemmas.{antisymmetric}
 use Rattle.mpw_roles.proofs.roles.Roles.order_is_antisymmetric.Goals as goal
 
 pub returns : goal.returns

@@ -1,6 +1,6 @@
 use Rattle.std.proofs.Common.{ap, ◌∙◌}
 use Rattle.mpw_run.specs.Step.{new_tiles}
-use Rattle.mpw_run.proofs.Changes.{cut_is}
+use Rattle.mpw_run.proofs.Answering.{cut_is}
 use Rattle.mpw_run.proofs.run.Run.check_begun.Goals as goal
 
 pub returns : goal.returns

@@ -2,7 +2,7 @@ use Rattle.std.proofs.Common.{◌∙◌, sym, subst, ap, arith, List}
 use Rattle.mpw_markers.specs.declared.marker.Marker.{Marker}
 use Rattle.mpw_run.specs.Internal.Prepared.{answers_with}
 use Rattle.mpw_run.specs.Stitching.{stitched, AreFilled}
-use Rattle.mpw_run.proofs.Changes.{IsOpen, keep_is, filled_is, finish_is}
+use Rattle.mpw_run.proofs.Answering.{IsOpen, keep_is, filled_is, finish_is}
 use Rattle.mpw_run.proofs.run.Run.tile_kept.Goals as goal
 
 pub returns-then-done-total : goal.returns-then-done-total

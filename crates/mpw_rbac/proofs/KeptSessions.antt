@@ -1,0 +1,118 @@
+-- What an accepted row on sessions leaves keeps its tables.
+use Rattle.std.proofs.Common.{[], ◌≡◌, ℕ, Ok, true, refl, sym, subst, List, ◌∷◌, arith}
+use Rattle.mpw_roles.specs.Decided.{decided}
+use Rattle.mpw_rbac.specs.Existing.{assigns_roles, leads_to_roles, grants_roles, KeepsLimits, AreTablesSound, KeepsTables}
+use Rattle.mpw_rbac.specs.Policy.{Policy, new_policy}
+use Rattle.mpw_rbac.specs.Rows as rows
+use Rattle.mpw_rbac.specs.Sound.{Sound}
+use Rattle.mpw_rbac.proofs.ExistingLemmas as there
+use Rattle.mpw_rbac.proofs.LawLemmas as law
+use Rattle.mpw_rbac.proofs.RowLemmas.{decided-value}
+use Rattle.mpw_rbac.proofs.RowTests as row
+
+-- the policy that a row leaves is its next one, which names what is there and keeps the limits
+pub kept : (tests : List rows.Test) (next q : Policy) → decided tests next ≡ Ok q → Sound q
+    → assigns_roles next.roles next.users ≡ true → leads_to_roles next.roles next.roles ≡ true
+    → grants_roles next.roles next.granted ≡ true → KeepsLimits next → AreTablesSound q
+kept tests next q is sound assignments pairs grants limits =
+    let same = decided-value tests next q is in
+    let s : Sound next = subst Sound (sym same) sound in
+    subst AreTablesSound same (record {
+      sound = s;
+      names = there.names-there next s assignments
+          pairs grants;
+      limits = limits;
+    })
+
+pub kept-new_desk : (officer digest : List ℕ) → AreTablesSound (new_policy officer digest)
+kept-new_desk officer digest =
+    let p = new_policy officer digest in
+    let s = law.sound-new_desk officer digest in
+    record {
+      sound = s;
+      names = there.names-there p s refl refl refl;
+      limits = record {
+        users = omega arith;
+        roles = omega arith;
+        grants = omega arith;
+        static = omega arith;
+        dynamic = omega arith;
+      };
+    }
+
+pub kept-end_session : (conn : ℕ) → KeepsTables (λ p. Ok (rows.end_session p conn))
+kept-end_session conn p q is k =
+    kept [] (rows.end_session p conn) q is (law.sound-end_session conn p q is k.sound)
+    (k.names.assignments) (k.names.pairs) (k.names.grants)
+    (record {
+      users = k.limits.users;
+      roles = k.limits.roles;
+      grants = k.limits.grants;
+      static = k.limits.static;
+      dynamic = k.limits.dynamic;
+    })
+
+pub kept-end_sessions : KeepsTables (λ p. Ok (rows.end_sessions p))
+kept-end_sessions p q is k =
+    kept [] (rows.end_sessions p) q is (law.sound-end_sessions p q is k.sound)
+    (k.names.assignments) (k.names.pairs) (k.names.grants)
+    (record {
+      users = k.limits.users;
+      roles = k.limits.roles;
+      grants = k.limits.grants;
+      static = k.limits.static;
+      dynamic = k.limits.dynamic;
+    })
+
+pub kept-open_session : (conn : ℕ) (user digest : List ℕ)
+    → KeepsTables (λ p. rows.open_session p conn user digest)
+kept-open_session conn user digest p q is k =
+    kept (row.open-tests p conn user digest) (row.opened p conn user) q is
+    (law.sound-open_session conn user digest p q is k.sound)
+    (k.names.assignments) (k.names.pairs) (k.names.grants)
+    (record {
+      users = k.limits.users;
+      roles = k.limits.roles;
+      grants = k.limits.grants;
+      static = k.limits.static;
+      dynamic = k.limits.dynamic;
+    })
+
+pub kept-close_session : (conn : ℕ) → KeepsTables (λ p. rows.close_session p conn)
+kept-close_session conn p q is k =
+    kept (rows.in_session p conn ∷ []) (rows.end_session p conn) q is
+    (law.sound-close_session conn p q is k.sound)
+    (k.names.assignments) (k.names.pairs) (k.names.grants)
+    (record {
+      users = k.limits.users;
+      roles = k.limits.roles;
+      grants = k.limits.grants;
+      static = k.limits.static;
+      dynamic = k.limits.dynamic;
+    })
+
+pub kept-activate : (conn : ℕ) (role : List ℕ) → KeepsTables (λ p. rows.activate p conn role)
+kept-activate conn role p q is k =
+    kept (row.activate-tests p conn role) (row.activated p conn role) q is
+    (law.sound-activate_row conn role p q is k.sound)
+    (k.names.assignments) (k.names.pairs) (k.names.grants)
+    (record {
+      users = k.limits.users;
+      roles = k.limits.roles;
+      grants = k.limits.grants;
+      static = k.limits.static;
+      dynamic = k.limits.dynamic;
+    })
+
+pub kept-drop_role : (conn : ℕ) (role : List ℕ) → KeepsTables (λ p. rows.drop_role p conn role)
+kept-drop_role conn role p q is k =
+    kept (row.drop-tests p conn role) (row.dropped p conn role) q is
+    (law.sound-drop_role conn role p q is k.sound)
+    (k.names.assignments) (k.names.pairs) (k.names.grants)
+    (record {
+      users = k.limits.users;
+      roles = k.limits.roles;
+      grants = k.limits.grants;
+      static = k.limits.static;
+      dynamic = k.limits.dynamic;
+    })
