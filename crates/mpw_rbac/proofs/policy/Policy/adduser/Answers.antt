@@ -6,7 +6,7 @@ use Rattle.mpw_geom.specs.Names.{name_eq}
 use Rattle.mpw_rbac.specs.Policy.{Policy, policy_of, is_user}
 use Rattle.mpw_rbac.specs.Rows as rows
 use Rattle.mpw_rbac.specs.Sound.{Sound}
-use Rattle.mpw_rbac.proofs.RowLemmas.{adduser-ok}
+use Rattle.mpw_rbac.proofs.RowFacts.{adduser-ok}
 use Rattle.mpw_rbac.proofs.KeepLemmas.{keep-adduser}
 use Rattle.mpw_rbac.proofs.TableLemmas.{insert-new}
 use Rattle.mpw_rbac.specs.Masked.{AreAuthorized}

@@ -9,7 +9,7 @@ use Rattle.mpw_rbac.specs.Rows as rows
 use Rattle.mpw_rbac.specs.declared.refusal.Refusal.TheVariants.{Ssd}
 use Rattle.mpw_rbac.specs.declared.session.User.{User}
 use Rattle.mpw_rbac.proofs.LawLemmas.{sound-assign_row}
-use Rattle.mpw_rbac.proofs.RowLemmas.{assign-ok, assign-broken}
+use Rattle.mpw_rbac.proofs.RowFacts.{assign-ok, assign-broken}
 use Rattle.mpw_rbac.proofs.RowFacts.{assign-same}
 use Rattle.mpw_rbac.specs.Masked.{AreAuthorized}
 use Rattle.mpw_rbac.proofs.policy.Policy.assign.Goals as goal

@@ -8,7 +8,7 @@ use Rattle.mpw_rbac.specs.Rows as rows
 use Rattle.mpw_rbac.specs.Sound.{Sound}
 use Rattle.mpw_rbac.specs.Table.{with_value}
 use Rattle.mpw_rbac.proofs.KeepTrimmed.{keep-deassign}
-use Rattle.mpw_rbac.proofs.RowLemmas.{deassign-ok}
+use Rattle.mpw_rbac.proofs.RowFacts.{deassign-ok}
 use Rattle.mpw_rbac.proofs.RowFacts.{assigned-user}
 use Rattle.mpw_rbac.proofs.TableLemmas.{insert-present}
 use Rattle.mpw_rbac.specs.Masked.{AreActing, AreAuthorized}

@@ -8,7 +8,7 @@ use Rattle.mpw_rbac.specs.Rows as rows
 use Rattle.mpw_rbac.specs.Sound.{Sound}
 use Rattle.mpw_rbac.proofs.KeepLemmas.{unused}
 use Rattle.mpw_rbac.proofs.KeepTrimmed.{keep-delrole}
-use Rattle.mpw_rbac.proofs.RowLemmas.{delrole-ok}
+use Rattle.mpw_rbac.proofs.RowFacts.{delrole-ok}
 use Rattle.mpw_rbac.proofs.RowFacts.{removed-role}
 use Rattle.mpw_rbac.specs.Masked.{AreActing, AreAuthorized}
 use Rattle.mpw_rbac.proofs.policy.Policy.delrole.Goals as goal

@@ -8,7 +8,7 @@ use Rattle.mpw_rbac.specs.Rows as rows
 use Rattle.mpw_rbac.proofs.InheritLemmas.{inherit-ok}
 use Rattle.mpw_rbac.proofs.KeepTrimmed.{keep-inherit}
 use Rattle.mpw_rbac.proofs.SeparationLemmas.{holds-of_none}
-use Rattle.mpw_rbac.proofs.RowLemmas.{inherit-static, inherit-dynamic}
+use Rattle.mpw_rbac.proofs.RowFacts.{inherit-static, inherit-dynamic}
 use Rattle.mpw_rbac.proofs.RowFacts.{inherited-pair}
 use Rattle.mpw_roles.specs.Rows as hierarchy
 use Rattle.mpw_rbac.specs.Masked.{AreActing, AreAuthorized}

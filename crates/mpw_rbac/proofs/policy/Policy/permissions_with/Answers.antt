@@ -6,7 +6,7 @@ use Rattle.mpw_roles.specs.Hierarchy.{is_role}
 use Rattle.mpw_rbac.specs.Grant.{grant_eq}
 use Rattle.mpw_rbac.specs.Internal.Holders.{Permissions}
 use Rattle.mpw_rbac.specs.Policy.{Policy}
-use Rattle.mpw_rbac.proofs.RowLemmas.{grant-ok}
+use Rattle.mpw_rbac.proofs.RowFacts.{grant-ok}
 use Rattle.mpw_rbac.proofs.policy.Policy.permissions_with.Goals as goal
 
 pub returns-clause-ok : goal.returns-clause-ok

@@ -7,7 +7,7 @@ use Rattle.mpw_rbac.specs.Policy.{Policy, policy_of}
 use Rattle.mpw_rbac.specs.Rows as rows
 use Rattle.mpw_rbac.specs.Sound.{Sound}
 use Rattle.mpw_rbac.proofs.KeepLemmas.{keep-granted}
-use Rattle.mpw_rbac.proofs.RowLemmas.{revoke-ok}
+use Rattle.mpw_rbac.proofs.RowFacts.{revoke-ok}
 use Rattle.mpw_rbac.specs.Masked.{AreActing, AreAuthorized}
 use Rattle.mpw_rbac.proofs.policy.Policy.revoke.Goals as goal
 
