@@ -1,7 +1,8 @@
 //! The rectangles of two layers, and what a check finds among them.
 
-use mpw_deck::{Check, Rule};
+use mpw_deck::Rule;
 use mpw_geom::{Box2, Layer, Name};
+use mpw_words::{check_of, coordinate_or_zero};
 use std::alloc::{AllocError, Global};
 
 const FIRST: Layer = Layer {
@@ -29,25 +30,8 @@ pub struct Shapes {
     second: Vec<Box2>,
 }
 
-fn number(word: Option<&str>) -> i64 {
-    match word {
-        Some(word) => word.parse::<i64>().unwrap_or(0),
-        None => 0,
-    }
-}
-
-fn check_of(word: &str) -> Option<Check> {
-    match word {
-        "width" => Some(Check::Width(FIRST)),
-        "space" => Some(Check::Space(FIRST)),
-        "separation" => Some(Check::Separation(FIRST, SECOND)),
-        "enclosing" => Some(Check::Enclosing(FIRST, SECOND)),
-        _ => None,
-    }
-}
-
 fn rule_of(alloc: Global, word: &str, distance: i64) -> Option<Rule> {
-    let check = check_of(word)?;
+    let check = check_of(word, FIRST, SECOND)?;
     let name = Name::read(alloc, b"rule").ok()?;
     let distance = u32::try_from(distance).ok()?;
     Some(Rule {
@@ -69,10 +53,10 @@ impl Shapes {
     pub fn answer(&mut self, alloc: Global, line: &str) -> Result<Option<usize>, AllocError> {
         let mut words = line.split(' ');
         let verb = words.next().unwrap_or("");
-        let x0 = number(words.next());
-        let y0 = number(words.next());
-        let x1 = number(words.next());
-        let y1 = number(words.next());
+        let x0 = coordinate_or_zero(words.next());
+        let y0 = coordinate_or_zero(words.next());
+        let x1 = coordinate_or_zero(words.next());
+        let y1 = coordinate_or_zero(words.next());
         let shape = Box2 { x0, y0, x1, y1 };
         match verb {
             "a" => self.first.push(shape)?,

@@ -18,7 +18,7 @@ use Rattle.mpw_run.specs.Run.{Planned}
 use Rattle.mpw_run.specs.Step.{Outcome as RunOutcome, book_size, tile_answered}
 use Rattle.mpw_run.specs.declared.phase.RunReply.{RunReply}
 use Rattle.mpw_run.specs.declared.phase.RunReply.TheVariants as told
-use Rattle.mpw_signoff.specs.Laws.{AskedAreShown, AskersAreTold, CleanIsSignedOff, IsAsked, IsAsker, IsSigned, IsSignedOff, IsSubmitter, SignersStandApart, SubmittersAreTold}
+use Rattle.mpw_signoff.specs.Laws.{AskedAreShown, AskersAreTold, CleanIsSignedOff, IsRightlyAsked, IsAsker, IsRightlySigned, IsSignedOff, IsSubmitter, SignersStandApart, SubmittersAreTold}
 use Rattle.mpw_signoff.specs.SigningOff as signing
 use Rattle.mpw_waiver.specs.Waivers.{none_asked}
 use Rattle.mpw_core.specs.Answer.{run_response}
@@ -97,10 +97,10 @@ ok-as s conn request kept lines e =
 pub asked-shown : AskedAreShown → (s : State) (conn : ℕ) (name : MarkerName) (kept : Bool)
     (lines : List Listed) → response_of s (event.Ask conn (ask.SignOff (sign_ask.Waive name))) kept
     ≡ response.Told (reply.Ok lines)
-    → IsAsked s.policy s.run s.waivers conn name
+    → IsRightlyAsked s.policy s.run s.waivers conn name
     (after s (event.Ask conn (ask.SignOff (sign_ask.Waive name))) kept).waivers
 asked-shown law s conn name kept lines e =
-    subst (λ (o : Outcome). IsAsked s.policy s.run s.waivers conn name o.state.waivers)
+    subst (λ (o : Outcome). IsRightlyAsked s.policy s.run s.waivers conn name o.state.waivers)
     (sym (told-as s conn (sign_ask.Waive name) kept lines e))
     (law s.policy s.wafer s.run s.waivers conn name lines
     (ok-as s conn (sign_ask.Waive name) kept lines e))
@@ -109,10 +109,10 @@ pub signed-apart : SignersStandApart
     → (s : State) (conn : ℕ) (name : MarkerName) (kept : Bool) (lines : List Listed)
     → response_of s (event.Ask conn (ask.SignOff (sign_ask.Sign name))) kept ≡ response.Told
     (reply.Ok lines)
-    → IsSigned s.policy s.run s.waivers conn name
+    → IsRightlySigned s.policy s.run s.waivers conn name
     (after s (event.Ask conn (ask.SignOff (sign_ask.Sign name))) kept).waivers
 signed-apart law s conn name kept lines e =
-    subst (λ (o : Outcome). IsSigned s.policy s.run s.waivers conn name o.state.waivers)
+    subst (λ (o : Outcome). IsRightlySigned s.policy s.run s.waivers conn name o.state.waivers)
     (sym (told-as s conn (sign_ask.Sign name) kept lines e))
     (law s.policy s.wafer s.run s.waivers conn name lines
     (ok-as s conn (sign_ask.Sign name) kept lines e))

@@ -21,7 +21,7 @@ ghost use Rattle.mpw_requests.specs.declared.run.RunRequest.TheVariants as run;
 ghost use Rattle.mpw_requests.specs.declared.sign_off.MarkerName.{MarkerName};
 ghost use Rattle.mpw_requests.specs.declared.sign_off.SignOffRequest.{SignOffRequest as AnySignOffRequest};
 ghost use Rattle.mpw_requests.specs.declared.sign_off.SignOffRequest.TheVariants as sign;
-ghost use Rattle.mpw_signoff.specs.Laws.{IsAsked, IsAsker, IsSigned, IsSignedOff, IsSubmitter};
+ghost use Rattle.mpw_signoff.specs.Laws.{IsRightlyAsked, IsAsker, IsRightlySigned, IsSignedOff, IsSubmitter};
 ghost use Rattle.mpw_waiver.specs.Waivers.{none_asked};
 ghost use Rattle.mpw_replies.specs.Readable.{IsOfReadable};
 ghost use Rattle.mpw_core.specs.Step.{State, new_state, outcome_of, wanted, unkept, left, step, response_of, entries_of, after};
@@ -228,9 +228,9 @@ pub fn every_state_has_a_place_for_each_marker()
 /// nor submitted what the marker meets.
 pub fn waivers_are_signed_apart()
     ensures asked { (state : State) (conn : ℕ) (name : MarkerName) (kept : Bool) (lines : List Listed) → response_of state (event.Ask conn (ask.SignOff (sign.Waive name))) kept ≡ response.Told (Reply.Ok lines) →
-        IsAsked state.policy state.run state.waivers conn name (after state (event.Ask conn (ask.SignOff (sign.Waive name))) kept).waivers }
+        IsRightlyAsked state.policy state.run state.waivers conn name (after state (event.Ask conn (ask.SignOff (sign.Waive name))) kept).waivers }
     ensures signed { (state : State) (conn : ℕ) (name : MarkerName) (kept : Bool) (lines : List Listed) → response_of state (event.Ask conn (ask.SignOff (sign.Sign name))) kept ≡ response.Told (Reply.Ok lines) →
-        IsSigned state.policy state.run state.waivers conn name (after state (event.Ask conn (ask.SignOff (sign.Sign name))) kept).waivers }
+        IsRightlySigned state.policy state.run state.waivers conn name (after state (event.Ask conn (ask.SignOff (sign.Sign name))) kept).waivers }
 {
     signers_stand_apart();
     waivers_are_of_shown_markers();

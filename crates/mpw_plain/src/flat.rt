@@ -1,6 +1,7 @@
 //! The flat list of placed submissions by plain recursion, and the unit squares of its shapes by their definition: a second
 //! opinion of walks, placings and rectangles.
 
+use crate::named::{bound, own};
 use anyhow::{Context, Result, bail};
 use mpw_elements::{Boundary, Element, Path, Reference};
 use mpw_geom::{Layer, Name, Orient, Placing, Point};
@@ -118,24 +119,6 @@ fn instance(reference: &Reference, row: u16, column: u16) -> Placing {
             y: y.wrapping_add(reference.origin.y),
         },
     }
-}
-
-fn own<'a>(submission: &'a Submission, name: &Name) -> Option<&'a Structure> {
-    for structure in submission.library.structures() {
-        if structure.name.as_str() == name.as_str() {
-            return Some(structure);
-        }
-    }
-    None
-}
-
-fn bound(submission: &Submission, name: &Name) -> Result<u32> {
-    for binding in submission.bound.as_slice() {
-        if binding.name.as_str() == name.as_str() {
-            return Ok(binding.submission);
-        }
-    }
-    bail!("a bound name")
 }
 
 /// The instances of a reference.

@@ -1,11 +1,11 @@
 //! Random layouts: a pad with an arm inside, and a chip that places pads, alone and in arrays, in any orientation.
 
-use crate::random::Random;
-use crate::shelves::{ORIENTS, submit};
+use crate::shelves::submit;
 use anyhow::Result;
 use mpw_geom::{Orient, Placing, Point};
 use mpw_hier::Shelf;
 use mpw_walk::Root;
+use mpw_words::{ORIENTS, Random};
 use std::alloc::{AllocError, Global};
 
 /// A coordinate of a shape.

@@ -8,14 +8,16 @@
 
 mod flat;
 mod layouts;
+mod named;
+mod near;
 mod picture;
-mod random;
 mod search;
 mod shelves;
 
 pub use flat::{Cell, Shown, flat_list, has, layer, squares_of};
 pub use layouts::{layout, roots};
+pub use named::{bound, own};
+pub use near::all_near;
 pub use picture::Picture;
-pub use random::Random;
 pub use search::{PlainMarker, plain_markers};
-pub use shelves::{ORIENTS, placed_roots, submit, submit_text};
+pub use shelves::{placed_roots, put_text, submit, submit_text};

@@ -3,24 +3,13 @@
 ghost use Rattle.mpw_library.specs.Library.{IsLibrary};
 
 use anyhow::{Result, bail};
-use mpw_geom::{Name, Orient, Placing, Point};
+use mpw_geom::Name;
 use mpw_hier::{HierFault, Outline, Shelf, Submission};
 use mpw_library::{Library, read_library};
 use mpw_samples::text_of_library;
 use mpw_walk::Root;
+use mpw_words::{number, placing};
 use std::alloc::Global;
-
-/// The orientations by their names.
-pub const ORIENTS: [(&str, Orient); 8] = [
-    ("R0", Orient::R0),
-    ("R90", Orient::R90),
-    ("R180", Orient::R180),
-    ("R270", Orient::R270),
-    ("M0", Orient::M0),
-    ("M90", Orient::M90),
-    ("M180", Orient::M180),
-    ("M270", Orient::M270),
-];
 
 /// Submits the top of a library as a cell.
 fn put(
@@ -59,10 +48,27 @@ pub fn submit(
     submit_text(alloc, shelf, cell, top, &text_of_library(alloc, notation)?)
 }
 
-/// Submits the top of a library as a cell.
+/// Submits the top of a library as a cell: the number of the submission, or why the shelf refuses it.
 ///
 /// # Errors
 /// Where the library or a name is refused, or there is no memory.
+pub fn put_text(
+    alloc: Global,
+    shelf: &mut Shelf,
+    cell: &str,
+    top: &str,
+    text: &[u8],
+) -> Result<Result<u32, HierFault>> {
+    let library = read_library(alloc, text)?;
+    let cell = Name::read(alloc, cell.as_bytes())?;
+    let top = Name::read(alloc, top.as_bytes())?;
+    Ok(put(alloc, shelf, cell, top, library))
+}
+
+/// Submits the top of a library as a cell.
+///
+/// # Errors
+/// Where the library, a name or the submission is refused, or there is no memory.
 pub fn submit_text(
     alloc: Global,
     shelf: &mut Shelf,
@@ -70,44 +76,17 @@ pub fn submit_text(
     top: &str,
     text: &[u8],
 ) -> Result<()> {
-    let library = read_library(alloc, text)?;
-    let cell = Name::read(alloc, cell.as_bytes())?;
-    let top = Name::read(alloc, top.as_bytes())?;
-    put(alloc, shelf, cell, top, library)?;
+    put_text(alloc, shelf, cell, top, text)??;
     Ok(())
-}
-
-fn orient(word: &str) -> Result<Orient> {
-    for (name, orient) in ORIENTS {
-        if name == word {
-            return Ok(orient);
-        }
-    }
-    bail!("an orientation")
-}
-
-fn number(word: &str) -> Result<i64> {
-    match word.parse::<i64>() {
-        Ok(number) => Ok(number),
-        Err(_) => bail!("a number"),
-    }
 }
 
 fn root(words: &[&str]) -> Result<Root> {
     let [submission, turn, x, y] = words else {
         bail!("a root");
     };
-    let Ok(submission) = submission.parse::<u32>() else {
-        bail!("a submission");
-    };
-    let orient = orient(turn)?;
-    let by = Point {
-        x: number(x)?,
-        y: number(y)?,
-    };
     Ok(Root {
-        submission,
-        placing: Placing { orient, by },
+        submission: number(submission)?,
+        placing: placing(turn, x, y)?,
     })
 }
 

@@ -32,7 +32,7 @@ use Rattle.mpw_run.specs.declared.phase.Phase.TheVariants.{Idle, Cutting, Checki
 use Rattle.mpw_run.specs.Run.{Planned, Tile, Checks, answered}
 use Rattle.mpw_run.specs.Same.{same_snapshot, same_task}
 use Rattle.mpw_run.specs.Step.{Run, Offer, Outcome as RunOutcome, answered_by, next_from, handed, taken_in, cut_in, kept, restarted_phase, tile_task, tile_compared, tile_checked, tile_in}
-use Rattle.mpw_signoff.specs.Laws.{AskedAreShown, IsSigned, NegativesLeaveTheWaivers, SignersStandApart}
+use Rattle.mpw_signoff.specs.Laws.{AskedAreShown, IsRightlySigned, NegativesLeaveTheWaivers, SignersStandApart}
 use Rattle.mpw_signoff.specs.SigningOff as signing
 use Rattle.mpw_waiver.specs.declared.waiver.Waiver.{Waiver}
 use Rattle.mpw_waiver.specs.Laws.{IsApart}
@@ -121,7 +121,7 @@ signed_waiver before user = record { asker = before.asker; signer = Some user }
 
 of_signed : (policy : Policy) (run : Run) (waivers : List (Option Waiver)) (conn : ℕ)
     (name : MarkerName) (now : List (Option Waiver))
-    → (s : IsSigned policy run waivers conn name now) → SignedIn run.phase waivers
+    → (s : IsRightlySigned policy run waivers conn name now) → SignedIn run.phase waivers
     → SignedIn run.phase (with_signer waivers s.place (user_of policy conn))
 of_signed policy run waivers conn name now s fit place waiver signer is by =
     let user = user_of policy conn in

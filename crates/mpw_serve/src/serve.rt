@@ -8,7 +8,9 @@ ghost use Rattle.mpw_serve.specs.Internal.Serving.{answer_of, ServesLine};
 
 use mpw_core::{Core, Event, Keeper, Response, keepers_have_the_changes_in_order};
 use mpw_requests::SharedRequest;
-use mpw_wire::{Asked, Refusal, Sink, Source, WireFault, read_request, write_refusal, write_reply};
+use mpw_wire::{
+    Asked, LineRefusal, Sink, Source, WireFault, read_request, write_refusal, write_reply,
+};
 use mpw_work::{Progress, work_behind, work_goes_on};
 use std::alloc::Global;
 use std::thread::Threads;
@@ -85,7 +87,7 @@ fn answer<K: Keeper, W: Sink, P: Progress>(
 {
     match handle(rt, alloc, core, keeper, conn, request, progress) {
         Some(response) => write_response(&response, writer),
-        None => write_refusal(Refusal::Memory, writer),
+        None => write_refusal(LineRefusal::Memory, writer),
     }
 }
 
@@ -120,12 +122,15 @@ fn serve_line<K: Keeper, R: Source, W: Sink, P: Progress>(
             None,
             answer(rt, alloc, core, keeper, conn, request, writer, progress),
         ),
-        Ok(Asked::Form) => with_end(None, write_refusal(Refusal::Form, writer)),
-        Ok(Asked::Long) => with_end(Some(End::Long), write_refusal(Refusal::Long, writer)),
-        Ok(Asked::Cut) => with_end(Some(End::Cut), write_refusal(Refusal::Cut, writer)),
+        Ok(Asked::Form) => with_end(None, write_refusal(LineRefusal::Form, writer)),
+        Ok(Asked::Long) => with_end(Some(End::Long), write_refusal(LineRefusal::Long, writer)),
+        Ok(Asked::Cut) => with_end(Some(End::Cut), write_refusal(LineRefusal::Cut, writer)),
         Ok(Asked::End) => Ok(Some(End::Closed)),
         Err(WireFault::Memory) => {
-            with_end(Some(End::Memory), write_refusal(Refusal::Memory, writer))
+            with_end(
+                Some(End::Memory),
+                write_refusal(LineRefusal::Memory, writer),
+            )
         }
         Err(WireFault::Read) => Err(WireFault::Read),
         Err(WireFault::Write) => Err(WireFault::Write),

@@ -42,7 +42,7 @@ pub record IsShownInFull (policy : Policy) (conn : ℕ) (f : Checked) (name : Ma
   pub full : is_full (seen_by policy conn f.planned.snapshot.shelf) marker ≡ true
 
 -- A request that was accepted is of such a marker, whose waiver was asked for by the session's user.
-pub record IsAsked (policy : Policy) (run : Run) (waivers : List (Option Waiver)) (conn : ℕ)
+pub record IsRightlyAsked (policy : Policy) (run : Run) (waivers : List (Option Waiver)) (conn : ℕ)
     (name : MarkerName) (after : List (Option Waiver)) : Type 0 where
   pub checked : Checked
   pub place : ℕ
@@ -52,7 +52,7 @@ pub record IsAsked (policy : Policy) (run : Run) (waivers : List (Option Waiver)
   pub left : after ≡ with_asker waivers place (user_of policy conn)
 
 -- Or it was signed by the session's user, who may sign it: who neither asked for it nor submitted what the marker meets.
-pub record IsSigned (policy : Policy) (run : Run) (waivers : List (Option Waiver)) (conn : ℕ)
+pub record IsRightlySigned (policy : Policy) (run : Run) (waivers : List (Option Waiver)) (conn : ℕ)
     (name : MarkerName) (after : List (Option Waiver)) : Type 0 where
   pub checked : Checked
   pub place : ℕ
@@ -79,7 +79,7 @@ AskedAreShown =
     (policy : Policy) (wafer : Wafer) (run : Run) (waivers : List (Option Waiver)) (conn : ℕ)
     (name : MarkerName) (lines : List Listed)
     → (outcome_of policy wafer run waivers conn (ask.Waive name)).reply ≡ reply.Ok lines
-    → IsAsked policy run waivers conn name
+    → IsRightlyAsked policy run waivers conn name
     (outcome_of policy wafer run waivers conn (ask.Waive name)).waivers
 
 -- What is accepted to be signed is shown, and signed by one who stands apart.
@@ -88,7 +88,7 @@ SignersStandApart =
     (policy : Policy) (wafer : Wafer) (run : Run) (waivers : List (Option Waiver)) (conn : ℕ)
     (name : MarkerName) (lines : List Listed)
     → (outcome_of policy wafer run waivers conn (ask.Sign name)).reply ≡ reply.Ok lines
-    → IsSigned policy run waivers conn name
+    → IsRightlySigned policy run waivers conn name
     (outcome_of policy wafer run waivers conn (ask.Sign name)).waivers
 
 -- What is listed is shown.

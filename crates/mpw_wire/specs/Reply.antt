@@ -18,8 +18,8 @@ use Rattle.mpw_replies.specs.declared.reply.Line.TheVariants.{User, Active, Auth
 use Rattle.mpw_replies.specs.declared.reply.Line.TheVariants as line
 use Rattle.mpw_replies.specs.declared.reply.Reply.{Reply}
 use Rattle.mpw_replies.specs.declared.reply.Reply.TheVariants as reply
-use Rattle.mpw_wire.specs.declared.reply.Refusal.{Refusal}
-use Rattle.mpw_wire.specs.declared.reply.Refusal.TheVariants as refusal
+use Rattle.mpw_wire.specs.declared.reply.LineRefusal.{LineRefusal}
+use Rattle.mpw_wire.specs.declared.reply.LineRefusal.TheVariants as refusal
 use Rattle.mpw_wire.specs.Keys.{spot_of, key_text, marker_key}
 use Rattle.mpw_wire.specs.Rows.{entry_text}
 use Rattle.mpw_wire.specs.Setting.{line_feed}
@@ -147,13 +147,13 @@ listed_text (masked rule number) = masked_text rule number
 listed_text (entry number e) = entry_text number e
 
 -- the number and the word of what is refused before the desk is asked
-unfoldable pub refusal_words : Refusal → List ℕ
+unfoldable pub refusal_words : LineRefusal → List ℕ
 refusal_words refusal.Memory = codes "17 memory"
 refusal_words refusal.Form = codes "40 form"
 refusal_words refusal.Long = codes "41 long"
 refusal_words refusal.Cut = codes "42 cut"
 
-unfoldable pub refusal_text : Refusal → List ℕ
+unfoldable pub refusal_text : LineRefusal → List ℕ
 refusal_text refusal = refusal_of (refusal_words refusal) ++ line_feed
 
 -- the number of lines, and the lines

@@ -31,7 +31,7 @@ pub use digest::{digest_of, read_digest};
 pub use fault::WireFault;
 pub use line::MAX_LINE;
 pub use read::{Asked, read_request};
-pub use reply::{Refusal, replies_begin_with_their_first_lines, write_refusal, write_reply};
+pub use reply::{LineRefusal, replies_begin_with_their_first_lines, write_refusal, write_reply};
 pub use request::{LineAsk, MAX_PAYLOAD, parse_line};
 pub use restored::{read_stored, requests_are_stored_once};
 pub use stored::{stored_line, stored_payload};

@@ -47,7 +47,7 @@ fn write_accepted<W: Sink>(writer: &mut W, lines: &Lines) -> Result<(), WireFaul
 
 /// What is refused before the desk is asked.
 #[derive(Clone, Copy)]
-pub enum Refusal {
+pub enum LineRefusal {
     /// There is no room.
     Memory,
     /// The line is no request's text.
@@ -60,20 +60,20 @@ pub enum Refusal {
 
 /// The number and the word of a refusal.
 #[tactic(auto, unfolding(crate::specs::Reply::refusal_words))]
-fn refusal_words(refusal: Refusal) -> &'static str
+fn refusal_words(refusal: LineRefusal) -> &'static str
     ensures { result.now ≡ refusal_words refusal }
 {
     match refusal {
-        Refusal::Memory => "17 memory",
-        Refusal::Form => "40 form",
-        Refusal::Long => "41 long",
-        Refusal::Cut => "42 cut",
+        LineRefusal::Memory => "17 memory",
+        LineRefusal::Form => "40 form",
+        LineRefusal::Long => "41 long",
+        LineRefusal::Cut => "42 cut",
     }
 }
 
 /// Writes a refusal, and has the sink hand it on.
 #[tactic(auto, unfolding(crate::specs::Reply::refusal_text))]
-pub fn write_refusal<W: Sink>(refusal: Refusal, writer: &mut W) -> Result<(), WireFault>
+pub fn write_refusal<W: Sink>(refusal: LineRefusal, writer: &mut W) -> Result<(), WireFault>
     ensures text { Writes W.contents W.failures writer.old writer.new result (refusal_text refusal) }
     ensures handed { IfOk result (λ _. W.pending writer.new ≡ false) }
 {

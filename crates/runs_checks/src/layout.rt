@@ -4,6 +4,7 @@ use crate::compare::{Kind, both, differences, grid_differences};
 use mpw_deck::{Check, Rule};
 use mpw_edges::{Axis, Piece};
 use mpw_geom::{Box2, Layer, Name};
+use mpw_words::{check_of, coordinate_or_zero};
 use std::alloc::{AllocError, Global};
 
 const FIRST: Layer = Layer {
@@ -50,23 +51,6 @@ pub fn rule_of(alloc: Global, check: Check, distance: u32) -> Option<Rule> {
     })
 }
 
-fn number(word: Option<&str>) -> i64 {
-    match word {
-        Some(word) => word.parse::<i64>().unwrap_or(0),
-        None => 0,
-    }
-}
-
-fn check_of(word: &str) -> Option<Check> {
-    match word {
-        "width" => Some(Check::Width(FIRST)),
-        "space" => Some(Check::Space(FIRST)),
-        "separation" => Some(Check::Separation(FIRST, SECOND)),
-        "enclosing" => Some(Check::Enclosing(FIRST, SECOND)),
-        _ => None,
-    }
-}
-
 /// A line a piece: axis, side, the two columns and the rows.
 fn told(alloc: Global, pieces: &[Piece]) -> Result<String, AllocError> {
     let mut text = String::new(alloc);
@@ -94,10 +78,10 @@ impl Shapes {
     pub fn answer(&mut self, alloc: Global, line: &str) -> Result<String, AllocError> {
         let mut words = line.split(' ');
         let verb = words.next().unwrap_or("");
-        let a = number(words.next());
-        let b = number(words.next());
-        let c = number(words.next());
-        let d = number(words.next());
+        let a = coordinate_or_zero(words.next());
+        let b = coordinate_or_zero(words.next());
+        let c = coordinate_or_zero(words.next());
+        let d = coordinate_or_zero(words.next());
         let shape = Box2 {
             x0: a,
             y0: b,
@@ -124,7 +108,7 @@ impl Shapes {
     }
 
     fn found(&self, alloc: Global, verb: &str, distance: u32) -> Result<String, AllocError> {
-        let Some(check) = check_of(verb) else {
+        let Some(check) = check_of(verb, FIRST, SECOND) else {
             return format!(in alloc; "{verb}?\n");
         };
         let Some(rule) = rule_of(alloc, check, distance) else {

@@ -4,46 +4,8 @@ ghost use Rattle.std.specs.Prelude.{IfOk, IsTrue};
 ghost use Rattle.mpw_geom.specs.Plane.{IsCoordinate, IsInPlane, IsBoxInPlane, IsOrdered};
 
 use anyhow::{Result, bail};
-use mpw_geom::{Box2, Orient, Placing, Point};
-
-/// The greatest size of a coordinate.
-const LIMIT: i64 = 1 << 48;
-
-/// The orientations by their names.
-const ORIENTS: [(&str, Orient); 8] = [
-    ("R0", Orient::R0),
-    ("R90", Orient::R90),
-    ("R180", Orient::R180),
-    ("R270", Orient::R270),
-    ("M0", Orient::M0),
-    ("M90", Orient::M90),
-    ("M180", Orient::M180),
-    ("M270", Orient::M270),
-];
-
-fn orient(word: &str) -> Result<Orient> {
-    for (name, orient) in ORIENTS {
-        if name == word {
-            return Ok(orient);
-        }
-    }
-    bail!("an orientation")
-}
-
-fn name_of(wanted: Orient) -> &'static str {
-    for (name, orient) in ORIENTS {
-        if orient == wanted {
-            return name;
-        }
-    }
-    "none"
-}
-
-fn is_coordinate(number: i64) -> bool
-    ensures { IsTrue result → IsCoordinate number }
-{
-    -LIMIT <= number && number <= LIMIT
-}
+use mpw_geom::{Box2, Placing, Point};
+use mpw_words::{is_coordinate, orient, orient_word};
 
 fn coordinate(word: &str) -> Result<i64>
     ensures { IfOk result IsCoordinate }
@@ -152,7 +114,7 @@ pub fn answer(rt: &impl Print, key: &str, words: &[&str], more: &[&str]) -> Resu
         ("meets", _) => answer_meets(rt, words, more),
         ("between", [a, b, c, d]) => print_box(rt, Box2::between(point(a, b)?, point(c, d)?)),
         ("inverse", [turn]) => {
-            let inverse = name_of(orient(turn)?.inverse());
+            let inverse = orient_word(orient(turn)?.inverse());
             Ok(println!(rt; "    {inverse}")?)
         }
         _ => bail!("a command"),

@@ -1,6 +1,5 @@
 //! The book of all tiles' answers.
 
-use crate::near::{all_near, is_near, is_ordered};
 use crate::words::{deck, rectangles};
 use anyhow::{Context, Result, bail};
 use mpw_deck::{Deck, Rules};
@@ -8,7 +7,9 @@ use mpw_edges::Axis;
 use mpw_geom::Box2;
 use mpw_job::{Answer, Job, TileJob, work_all};
 use mpw_markers::{Book, Marker, TileMarkers, stitch};
+use mpw_plain::all_near;
 use mpw_tiles::{Plan, Rectangle, Window, Windows, windows_of};
+use mpw_words::{is_near, is_ordered};
 use std::alloc::Global;
 use std::thread::Threads;
 

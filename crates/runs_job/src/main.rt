@@ -11,7 +11,6 @@
 
 mod book;
 mod copies;
-mod near;
 mod random;
 mod whole;
 mod words;

@@ -6,9 +6,10 @@ use mpw_deck::{Deck, Rule, read_deck};
 use mpw_edges::Axis;
 use mpw_hier::Shelf;
 use mpw_markers::Marker;
-use mpw_plain::{Picture, PlainMarker, Random, flat_list, layout, plain_markers, roots};
+use mpw_plain::{Picture, PlainMarker, flat_list, layout, plain_markers, roots};
 use mpw_tiles::{Snapshot, are_roots};
 use mpw_walk::Root;
+use mpw_words::Random;
 use std::alloc::Global;
 use std::thread::Threads;
 

@@ -5,6 +5,7 @@ use mpw_elements::{Element, Reference};
 use mpw_geom::{Layer, Name, Orient, Placing, Point};
 use mpw_hier::{Shelf, Submission};
 use mpw_library::Structure;
+use mpw_plain::{bound, own};
 use mpw_walk::{Placed, Root, Walk};
 use std::alloc::Global;
 
@@ -139,24 +140,6 @@ fn add_shapes<'a>(
         }
     }
     Ok(())
-}
-
-fn own<'a>(submission: &'a Submission, name: &Name) -> Option<&'a Structure> {
-    for structure in submission.library.structures() {
-        if structure.name.as_str() == name.as_str() {
-            return Some(structure);
-        }
-    }
-    None
-}
-
-fn bound(submission: &Submission, name: &Name) -> Result<u32> {
-    for binding in submission.bound.as_slice() {
-        if binding.name.as_str() == name.as_str() {
-            return Ok(binding.submission);
-        }
-    }
-    bail!("a bound name")
 }
 
 /// Adds what a name shows to the submission of a number, placed by a map.

@@ -4,27 +4,17 @@
 //! structure refers to later ones of its library and to cells that are on the shelf. Cells and structures share their
 //! names, so that a library may hide a cell; and a cell may be submitted again.
 
-use crate::shelves::put_text;
 use anyhow::Result;
 use mpw_geom::{Name, Orient, Placing, Point};
 use mpw_hier::Shelf;
+use mpw_plain::put_text;
 use mpw_samples::text_of_library;
 use mpw_walk::Root;
+use mpw_words::ORIENTS;
 use std::alloc::{AllocError, Global};
 
 /// The names of cells and of structures.
 const NAMES: [&str; 8] = ["A", "B", "C", "D", "E", "F", "G", "H"];
-
-const ORIENTS: [(&str, Orient); 8] = [
-    ("R0", Orient::R0),
-    ("R90", Orient::R90),
-    ("R180", Orient::R180),
-    ("R270", Orient::R270),
-    ("M0", Orient::M0),
-    ("M90", Orient::M90),
-    ("M180", Orient::M180),
-    ("M270", Orient::M270),
-];
 
 /// The most flat shapes of a root.
 const MOST_SHAPES: u32 = 2000;

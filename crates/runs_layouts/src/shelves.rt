@@ -1,49 +1,12 @@
 //! A shelf of submissions.
 
-ghost use Rattle.mpw_library.specs.Library.{IsLibrary};
-
 use anyhow::{Result, bail};
 use mpw_geom::{Box2, Name};
-use mpw_hier::{HierFault, Outline, Shelf, Submission};
-use mpw_library::{Library, read_library};
+use mpw_hier::{Outline, Shelf};
+use mpw_library::read_library;
+use mpw_plain::put_text;
 use mpw_samples::text_of_library;
-use std::alloc::Global;
-
-/// Submits the top of a library as a cell.
-fn put(
-    alloc: Global,
-    shelf: &mut Shelf,
-    cell: Name,
-    top: Name,
-    library: Library,
-) -> Result<u32, HierFault>
-    requires { IsLibrary library }
-{
-    let outline = Outline::new(alloc, &library, &top)?;
-    let bound = shelf.bind(alloc, outline.names.as_slice())?;
-    let submission = Submission {
-        submitter: cell.copy()?,
-        cell,
-        version: 0,
-        library,
-        top,
-        bound,
-    };
-    shelf.put(alloc, submission, &outline)
-}
-
-pub fn put_text(
-    alloc: Global,
-    shelf: &mut Shelf,
-    cell: &str,
-    top: &str,
-    bytes: &[u8],
-) -> Result<Result<u32, HierFault>> {
-    let library = read_library(alloc, bytes)?;
-    let cell = Name::read(alloc, cell.as_bytes())?;
-    let top = Name::read(alloc, top.as_bytes())?;
-    Ok(put(alloc, shelf, cell, top, library))
-}
+use mpw_words::number;
 
 /// What a submission shows.
 fn print_shown(rt: &impl Print, shelf: &Shelf, number: u32) -> Result<()> {
@@ -67,13 +30,6 @@ pub fn submit(
     match put_text(rt.alloc(), shelf, cell, top, bytes)? {
         Ok(number) => print_shown(rt, shelf, number),
         Err(fault) => Ok(println!(rt; "    {fault}")?),
-    }
-}
-
-fn number(word: &str) -> Result<u32> {
-    match word.parse::<u32>() {
-        Ok(number) => Ok(number),
-        Err(_) => bail!("a number"),
     }
 }
 

@@ -3,83 +3,18 @@
 use crate::flat::{flat_list, gives};
 use crate::random::Random;
 use anyhow::{Result, bail};
-use mpw_geom::{Box2, Orient, Placing, Point};
+use mpw_geom::Point;
 use mpw_hier::Shelf;
+use mpw_plain::placed_roots;
 use mpw_walk::{Placed, Root, Walk, all_fit};
+use mpw_words::{coordinates, orient_word};
 use std::alloc::Global;
 
 const SEED: u64 = 1;
 
-/// The orientations by their names.
-const ORIENTS: [(&str, Orient); 8] = [
-    ("R0", Orient::R0),
-    ("R90", Orient::R90),
-    ("R180", Orient::R180),
-    ("R270", Orient::R270),
-    ("M0", Orient::M0),
-    ("M90", Orient::M90),
-    ("M180", Orient::M180),
-    ("M270", Orient::M270),
-];
-
-fn orient(word: &str) -> Result<Orient> {
-    for (name, orient) in ORIENTS {
-        if name == word {
-            return Ok(orient);
-        }
-    }
-    bail!("an orientation")
-}
-
-fn name_of(wanted: Orient) -> &'static str {
-    for (name, orient) in ORIENTS {
-        if orient == wanted {
-            return name;
-        }
-    }
-    "none"
-}
-
-fn number(word: &str) -> Result<i64> {
-    match word.parse::<i64>() {
-        Ok(number) => Ok(number),
-        Err(_) => bail!("a number"),
-    }
-}
-
-fn root(words: &[&str]) -> Result<Root> {
-    let [submission, turn, x, y] = words else {
-        bail!("a root");
-    };
-    let Ok(submission) = submission.parse::<u32>() else {
-        bail!("a submission");
-    };
-    let orient = orient(turn)?;
-    let by = Point {
-        x: number(x)?,
-        y: number(y)?,
-    };
-    Ok(Root {
-        submission,
-        placing: Placing { orient, by },
-    })
-}
-
-/// Roots with commas between them.
-fn roots(alloc: Global, text: &str) -> Result<Vec<Root>> {
-    let mut roots = Vec::new(alloc);
-    for part in text.split(',') {
-        let words: Vec<&str> = part.split_whitespace().collect(alloc)?;
-        if !words.is_empty() {
-            roots.push(root(&words)?)?;
-        }
-    }
-    Ok(roots)
-}
-
 fn print_placed(rt: &impl Print, placed: Placed<'_>) -> Result<()> {
     let origin = placed.origin;
-    let turn = name_of(placed.placing.orient);
+    let turn = orient_word(placed.placing.orient);
     let Point { x, y } = placed.placing.by;
     Ok(println!(rt; "    {origin} {turn} {x} {y}")?)
 }
@@ -98,31 +33,19 @@ fn print_walk(rt: &impl Print, walk: &mut Walk<'_>) -> Result<()> {
 
 /// Prints the shapes of a walk over roots.
 pub fn walk(rt: &(impl Print + AllocGlobal), shelf: &Shelf, text: &str) -> Result<()> {
-    let roots = roots(rt.alloc(), text)?;
+    let roots = placed_roots(rt.alloc(), text)?;
     if roots.len() > 10 || !all_fit(shelf, &roots) {
         return Ok(println!(rt; "    no roots")?);
     }
     print_walk(rt, &mut Walk::new(shelf, &roots))
 }
 
-fn window(words: &[&str]) -> Result<Box2> {
-    let [x0, y0, x1, y1] = words else {
-        bail!("a window");
-    };
-    Ok(Box2 {
-        x0: number(x0)?,
-        y0: number(y0)?,
-        x1: number(x1)?,
-        y1: number(y1)?,
-    })
-}
-
 /// Prints the shapes of a walk over roots within a window, which stands before them.
 pub fn within(rt: &(impl Print + AllocGlobal), shelf: &Shelf, text: &str) -> Result<()> {
     let (first, rest) = text.split_once(',').unwrap_or((text, ""));
     let words: Vec<&str> = first.split_whitespace().collect(rt.alloc())?;
-    let window = window(&words)?;
-    let roots = roots(rt.alloc(), rest)?;
+    let window = coordinates(&words)?;
+    let roots = placed_roots(rt.alloc(), rest)?;
     if roots.len() > 10 || !all_fit(shelf, &roots) {
         return Ok(println!(rt; "    no roots")?);
     }
@@ -143,7 +66,7 @@ fn number_of(walk: &mut Walk<'_>) -> u64 {
 
 /// Prints how many shapes a walk gives, and the number of turns.
 pub fn count(rt: &(impl Print + AllocGlobal), shelf: &Shelf, text: &str) -> Result<()> {
-    let roots = roots(rt.alloc(), text)?;
+    let roots = placed_roots(rt.alloc(), text)?;
     if roots.len() > 10 || !all_fit(shelf, &roots) {
         return Ok(println!(rt; "    no roots")?);
     }

@@ -2,11 +2,10 @@
 
 use crate::asked::{met, tile};
 use crate::plain::{COORDINATES, ROWS, RULES, SUBMISSIONS, book};
-use crate::random::Random;
-use crate::words::number;
 use anyhow::Result;
 use mpw_edges::Axis;
 use mpw_markers::{Book, Key, Marker, TileMarkers, stitch};
+use mpw_words::{Random, number};
 use std::alloc::Global;
 
 /// Some submissions, ascending: mostly none, one or two.

@@ -13,7 +13,6 @@
 mod asked;
 mod compare;
 mod plain;
-mod random;
 mod scattered;
 mod shapes;
 mod tiles;

@@ -1,12 +1,11 @@
 //! Origins of random boxes, compared with a search square by square.
 
 use crate::asked::{met, origins};
-use crate::random::Random;
-use crate::words::number;
 use anyhow::Result;
 use mpw_geom::Box2;
 use mpw_markers::Met;
 use mpw_origins::Rectangle;
+use mpw_words::{Random, number};
 use std::alloc::Global;
 
 /// The submissions of random rectangles are below this.

@@ -1,10 +1,10 @@
 //! Rectangles of submissions, and the boxes that are asked what they meet.
 
 use crate::asked::origins;
-use crate::words::{coordinates, number};
 use anyhow::{Result, bail};
 use mpw_geom::Box2;
 use mpw_origins::Rectangle;
+use mpw_words::{coordinates, number};
 use std::alloc::Global;
 
 /// The rectangles and the boxes of the lines before.

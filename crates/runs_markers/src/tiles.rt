@@ -1,9 +1,10 @@
 //! The lists that the lines make, and the last book.
 
 use crate::asked::{met, tile};
-use crate::words::{key, numbers, print};
+use crate::words::{key, print};
 use anyhow::{Result, bail};
 use mpw_markers::{Book, Marker, TileMarkers, stitch};
+use mpw_words::numbers;
 use std::alloc::Global;
 use std::mem;
 

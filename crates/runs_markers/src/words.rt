@@ -1,61 +1,9 @@
-//! Keys, boxes and numbers as words, and back.
+//! Keys and markers as words.
 
 use anyhow::{Result, bail};
 use mpw_edges::Axis;
-use mpw_geom::Box2;
 use mpw_markers::{Key, Marker};
-use std::alloc::Global;
-
-fn coordinate(word: &str) -> Result<i64> {
-    match word.parse::<i64>() {
-        Ok(number) => Ok(number),
-        Err(_) => bail!("a coordinate"),
-    }
-}
-
-pub fn number(word: &str) -> Result<u32> {
-    match word.parse::<u32>() {
-        Ok(number) => Ok(number),
-        Err(_) => bail!("a number"),
-    }
-}
-
-pub fn numbers(alloc: Global, words: &[&str]) -> Result<Vec<u32>> {
-    let mut numbers = Vec::new(alloc);
-    for word in words {
-        numbers.push(number(word)?)?;
-    }
-    Ok(numbers)
-}
-
-/// The box of four words.
-pub fn coordinates(words: &[&str]) -> Result<Box2> {
-    let [x0, y0, x1, y1] = words else {
-        bail!("four coordinates");
-    };
-    Ok(Box2 {
-        x0: coordinate(x0)?,
-        y0: coordinate(y0)?,
-        x1: coordinate(x1)?,
-        y1: coordinate(y1)?,
-    })
-}
-
-fn axis(word: &str) -> Result<Axis> {
-    match word {
-        "V" => Ok(Axis::V),
-        "H" => Ok(Axis::H),
-        _ => bail!("an axis"),
-    }
-}
-
-fn side(word: &str) -> Result<u8> {
-    match word {
-        "0" => Ok(0),
-        "1" => Ok(1),
-        _ => bail!("a side"),
-    }
-}
+use mpw_words::{axis, coordinate, number, side};
 
 /// The key of seven words.
 pub fn key(words: &[&str]) -> Result<Key> {

@@ -13,17 +13,17 @@
 #![tactic(auto)]
 
 mod decks;
-mod shelves;
 mod top;
 
 use crate::top::Top;
 use anyhow::{Result, bail};
+use mpw_words::placing;
 
 /// Commands over the placings.
 fn answer_top(rt: &(impl Print + AllocGlobal), top: &mut Top, words: &[&str]) -> Result<()> {
     match words {
         ["place", cell, label, turn, x, y] => {
-            let placing = shelves::placing(turn, x, y)?;
+            let placing = placing(turn, x, y)?;
             top.place(rt, cell, label, placing)
         }
         ["unplace", cell, label] => top.unplace(rt, cell, label),

@@ -1,12 +1,14 @@
 //! The assembled top: a shelf and the placings on it.
 
-use crate::{decks, shelves};
+use crate::decks;
 use anyhow::{Result, bail};
 use mpw_deck::DeckError;
 use mpw_geom::{Name, Orient, Placing, Point};
 use mpw_hier::Shelf;
 use mpw_placings::{Placement, PlacingFault, Placings};
+use mpw_plain::submit;
 use mpw_tiles::{Snapshot, are_roots};
+use mpw_words::orient_word;
 use std::alloc::{AllocError, Global};
 
 const DRAWN: Placing = Placing {
@@ -24,7 +26,7 @@ fn print_placement(rt: &impl Print, placement: &Placement) -> Result<()> {
     let cell = placement.cell.as_str();
     let label = placement.label.as_str();
     let submission = placement.root.submission;
-    let orient = shelves::name_of(placement.root.placing.orient);
+    let orient = orient_word(placement.root.placing.orient);
     let Point { x, y } = placement.root.placing.by;
     Ok(println!(rt; "    {cell} {label}: {submission} {orient} {x} {y}")?)
 }
@@ -46,7 +48,7 @@ impl Top {
     }
 
     pub fn submit(&mut self, alloc: Global, cell: &str, name: &str, notation: &str) -> Result<()> {
-        shelves::submit(alloc, &mut self.shelf, cell, name, notation)
+        submit(alloc, &mut self.shelf, cell, name, notation)
     }
 
     /// Tells the version of what was placed under a cell and a label.

@@ -1,39 +1,9 @@
 //! Markers by their words.
 
 use anyhow::{Result, bail};
-use mpw_edges::Axis;
 use mpw_markers::{Marker, Met};
+use mpw_words::{axis, coordinate, number, side};
 use std::alloc::Global;
-
-fn coordinate(word: &str) -> Result<i64> {
-    match word.parse::<i64>() {
-        Ok(number) => Ok(number),
-        Err(_) => bail!("a coordinate"),
-    }
-}
-
-fn number(word: &str) -> Result<u32> {
-    match word.parse::<u32>() {
-        Ok(number) => Ok(number),
-        Err(_) => bail!("a number"),
-    }
-}
-
-fn axis(word: &str) -> Result<Axis> {
-    match word {
-        "V" => Ok(Axis::V),
-        "H" => Ok(Axis::H),
-        _ => bail!("an axis"),
-    }
-}
-
-fn side(word: &str) -> Result<u8> {
-    match word {
-        "0" => Ok(0),
-        "1" => Ok(1),
-        _ => bail!("a side"),
-    }
-}
 
 /// The marker of a line of seven words. It meets no submission.
 pub fn marker(alloc: Global, line: &str) -> Result<Marker> {

@@ -12,7 +12,6 @@
 #![tactic(auto)]
 
 mod cuts;
-mod near;
 mod plans;
 mod squares;
 mod windows;

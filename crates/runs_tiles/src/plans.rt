@@ -1,10 +1,10 @@
 //! Plans.
 
-use crate::near::{is_near, is_ordered};
 use anyhow::{Result, bail};
 use mpw_deck::{Deck, read_deck};
 use mpw_geom::Box2;
 use mpw_tiles::Plan;
+use mpw_words::{is_near, is_ordered};
 use std::alloc::Global;
 
 fn number(word: &str) -> Result<i64> {

@@ -5,9 +5,10 @@ use crate::plans::deck;
 use anyhow::{Context, Result, bail};
 use mpw_geom::{Box2, Layer};
 use mpw_hier::Shelf;
-use mpw_plain::{Cell, Random, Shown, flat_list, layer, layout, roots, squares_of};
+use mpw_plain::{Cell, Shown, flat_list, layer, layout, roots, squares_of};
 use mpw_tiles::{Plan, Rectangle, Snapshot, Window, cut};
 use mpw_walk::Root;
+use mpw_words::Random;
 use std::alloc::Global;
 
 /// The sides of tiles, with a rule's distance each.

@@ -1,11 +1,11 @@
 //! Windows of random rectangles, compared with a plain search.
 
-use crate::near::{all_near, is_near, is_ordered};
 use crate::plans::deck;
 use anyhow::{Result, bail};
 use mpw_geom::{Box2, Layer};
-use mpw_plain::Random;
+use mpw_plain::all_near;
 use mpw_tiles::{Plan, Rectangle, Window, windows_of};
+use mpw_words::{Random, is_near, is_ordered};
 use std::alloc::Global;
 
 /// Whether the half-open boxes share a unit square.

@@ -2,7 +2,7 @@ use Rattle.std.proofs.Common.{take}
 use Rattle.std.specs.Prelude.{All}
 use Rattle.mpw_geom.specs.Plane.{IsBoxInPlane}
 use Rattle.mpw_tiles.specs.declared.listing.Rectangle.{Rectangle}
-use Rattle.runs_job.proofs.near.all_near.Given as goal
+use Rattle.mpw_plain.proofs.near.all_near.Given as goal
 
 abbrev pub invariant-loop-rectangle : goal.invariant-loop-rectangle
 invariant-loop-rectangle l =

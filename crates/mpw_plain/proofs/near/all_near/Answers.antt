@@ -4,7 +4,7 @@ use Rattle.std.proofs.lemmas.List.{take_all}
 use Rattle.std.proofs.lemmas.List.Elements.{All-more}
 use Rattle.mpw_geom.specs.Plane.{IsBoxInPlane}
 use Rattle.mpw_tiles.specs.declared.listing.Rectangle.{Rectangle}
-use Rattle.runs_tiles.proofs.near.all_near.Goals as goal
+use Rattle.mpw_plain.proofs.near.all_near.Goals as goal
 
 pub loop-rectangle-preserved : goal.loop-rectangle-preserved
 loop-rectangle-preserved c =

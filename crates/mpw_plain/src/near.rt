@@ -1,0 +1,19 @@
+//! Rectangles that lie in the plane.
+
+ghost use Rattle.std.specs.Prelude.{◌≡◌, true, All};
+ghost use Rattle.mpw_geom.specs.Plane.{IsBoxInPlane};
+
+use mpw_tiles::Rectangle;
+use mpw_words::is_near;
+
+/// Whether the corners of all rectangles lie within -2^48 to 2^48 nm.
+pub fn all_near(rectangles: &[Rectangle]) -> bool
+    ensures { result ≡ true → All (λ r. IsBoxInPlane r.area) rectangles.now }
+{
+    for rectangle in rectangles {
+        if !is_near(&rectangle.area) {
+            return false;
+        }
+    }
+    true
+}

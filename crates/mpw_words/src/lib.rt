@@ -1,0 +1,17 @@
+//! What the lines of stored runs are made of: numbers, placings, boxes and checks by their words; and random numbers that are
+//! the same on each run.
+#![tactic(auto)]
+
+mod marker;
+mod numerals;
+mod plane;
+mod random;
+mod rule;
+
+pub use marker::{axis, side};
+pub use numerals::{coordinate, coordinate_or_zero, number, numbers};
+pub use plane::{
+    ORIENTS, coordinates, is_coordinate, is_near, is_ordered, orient, orient_word, placing,
+};
+pub use random::Random;
+pub use rule::check_of;
