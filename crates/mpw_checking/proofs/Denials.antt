@@ -1,5 +1,6 @@
 -- Denials of a permission in the rows over the run.
 use Rattle.std.proofs.Common.{◌≡◌, ℕ, Bool, true, false, cond, List, [], ◌∷◌, Option, None, Some, Result, Ok, Err, is_some, inl, inr, ap}
+use Rattle.mpw_replies.proofs.RowParts.{parts}
 use Rattle.mpw_deck.specs.Decks.{Deck}
 use Rattle.mpw_hier.specs.declared.submission.Submission.{Submission}
 use Rattle.mpw_hier.specs.Items.{Item}
@@ -25,7 +26,7 @@ use Rattle.mpw_run.specs.Step.{Run}
 use Rattle.mpw_wafer.specs.declared.wafer.Wafer.{Wafer}
 use Rattle.mpw_checking.specs.Laws.{RunsDenyWhatIsLacked}
 use Rattle.mpw_checking.specs.Checking.{entered, at_rest, going_on, finished, decked, covered, planned_over, planned, snapshot_of, run_row, cancel_row, status, markers, checked_lines, phase_line, begun_outcome, left_off_outcome, listed}
-use Rattle.mpw_checking.proofs.Parts.{parts, permission_ended}
+use Rattle.mpw_checking.proofs.Parts.{permission_ended}
 
 -- ---- parts that deny no permission
 

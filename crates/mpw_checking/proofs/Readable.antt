@@ -2,6 +2,7 @@
 use Rattle.std.proofs.Common.{◌≡◌, ℕ, ◌+◌, List, [], ◌∷◌, Result, Ok, Err, arith, refl, subst}
 use Rattle.std.specs.Prelude.{All}
 use Rattle.std.proofs.lemmas.List.Elements.{All-cons}
+use Rattle.mpw_replies.proofs.RowParts.{passed}
 use Rattle.mpw_rbac.specs.Policy.{Policy}
 use Rattle.mpw_requests.specs.declared.run.RunRequest.TheVariants as ask
 use Rattle.mpw_replies.specs.Laws.{BooksAreOfReadable}
@@ -18,7 +19,6 @@ use Rattle.mpw_run.specs.Run.{Planned}
 use Rattle.mpw_run.specs.Step.{Run}
 use Rattle.mpw_checking.specs.Laws.{MarkersAreOfReadable}
 use Rattle.mpw_checking.specs.Checking.{entered, run_row, cancel_row, status, markers, finished, checked_lines, phase_line, begun_outcome, left_off_outcome, listed}
-use Rattle.mpw_checking.proofs.Parts.{passed}
 
 -- a reply that denies or refuses has no lines
 no_reply : (e : Ending) (lines : List Listed) → ended_by e ≡ reply.Ok lines → ⊥

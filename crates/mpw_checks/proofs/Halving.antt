@@ -1,5 +1,5 @@
 -- What a core finds is what its halves find, each in its window.
-use Rattle.std.proofs.Common.{◌≡◌, ℕ, ◌≤◌, ℤ, ◌≤ℤ◌, ◌<ℤ◌, List, [], ◌∷◌, ◌++◌, ◌⊎◌, inl, inr, subst, sym, ap, pos, neg_ℤ, ◌^◌, arith}
+use Rattle.std.proofs.Common.{◌≡◌, ℕ, ◌≤◌, ℤ, ◌≤ℤ◌, ◌<ℤ◌, List, [], ◌∷◌, ◌++◌, ◌⊎◌, inl, inr, subst, sym, pos, neg_ℤ, ◌^◌, arith}
 use Rattle.std.specs.Prelude.{◌↔◌, All}
 use Rattle.std.proofs.lemmas.Int.{ints, by_lt_z}
 use Rattle.std.proofs.lemmas.List.Elements.{All-append, All-push, Contains-append_left, Contains-append_right, Contains-append_cases}
@@ -201,12 +201,6 @@ in_plane_columns core at p h =
       record { x0 = p.x0; y0 = p.y0; x1 = m; y1 = p.y1 },
       record { x0 = m; y0 = p.y0; x1 = p.x1; y1 = p.y1 },
     )
-
-pub same_box : (a b : Box2) → a.x0 ≡ b.x0 → a.y0 ≡ b.y0 → a.x1 ≡ b.x1 → a.y1 ≡ b.y1 → a ≡ b
-same_box a b e f g h =
-    ap (λ (p : ℤ × ℤ × ℤ × ℤ). let c : Box2 = record { x0 = p.0; y0 = p.1; x1 = p.2; y1 = p.3 } in
-    c) (let k : (let q : ℤ × ℤ × ℤ × ℤ = (a.x0, a.y0, a.x1, a.y1) in q)
-    ≡ (b.x0, b.y0, b.x1, b.y1) = cc in k)
 
 -- the slices that code hands on
 pub seen_slices : (slice boxes : List Box2) → slice ≡ boxes → (window : Box2) (parts : List Box2)

@@ -1,4 +1,6 @@
+pub mod Boxes
 pub mod Chains
+pub mod LeastLemmas
 pub mod Linked
 pub mod Meets
 pub mod NameLemmas

@@ -1,3 +1,4 @@
+pub mod Least
 pub mod Links
 pub mod Name
 pub mod Names

@@ -1,20 +1,15 @@
 -- The cores of a grid as boxes, and how far they reach.
-use Rattle.std.proofs.Common.{◌≡◌, ℕ, ◌+◌, ◌*◌, ◌/◌, ◌%◌, ◌^◌, ◌≤◌, ◌<◌, ◌∙◌, sym, ap, subst, true, arith}
-use Rattle.std.specs.Prelude.{ℤ, pos, ◌+ℤ◌, ◌-ℤ◌, ◌≤ℤ◌, ◌<ℤ◌, ◌↔◌}
+use Rattle.std.proofs.Common.{◌≡◌, ℕ, ◌+◌, ◌*◌, ◌/◌, ◌%◌, ◌^◌, ◌≤◌, ◌<◌, ◌∙◌, sym, ap, subst, arith}
+use Rattle.std.specs.Prelude.{ℤ, pos, ◌+ℤ◌, ◌<ℤ◌}
 use Rattle.std.specs.Int.{int_max}
 use Rattle.std.proofs.lemmas.Int.{ints, clamps}
+use Rattle.mpw_geom.proofs.Boxes.{same_box}
 use Rattle.mpw_geom.specs.declared.plane.Box2.{Box2}
-use Rattle.mpw_geom.specs.Plane.{Square, HasArea, IsBoxInPlane, has_square}
-use Rattle.mpw_geom.proofs.Tests.{SquareIn, SquareIn-from_test, test_from_SquareIn}
-use Rattle.mpw_grid.specs.Grid.{Cells, sides_between, columns, rows, cells, core_at, core_of, column_of, row_of, window_at, widened, ShareSquare, IsGrid, IsBoxWithin}
+use Rattle.mpw_geom.specs.Plane.{Square, HasArea}
+use Rattle.mpw_geom.proofs.Tests.{SquareIn-from_test, test_from_SquareIn}
+use Rattle.mpw_grid.specs.Grid.{Cells, columns, rows, cells, core_at, core_of, column_of, row_of, ShareSquare, IsGrid, IsBoxWithin}
 use Rattle.mpw_grid.proofs.Intervals.{begins_within}
 use Rattle.mpw_grid.proofs.Cells.{column_within, row_within}
-
-pub same_box : (a b : Box2) → a.x0 ≡ b.x0 → a.y0 ≡ b.y0 → a.x1 ≡ b.x1 → a.y1 ≡ b.y1 → a ≡ b
-same_box a b e f g h =
-    ap (λ (p : ℤ × ℤ × ℤ × ℤ). let c : Box2 = record { x0 = p.0; y0 = p.1; x1 = p.2; y1 = p.3 } in
-    c) (let k : (let q : ℤ × ℤ × ℤ × ℤ = (a.x0, a.y0, a.x1, a.y1) in q)
-    ≡ (b.x0, b.y0, b.x1, b.y1) = cc in k)
 
 column_short : (g : Cells) (n k column : ℕ) → IsGrid g n k → column < columns g
     → column * g.side ≤ 2 ^ 49

@@ -5,12 +5,12 @@ use Rattle.std.specs.List.{flat_map, range_with_len}
 use Rattle.std.proofs.Math.Nat.{add-mul}
 use Rattle.std.proofs.lemmas.Int.{ints, clamps}
 use Rattle.std.proofs.lemmas.List.{map-append}
+use Rattle.mpw_geom.proofs.Boxes.{same_box}
 use Rattle.mpw_geom.specs.declared.plane.Box2.{Box2}
 use Rattle.mpw_geom.specs.declared.plane.Point.{Point}
 use Rattle.mpw_geom.specs.Plane.{box_between}
 use Rattle.mpw_geom.specs.Placing.{placed_point, oriented_point}
 use Rattle.mpw_elements.specs.declared.element.Reference.{Reference}
-use Rattle.mpw_shapes.proofs.Wires.{same_box}
 use Rattle.mpw_hier.specs.declared.size_array.WideBox.{WideBox}
 use Rattle.mpw_hier.specs.declared.size_array.WidePoint.{WidePoint}
 use Rattle.mpw_hier.specs.Items.{instance, row_of, instances}

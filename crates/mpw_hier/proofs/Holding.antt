@@ -7,7 +7,7 @@ use Rattle.mpw_hier.specs.Items.{Item}
 use Rattle.mpw_hier.specs.Boxes.{joined, hull, item_box, extent_of}
 use Rattle.mpw_hier.specs.Holding.{IsInside, IsHeld, ExtentsHoldItems, ExtentsAreLeast}
 
-inside_itself : (b : Box2) → IsInside b b
+pub inside_itself : (b : Box2) → IsInside b b
 inside_itself b = record {
   left = omega (arith, ints);
   bottom = omega (arith, ints);
@@ -15,7 +15,7 @@ inside_itself b = record {
   top = omega (arith, ints);
 }
 
-inside_joined : (a b c : Box2) → IsInside c b → IsInside c (joined a b)
+pub inside_joined : (a b c : Box2) → IsInside c b → IsInside c (joined a b)
 inside_joined a b c h = record {
   left = omega (arith, ints, clamps);
   bottom = omega (arith, ints, clamps);
@@ -23,7 +23,7 @@ inside_joined a b c h = record {
   top = omega (arith, ints, clamps);
 }
 
-first_inside : (a b : Box2) → IsInside a (joined a b)
+pub first_inside : (a b : Box2) → IsInside a (joined a b)
 first_inside a b = record {
   left = omega (arith, ints, clamps);
   bottom = omega (arith, ints, clamps);

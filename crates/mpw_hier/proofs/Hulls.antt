@@ -2,8 +2,8 @@
 use Rattle.std.proofs.Common.{◌≡◌, ℤ, w64, SFits, to_z, of_z, Option, Some, None, refl, ap, sym, ◌∙◌, arith}
 use Rattle.std.specs.Int.{int_min, int_max}
 use Rattle.std.proofs.lemmas.Int.{ints, clamps, to_z-of_z}
+use Rattle.mpw_geom.proofs.Boxes.{same_box}
 use Rattle.mpw_geom.specs.declared.plane.Box2.{Box2}
-use Rattle.mpw_shapes.proofs.Wires.{same_box}
 use Rattle.mpw_hier.specs.Boxes.{joined, hull}
 
 min_assoc : (a b c : ℤ) → int_min (int_min a b) c ≡ int_min a (int_min b c)

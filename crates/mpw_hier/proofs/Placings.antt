@@ -2,6 +2,7 @@
 use Rattle.std.proofs.Common.{◌≡◌, ℤ, pos, neg_ℤ, ◌+ℤ◌, ◌≤ℤ◌, refl, ap, sym, ◌∙◌, arith}
 use Rattle.std.specs.Int.{int_min, int_max}
 use Rattle.std.proofs.lemmas.Int.{ints, clamps}
+use Rattle.mpw_geom.proofs.Boxes.{same_box}
 use Rattle.mpw_geom.specs.declared.plane.Box2.{Box2}
 use Rattle.mpw_geom.specs.declared.plane.Orient.{Orient}
 use Rattle.mpw_geom.specs.declared.plane.Orient.TheVariants.{R0, R90, R180, R270, M0, M90, M180, M270}
@@ -9,7 +10,6 @@ use Rattle.mpw_geom.specs.declared.plane.Point.{Point}
 use Rattle.mpw_geom.specs.declared.placing.Placing.{Placing}
 use Rattle.mpw_geom.specs.Plane.{IsOrdered, box_between}
 use Rattle.mpw_geom.specs.Placing.{by_orient, mirrored_point, turned_point, oriented_point, placed_point}
-use Rattle.mpw_shapes.proofs.Wires.{same_box}
 use Rattle.mpw_hier.specs.Items.{mirrored, turned, placed_again}
 use Rattle.mpw_hier.specs.Boxes.{joined, placed_box}
 

@@ -2,7 +2,6 @@ pub mod Tests
 pub mod Shapes
 pub mod Cores
 pub mod Made
-pub mod Same
 pub mod Areas
 pub mod ByLayer
 pub mod Meeting

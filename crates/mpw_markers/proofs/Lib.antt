@@ -1,8 +1,9 @@
+
 pub mod Order
-mod Marked
+pub mod Marked
 mod Gathered
 mod Grouped
-mod Joins
+pub mod Joins
 pub mod Unique
 mod Maximal
 mod Found

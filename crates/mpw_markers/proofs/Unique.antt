@@ -29,11 +29,11 @@ Contains-head y ys = (zero, omega arith, refl)
 pub Contains-tail : {X : Type 0} (y : X) (ys : List X) (x : X) → Contains ys x → Contains (y ∷ ys) x
 Contains-tail y ys x c = (suc c.0, omega (arith, c.1), c.2)
 
-tail_pairs : {X : Type 0} (R : X → X → Type 0) (y : X) (ys : List X) → AllPairs R (y ∷ ys)
+pub tail_pairs : {X : Type 0} (R : X → X → Type 0) (y : X) (ys : List X) → AllPairs R (y ∷ ys)
     → AllPairs R ys
 tail_pairs R y ys h i j d l b = h (suc i) (suc j) d (omega arith) (omega arith)
 
-head_pairs : {X : Type 0} (R : X → X → Type 0) (y : X) (ys : List X) (x : X) → AllPairs R (y ∷ ys)
+pub head_pairs : {X : Type 0} (R : X → X → Type 0) (y : X) (ys : List X) (x : X) → AllPairs R (y ∷ ys)
     → Contains ys x → R y x
 head_pairs R y ys x h c = subst (R y) c.2 (h zero (suc c.0) x (omega arith) (omega (arith, c.1)))
 

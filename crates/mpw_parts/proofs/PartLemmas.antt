@@ -1,23 +1,22 @@
 -- A part, read again.
-use Rattle.std.proofs.Common.{◌≡◌, ◌≤◌, ◌<◌, ◌+◌, ◌-◌, ◌^◌, ◌==◌, ℕ, Bool, true, false, leb, cond, Some, None, List, [], ◌∷◌, ◌++◌, length, take, map, refl, ap, sym, ◌∙◌, subst, arith, codes, append_assoc}
+use Rattle.std.proofs.Common.{◌≡◌, ◌≤◌, ◌+◌, ◌-◌, ◌==◌, ℕ, true, false, cond, Some, None, List, [], ◌∷◌, ◌++◌, length, take, map, refl, ap, sym, ◌∙◌, arith, codes, append_assoc}
 use Rattle.std.specs.Prelude.{All}
 use Rattle.std.specs.List.{flat_map}
 use Rattle.std.specs.Fmt.{decimal}
-use Rattle.std.proofs.lemmas.Bool.Decides.{nat_tests}
 use Rattle.std.proofs.lemmas.List.Concat.{flat_map-append}
 use Rattle.std.proofs.lemmas.List.Elements.{All-cons, All-append, All-map, All-weaker, All-from_recursion}
 use Rattle.hex.specs.Hex.{encode_lower}
+use Rattle.mpw_text.proofs.Decimals.{number_read, le_true}
 use Rattle.mpw_text.specs.Text.{lines_of, words_of}
 use Rattle.mpw_markers.specs.declared.marker.Marker.{Marker}
-use Rattle.mpw_parts.specs.declared.head.Heading.{Heading}
 use Rattle.mpw_parts.specs.Laws.{PartsAreReadBack}
 use Rattle.mpw_parts.specs.Parts.{Checked, Found, AreMarkers, IsChecked, IsPart}
-use Rattle.mpw_parts.specs.Reading.{all_of, tile_of, head_from, head_by, head_of, is_ended, tiles_of, within, part_by, part_of, ◌>>=◌}
-use Rattle.mpw_parts.specs.Text.{ended, spaced, tile_line, tile_text, head_words, head_line, part_text}
+use Rattle.mpw_parts.specs.Reading.{all_of, tile_of, head_from, head_by, head_of, is_ended, tiles_of, within, part_by, ◌>>=◌}
+use Rattle.mpw_parts.specs.Text.{ended, tile_line, tile_text, head_words, head_line, part_text}
 use Rattle.mpw_parts.proofs.AllOf.{all_read}
 use Rattle.mpw_parts.proofs.ReadBack.{tile_read, tile_one_line}
 use Rattle.mpw_parts.proofs.Splitting.{IsGlyph, IsOne, each_behind, parts_again, lines_again, before_last, one_word, one_line, glyphs, all_flat}
-use Rattle.mpw_parts.proofs.Words.{name_read, name_glyphs, digest_read, bytes_read, hex_glyphs, number_read, number_plain}
+use Rattle.mpw_parts.proofs.Words.{name_read, name_glyphs, digest_read, bytes_read, hex_glyphs, number_plain}
 
 -- ---- the first line
 
@@ -117,9 +116,6 @@ tiles_read p all =
     (is_ended_here (map tile_line p.lists))
     ∙ ap (all_of tile_of) (before_last (map tile_line p.lists) End)
     ∙ all_read tile_of tile_line AreMarkers tile_read p.lists all
-
-le_true : (a b : ℕ) → a ≤ b → leb a b ≡ true
-le_true a b h = grind (arith, nat_tests, h)
 
 within_read : (p : Found) → p.first + length p.lists ≤ p.subject.tiles
     → within (record { subject = p.subject; first = p.first }) p.lists ≡ Some p

@@ -1,23 +1,24 @@
 -- A marker and a tile, read again.
-use Rattle.std.proofs.Common.{◌≡◌, ◌≤◌, ◌<◌, ◌+◌, ◌^◌, ◌==◌, ◌<ℤ◌, ℕ, ℤ, suc, zero, Bool, true, false, cond, Some, None, option_map, List, [], ◌∷◌, ◌++◌, length, map, get_or, refl, ap, sym, ◌∙◌, subst, arith, codes, append_assoc}
-use Rattle.std.specs.Prelude.{All, AllPairs, int_lt}
-use Rattle.std.specs.List.{flat_map, slice_split}
+use Rattle.std.proofs.Common.{◌≡◌, ◌≤◌, ◌<◌, ◌+◌, ◌^◌, ◌==◌, ◌<ℤ◌, ℕ, suc, zero, true, false, cond, Some, None, option_map, List, [], ◌∷◌, ◌++◌, map, refl, ap, sym, ◌∙◌, subst, arith, codes, append_assoc}
+use Rattle.std.specs.Prelude.{All, int_lt}
+use Rattle.std.specs.List.{flat_map}
 use Rattle.std.specs.Fmt.{decimal, signed_decimal}
 use Rattle.std.proofs.lemmas.Int.{ints}
 use Rattle.std.proofs.lemmas.List.Concat.{flat_map-append}
 use Rattle.std.proofs.lemmas.List.Folds.{flat_map-map}
 use Rattle.std.proofs.lemmas.List.Elements.{All-head, All-tail, All-append, All-map, All-weaker, All-from_recursion}
-use Rattle.mpw_text.specs.Text.{number_of, words_of}
+use Rattle.mpw_text.proofs.Decimals.{number_read}
+use Rattle.mpw_text.specs.Text.{words_of}
 use Rattle.mpw_markers.specs.declared.marker.Key.{Key}
 use Rattle.mpw_markers.specs.declared.marker.Marker.{Marker}
-use Rattle.mpw_markers.specs.Markers.{key_of, IsFilled}
+use Rattle.mpw_markers.specs.Markers.{key_of}
 use Rattle.mpw_markers.specs.Met.{IsAscending}
 use Rattle.mpw_parts.specs.Parts.{IsNumber, IsMarker, AreMarkers}
-use Rattle.mpw_parts.specs.Reading.{all_of, filled, key_by, numbers_from, marker_with, marker_by, marker_of, fields_of, tile_by, tile_of, ◌>>=◌}
-use Rattle.mpw_parts.specs.Text.{axis_text, coloned, spaced, key_fields, key_text, met_text, marker_text, marker_part, tile_line}
+use Rattle.mpw_parts.specs.Reading.{filled, key_by, numbers_from, marker_with, marker_by, marker_of, fields_of, tile_by, tile_of, ◌>>=◌}
+use Rattle.mpw_parts.specs.Text.{axis_text, coloned, spaced, key_fields, key_text, met_text, marker_text, tile_line}
 use Rattle.mpw_parts.proofs.AllOf.{all_read}
 use Rattle.mpw_parts.proofs.Splitting.{IsGlyph, IsPlain, IsOne, each_behind, parts_again, one_word, one_line, one_field, glyphs, all_flat}
-use Rattle.mpw_parts.proofs.Words.{number_read, number_plain, integer_read, integer_plain, axis_read, axis_plain}
+use Rattle.mpw_parts.proofs.Words.{number_plain, integer_read, integer_plain, axis_read, axis_plain}
 
 -- ---- the submissions that a marker meets
 

@@ -1,8 +1,9 @@
 -- What a text says as a part, if it is one.
-use Rattle.std.specs.Prelude.{◌==◌, ◌+◌, ◌-◌, ◌&&◌, ℕ, ℤ, pos, neg_ℤ, int_lt, Bool, false, nat_le, nat_lt, List, [], ◌∷◌, ◌++◌, codes, length, take, Option, None, Some, option_map, option_and_then, if◌then◌else◌}
-use Rattle.std.specs.List.{slice_split, list_all}
+use Rattle.std.specs.Prelude.{◌==◌, ◌+◌, ◌-◌, ℕ, ℤ, pos, neg_ℤ, int_lt, Bool, false, nat_le, List, [], ◌∷◌, codes, length, take, Option, None, Some, option_map, option_and_then, if◌then◌else◌}
+use Rattle.std.specs.List.{slice_split}
 use Rattle.std.specs.Result.{result_ok}
 use Rattle.hex.specs.Hex.{decode_of, decode_sized}
+use Rattle.mpw_geom.specs.Name.{is_visible_word}
 use Rattle.mpw_geom.specs.Names.{name_eq}
 use Rattle.mpw_text.specs.Text.{lines_of, words_of, number_of}
 use Rattle.mpw_edges.specs.declared.run.Axis.{Axis}
@@ -10,7 +11,7 @@ use Rattle.mpw_edges.specs.declared.run.Axis.TheVariants.{V, H}
 use Rattle.mpw_markers.specs.declared.marker.Key.{Key}
 use Rattle.mpw_markers.specs.declared.marker.Marker.{Marker}
 use Rattle.mpw_parts.specs.declared.head.Heading.{Heading}
-use Rattle.mpw_parts.specs.Parts.{Checked, Found}
+use Rattle.mpw_parts.specs.Parts.{Found}
 
 -- a part, and then the next where there is one
 infixl 10 ◌>>=◌
@@ -40,14 +41,6 @@ axis_of word =
     if name_eq word (codes "V") then Some V
     else if name_eq word (codes "H") then Some H
     else None
-
--- visible ASCII without the space, 1 to 255 bytes of it
-abbrev pub is_visible : ℕ → Bool
-is_visible byte = nat_le 0x21 byte && nat_le byte 0x7E
-
-unfoldable pub is_visible_word : List ℕ → Bool
-is_visible_word word =
-    nat_le 1 (length word) && (nat_le (length word) 255 && list_all is_visible word)
 
 unfoldable pub name_of : List ℕ → Option (List ℕ)
 name_of word = if is_visible_word word then Some word else None

@@ -6,10 +6,10 @@ use Rattle.mpw_geom.specs.Names.{contains_name}
 use Rattle.mpw_roles.specs.Decided.{decided}
 use Rattle.mpw_roles.specs.Hierarchy.{Name, is_role, is_immediate}
 use Rattle.mpw_roles.specs.Order.{at_least}
-use Rattle.mpw_separation.specs.Least.{least_name, IsLeast}
+use Rattle.mpw_geom.specs.Least.{least_name, IsLeast}
 use Rattle.mpw_separation.specs.Separation.{broken_names, has_set}
 use Rattle.mpw_separation.specs.Set.{SeparationSet}
-use Rattle.mpw_separation.proofs.LeastLemmas.{least-is}
+use Rattle.mpw_geom.proofs.LeastLemmas.{least-is}
 use Rattle.mpw_rbac.specs.Laws.{DeniesRightly, IsLeastStatic, IsLeastDynamic}
 use Rattle.mpw_rbac.specs.declared.session.Identity.{Identity}
 use Rattle.mpw_rbac.specs.Policy.{Policy, identity_of, authorized, assigned_roles, is_user, trim, assigned_lists, active_lists}

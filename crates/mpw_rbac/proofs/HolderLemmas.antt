@@ -5,7 +5,7 @@ use Rattle.std.specs.List.{list_any, list_all}
 use Rattle.std.proofs.lemmas.List.{take_all}
 use Rattle.mpw_roles.specs.Hierarchy.{Name, Hierarchy}
 use Rattle.mpw_roles.proofs.CallerLemmas.{or_right}
-use Rattle.mpw_separation.specs.Least.{least_name, lesser, IsLeast}
+use Rattle.mpw_geom.specs.Least.{least_name, lesser, IsLeast}
 use Rattle.mpw_separation.specs.Separation.{breaks, is_broken, set_names, broken_names, least_broken}
 use Rattle.mpw_separation.specs.Set.{SeparationSet}
 use Rattle.mpw_separation.proofs.BrokenLemmas.{least-holder, least-end}

@@ -9,11 +9,11 @@ use Rattle.mpw_geom.specs.Names.{name_eq, contains_name}
 use Rattle.mpw_roles.specs.Hierarchy.{Name, Hierarchy, role_names, is_role, is_immediate, with_role}
 use Rattle.mpw_roles.specs.Order.{at_least, is_below, roles_below}
 use Rattle.mpw_roles.proofs.CallerLemmas.{or_cases, or_right, name_eq-refl, roles_below-grows, contains-roles_below, pairs-with_role, roles-with_role, juniors-with_role, at_least-fewer}
-use Rattle.mpw_separation.specs.Least.{IsLeast}
+use Rattle.mpw_geom.specs.Least.{IsLeast}
 use Rattle.mpw_separation.specs.Separation.{is_reached, breaks, is_broken, broken_names, least_broken}
 use Rattle.mpw_separation.specs.Set.{SeparationSet}
 use Rattle.mpw_separation.proofs.BrokenLemmas.{contains-names}
-use Rattle.mpw_separation.proofs.LeastLemmas.{least-is}
+use Rattle.mpw_geom.proofs.LeastLemmas.{least-is}
 use Rattle.mpw_rbac.specs.declared.refusal.Refusal.{Refusal}
 use Rattle.mpw_rbac.specs.Rows as rows
 use Rattle.mpw_rbac.specs.Sound.{sets_hold, is_proper}

@@ -5,3 +5,4 @@ mod MarkerLemmas
 mod RankLemmas
 mod RowLemmas
 mod TrailLemmas
+pub mod RowParts

@@ -1,63 +1,12 @@
--- What is true of books: as the crate of markers proves it for itself.
-use Rattle.std.proofs.Common.{◌≡◌, ℕ, zero, suc, ◌<◌, ℤ, pos, ◌-ℤ◌, ◌≤ℤ◌, ◌<ℤ◌, List, [], ◌∷◌, length, get_or, ◌⊎◌, inl, inr, refl, sym, ap, ◌∙◌, arith}
-use Rattle.std.specs.Prelude.{Contains, All, ◌↔◌}
-use Rattle.std.proofs.lemmas.Int.{ints, by_lt_z}
-use Rattle.std.proofs.lemmas.List.Elements.{All-contains, Contains-get_or}
-use Rattle.mpw_region.proofs.Held.{one_or_before}
-use Rattle.mpw_edges.specs.declared.run.Axis.TheVariants.{V}
+-- Markers of a book that share a row.
+use Rattle.std.proofs.Common.{◌≡◌, ℤ, List, inl, inr, sym, ◌∙◌, arith}
+use Rattle.std.specs.Prelude.{Contains}
+use Rattle.std.proofs.lemmas.Int.{ints}
 use Rattle.mpw_markers.specs.declared.marker.Line.{Line}
 use Rattle.mpw_markers.specs.declared.marker.Marker.{Marker}
-use Rattle.mpw_markers.specs.Markers.{line_of, IsFilled, HasRow, CoversRow, LiesIn}
-use Rattle.mpw_markers.specs.Order.{StandsBefore}
+use Rattle.mpw_markers.specs.Markers.{HasRow}
 use Rattle.mpw_markers.specs.Book.{IsBook}
-use Rattle.mpw_markers.specs.Stitched.{IsJoined}
-use Rattle.mpw_markers.proofs.Order.{apart}
-
--- ---- lists
-
-pub cons_cases : {X : Type 0} (y : X) (ys : List X) (x : X) → Contains (y ∷ ys) x
-    → (y ≡ x) ⊎ Contains ys x
-cons_cases {X} y ys x c = at c.0 c.1 c.2
-  where
-    at : (k : ℕ) → k < length (y ∷ ys) → get_or (y ∷ ys) k x ≡ x → (y ≡ x) ⊎ Contains ys x
-    at zero l e = inl e
-    at (suc k) l e = inr (k, omega arith, e)
-
-pub Contains-head : {X : Type 0} (y : X) (ys : List X) → Contains (y ∷ ys) y
-Contains-head y ys = (zero, omega arith, refl)
-
-pub Contains-tail : {X : Type 0} (y : X) (ys : List X) (x : X) → Contains ys x → Contains (y ∷ ys) x
-Contains-tail y ys x c = (suc c.0, omega (arith, c.1), c.2)
-
--- ---- books
-
--- what the code's index gives past the end
-abbrev pub no_marker : Marker
-no_marker = record {
-  rule = 0;
-  axis = V;
-  side = 0;
-  x1 = pos 0;
-  x2 = pos 0;
-  y0 = pos 0;
-  y1 = pos 0;
-  met = [];
-}
-
--- what is true of each contained element is true of all
-pub All-from_contained : {X : Type 0} (P : X → Type 0) (xs : List X)
-    → ((x : X) → Contains xs x → P x) → All P xs
-All-from_contained P xs h k d l = h (get_or xs k d) (Contains-get_or xs k d l)
-
--- two markers of a book on one line are one, or stand apart
-pub alike : (book : List Marker) (m n : Marker) → IsBook book → Contains book m → Contains book n
-    → line_of m ≡ line_of n → (m ≡ n) ⊎ ((m.y1 <ℤ n.y0) ⊎ (n.y1 <ℤ m.y0))
-alike book m n h p q e =
-    elim (one_or_before StandsBefore book no_marker m n h.ordered p q) [
-      | inl same ↦ inl same
-      | inr (inl before) ↦ inr (inl (apart m n before e))
-      | inr (inr behind) ↦ inr (inr (apart n m behind (sym e)))
-    ]
+use Rattle.mpw_markers.proofs.Marked.{alike}
 
 -- markers of a book that have a row of a line are one
 pub one_by_row : (book : List Marker) (m n : Marker) (line : Line) (j : ℤ) → IsBook book
@@ -68,59 +17,3 @@ one_by_row book m n line j h p q r s =
       | inr (inl before) ↦ absurd (omega (arith, ints, before, r.2, s.1))
       | inr (inr behind) ↦ absurd (omega (arith, ints, behind, s.2, r.1))
     ]
-
--- the row before a marker of a book, and the row behind it, are in no marker of it
-pub none_below : (book : List Marker) (m : Marker) → IsBook book → Contains book m
-    → CoversRow book (line_of m) (m.y0 -ℤ pos 1) → ⊥
-none_below book m h p c =
-    let filled = All-contains IsFilled book m h.filled p in
-    elim (alike book m c.0 h p c.1 (sym c.2.0)) [
-      | inl same ↦ omega (arith, ints, ap (λ (n : Marker). n.y0) same, c.2.1)
-      | inr (inl before) ↦ omega (arith, ints, before, c.2.1, filled)
-      | inr (inr behind) ↦ omega (arith, ints, behind, c.2.2)
-    ]
-
-pub none_above : (book : List Marker) (m : Marker) → IsBook book → Contains book m
-    → CoversRow book (line_of m) m.y1 → ⊥
-none_above book m h p c =
-    let filled = All-contains IsFilled book m h.filled p in
-    elim (alike book m c.0 h p c.1 (sym c.2.0)) [
-      | inl same ↦ omega (arith, ints, ap (λ (n : Marker). n.y1) same, c.2.2)
-      | inr (inl before) ↦ omega (arith, ints, before, c.2.1)
-      | inr (inr behind) ↦ omega (arith, ints, behind, filled, c.2.2)
-    ]
-
--- a part that has a row of a marker of the book lies in it
-pub lies_in : (part : Marker → Type 0) (book : List Marker) (m n : Marker) (line : Line) (j : ℤ)
-    → IsJoined part book → Contains book n → part m → HasRow m line j → HasRow n line j → LiesIn m n
-lies_in part book m n line j h c p r s = (e, below, above)
-  where
-    e : line_of m ≡ line_of n
-    e = r.0 ∙ sym s.0
-
-    row : (i : ℤ) → m.y0 ≤ℤ i → i <ℤ m.y1 → CoversRow book (line_of n) i
-    row i l g = (h.rows (line_of n) i).1 (m, p, (e, l, g))
-
-    below : n.y0 ≤ℤ m.y0
-    below = by_lt_z m.y0 n.y0 (λ less. absurd (none_below book n h.markers c
-        (row (n.y0 -ℤ pos 1) (omega (arith, ints, less)) (omega (arith, ints, s.1, r.2)))))
-        (λ more. more)
-
-    above : m.y1 ≤ℤ n.y1
-    above = by_lt_z n.y1 m.y1 (λ less. absurd (none_above book n h.markers c
-        (row n.y1 (omega (arith, ints, r.1, s.2)) less))) (λ more. more)
-
--- parts that are alike
-pub IsJoined-same : (P Q : Marker → Type 0) (book : List Marker) → ((m : Marker) → P m ↔ Q m)
-    → IsJoined P book → IsJoined Q book
-IsJoined-same P Q book same h = record {
-  markers = h.markers;
-  rows = λ line j. (
-    λ c. let p = (h.rows line j).0 c in (p.0, (same p.0).0 p.1, p.2),
-    λ p. (h.rows line j).1 (p.0, (same p.0).1 p.1, p.2),
-  );
-  met = λ n o c. (
-    λ x. let p = (h.met n o c).0 x in (p.0, (same p.0).0 p.1, p.2, p.3),
-    λ p. (h.met n o c).1 (p.0, (same p.0).1 p.1, p.2, p.3),
-  );
-}

@@ -16,9 +16,12 @@ use Rattle.mpw_markers.specs.Order.{line_cmp, StandsBefore}
 use Rattle.mpw_markers.specs.Book.{IsBook}
 use Rattle.mpw_markers.specs.Stitched.{IsJoined}
 use Rattle.mpw_markers.proofs.Order.{line_total, line_tied, apart, StandsBefore-chain, StandsBefore-begins}
-use Rattle.mpw_run.proofs.Books.{All-from_contained, one_by_row, lies_in, cons_cases, Contains-head, Contains-tail, IsJoined-same}
+use Rattle.mpw_markers.proofs.Joins.{IsJoined-same}
+use Rattle.mpw_markers.proofs.Marked.{All-from_contained, lies_in}
+use Rattle.mpw_markers.proofs.Unique.{cons_cases, Contains-head, Contains-tail, tail_pairs, head_pairs}
+use Rattle.mpw_run.proofs.Books.{one_by_row}
 use Rattle.mpw_run.specs.Stitching.{joined, beside, placed, with_marker}
-use Rattle.mpw_run.proofs.Uniting.{head_at, none_in, cons_pairs, tail_pairs, head_pairs, union_has, union_ascends}
+use Rattle.mpw_run.proofs.Uniting.{head_at, none_in, cons_pairs, union_has, union_ascends}
 
 -- ---- where a marker stands
 

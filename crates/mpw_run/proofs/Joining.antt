@@ -7,7 +7,9 @@ use Rattle.mpw_markers.specs.declared.marker.Marker.{Marker}
 use Rattle.mpw_markers.specs.Markers.{line_of, LiesIn}
 use Rattle.mpw_markers.specs.Book.{IsBook}
 use Rattle.mpw_markers.specs.Stitched.{IsJoined, IsListed}
-use Rattle.mpw_run.proofs.Books.{lies_in, cons_cases, Contains-head, Contains-tail, IsJoined-same}
+use Rattle.mpw_markers.proofs.Joins.{IsJoined-same}
+use Rattle.mpw_markers.proofs.Marked.{lies_in}
+use Rattle.mpw_markers.proofs.Unique.{cons_cases, Contains-head, Contains-tail}
 use Rattle.mpw_run.specs.Stitching.{with_marker, stitched}
 use Rattle.mpw_run.specs.Laws.{StitchedComputes}
 use Rattle.mpw_run.proofs.Uniting.{head_at, none_in}

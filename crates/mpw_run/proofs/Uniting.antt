@@ -4,7 +4,7 @@ use Rattle.std.specs.Prelude.{◌==◌, nat_le, Contains, AllPairs, ◌↔◌, f
 use Rattle.std.proofs.lemmas.Bool.{cases_eq, eqb-true, eq-eqb, leb-true, leb-false, false≢true}
 use Rattle.std.proofs.lemmas.List.Elements.{Contains-get_or}
 use Rattle.mpw_markers.specs.Met.{IsAscending}
-use Rattle.mpw_run.proofs.Books.{cons_cases, Contains-head, Contains-tail}
+use Rattle.mpw_markers.proofs.Unique.{tail_pairs, head_pairs, cons_cases, Contains-head, Contains-tail}
 use Rattle.mpw_run.specs.Stitching.{met_with}
 
 -- ---- lists
@@ -21,14 +21,6 @@ cons_pairs R y ys near rest i zero d l b = absurd (omega (arith, l))
 cons_pairs R y ys near rest zero (suc j) d l b =
     near (get_or ys j d) (Contains-get_or ys j d (omega (arith, b)))
 cons_pairs R y ys near rest (suc i) (suc j) d l b = rest i j d (omega (arith, l)) (omega (arith, b))
-
-pub tail_pairs : {X : Type 0} (R : X → X → Type 0) (y : X) (ys : List X) → AllPairs R (y ∷ ys)
-    → AllPairs R ys
-tail_pairs R y ys h i j d l b = h (suc i) (suc j) d (omega arith) (omega arith)
-
-pub head_pairs : {X : Type 0} (R : X → X → Type 0) (y : X) (ys : List X) (x : X)
-    → AllPairs R (y ∷ ys) → Contains ys x → R y x
-head_pairs R y ys x h c = subst (R y) c.2 (h zero (suc c.0) x (omega arith) (omega (arith, c.1)))
 
 -- ---- numbers met
 

@@ -5,9 +5,9 @@ use Rattle.std.proofs.lemmas.List.{take_more}
 use Rattle.mpw_geom.specs.Names.{name_eq, contains_name}
 use Rattle.mpw_roles.specs.Hierarchy.{Name, Hierarchy}
 use Rattle.mpw_separation.specs.Set.{SeparationSet}
-use Rattle.mpw_separation.specs.Least.{least_name, lesser, IsLeast}
+use Rattle.mpw_geom.specs.Least.{least_name, lesser, IsLeast}
 use Rattle.mpw_separation.specs.Separation.{breaks, is_broken, set_names, broken_names, least_broken}
-use Rattle.mpw_separation.proofs.LeastLemmas.{least-is, least-only, least-both, least-push}
+use Rattle.mpw_geom.proofs.LeastLemmas.{least-is, least-only, least-both, least-push}
 
 -- the sets so far, and one more
 pub least-set : (p : SeparationSet → Bool) (sets : List SeparationSet) (set : SeparationSet)

@@ -1,2 +1,2 @@
-pub mod LeastLemmas
+
 pub mod BrokenLemmas

@@ -1,4 +1,3 @@
-pub mod Least
 pub mod Rows
 pub mod Separation
 pub mod Set

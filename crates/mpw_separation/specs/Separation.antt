@@ -8,7 +8,7 @@ use Rattle.mpw_roles.specs.Order.{roles_below}
 use Rattle.mpw_separation.specs.declared.set.Kind.{Kind}
 use Rattle.mpw_separation.specs.declared.set.Kind.TheVariants.{Static, Dynamic}
 use Rattle.mpw_separation.specs.Set.{SeparationSet}
-use Rattle.mpw_separation.specs.Least.{least_name}
+use Rattle.mpw_geom.specs.Least.{least_name}
 
 -- the sets of both kinds, each in the order in which they were made
 pub record Sets : Type 0 where

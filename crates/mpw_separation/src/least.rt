@@ -1,7 +1,7 @@
 //! The least of some names.
 ghost use Rattle.std.specs.Prelude.{◌≡◌, filter, map};
 ghost use Rattle.std.specs.Option.{option_copied};
-ghost use Rattle.mpw_separation.specs.Least.{lesser, least_name};
+ghost use Rattle.mpw_geom.specs.Least.{lesser, least_name};
 ghost use Rattle.mpw_separation.specs.Separation.{is_reached, set_names};
 
 use crate::SeparationSet;

@@ -5,6 +5,7 @@ use Rattle.std.specs.Ordering.{int_eq}
 use Rattle.std.proofs.lemmas.Int.{ints}
 use Rattle.std.proofs.lemmas.Bool.{and_parts, true≢false}
 use Rattle.std.proofs.lemmas.Bool.Decides.{Decides-int_eq}
+use Rattle.mpw_geom.proofs.Boxes.{same_box}
 use Rattle.mpw_geom.specs.declared.plane.Box2.{Box2}
 use Rattle.mpw_geom.specs.declared.plane.Point.{Point}
 use Rattle.mpw_geom.specs.declared.plane.Orient.{Orient}
@@ -17,7 +18,7 @@ use Rattle.mpw_elements.specs.declared.element.Path.{Path}
 use Rattle.mpw_elements.specs.Element.{each_step, is_segment}
 use Rattle.mpw_shapes.specs.Path.{wire_box, wire_boxes, path_has}
 use Rattle.mpw_shapes.proofs.Counts.{cases_lt_z}
-use Rattle.mpw_shapes.proofs.Wires.{same_box, wire_right, wire_left, wire_up, wire_down}
+use Rattle.mpw_shapes.proofs.Wires.{wire_right, wire_left, wire_up, wire_down}
 
 -- ---- boxes
 

@@ -3,16 +3,10 @@ use Rattle.std.proofs.Common.{◌≡◌, ◌≢◌, ℤ, ◌+ℤ◌, ◌-ℤ◌,
 use Rattle.std.specs.Ordering.{int_eq}
 use Rattle.std.proofs.lemmas.Bool.{false_from_ne_true}
 use Rattle.std.proofs.lemmas.Bool.Decides.{Decides-int_eq}
-use Rattle.mpw_geom.specs.declared.plane.Box2.{Box2}
 use Rattle.mpw_geom.specs.declared.plane.Point.{Point}
 use Rattle.mpw_geom.proofs.Tests.{test_from_lt}
 use Rattle.mpw_shapes.specs.Path.{wire_box}
 use Rattle.mpw_shapes.proofs.Columns.{not_lt_test}
-
-pub same_box : (b c : Box2) → b.x0 ≡ c.x0 → b.y0 ≡ c.y0 → b.x1 ≡ c.x1 → b.y1 ≡ c.y1 → b ≡ c
-same_box b c e f g h =
-    let k : ◌≡◌ {A = Box2} (record { x0 = b.x0; y0 = b.y0; x1 = b.x1; y1 = b.y1 })
-    (record { x0 = c.x0; y0 = c.y0; x1 = c.x1; y1 = c.y1 }) = cc in k
 
 eq_test : (a b : ℤ) → a ≡ b → int_eq a b ≡ true
 eq_test a b h = (Decides-int_eq a b).1 h

@@ -1,5 +1,6 @@
 -- Denials in the rows of the sign-off.
 use Rattle.std.proofs.Common.{◌≡◌, ◌∙◌, ℕ, Bool, true, false, cond, ◌⊎◌, inl, inr, List, [], ◌∷◌, Option, None, Some, Result, Ok, Err, is_some, refl, sym, ap, subst}
+use Rattle.mpw_replies.proofs.RowParts.{parts}
 use Rattle.mpw_markers.specs.Laws.{PlacesAreOfKeys}
 use Rattle.mpw_roles.specs.Decided.{decided}
 use Rattle.mpw_rbac.specs.declared.permission.Object.{Object}
@@ -36,7 +37,7 @@ use Rattle.mpw_signoff.specs.declared.rows.ByUser.{ByUser}
 use Rattle.mpw_signoff.specs.Laws.{SubmittersAreTold, AskersAreTold, SignOffsDenyWhatIsLacked}
 use Rattle.mpw_signoff.specs.Named.{Named, named_in}
 use Rattle.mpw_signoff.specs.SigningOff.{entered, finished, if_full, if_shown, shown, ending_of, passes, apart, by_user, waive_row, sign_row, waivers_row, verdict_row, waived_outcome, signed_outcome, listed, outcome_of}
-use Rattle.mpw_signoff.proofs.Parts.{parts, denial_ended}
+use Rattle.mpw_signoff.proofs.Parts.{denial_ended}
 use Rattle.mpw_signoff.proofs.Shown.{finished_is, shown_is}
 
 -- ---- parts that deny nothing

@@ -3,6 +3,7 @@ use Rattle.std.proofs.Common.{◌≡◌, ◌∙◌, ℕ, suc, ◌+◌, Bool, tru
 use Rattle.std.specs.Prelude.{All}
 use Rattle.std.proofs.lemmas.List.{append-nil, append_assoc, drop_all, drop_more}
 use Rattle.std.proofs.lemmas.List.Elements.{All-nil, All-cons, All-append, All-map}
+use Rattle.mpw_replies.proofs.RowParts.{passed}
 use Rattle.mpw_deck.specs.declared.rule.Rule.{Rule}
 use Rattle.mpw_markers.specs.declared.marker.Marker.{Marker}
 use Rattle.mpw_rbac.specs.Policy.{Policy}
@@ -20,7 +21,6 @@ use Rattle.mpw_signoff.specs.Laws.{IsTold, ToldAreShown}
 use Rattle.mpw_signoff.specs.Named.{name_for}
 use Rattle.mpw_signoff.specs.SigningOff.{entered, finished, waiver_lines, waivers_row, listed}
 use Rattle.mpw_signoff.specs.WaiverLines.{waiver_line, rule_line, marker_line, shown_line, lines_from}
-use Rattle.mpw_signoff.proofs.Parts.{passed}
 use Rattle.mpw_signoff.proofs.Shown.{finished_is}
 
 -- what is so of the line of each marker that is shown and has a waiver is so of all lines

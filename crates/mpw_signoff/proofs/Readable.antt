@@ -2,6 +2,7 @@
 use Rattle.std.proofs.Common.{◌≡◌, ◌==◌, ℕ, Bool, true, false, if◌then◌else◌, List, [], ◌∷◌, Option, None, Some, Result, Ok, Err, refl, subst}
 use Rattle.std.specs.Prelude.{All}
 use Rattle.std.proofs.lemmas.List.Elements.{All-nil, All-cons, All-map}
+use Rattle.mpw_replies.proofs.RowParts.{passed}
 use Rattle.mpw_rbac.specs.declared.permission.Object.TheVariants as objects
 use Rattle.mpw_rbac.specs.declared.permission.Operation.TheVariants as operations
 use Rattle.mpw_rbac.specs.Policy.{Policy}
@@ -25,7 +26,6 @@ use Rattle.mpw_signoff.specs.Named.{name_for}
 use Rattle.mpw_signoff.specs.SigningOff.{finished, is_present, verdict_line, waive_row, sign_row, waiver_lines, waivers_row, verdict_row, waived_outcome, signed_outcome, listed}
 use Rattle.mpw_signoff.specs.WaiverLines.{waiver_line}
 use Rattle.mpw_signoff.proofs.Listed.{of_lines, told_is}
-use Rattle.mpw_signoff.proofs.Parts.{passed}
 
 -- a reply that denies or refuses has no lines
 no_reply : (e : Ending) (lines : List Listed) → ended_by e ≡ reply.Ok lines → ⊥

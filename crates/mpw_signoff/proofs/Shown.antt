@@ -1,5 +1,6 @@
 -- What the marker of an accepted request is.
 use Rattle.std.proofs.Common.{◌≡◌, ◌∙◌, ℕ, Bool, true, false, cond, List, Option, None, Some, Result, Ok, Err, refl, sym, ap}
+use Rattle.mpw_replies.proofs.RowParts.{passed}
 use Rattle.mpw_markers.specs.Laws.{PlacesAreOfKeys}
 use Rattle.mpw_rbac.specs.declared.permission.Object.TheVariants as objects
 use Rattle.mpw_rbac.specs.declared.permission.Operation.TheVariants as operations
@@ -27,7 +28,6 @@ use Rattle.mpw_signoff.specs.Laws.{IsShownInFull, AskedAreShown, SignersStandApa
 use Rattle.mpw_signoff.specs.Named.{Named, named_in}
 use Rattle.mpw_signoff.specs.SigningOff.{finished, if_full, if_shown, shown, passes, apart, by_user, waive_row, sign_row, waived_outcome, signed_outcome}
 use Rattle.mpw_signoff.proofs.Naming.{named_is}
-use Rattle.mpw_signoff.proofs.Parts.{passed}
 
 pub finished_is : (phase : Phase) (f : Checked) → finished phase ≡ Ok f → phase ≡ Finished f
 finished_is Idle f e = absurd cc

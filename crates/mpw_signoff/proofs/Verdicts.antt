@@ -4,6 +4,7 @@ use Rattle.std.specs.Prelude.{All}
 use Rattle.std.specs.Option.{option_flatten}
 use Rattle.std.proofs.lemmas.Bool.Decides.{Decides-eqb}
 use Rattle.std.proofs.lemmas.Option.{slice_get-get_or}
+use Rattle.mpw_replies.proofs.RowParts.{passed}
 use Rattle.mpw_deck.specs.Decks.{Deck}
 use Rattle.mpw_placings.specs.declared.placement.Placement.{Placement}
 use Rattle.mpw_placings.specs.Placements.{roots_of}
@@ -27,7 +28,6 @@ use Rattle.mpw_run.specs.declared.phase.Phase.TheVariants.{Finished}
 use Rattle.mpw_signoff.specs.Laws.{CleanIsSignedOff, SignedOffIsClean}
 use Rattle.mpw_signoff.specs.SigningOff.{finished, is_present_with, is_present, verdict_line, verdict_row}
 use Rattle.mpw_signoff.proofs.Listed.{listed_is}
-use Rattle.mpw_signoff.proofs.Parts.{passed}
 use Rattle.mpw_signoff.proofs.Shown.{finished_is}
 
 clean_is : (present : Bool) (number : ℕ) → verdict_line present number ≡ line.Clean

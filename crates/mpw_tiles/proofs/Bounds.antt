@@ -4,7 +4,7 @@ use Rattle.std.specs.Prelude.{ℤ, pos, ◌-ℤ◌, ◌≤ℤ◌, ◌<ℤ◌, in
 use Rattle.std.specs.Ordering.{int_eq}
 use Rattle.std.proofs.lemmas.Bool.{false≢true, cases_eq, and_parts, and_from}
 use Rattle.std.proofs.lemmas.Bool.Decides.{Decides-int_eq}
-use Rattle.std.proofs.lemmas.Int.{ints, clamps}
+use Rattle.std.proofs.lemmas.Int.{ints}
 use Rattle.std.proofs.lemmas.List.Elements.{All-nil, All-cons, All-weaker, All-head, All-tail, All-append, All-take, All-contains, Contains-append_right}
 use Rattle.mpw_geom.specs.declared.plane.Box2.{Box2}
 use Rattle.mpw_geom.specs.declared.plane.Layer.{Layer}
@@ -23,8 +23,9 @@ use Rattle.mpw_shapes.specs.Path.{wire_boxes, path_has}
 use Rattle.mpw_shapes.specs.Element.{element_has}
 use Rattle.mpw_shapes.proofs.Whole.{right_of_all}
 use Rattle.mpw_hier.specs.Items.{Item}
-use Rattle.mpw_hier.specs.Boxes.{joined, hull, hull_of, hull_of_points, has_area, element_box, placed_box, item_box, extent_of, is_box_near}
+use Rattle.mpw_hier.specs.Boxes.{hull, hull_of, hull_of_points, has_area, element_box, placed_box, item_box, extent_of, is_box_near}
 use Rattle.mpw_hier.specs.Holding.{IsInside, IsHeld, ExtentsHoldItems}
+use Rattle.mpw_hier.proofs.Holding.{inside_itself, inside_joined, first_inside}
 use Rattle.mpw_hier.specs.declared.submission.Submission.{Submission}
 use Rattle.mpw_hier.specs.Values.{extent}
 use Rattle.mpw_walk.specs.declared.root.Root.{Root}
@@ -38,33 +39,9 @@ use Rattle.mpw_tiles.specs.Shown.{ShowsSquare, IsShown}
 
 -- ---- least boxes
 
-inside_itself : (b : Box2) → IsInside b b
-inside_itself b = record {
-  left = omega (arith, ints);
-  bottom = omega (arith, ints);
-  right = omega (arith, ints);
-  top = omega (arith, ints);
-}
-
-inside_joined : (a b c : Box2) → IsInside c b → IsInside c (joined a b)
-inside_joined a b c h = record {
-  left = omega (arith, ints, clamps);
-  bottom = omega (arith, ints, clamps);
-  right = omega (arith, ints, clamps);
-  top = omega (arith, ints, clamps);
-}
-
-inside_first : (a b : Box2) → IsInside a (joined a b)
-inside_first a b = record {
-  left = omega (arith, ints, clamps);
-  bottom = omega (arith, ints, clamps);
-  right = omega (arith, ints, clamps);
-  top = omega (arith, ints, clamps);
-}
-
 held_first : (a : Box2) (b : Option Box2) → IsHeld (Some a) (hull (Some a) b)
 held_first a None = inside_itself a
-held_first a (Some b) = inside_first a b
+held_first a (Some b) = first_inside a b
 
 held_behind : (a b : Option Box2) (c : Box2) → IsHeld (Some c) b → IsHeld (Some c) (hull a b)
 held_behind None b c h = h

@@ -1,5 +1,6 @@
 -- Denials of a permission in the rows over the wafer.
 use Rattle.std.proofs.Common.{◌≡◌, ℕ, false, List, Result, Ok, Err, inl, inr, ap}
+use Rattle.mpw_replies.proofs.RowParts.{parts}
 use Rattle.mpw_geom.specs.declared.placing.Placing.{Placing}
 use Rattle.mpw_deck.specs.Decks.{Deck}
 use Rattle.mpw_deck.specs.Reading.{deck_of}
@@ -23,7 +24,6 @@ use Rattle.mpw_replies.specs.declared.row.Ending.TheVariants as ending
 use Rattle.mpw_wafer.specs.declared.wafer.Wafer.{Wafer}
 use Rattle.mpw_wafer.specs.Laws.{WafersDenyWhatIsLacked}
 use Rattle.mpw_wafer.specs.Wafers.{by_table, place_row, unplace_row, by_text, deck_row, placed_outcome, unplaced_outcome, decked_outcome}
-use Rattle.mpw_wafer.proofs.Parts.{parts}
 
 table_denies : (told : Result (List Placement) PlacingFault) (operation : Operation)
     (object : Object) → by_table told ≡ Err (denied operation object) → ⊥

@@ -1,5 +1,6 @@
 -- The parts of a row over the wafer.
-use Rattle.std.proofs.Common.{◌≡◌, ℕ, List, Result, Ok, Err, ◌⊎◌, inl, inr, refl, ap}
+use Rattle.std.proofs.Common.{◌≡◌, ℕ, List, Result, Ok, Err, ap}
+use Rattle.mpw_replies.proofs.RowParts.{passed}
 use Rattle.mpw_geom.specs.declared.placing.Placing.{Placing}
 use Rattle.mpw_hier.specs.declared.submission.Submission.{Submission}
 use Rattle.mpw_placings.specs.declared.fault.PlacingFault.{PlacingFault}
@@ -9,8 +10,7 @@ use Rattle.mpw_placings.specs.Rows as table
 use Rattle.mpw_rbac.specs.declared.permission.Operation.TheVariants as operations
 use Rattle.mpw_rbac.specs.declared.permission.Object.TheVariants as objects
 use Rattle.mpw_rbac.specs.Policy.{Policy}
-use Rattle.mpw_replies.specs.Rows.{◌>>=◌, Told, permitted}
-use Rattle.mpw_replies.specs.declared.row.Ending.{Ending}
+use Rattle.mpw_replies.specs.Rows.{Told, permitted}
 use Rattle.mpw_wafer.specs.Internal.Answers.{fault_of}
 use Rattle.mpw_wafer.specs.Wafers.{by_table, place_row, unplace_row}
 
@@ -24,18 +24,6 @@ refused placings.Shapes told e = ap by_table e
 refused placings.Full told e = ap by_table e
 refused placings.Unknown told e = ap by_table e
 refused placings.Memory told e = tt
-
--- a row ends in its first part, or behind it
-pub parts : {A B : Type 0} (x : Result A Ending) (f : A → Result B Ending) (r : Ending)
-    → (x >>= f) ≡ Err r → (x ≡ Err r) ⊎ ((a : A) × (x ≡ Ok a) × (f a ≡ Err r))
-parts (Ok a) f r e = inr (a, refl, e)
-parts (Err s) f r e = inl (let same : s ≡ r = cc in ap (λ t. Err t) same)
-
--- a row that gives a value passes both
-passed : {A B : Type 0} (x : Result A Ending) (f : A → Result B Ending) (y : B) → (x >>= f) ≡ Ok y
-    → (a : A) × (x ≡ Ok a) × (f a ≡ Ok y)
-passed (Ok a) f y e = (a, refl, e)
-passed (Err s) f y e = absurd cc
 
 table_ok : (told : Result (List Placement) PlacingFault) (ps : List Placement)
     → by_table told ≡ Ok ps → told ≡ Ok ps

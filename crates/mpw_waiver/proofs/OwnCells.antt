@@ -6,10 +6,10 @@ use Rattle.std.specs.Ordering.{is_lt}
 use Rattle.mpw_geom.specs.Names.{name_eq, name_cmp, contains_name}
 use Rattle.mpw_geom.proofs.Linked.{same_name, name_eq-refl, or_right, or_cases}
 use Rattle.mpw_hier.specs.declared.submission.Submission.{Submission}
-use Rattle.mpw_waiver.specs.Internal.Least.{IsLeast}
+use Rattle.mpw_geom.specs.Least.{IsLeast}
 use Rattle.mpw_waiver.specs.Laws.{IsOwn}
 use Rattle.mpw_waiver.specs.Signing.{own_cell, own_cells, least_own_cell}
-use Rattle.mpw_waiver.proofs.Least.{least-is, not_both}
+use Rattle.mpw_geom.proofs.LeastLemmas.{least-is, not_both}
 
 -- ---- one number
 

@@ -1,5 +1,3 @@
 pub mod Laws
-pub mod Least
 pub mod Signing
 pub mod Waivers
-pub mod Internal

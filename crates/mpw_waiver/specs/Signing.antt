@@ -5,7 +5,7 @@ use Rattle.mpw_hier.specs.declared.submission.Submission.{Submission}
 use Rattle.mpw_waiver.specs.declared.fault.WaiverFault.{WaiverFault}
 use Rattle.mpw_waiver.specs.declared.fault.WaiverFault.TheVariants.{Known, NoWaiver, Submitter, Asker}
 use Rattle.mpw_waiver.specs.declared.waiver.Waiver.{Waiver}
-use Rattle.mpw_waiver.specs.Least.{least_name}
+use Rattle.mpw_geom.specs.Least.{least_name}
 use Rattle.mpw_waiver.specs.Waivers.{waiver_at, with_asker, with_signer}
 
 -- A waiver can be asked for where there is none.

@@ -3,7 +3,7 @@
 ghost use Rattle.std.specs.Prelude.{◌≡◌, slice_get};
 ghost use Rattle.std.specs.Option.{option_copied};
 ghost use Rattle.mpw_waiver.specs.Signing.{own_cell, least_own_cell};
-ghost use Rattle.mpw_waiver.specs.Internal.Least.{lesser};
+ghost use Rattle.mpw_geom.specs.Least.{lesser};
 
 use mpw_geom::Name;
 use mpw_hier::Shelf;

@@ -1,38 +1,11 @@
--- The test of a word, and what a name or a token is.
-use Rattle.std.proofs.Common.{◌≡◌, ◌≤◌, ◌<◌, ◌+◌, ◌==◌, ℕ, Bool, true, false, ◌&&◌, leb, ltb, cond, Some, None, List, [], ◌∷◌, length, take, drop, position, Decides, refl, ap, ◌∙◌, arith}
-use Rattle.std.specs.List.{list_all, slice_split, position_or_len}
+-- The words of a line.
+use Rattle.std.proofs.Common.{◌≡◌, ◌≤◌, ◌<◌, ◌+◌, ◌==◌, ℕ, Bool, ltb, cond, Some, None, List, [], ◌∷◌, length, take, drop, position, ap, ◌∙◌, arith}
+use Rattle.std.specs.List.{slice_split, position_or_len}
 use Rattle.std.proofs.lemmas.List.Quantifiers.{position-Some}
 use Rattle.std.proofs.lemmas.List.Sums.{position_or_len_is, fails_before_first}
 use Rattle.std.proofs.lemmas.List.Splits.{slice_split_first, slice_split_none, length-slice_split}
-use Rattle.std.proofs.lemmas.Bool.Decides.{Decides-by_and, Decides-and, nat_tests}
-use Rattle.mpw_geom.specs.Name.{IsName, IsVisible}
-use Rattle.mpw_wire.specs.Words.{words, is_visible, is_visible_word}
-
-Decides-leb : (a b : ℕ) → Decides (leb a b) (a ≤ b)
-Decides-leb a b = (λ e. grind (arith, nat_tests), λ h. grind (arith, nat_tests))
-
-Decides-visible : (byte : ℕ) → Decides (is_visible byte) (IsVisible byte)
-Decides-visible byte =
-    Decides-and (leb 0x21 byte) (leb byte 0x7E) (Decides-leb 0x21 byte) (Decides-leb byte 0x7E)
-
-Decides-word : (word : List ℕ) → Decides (is_visible_word word) (IsName word)
-unfolding is_visible_word
-Decides-word word =
-    let least = Decides-leb 1 (length word) in
-    let most = Decides-leb (length word) 255 in
-    let all = Decides-by_and is_visible IsVisible (list_all is_visible) Decides-visible refl
-    (λ _ _. refl) word in
-    let rest = Decides-and (leb (length word) 255) (list_all is_visible word) most all in
-    let both = Decides-and (leb 1 (length word)) (leb (length word) 255 && list_all is_visible word)
-    least rest in
-    (λ e. let h = both.0 e in (h.0, h.1.0, h.1.1), λ h. both.1 (h.0, (h.1, h.2)))
-
-pub read_word : (word : List ℕ) → IsName word → is_visible_word word ≡ true
-read_word word h = (Decides-word word).1 h
-
-pub refused_word : (word : List ℕ) → (IsName word → ⊥) → is_visible_word word ≡ false
-refused_word word h = elim (is_visible_word word) as (λ b. Decides b (IsName word) → b ≡ false)
-    [ true ↦ λ d. absurd (h (d.0 refl)) | false ↦ λ _. refl ] (Decides-word word)
+use Rattle.std.proofs.lemmas.Bool.Decides.{nat_tests}
+use Rattle.mpw_wire.specs.Words.{words}
 
 abbrev is_space : ℕ → Bool
 is_space byte = byte == 0x20

@@ -1,9 +1,9 @@
 -- The name that a word of a line is.
 use Rattle.std.specs.Prelude.{ℕ, List, codes, Option, Some, None, option_and_then, if◌then◌else◌}
+use Rattle.mpw_geom.specs.Name.{is_visible_word}
 use Rattle.mpw_geom.specs.Names.{name_eq}
 use Rattle.mpw_wire.specs.declared.operand.Origin.{Origin}
 use Rattle.mpw_wire.specs.declared.operand.Origin.TheVariants.{Connection, Store}
-use Rattle.mpw_wire.specs.Words.{is_visible_word}
 
 -- a part, and then the next where there is one
 infixl 10 ◌>>=◌

@@ -4,6 +4,7 @@ use Rattle.std.specs.Prelude.{ℕ, Bool, true, false, List, [], ◌∷◌, lengt
 use Rattle.sha2.specs.Sha256.{sha256}
 use Rattle.std.specs.Result.{result_ok}
 use Rattle.hex.specs.Hex.{decode_sized}
+use Rattle.mpw_geom.specs.Name.{is_visible_word}
 use Rattle.mpw_text.specs.Text.{number_of, is_decimal}
 use Rattle.mpw_geom.specs.Names.{name_eq}
 use Rattle.mpw_geom.specs.declared.placing.Placing.{Placing}
@@ -31,7 +32,7 @@ use Rattle.mpw_wire.specs.declared.request.LineAsk.TheVariants as ask
 use Rattle.mpw_wire.specs.Placement.{orient_of, coordinate_of}
 use Rattle.mpw_wire.specs.Names.{◌>>=◌, name_of}
 use Rattle.mpw_wire.specs.Keys.{key_of}
-use Rattle.mpw_wire.specs.Words.{words, is_visible_word}
+use Rattle.mpw_wire.specs.Words.{words}
 
 -- the digest of the token that a word is
 unfoldable pub token_of : List ℕ → Option (List ℕ)

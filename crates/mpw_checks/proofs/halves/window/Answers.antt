@@ -1,7 +1,7 @@
 use Rattle.std.proofs.Common.{arith}
 use Rattle.std.proofs.lemmas.Int.{ints}
+use Rattle.mpw_geom.proofs.Boxes.{same_box}
 use Rattle.mpw_checks.specs.Internal.Cells.{window_of}
-use Rattle.mpw_checks.proofs.Halving.{same_box}
 use Rattle.mpw_checks.proofs.halves.window.Goals as goal
 
 pub returns : goal.returns

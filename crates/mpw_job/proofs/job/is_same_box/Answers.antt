@@ -1,4 +1,4 @@
-use Rattle.mpw_job.proofs.Same.{same_area}
+use Rattle.mpw_geom.proofs.Boxes.{same_area}
 use Rattle.mpw_job.proofs.job.is_same_box.Goals as goal
 
 pub returns : goal.returns

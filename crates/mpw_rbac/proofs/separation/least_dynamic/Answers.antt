@@ -1,7 +1,7 @@
 -- Each turn adds one holder.
-use Rattle.std.proofs.Common.{◌≡◌, ◌∙◌, ℕ, ◌+◌, sym, ap, subst, take, map, [], ◌∷◌, ◌≤◌, length, arith}
+use Rattle.std.proofs.Common.{◌≡◌, ◌∙◌, ◌+◌, sym, ap, subst, take, map, [], ◌∷◌, ◌≤◌, length, arith}
 use Rattle.std.specs.Option.{option_copied}
-use Rattle.mpw_separation.specs.Least.{lesser, IsLeast}
+use Rattle.mpw_geom.specs.Least.{lesser, IsLeast}
 use Rattle.mpw_separation.specs.Separation.{broken_names, least_broken}
 use Rattle.mpw_rbac.proofs.MaskedLemmas.{active_in, active-lists}
 use Rattle.mpw_rbac.proofs.HolderLemmas.{least-entry, least-all, least-nobody}

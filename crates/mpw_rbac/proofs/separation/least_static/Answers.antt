@@ -1,7 +1,7 @@
 -- Each turn adds one holder.
 use Rattle.std.proofs.Common.{◌≡◌, ◌∙◌, ℕ, ◌+◌, sym, ap, subst, take, List, [], ◌∷◌, ◌≤◌, length, arith}
 use Rattle.std.specs.Option.{option_copied}
-use Rattle.mpw_separation.specs.Least.{lesser, IsLeast}
+use Rattle.mpw_geom.specs.Least.{lesser, IsLeast}
 use Rattle.mpw_separation.specs.Separation.{broken_names, least_broken}
 use Rattle.mpw_rbac.specs.Policy.{assigned_lists}
 use Rattle.mpw_rbac.specs.declared.session.User.{User}

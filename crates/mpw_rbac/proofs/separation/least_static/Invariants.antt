@@ -1,6 +1,6 @@
 use Rattle.std.proofs.Common.{take}
 use Rattle.std.specs.Option.{option_copied}
-use Rattle.mpw_separation.specs.Least.{IsLeast}
+use Rattle.mpw_geom.specs.Least.{IsLeast}
 use Rattle.mpw_separation.specs.Separation.{broken_names}
 use Rattle.mpw_rbac.specs.Policy.{assigned_lists}
 use Rattle.mpw_rbac.proofs.separation.least_static.Given as goal

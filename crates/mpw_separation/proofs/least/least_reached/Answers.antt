@@ -2,7 +2,7 @@
 use Rattle.std.proofs.Common.{◌≡◌, ◌+◌, ◌∙◌, sym, ap, subst, cond, filter, take, Some}
 use Rattle.std.specs.Option.{option_copied}
 use Rattle.std.proofs.lemmas.List.{take_all}
-use Rattle.mpw_separation.specs.Least.{lesser, IsLeast}
+use Rattle.mpw_geom.specs.Least.{lesser, IsLeast}
 use Rattle.mpw_separation.specs.Separation.{is_reached, set_names}
 use Rattle.mpw_separation.proofs.BrokenLemmas.{least-turn, least-end}
 use Rattle.mpw_separation.proofs.least.least_reached.Goals as goal

@@ -1,6 +1,6 @@
 use Rattle.std.proofs.Common.{take, filter}
 use Rattle.std.specs.Option.{option_copied}
-use Rattle.mpw_separation.specs.Least.{IsLeast}
+use Rattle.mpw_geom.specs.Least.{IsLeast}
 use Rattle.mpw_separation.specs.Separation.{is_reached, set_names}
 use Rattle.mpw_separation.proofs.least.least_reached.Given as goal
 

@@ -1,4 +1,4 @@
-use Rattle.mpw_tiles.proofs.Looking.{same_area}
+use Rattle.mpw_geom.proofs.Boxes.{same_area}
 use Rattle.mpw_tiles.proofs.listing.is_same_area.Goals as goal
 
 pub returns : goal.returns

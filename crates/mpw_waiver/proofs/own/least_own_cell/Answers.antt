@@ -2,9 +2,10 @@ use Rattle.std.proofs.Common.{ℕ, ◌+◌, ◌∙◌, List, Option, ap, subst, 
 use Rattle.std.specs.List.{filter_map}
 use Rattle.std.specs.Option.{option_copied}
 use Rattle.std.proofs.lemmas.List.{take_all}
-use Rattle.mpw_waiver.specs.Internal.Least.{lesser, IsLeast}
+use Rattle.mpw_geom.specs.Least.{lesser, IsLeast}
+use Rattle.mpw_geom.proofs.LeastLemmas.{least-end}
 use Rattle.mpw_waiver.specs.Signing.{own_cell, own_cells, least_own_cell}
-use Rattle.mpw_waiver.proofs.Least.{least-turn, least-end}
+use Rattle.mpw_waiver.proofs.Least.{least-turn}
 use Rattle.mpw_waiver.proofs.own.least_own_cell.Goals as goal
 
 pub loop-number-preserved : goal.loop-number-preserved

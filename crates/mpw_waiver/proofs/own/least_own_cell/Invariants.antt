@@ -2,7 +2,7 @@ use Rattle.std.proofs.Common.{take}
 use Rattle.std.specs.Prelude.{slice_get}
 use Rattle.std.specs.List.{filter_map}
 use Rattle.std.specs.Option.{option_copied}
-use Rattle.mpw_waiver.specs.Internal.Least.{IsLeast}
+use Rattle.mpw_geom.specs.Least.{IsLeast}
 use Rattle.mpw_waiver.specs.Signing.{own_cell}
 use Rattle.mpw_waiver.proofs.own.least_own_cell.Given as goal
 

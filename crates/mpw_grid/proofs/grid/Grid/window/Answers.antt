@@ -1,8 +1,7 @@
-use Rattle.std.proofs.Common.{◌≡◌, ℕ, ap, arith}
+use Rattle.std.proofs.Common.{ap, arith}
 use Rattle.std.proofs.lemmas.Int.{ints}
+use Rattle.mpw_geom.proofs.Boxes.{same_box}
 use Rattle.mpw_geom.specs.declared.plane.Box2.{Box2}
-use Rattle.mpw_grid.specs.Grid.{core_of, window_of}
-use Rattle.mpw_grid.proofs.Cores.{same_box}
 use Rattle.mpw_grid.proofs.grid.Grid.window.Goals as goal
 
 pub overflow_sub-result : goal.overflow_sub-result

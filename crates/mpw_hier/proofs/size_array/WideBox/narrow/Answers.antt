@@ -1,6 +1,6 @@
 use Rattle.std.proofs.Common.{arith}
 use Rattle.std.proofs.lemmas.Int.{ints}
-use Rattle.mpw_shapes.proofs.Wires.{same_box}
+use Rattle.mpw_geom.proofs.Boxes.{same_box}
 use Rattle.mpw_hier.proofs.Nearness.{close_box}
 use Rattle.mpw_hier.proofs.size_array.WideBox.narrow.Goals as goal
 

@@ -1,6 +1,6 @@
 -- One holder, whose roles are found already.
 use Rattle.std.proofs.Common.{◌∙◌, sym, ap, filter}
-use Rattle.mpw_separation.specs.Least.{least_name}
+use Rattle.mpw_geom.specs.Least.{least_name}
 use Rattle.mpw_separation.specs.Separation.{is_reached, set_names, sets_of}
 use Rattle.mpw_separation.proofs.BrokenLemmas.{broken-one}
 use Rattle.mpw_separation.proofs.sets.Sets.first_broken_below.Goals as goal

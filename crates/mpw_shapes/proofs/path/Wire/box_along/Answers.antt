@@ -1,6 +1,7 @@
 use Rattle.std.proofs.Common.{arith}
 use Rattle.std.proofs.lemmas.Int.{ints}
-use Rattle.mpw_shapes.proofs.Wires.{same_box, wire_right, wire_left, wire_up, wire_down}
+use Rattle.mpw_geom.proofs.Boxes.{same_box}
+use Rattle.mpw_shapes.proofs.Wires.{wire_right, wire_left, wire_up, wire_down}
 use Rattle.mpw_shapes.proofs.path.Wire.box_along.Goals as goal
 
 pub returns-then-from-to-2 : goal.returns-then-from-to-2

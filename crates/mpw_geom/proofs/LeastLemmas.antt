@@ -1,5 +1,5 @@
 -- `least_name` is the least name, and the only one.
-use Rattle.std.proofs.Common.{◌≡◌, Bool, true, false, cond, ◌||◌, inl, inr, List, [], ◌∷◌, ◌++◌, map, Option, None, Some, refl, sym, ap, subst, ◌∙◌, true≢false}
+use Rattle.std.proofs.Common.{◌≡◌, ℕ, Bool, true, false, cond, ◌||◌, inl, inr, List, [], ◌∷◌, ◌++◌, map, Option, None, Some, refl, sym, ap, subst, ◌∙◌, true≢false}
 use Rattle.std.specs.Ordering.{is_lt, ordering_reverse}
 use Rattle.std.specs.declared.cmp.Ordering.{Ordering}
 use Rattle.std.specs.declared.cmp.Ordering.TheVariants.{Less, Equal, Greater}
@@ -7,11 +7,14 @@ use Rattle.std.specs.Cmp.{IsStrictWeakOrder}
 use Rattle.std.specs.Cmp.Lexicographic.{nat_list_cmp_total}
 use Rattle.std.specs.FinMap.{slice_cmp-IsAntisymmetric, nat_cmp-IsAntisymmetric}
 use Rattle.std.specs.FinMap.Entries.{by_order, put}
+use Rattle.std.proofs.lemmas.List.Folds.{list_any-append}
 use Rattle.std.proofs.lemmas.List.MinMax.{ranks_by}
 use Rattle.mpw_geom.specs.Names.{name_eq, name_cmp, contains_name, placed_by_name}
-use Rattle.mpw_roles.specs.Hierarchy.{Name}
-use Rattle.mpw_roles.proofs.CallerLemmas.{same_name, name_eq-refl, or_right, or_cases, contains-append}
-use Rattle.mpw_separation.specs.Least.{first_name, least_name, lesser, IsLeast}
+use Rattle.mpw_geom.specs.Least.{first_name, least_name, lesser, IsLeast}
+use Rattle.mpw_geom.proofs.Linked.{same_name, name_eq-refl, or_right, or_cases}
+
+abbrev Name : Type 0
+Name = List ℕ
 
 abbrev less : Name → Name → Bool
 less a b = is_lt (name_cmp a b)
@@ -23,7 +26,7 @@ refuted : (b : Bool) → (b ≡ true → ⊥) → b ≡ false
 refuted true never = absurd (never refl)
 refuted false never = refl
 
-not_both : (b : Bool) → b ≡ true → b ≡ false → ⊥
+pub not_both : (b : Bool) → b ≡ true → b ≡ false → ⊥
 not_both b is other = true≢false (sym is ∙ other)
 
 not_itself : (a : Name) → less a a ≡ false
@@ -102,6 +105,9 @@ least-only ns None (Some b) p q = absurd (not_both (contains_name ns b) q.0 (p b
 least-only ns (Some a) None p q = absurd (not_both (contains_name ns a) p.0 (q a))
 least-only ns (Some a) (Some b) p q = ap Some (tied a b (q.1 a p.0) (p.1 b q.0))
 
+pub least-end : (ns : List Name) (o : Option Name) → IsLeast ns o → o ≡ least_name ns
+least-end ns o least = least-only ns o (least_name ns) least (least-is ns)
+
 or_none : (a b : Bool) → a ≡ false → b ≡ false → (a || b) ≡ false
 or_none a b p q = λ i. (p i) || (q i)
 
@@ -148,4 +154,4 @@ least-one n = least-earlier n [] None (λ m. refl)
 pub least-push : (ns : List Name) (n : Name) (o : Option Name) → IsLeast ns o
     → IsLeast (ns ++ n ∷ []) (lesser o (Some n))
 least-push ns n o least = least-both ns (n ∷ []) (ns ++ n ∷ []) o (Some n)
-    (contains-append ns (n ∷ [])) least (least-one n)
+    (λ m. list_any-append (name_eq m) ns (n ∷ [])) least (least-one n)
