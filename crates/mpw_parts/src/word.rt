@@ -65,7 +65,7 @@ pub(crate) fn axis(word: &[u8]) -> Option<Axis>
 }
 
 /// The name that a word is.
-#[tactic(auto, using(crate::proofs::WordLemmas::read_word, crate::proofs::WordLemmas::refused_word), unfolding(crate::specs::Reading::name_of))]
+#[tactic(auto, using(mpw_geom::proofs::NameLemmas::read_word, mpw_geom::proofs::NameLemmas::refused_word), unfolding(crate::specs::Reading::name_of))]
 pub(crate) fn name(alloc: Global, word: &[u8]) -> Result<Option<Name>, AllocError>
     ensures { IfOk result (λ name. name ≡ name_of word.now) }
 {

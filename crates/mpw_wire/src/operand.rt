@@ -33,7 +33,7 @@ pub(crate) fn is(word: &[u8], text: &str) -> bool
 }
 
 /// The name of these bytes.
-#[tactic(auto, using(crate::proofs::WordLemmas::read_word, crate::proofs::WordLemmas::refused_word), unfolding(crate::specs::Names::visible_of))]
+#[tactic(auto, using(mpw_geom::proofs::NameLemmas::read_word, mpw_geom::proofs::NameLemmas::refused_word), unfolding(crate::specs::Names::visible_of))]
 fn visible(alloc: Global, word: &[u8]) -> Result<Option<Name>, AllocError>
     ensures { IfOk result (λ name. name ≡ visible_of word.now) }
 {
@@ -61,7 +61,7 @@ pub(crate) fn name(alloc: Global, origin: Origin, word: &[u8]) -> Result<Option<
 }
 
 /// The digest of the token that a word is.
-#[tactic(auto, using(crate::proofs::WordLemmas::read_word, crate::proofs::WordLemmas::refused_word), unfolding(crate::specs::Request::token_of))]
+#[tactic(auto, using(mpw_geom::proofs::NameLemmas::read_word, mpw_geom::proofs::NameLemmas::refused_word), unfolding(crate::specs::Request::token_of))]
 fn token(word: &[u8]) -> Option<Digest>
     ensures { result ≡ token_of word.now }
 {
