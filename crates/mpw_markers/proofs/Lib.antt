@@ -1,4 +1,3 @@
-
 pub mod Order
 pub mod Marked
 mod Gathered
