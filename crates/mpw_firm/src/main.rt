@@ -7,6 +7,7 @@ mod cause;
 mod fault;
 mod listing;
 mod options;
+mod place;
 mod progress;
 mod report;
 mod sentences;

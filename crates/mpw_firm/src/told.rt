@@ -1,10 +1,12 @@
 //! What is told on the standard error.
 
 use crate::fault::FirmFault;
+use crate::place::structure_at;
 use crate::sentences::{of_deck, of_library, of_structure};
 use mpw_check::CheckFault;
 use mpw_deck::{DeckFault, DeckKind};
 use mpw_geom::Names;
+use mpw_records::ReadFault;
 use std::alloc::Global;
 
 /// The names, with a space before each.
@@ -37,6 +39,20 @@ fn outside(alloc: Global, file: &str, names: &Names) -> Result<String, FirmFault
     )?)
 }
 
+/// What is told of a fault of a library's records: the code and the byte, the structure, and what it means.
+fn library_fault(
+    alloc: Global,
+    file: &str,
+    fault: ReadFault,
+    text: &[u8],
+) -> Result<String, FirmFault> {
+    let sentence = of_library(fault, text);
+    match structure_at(alloc, text, fault.offset) {
+        Some(name) => Ok(format!(in alloc; "{file}: {fault} in {name}: {sentence}")?),
+        None => Ok(format!(in alloc; "{file}: {fault}: {sentence}")?),
+    }
+}
+
 /// What is told of the fault of a library of that text.
 fn text_of(
     alloc: Global,
@@ -47,10 +63,7 @@ fn text_of(
 ) -> Result<String, FirmFault> {
     match fault {
         CheckFault::Memory => Err(FirmFault::Memory),
-        CheckFault::Library(fault) => {
-            let sentence = of_library(*fault, text);
-            Ok(format!(in alloc; "{file}: {fault}: {sentence}")?)
-        }
+        CheckFault::Library(fault) => library_fault(alloc, file, *fault, text),
         CheckFault::Outside(names) => outside(alloc, file, names),
         CheckFault::Structure(fault) => {
             let sentence = of_structure(*fault);
