@@ -4,6 +4,7 @@ use Rattle.std.specs.Prelude.{is_ok, option_map}
 use Rattle.std.specs.List.{position, position_or_len}
 use Rattle.std.specs.Option.{option_map_or}
 use Rattle.std.proofs.lemmas.Option.{slice_get_within}
+use Rattle.mpw_geom.specs.Least.{first_name}
 use Rattle.mpw_geom.specs.Names.{name_eq}
 use Rattle.mpw_deck.specs.declared.rule.Rule.{Rule}
 use Rattle.mpw_hier.specs.declared.submission.Submission.{Submission}
@@ -200,7 +201,7 @@ ask_seen marker = signing.passes (ask_test marker.waiver)
 abbrev sign_at : List Name → Name → Option Waiver → Result (Unit {0}) WaiverFault
 sign_at own who None = Err fault.NoWaiver
 sign_at own who (Some waiver) = cond (is_some waiver.signer) (Err fault.Known)
-    (separation_test (slice_get own 0) waiver.asker who)
+    (separation_test (first_name own) waiver.asker who)
 
 abbrev sign_seen : Name → Test
 sign_seen who marker = signing.passes (sign_at marker.own who marker.waiver)
