@@ -11,6 +11,7 @@ pub mod KeepLemmas
 pub mod LawLemmas
 pub mod MaskedLemmas
 pub mod ObjectLemmas
+pub mod PlacedLemmas
 pub mod RowLemmas
 pub mod RowTests
 pub mod SeparationLemmas

@@ -159,12 +159,12 @@ active-cons : (h : Hierarchy) (conn : ℕ) (a : Active) (es : List (ℕ × Activ
 active-cons h conn a es here rest =
     below-cons h a.session.active (active_lists (sessions_in es)) a.acting (masks_in es) here rest
 
-active-head : (h : Hierarchy) (e : ℕ × Active) (es : List (ℕ × Active)) → AreActive h (e ∷ es)
+pub active-head : (h : Hierarchy) (e : ℕ × Active) (es : List (ℕ × Active)) → AreActive h (e ∷ es)
     → IsBelow h e.1.session.active e.1.acting
 active-head h e es w =
     below-head h e.1.session.active (active_lists (sessions_in es)) e.1.acting (masks_in es) w
 
-active-tail : (h : Hierarchy) (e : ℕ × Active) (es : List (ℕ × Active)) → AreActive h (e ∷ es)
+pub active-tail : (h : Hierarchy) (e : ℕ × Active) (es : List (ℕ × Active)) → AreActive h (e ∷ es)
     → AreActive h es
 active-tail h e es w =
     below-tail h e.1.session.active (active_lists (sessions_in es)) e.1.acting (masks_in es) w

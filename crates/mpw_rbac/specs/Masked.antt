@@ -1,11 +1,11 @@
--- The masks that stand beside users and sessions: the places of the roles that each user is authorized for, and of those that
--- act in each session.
+-- The masks that stand beside users, sessions and sets: the places of the roles that each user is authorized for, of those that
+-- act in each session, and of each set's own roles.
 use Rattle.std.specs.Prelude.{◌≡◌, ℕ, ◌<◌, List, length, map, slice_index_or, []}
-use Rattle.mpw_roles.specs.Hierarchy.{Name, Hierarchy}
-use Rattle.mpw_roles.specs.Mask.{has}
-use Rattle.mpw_roles.specs.Places.{is_place_below, mask_at}
+use Rattle.mpw_roles.specs.Hierarchy.{Name, Hierarchy, role_names}
+use Rattle.mpw_roles.specs.Places.{mask_at}
 use Rattle.mpw_roles.specs.declared.mask.Mask.{Mask}
-use Rattle.mpw_separation.specs.Separation.{Sets}
+use Rattle.mpw_separation.specs.Placed.{KeptSets, AreSetsPlaced}
+pub use Rattle.mpw_separation.specs.Placed.{IsBelow}
 use Rattle.mpw_rbac.specs.declared.active.Active.{Active}
 use Rattle.mpw_rbac.specs.declared.permission.Grant.{Grant}
 use Rattle.mpw_rbac.specs.declared.session.Session.{Session}
@@ -29,11 +29,6 @@ sessions_in entries = map (λ (entry : ℕ × Active). (entry.0, entry.1.session
 abbrev pub masks_in : List (ℕ × Active) → List Mask
 masks_in entries = map (λ (entry : ℕ × Active). entry.1.acting) entries
 
--- the mask has the places of the roles at or below the seniors, and no other
-abbrev pub IsBelow : Hierarchy → List Name → Mask → Type 0
-IsBelow hierarchy seniors mask =
-    (place : ℕ) → has mask place ≡ is_place_below hierarchy seniors place
-
 -- the mask at the place of each list of seniors is theirs
 pub record AreBelow (hierarchy : Hierarchy) (lists : List (List Name)) (masks : List Mask) :
     Type 0 where
@@ -53,9 +48,10 @@ pub record AreUsers (hierarchy : Hierarchy) (table : List (Name × User)) (kept 
   pub same : kept.users ≡ table
   pub masks : AreAuthorized hierarchy kept
 
--- what every policy keeps: it is sound, and the masks beside its users and its sessions are theirs
-pub record IsPolicy (users : KeptUsers) (roles : Hierarchy) (granted : List Grant) (sets : Sets)
+-- what every policy keeps: it is sound, and the masks beside its users, its sets and its sessions are theirs
+pub record IsPolicy (users : KeptUsers) (roles : Hierarchy) (granted : List Grant) (sets : KeptSets)
     (sessions : KeptSessions) : Type 0 where
-  pub sound : Sound (policy_of users.users roles granted sets sessions.sessions)
+  pub sound : Sound (policy_of users.users roles granted sets.sets sessions.sessions)
   pub authorized : AreAuthorized roles users
   pub acting : AreActing roles sessions
+  pub placed : AreSetsPlaced (role_names roles) sets

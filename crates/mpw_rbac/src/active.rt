@@ -6,7 +6,7 @@ ghost use Rattle.std.specs.Prelude.{◌≡◌, true, not, ◌==◌, [], IfOk, On
 ghost use Rattle.std.specs.Option.{option_copied, option_map_or};
 ghost use Rattle.indexmap.specs.IndexMap.{insert_entry};
 ghost use Rattle.mpw_roles.specs.Hierarchy.{Hierarchy};
-ghost use Rattle.mpw_rbac.specs.Masked.{IsBelow, AreActing, AreAuthorized, sessions_in};
+ghost use Rattle.mpw_rbac.specs.Masked.{IsBelow, AreActing, AreAuthorized, sessions_in, masks_in};
 ghost use Rattle.mpw_rbac.specs.Policy.{is_user, kept_roles, kept_sessions};
 ghost use Rattle.mpw_rbac.specs.Internal.Policy.{users_and_roles};
 ghost use Rattle.mpw_rbac.specs.Table.{value_at, without_key};
@@ -88,7 +88,8 @@ impl Sessions {
 
     /// The sessions by connection, with their masks.
     pub(crate) fn table(&self) -> &IndexMap<u32, Active>
-        ensures { sessions_in result.now.entries ≡ self.now.sessions }
+        ensures sessions { sessions_in result.now.entries ≡ self.now.sessions }
+        ensures masks { masks_in result.now.entries ≡ self.now.masks }
     {
         &self.table
     }

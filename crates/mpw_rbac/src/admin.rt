@@ -11,6 +11,7 @@ ghost use Rattle.mpw_rbac.specs.Table.{without_key};
 
 use crate::hierarchy::{with_role, without_role};
 use crate::permissions::Permissions;
+use crate::separation::first_broken;
 use crate::{Digest, Grant, Policy, PolicyFault, Refusal, User};
 use mpw_geom::{Name, Names};
 use mpw_separation::Kind;
@@ -75,6 +76,7 @@ impl Policy {
         let roles = permissions.roles();
         let users = self.users.among(roles)?;
         self.sessions.remask(roles);
+        self.sets.place(roles);
         self.users = users;
         self.permissions = permissions;
         Ok(())
@@ -101,6 +103,7 @@ impl Policy {
         let roles = permissions.roles();
         let users = self.users.unassigned(roles, role)?;
         self.sessions.trim(&users, roles);
+        self.sets.place(roles);
         self.users = users;
         self.permissions = permissions;
         Ok(())
@@ -187,15 +190,14 @@ impl Policy {
     fn broken_by_assigned(&self, assigned: &[Name]) -> Option<&Name>
         ensures { option_copied result ≡ least_broken self.now.roles self.now.ssd (assigned.now ∷ []) }
     {
-        self.sets
-            .first_broken(Kind::Static, self.permissions.roles(), assigned)
+        first_broken(&self.sets, Kind::Static, self.permissions.roles(), assigned)
     }
 
     /// Whether the role is one of a separation set.
     fn is_used(&self, role: &Name) -> bool
         ensures { result ≡ (uses_role self.now.ssd role.now || uses_role self.now.dsd role.now) }
     {
-        self.sets.uses(role)
+        self.sets.sets().uses(role)
     }
 
     /// Grants an operation on an object to a role (GrantPermission). It costs a copy of the grants, and of the masks of

@@ -2,6 +2,7 @@
 ghost use Rattle.std.specs.Prelude.{◌≡◌, [], ◌∷◌, map, IfOk, IfErr, OnOk, OnErr, Ok, Err};
 ghost use Rattle.std.specs.Option.{option_copied};
 ghost use Rattle.mpw_separation.specs.Separation.{least_broken};
+ghost use Rattle.mpw_roles.specs.Hierarchy.{role_names};
 ghost use Rattle.mpw_roles.specs.Rows as hierarchy;
 ghost use Rattle.mpw_rbac.specs.Internal.Fault.{IsHierarchyFault};
 ghost use Rattle.mpw_rbac.specs.Policy.{assigned_lists, active_lists};
@@ -116,15 +117,17 @@ impl Policy {
         Ok(())
     }
 
-    /// The least name of the static sets that some user would break in another hierarchy.
+    /// The least name of the static sets that some user would break in another hierarchy of the same roles.
     fn broken_static(&self, roles: &Roles) -> Option<&Name>
+        requires { role_names roles.now ≡ role_names self.now.roles }
         ensures { option_copied result ≡ least_broken roles.now self.now.ssd (assigned_lists self.now.users) }
     {
         least_static(&self.sets, roles, self.users.table())
     }
 
-    /// The least name of the dynamic sets that some session would break in another hierarchy.
+    /// The least name of the dynamic sets that some session would break in another hierarchy of the same roles.
     fn broken_dynamic(&self, roles: &Roles) -> Option<&Name>
+        requires { role_names roles.now ≡ role_names self.now.roles }
         ensures { option_copied result ≡ least_broken roles.now self.now.dsd (active_lists self.now.sessions) }
     {
         least_dynamic(&self.sets, roles, self.sessions.table())

@@ -19,7 +19,7 @@ use crate::{Digest, Grant, Identity, Object, Operation, PolicyFault, Refusal, Se
 use indexmap::IndexMap;
 use mpw_geom::{Name, Names};
 use mpw_roles::Roles;
-use mpw_separation::Sets;
+use mpw_separation::PlacedSets;
 use std::alloc::{AllocError, Global};
 use std::marker::Model;
 
@@ -34,7 +34,7 @@ pub const MAX_GRANTS: usize = 4096;
 pub struct Policy {
     pub(crate) users: Users,
     pub(crate) permissions: Permissions,
-    pub(crate) sets: Sets,
+    pub(crate) sets: PlacedSets,
     pub(crate) sessions: Sessions,
 }
 
@@ -44,7 +44,7 @@ impl Model for Policy {
 
     ghost Value = { PolicyState };
 
-    ghost view = { λ p. policy_of p.users.users p.permissions.roles p.permissions.granted p.sets p.sessions.sessions };
+    ghost view = { λ p. policy_of p.users.users p.permissions.roles p.permissions.granted p.sets.sets p.sessions.sessions };
 
     ghost invariant = { λ p. IsPolicy p.users p.permissions.roles p.permissions.granted p.sets p.sessions };
 }
@@ -156,7 +156,7 @@ impl Policy {
         Ok(Policy {
             users,
             permissions,
-            sets: Sets::new(alloc),
+            sets: PlacedSets::new(alloc),
             sessions: Sessions::new(alloc),
         })
     }

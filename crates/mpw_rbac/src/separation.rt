@@ -2,84 +2,109 @@
 ghost use Rattle.std.specs.Prelude.{◌≡◌, [], ◌∷◌, map, IfErr, OnOk, OnErr, Ok, Err};
 ghost use Rattle.std.specs.List.{list_all};
 ghost use Rattle.std.specs.Option.{option_copied};
-ghost use Rattle.mpw_roles.specs.Hierarchy.{is_role};
-ghost use Rattle.mpw_separation.specs.Separation.{least_broken, is_broken, has_set};
-ghost use Rattle.mpw_rbac.specs.Masked.{sessions_in};
+ghost use Rattle.mpw_roles.specs.Hierarchy.{is_role, role_names};
+ghost use Rattle.mpw_separation.specs.Placed.{AreSetsPlaced};
+ghost use Rattle.mpw_separation.specs.Separation.{sets_of, least_broken, is_broken, has_set};
+ghost use Rattle.mpw_rbac.specs.Masked.{AreAuthorized, AreBelow, sessions_in, masks_in};
 ghost use Rattle.mpw_rbac.specs.Policy.{assigned_lists, active_lists};
 ghost use Rattle.mpw_rbac.specs.Rows.{IsFaultOf};
 ghost use Rattle.mpw_rbac.specs.Rows as rows;
 
 use crate::active::Active;
+use crate::users::Users;
 use crate::{Policy, PolicyFault, Refusal, User};
 use indexmap::IndexMap;
 use mpw_geom::Name;
 use mpw_roles::Roles;
-use mpw_separation::{Kind, SeparationSet, Sets, lesser};
+use mpw_separation::{Kind, PlacedSets, SeparationSet, lesser};
 
-/// The least name of the static sets that some user breaks. It takes no memory, and costs a search of the hierarchy
-/// for each user.
+/// The least name of the sets of the kind that some seniors break: a look-up for each of these, and an `and` of eight words for
+/// each set.
+pub(crate) fn first_broken<'a>(
+    sets: &'a PlacedSets,
+    kind: Kind,
+    roles: &Roles,
+    seniors: &[Name],
+) -> Option<&'a Name>
+    requires { AreSetsPlaced (role_names roles.now) sets.now }
+    ensures { option_copied result ≡ least_broken roles.now (sets_of kind sets.now.sets) (seniors.now ∷ []) }
+{
+    roles.is_hierarchy();
+    let below = roles.mask_below(seniors);
+    sets.first_broken(kind, &below)
+}
+
+/// The least name of the static sets that some user breaks. It takes no memory, and costs a look-up for each assigned role, and
+/// an `and` of eight words for each user and set.
 pub(crate) fn least_static<'a>(
-    sets: &'a Sets,
+    sets: &'a PlacedSets,
     roles: &Roles,
     users: &IndexMap<Name, User>,
 ) -> Option<&'a Name>
-    ensures { option_copied result ≡ least_broken roles.now sets.now.ssd (assigned_lists users.now.entries) }
+    requires { AreSetsPlaced (role_names roles.now) sets.now }
+    ensures { option_copied result ≡ least_broken roles.now sets.now.sets.ssd (assigned_lists users.now.entries) }
 {
     let mut least = None;
     for index in 0..users.len() {
         let Some((_, user)) = users.get_index(index) else {
             return least;
         };
-        let broken = sets.first_broken(Kind::Static, roles, user.roles.as_slice());
+        let broken = first_broken(sets, Kind::Static, roles, user.roles.as_slice());
         least = lesser(least, broken);
     }
     least
 }
 
-/// The least name of the dynamic sets that some session breaks. It takes no memory, and costs a search of the hierarchy
-/// for each session.
+/// The least name of the dynamic sets that some session breaks. It takes no memory, and costs a look-up for each active role, and
+/// an `and` of eight words for each session and set.
 pub(crate) fn least_dynamic<'a>(
-    sets: &'a Sets,
+    sets: &'a PlacedSets,
     roles: &Roles,
     sessions: &IndexMap<u32, Active>,
 ) -> Option<&'a Name>
-    ensures { option_copied result ≡ least_broken roles.now sets.now.dsd (active_lists (sessions_in sessions.now.entries)) }
+    requires { AreSetsPlaced (role_names roles.now) sets.now }
+    ensures { option_copied result ≡ least_broken roles.now sets.now.sets.dsd (active_lists (sessions_in sessions.now.entries)) }
 {
     let mut least = None;
     for index in 0..sessions.len() {
         let Some((_, active)) = sessions.get_index(index) else {
             return least;
         };
-        let broken = sets.first_broken(Kind::Dynamic, roles, active.session.active.as_slice());
+        let broken = first_broken(sets, Kind::Dynamic, roles, active.session.active.as_slice());
         least = lesser(least, broken);
     }
     least
 }
 
-/// Whether some user breaks the set. It takes no memory, and costs a search of the hierarchy for each user.
-fn breaks_a_user(set: &SeparationSet, roles: &Roles, users: &IndexMap<Name, User>) -> bool
-    ensures { result ≡ is_broken roles.now (assigned_lists users.now.entries) set.now }
+/// Whether some user breaks the set. It takes no memory, and costs a look-up for each role of the set, and an `and` of eight
+/// words for each user.
+fn breaks_a_user(set: &SeparationSet, roles: &Roles, users: &Users) -> bool
+    requires { AreAuthorized roles.now users.now }
+    ensures { result ≡ is_broken roles.now (assigned_lists users.now.users) set.now }
 {
-    for index in 0..users.len() {
-        let Some((_, user)) = users.get_index(index) else {
-            return false;
-        };
-        if set.is_broken(roles, user.roles.as_slice()) {
+    roles.is_hierarchy();
+    let own = roles.places(set.roles());
+    for authorized in users.masks() {
+        if set.is_broken_at(&own, authorized) {
             return true;
         }
     }
     false
 }
 
-/// Whether some session breaks the set. It takes no memory, and costs a search of the hierarchy for each session.
+/// Whether some session breaks the set. It takes no memory, and costs a look-up for each role of the set, and an `and` of eight
+/// words for each session.
 fn breaks_a_session(set: &SeparationSet, roles: &Roles, sessions: &IndexMap<u32, Active>) -> bool
+    requires { AreBelow roles.now (active_lists (sessions_in sessions.now.entries)) (masks_in sessions.now.entries) }
     ensures { result ≡ is_broken roles.now (active_lists (sessions_in sessions.now.entries)) set.now }
 {
+    roles.is_hierarchy();
+    let own = roles.places(set.roles());
     for index in 0..sessions.len() {
         let Some((_, active)) = sessions.get_index(index) else {
             return false;
         };
-        if set.is_broken(roles, active.session.active.as_slice()) {
+        if set.is_broken_at(&own, &active.acting) {
             return true;
         }
     }
@@ -107,7 +132,7 @@ impl Policy {
         if self.is_broken_by_users(&set) {
             return Err(PolicyFault::Refused(Refusal::Ssd(set.into_name())));
         }
-        self.sets.make_ssd(set)?;
+        self.sets.make_ssd(self.permissions.roles(), set)?;
         Ok(())
     }
 
@@ -131,7 +156,7 @@ impl Policy {
         if self.is_broken_by_sessions(&set) {
             return Err(PolicyFault::Refused(Refusal::Dsd(set.into_name())));
         }
-        self.sets.make_dsd(set)?;
+        self.sets.make_dsd(self.permissions.roles(), set)?;
         Ok(())
     }
 
@@ -145,7 +170,7 @@ impl Policy {
         ensures err { OnErr result (self.new ≡ self.old) }
     {
         self.administers(conn)?;
-        self.sets.remove_ssd(name)?;
+        self.sets.remove_ssd(self.permissions.roles(), name)?;
         Ok(())
     }
 
@@ -159,7 +184,7 @@ impl Policy {
         ensures err { OnErr result (self.new ≡ self.old) }
     {
         self.administers(conn)?;
-        self.sets.remove_dsd(name)?;
+        self.sets.remove_dsd(self.permissions.roles(), name)?;
         Ok(())
     }
 
@@ -167,14 +192,14 @@ impl Policy {
     fn has_ssd(&self, name: &Name) -> bool
         ensures { result ≡ has_set self.now.ssd name.now }
     {
-        self.sets.contains(Kind::Static, name)
+        self.sets.sets().contains(Kind::Static, name)
     }
 
     /// Whether a dynamic set has the name.
     fn has_dsd(&self, name: &Name) -> bool
         ensures { result ≡ has_set self.now.dsd name.now }
     {
-        self.sets.contains(Kind::Dynamic, name)
+        self.sets.sets().contains(Kind::Dynamic, name)
     }
 
     /// Whether each of the names is a role.
@@ -192,7 +217,7 @@ impl Policy {
     fn is_broken_by_users(&self, set: &SeparationSet) -> bool
         ensures { result ≡ is_broken self.now.roles (assigned_lists self.now.users) set.now }
     {
-        breaks_a_user(set, self.permissions.roles(), self.users.table())
+        breaks_a_user(set, self.permissions.roles(), &self.users)
     }
 
     /// Whether some session breaks the set.

@@ -223,8 +223,8 @@ impl Policy {
     fn broken_by_active(&self, active: &Active) -> Option<&Name>
         ensures { IsBelow self.now.roles active.now.session.active active.now.acting → option_copied result ≡ least_broken self.now.roles self.now.dsd (active.now.session.active ∷ []) }
     {
-        let below = self.permissions.roles().at_places(&active.acting);
-        self.sets.first_broken_below(Kind::Dynamic, &below)
+        self.permissions.roles().is_hierarchy();
+        self.sets.first_broken(Kind::Dynamic, &active.acting)
     }
 
     /// The roles that a user is authorized for: a look-up.

@@ -127,6 +127,13 @@ impl Users {
         &self.table
     }
 
+    /// The masks of the users, each at its user's place.
+    pub(crate) fn masks(&self) -> &[Mask]
+        ensures { result.now ≡ self.now.masks }
+    {
+        self.masks.as_slice()
+    }
+
     /// The places of the roles that a user is authorized for; none where there is no such user.
     pub(crate) fn authorized(&self, user: &Name) -> Mask
         ensures { (h : Hierarchy) → AreAuthorized h self.now → IsBelow h (assigned_roles (users_and_roles self.now.users h) user.now) result }

@@ -1,7 +1,9 @@
 pub mod CallerLemmas
+pub mod CommonLemmas
 pub mod HierarchyLemmas
 pub mod MarksLemmas
 pub mod MaskLemmas
+pub mod NamedLemmas
 pub mod PlacesLemmas
 pub mod SearchLemmas
 pub mod TableLemmas

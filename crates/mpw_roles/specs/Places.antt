@@ -1,5 +1,6 @@
 -- The place of a role is where it stands in the order of the roles. Masks hold places.
 use Rattle.std.specs.Prelude.{◌≡◌, ℕ, zero, suc, ◌≤◌, ◌<◌, Bool, ◌&&◌, List, [], ◌∷◌, length, nat_lt, slice_index_or}
+use Rattle.mpw_geom.specs.Names.{contains_name}
 use Rattle.mpw_roles.specs.Hierarchy.{Name, Hierarchy, role_names}
 use Rattle.mpw_roles.specs.Marks.{Marks}
 use Rattle.mpw_roles.specs.Mask.{has}
@@ -19,6 +20,11 @@ is_place_under hierarchy senior place =
 abbrev pub is_place_below : Hierarchy → List Name → ℕ → Bool
 is_place_below hierarchy seniors place =
     nat_lt place (length hierarchy) && is_below hierarchy seniors (name_at hierarchy place)
+
+-- whether the place, among these roles, is that of one of the names
+abbrev pub is_place_of : List Name → List Name → ℕ → Bool
+is_place_of roles names place =
+    nat_lt place (length roles) && contains_name names (slice_index_or roles place [])
 
 -- the marks of so many places from one on
 abbrev pub marks_from : ℕ → ℕ → Mask → Marks

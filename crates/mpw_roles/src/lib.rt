@@ -11,6 +11,7 @@ mod below;
 mod fault;
 mod laws;
 mod mask;
+mod places;
 mod roles;
 mod search;
 

@@ -1,6 +1,6 @@
 //! Sets of places, 512 at most, as the bits of eight words.
 ghost use Rattle.std.specs.Prelude.{◌≡◌, ℕ, ◌<◌, true, false, ◌||◌, ◌&&◌, ◌==◌, not};
-ghost use Rattle.mpw_roles.specs.Mask.{has};
+ghost use Rattle.mpw_roles.specs.Mask.{has, common};
 
 /// The number of words.
 const WORDS: usize = 8;
@@ -68,5 +68,16 @@ impl Mask {
             }
         }
         false
+    }
+
+    /// How many places are in both sets: an `and` and a count of ones for each word.
+    pub fn common(&self, other: &Mask) -> usize
+        ensures { result ≡ common self.now other.now }
+    {
+        let mut count = 0;
+        'words: for k in 0..WORDS {
+            count += (self.words[k] & other.words[k]).count_ones() as usize;
+        }
+        count
     }
 }

@@ -5,9 +5,10 @@ ghost use Rattle.mpw_geom.specs.Names.{name_eq, without_name, by_name};
 ghost use Rattle.mpw_roles.specs.Hierarchy.{Name as RoleName, Hierarchy, role_names, with_pair, is_role, is_immediate, immediate_juniors};
 ghost use Rattle.mpw_roles.specs.Mask.{has};
 ghost use Rattle.mpw_roles.specs.Order.{at_least, roles_below, IsHierarchy};
-ghost use Rattle.mpw_roles.specs.Places.{mask_at, is_place_under, is_place_below, IsMasked};
+ghost use Rattle.mpw_roles.specs.Places.{mask_at, is_place_under, is_place_below, is_place_of, IsMasked};
 ghost use Rattle.mpw_roles.specs.Rows as rows;
 
+use crate::places::places_of;
 use crate::search::remask;
 use crate::{Below, Mask, RolesFault};
 use indexmap::IndexMap;
@@ -288,6 +289,13 @@ impl Roles {
         ensures small { IfSome result (λ place. place < 512) }
     {
         self.table.get_index_of(role)
+    }
+
+    /// The places of those names that are roles. It takes no memory, and costs a look-up for each name.
+    pub fn places(&self, names: &[Name]) -> Mask
+        ensures { (place : ℕ) → has result place ≡ is_place_of (role_names self.now) names.now place }
+    {
+        places_of(&self.table, names)
     }
 
     /// The places of the roles at or below a role; of a name that is no role none. A look-up.

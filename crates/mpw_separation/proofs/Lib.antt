@@ -1,1 +1,2 @@
 pub mod BrokenLemmas
+pub mod PlacedLemmas

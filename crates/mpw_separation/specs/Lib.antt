@@ -1,3 +1,4 @@
+pub mod Placed
 pub mod Rows
 pub mod Separation
 pub mod Set

@@ -1,12 +1,15 @@
 //! The least of some names.
-ghost use Rattle.std.specs.Prelude.{◌≡◌, filter, map};
+ghost use Rattle.std.specs.Prelude.{◌≡◌, ◌≤◌, ℕ, List, length, filter, map};
 ghost use Rattle.std.specs.Option.{option_copied};
 ghost use Rattle.mpw_geom.specs.Least.{lesser, least_name};
-ghost use Rattle.mpw_separation.specs.Separation.{is_reached, set_names};
+ghost use Rattle.mpw_roles.specs.Hierarchy.{Hierarchy, role_names};
+ghost use Rattle.mpw_roles.specs.Order.{IsHierarchy};
+ghost use Rattle.mpw_separation.specs.Placed.{ArePlaced, IsBelow};
+ghost use Rattle.mpw_separation.specs.Separation.{breaks, is_reached, set_names};
 
 use crate::SeparationSet;
 use mpw_geom::Name;
-use mpw_roles::Below;
+use mpw_roles::{Below, Mask};
 use std::cmp::Ordering;
 
 /// The lesser of two names, of those that are there.
@@ -30,6 +33,26 @@ pub(crate) fn least_reached<'a>(sets: &'a [SeparationSet], below: &Below) -> Opt
     let mut least = None;
     for set in sets {
         if set.is_reached(below) {
+            least = lesser(least, Some(set.name()));
+        }
+    }
+    least
+}
+
+/// The least name of the sets that some seniors break, from the places of each set's roles and those of the roles at or below
+/// the seniors.
+pub(crate) fn least_placed<'a>(
+    sets: &'a [SeparationSet],
+    masks: &[Mask],
+    below: &Mask,
+) -> Option<&'a Name>
+    requires { length sets.now ≤ length masks.now }
+    ensures { (h : Hierarchy) (seniors : List (List ℕ)) → IsHierarchy h → ArePlaced (role_names h) sets.now masks.now → IsBelow h seniors below.now → option_copied result ≡ least_name (set_names (filter (breaks h seniors) sets.now)) }
+{
+    let mut least = None;
+    for index in 0..sets.len() {
+        let set = &sets[index];
+        if set.is_broken_at(&masks[index], below) {
             least = lesser(least, Some(set.name()));
         }
     }

@@ -1,13 +1,14 @@
 //! One set of roles, and whether it is broken.
 ghost use Rattle.std.specs.Prelude.{◌≡◌, ℕ, List, true, nat_le, count_by, IfOk};
 ghost use Rattle.mpw_geom.specs.Names.{contains_name};
-ghost use Rattle.mpw_roles.specs.Hierarchy.{Hierarchy};
-ghost use Rattle.mpw_roles.specs.Order.{roles_below};
+ghost use Rattle.mpw_roles.specs.Hierarchy.{Hierarchy, role_names};
+ghost use Rattle.mpw_roles.specs.Order.{IsHierarchy};
+ghost use Rattle.mpw_separation.specs.Placed.{IsPlaced, IsBelow};
 ghost use Rattle.mpw_separation.specs.Separation.{breaks, is_reached, has_role};
 ghost use Rattle.mpw_separation.specs.Set.{are_distinct, formed, has_form};
 
 use mpw_geom::{Name, Names};
-use mpw_roles::{Below, Roles};
+use mpw_roles::{Below, Mask};
 use std::alloc::AllocError;
 use std::marker::Model;
 use std::sync::Arc;
@@ -186,20 +187,12 @@ impl SeparationSet {
         self.cardinality <= count
     }
 
-    /// Whether the seniors break the set: whether as many of its roles as its cardinality are at or below one of them.
-    /// It takes no memory, and costs what `Roles::below` does.
-    pub fn is_broken(&self, roles: &Roles, seniors: &[Name]) -> bool
-        ensures { result ≡ breaks roles.now seniors.now self.now }
+    /// Whether some seniors break the set, from the places of the set's roles and those of the roles at or below the seniors:
+    /// whether as many places as its cardinality are in both. It takes no memory, and costs an `and` of eight words.
+    pub fn is_broken_at(&self, own: &Mask, below: &Mask) -> bool
+        ensures { (h : Hierarchy) (seniors : List (List ℕ)) → IsHierarchy h → IsPlaced (role_names h) self.now.roles own.now → IsBelow h seniors below.now → result ≡ breaks h seniors self.now }
     {
-        self.is_reached(&roles.below(seniors))
-    }
-
-    /// Whether some seniors break the set, from the roles at or below them. It takes no memory, and costs a look-up for each role
-    /// of the set.
-    pub fn is_broken_below(&self, below: &Below) -> bool
-        ensures { (h : Hierarchy) (seniors : List (List ℕ)) → below.now ≡ roles_below h seniors → result ≡ breaks h seniors self.now }
-    {
-        self.is_reached(below)
+        self.cardinality <= own.common(below)
     }
 
     /// Whether the role is one of the set.

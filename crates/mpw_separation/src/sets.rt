@@ -1,17 +1,15 @@
 //! The sets of both kinds.
-ghost use Rattle.std.specs.Prelude.{◌≡◌, ◌⊎◌, ℕ, List, [], ◌∷◌, ◌++◌, not, ◌||◌, nat_lt, length, filter, Ok, Err, IfOk, IfErr, OnOk, OnErr};
+ghost use Rattle.std.specs.Prelude.{◌≡◌, ◌⊎◌, [], ◌∷◌, ◌++◌, not, ◌||◌, nat_lt, length, filter, Ok, Err, IfOk, IfErr, OnOk, OnErr};
 ghost use Rattle.std.specs.List.{list_any};
 ghost use Rattle.std.specs.Option.{option_copied};
 ghost use Rattle.mpw_geom.specs.Names.{name_eq};
-ghost use Rattle.mpw_roles.specs.Hierarchy.{Hierarchy};
-ghost use Rattle.mpw_roles.specs.Order.{roles_below};
 ghost use Rattle.mpw_separation.specs.Rows as rows;
 ghost use Rattle.mpw_separation.specs.Separation.{max_sets, sets_of, has_set, without_set, uses_role, least_broken};
 
 use crate::least::least_reached;
 use crate::{Kind, SeparationSet, SetsFault};
 use mpw_geom::Name;
-use mpw_roles::{Below, Roles};
+use mpw_roles::Roles;
 use std::alloc::{AllocError, Global};
 use std::marker::Model;
 
@@ -148,7 +146,7 @@ impl Sets {
     }
 
     /// The sets of a kind, in the order in which they were made.
-    fn of_kind(&self, kind: Kind) -> &[SeparationSet]
+    pub(crate) fn of_kind(&self, kind: Kind) -> &[SeparationSet]
         ensures { result.now ≡ sets_of kind self.now }
     {
         match kind {
@@ -183,15 +181,7 @@ impl Sets {
     pub fn first_broken(&self, kind: Kind, roles: &Roles, seniors: &[Name]) -> Option<&Name>
         ensures { option_copied result ≡ least_broken roles.now (sets_of kind self.now) (seniors.now ∷ []) }
     {
-        self.first_broken_below(kind, &roles.below(seniors))
-    }
-
-    /// The least name of the sets of the kind that some seniors break, from the roles at or below them. It takes no memory, and
-    /// costs a look-up for each role of the sets.
-    pub fn first_broken_below(&self, kind: Kind, below: &Below) -> Option<&Name>
-        ensures { (h : Hierarchy) (seniors : List (List ℕ)) → below.now ≡ roles_below h seniors → option_copied result ≡ least_broken h (sets_of kind self.now) (seniors ∷ []) }
-    {
-        least_reached(self.of_kind(kind), below)
+        least_reached(self.of_kind(kind), &roles.below(seniors))
     }
 
     /// The same sets: two counts for each.

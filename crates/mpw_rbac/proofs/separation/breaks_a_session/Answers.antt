@@ -1,32 +1,44 @@
--- Each turn asks one holder.
-use Rattle.std.proofs.Common.{◌≡◌, ◌∙◌, sym, ap, map, false, true, ◌≤◌, length, arith}
+-- Each turn asks one holder, by its mask.
+use Rattle.std.proofs.Common.{◌≡◌, ◌∙◌, ℕ, sym, ap, map, ◌≤◌, length, arith}
 use Rattle.std.proofs.lemmas.List.{take_all}
+use Rattle.mpw_roles.specs.Hierarchy.{role_names}
+use Rattle.mpw_roles.specs.Places.{is_place_of}
+use Rattle.mpw_separation.specs.Placed.{IsPlaced}
 use Rattle.mpw_separation.specs.Separation.{breaks, is_broken}
+use Rattle.mpw_rbac.specs.declared.active.Active.{Active}
 use Rattle.mpw_rbac.proofs.MaskedLemmas.{active_in, active-lists}
 use Rattle.mpw_rbac.proofs.HolderLemmas.{unbroken-entry, broken-entry}
+use Rattle.mpw_rbac.proofs.PlacedLemmas.{acting-at}
 use Rattle.mpw_rbac.proofs.separation.breaks_a_session.Goals as goal
 
 pub loop-index-preserved : goal.loop-index-preserved
 loop-index-preserved c =
     let h = c.args.roles.now in
     let set = c.args.set.now in
-    let here : breaks h c.in-Some.active.now.session.active set ≡ false =
-    ap (λ l. breaks h l set) (sym c.as_slice.ensures) ∙ sym c.is_broken.ensures
-    ∙ c.if-is_broken.false in
-    unbroken-entry active_in h set c.args.sessions.now.entries c.loop-index.index
-    (c.in-Some.field-0-0.now, c.in-Some.active.now) (sym c.in-Some.ensures.entry)
-    c.loop-index.invariant here
+    let es = c.args.sessions.now.entries in
+    let e : ℕ × Active = (c.in-Some.field-0-0.now, c.in-Some.active.now) in
+    let own : IsPlaced (role_names h) set.roles c.places-own.result =
+    λ q. c.places-own.ensures q ∙ ap (λ l. is_place_of (role_names h) l q) c.roles.ensures.roles in
+    let below = acting-at h es c.loop-index.index e (sym c.in-Some.ensures.entry) c.requires in
+    let asked : c.is_broken_at.result ≡ breaks h c.in-Some.active.now.session.active set =
+    c.is_broken_at.ensures h c.in-Some.active.now.session.active c.is_hierarchy.ensures own below in
+    unbroken-entry active_in h set es c.loop-index.index e (sym c.in-Some.ensures.entry)
+    c.loop-index.invariant (sym asked ∙ c.if-is_broken_at.false)
 
-pub returns-then-is_broken : goal.returns-then-is_broken
-returns-then-is_broken c =
+pub returns-then-is_broken_at : goal.returns-then-is_broken_at
+returns-then-is_broken_at c =
     let h = c.args.roles.now in
     let set = c.args.set.now in
-    let here : breaks h c.in-Some.active.now.session.active set ≡ true =
-    ap (λ l. breaks h l set) (sym c.as_slice.ensures) ∙ sym c.is_broken.ensures
-    ∙ c.if-is_broken.true in
-    sym (broken-entry active_in h set c.args.sessions.now.entries c.loop-index.index
-    (c.in-Some.field-0-0.now, c.in-Some.active.now) (sym c.in-Some.ensures.entry) here)
-    ∙ ap (λ l. is_broken h l set) (active-lists c.args.sessions.now.entries)
+    let es = c.args.sessions.now.entries in
+    let e : ℕ × Active = (c.in-Some.field-0-0.now, c.in-Some.active.now) in
+    let own : IsPlaced (role_names h) set.roles c.places-own.result =
+    λ q. c.places-own.ensures q ∙ ap (λ l. is_place_of (role_names h) l q) c.roles.ensures.roles in
+    let below = acting-at h es c.loop-index.index e (sym c.in-Some.ensures.entry) c.requires in
+    let asked : c.is_broken_at.result ≡ breaks h c.in-Some.active.now.session.active set =
+    c.is_broken_at.ensures h c.in-Some.active.now.session.active c.is_hierarchy.ensures own below in
+    sym (broken-entry active_in h set es c.loop-index.index e (sym c.in-Some.ensures.entry)
+    (sym asked ∙ c.if-is_broken_at.true))
+    ∙ ap (λ l. is_broken h l set) (active-lists es)
 
 pub returns : goal.returns
 returns c =

@@ -1,37 +1,48 @@
--- Each turn asks one holder.
-use Rattle.std.proofs.Common.{◌≡◌, ◌∙◌, ℕ, sym, ap, List, false, true, ◌≤◌, length, arith}
-use Rattle.std.proofs.lemmas.List.{take_all}
-use Rattle.mpw_separation.specs.Separation.{breaks, is_broken}
+-- Each turn asks one holder, by its mask.
+use Rattle.std.proofs.Common.{◌≡◌, ◌∙◌, ◌<◌, sym, ap, List, [], length, get_or, arith}
+use Rattle.mpw_roles.specs.Hierarchy.{role_names}
+use Rattle.mpw_roles.specs.Mask.{has}
+use Rattle.mpw_roles.specs.Places.{is_place_of, mask_at}
+use Rattle.mpw_roles.specs.declared.mask.Mask.{Mask}
+use Rattle.mpw_separation.specs.Placed.{IsBelow, IsPlaced}
+use Rattle.mpw_separation.specs.Separation.{breaks}
 use Rattle.mpw_rbac.specs.Policy.{assigned_lists}
-use Rattle.mpw_rbac.specs.declared.session.User.{User}
-use Rattle.mpw_rbac.proofs.HolderLemmas.{unbroken-entry, broken-entry}
+use Rattle.mpw_rbac.proofs.PlacedLemmas.{unbroken-list, broken-list}
 use Rattle.mpw_rbac.proofs.separation.breaks_a_user.Goals as goal
 
-pub loop-index-preserved : goal.loop-index-preserved
-loop-index-preserved c =
+pub returns-then-is_broken_at : goal.returns-then-is_broken_at
+returns-then-is_broken_at c =
     let h = c.args.roles.now in
     let set = c.args.set.now in
-    let here : breaks h c.in-Some.user.now.roles set ≡ false =
-    ap (λ l. breaks h l set) (sym c.as_slice.ensures) ∙ sym c.is_broken.ensures
-    ∙ c.if-is_broken.false in
-    unbroken-entry (λ (entry : List ℕ × User). entry.1.roles) h set c.args.users.now.entries
-    c.loop-index.index (c.in-Some.field-0-0.now, c.in-Some.user.now)
-    (sym c.in-Some.ensures.entry) c.loop-index.invariant here
+    let lists = assigned_lists c.args.users.now.users in
+    let i = c.loop-authorized.authorized-index in
+    let long = c.requires.long in
+    let read = ap length c.masks-authorized-items.ensures in
+    let inside : i < length lists = omega (arith, long, read, c.loop-authorized-test.true) in
+    let own : IsPlaced (role_names h) set.roles c.places-own.result =
+    λ q. c.places-own.ensures q ∙ ap (λ l. is_place_of (role_names h) l q) c.roles.ensures.roles in
+    let below : IsBelow h (get_or lists i []) (mask_at c.masks-authorized-items.result.now i) =
+    λ q. ap (λ (ms : List Mask). has (mask_at ms i) q) c.masks-authorized-items.ensures
+    ∙ c.requires.exact i inside q in
+    let asked : c.is_broken_at.result ≡ breaks h (get_or lists i []) set =
+    c.is_broken_at.ensures h (get_or lists i []) c.is_hierarchy.ensures own below in
+    sym (broken-list h set lists i inside (sym asked ∙ c.if-is_broken_at.true))
 
-pub returns-then-is_broken : goal.returns-then-is_broken
-returns-then-is_broken c =
+pub loop-authorized-preserved : goal.loop-authorized-preserved
+loop-authorized-preserved c =
     let h = c.args.roles.now in
     let set = c.args.set.now in
-    let here : breaks h c.in-Some.user.now.roles set ≡ true =
-    ap (λ l. breaks h l set) (sym c.as_slice.ensures) ∙ sym c.is_broken.ensures
-    ∙ c.if-is_broken.true in
-    sym (broken-entry (λ (entry : List ℕ × User). entry.1.roles) h set c.args.users.now.entries
-    c.loop-index.index (c.in-Some.field-0-0.now, c.in-Some.user.now)
-    (sym c.in-Some.ensures.entry) here)
-
-pub returns : goal.returns
-returns c =
-    let end : length c.args.users.now.entries ≤ c.loop-index.index = omega arith in
-    let all = take_all c.loop-index.index c.args.users.now.entries end in
-    sym c.loop-index.invariant ∙ ap (λ es. is_broken c.args.roles.now (assigned_lists es)
-    c.args.set.now) all
+    let lists = assigned_lists c.args.users.now.users in
+    let i = c.loop-authorized.authorized-index in
+    let long = c.requires.long in
+    let read = ap length c.masks-authorized-items.ensures in
+    let inside : i < length lists = omega (arith, long, read, c.loop-authorized-test.true) in
+    let own : IsPlaced (role_names h) set.roles c.places-own.result =
+    λ q. c.places-own.ensures q ∙ ap (λ l. is_place_of (role_names h) l q) c.roles.ensures.roles in
+    let below : IsBelow h (get_or lists i []) (mask_at c.masks-authorized-items.result.now i) =
+    λ q. ap (λ (ms : List Mask). has (mask_at ms i) q) c.masks-authorized-items.ensures
+    ∙ c.requires.exact i inside q in
+    let asked : c.is_broken_at.result ≡ breaks h (get_or lists i []) set =
+    c.is_broken_at.ensures h (get_or lists i []) c.is_hierarchy.ensures own below in
+    unbroken-list h set lists i inside c.loop-authorized.invariant
+    (sym asked ∙ c.if-is_broken_at.false)

@@ -4,6 +4,6 @@ use Rattle.mpw_rbac.specs.Policy.{assigned_lists}
 use Rattle.mpw_rbac.proofs.separation.breaks_a_user.Given as goal
 
 -- nobody so far breaks the set
-abbrev pub invariant-loop-index : goal.invariant-loop-index
-invariant-loop-index l =
-    is_broken l.roles (assigned_lists (take l.index l.users.entries)) l.set ≡ false
+abbrev pub invariant-loop-authorized : goal.invariant-loop-authorized
+invariant-loop-authorized l =
+    is_broken l.roles (take l.authorized-index (assigned_lists l.users.users)) l.set ≡ false

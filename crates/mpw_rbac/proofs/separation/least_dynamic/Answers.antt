@@ -8,12 +8,12 @@ use Rattle.mpw_rbac.proofs.HolderLemmas.{least-entry, least-all, least-nobody}
 use Rattle.mpw_rbac.proofs.separation.least_dynamic.Goals as goal
 
 pub loop-index-init : goal.loop-index-init
-loop-index-init c = least-nobody c.args.roles.now c.args.sets.now.dsd
+loop-index-init c = least-nobody c.args.roles.now c.args.sets.now.sets.dsd
 
 pub loop-index-preserved : goal.loop-index-preserved
 loop-index-preserved c =
     let h = c.args.roles.now in
-    let sets = c.args.sets.now.dsd in
+    let sets = c.args.sets.now.sets.dsd in
     let es = c.args.sessions.now.entries in
     let turn = least-entry active_in h sets es c.loop-index.index
     (c.in-Some.field-0-0.now, c.in-Some.active.now) (option_copied c.loop-index.least)
@@ -29,7 +29,7 @@ loop-index-preserved c =
 pub returns : goal.returns
 returns c =
     let end : length c.args.sessions.now.entries ≤ c.loop-index.index = omega arith in
-    let all = least-all active_in c.args.roles.now c.args.sets.now.dsd c.args.sessions.now.entries
+    let all = least-all active_in c.args.roles.now c.args.sets.now.sets.dsd c.args.sessions.now.entries
     c.loop-index.index (option_copied c.loop-index.least) end c.loop-index.invariant in
-    all ∙ ap (least_broken c.args.roles.now c.args.sets.now.dsd)
+    all ∙ ap (least_broken c.args.roles.now c.args.sets.now.sets.dsd)
     (active-lists c.args.sessions.now.entries)

@@ -9,12 +9,12 @@ use Rattle.mpw_rbac.proofs.HolderLemmas.{least-entry, least-all, least-nobody}
 use Rattle.mpw_rbac.proofs.separation.least_static.Goals as goal
 
 pub loop-index-init : goal.loop-index-init
-loop-index-init c = least-nobody c.args.roles.now c.args.sets.now.ssd
+loop-index-init c = least-nobody c.args.roles.now c.args.sets.now.sets.ssd
 
 pub loop-index-preserved : goal.loop-index-preserved
 loop-index-preserved c =
     let h = c.args.roles.now in
-    let sets = c.args.sets.now.ssd in
+    let sets = c.args.sets.now.sets.ssd in
     let es = c.args.users.now.entries in
     let turn = least-entry (λ (entry : List ℕ × User). entry.1.roles) h sets es c.loop-index.index
     (c.in-Some.field-0-0.now, c.in-Some.user.now) (option_copied c.loop-index.least)
@@ -30,6 +30,6 @@ loop-index-preserved c =
 pub returns : goal.returns
 returns c =
     let end : length c.args.users.now.entries ≤ c.loop-index.index = omega arith in
-    least-all (λ (entry : List ℕ × User). entry.1.roles) c.args.roles.now c.args.sets.now.ssd
+    least-all (λ (entry : List ℕ × User). entry.1.roles) c.args.roles.now c.args.sets.now.sets.ssd
     c.args.users.now.entries c.loop-index.index (option_copied c.loop-index.least) end
     c.loop-index.invariant

@@ -7,5 +7,5 @@ use Rattle.mpw_rbac.proofs.separation.least_static.Given as goal
 
 -- the least name so far
 abbrev pub invariant-loop-index : goal.invariant-loop-index
-invariant-loop-index l = IsLeast (broken_names l.roles l.sets.ssd
+invariant-loop-index l = IsLeast (broken_names l.roles l.sets.sets.ssd
     (assigned_lists (take l.index l.users.entries))) (option_copied l.least)

@@ -15,7 +15,7 @@ use Rattle.mpw_rbac.proofs.policy.Policy.adduser.Goals as goal
 pub invariant_of-self : goal.invariant_of-self
 invariant_of-self c =
     let in' = c.self.inside in
-    let p = policy_of in'.users.users in'.permissions.roles in'.permissions.granted in'.sets
+    let p = policy_of in'.users.users in'.permissions.roles in'.permissions.granted in'.sets.sets
     in'.sessions.sessions in
     let user = c.args.user in
     let new : is_user p user ≡ false = ap (λ (q : Policy). is_user q user) c.self.view_is
@@ -31,12 +31,13 @@ invariant_of-self c =
       authorized = subst (λ h. AreAuthorized h c.in_ok-users.users) c.roles.ensures
           c.in_ok-users.ensures.masks;
       acting = c.self.invariant.acting;
+      placed = c.self.invariant.placed;
     }
 
 pub returns-clause-ok : goal.returns-clause-ok
 returns-clause-ok c =
     let in' = c.self.inside in
-    let p = policy_of in'.users.users in'.permissions.roles in'.permissions.granted in'.sets
+    let p = policy_of in'.users.users in'.permissions.roles in'.permissions.granted in'.sets.sets
     in'.sessions.sessions in
     let user = c.args.user in
     let new : is_user p user ≡ false = ap (λ (q : Policy). is_user q user) c.self.view_is

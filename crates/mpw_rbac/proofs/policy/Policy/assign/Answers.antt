@@ -17,7 +17,7 @@ use Rattle.mpw_rbac.proofs.policy.Policy.assign.Goals as goal
 pub returns-in-Some-clause-refused : goal.returns-in-Some-clause-refused
 returns-in-Some-clause-refused c =
     let in' = c.self.inside in
-    let p = policy_of in'.users.users in'.permissions.roles in'.permissions.granted in'.sets
+    let p = policy_of in'.users.users in'.permissions.roles in'.permissions.granted in'.sets.sets
     in'.sessions.sessions in
     let ok : rows.administered p c.args.conn ≡ Ok p =
     subst (λ (q : Policy). rows.administered q c.args.conn ≡ Ok q) (sym c.self.view_is)
@@ -46,7 +46,7 @@ returns-in-Some-clause-refused c =
 pub invariant_of-self : goal.invariant_of-self
 invariant_of-self c =
     let in' = c.self.inside in
-    let p = policy_of in'.users.users in'.permissions.roles in'.permissions.granted in'.sets
+    let p = policy_of in'.users.users in'.permissions.roles in'.permissions.granted in'.sets.sets
     in'.sessions.sessions in
     let ok : rows.administered p c.args.conn ≡ Ok p =
     subst (λ (q : Policy). rows.administered q c.args.conn ≡ Ok q) (sym c.self.view_is)
@@ -90,12 +90,13 @@ invariant_of-self c =
       authorized = subst (λ h. AreAuthorized h c.in_ok-users.users) c.roles.ensures
           c.in_ok-users.ensures.masks;
       acting = c.self.invariant.acting;
+      placed = c.self.invariant.placed;
     }
 
 pub returns-clause-ok : goal.returns-clause-ok
 returns-clause-ok c =
     let in' = c.self.inside in
-    let p = policy_of in'.users.users in'.permissions.roles in'.permissions.granted in'.sets
+    let p = policy_of in'.users.users in'.permissions.roles in'.permissions.granted in'.sets.sets
     in'.sessions.sessions in
     let ok : rows.administered p c.args.conn ≡ Ok p =
     subst (λ (q : Policy). rows.administered q c.args.conn ≡ Ok q) (sym c.self.view_is)

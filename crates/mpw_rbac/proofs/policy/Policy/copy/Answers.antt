@@ -1,6 +1,6 @@
 -- Each part is copied.
 use Rattle.std.proofs.Common.{◌≡◌, ◌∙◌, sym, subst}
-use Rattle.mpw_separation.specs.Separation.{Sets}
+use Rattle.mpw_separation.specs.Placed.{KeptSets}
 use Rattle.mpw_rbac.specs.Internal.Holders.{Permissions}
 use Rattle.mpw_rbac.specs.Masked.{IsPolicy, KeptSessions, KeptUsers}
 use Rattle.mpw_rbac.specs.Policy.{policy_of}
@@ -16,7 +16,7 @@ invariant_of-result c =
     c.in_ok-sessions.sessions) (sym c.in_ok-users.ensures)
     (subst (λ (q : Permissions). IsPolicy in'.users q.roles q.granted sets
     c.in_ok-sessions.sessions) (sym c.in_ok-permissions.ensures)
-    (subst (λ (s : Sets). IsPolicy in'.users in'.permissions.roles in'.permissions.granted s
+    (subst (λ (s : KeptSets). IsPolicy in'.users in'.permissions.roles in'.permissions.granted s
     c.in_ok-sessions.sessions) (sym c.in_ok-sets.ensures)
     (subst (λ (s : KeptSessions). IsPolicy in'.users in'.permissions.roles in'.permissions.granted
     in'.sets s) (sym c.in_ok-sessions.ensures) c.self.invariant)))
@@ -24,6 +24,6 @@ invariant_of-result c =
 pub returns : goal.returns
 returns c =
     (λ i. policy_of (c.in_ok-users.ensures i).users (c.in_ok-permissions.ensures i).roles
-    (c.in_ok-permissions.ensures i).granted (c.in_ok-sets.ensures i)
+    (c.in_ok-permissions.ensures i).granted (c.in_ok-sets.ensures i).sets
     (c.in_ok-sessions.ensures i).sessions)
     ∙ c.self.view_is

@@ -17,7 +17,7 @@ use Rattle.mpw_rbac.proofs.policy.Policy.deassign.Goals as goal
 pub invariant_of-self : goal.invariant_of-self
 invariant_of-self c =
     let in' = c.self.inside in
-    let p = policy_of in'.users.users in'.permissions.roles in'.permissions.granted in'.sets
+    let p = policy_of in'.users.users in'.permissions.roles in'.permissions.granted in'.sets.sets
     in'.sessions.sessions in
     let user = c.args.user.now in
     let role = c.args.role.now in
@@ -41,21 +41,22 @@ invariant_of-self c =
     let left = c.trim.ensures.kept ∙ (λ i. kept_sessions
     (users_and_roles (assigned i) (c.roles-roles.ensures i)) in'.sessions.sessions) in
     let is : policy_of c.in_ok-users.users.users in'.permissions.roles in'.permissions.granted
-    in'.sets c.trim.new.self.sessions
+    in'.sets.sets c.trim.new.self.sessions
     ≡ trim (rows.with_assigned p user (without_name (assigned_roles p user) role)) =
-    λ i. policy_of (assigned i) in'.permissions.roles in'.permissions.granted in'.sets
+    λ i. policy_of (assigned i) in'.permissions.roles in'.permissions.granted in'.sets.sets
     (left i) in
     record {
       sound = subst Sound (sym is) (keep-deassign p user role c.self.invariant.sound);
       authorized = subst (λ h. AreAuthorized h c.in_ok-users.users) c.roles-roles.ensures
           c.in_ok-users.ensures.masks;
       acting = subst (λ h. AreActing h c.trim.new.self) c.roles-roles.ensures c.trim.ensures.acting;
+      placed = c.self.invariant.placed;
     }
 
 pub returns-clause-ok : goal.returns-clause-ok
 returns-clause-ok c =
     let in' = c.self.inside in
-    let p = policy_of in'.users.users in'.permissions.roles in'.permissions.granted in'.sets
+    let p = policy_of in'.users.users in'.permissions.roles in'.permissions.granted in'.sets.sets
     in'.sessions.sessions in
     let ok : rows.administered p c.args.conn ≡ Ok p =
     subst (λ (q : Policy). rows.administered q c.args.conn ≡ Ok q) (sym c.self.view_is)
@@ -82,8 +83,8 @@ returns-clause-ok c =
     let left = c.trim.ensures.kept ∙ (λ i. kept_sessions
     (users_and_roles (assigned i) (c.roles-roles.ensures i)) in'.sessions.sessions) in
     let is : policy_of c.in_ok-users.users.users in'.permissions.roles in'.permissions.granted
-    in'.sets c.trim.new.self.sessions
+    in'.sets.sets c.trim.new.self.sessions
     ≡ trim (rows.with_assigned p user (without_name (assigned_roles p user) role)) =
-    λ i. policy_of (assigned i) in'.permissions.roles in'.permissions.granted in'.sets
+    λ i. policy_of (assigned i) in'.permissions.roles in'.permissions.granted in'.sets.sets
     (left i) in
     rw (← c.self.view_is) (deassign-ok p c.args.conn ok user role there ∙ ap Ok (sym is))

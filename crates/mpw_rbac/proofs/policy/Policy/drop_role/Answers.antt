@@ -12,7 +12,7 @@ use Rattle.mpw_rbac.proofs.policy.Policy.drop_role.Goals as goal
 pub invariant_of-self-2 : goal.invariant_of-self-2
 invariant_of-self-2 c =
     let in' = c.self.inside in
-    let p = policy_of in'.users.users in'.permissions.roles in'.permissions.granted in'.sets
+    let p = policy_of in'.users.users in'.permissions.roles in'.permissions.granted in'.sets.sets
     in'.sessions.sessions in
     let conn = c.args.conn in
     let role = c.args.role.now in
@@ -42,12 +42,13 @@ invariant_of-self-2 c =
       acting = c.in_ok-insert.ensures.acting in'.permissions.roles c.self.invariant.acting
           (subst (λ (q : Policy). IsBelow q.roles next.session.active next.acting)
           (sym c.self.view_is) c.in_ok-active.ensures.acting);
+      placed = c.self.invariant.placed;
     }
 
 pub returns-clause-ok : goal.returns-clause-ok
 returns-clause-ok c =
     let in' = c.self.inside in
-    let p = policy_of in'.users.users in'.permissions.roles in'.permissions.granted in'.sets
+    let p = policy_of in'.users.users in'.permissions.roles in'.permissions.granted in'.sets.sets
     in'.sessions.sessions in
     let conn = c.args.conn in
     let role = c.args.role.now in

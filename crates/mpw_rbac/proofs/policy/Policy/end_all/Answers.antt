@@ -10,7 +10,7 @@ use Rattle.mpw_rbac.proofs.policy.Policy.end_all.Goals as goal
 pub invariant_of-self : goal.invariant_of-self
 invariant_of-self c =
     let in' = c.self.inside in
-    let p = policy_of in'.users.users in'.permissions.roles in'.permissions.granted in'.sets
+    let p = policy_of in'.users.users in'.permissions.roles in'.permissions.granted in'.sets.sets
     in'.sessions.sessions in
     record {
       sound = subst (λ (s : KeptSessions). Sound (record p { sessions = s.sessions }))
@@ -18,12 +18,13 @@ invariant_of-self c =
       authorized = c.self.invariant.authorized;
       acting = subst (AreActing in'.permissions.roles) (sym c.clear.ensures)
           (below-nil in'.permissions.roles);
+      placed = c.self.invariant.placed;
     }
 
 pub returns : goal.returns
 returns c =
     let in' = c.self.inside in
-    let p = policy_of in'.users.users in'.permissions.roles in'.permissions.granted in'.sets
+    let p = policy_of in'.users.users in'.permissions.roles in'.permissions.granted in'.sets.sets
     in'.sessions.sessions in
     rw (← c.self.view_is) (ap (λ (s : KeptSessions). record p { sessions = s.sessions })
     c.clear.ensures)

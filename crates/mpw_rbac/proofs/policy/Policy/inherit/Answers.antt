@@ -1,6 +1,6 @@
 -- A pair that breaks no set.
 use Rattle.std.proofs.Common.{◌≡◌, ◌∙◌, sym, ap, subst, Ok, None, Some}
-use Rattle.mpw_roles.specs.Hierarchy.{with_pair}
+use Rattle.mpw_roles.specs.Hierarchy.{role_names, with_pair}
 use Rattle.mpw_separation.specs.Separation.{least_broken}
 use Rattle.mpw_rbac.specs.Policy.{Policy, policy_of, assigned_lists, active_lists}
 use Rattle.mpw_rbac.specs.Sound.{Sound}
@@ -12,12 +12,14 @@ use Rattle.mpw_rbac.proofs.RowFacts.{inherit-static, inherit-dynamic}
 use Rattle.mpw_rbac.proofs.RowFacts.{inherited-pair}
 use Rattle.mpw_roles.specs.Rows as hierarchy
 use Rattle.mpw_rbac.specs.Masked.{AreActing, AreAuthorized}
+use Rattle.mpw_separation.specs.Placed.{AreSetsPlaced}
+use Rattle.mpw_rbac.proofs.PlacedLemmas.{names-inherited}
 use Rattle.mpw_rbac.proofs.policy.Policy.inherit.Goals as goal
 
 pub invariant_of-self : goal.invariant_of-self
 invariant_of-self c =
     let in' = c.self.inside in
-    let p = policy_of in'.users.users in'.permissions.roles in'.permissions.granted in'.sets
+    let p = policy_of in'.users.users in'.permissions.roles in'.permissions.granted in'.sets.sets
     in'.sessions.sessions in
     let senior = c.args.senior.now in
     let junior = c.args.junior.now in
@@ -35,10 +37,10 @@ invariant_of-self c =
     ∙ ap (λ h. least_broken h c.args.self.now.dsd (active_lists c.args.self.now.sessions))
     (sym c.roles-roles.ensures) ∙ sym c.in_default-broken_dynamic.ensures in
     let next = c.in_ok-next.next in
-    let is : policy_of c.in_ok-users.users.users next.roles next.granted in'.sets
+    let is : policy_of c.in_ok-users.users.users next.roles next.granted in'.sets.sets
     c.remask.new.self.sessions ≡ record p { roles = with_pair p.roles senior junior } =
     λ i. policy_of (c.in_ok-users.ensures.same i) (pair.1 i) (c.in_ok-next.ensures.same i)
-    in'.sets (c.remask.ensures.same i) in
+    in'.sets.sets (c.remask.ensures.same i) in
     record {
       sound = subst Sound (sym is)
           (keep-inherit p senior junior pair.0
@@ -49,12 +51,15 @@ invariant_of-self c =
           c.in_ok-users.ensures.masks;
       acting =
           subst (λ h. AreActing h c.remask.new.self) c.roles-roles.ensures c.remask.ensures.acting;
+      placed = subst (λ names. AreSetsPlaced names in'.sets) (sym (names-inherited in'.permissions.roles senior junior c.in_ok-next.next.roles
+          c.in_ok-next.ensures.ok))
+          c.self.invariant.placed;
     }
 
 pub returns-clause-ok : goal.returns-clause-ok
 returns-clause-ok c =
     let in' = c.self.inside in
-    let p = policy_of in'.users.users in'.permissions.roles in'.permissions.granted in'.sets
+    let p = policy_of in'.users.users in'.permissions.roles in'.permissions.granted in'.sets.sets
     in'.sessions.sessions in
     let senior = c.args.senior.now in
     let junior = c.args.junior.now in
@@ -72,10 +77,10 @@ returns-clause-ok c =
     ∙ ap (λ h. least_broken h c.args.self.now.dsd (active_lists c.args.self.now.sessions))
     (sym c.roles-roles.ensures) ∙ sym c.in_default-broken_dynamic.ensures in
     let next = c.in_ok-next.next in
-    let is : policy_of c.in_ok-users.users.users next.roles next.granted in'.sets
+    let is : policy_of c.in_ok-users.users.users next.roles next.granted in'.sets.sets
     c.remask.new.self.sessions ≡ record p { roles = with_pair p.roles senior junior } =
     λ i. policy_of (c.in_ok-users.ensures.same i) (pair.1 i) (c.in_ok-next.ensures.same i)
-    in'.sets (c.remask.ensures.same i) in
+    in'.sets.sets (c.remask.ensures.same i) in
     let admin : rows.administered p c.args.conn ≡ Ok p =
     subst (λ (q : Policy). rows.administered q c.args.conn ≡ Ok q) (sym c.self.view_is)
     c.in_ok-administers.ensures.ok in
@@ -116,3 +121,17 @@ returns-in-Some-broken_dynamic-clause-refused c =
     ∙ ap Some (sym c.in_ok-copy-2.ensures) in
     inherit-dynamic p c.args.conn c.in_ok-administers.ensures.ok senior junior
     c.in_ok-copy-2.field-0 next.roles made kept broken
+
+pub broken_static-requires : goal.broken_static-requires
+broken_static-requires c =
+    ap role_names c.roles-roles.ensures
+    ∙ names-inherited c.self.inside.permissions.roles c.args.senior.now c.args.junior.now
+    c.in_ok-next.next.roles c.in_ok-next.ensures.ok
+    ∙ ap (λ (q : Policy). role_names q.roles) c.self.view_is
+
+pub broken_dynamic-requires : goal.broken_dynamic-requires
+broken_dynamic-requires c =
+    ap role_names c.roles-roles.ensures
+    ∙ names-inherited c.self.inside.permissions.roles c.args.senior.now c.args.junior.now
+    c.in_ok-next.next.roles c.in_ok-next.ensures.ok
+    ∙ ap (λ (q : Policy). role_names q.roles) c.self.view_is

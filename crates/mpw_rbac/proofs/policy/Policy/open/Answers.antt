@@ -14,7 +14,7 @@ use Rattle.mpw_rbac.proofs.policy.Policy.open.Goals as goal
 pub invariant_of-self-2 : goal.invariant_of-self-2
 invariant_of-self-2 c =
     let in' = c.self.inside in
-    let p = policy_of in'.users.users in'.permissions.roles in'.permissions.granted in'.sets
+    let p = policy_of in'.users.users in'.permissions.roles in'.permissions.granted in'.sets.sets
     in'.sessions.sessions in
     let user = c.args.user.now in
     let login : rows.is_login p user c.args.digest.now ≡ true =
@@ -39,12 +39,13 @@ invariant_of-self-2 c =
       acting = c.in_ok-insert.ensures.acting in'.permissions.roles c.self.invariant.acting
           (subst (λ h. IsBelow h c.new-active.result.session.active c.new-active.result.acting)
           c.roles.ensures c.new-active.ensures.acting);
+      placed = c.self.invariant.placed;
     }
 
 pub returns-clause-ok : goal.returns-clause-ok
 returns-clause-ok c =
     let in' = c.self.inside in
-    let p = policy_of in'.users.users in'.permissions.roles in'.permissions.granted in'.sets
+    let p = policy_of in'.users.users in'.permissions.roles in'.permissions.granted in'.sets.sets
     in'.sessions.sessions in
     let user = c.args.user.now in
     let login : rows.is_login p user c.args.digest.now ≡ true =

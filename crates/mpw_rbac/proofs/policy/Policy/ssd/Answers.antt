@@ -11,13 +11,14 @@ use Rattle.mpw_rbac.specs.declared.refusal.Refusal.TheVariants.{Ssd}
 use Rattle.mpw_rbac.proofs.LawLemmas.{sound-ssd}
 use Rattle.mpw_rbac.proofs.RowLemmas.{ssd-ok, ssd-broken, ssd-refused}
 use Rattle.mpw_rbac.proofs.RowFacts.{made-set}
+use Rattle.mpw_rbac.proofs.PlacedLemmas.{placed-after}
 use Rattle.mpw_rbac.proofs.policy.Policy.ssd.Goals as goal
 
 pub returns-then-is_broken_by_users-clause-refused :
     goal.returns-then-is_broken_by_users-clause-refused
 returns-then-is_broken_by_users-clause-refused c =
     let in' = c.self.inside in
-    let p = policy_of in'.users.users in'.permissions.roles in'.permissions.granted in'.sets
+    let p = policy_of in'.users.users in'.permissions.roles in'.permissions.granted in'.sets.sets
     in'.sessions.sessions in
     let ok : rows.administered p c.args.conn ≡ Ok p =
     subst (λ (q : Policy). rows.administered q c.args.conn ≡ Ok q) (sym c.self.view_is)
@@ -39,7 +40,7 @@ returns-then-is_broken_by_users-clause-refused c =
 pub returns-in_err-make_ssd-clause-refused : goal.returns-in_err-make_ssd-clause-refused
 returns-in_err-make_ssd-clause-refused c =
     let in' = c.self.inside in
-    let p = policy_of in'.users.users in'.permissions.roles in'.permissions.granted in'.sets
+    let p = policy_of in'.users.users in'.permissions.roles in'.permissions.granted in'.sets.sets
     in'.sessions.sessions in
     let ok : rows.administered p c.args.conn ≡ Ok p =
     subst (λ (q : Policy). rows.administered q c.args.conn ≡ Ok q) (sym c.self.view_is)
@@ -64,7 +65,7 @@ returns-in_err-make_ssd-clause-refused c =
 pub invariant_of-self-2 : goal.invariant_of-self-2
 invariant_of-self-2 c =
     let in' = c.self.inside in
-    let p = policy_of in'.users.users in'.permissions.roles in'.permissions.granted in'.sets
+    let p = policy_of in'.users.users in'.permissions.roles in'.permissions.granted in'.sets.sets
     in'.sessions.sessions in
     let ok : rows.administered p c.args.conn ≡ Ok p =
     subst (λ (q : Policy). rows.administered q c.args.conn ≡ Ok q) (sym c.self.view_is)
@@ -80,9 +81,9 @@ invariant_of-self-2 c =
     let broken : is_broken p.roles (assigned_lists p.users) set ≡ false =
     ap (λ (q : Policy). is_broken q.roles (assigned_lists q.users) set) c.self.view_is
     ∙ sym c.is_broken_by_users.ensures ∙ c.if-is_broken_by_users.false in
-    let made = made-set p.ssd set c.make_ssd.new.self.ssd c.in_ok-make_ssd.ensures.ok in
+    let made = made-set p.ssd set c.make_ssd.new.self.sets.ssd c.in_ok-make_ssd.ensures.ok in
     let is : policy_of in'.users.users in'.permissions.roles in'.permissions.granted
-    c.make_ssd.new.self in'.sessions.sessions ≡ record p { ssd = p.ssd ++ set ∷ [] } =
+    c.make_ssd.new.self.sets in'.sessions.sessions ≡ record p { ssd = p.ssd ++ set ∷ [] } =
     λ i. record p { ssd = made.1 i; dsd = c.in_ok-make_ssd.ensures.others i } in
     record {
       sound = subst Sound (sym is)
@@ -91,12 +92,14 @@ invariant_of-self-2 c =
           c.self.invariant.sound);
       authorized = c.self.invariant.authorized;
       acting = c.self.invariant.acting;
+      placed = placed-after in'.permissions.roles c.roles-2.result.now c.roles-2.ensures in'.sets
+          c.make_ssd.new.self c.in_ok-make_ssd.ensures.placed c.self.invariant.placed;
     }
 
 pub returns-clause-ok : goal.returns-clause-ok
 returns-clause-ok c =
     let in' = c.self.inside in
-    let p = policy_of in'.users.users in'.permissions.roles in'.permissions.granted in'.sets
+    let p = policy_of in'.users.users in'.permissions.roles in'.permissions.granted in'.sets.sets
     in'.sessions.sessions in
     let ok : rows.administered p c.args.conn ≡ Ok p =
     subst (λ (q : Policy). rows.administered q c.args.conn ≡ Ok q) (sym c.self.view_is)
@@ -112,9 +115,9 @@ returns-clause-ok c =
     let broken : is_broken p.roles (assigned_lists p.users) set ≡ false =
     ap (λ (q : Policy). is_broken q.roles (assigned_lists q.users) set) c.self.view_is
     ∙ sym c.is_broken_by_users.ensures ∙ c.if-is_broken_by_users.false in
-    let made = made-set p.ssd set c.make_ssd.new.self.ssd c.in_ok-make_ssd.ensures.ok in
+    let made = made-set p.ssd set c.make_ssd.new.self.sets.ssd c.in_ok-make_ssd.ensures.ok in
     let is : policy_of in'.users.users in'.permissions.roles in'.permissions.granted
-    c.make_ssd.new.self in'.sessions.sessions ≡ record p { ssd = p.ssd ++ set ∷ [] } =
+    c.make_ssd.new.self.sets in'.sessions.sessions ≡ record p { ssd = p.ssd ++ set ∷ [] } =
     λ i. record p { ssd = made.1 i; dsd = c.in_ok-make_ssd.ensures.others i } in
     rw (← c.self.view_is) (ssd-ok p c.args.conn ok c.self.invariant.sound set known new broken
     made.0 ∙ ap Ok (sym is))

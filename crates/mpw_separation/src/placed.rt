@@ -1,0 +1,201 @@
+//! The sets with the places of their roles, so that whether one is broken is a count of bits.
+//!
+//! The masks are made for some roles, and whoever keeps the sets says so in an invariant. A change of the sets of a kind writes
+//! their masks anew; so must one of the roles that moves places or takes a set's role away.
+ghost use Rattle.std.specs.Prelude.{◌≡◌, ◌⊎◌, ◌≤◌, ◌<◌, ℕ, List, [], ◌∷◌, Ok, Err, IfOk, IfErr, OnOk, OnErr, length};
+ghost use Rattle.std.specs.Option.{option_copied};
+ghost use Rattle.mpw_roles.specs.Hierarchy.{Hierarchy, role_names};
+ghost use Rattle.mpw_roles.specs.Order.{IsHierarchy};
+ghost use Rattle.mpw_roles.specs.Places.{mask_at};
+ghost use Rattle.mpw_separation.specs.Placed.{ArePlaced, AreSetsPlaced, IsBelow, masks_of};
+ghost use Rattle.mpw_separation.specs.Rows as rows;
+ghost use Rattle.mpw_separation.specs.Separation.{sets_of, least_broken};
+
+use crate::least::least_placed;
+use crate::{Kind, SeparationSet, Sets, SetsFault};
+use mpw_geom::Name;
+use mpw_roles::{Mask, Roles};
+use std::alloc::{AllocError, Global};
+use std::marker::Model;
+
+/// The sets of both kinds, and for each the places of its roles. There may be more masks than sets.
+#[derive(Drop)]
+pub struct PlacedSets {
+    sets: Sets,
+    ssd: Vec<Mask>,
+    dsd: Vec<Mask>,
+}
+
+impl Model for PlacedSets {
+    ghost use Rattle.mpw_separation.specs.Placed.{KeptSets, AreLong};
+
+    ghost Value = { KeptSets };
+
+    ghost view = { λ kept. record { sets = kept.sets; ssd = kept.ssd.items; dsd = kept.dsd.items } };
+
+    ghost invariant = { λ kept. AreLong kept.sets kept.ssd.items kept.dsd.items };
+}
+
+/// Makes room for the mask of one more set.
+fn reserve(masks: &mut Vec<Mask>, count: usize) -> Result<(), AllocError>
+    requires { count ≤ length masks.old.items }
+    ensures ok { OnOk result (count < length masks.new.items) }
+    ensures same { (place : ℕ) → place < count → mask_at masks.new.items place ≡ mask_at masks.old.items place }
+    ensures long { count ≤ length masks.new.items }
+{
+    if masks.len() == count {
+        masks.push(Mask::new())?;
+    }
+    Ok(())
+}
+
+/// Writes the masks of some sets: a look-up for each of their roles.
+fn write_masks(roles: &Roles, sets: &[SeparationSet], masks: &mut [Mask])
+    requires { length sets.now ≤ length masks.old }
+    ensures placed { ArePlaced (role_names roles.now) sets.now masks.new }
+    ensures long { length masks.new ≡ length masks.old }
+{
+    for index in 0..sets.len() {
+        masks[index] = roles.places(sets[index].roles());
+    }
+}
+
+/// Writes the masks of the sets that there are.
+fn rewrite(roles: &Roles, sets: &[SeparationSet], masks: &mut Vec<Mask>)
+    requires { length sets.now ≤ length masks.old.items }
+    ensures placed { ArePlaced (role_names roles.now) sets.now masks.new.items }
+    ensures long { length masks.new.items ≡ length masks.old.items }
+{
+    write_masks(roles, sets, masks);
+}
+
+impl PlacedSets {
+    /// No sets. It takes no memory.
+    pub fn new(alloc: Global) -> PlacedSets
+        ensures { result ≡ record { sets = record { ssd = []; dsd = [] }; ssd = []; dsd = [] } }
+    {
+        PlacedSets {
+            sets: Sets::new(alloc),
+            ssd: Vec::new(alloc),
+            dsd: Vec::new(alloc),
+        }
+    }
+
+    /// The sets.
+    pub fn sets(&self) -> &Sets
+        ensures { result.now ≡ self.now.sets }
+    {
+        &self.sets
+    }
+
+    /// The masks of the sets of a kind.
+    fn masks(&self, kind: Kind) -> &[Mask]
+        ensures masks { result.now ≡ masks_of kind self.now }
+        ensures long { length (sets_of kind self.now.sets) ≤ length result.now }
+    {
+        match kind {
+            Kind::Static => self.ssd.as_slice(),
+            Kind::Dynamic => self.dsd.as_slice(),
+        }
+    }
+
+    /// Writes each mask anew, for these roles. It takes no memory, and costs a look-up for each role of each set.
+    pub fn place(&mut self, roles: &Roles)
+        ensures sets { self.new.sets ≡ self.old.sets }
+        ensures placed { AreSetsPlaced (role_names roles.now) self.new }
+    {
+        rewrite(roles, self.sets.of_kind(Kind::Static), &mut self.ssd);
+        rewrite(roles, self.sets.of_kind(Kind::Dynamic), &mut self.dsd);
+    }
+
+    /// Makes a static set of these roles, for which the sets are placed.
+    ///
+    /// # Errors
+    /// `Known`, then `Full`; or `Memory`. The sets are then as they were.
+    pub fn make_ssd(&mut self, roles: &Roles, set: SeparationSet) -> Result<(), SetsFault>
+        ensures ok { OnOk result (rows.make self.old.sets.ssd set ≡ Ok self.new.sets.ssd) }
+        ensures refused { IfErr result (λ fault. (fault ≡ SetsFault.Memory) ⊎ (rows.make self.old.sets.ssd set ≡ Err fault)) }
+        ensures err { OnErr result (self.new.sets.ssd ≡ self.old.sets.ssd) }
+        ensures others { self.new.sets.dsd ≡ self.old.sets.dsd }
+        ensures placed { AreSetsPlaced (role_names roles.now) self.old → AreSetsPlaced (role_names roles.now) self.new }
+    {
+        let count = self.sets.of_kind(Kind::Static).len();
+        reserve(&mut self.ssd, count)?;
+        self.sets.make_ssd(set)?;
+        rewrite(roles, self.sets.of_kind(Kind::Static), &mut self.ssd);
+        Ok(())
+    }
+
+    /// Makes a dynamic set of these roles, for which the sets are placed.
+    ///
+    /// # Errors
+    /// `Known`, then `Full`; or `Memory`. The sets are then as they were.
+    pub fn make_dsd(&mut self, roles: &Roles, set: SeparationSet) -> Result<(), SetsFault>
+        ensures ok { OnOk result (rows.make self.old.sets.dsd set ≡ Ok self.new.sets.dsd) }
+        ensures refused { IfErr result (λ fault. (fault ≡ SetsFault.Memory) ⊎ (rows.make self.old.sets.dsd set ≡ Err fault)) }
+        ensures err { OnErr result (self.new.sets.dsd ≡ self.old.sets.dsd) }
+        ensures others { self.new.sets.ssd ≡ self.old.sets.ssd }
+        ensures placed { AreSetsPlaced (role_names roles.now) self.old → AreSetsPlaced (role_names roles.now) self.new }
+    {
+        let count = self.sets.of_kind(Kind::Dynamic).len();
+        reserve(&mut self.dsd, count)?;
+        self.sets.make_dsd(set)?;
+        rewrite(roles, self.sets.of_kind(Kind::Dynamic), &mut self.dsd);
+        Ok(())
+    }
+
+    /// Takes a static set away; the sets are placed for these roles. It takes no memory.
+    ///
+    /// # Errors
+    /// `Unknown`. The sets are then as they were.
+    #[tactic(auto, using(crate::proofs::PlacedLemmas::fewer_sets))]
+    pub fn remove_ssd(&mut self, roles: &Roles, name: &Name) -> Result<(), SetsFault>
+        ensures ok { OnOk result (rows.remove self.old.sets.ssd name.now ≡ Ok self.new.sets.ssd) }
+        ensures refused { IfErr result (λ fault. rows.remove self.old.sets.ssd name.now ≡ Err fault) }
+        ensures err { OnErr result (self.new.sets.ssd ≡ self.old.sets.ssd) }
+        ensures others { self.new.sets.dsd ≡ self.old.sets.dsd }
+        ensures placed { AreSetsPlaced (role_names roles.now) self.old → AreSetsPlaced (role_names roles.now) self.new }
+    {
+        self.sets.remove_ssd(name)?;
+        rewrite(roles, self.sets.of_kind(Kind::Static), &mut self.ssd);
+        Ok(())
+    }
+
+    /// Takes a dynamic set away; the sets are placed for these roles. It takes no memory.
+    ///
+    /// # Errors
+    /// `Unknown`. The sets are then as they were.
+    #[tactic(auto, using(crate::proofs::PlacedLemmas::fewer_sets))]
+    pub fn remove_dsd(&mut self, roles: &Roles, name: &Name) -> Result<(), SetsFault>
+        ensures ok { OnOk result (rows.remove self.old.sets.dsd name.now ≡ Ok self.new.sets.dsd) }
+        ensures refused { IfErr result (λ fault. rows.remove self.old.sets.dsd name.now ≡ Err fault) }
+        ensures err { OnErr result (self.new.sets.dsd ≡ self.old.sets.dsd) }
+        ensures others { self.new.sets.ssd ≡ self.old.sets.ssd }
+        ensures placed { AreSetsPlaced (role_names roles.now) self.old → AreSetsPlaced (role_names roles.now) self.new }
+    {
+        self.sets.remove_dsd(name)?;
+        rewrite(roles, self.sets.of_kind(Kind::Dynamic), &mut self.dsd);
+        Ok(())
+    }
+
+    /// The least name of the sets of the kind that some seniors break, from the places of the roles at or below them, where the
+    /// sets are placed for the roles. It takes no memory, and costs an `and` of eight words for each set.
+    pub fn first_broken(&self, kind: Kind, below: &Mask) -> Option<&Name>
+        ensures { (h : Hierarchy) (seniors : List (List ℕ)) → IsHierarchy h → AreSetsPlaced (role_names h) self.now → IsBelow h seniors below.now → option_copied result ≡ least_broken h (sets_of kind self.now.sets) (seniors ∷ []) }
+    {
+        least_placed(self.sets.of_kind(kind), self.masks(kind), below)
+    }
+
+    /// The same sets with the same masks.
+    ///
+    /// # Errors
+    /// Where there is no room.
+    pub fn copy(&self) -> Result<PlacedSets, AllocError>
+        ensures { IfOk result (λ sets. sets ≡ self.now) }
+    {
+        let sets = self.sets.copy()?;
+        let ssd = self.ssd.clone()?;
+        let dsd = self.dsd.clone()?;
+        Ok(PlacedSets { sets, ssd, dsd })
+    }
+}
