@@ -6,7 +6,7 @@ ghost use Rattle.mpw_report.specs.Writing.{Adds};
 
 use crate::name::put_name;
 use crate::part::{Part, put_part};
-use crate::put::put;
+use crate::texts::put;
 use itoa::Buffer;
 use mpw_deck::{Check, Rule};
 use mpw_geom::Layer;
@@ -58,7 +58,7 @@ fn put_layers<W: Write>(writer: &mut W, check: Check) -> io::Result<()>
 
 /// Writes a rule as its deck has it.
 #[tactic(auto, unfolding(crate::specs::Report::rule_text))]
-fn put_rule<W: Write>(writer: &mut W, rule: &Rule) -> io::Result<()>
+pub fn put_rule<W: Write>(writer: &mut W, rule: &Rule) -> io::Result<()>
     ensures { Adds W.contents writer.old writer.new result (rule_text rule.now) }
 {
     let mut distance = Buffer::new();

@@ -4,7 +4,7 @@ ghost use Rattle.mpw_report.specs.Report.{first_edge, second_edge, point_text, e
 ghost use Rattle.mpw_report.specs.Writing.{Adds};
 
 use crate::length::put_micrometres;
-use crate::put::put;
+use crate::texts::put;
 use mpw_edges::Axis;
 use mpw_geom::Point;
 use mpw_markers::Marker;

@@ -3,7 +3,7 @@ ghost use Rattle.std.specs.Prelude.{◌≡◌};
 ghost use Rattle.mpw_report.specs.Lengths.{last_digits, fraction, sign_text, micrometres};
 ghost use Rattle.mpw_report.specs.Writing.{Adds};
 
-use crate::put::put;
+use crate::texts::put;
 use itoa::Buffer;
 use std::io::{self, Write};
 
@@ -52,7 +52,7 @@ fn sign(nm: i64) -> &'static str
 
 /// Writes a length that is so many nm.
 #[tactic(auto, unfolding(crate::specs::Lengths::micrometres))]
-pub(crate) fn put_micrometres<W: Write>(writer: &mut W, nm: i64) -> io::Result<()>
+pub fn put_micrometres<W: Write>(writer: &mut W, nm: i64) -> io::Result<()>
     ensures { Adds W.contents writer.old writer.new result (micrometres nm) }
 {
     let mut whole = Buffer::new();

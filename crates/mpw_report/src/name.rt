@@ -3,7 +3,7 @@ ghost use Rattle.std.specs.List.{flat_map};
 ghost use Rattle.mpw_report.specs.Escapes.{character, path_character, escaped, path_text};
 ghost use Rattle.mpw_report.specs.Writing.{Adds};
 
-use crate::put::put;
+use crate::texts::put;
 use mpw_geom::Name;
 use std::io::{self, Write};
 
@@ -33,7 +33,7 @@ fn put_path_character<W: Write>(writer: &mut W, byte: u8) -> io::Result<()>
 }
 
 /// Writes a name as the text of an element.
-pub(crate) fn put_name<W: Write>(writer: &mut W, name: &Name) -> io::Result<()>
+pub fn put_name<W: Write>(writer: &mut W, name: &Name) -> io::Result<()>
     ensures { Adds W.contents writer.old writer.new result (escaped name.now) }
 {
     for byte in name.as_bytes() {

@@ -3,7 +3,7 @@ ghost use Rattle.std.specs.Prelude.{◌≡◌};
 ghost use Rattle.mpw_report.specs.Parts.{part_text};
 ghost use Rattle.mpw_report.specs.Writing.{Adds};
 
-use crate::put::put;
+use crate::texts::put;
 use std::io::{self, Write};
 
 /// A part of a report that is the same in each.

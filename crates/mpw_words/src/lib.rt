@@ -2,13 +2,13 @@
 //! the same on each run.
 #![tactic(auto)]
 
-mod marker;
+mod markers;
 mod numerals;
 mod plane;
 mod random;
 mod rule;
 
-pub use marker::{axis, side};
+pub use markers::{axis, marker, side};
 pub use numerals::{coordinate, coordinate_or_zero, number, numbers};
 pub use plane::{
     ORIENTS, coordinates, is_coordinate, is_near, is_ordered, orient, orient_word, placing,

@@ -1,16 +1,14 @@
 //! The report of markers: a deck, a line `--`, the name of the structure, and a marker a line as `RULE AXIS SIDE X1 X2 Y0 Y1`.
 #![tactic(auto)]
 
-mod words;
-
 use anyhow::{Result, bail};
 use mpw_deck::{Deck, read_deck};
 use mpw_geom::Name;
 use mpw_markers::Marker;
 use mpw_report::write_report;
+use mpw_words::marker;
 use std::alloc::Global;
 use std::io::BufWriter;
-use words::marker;
 
 /// What the lines give.
 #[derive(Drop)]

@@ -5,7 +5,7 @@ ghost use Rattle.mpw_report.specs.Writing.{Adds};
 use std::io::{self, Write};
 
 /// Writes the texts in their order.
-pub(crate) fn put<W: Write>(writer: &mut W, parts: &[&str]) -> io::Result<()>
+pub fn put<W: Write>(writer: &mut W, parts: &[&str]) -> io::Result<()>
     ensures { Adds W.contents writer.old writer.new result (flat_map (λ part. part.now) parts.now) }
 {
     for part in parts {

@@ -1,0 +1,5 @@
+pub mod Adding
+pub mod Boxes
+pub mod Rows
+pub mod Turned
+pub mod Windows

@@ -1,0 +1,12 @@
+use Rattle.std.proofs.Common.{refl}
+use Rattle.mpw_report.proofs.Adding.{adds_more, adds_same}
+use Rattle.mpw_picture.specs.Text.{group_text}
+use Rattle.mpw_picture.proofs.drawing.put_group.Goals as goal
+
+pub returns : goal.returns
+unfolding group_text
+returns g c =
+    adds_same _ _ _ _ _ (rw c.as_slice.ensures.value refl)
+    (adds_more _ _ _ _ _ _ _ _ c.in_ok-put_rectangles.was
+    (adds_more _ _ _ _ _ _ _ _ c.in_ok-put_group_head.was
+    c.put_group_head.ensures c.put_rectangles.ensures) c.put.ensures)

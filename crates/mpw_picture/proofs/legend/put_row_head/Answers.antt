@@ -1,0 +1,14 @@
+use Rattle.std.proofs.Common.{refl}
+use Rattle.mpw_report.proofs.Adding.{adds_same}
+use Rattle.mpw_picture.specs.Text.{row_head}
+use Rattle.mpw_picture.proofs.legend.put_row_head.Goals as goal
+
+pub returns : goal.returns
+unfolding row_head
+returns g c =
+    adds_same _ _ _ _ _ (rw (
+      c.format.ensures.text,
+      c.format-2.ensures.text,
+      c.rule_colour.ensures,
+    ) refl)
+    c.put.ensures

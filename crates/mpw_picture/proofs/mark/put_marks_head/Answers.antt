@@ -1,0 +1,13 @@
+use Rattle.std.proofs.Common.{refl}
+use Rattle.mpw_report.proofs.Adding.{adds_same}
+use Rattle.mpw_picture.specs.Text.{marks_head}
+use Rattle.mpw_picture.proofs.mark.put_marks_head.Goals as goal
+
+pub returns : goal.returns
+unfolding marks_head
+returns g c =
+    adds_same _ _ _ _ _ (rw (
+      c.format.ensures.text,
+      c.line_breadth.ensures,
+    ) refl)
+    c.put.ensures

@@ -1,0 +1,18 @@
+use Rattle.std.proofs.Common.{◌≡◌, true, false, ◌∙◌, sym}
+use Rattle.std.proofs.lemmas.Bool.{false≢true}
+use Rattle.mpw_picture.proofs.Adding.{adds_missed, adds_pushed}
+use Rattle.mpw_picture.proofs.shapes.add_rectangle.Goals as goal
+
+pub returns-in_ok-push : goal.returns-in_ok-push
+returns-in_ok-push c = record {
+  ok = adds_pushed c.args.window.now c.args.rectangle.now c.clipped-area.result
+      c.args.rectangles.now.items _ c.clipped-area.ensures
+      (c.has_area.ensures.0 c.if-has_area.true) c.in_ok-push.ensures.items;
+}
+
+pub returns-else-has_area : goal.returns-else-has_area
+returns-else-has_area c = record {
+  ok = adds_missed c.args.window.now c.args.rectangle.now c.clipped-area.result
+      c.args.rectangles.now.items c.clipped-area.ensures
+      (λ h. false≢true (sym c.if-has_area.false ∙ c.has_area.ensures.1 h));
+}

@@ -1,0 +1,18 @@
+use Rattle.std.proofs.Common.{◌∙◌, sym}
+use Rattle.mpw_walk.specs.Way.{item_of}
+use Rattle.mpw_tiles.specs.Shown.{ShowsSquare}
+use Rattle.mpw_picture.specs.Internal.Adding.{HasPlacedSquare}
+use Rattle.mpw_picture.proofs.Adding.{adds_none, adds_same, no_layer, boxes_show}
+use Rattle.mpw_picture.proofs.shapes.add_shape.Goals as goal
+
+pub returns : goal.returns
+returns c =
+    let item = item_of c.args.placed.now in
+    let boxes = c.in_ok-boxes.boxes.items in
+    record {
+      ok = adds_same c.args.window.now c.args.rectangles.now.items c.add_boxes.new.rectangles.items
+          (HasPlacedSquare boxes item.placing c.in-Some.layer item.origin) (ShowsSquare item)
+          (boxes_show c.args.window.now item boxes c.in-Some.layer
+          (sym c.layer_of.ensures ∙ c.in-Some.is) c.in_ok-boxes.ensures.squares)
+          (rw c.as_slice.ensures.value at c.in_ok-add_boxes.ensures.ok);
+    }

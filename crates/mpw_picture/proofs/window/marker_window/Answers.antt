@@ -1,0 +1,5 @@
+use Rattle.mpw_picture.proofs.Windows.{widened_lies}
+use Rattle.mpw_picture.proofs.window.marker_window.Goals as goal
+
+pub returns-clause-plane : goal.returns-clause-plane
+returns-clause-plane c = rw c.widened.ensures (widened_lies _ _)

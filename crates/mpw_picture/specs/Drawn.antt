@@ -1,0 +1,44 @@
+-- What a picture shows.
+use Rattle.std.specs.Prelude.{◌≡◌, ◌≤ℤ◌, ◌↔◌, ℕ, true, List, map, All}
+use Rattle.std.specs.List.{filter}
+use Rattle.mpw_geom.specs.declared.plane.Box2.{Box2}
+use Rattle.mpw_geom.specs.declared.plane.Layer.{Layer}
+use Rattle.mpw_geom.specs.Plane.{Square, has_square, HasArea}
+use Rattle.mpw_markers.specs.declared.marker.Marker.{Marker}
+use Rattle.mpw_markers.specs.Markers.{box_of}
+use Rattle.mpw_tiles.specs.declared.listing.Rectangle.{Rectangle}
+use Rattle.mpw_tiles.specs.Listing.{IsListed}
+use Rattle.mpw_tiles.specs.Shown.{IsShown}
+use Rattle.mpw_tiles.specs.Snapshots.{Snapshot, shown}
+use Rattle.mpw_walk.specs.Window.{do_meet}
+use Rattle.mpw_picture.specs.declared.picture.Mark.{Mark}
+use Rattle.mpw_picture.specs.declared.picture.Picture.{Picture}
+
+-- The rectangle has area, and lies in the window.
+pub record LiesIn (window : Box2) (rectangle : Rectangle) : Type 0 where
+  pub some : HasArea rectangle.area
+  pub left : window.x0 ≤ℤ rectangle.area.x0
+  pub bottom : window.y0 ≤ℤ rectangle.area.y0
+  pub right : rectangle.area.x1 ≤ℤ window.x1
+  pub top : rectangle.area.y1 ≤ℤ window.y1
+
+-- The rectangles lie in the window, and of each layer and submission they have just the unit squares of the window that the
+-- shapes have which the snapshot's roots show.
+pub record ShowShapes (s : Snapshot) (window : Box2) (rectangles : List Rectangle) : Type 0 where
+  pub squares : (square : Square) (layer : Layer) (origin : ℕ) → has_square window square ≡ true
+      → IsListed rectangles layer origin square ↔ IsShown (shown s) layer origin square
+  pub inside : All (LiesIn window) rectangles
+
+-- The markers whose closed boxes share a point with the window, in order.
+abbrev pub mark_at : Marker → Mark
+mark_at m = record { area = box_of m; rule = m.rule }
+
+abbrev pub marks_in : Box2 → List Marker → List Mark
+marks_in window markers = filter (λ (m : Mark). do_meet m.area window) (map mark_at markers)
+
+-- The picture of a snapshot and of markers in a window.
+pub record IsPicture (s : Snapshot) (markers : List Marker) (window : Box2) (p : Picture) :
+    Type 0 where
+  pub window_is : p.window ≡ window
+  pub shapes : ShowShapes s window p.rectangles.items
+  pub marks_are : p.marks.items ≡ marks_in window markers

@@ -1,0 +1,44 @@
+-- Sizes of a drawing: 1000 pixels are the window's longer side.
+use Rattle.std.specs.Prelude.{ℕ, ◌+◌, ◌-◌, ◌*◌, ◌/◌, max, ℤ, ◌-ℤ◌, List, [], ◌∷◌, fold, nat_le, if◌then◌else◌}
+use Rattle.mpw_geom.specs.declared.plane.Box2.{Box2}
+use Rattle.mpw_picture.specs.declared.size.Corners.{Corners}
+use Rattle.mpw_picture.specs.Windows.{side, longer_side}
+
+-- so many nm of a window, in pixels, rounded up
+abbrev pub pixels : Box2 → ℕ → ℕ
+pixels w nm = (1000 * nm + longer_side w - 1) / longer_side w
+
+-- the breadth and the height of the drawing
+unfoldable pub drawing_breadth : Box2 → ℕ
+drawing_breadth w = pixels w (side w.x0 w.x1)
+
+unfoldable pub drawing_height : Box2 → ℕ
+drawing_height w = pixels w (side w.y0 w.y1)
+
+-- the breadth of a marker's line, in nm: some 3 pixels
+unfoldable pub line_breadth : Box2 → ℕ
+line_breadth w = longer_side w / 300 + 1
+
+-- where a box of the plane lies in the drawing: x from the window's left edge, and y down from its top edge, for y points down there
+unfoldable pub turned : Box2 → Box2 → Corners
+turned w b = record {
+  left = b.x0 -ℤ w.x0;
+  top = w.y1 -ℤ b.y1;
+  right = b.x1 -ℤ w.x0;
+  bottom = w.y1 -ℤ b.y0;
+}
+
+-- the lengths that a scale bar may have, in nm
+unfoldable pub bar_lengths : List ℕ
+bar_lengths =
+    1 ∷ 2 ∷ 5 ∷ 10 ∷ 20 ∷ 50 ∷ 100 ∷ 200 ∷ 500 ∷ 1000 ∷ 2000 ∷ 5000 ∷ 10000 ∷ 20000 ∷ 50000 ∷ 100000
+    ∷ 200000 ∷ 500000 ∷ 1000000 ∷ 2000000 ∷ 5000000 ∷ 10000000 ∷ 20000000 ∷ 50000000 ∷ 100000000
+    ∷ 200000000 ∷ 500000000 ∷ []
+
+-- the last of some lengths that is within a limit; 1 where none is
+abbrev pub last_within : ℕ → List ℕ → ℕ
+last_within limit lengths = fold (λ last n. if nat_le n limit then n else last) 1 lengths
+
+-- the scale bar's: the greatest within a quarter of the window's longer side
+unfoldable pub bar_length : Box2 → ℕ
+bar_length w = last_within (longer_side w / 4) bar_lengths

@@ -1,0 +1,41 @@
+-- The windows of pictures, in nm: round a marker, and round all that is checked. They lie in the plane of coordinates from -2^48
+-- to 2^48.
+use Rattle.std.specs.Prelude.{ℕ, ◌+◌, ◌*◌, ◌/◌, ◌^◌, max, ℤ, pos, neg_ℤ, ◌+ℤ◌, ◌-ℤ◌, unsigned_abs, List, Option, Some, None}
+use Rattle.std.specs.Int.{int_min, int_max}
+use Rattle.mpw_geom.specs.declared.plane.Box2.{Box2}
+use Rattle.mpw_deck.specs.declared.rule.Rule.{Rule}
+use Rattle.mpw_markers.specs.declared.marker.Marker.{Marker}
+use Rattle.mpw_markers.specs.Markers.{box_of}
+use Rattle.mpw_tiles.specs.Plan.{greatest_distance}
+
+-- the coordinate, or the nearest one of the plane
+abbrev pub nearest : ℤ → ℤ
+nearest z = int_min (int_max z (neg_ℤ (pos (2 ^ 48)))) (pos (2 ^ 48))
+
+-- a box that is wider by so many nm on each side, as far as the plane goes
+unfoldable pub widened : ℕ → Box2 → Box2
+widened by b = record {
+  x0 = nearest (b.x0 -ℤ pos by);
+  y0 = nearest (b.y0 -ℤ pos by);
+  x1 = nearest (b.x1 +ℤ pos by);
+  y1 = nearest (b.y1 +ℤ pos by);
+}
+
+-- the window round a marker: its box, wider by 20 times the rules' greatest distance
+abbrev pub marker_window : List Rule → Marker → Box2
+marker_window rules m = widened (20 * greatest_distance rules) (box_of m)
+
+-- a side, 1 nm at least, and the longer side of a box
+unfoldable pub side : ℤ → ℤ → ℕ
+side a b = max 1 (unsigned_abs (b -ℤ a))
+
+unfoldable pub longer_side : Box2 → ℕ
+longer_side b = max (side b.x0 b.x1) (side b.y0 b.y1)
+
+-- the window round shapes of that extent: wider by a twentieth of its longer side, and 1 nm; round the origin where nothing is shown
+abbrev pub around : Box2 → Box2
+around b = widened (longer_side b / 20 + 1) b
+
+unfoldable pub whole_window : Option Box2 → Box2
+whole_window None = around (record { x0 = pos 0; y0 = pos 0; x1 = pos 0; y1 = pos 0 })
+whole_window (Some extent) = around extent

@@ -1,0 +1,46 @@
+//! The parts of a picture's text that are the same in each.
+ghost use Rattle.std.specs.Prelude.{◌≡◌};
+ghost use Rattle.mpw_picture.specs.Parts.{part_text};
+ghost use Rattle.mpw_report.specs.Writing.{Adds};
+
+use mpw_report::put;
+use std::io::{self, Write};
+
+/// A part of a picture's text that is the same in each.
+#[derive(Clone, Copy)]
+pub(crate) enum Part {
+    /// Before the paper's height.
+    Head,
+    /// Before the name of the structure.
+    Title,
+    /// Behind it, with the colours of layers.
+    LayerColours,
+    /// The colours of rules, and the paper.
+    RuleColours,
+    /// Behind the last row.
+    End,
+}
+
+/// The text of a part.
+#[tactic(auto, unfolding(crate::specs::Parts::part_text))]
+fn text(part: Part) -> &'static str
+    ensures { result.now ≡ part_text part }
+{
+    match part {
+        Part::Head =>
+            "<?xml version=\"1.0\" encoding=\"utf-8\"?>\n<svg xmlns=\"http://www.w3.org/2000/svg\" font-family=\"sans-serif\" font-size=\"16\" viewBox=\"0 0 1000 ",
+        Part::Title => "\">\n<title>",
+        Part::LayerColours =>
+            "</title>\n<style>\n.l{opacity:.6}\n.l0{fill:#4e79a7}\n.l1{fill:#f28e2b}\n.l2{fill:#59a14f}\n.l3{fill:#b07aa1}\n.l4{fill:#edc948}\n.l5{fill:#76b7b2}\n.l6{fill:#9c755f}\n.l7{fill:#17becf}\n.l8{fill:#bcbd22}\n.l9{fill:#8cd17d}\n.l10{fill:#9ecae1}\n.l11{fill:#79706e}\n",
+        Part::RuleColours =>
+            ".m{fill-opacity:.2;stroke-linejoin:round}\n.m0{fill:#d00000;stroke:#d00000}\n.m1{fill:#0000d0;stroke:#0000d0}\n.m2{fill:#b000b0;stroke:#b000b0}\n.m3{fill:#000000;stroke:#000000}\n.m4{fill:#007000;stroke:#007000}\n.m5{fill:#804000;stroke:#804000}\n</style>\n<rect width=\"100%\" height=\"100%\" fill=\"#fff\"/>\n",
+        Part::End => "</g>\n</svg>\n",
+    }
+}
+
+/// Writes a part.
+pub(crate) fn put_part<W: Write>(writer: &mut W, part: Part) -> io::Result<()>
+    ensures { Adds W.contents writer.old writer.new result (part_text part) }
+{
+    put(writer, &[text(part)])
+}

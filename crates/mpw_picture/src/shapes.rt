@@ -1,0 +1,156 @@
+//! The rectangles of shapes in a window: those of each shape that the walk gives, placed, as far as they lie in it.
+
+ghost use Rattle.std.specs.Prelude.{◌≡◌, ◌↔◌, All, IfOk, IsTrue, OnOk};
+ghost use Rattle.mpw_elements.specs.Element.{IsElement};
+ghost use Rattle.mpw_geom.specs.Plane.{HasArea, IsBoxInPlane};
+ghost use Rattle.mpw_tiles.specs.Listing.{HasSquareOf};
+ghost use Rattle.mpw_tiles.specs.Shown.{layer_of, ShowsSquare, IsShown};
+ghost use Rattle.mpw_walk.specs.Turns.{given};
+ghost use Rattle.mpw_walk.specs.Way.{item_of};
+ghost use Rattle.mpw_picture.specs.Drawn.{ShowShapes};
+ghost use Rattle.mpw_picture.specs.Internal.Adding.{clipped, HasPlacedSquare, AddsIn};
+
+use mpw_elements::Element;
+use mpw_geom::{Box2, Layer, Placing};
+use mpw_tiles::{Rectangle, Snapshot, placed_area, squares_lie_in_boxes};
+use mpw_walk::{Placed, Walk};
+use std::alloc::{AllocError, Global};
+
+/// The layer of a shape; a reference has none.
+fn layer_of(element: &Element) -> Option<Layer>
+    ensures { result ≡ layer_of element.now }
+{
+    match element {
+        Element::Boundary(boundary) => Some(boundary.layer),
+        Element::Path(path) => Some(path.layer),
+        Element::Reference(_) => None,
+    }
+}
+
+/// What two boxes share.
+fn clipped(window: &Box2, area: &Box2) -> Box2
+    ensures { result ≡ clipped window.now area.now }
+{
+    Box2 {
+        x0: window.x0.max(area.x0),
+        y0: window.y0.max(area.y0),
+        x1: window.x1.min(area.x1),
+        y1: window.y1.min(area.y1),
+    }
+}
+
+/// Whether a box has area.
+fn has_area(area: &Box2) -> bool
+    ensures { IsTrue result ↔ HasArea area.now }
+{
+    (area.x0 < area.x1) & (area.y0 < area.y1)
+}
+
+/// Adds what a rectangle has in the window. An error is want of memory.
+fn add_rectangle(
+    rectangles: &mut Vec<Rectangle>,
+    window: &Box2,
+    rectangle: &Rectangle,
+) -> Result<(), AllocError>
+    ensures ok { OnOk result (AddsIn window.now rectangles.old.items rectangles.new.items (HasSquareOf rectangle.now)) }
+{
+    let area = clipped(window, &rectangle.area);
+    if has_area(&area) {
+        rectangles.push(Rectangle {
+            area,
+            layer: rectangle.layer,
+            origin: rectangle.origin,
+        })?;
+    }
+    Ok(())
+}
+
+/// Adds what the boxes, placed, of a layer and an origin have in the window. An error is want of memory.
+fn add_boxes(
+    rectangles: &mut Vec<Rectangle>,
+    window: &Box2,
+    boxes: &[Box2],
+    placing: &Placing,
+    layer: Layer,
+    origin: u32,
+) -> Result<(), AllocError>
+    requires plane { IsBoxInPlane window.now }
+    requires area { All HasArea boxes.now }
+    ensures ok { OnOk result (AddsIn window.now rectangles.old.items rectangles.new.items
+        (HasPlacedSquare boxes.now placing.now layer origin)) }
+{
+    for b in boxes {
+        let rectangle = Rectangle {
+            area: placed_area(placing, b),
+            layer,
+            origin,
+        };
+        add_rectangle(rectangles, window, &rectangle)?;
+    }
+    Ok(())
+}
+
+/// Adds what a shape has in the window. An error is want of memory.
+fn add_shape(
+    alloc: Global,
+    rectangles: &mut Vec<Rectangle>,
+    window: &Box2,
+    placed: &Placed<'_>,
+) -> Result<(), AllocError>
+    requires plane { IsBoxInPlane window.now }
+    requires element { IsElement placed.now.element.now }
+    ensures ok { OnOk result (AddsIn window.now rectangles.old.items rectangles.new.items
+        (ShowsSquare (item_of placed.now))) }
+{
+    let Some(layer) = layer_of(placed.element) else {
+        return Ok(());
+    };
+    let boxes = mpw_shapes::rectangles(alloc, placed.element)?;
+    add_boxes(
+        rectangles,
+        window,
+        boxes.as_slice(),
+        &placed.placing,
+        layer,
+        placed.origin,
+    )?;
+    Ok(())
+}
+
+/// Adds what the shapes have in the window that the walk still gives. An error is want of memory.
+fn add_shapes(
+    alloc: Global,
+    rectangles: &mut Vec<Rectangle>,
+    window: &Box2,
+    walk: &mut Walk<'_>,
+) -> Result<(), AllocError>
+    requires plane { IsBoxInPlane window.now }
+    ensures ok { OnOk result (AddsIn window.now rectangles.old.items rectangles.new.items
+        (IsShown (given walk.old.left))) }
+{
+    while let Some(placed) = walk.next() {
+        add_shape(alloc, rectangles, window, &placed)?;
+    }
+    Ok(())
+}
+
+/// The rectangles of a snapshot in a window: they have just the squares of it that the shapes have which the roots show, by
+/// layer and submission, and lie in it.
+///
+/// # Errors
+/// Where there is no memory.
+pub(crate) fn rectangles_in(
+    alloc: Global,
+    snapshot: &Snapshot,
+    window: &Box2,
+) -> Result<Vec<Rectangle>, AllocError>
+    requires plane { IsBoxInPlane window.now }
+    ensures { IfOk result (λ rectangles. ShowShapes snapshot.now window.now rectangles.items) }
+{
+    squares_lie_in_boxes();
+    snapshot.is_snapshot();
+    let mut rectangles = Vec::new(alloc);
+    let mut walk = Walk::within(snapshot.shelf(), snapshot.roots(), *window);
+    add_shapes(alloc, &mut rectangles, window, &mut walk)?;
+    Ok(rectangles)
+}

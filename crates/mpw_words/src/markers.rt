@@ -1,0 +1,52 @@
+//! Markers by their words.
+
+use crate::numerals::{coordinate, number};
+use anyhow::{Result, bail};
+use mpw_edges::Axis;
+use mpw_markers::{Marker, Met};
+use std::alloc::Global;
+
+/// The axis `V` or `H`.
+///
+/// # Errors
+/// At another word.
+pub fn axis(word: &str) -> Result<Axis> {
+    match word {
+        "V" => Ok(Axis::V),
+        "H" => Ok(Axis::H),
+        _ => bail!("an axis"),
+    }
+}
+
+/// The side `0` or `1`.
+///
+/// # Errors
+/// At another word.
+pub fn side(word: &str) -> Result<u8> {
+    match word {
+        "0" => Ok(0),
+        "1" => Ok(1),
+        _ => bail!("a side"),
+    }
+}
+
+/// The marker of a line of seven words: rule, axis, side, x1, x2, y0, y1. It meets no submission.
+///
+/// # Errors
+/// Where a word is none, or there is no memory.
+pub fn marker(alloc: Global, line: &str) -> Result<Marker> {
+    let words: Vec<&str> = line.split_whitespace().collect(alloc)?;
+    let [rule, on, of, x1, x2, y0, y1] = words.as_slice() else {
+        bail!("seven words");
+    };
+    Ok(Marker {
+        rule: number(rule)?,
+        axis: axis(on)?,
+        side: side(of)?,
+        x1: coordinate(x1)?,
+        x2: coordinate(x2)?,
+        y0: coordinate(y0)?,
+        y1: coordinate(y1)?,
+        met: Met::none(),
+    })
+}

@@ -1,0 +1,78 @@
+//! What the lines give: a deck, a shelf, markers and a name.
+
+use anyhow::{Result, bail};
+use mpw_deck::{Deck, read_deck};
+use mpw_geom::Name;
+use mpw_hier::Shelf;
+use mpw_markers::Marker;
+use mpw_plain::{placed_roots, submit};
+use mpw_tiles::{Snapshot, are_roots};
+use mpw_words::marker;
+use std::alloc::Global;
+
+/// What the lines give.
+#[derive(Drop)]
+pub struct Given {
+    deck: String,
+    shelf: Shelf,
+    name: Option<Name>,
+    /// The markers, in their order.
+    pub markers: Vec<Marker>,
+}
+
+impl Given {
+    /// Nothing yet.
+    pub fn new(alloc: Global) -> Given {
+        Given {
+            deck: String::new(alloc),
+            shelf: Shelf::new(alloc),
+            name: None,
+            markers: Vec::new(alloc),
+        }
+    }
+
+    fn add_rule(&mut self, line: &str) -> Result<()> {
+        self.deck.push_str(line)?;
+        Ok(self.deck.push_str("\n")?)
+    }
+
+    /// Takes what a line gives.
+    pub fn take(&mut self, alloc: Global, words: &[&str], rest: &str) -> Result<()> {
+        match words {
+            ["new", top] => {
+                *self = Given::new(alloc);
+                self.name = Some(Name::read(alloc, top.as_bytes())?);
+            }
+            ["deck"] => self.add_rule(rest)?,
+            ["submit", cell, top] => submit(alloc, &mut self.shelf, cell, top, rest)?,
+            ["marker"] => self.markers.push(marker(alloc, rest)?)?,
+            _ => bail!("a command"),
+        }
+        Ok(())
+    }
+
+    /// The name of the pictures.
+    pub fn top(&self) -> Result<&Name> {
+        match &self.name {
+            Some(name) => Ok(name),
+            None => bail!("a name"),
+        }
+    }
+
+    fn read_deck(&self, alloc: Global) -> Result<Deck> {
+        match read_deck(alloc, self.deck.as_bytes()) {
+            Ok(deck) => Ok(deck),
+            Err(_) => bail!("a deck"),
+        }
+    }
+
+    /// The snapshot of placed submissions.
+    pub fn snapshot(&self, alloc: Global, placed: &str) -> Result<Snapshot> {
+        let roots = placed_roots(alloc, placed)?;
+        let shelf = self.shelf.copy(alloc)?;
+        if !are_roots(&shelf, &roots) {
+            bail!("roots that fit");
+        }
+        Ok(Snapshot::new(alloc, self.read_deck(alloc)?, roots, shelf)?)
+    }
+}
