@@ -1,2 +1,3 @@
 mod AloneLemmas
 mod TileLemmas
+mod ListLemmas

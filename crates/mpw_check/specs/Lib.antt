@@ -1,3 +1,4 @@
 pub mod Drawn
 pub mod Tiled
+pub mod Lists
 pub mod Internal

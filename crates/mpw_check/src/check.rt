@@ -1,16 +1,17 @@
 //! Checking: the cut, a job a tile, and the stitching.
 
-ghost use Rattle.std.specs.Prelude.{◌≡◌, Some, map, length, All, IfOk, IfErr};
-ghost use Rattle.mpw_job.specs.Laws.{AnswerTiles};
+ghost use Rattle.std.specs.Prelude.{◌≡◌, ◌≤◌, Some, map, length, All, IfOk, IfErr, IfSome};
 ghost use Rattle.mpw_job.specs.Layout.{AreLayoutMarkers};
 ghost use Rattle.mpw_tiles.specs.Placed.{WindowsLieInPlane};
 ghost use Rattle.mpw_tiles.specs.Plan.{tiles};
-ghost use Rattle.mpw_tiles.specs.Snapshots.{plan_for};
+ghost use Rattle.mpw_tiles.specs.Snapshots.{plan_for, StandFor};
+ghost use Rattle.mpw_check.specs.Lists.{tile_count, AreTiles, AreOfTiles};
 ghost use Rattle.mpw_check.specs.Tiled.{IsOfPlan};
-ghost use Rattle.mpw_check.specs.Internal.Tiled.{only_run, jobs_of, markers_in, IsAnswered};
+ghost use Rattle.mpw_check.specs.Internal.Tiled.{jobs_of, markers_in, IsAnswered};
 
 use crate::fault::CheckFault;
-use mpw_job::{Answer, Job, answers_make_the_layout, no_shapes_no_markers, tile_job, work_all};
+use crate::laws::tiles_make_the_layout;
+use mpw_job::{Answer, Job, tile_job, work_all};
 use mpw_markers::{Book, TileMarkers, stitch};
 use mpw_tiles::{Plan, Snapshot, Windows, cut};
 use std::alloc::{AllocError, Global};
@@ -19,20 +20,24 @@ use std::thread::Threads;
 /// The number of the only run.
 const ONLY_RUN: u32 = 1;
 
-/// The jobs of all tiles, in order.
+/// The jobs of the tiles from `first` to below `end`, in order.
 fn tile_jobs(
     alloc: Global,
     snapshot: &Snapshot,
     plan: &Plan,
     windows: &Windows,
+    first: u32,
+    end: u32,
 ) -> Result<Vec<Job>, AllocError>
     requires plan { plan_for snapshot.now ≡ Some plan.now }
     requires plane { WindowsLieInPlane plan.now }
     requires windows { length windows.now ≡ tiles plan.now }
-    ensures { IfOk result (λ jobs. jobs.items ≡ jobs_of snapshot.now plan.now windows.now) }
+    requires ordered { first ≤ end }
+    requires within { end ≤ tiles plan.now }
+    ensures { IfOk result (λ jobs. jobs.items ≡ jobs_of snapshot.now plan.now windows.now first end) }
 {
     let mut jobs = Vec::new(alloc);
-    for tile in 0..plan.tiles() {
+    for tile in first..end {
         let job = tile_job(ONLY_RUN, tile, snapshot, plan, windows)?;
         jobs.push(Job::Tile(job))?;
     }
@@ -78,51 +83,114 @@ fn are_answered(answers: &[Answer])
     }
 }
 
-/// The markers of all tiles of a plan, tile by tile, found in as many threads as there are processors.
-#[tactic(auto, using(crate::proofs::TileLemmas::answer_tiles))]
+/// The markers of the tiles from `first` to below `end`, found in as many threads as there are processors.
+#[tactic(auto, using(crate::proofs::TileLemmas::of_tiles))]
 fn tile_lists(
     rt: &(impl Threads + Sync),
     alloc: Global,
     snapshot: &Snapshot,
     plan: &Plan,
     windows: &Windows,
+    first: u32,
+    end: u32,
 ) -> Result<Vec<TileMarkers>, AllocError>
     requires plan { plan_for snapshot.now ≡ Some plan.now }
     requires plane { WindowsLieInPlane plan.now }
     requires windows { length windows.now ≡ tiles plan.now }
-    ensures { IfOk result (λ lists. AnswerTiles snapshot.now plan.now windows.now only_run lists.items) }
+    requires stand { StandFor snapshot.now windows.now }
+    requires ordered { first ≤ end }
+    requires within { end ≤ tiles plan.now }
+    ensures { IfOk result (λ lists. AreOfTiles snapshot.now first end lists.items) }
 {
-    let jobs = tile_jobs(alloc, snapshot, plan, windows)?;
+    let jobs = tile_jobs(alloc, snapshot, plan, windows, first, end)?;
     let answers = work_all(rt, alloc, jobs.as_slice())?;
     are_answered(answers.as_slice());
     lists_of(alloc, answers.as_slice())
 }
 
-/// The markers of a snapshot by a plan of its tiles.
-fn check_tiles(
+/// The same of a snapshot with that plan, which is cut for them.
+fn planned_lists(
     rt: &(impl Threads + Sync),
     alloc: Global,
     snapshot: &Snapshot,
     plan: &Plan,
-) -> Result<Book, AllocError>
+    first: u32,
+    end: u32,
+) -> Result<Vec<TileMarkers>, AllocError>
     requires plan { plan_for snapshot.now ≡ Some plan.now }
     requires plane { WindowsLieInPlane plan.now }
+    requires ordered { first ≤ end }
+    requires within { end ≤ tiles plan.now }
+    ensures { IfOk result (λ lists. AreOfTiles snapshot.now first end lists.items) }
+{
+    let windows = cut(alloc, snapshot)?;
+    tile_lists(rt, alloc, snapshot, plan, &windows, first, end)
+}
+
+/// How many tiles there are to check, at most 4096: 0 without shapes, and none where there would be more. Linear in the roots and
+/// the rules; takes no memory.
+pub fn tile_count(snapshot: &Snapshot) -> Option<u32>
+    ensures count { result ≡ tile_count snapshot.now }
+    ensures few { IfSome result (λ tiles. tiles ≤ 4096) }
+{
+    if snapshot.extent().is_none() {
+        return Some(0);
+    }
+    match snapshot.plan() {
+        Some(plan) => Some(plan.tiles()),
+        None => None,
+    }
+}
+
+/// The markers of the tiles from `first` to below `end`, counted from 0, a list for each. Lists of all tiles, found anywhere, are
+/// stitched to the markers of the layout ([`tiles_make_the_layout`]).
+///
+/// The layout is cut once; each of these tiles is a job, and the jobs are done in as many threads as there are processors. It costs
+/// what [`mpw_tiles::cut`] and [`mpw_job::do_job`] for each of these tiles do.
+///
+/// # Errors
+/// Want of memory.
+#[tactic(auto, using(crate::proofs::TileLemmas::within_plan, crate::proofs::TileLemmas::none_there))]
+pub fn check_tiles(
+    rt: &(impl Threads + Sync),
+    alloc: Global,
+    snapshot: &Snapshot,
+    first: u32,
+    end: u32,
+) -> Result<Vec<TileMarkers>, AllocError>
+    requires { AreTiles snapshot.now first end }
+    ensures { IfOk result (λ lists. AreOfTiles snapshot.now first end lists.items) }
+{
+    match snapshot.plan() {
+        Some(plan) => planned_lists(rt, alloc, snapshot, &plan, first, end),
+        None => Ok(Vec::new(alloc)),
+    }
+}
+
+/// The markers of so many tiles, which are all.
+#[tactic(auto, using(crate::proofs::TileLemmas::all_there))]
+fn check_all(
+    rt: &(impl Threads + Sync),
+    alloc: Global,
+    snapshot: &Snapshot,
+    tiles: u32,
+) -> Result<Book, AllocError>
+    requires { tile_count snapshot.now ≡ Some tiles }
     ensures { IfOk result (AreLayoutMarkers snapshot.now) }
 {
-    answers_make_the_layout();
+    tiles_make_the_layout();
     snapshot.is_snapshot();
-    let windows = cut(alloc, snapshot)?;
-    let lists = tile_lists(rt, alloc, snapshot, plan, &windows)?;
+    let lists = check_tiles(rt, alloc, snapshot, 0, tiles)?;
     stitch(alloc, &lists)
 }
 
 /// The markers of the flat layout of a snapshot's roots under its deck, in the order of their keys.
 ///
-/// The layout is cut once; each tile is a job, and the jobs are done in as many threads as there are processors. It costs what
-/// [`mpw_tiles::cut`], [`mpw_job::do_job`] for each tile and [`mpw_markers::stitch`] do.
+/// It costs what [`check_tiles`] does for all tiles, and [`mpw_markers::stitch`].
 ///
 /// # Errors
 /// More than 4096 tiles of the deck's side over the layout's extent, or want of memory.
+#[tactic(auto, using(crate::proofs::TileLemmas::too_many))]
 pub fn check_layout(
     rt: &(impl Threads + Sync),
     alloc: Global,
@@ -131,12 +199,8 @@ pub fn check_layout(
     ensures markers { IfOk result (AreLayoutMarkers snapshot.now) }
     ensures faults { IfErr result (IsOfPlan snapshot.now) }
 {
-    no_shapes_no_markers();
-    if let Some(plan) = snapshot.plan() {
-        return Ok(check_tiles(rt, alloc, snapshot, &plan)?);
-    }
-    match snapshot.extent() {
-        None => Ok(Book::new()),
-        Some(_) => Err(CheckFault::Tiles),
+    match tile_count(snapshot) {
+        Some(tiles) => Ok(check_all(rt, alloc, snapshot, tiles)?),
+        None => Err(CheckFault::Tiles),
     }
 }

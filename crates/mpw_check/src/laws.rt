@@ -1,7 +1,10 @@
 //! Laws of the definitions alone.
 
+ghost use Rattle.mpw_check.specs.Lists.{TilesFollowOn, TilesMakeTheLayout};
 ghost use Rattle.mpw_check.specs.Tiled.{MarkersAreTheLibrarys};
 
+use mpw_job::{answers_make_the_layout, no_shapes_no_markers};
+use mpw_markers::lists_determine_the_book;
 use mpw_walk::unmoved_roots_show_their_submission;
 
 /// The markers of what [`crate::read_layout`] gives are those of the flat list of the library's top, by itself, under the
@@ -10,4 +13,19 @@ pub fn markers_are_the_librarys()
     ensures { MarkersAreTheLibrarys }
 {
     unmoved_roots_show_their_submission();
+}
+
+/// The lists of tiles, and behind them those of the tiles that follow, are the lists of all these tiles. A law: the function does
+/// nothing.
+pub fn tiles_follow_on()
+    ensures { TilesFollowOn }
+{}
+
+/// The book stitched from the lists of all tiles, wherever each was found, has just the markers of the flat layout.
+pub fn tiles_make_the_layout()
+    ensures { TilesMakeTheLayout }
+{
+    answers_make_the_layout();
+    lists_determine_the_book();
+    no_shapes_no_markers();
 }

@@ -1,5 +1,5 @@
--- What private functions and proofs need of this: the jobs of the tiles of what is checked, and what keeps from it.
-use Rattle.std.specs.Prelude.{ℕ, List, [], map}
+-- What private functions and proofs need of this: the jobs of the tiles of what is checked.
+use Rattle.std.specs.Prelude.{ℕ, ◌-◌, List, [], map}
 use Rattle.std.specs.List.{range_with_len}
 use Rattle.mpw_job.specs.Answers.{Answers}
 use Rattle.mpw_job.specs.Laws.{task_of}
@@ -9,19 +9,17 @@ use Rattle.mpw_job.specs.declared.job.Job.{Job}
 use Rattle.mpw_job.specs.declared.job.Job.TheVariants as jobs
 use Rattle.mpw_markers.specs.declared.marker.Marker.{Marker}
 use Rattle.mpw_tiles.specs.declared.listing.Rectangle.{Rectangle}
-use Rattle.mpw_tiles.specs.Plan.{Tiling, tiles}
+use Rattle.mpw_tiles.specs.Plan.{Tiling}
 use Rattle.mpw_tiles.specs.Snapshots.{Snapshot}
+use Rattle.mpw_check.specs.Lists.{only_run}
 
--- The number of the only run.
-abbrev pub only_run : ℕ
-only_run = 1
-
--- The job of a tile, and those of all tiles, in order.
+-- The job of a tile, and those of the tiles from `first` to below `end`, in order.
 abbrev pub job_at : Snapshot → Tiling → List (List Rectangle) → ℕ → Job
 job_at snapshot plan windows tile = jobs.Tile (task_of snapshot plan windows only_run tile)
 
-abbrev pub jobs_of : Snapshot → Tiling → List (List Rectangle) → List Job
-jobs_of snapshot plan windows = map (job_at snapshot plan windows) (range_with_len 0 (tiles plan))
+abbrev pub jobs_of : Snapshot → Tiling → List (List Rectangle) → (first end : ℕ) → List Job
+jobs_of snapshot plan windows first end =
+    map (job_at snapshot plan windows) (range_with_len first (end - first))
 
 -- The markers of an answer, which are those of its tile; a cut has none.
 abbrev pub markers_in : Answer → List Marker

@@ -1,0 +1,85 @@
+-- The markers of tiles, a list for each, and what comes of the lists of all tiles.
+use Rattle.std.specs.Prelude.{◌≡◌, ◌≤◌, ◌<◌, ◌+◌, ◌↔◌, ℕ, true, List, [], ◌++◌, length, slice_index_or, Contains, Option, Some, None, option_map}
+use Rattle.mpw_geom.specs.declared.plane.Box2.{Box2}
+use Rattle.mpw_geom.specs.declared.plane.Layer.{Layer}
+use Rattle.mpw_geom.specs.Plane.{Square, has_square}
+use Rattle.mpw_grid.specs.Grid.{ShareSquare}
+use Rattle.mpw_hier.specs.Items.{Item}
+use Rattle.mpw_job.specs.Answers.{Task, Answers}
+use Rattle.mpw_job.specs.Layout.{AreLayoutMarkers}
+use Rattle.mpw_markers.specs.Stitched.{IsStitched}
+use Rattle.mpw_markers.specs.declared.marker.Marker.{Marker}
+use Rattle.mpw_tiles.specs.Listing.{IsListed}
+use Rattle.mpw_tiles.specs.Plan.{Tiling, tiles, tile_core, tile_window}
+use Rattle.mpw_tiles.specs.Shown.{IsShown}
+use Rattle.mpw_tiles.specs.Snapshots.{Snapshot, IsSnapshot, shown, shown_extent, plan_for}
+use Rattle.mpw_tiles.specs.declared.listing.Rectangle.{Rectangle}
+
+-- The number of the only run.
+abbrev pub only_run : ℕ
+only_run = 1
+
+-- A window of the tile: by layer and origin, a listed rectangle has a unit square of it exactly where a shape has it. Nothing is listed
+-- that has no square of it.
+pub record ShowsTile (plan : Tiling) (items : List Item) (tile : ℕ) (window : List Rectangle) :
+    Type 0 where
+  pub squares : (s : Square) (layer : Layer) (origin : ℕ)
+      → has_square (tile_window plan tile) s ≡ true
+      → IsListed window layer origin s ↔ IsShown items layer origin s
+  pub near : (r : Rectangle) → Contains window r → ShareSquare (tile_window plan tile) r.area
+
+-- The tile's task with that window.
+abbrev pub task_with : Snapshot → Tiling → List Rectangle → ℕ → Task
+task_with s plan window tile = record {
+  run = only_run;
+  tile = tile;
+  core = tile_core plan tile;
+  window = window;
+  rules = s.deck.rules;
+}
+
+-- The markers are those of the tile of the snapshot's plan: they answer its task with a window that shows the layout there.
+pub record IsOfTile (s : Snapshot) (tile : ℕ) (markers : List Marker) : Type 0 where
+  pub plan : Tiling
+  pub planned : plan_for s ≡ Some plan
+  pub within : tile < tiles plan
+  pub window : List Rectangle
+  pub shows : ShowsTile plan (shown s) tile window
+  pub answered : Answers (task_with s plan window tile) markers
+
+-- A list for each tile from `first` to below `end`.
+pub record AreOfTiles (s : Snapshot) (first end : ℕ) (lists : List (List Marker)) : Type 0 where
+  pub count : first + length lists ≡ end
+  pub own : (k : ℕ) → k < length lists → IsOfTile s (first + k) (slice_index_or lists k [])
+
+-- How many tiles there are: none without shapes; nothing is told where there would be more than 4096.
+abbrev pub count_over : Option Box2 → Option Tiling → Option ℕ
+count_over None plan = Some 0
+count_over (Some extent) plan = option_map tiles plan
+
+abbrev pub tile_count : Snapshot → Option ℕ
+tile_count s = count_over (shown_extent s) (plan_for s)
+
+-- The tiles from `first` to below `end` are there.
+pub record AreTiles (s : Snapshot) (first end : ℕ) : Type 0 where
+  pub ordered : first ≤ end
+  pub total : ℕ
+  pub counted : tile_count s ≡ Some total
+  pub within : end ≤ total
+
+-- ---- laws
+
+-- The lists of tiles, and behind them those of the tiles that follow, are the lists of all these tiles.
+abbrev pub TilesFollowOn : Type 0
+TilesFollowOn =
+    (s : Snapshot) (first mid end : ℕ) (lists more : List (List Marker))
+    → AreOfTiles s first mid lists → AreOfTiles s mid end more
+    → AreOfTiles s first end (lists ++ more)
+
+-- The book stitched from the lists of all tiles has just the markers of the flat layout.
+abbrev pub TilesMakeTheLayout : Type 0
+TilesMakeTheLayout =
+    (s : Snapshot) (total : ℕ) (lists : List (List Marker)) (book : List Marker)
+    → IsSnapshot s → tile_count s ≡ Some total → AreOfTiles s 0 total lists
+    → IsStitched lists book
+    → AreLayoutMarkers s book

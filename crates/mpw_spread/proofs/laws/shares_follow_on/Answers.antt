@@ -1,0 +1,5 @@
+use Rattle.mpw_spread.proofs.Shares.{shares_follow_on}
+use Rattle.mpw_spread.proofs.laws.shares_follow_on.Goals as goal
+
+pub returns : goal.returns
+returns c = shares_follow_on
