@@ -97,7 +97,7 @@ def lacking_codes(codes):
         ("TextFault", "crates/mpw_records/src/fault.rt", "Code"),
         ("DeckKind", "crates/mpw_deck/src/deck.rt", "DeckKind"),
         ("Code", "crates/mpw_replies/src/reply.rt", "Code"),
-        ("Refusal", "crates/mpw_wire/src/reply.rt", "LineRefusal"),
+        ("LineRefusal", "crates/mpw_wire/src/reply.rt", "LineRefusal"),
     )
     named = {(kind, variant) for kind, variant, _, _ in wire}
     lost = [
