@@ -1,6 +1,7 @@
 use Rattle.std.proofs.Common.{rules}
 use Rattle.std.specs.Int.{int_min, int_max}
-use Rattle.mpw_tiles.proofs.Looking.{same_box, fitting}
+use Rattle.mpw_geom.proofs.Boxes.{same_box}
+use Rattle.mpw_tiles.proofs.Looking.{fitting}
 use Rattle.mpw_picture.proofs.shapes.clipped.Goals as goal
 
 pub returns : goal.returns
