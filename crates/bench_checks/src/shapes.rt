@@ -1,6 +1,6 @@
 //! The rectangles of two layers, and what a check finds among them.
 
-use mpw_deck::Rule;
+use mpw_deck::{Check, Rule};
 use mpw_geom::{Box2, Layer, Name};
 use mpw_words::{check_of, coordinate_or_zero};
 use std::alloc::{AllocError, Global};
