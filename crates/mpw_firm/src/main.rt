@@ -1,24 +1,33 @@
 //! The program of a firm: `mpw check --deck DECK --top STRUCTURE FILE` checks a structure of a GDSII library under a deck, and
 //! prints its markers as a desk lists them; with `--report OUT` it writes them to a file too, as a report database of KLayout's.
+//! With `--tiles` it checks some tiles of the plan, and prints their part; `mpw stitch PART..` prints the markers of the whole.
 #![tactic(auto)]
 
 mod asked;
+mod blank;
 mod cause;
 mod fault;
 mod listing;
 mod options;
+mod part;
 mod place;
 mod progress;
+mod reading;
 mod report;
 mod sentences;
+mod stitch;
+mod stitch_options;
 mod told;
+mod told_parts;
 
 use asked::check;
 use fault::{FirmFault, exit_status};
-use options::{Asked, read_options};
+use options::{Asked, Options, read_options};
+use part::check_range;
 use std::process::ExitCode;
 use std::thread::Threads;
 use std::{env, io};
+use stitch::stitch;
 
 /// The words of the command line.
 fn words(rt: &HostRuntime) -> Result<Vec<String>, FirmFault> {
@@ -43,18 +52,31 @@ fn print_told(rt: &HostRuntime, text: &str) -> Result<usize, FirmFault> {
     }
 }
 
-/// Reads the command line, checks, and tells how many markers there are.
+/// Checks the whole, or the tiles that are asked for.
+fn check_asked(
+    rt: &HostRuntime,
+    threads: &(impl Threads + Sync),
+    options: &Options,
+) -> Result<usize, FirmFault> {
+    match options.tiles {
+        None => check(rt, threads, options),
+        Some(range) => check_range(rt, threads, options, range),
+    }
+}
+
+/// Reads the command line, checks or stitches, and tells how many markers there are.
 fn run(rt: &HostRuntime, threads: &(impl Threads + Sync)) -> Result<usize, FirmFault> {
     let words = words(rt)?;
     let words: Vec<&str> = words.iter().map(|word| word.as_str()).collect(rt.alloc())?;
     match read_options(rt.alloc(), words.as_slice())? {
-        Asked::Check(options) => check(rt, threads, &options),
+        Asked::Check(options) => check_asked(rt, threads, &options),
+        Asked::Stitch(options) => stitch(rt, &options),
         Asked::Told(text) => print_told(rt, text.as_str()),
     }
 }
 
-/// Exits with 0 without markers and 1 with some, 2 at a usage fault, 3 where a file or a device failed, 4 where the library
-/// or the deck has a fault, and 5 where memory was wanting; with 0 behind the help and the version too. A fault is told on the
+/// Exits with 0 without markers and 1 with some, 2 at a usage fault, 3 where a file or a device failed, 4 where the library,
+/// the deck or a part has a fault, and 5 where memory was wanting; with 0 behind the help and the version too. A fault is told on the
 /// standard error.
 fn main(rt: HostRuntime) -> ExitCode {
     let ended = run(&rt, &rt);

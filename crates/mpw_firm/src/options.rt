@@ -1,13 +1,15 @@
 //! The command line.
 
 use crate::fault::FirmFault;
+use crate::stitch_options::{StitchOptions, read_stitch};
 use clap::error::ErrorKind;
-use clap::{Arg, ArgAction, ArgMatches, Command};
+use clap::{Arg, ArgAction, ArgMatches, Command, Error};
 use mpw_geom::{Name, NameFault};
+use mpw_spread::{TileRange, read_range};
 use std::alloc::{AllocError, Global};
 
 /// The version that `--version` tells.
-const VERSION: &str = "1";
+pub const VERSION: &str = "1";
 
 /// A check that the command line asks for. A file `-` is the standard input.
 #[derive(Drop)]
@@ -20,6 +22,8 @@ pub struct Options {
     pub file: String,
     /// The file that the report is written to, if one is wanted.
     pub report: Option<String>,
+    /// The tiles whose part is wanted, in place of the markers of the whole.
+    pub tiles: Option<TileRange>,
 }
 
 /// What the command line asks for.
@@ -27,6 +31,8 @@ pub struct Options {
 pub enum Asked {
     /// A check.
     Check(Options),
+    /// Parts, stitched.
+    Stitch(StitchOptions),
     /// The help or the version, with its text.
     Told(String),
 }
@@ -60,17 +66,25 @@ fn command<'a>(alloc: Global) -> Result<Command<'a>, AllocError> {
         .value_name("OUT")
         .action(ArgAction::Set)
         .help("A file for the markers as a report database, which KLayout opens");
+    let tiles = Arg::new(alloc, "tiles")
+        .long("tiles")
+        .value_name("TILES")
+        .action(ArgAction::Set)
+        .help(
+            "Checks some tiles, and prints their part for 'mpw stitch': A-B, from tile A to tile B, both included and counted from 0; or K/N, the K-th of N shares",
+        );
     Command::new(alloc, "mpw check")
         .version(VERSION)
         .about("Checks a structure of a GDSII library under a deck, and lists its markers")
         .arg(deck)?
         .arg(top)?
         .arg(report)?
+        .arg(tiles)?
         .arg(file)
 }
 
 /// A fault of the command line, with its text.
-fn usage(alloc: Global, text: &str) -> FirmFault {
+pub fn usage(alloc: Global, text: &str) -> FirmFault {
     match String::from_str(alloc, text) {
         Ok(text) => FirmFault::Usage(text),
         Err(_) => FirmFault::Memory,
@@ -113,6 +127,30 @@ fn read_report(
     Ok(Some(String::from_str(alloc, report)?))
 }
 
+/// The tiles whose part is wanted.
+fn read_tiles(
+    alloc: Global,
+    tiles: Option<&str>,
+    report: Option<&str>,
+) -> Result<Option<TileRange>, FirmFault> {
+    let Some(tiles) = tiles else {
+        return Ok(None);
+    };
+    if report.is_some() {
+        return Err(usage(
+            alloc,
+            "error: a part has no report: give --report to 'mpw stitch'",
+        ));
+    }
+    match read_range(alloc, tiles.as_bytes())? {
+        Some(range) => Ok(Some(range)),
+        None => Err(usage(
+            alloc,
+            "error: --tiles takes A-B, from tile A to tile B, both included and counted from 0; or K/N, the K-th of N shares",
+        )),
+    }
+}
+
 /// What the command line's words give.
 fn given(alloc: Global, matches: &ArgMatches<'_>) -> Result<Options, FirmFault> {
     let words = (
@@ -134,18 +172,39 @@ fn given(alloc: Global, matches: &ArgMatches<'_>) -> Result<Options, FirmFault> 
         top: read_top(alloc, top)?,
         file: String::from_str(alloc, file)?,
         report: read_report(alloc, matches.get_str("report"), [deck, file])?,
+        tiles: read_tiles(alloc, matches.get_str("tiles"), matches.get_str("report"))?,
     })
 }
 
-/// What the words of a command line ask for, the program's name first. One pass over the words.
+/// What an error of `clap` asks for: the help or the version, or it is a fault.
+pub fn asked_by(alloc: Global, error: Error) -> Result<Asked, FirmFault> {
+    if error.kind() == ErrorKind::OutOfMemory {
+        return Err(FirmFault::Memory);
+    }
+    let text = error.to_string(alloc)?;
+    if error.use_stderr() {
+        Err(FirmFault::Usage(text))
+    } else {
+        Ok(Asked::Told(text))
+    }
+}
+
+/// What the words of a check's command line ask for, the program's name first.
+fn read_check<'a>(alloc: Global, words: &'a [&'a str]) -> Result<Asked, FirmFault> {
+    match command(alloc)?.try_get_matches_from(words) {
+        Ok(matches) => Ok(Asked::Check(given(alloc, &matches)?)),
+        Err(error) => asked_by(alloc, error),
+    }
+}
+
+/// What the words of a command line ask for, the program's name first, and behind it `stitch` where parts are to be stitched. One
+/// pass over the words.
 ///
 /// # Errors
 /// `Usage`, with a text that says what is wrong and what is accepted; and `Memory`.
 pub fn read_options<'a>(alloc: Global, words: &'a [&'a str]) -> Result<Asked, FirmFault> {
-    match command(alloc)?.try_get_matches_from(words) {
-        Ok(matches) => Ok(Asked::Check(given(alloc, &matches)?)),
-        Err(error) if error.kind() == ErrorKind::OutOfMemory => Err(FirmFault::Memory),
-        Err(error) if !error.use_stderr() => Ok(Asked::Told(error.to_string(alloc)?)),
-        Err(error) => Err(FirmFault::Usage(error.to_string(alloc)?)),
+    match words {
+        [_, first, rest @ ..] if *first == "stitch" => read_stitch(alloc, rest),
+        _ => read_check(alloc, words),
     }
 }

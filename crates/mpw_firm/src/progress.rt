@@ -1,12 +1,17 @@
-//! What a terminal is told while a check goes on.
+//! What is told on the standard error of a check that goes on or has ended.
 
+use mpw_check::tile_count;
+use mpw_deck::Rules;
+use mpw_markers::{Marker, TileMarkers};
+use mpw_spread::Span;
 use mpw_tiles::Snapshot;
-use std::io::IsTerminal;
+use std::io::{self, IsTerminal};
+use std::time::Instant;
 
 /// How many tiles the layout has.
-pub fn tiles_of(snapshot: &Snapshot) -> u32 {
-    match snapshot.plan() {
-        Some(plan) => plan.tiles(),
+fn tiles_of(snapshot: &Snapshot) -> u32 {
+    match tile_count(snapshot) {
+        Some(tiles) => tiles,
         None => 0,
     }
 }
@@ -18,4 +23,68 @@ pub fn tell_checking(rt: &HostRuntime, snapshot: &Snapshot) {
         let (shapes, tiles) = (snapshot.shelf().count(0), tiles_of(snapshot));
         let _ = eprintln!(rt; "read {shapes} shapes; checking {tiles} tiles");
     }
+}
+
+/// How many of the markers are of the rule with that place in its deck.
+fn of_rule(markers: &[Marker], rule: usize) -> usize {
+    markers
+        .iter()
+        .filter(|marker| marker.rule as usize == rule)
+        .count()
+}
+
+/// Tells how many markers there are, and how many of each rule.
+pub fn tell_markers(rt: &HostRuntime, rules: &Rules, markers: &[Marker]) -> io::Result<()> {
+    eprint!(rt; "{} markers", markers.len())?;
+    for (place, rule) in rules.as_slice().iter().enumerate() {
+        eprint!(rt; ", {} {}", rule.name.as_str(), of_rule(markers, place))?;
+    }
+    Ok(())
+}
+
+/// Ends a line with the time that was taken.
+fn tell_time(rt: &HostRuntime, start: &Instant) -> io::Result<()> {
+    let taken = start.elapsed(rt)?.as_millis();
+    eprintln!(rt; ", {taken} ms")
+}
+
+/// Tells what was checked and found, and the time that it took.
+pub fn tell_summary(
+    rt: &HostRuntime,
+    snapshot: &Snapshot,
+    markers: &[Marker],
+    start: &Instant,
+) -> io::Result<()> {
+    let tiles = tiles_of(snapshot);
+    let shapes = snapshot.shelf().count(0);
+    eprint!(rt; "{shapes} shapes, {tiles} tiles, ")?;
+    tell_markers(rt, snapshot.deck().rules(), markers)?;
+    tell_time(rt, start)
+}
+
+/// How many markers the lists have together.
+pub fn count_of(lists: &[TileMarkers]) -> usize {
+    let mut count = 0usize;
+    for list in lists {
+        count = count.saturating_add(list.len());
+    }
+    count
+}
+
+/// Tells which of the tiles were checked, how many markers these have, and the time that it took.
+pub fn tell_part(
+    rt: &HostRuntime,
+    snapshot: &Snapshot,
+    span: Span,
+    lists: &[TileMarkers],
+    start: &Instant,
+) -> io::Result<()> {
+    let (tiles, checked) = (tiles_of(snapshot), lists.len());
+    let shapes = snapshot.shelf().count(0);
+    eprint!(rt;
+        "{shapes} shapes, {checked} of {tiles} tiles from {}, {} markers in them",
+        span.first,
+        count_of(lists)
+    )?;
+    tell_time(rt, start)
 }

@@ -3,7 +3,6 @@ ghost use Rattle.mpw_report.specs.Report.{report_text};
 ghost use Rattle.mpw_report.specs.Writing.{Adds};
 
 use crate::fault::FirmFault;
-use crate::options::Options;
 use crate::told::unwritten;
 use mpw_geom::Name;
 use mpw_markers::Book;
@@ -44,14 +43,15 @@ fn write_file(
 /// `Device` where the file can't be written, and `Memory`.
 pub fn report(
     rt: &HostRuntime,
-    options: &Options,
+    file: &Option<String>,
+    top: &Name,
     snapshot: &Snapshot,
     book: &Book,
 ) -> Result<(), FirmFault> {
-    let Some(file) = &options.report else {
+    let Some(file) = file else {
         return Ok(());
     };
-    match write_file(rt, file.as_str(), snapshot, &options.top, book) {
+    match write_file(rt, file.as_str(), snapshot, top, book) {
         Ok(()) => Ok(()),
         Err(error) if error.kind() == io::ErrorKind::OutOfMemory => Err(FirmFault::Memory),
         Err(_) => Err(unwritten(rt.alloc(), file.as_str())),

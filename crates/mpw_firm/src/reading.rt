@@ -1,0 +1,44 @@
+//! Files, read to their ends.
+
+use crate::fault::FirmFault;
+use crate::told::{deck_fault, device_fault};
+use mpw_deck::{Deck, read_deck};
+use std::alloc::Global;
+use std::fs;
+use std::io::{self, BufReader, Read};
+
+/// The standard input to its end.
+fn read_input(rt: &HostRuntime) -> io::Result<Vec<u8>> {
+    let mut bytes = Vec::new(rt.alloc());
+    let mut input = BufReader::new(rt.alloc(), rt.stdin())?;
+    input.read_to_end(&mut bytes)?;
+    Ok(bytes)
+}
+
+/// The bytes of a file, or of the standard input where it is `-`.
+///
+/// # Errors
+/// `Device` where it can't be read, and `Memory`.
+pub fn read_file(rt: &HostRuntime, file: &str) -> Result<Vec<u8>, FirmFault> {
+    let read = if file == "-" {
+        read_input(rt)
+    } else {
+        fs::read(rt, file)
+    };
+    match read {
+        Ok(bytes) => Ok(bytes),
+        Err(error) if error.kind() == io::ErrorKind::OutOfMemory => Err(FirmFault::Memory),
+        Err(_) => Err(device_fault(rt.alloc(), file)),
+    }
+}
+
+/// The deck of a file's text.
+///
+/// # Errors
+/// `Refused` at a faulty line, and `Memory`.
+pub fn deck_of(alloc: Global, file: &str, text: &[u8]) -> Result<Deck, FirmFault> {
+    match read_deck(alloc, text) {
+        Ok(deck) => Ok(deck),
+        Err(fault) => Err(deck_fault(alloc, file, fault)),
+    }
+}

@@ -1,0 +1,113 @@
+//! The command line of `mpw stitch`.
+
+use crate::fault::FirmFault;
+use crate::options::{Asked, VERSION, asked_by, usage};
+use clap::{Arg, ArgAction, ArgMatches, Command};
+use std::alloc::{AllocError, Global};
+
+/// Parts that the command line names. A file `-` is the standard input.
+#[derive(Drop)]
+pub struct StitchOptions {
+    /// The files of the parts.
+    pub files: Vec<String>,
+    /// The file that the report is written to, if one is wanted.
+    pub report: Option<String>,
+}
+
+/// The command line's form.
+fn command<'a>(alloc: Global) -> Result<Command<'a>, AllocError> {
+    let report = Arg::new(alloc, "report")
+        .long("report")
+        .value_name("OUT")
+        .action(ArgAction::Set)
+        .help("A file for the markers as a report database, which KLayout opens");
+    let files = Arg::new(alloc, "part")
+        .value_name("PART")
+        .required(true)
+        .num_args(1..)
+        .action(ArgAction::Append)
+        .help("A part that 'mpw check --tiles' printed, - for the standard input");
+    Command::new(alloc, "mpw stitch")
+        .version(VERSION)
+        .about(
+            "Stitches the parts of a check that have each tile once, and lists the markers of the whole",
+        )
+        .arg(report)?
+        .arg(files)
+}
+
+/// Whether a text is one of these.
+fn is_among(text: &str, words: &[&str]) -> bool {
+    words.iter().any(|word| *word == text)
+}
+
+/// How many of these are the standard input.
+fn inputs(words: &[&str]) -> usize {
+    words.iter().filter(|word| **word == "-").count()
+}
+
+/// The file of the report.
+fn read_report(
+    alloc: Global,
+    report: Option<&str>,
+    files: &[&str],
+) -> Result<Option<String>, FirmFault> {
+    let Some(report) = report else {
+        return Ok(None);
+    };
+    if report == "-" {
+        return Err(usage(
+            alloc,
+            "error: --report takes a file, and not the standard output",
+        ));
+    }
+    if is_among(report, files) {
+        return Err(usage(alloc, "error: the report can't be written over a part"));
+    }
+    Ok(Some(String::from_str(alloc, report)?))
+}
+
+/// The texts, each copied.
+fn copied(alloc: Global, words: &[&str]) -> Result<Vec<String>, AllocError> {
+    let mut texts = Vec::new(alloc);
+    for word in words {
+        texts.push(String::from_str(alloc, word)?)?;
+    }
+    Ok(texts)
+}
+
+/// What the command line's words give.
+fn given(alloc: Global, matches: &ArgMatches<'_>) -> Result<StitchOptions, FirmFault> {
+    let Some(files) = matches.get_strs("part") else {
+        return Err(usage(alloc, "error: a part has to be given"));
+    };
+    if inputs(files) > 1 {
+        return Err(usage(alloc, "error: only one part can be the standard input"));
+    }
+    Ok(StitchOptions {
+        files: copied(alloc, files)?,
+        report: read_report(alloc, matches.get_str("report"), files)?,
+    })
+}
+
+/// The words of the command line, with the command's name first.
+fn named<'a>(alloc: Global, words: &[&'a str]) -> Result<Vec<&'a str>, AllocError> {
+    let mut named = Vec::new(alloc);
+    named.push("mpw stitch")?;
+    for word in words {
+        named.push(*word)?;
+    }
+    Ok(named)
+}
+
+/// What the words behind `stitch` ask for. One pass over the words.
+///
+/// # Errors
+/// `Usage`, with a text that says what is wrong and what is accepted; and `Memory`.
+pub fn read_stitch(alloc: Global, words: &[&str]) -> Result<Asked, FirmFault> {
+    let words = named(alloc, words)?;
+    match command(alloc)?.try_get_matches_from(words.as_slice()) {
+        Ok(matches) => Ok(Asked::Stitch(given(alloc, &matches)?)),
+        Err(error) => asked_by(alloc, error),
+    }
+}
