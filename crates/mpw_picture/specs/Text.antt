@@ -184,7 +184,7 @@ legend_text rules p =
 
 -- ---- the whole
 
--- the paper's height: the drawing, the scale bar and the rows
+-- the height of the whole: the drawing, the scale bar and the rows
 abbrev pub paper_height : List Rule → Box2 → ℕ
 paper_height rules w = drawing_height w + 48 + 24 * length rules
 

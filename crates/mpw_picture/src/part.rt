@@ -9,13 +9,13 @@ use std::io::{self, Write};
 /// A part of a picture's text that is the same in each.
 #[derive(Clone, Copy)]
 pub(crate) enum Part {
-    /// Before the paper's height.
+    /// Before the height of the whole.
     Head,
     /// Before the name of the structure.
     Title,
     /// Behind it, with the colours of layers.
     LayerColours,
-    /// The colours of rules, and the paper.
+    /// The colours of rules, and the ground.
     RuleColours,
     /// Behind the last row.
     End,
