@@ -22,19 +22,37 @@ use std::alloc::{AllocError, Global};
 use std::marker::Model;
 
 /// A strip: its core, and the bands of both layers in its window.
-#[derive(Drop)]
 pub struct Strip {
     pub(crate) core: Box2,
     pub(crate) first: Vec<Box2>,
     pub(crate) second: Vec<Box2>,
 }
 
+impl Drop for Strip {
+    fn drop(self) {
+        let Strip {
+            core: _,
+            first,
+            second,
+        } = self;
+        drop(first);
+        drop(second);
+    }
+}
+
 /// A core in strips, along rows and along columns, with the bands of two layers. [`pieces_in`]
 /// looks for what rules find in it.
-#[derive(Drop)]
 pub struct Strips {
     rows: Vec<Strip>,
     columns: Vec<Strip>,
+}
+
+impl Drop for Strips {
+    fn drop(self) {
+        let Strips { rows, columns } = self;
+        drop(rows);
+        drop(columns);
+    }
 }
 
 impl Model for Strips {

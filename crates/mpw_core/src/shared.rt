@@ -8,9 +8,15 @@ use std::marker::Model;
 use std::sync::Arc;
 
 /// The windows of a cut, which copies share. Contracts see the answer.
-#[derive(Drop)]
 pub struct SharedCut {
     answer: Arc<CutAnswer>,
+}
+
+impl Drop for SharedCut {
+    fn drop(self) {
+        let SharedCut { answer } = self;
+        drop(answer);
+    }
 }
 
 impl Model for SharedCut {
@@ -22,9 +28,15 @@ impl Model for SharedCut {
 }
 
 /// The markers of a tile, which copies share. Contracts see the answer.
-#[derive(Drop)]
 pub struct SharedTile {
     answer: Arc<TileAnswer>,
+}
+
+impl Drop for SharedTile {
+    fn drop(self) {
+        let SharedTile { answer } = self;
+        drop(answer);
+    }
 }
 
 impl Model for SharedTile {
@@ -36,9 +48,15 @@ impl Model for SharedTile {
 }
 
 /// The run's reply to an event, which copies share. Contracts see the reply.
-#[derive(Drop)]
 pub struct SharedRunReply {
     reply: Arc<RunReply>,
+}
+
+impl Drop for SharedRunReply {
+    fn drop(self) {
+        let SharedRunReply { reply } = self;
+        drop(reply);
+    }
 }
 
 impl Model for SharedRunReply {

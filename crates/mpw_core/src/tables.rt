@@ -9,7 +9,6 @@ use mpw_waiver::Waivers;
 
 /// What the desk holds: the policy, the shelf of submissions, the wafer, the run that checks it, the waivers of its markers, and
 /// the trail of requests.
-#[derive(Drop)]
 pub(crate) struct Tables {
     pub(crate) policy: Policy,
     pub(crate) shelf: Shelf,
@@ -17,4 +16,23 @@ pub(crate) struct Tables {
     pub(crate) run: Run,
     pub(crate) waivers: Waivers,
     pub(crate) trail: Trail,
+}
+
+impl Drop for Tables {
+    fn drop(self) {
+        let Tables {
+            policy,
+            shelf,
+            wafer,
+            run,
+            waivers,
+            trail,
+        } = self;
+        drop(policy);
+        drop(shelf);
+        drop(wafer);
+        drop(run);
+        drop(waivers);
+        drop(trail);
+    }
 }

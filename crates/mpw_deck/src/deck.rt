@@ -15,9 +15,15 @@ use std::sync::Arc;
 pub const MAX_RULES: usize = 256;
 
 /// Rules in order, which contracts see as that list. Copies share them.
-#[derive(Drop)]
 pub struct Rules {
     items: Arc<Vec<Rule>>,
+}
+
+impl Drop for Rules {
+    fn drop(self) {
+        let Rules { items } = self;
+        drop(items);
+    }
 }
 
 impl Model for Rules {
@@ -86,10 +92,16 @@ fn are_same(first: &[Rule], second: &[Rule]) -> bool
 
 /// A deck: the side of the tiles in nm, 256 to 2^30, and at most 256 rules, each with a distance of 1 to 65535 nm.
 /// Copies share the rules.
-#[derive(Drop)]
 pub struct Deck {
     tile: u32,
     rules: Rules,
+}
+
+impl Drop for Deck {
+    fn drop(self) {
+        let Deck { tile: _, rules } = self;
+        drop(rules);
+    }
 }
 
 impl Model for Deck {

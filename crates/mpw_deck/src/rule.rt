@@ -15,11 +15,21 @@ pub enum Check {
 }
 
 /// A rule: its name, which has no colon, its check, and its distance in nm, 1 to 65535.
-#[derive(Drop)]
 pub struct Rule {
     pub name: Name,
     pub check: Check,
     pub distance: u32,
+}
+
+impl Drop for Rule {
+    fn drop(self) {
+        let Rule {
+            name,
+            check: _,
+            distance: _,
+        } = self;
+        drop(name);
+    }
 }
 
 impl Rule {

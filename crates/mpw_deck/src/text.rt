@@ -31,10 +31,17 @@ impl From<AllocError> for DeckError {
 
 /// The bytes of a text, with what reading them gave: a deck, or the first faulty line. Contracts see
 /// the bytes. Copies share both; [`DeckText::alone`] has the bytes alone.
-#[derive(Drop)]
 pub struct DeckText {
     bytes: Arc<Vec<u8>>,
     outcome: Option<Result<Deck, DeckFault>>,
+}
+
+impl Drop for DeckText {
+    fn drop(self) {
+        let DeckText { bytes, outcome } = self;
+        drop(bytes);
+        drop(outcome);
+    }
 }
 
 impl Model for DeckText {

@@ -8,14 +8,19 @@ use std::alloc::AllocError;
 
 /// A polygon by its corners in file order, without the closing point (GDSII Stream, BOUNDARY and
 /// BOX). Other repeats stay. The edge from the last corner to the first is implied.
-#[derive(Drop)]
 pub struct Boundary {
     pub layer: Layer,
     pub points: Points,
 }
 
+impl Drop for Boundary {
+    fn drop(self) {
+        let Boundary { layer: _, points } = self;
+        drop(points);
+    }
+}
+
 /// A wire along a centre line (GDSII Stream, PATH). Consecutive repeats are taken as one point.
-#[derive(Drop)]
 pub struct Path {
     pub layer: Layer,
     /// The whole width in nm, even, 0 where none was given.
@@ -27,8 +32,20 @@ pub struct Path {
     pub points: Points,
 }
 
+impl Drop for Path {
+    fn drop(self) {
+        let Path {
+            layer: _,
+            width: _,
+            begin: _,
+            end: _,
+            points,
+        } = self;
+        drop(points);
+    }
+}
+
 /// Places a structure, once or in rows and columns (GDSII Stream, SREF and AREF).
-#[derive(Drop)]
 pub struct Reference {
     /// The structure that is placed.
     pub name: Name,
@@ -43,6 +60,21 @@ pub struct Reference {
     pub column_step: Point,
     /// From one row to the next, in nm; no step where a single structure is placed.
     pub row_step: Point,
+}
+
+impl Drop for Reference {
+    fn drop(self) {
+        let Reference {
+            name,
+            orient: _,
+            origin: _,
+            columns: _,
+            rows: _,
+            column_step: _,
+            row_step: _,
+        } = self;
+        drop(name);
+    }
 }
 
 /// An element of a structure.

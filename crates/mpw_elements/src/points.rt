@@ -7,9 +7,15 @@ use std::alloc::AllocError;
 use std::marker::Model;
 
 /// The points of an element in file order, in nm. One allocation, however many there are.
-#[derive(Drop)]
 pub struct Points {
     items: Vec<Point>,
+}
+
+impl Drop for Points {
+    fn drop(self) {
+        let Points { items } = self;
+        drop(items);
+    }
 }
 
 impl Model for Points {
@@ -33,7 +39,8 @@ impl Points {
     pub fn into_vec(self) -> Vec<Point>
         ensures { result.items ≡ self }
     {
-        self.items
+        let Points { items } = self;
+        items
     }
 
     /// The points in file order.

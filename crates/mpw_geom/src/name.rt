@@ -32,9 +32,15 @@ pub enum NameFault {
 }
 
 /// A name: 1 to 255 bytes of 21 to 7E hex, ordered by its bytes.
-#[derive(Drop)]
 pub struct Name {
     text: ArcStr,
+}
+
+impl Drop for Name {
+    fn drop(self) {
+        let Name { text } = self;
+        drop(text);
+    }
 }
 
 impl Model for Name {

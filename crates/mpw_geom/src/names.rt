@@ -7,9 +7,15 @@ use std::alloc::{AllocError, Global};
 use std::marker::Model;
 
 /// A list of names, which contracts see as that list.
-#[derive(Drop)]
 pub struct Names {
     items: Vec<Name>,
+}
+
+impl Drop for Names {
+    fn drop(self) {
+        let Names { items } = self;
+        drop(items);
+    }
 }
 
 impl Model for Names {
@@ -41,7 +47,8 @@ impl Names {
     pub fn into_vec(self) -> Vec<Name>
         ensures { result.items ≡ self }
     {
-        self.items
+        let Names { items } = self;
+        items
     }
 
     /// The names as a slice.

@@ -24,9 +24,15 @@ impl Binding {
 }
 
 /// Bindings in order, which contracts see as that list. Copies share them.
-#[derive(Drop)]
 pub struct Bindings {
     items: Arc<Vec<Binding>>,
+}
+
+impl Drop for Bindings {
+    fn drop(self) {
+        let Bindings { items } = self;
+        drop(items);
+    }
 }
 
 impl Model for Bindings {

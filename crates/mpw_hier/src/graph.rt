@@ -7,9 +7,15 @@ use std::alloc::{AllocError, Global};
 use std::marker::Model;
 
 /// For each place, the places to which it leads.
-#[derive(Drop)]
 pub struct Graph {
     targets: Vec<Vec<usize>>,
+}
+
+impl Drop for Graph {
+    fn drop(self) {
+        let Graph { targets } = self;
+        drop(targets);
+    }
 }
 
 impl Model for Graph {

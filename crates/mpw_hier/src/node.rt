@@ -38,9 +38,15 @@ pub struct Node {
 
 /// The nodes of a submission, each behind those that it places, the top last. Contracts see them as a
 /// list. Copies share them.
-#[derive(Drop)]
 pub struct Nodes {
     items: Arc<Vec<Node>>,
+}
+
+impl Drop for Nodes {
+    fn drop(self) {
+        let Nodes { items } = self;
+        drop(items);
+    }
 }
 
 impl Model for Nodes {

@@ -25,10 +25,16 @@ use std::sync::Arc;
 
 /// Submissions by number, counted from 0, which contracts see as their list. The present one of a
 /// cell is found in logarithmic time. Copies share them.
-#[derive(Drop)]
 pub struct Shelf {
     /// None without submissions.
     table: Option<Arc<Table>>,
+}
+
+impl Drop for Shelf {
+    fn drop(self) {
+        let Shelf { table } = self;
+        drop(table);
+    }
 }
 
 impl Model for Shelf {

@@ -8,7 +8,6 @@ use mpw_library::Library;
 use std::alloc::AllocError;
 
 /// A version of a cell, with the library that shows it.
-#[derive(Drop)]
 pub struct Submission {
     pub cell: Name,
     /// Counted from 1 for each cell.
@@ -20,6 +19,24 @@ pub struct Submission {
     pub top: Name,
     /// Each name outside the library that the top shows, in order of name.
     pub bound: Bindings,
+}
+
+impl Drop for Submission {
+    fn drop(self) {
+        let Submission {
+            cell,
+            version: _,
+            submitter,
+            library,
+            top,
+            bound,
+        } = self;
+        drop(cell);
+        drop(submitter);
+        drop(library);
+        drop(top);
+        drop(bound);
+    }
 }
 
 impl Submission {

@@ -34,11 +34,23 @@ const MOST_CELLS: usize = 1024;
 
 /// Submissions by number, counted from 0, which contracts see as their list, with the table of the present ones and the nodes
 /// of each.
-#[derive(Drop)]
 pub struct Table {
     submissions: Vec<Submission>,
     nodes: Vec<Nodes>,
     present: BTreeMap<Name, u32>,
+}
+
+impl Drop for Table {
+    fn drop(self) {
+        let Table {
+            submissions,
+            nodes,
+            present,
+        } = self;
+        drop(submissions);
+        drop(nodes);
+        drop(present);
+    }
 }
 
 impl Model for Table {

@@ -14,10 +14,17 @@ use std::marker::Model;
 use std::thread::Threads;
 
 /// The windows of a snapshot, with the job of cutting it: contracts see both. The windows stand for the snapshot.
-#[derive(Drop)]
 pub struct CutAnswer {
     job: CutJob,
     windows: Windows,
+}
+
+impl Drop for CutAnswer {
+    fn drop(self) {
+        let CutAnswer { job, windows } = self;
+        drop(job);
+        drop(windows);
+    }
 }
 
 impl Model for CutAnswer {
@@ -67,10 +74,17 @@ impl CutAnswer {
 }
 
 /// The markers of a tile, with the job of finding them: contracts see both. The markers answer the job.
-#[derive(Drop)]
 pub struct TileAnswer {
     job: TileJob,
     markers: TileMarkers,
+}
+
+impl Drop for TileAnswer {
+    fn drop(self) {
+        let TileAnswer { job, markers } = self;
+        drop(job);
+        drop(markers);
+    }
 }
 
 impl Model for TileAnswer {

@@ -10,10 +10,16 @@ use std::alloc::{AllocError, Global};
 use std::marker::Model;
 
 /// The job of cutting a snapshot into the windows of its tiles, for the run of that number.
-#[derive(Drop)]
 pub struct CutJob {
     pub run: u32,
     pub snapshot: Snapshot,
+}
+
+impl Drop for CutJob {
+    fn drop(self) {
+        let CutJob { run: _, snapshot } = self;
+        drop(snapshot);
+    }
 }
 
 impl CutJob {
@@ -40,13 +46,26 @@ impl CutJob {
 
 /// The job of finding the markers of a tile of a run: contracts see its numbers, its core, the rectangles of its window
 /// and the rules. The core lies in the plane, and there are at most 256 rules. Copies share window and rules.
-#[derive(Drop)]
 pub struct TileJob {
     run: u32,
     tile: u32,
     core: Box2,
     window: Window,
     rules: Rules,
+}
+
+impl Drop for TileJob {
+    fn drop(self) {
+        let TileJob {
+            run: _,
+            tile: _,
+            core: _,
+            window,
+            rules,
+        } = self;
+        drop(window);
+        drop(rules);
+    }
 }
 
 impl Model for TileJob {

@@ -6,9 +6,15 @@ use mpw_elements::Element;
 use std::marker::Model;
 
 /// The elements of a structure in file order.
-#[derive(Drop)]
 pub struct Elements {
     items: Vec<Element>,
+}
+
+impl Drop for Elements {
+    fn drop(self) {
+        let Elements { items } = self;
+        drop(items);
+    }
 }
 
 impl Model for Elements {
@@ -32,7 +38,8 @@ impl Elements {
     pub fn into_vec(self) -> Vec<Element>
         ensures { result.items ≡ self }
     {
-        self.items
+        let Elements { items } = self;
+        items
     }
 
     /// The elements in file order.

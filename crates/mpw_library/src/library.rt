@@ -10,9 +10,15 @@ use std::marker::Model;
 use std::sync::Arc;
 
 /// The structures of a library. Copies share them.
-#[derive(Drop)]
 pub struct Library {
     structures: Arc<Structures>,
+}
+
+impl Drop for Library {
+    fn drop(self) {
+        let Library { structures } = self;
+        drop(structures);
+    }
 }
 
 impl Model for Library {

@@ -10,10 +10,17 @@ use std::collections::BTreeMap;
 use std::marker::Model;
 
 /// A structure: a name and what stands in it.
-#[derive(Drop)]
 pub struct Structure {
     pub name: Name,
     pub elements: Elements,
+}
+
+impl Drop for Structure {
+    fn drop(self) {
+        let Structure { name, elements } = self;
+        drop(name);
+        drop(elements);
+    }
 }
 
 impl Structure {
@@ -27,10 +34,17 @@ impl Structure {
 }
 
 /// Structures in file order, each with a name of its own. A name is found in logarithmic time.
-#[derive(Drop)]
 pub struct Structures {
     items: Vec<Structure>,
     places: BTreeMap<Name, usize>,
+}
+
+impl Drop for Structures {
+    fn drop(self) {
+        let Structures { items, places } = self;
+        drop(items);
+        drop(places);
+    }
 }
 
 impl Model for Structures {

@@ -15,10 +15,17 @@ use std::sync::Arc;
 
 /// The bytes of a text, with what reading them gave: a library, or the first fault. Contracts see the
 /// bytes. Copies share both; [`LibraryText::alone`] has the bytes alone.
-#[derive(Drop)]
 pub struct LibraryText {
     bytes: Arc<Vec<u8>>,
     outcome: Option<Result<Library, ReadFault>>,
+}
+
+impl Drop for LibraryText {
+    fn drop(self) {
+        let LibraryText { bytes, outcome } = self;
+        drop(bytes);
+        drop(outcome);
+    }
 }
 
 impl Model for LibraryText {

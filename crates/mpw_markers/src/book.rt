@@ -13,9 +13,15 @@ use std::sync::Arc;
 
 /// The markers of a run, which contracts see as a list in order: by the rule's place in the deck, axis `V` before
 /// `H`, side, `x1`, `x2` and `y0`. On a line no two overlap or touch. Copies share them.
-#[derive(Drop)]
 pub struct Book {
     items: Option<Arc<Vec<Marker>>>,
+}
+
+impl Drop for Book {
+    fn drop(self) {
+        let Book { items } = self;
+        drop(items);
+    }
 }
 
 impl Model for Book {

@@ -36,7 +36,6 @@ pub struct Key {
 
 /// A maximal run of the rows from `y0` to before `y1` with a pair step of a rule at `x1` and `x2`, in nm. The
 /// closed box from `(x1, y0)` to `(x2, y1)`, on axis `H` with its coordinates exchanged, meets the submissions of `met`.
-#[derive(Drop)]
 pub struct Marker {
     pub rule: u32,
     pub axis: Axis,
@@ -46,6 +45,22 @@ pub struct Marker {
     pub y0: i64,
     pub y1: i64,
     pub met: Met,
+}
+
+impl Drop for Marker {
+    fn drop(self) {
+        let Marker {
+            rule: _,
+            axis: _,
+            side: _,
+            x1: _,
+            x2: _,
+            y0: _,
+            y1: _,
+            met,
+        } = self;
+        drop(met);
+    }
 }
 
 impl Key {
@@ -135,9 +150,15 @@ impl Marker {
 
 /// The markers that a tile's job found, each with a row at least, which contracts see as that list. Copies share
 /// them.
-#[derive(Drop)]
 pub struct TileMarkers {
     items: Option<Arc<Vec<Marker>>>,
+}
+
+impl Drop for TileMarkers {
+    fn drop(self) {
+        let TileMarkers { items } = self;
+        drop(items);
+    }
 }
 
 impl Model for TileMarkers {

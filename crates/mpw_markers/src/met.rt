@@ -18,9 +18,15 @@ enum Numbers {
 
 /// Numbers of submissions, ascending and each once, which contracts see as that list. Copies share them; up to two
 /// take no memory at all.
-#[derive(Drop)]
 pub struct Met {
     numbers: Numbers,
+}
+
+impl Drop for Met {
+    fn drop(self) {
+        let Met { numbers } = self;
+        drop(numbers);
+    }
 }
 
 impl Model for Met {

@@ -8,12 +8,24 @@ use std::marker::Model;
 
 /// What is checked: a library by the SHA-256 of its text, a deck by its text, the structure by its name, and how many tiles
 /// the plan has, at most 4096. Contracts see these.
-#[derive(Drop)]
 pub struct Subject {
     library: [u8; 32],
     deck: Vec<u8>,
     top: Name,
     tiles: u32,
+}
+
+impl Drop for Subject {
+    fn drop(self) {
+        let Subject {
+            library: _,
+            deck,
+            top,
+            tiles: _,
+        } = self;
+        drop(deck);
+        drop(top);
+    }
 }
 
 impl Model for Subject {
@@ -72,11 +84,22 @@ impl Subject {
 
 /// The markers of neighbouring tiles of a plan, a list for each, from the first of them on. Contracts see these, and what was
 /// checked.
-#[derive(Drop)]
 pub struct Part {
     subject: Subject,
     first: u32,
     lists: Vec<TileMarkers>,
+}
+
+impl Drop for Part {
+    fn drop(self) {
+        let Part {
+            subject,
+            first: _,
+            lists,
+        } = self;
+        drop(subject);
+        drop(lists);
+    }
 }
 
 impl Model for Part {

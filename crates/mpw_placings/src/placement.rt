@@ -8,12 +8,23 @@ use mpw_walk::Root;
 use std::alloc::AllocError;
 
 /// A submission that is placed in the assembled top. Its cell and its label together are its name.
-#[derive(Drop)]
 pub struct Placement {
     pub cell: Name,
     pub label: Name,
     /// The submission, by number, with its orientation and displacement.
     pub root: Root,
+}
+
+impl Drop for Placement {
+    fn drop(self) {
+        let Placement {
+            cell,
+            label,
+            root: _,
+        } = self;
+        drop(cell);
+        drop(label);
+    }
 }
 
 impl Placement {

@@ -18,10 +18,16 @@ use std::sync::Arc;
 
 /// Placings in the order in which they were made, at most 4096, which contracts see as that list. Copies
 /// share them.
-#[derive(Drop)]
 pub struct Placings {
     /// None without placings.
     table: Option<Arc<Vec<Placement>>>,
+}
+
+impl Drop for Placings {
+    fn drop(self) {
+        let Placings { table } = self;
+        drop(table);
+    }
 }
 
 impl Model for Placings {

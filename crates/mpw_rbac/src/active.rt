@@ -39,9 +39,15 @@ impl Active {
 }
 
 /// Sessions by connection, in the order in which they were opened.
-#[derive(Drop)]
 pub(crate) struct Sessions {
     table: IndexMap<u32, Active>,
+}
+
+impl Drop for Sessions {
+    fn drop(self) {
+        let Sessions { table } = self;
+        drop(table);
+    }
 }
 
 impl Model for Sessions {

@@ -55,9 +55,15 @@ pub(crate) fn copied(object: &Object) -> Result<Object, AllocError>
 }
 
 /// The masks of some objects, which copies share.
-#[derive(Drop)]
 pub(crate) struct Bucket {
     masks: Arc<Vec<(Object, Mask)>>,
+}
+
+impl Drop for Bucket {
+    fn drop(self) {
+        let Bucket { masks } = self;
+        drop(masks);
+    }
 }
 
 impl Model for Bucket {

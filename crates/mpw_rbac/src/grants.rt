@@ -22,10 +22,16 @@ use std::sync::Arc;
 const BLOCK: usize = 64;
 
 /// Some grants in their order, and the slots of their objects: there may be more slots.
-#[derive(Drop)]
 pub(crate) struct Block {
     grants: Arc<Vec<Grant>>,
     slots: Mask,
+}
+
+impl Drop for Block {
+    fn drop(self) {
+        let Block { grants, slots: _ } = self;
+        drop(grants);
+    }
 }
 
 impl Model for Block {
@@ -202,9 +208,15 @@ fn keep(blocks: &mut Vec<Block>, block: Block) -> Result<(), AllocError>
 }
 
 /// Grants in the order in which they were added, which copies share.
-#[derive(Drop)]
 pub(crate) struct Grants {
     blocks: Arc<Vec<Block>>,
+}
+
+impl Drop for Grants {
+    fn drop(self) {
+        let Grants { blocks } = self;
+        drop(blocks);
+    }
 }
 
 impl Model for Grants {

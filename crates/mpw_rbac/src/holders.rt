@@ -23,9 +23,15 @@ use std::sync::Arc;
 const OPERATIONS: usize = 11;
 
 /// The places of the roles that were granted one operation on each object: each object in its bucket.
-#[derive(Drop)]
 pub(crate) struct Holders {
     buckets: Vec<Bucket>,
+}
+
+impl Drop for Holders {
+    fn drop(self) {
+        let Holders { buckets } = self;
+        drop(buckets);
+    }
 }
 
 impl Model for Holders {
@@ -151,9 +157,15 @@ impl Holders {
 }
 
 /// The holders of one operation, which copies of the policy share.
-#[derive(Drop)]
 pub(crate) struct SharedHolders {
     holders: Arc<Holders>,
+}
+
+impl Drop for SharedHolders {
+    fn drop(self) {
+        let SharedHolders { holders } = self;
+        drop(holders);
+    }
 }
 
 impl Model for SharedHolders {

@@ -25,9 +25,21 @@ pub enum Object {
 }
 
 /// The permission for an operation on an object, granted to a role (PA).
-#[derive(Clone, PartialEq, Eq, Hash, Drop)]
+#[derive(Clone, PartialEq, Eq, Hash)]
 pub struct Grant {
     pub operation: Operation,
     pub object: Object,
     pub role: Name,
+}
+
+impl Drop for Grant {
+    fn drop(self) {
+        let Grant {
+            operation: _,
+            object,
+            role,
+        } = self;
+        drop(object);
+        drop(role);
+    }
 }

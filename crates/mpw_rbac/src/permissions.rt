@@ -26,11 +26,23 @@ use std::marker::Model;
 use std::sync::Arc;
 
 /// Roles, and grants in the order in which they were added. A copy is three counts.
-#[derive(Drop)]
 pub(crate) struct Permissions {
     roles: Arc<Roles>,
     granted: Grants,
     holders: Arc<Vec<SharedHolders>>,
+}
+
+impl Drop for Permissions {
+    fn drop(self) {
+        let Permissions {
+            roles,
+            granted,
+            holders,
+        } = self;
+        drop(roles);
+        drop(granted);
+        drop(holders);
+    }
 }
 
 impl Model for Permissions {

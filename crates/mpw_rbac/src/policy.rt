@@ -30,12 +30,26 @@ pub const MAX_USERS: usize = 512;
 pub const MAX_GRANTS: usize = 4096;
 
 /// Users, roles, grants, separation sets and sessions, in the order in which they were added.
-#[derive(Drop)]
 pub struct Policy {
     pub(crate) users: Users,
     pub(crate) permissions: Permissions,
     pub(crate) sets: PlacedSets,
     pub(crate) sessions: Sessions,
+}
+
+impl Drop for Policy {
+    fn drop(self) {
+        let Policy {
+            users,
+            permissions,
+            sets,
+            sessions,
+        } = self;
+        drop(users);
+        drop(permissions);
+        drop(sets);
+        drop(sessions);
+    }
 }
 
 impl Model for Policy {

@@ -5,17 +5,32 @@ use mpw_geom::{Name, Names};
 pub type Digest = [u8; 32];
 
 /// A user's digest, and the roles assigned to the user (UA), in the order of the assignments.
-#[derive(Clone, Drop)]
+#[derive(Clone)]
 pub struct User {
     pub digest: Digest,
     pub roles: Names,
 }
 
+impl Drop for User {
+    fn drop(self) {
+        let User { digest: _, roles } = self;
+        drop(roles);
+    }
+}
+
 /// A session of one user, with its active roles in the order of their activation.
-#[derive(Clone, Drop)]
+#[derive(Clone)]
 pub struct Session {
     pub user: Name,
     pub active: Names,
+}
+
+impl Drop for Session {
+    fn drop(self) {
+        let Session { user, active } = self;
+        drop(user);
+        drop(active);
+    }
 }
 
 /// What a session is told of itself: its user, and the active and the authorized roles, each by name.

@@ -23,10 +23,17 @@ use std::marker::Model;
 use std::sync::Arc;
 
 /// Users in the order in which they were added. A copy is two counts; a change is a table of its own.
-#[derive(Drop)]
 pub(crate) struct Users {
     table: Arc<IndexMap<Name, User>>,
     masks: Arc<Vec<Mask>>,
+}
+
+impl Drop for Users {
+    fn drop(self) {
+        let Users { table, masks } = self;
+        drop(table);
+        drop(masks);
+    }
 }
 
 impl Model for Users {

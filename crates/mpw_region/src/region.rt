@@ -12,10 +12,18 @@ use std::marker::Model;
 /// squares alone, so whether neighbouring bands of equal columns are one is no part of its meaning.
 ///
 /// Beside them it keeps the bands of the same squares with their coordinates exchanged.
-#[derive(Debug, Drop)]
+#[derive(Debug)]
 pub struct Bands {
     boxes: Vec<Box2>,
     columns: Vec<Box2>,
+}
+
+impl Drop for Bands {
+    fn drop(self) {
+        let Bands { boxes, columns } = self;
+        drop(boxes);
+        drop(columns);
+    }
 }
 
 impl Model for Bands {

@@ -25,9 +25,15 @@ enum Told {
 }
 
 /// The lines of a reply, which contracts see as that list. Copies share them.
-#[derive(Drop)]
 pub struct Lines {
     told: Option<Arc<Told>>,
+}
+
+impl Drop for Lines {
+    fn drop(self) {
+        let Lines { told } = self;
+        drop(told);
+    }
 }
 
 impl Model for Lines {

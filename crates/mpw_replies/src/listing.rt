@@ -20,12 +20,24 @@ use std::marker::Model;
 use std::slice;
 
 /// The shapes of a submission that come from submissions that may be seen. Contracts see its lines.
-#[derive(Drop)]
 pub struct ShapeListing {
     shelf: Shelf,
     root: Root,
     seen: Vec<bool>,
     count: usize,
+}
+
+impl Drop for ShapeListing {
+    fn drop(self) {
+        let ShapeListing {
+            shelf,
+            root: _,
+            seen,
+            count: _,
+        } = self;
+        drop(shelf);
+        drop(seen);
+    }
 }
 
 impl Model for ShapeListing {

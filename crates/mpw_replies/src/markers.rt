@@ -21,7 +21,6 @@ use std::alloc::{AllocError, Global};
 use std::marker::Model;
 
 /// The markers of a book as they may be seen. Contracts see its lines.
-#[derive(Drop)]
 pub struct MarkerListing {
     book: Book,
     rules: Rules,
@@ -33,6 +32,26 @@ pub struct MarkerListing {
     /// The number of the masked markers of each rule.
     numbers: Vec<usize>,
     count: usize,
+}
+
+impl Drop for MarkerListing {
+    fn drop(self) {
+        let MarkerListing {
+            book,
+            rules,
+            seen,
+            cells,
+            ranks,
+            numbers,
+            count: _,
+        } = self;
+        drop(book);
+        drop(rules);
+        drop(seen);
+        drop(cells);
+        drop(ranks);
+        drop(numbers);
+    }
 }
 
 impl Model for MarkerListing {

@@ -5,7 +5,6 @@ use mpw_geom::Name;
 
 /// A marker as a request names it: the name of its rule, and where it lies. Sides are 0 or 1, coordinates in nm, -2^30 to
 /// 2^30; they need not be in order.
-#[derive(Drop)]
 pub struct MarkerName {
     pub rule: Name,
     pub axis: Axis,
@@ -14,6 +13,21 @@ pub struct MarkerName {
     pub x2: i64,
     pub y0: i64,
     pub y1: i64,
+}
+
+impl Drop for MarkerName {
+    fn drop(self) {
+        let MarkerName {
+            rule,
+            axis: _,
+            side: _,
+            x1: _,
+            x2: _,
+            y0: _,
+            y1: _,
+        } = self;
+        drop(rule);
+    }
 }
 
 /// A request over the waivers of a finished run's markers.

@@ -25,10 +25,17 @@ pub(crate) type Table = IndexMap<Name, Names>;
 
 /// Roles in the order in which they were added, each with its immediate juniors; and for the role at each place the mask
 /// of the places of the roles at or below it. There may be more masks than roles.
-#[derive(Drop)]
 pub struct Roles {
     table: Table,
     masks: Vec<Mask>,
+}
+
+impl Drop for Roles {
+    fn drop(self) {
+        let Roles { table, masks } = self;
+        drop(table);
+        drop(masks);
+    }
 }
 
 impl Model for Roles {

@@ -18,10 +18,16 @@ use std::marker::Model;
 use std::mem;
 
 /// A run of the desk: contracts see its number, which counts the runs that were accepted, and its phase.
-#[derive(Drop)]
 pub struct Run {
     number: u32,
     phase: Phase,
+}
+
+impl Drop for Run {
+    fn drop(self) {
+        let Run { number: _, phase } = self;
+        drop(phase);
+    }
 }
 
 impl Model for Run {

@@ -14,10 +14,16 @@ use std::alloc::{AllocError, Global};
 use std::marker::Model;
 
 /// A tile of a run: how often it was handed out, and the markers that were kept for it.
-#[derive(Drop)]
 pub(crate) struct Tile {
     pub taken: u64,
     pub answer: Option<TileMarkers>,
+}
+
+impl Drop for Tile {
+    fn drop(self) {
+        let Tile { taken: _, answer } = self;
+        drop(answer);
+    }
 }
 
 impl Model for Tile {
@@ -55,9 +61,15 @@ impl Tile {
 }
 
 /// The tiles of a run, which contracts see as a list.
-#[derive(Drop)]
 pub(crate) struct Tiles {
     items: Vec<Tile>,
+}
+
+impl Drop for Tiles {
+    fn drop(self) {
+        let Tiles { items } = self;
+        drop(items);
+    }
 }
 
 impl Model for Tiles {

@@ -19,11 +19,19 @@ use std::alloc::{AllocError, Global};
 use std::marker::Model;
 
 /// The sets of both kinds, and for each the places of its roles. There may be more masks than sets.
-#[derive(Drop)]
 pub struct PlacedSets {
     sets: Sets,
     ssd: Vec<Mask>,
     dsd: Vec<Mask>,
+}
+
+impl Drop for PlacedSets {
+    fn drop(self) {
+        let PlacedSets { sets, ssd, dsd } = self;
+        drop(sets);
+        drop(ssd);
+        drop(dsd);
+    }
 }
 
 impl Model for PlacedSets {

@@ -23,9 +23,15 @@ pub enum Kind {
 }
 
 /// The roles of a set, which its copies share.
-#[derive(Drop)]
 struct SharedRoles {
     names: Arc<Names>,
+}
+
+impl Drop for SharedRoles {
+    fn drop(self) {
+        let SharedRoles { names } = self;
+        drop(names);
+    }
 }
 
 impl Model for SharedRoles {
@@ -74,11 +80,22 @@ impl SharedRoles {
 
 /// Roles of which nobody may have `cardinality` or more. The cardinality is from 2 to the number of the roles, and no role
 /// stands twice.
-#[derive(Drop)]
 pub struct SeparationSet {
     name: Name,
     cardinality: usize,
     roles: SharedRoles,
+}
+
+impl Drop for SeparationSet {
+    fn drop(self) {
+        let SeparationSet {
+            name,
+            cardinality: _,
+            roles,
+        } = self;
+        drop(name);
+        drop(roles);
+    }
 }
 
 impl Model for SeparationSet {
@@ -136,7 +153,13 @@ impl SeparationSet {
     pub fn into_name(self) -> Name
         ensures { result ≡ self.name }
     {
-        self.name
+        let SeparationSet {
+            name,
+            cardinality: _,
+            roles,
+        } = self;
+        drop(roles);
+        name
     }
 
     /// How many of the roles nobody may have: from 2 to the number of the roles.

@@ -17,10 +17,17 @@ use std::marker::Model;
 pub const MAX_SETS: usize = 64;
 
 /// The static and the dynamic sets, each in the order in which they were made. A name may stand in both.
-#[derive(Drop)]
 pub struct Sets {
     ssd: Vec<SeparationSet>,
     dsd: Vec<SeparationSet>,
+}
+
+impl Drop for Sets {
+    fn drop(self) {
+        let Sets { ssd, dsd } = self;
+        drop(ssd);
+        drop(dsd);
+    }
 }
 
 impl Model for Sets {

@@ -100,9 +100,15 @@ pub(crate) fn list_at(
 }
 
 /// The rectangles of a tile's window, which contracts see as a list. Copies share them.
-#[derive(Drop)]
 pub struct Window {
     items: Arc<Vec<Rectangle>>,
+}
+
+impl Drop for Window {
+    fn drop(self) {
+        let Window { items } = self;
+        drop(items);
+    }
 }
 
 impl Model for Window {
@@ -170,9 +176,15 @@ impl Window {
 }
 
 /// Windows by tile, which contracts see as the list of their lists. Copies share them.
-#[derive(Drop)]
 pub struct Windows {
     items: Arc<Vec<Window>>,
+}
+
+impl Drop for Windows {
+    fn drop(self) {
+        let Windows { items } = self;
+        drop(items);
+    }
 }
 
 impl Model for Windows {

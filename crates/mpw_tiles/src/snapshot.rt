@@ -57,11 +57,19 @@ pub fn are_roots(shelf: &Shelf, roots: &[Root]) -> bool
 
 /// A deck, roots in order, and a shelf: contracts see the three values. There are at most 4096 roots, each fits the shelf,
 /// and together they show at most 2^20 shapes. Copies share all three.
-#[derive(Drop)]
 pub struct Snapshot {
     deck: Deck,
     roots: Arc<Vec<Root>>,
     shelf: Shelf,
+}
+
+impl Drop for Snapshot {
+    fn drop(self) {
+        let Snapshot { deck, roots, shelf } = self;
+        drop(deck);
+        drop(roots);
+        drop(shelf);
+    }
 }
 
 impl Model for Snapshot {

@@ -7,10 +7,17 @@ use mpw_placings::Placings;
 use std::alloc::{AllocError, Global};
 
 /// The placings of the assembled top, and the deck of its checks, where there is one. Copies share both.
-#[derive(Drop)]
 pub struct Wafer {
     pub placings: Placings,
     pub deck: Option<Deck>,
+}
+
+impl Drop for Wafer {
+    fn drop(self) {
+        let Wafer { placings, deck } = self;
+        drop(placings);
+        drop(deck);
+    }
 }
 
 /// The same deck, if there is one.

@@ -5,12 +5,19 @@ ghost use Rattle.std.specs.Prelude.{◌≡◌, is_some};
 use mpw_geom::Name;
 
 /// What was asked for a marker: that it may stay.
-#[derive(Drop)]
 pub struct Waiver {
     /// The user who asked.
     pub asker: Name,
     /// The user who signed, if one did.
     pub signer: Option<Name>,
+}
+
+impl Drop for Waiver {
+    fn drop(self) {
+        let Waiver { asker, signer } = self;
+        drop(asker);
+        drop(signer);
+    }
 }
 
 impl Waiver {

@@ -15,9 +15,15 @@ use std::marker::Model;
 
 /// For each marker of a book, in order, its waiver, if one was asked for, which contracts see as that list. A marker's
 /// place in the book is its place here.
-#[derive(Drop)]
 pub struct Waivers {
     places: Vec<Option<Waiver>>,
+}
+
+impl Drop for Waivers {
+    fn drop(self) {
+        let Waivers { places } = self;
+        drop(places);
+    }
 }
 
 impl Model for Waivers {
