@@ -18,10 +18,19 @@ pub enum Operation {
 }
 
 /// What an operation is on (OBS): a cell, which need not exist, or the desk.
-#[derive(Clone, PartialEq, Eq, Hash, Drop)]
+#[derive(Clone, PartialEq, Eq, Hash)]
 pub enum Object {
     Cell(Name),
     Desk,
+}
+
+impl Drop for Object {
+    fn drop(self) {
+        match self {
+            Object::Cell(name) => drop(name),
+            Object::Desk => {}
+        }
+    }
 }
 
 /// The permission for an operation on an object, granted to a role (PA).

@@ -16,12 +16,22 @@ use std::marker::Model;
 use std::sync::Arc;
 
 /// What a reply holds of its lines: the lines themselves, or the shapes, the markers or the requests that they list.
-#[derive(Drop)]
 enum Told {
     Stored(Vec<Line>),
     Shapes(ShapeListing),
     Markers(MarkerListing),
     Trail(Trail),
+}
+
+impl Drop for Told {
+    fn drop(self) {
+        match self {
+            Told::Stored(line) => drop(line),
+            Told::Shapes(shape_listing) => drop(shape_listing),
+            Told::Markers(marker_listing) => drop(marker_listing),
+            Told::Trail(trail) => drop(trail),
+        }
+    }
 }
 
 /// The lines of a reply, which contracts see as that list. Copies share them.

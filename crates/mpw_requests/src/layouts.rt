@@ -4,7 +4,6 @@ use mpw_geom::Name;
 use mpw_library::LibraryText;
 
 /// A request over the shelf of submissions.
-#[derive(Drop)]
 pub enum LayoutRequest {
     /// A cell's library, with the structure of it that the cell shows.
     Submit {
@@ -18,4 +17,18 @@ pub enum LayoutRequest {
     Shapes {
         cell: Name,
     },
+}
+
+impl Drop for LayoutRequest {
+    fn drop(self) {
+        match self {
+            LayoutRequest::Submit { cell, top, text } => {
+                drop(cell);
+                drop(top);
+                drop(text);
+            }
+            LayoutRequest::Shapes { cell } => drop(cell),
+            LayoutRequest::Cells => {}
+        }
+    }
 }

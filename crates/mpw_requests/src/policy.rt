@@ -5,7 +5,6 @@ use mpw_rbac::{Digest, Grant};
 use mpw_separation::SeparationSet;
 
 /// A request that changes the policy (ANSI INCITS 359-2004, 6).
-#[derive(Drop)]
 pub enum PolicyRequest {
     Open { user: Name, digest: Digest },
     Close,
@@ -25,4 +24,41 @@ pub enum PolicyRequest {
     Dsd { set: SeparationSet },
     UnSsd { name: Name },
     UnDsd { name: Name },
+}
+
+impl Drop for PolicyRequest {
+    fn drop(self) {
+        match self {
+            PolicyRequest::Open { user, digest: _ } => drop(user),
+            PolicyRequest::Activate { role } => drop(role),
+            PolicyRequest::DropRole { role } => drop(role),
+            PolicyRequest::AddUser { user, digest: _ } => drop(user),
+            PolicyRequest::DelUser { user } => drop(user),
+            PolicyRequest::AddRole { role } => drop(role),
+            PolicyRequest::DelRole { role } => drop(role),
+            PolicyRequest::Assign { user, role } => {
+                drop(user);
+                drop(role);
+            }
+            PolicyRequest::Deassign { user, role } => {
+                drop(user);
+                drop(role);
+            }
+            PolicyRequest::Grant { grant } => drop(grant),
+            PolicyRequest::Revoke { grant } => drop(grant),
+            PolicyRequest::Inherit { senior, junior } => {
+                drop(senior);
+                drop(junior);
+            }
+            PolicyRequest::Uninherit { senior, junior } => {
+                drop(senior);
+                drop(junior);
+            }
+            PolicyRequest::Ssd { set } => drop(set),
+            PolicyRequest::Dsd { set } => drop(set),
+            PolicyRequest::UnSsd { name } => drop(name),
+            PolicyRequest::UnDsd { name } => drop(name),
+            PolicyRequest::Close => {}
+        }
+    }
 }

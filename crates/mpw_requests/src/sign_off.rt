@@ -31,7 +31,6 @@ impl Drop for MarkerName {
 }
 
 /// A request over the waivers of a finished run's markers.
-#[derive(Drop)]
 pub enum SignOffRequest {
     /// Asks for a waiver of a marker.
     Waive { marker: MarkerName },
@@ -41,4 +40,14 @@ pub enum SignOffRequest {
     Waivers,
     /// Whether each marker is signed.
     Verdict,
+}
+
+impl Drop for SignOffRequest {
+    fn drop(self) {
+        match self {
+            SignOffRequest::Waive { marker } => drop(marker),
+            SignOffRequest::Sign { marker } => drop(marker),
+            SignOffRequest::Waivers | SignOffRequest::Verdict => {}
+        }
+    }
 }

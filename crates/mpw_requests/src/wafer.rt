@@ -4,7 +4,6 @@ use mpw_deck::DeckText;
 use mpw_geom::{Name, Placing};
 
 /// A request over the wafer: what is placed on it, and by which rules it is checked.
-#[derive(Drop)]
 pub enum WaferRequest {
     /// Places a cell's present submission under a label.
     Place {
@@ -21,4 +20,24 @@ pub enum WaferRequest {
     Deck {
         text: DeckText,
     },
+}
+
+impl Drop for WaferRequest {
+    fn drop(self) {
+        match self {
+            WaferRequest::Place {
+                cell,
+                label,
+                placing: _,
+            } => {
+                drop(cell);
+                drop(label);
+            }
+            WaferRequest::Unplace { cell, label } => {
+                drop(cell);
+                drop(label);
+            }
+            WaferRequest::Deck { text } => drop(text),
+        }
+    }
 }

@@ -170,7 +170,6 @@ pub enum Phase {
 }
 
 /// What an event is answered.
-#[derive(Drop)]
 pub enum RunReply {
     Taken(Job),
     NoJob,
@@ -179,6 +178,20 @@ pub enum RunReply {
     Stranger,
     Double,
     OldRun,
+}
+
+impl Drop for RunReply {
+    fn drop(self) {
+        match self {
+            RunReply::Taken(job) => drop(job),
+            RunReply::NoJob
+            | RunReply::Kept
+            | RunReply::Finished
+            | RunReply::Stranger
+            | RunReply::Double
+            | RunReply::OldRun => {}
+        }
+    }
 }
 
 impl RunReply {
