@@ -26,3 +26,4 @@ pub mod HeldLemmas
 pub mod KeepTrimmed
 pub mod KeptSessions
 pub mod RowFacts
+pub mod Shown

@@ -9,36 +9,36 @@ use Rattle.mpw_rbac.specs.declared.active.Active.{Active}
 use Rattle.mpw_rbac.proofs.MaskedLemmas.{active_in, active-lists}
 use Rattle.mpw_rbac.proofs.HolderLemmas.{unbroken-entry, broken-entry}
 use Rattle.mpw_rbac.proofs.PlacedLemmas.{acting-at}
+use Rattle.mpw_rbac.proofs.separation.breaks_a_session.Goals.{After-is_broken_at}
 use Rattle.mpw_rbac.proofs.separation.breaks_a_session.Goals as goal
+
+-- the call has asked about the session at the place
+asked : (c : After-is_broken_at) → c.is_broken_at.result ≡ breaks c.args.roles.now
+    c.in-Some.active.now.session.active c.args.set.now
+asked c =
+    let h = c.args.roles.now in
+    let e : ℕ × Active = (c.in-Some.field-0-0.now, c.in-Some.active.now) in
+    let own : IsPlaced (role_names h) c.args.set.now.roles c.places-own.result =
+    λ q. c.places-own.ensures q ∙ ap (λ l. is_place_of (role_names h) l q) c.roles.ensures.roles in
+    let below = acting-at h c.args.sessions.now.entries c.loop-index.index e
+    (sym c.in-Some.ensures.entry) c.requires in
+    c.is_broken_at.ensures h c.in-Some.active.now.session.active c.is_hierarchy.ensures own below
 
 pub loop-index-preserved : goal.loop-index-preserved
 loop-index-preserved c =
-    let h = c.args.roles.now in
-    let set = c.args.set.now in
-    let es = c.args.sessions.now.entries in
     let e : ℕ × Active = (c.in-Some.field-0-0.now, c.in-Some.active.now) in
-    let own : IsPlaced (role_names h) set.roles c.places-own.result =
-    λ q. c.places-own.ensures q ∙ ap (λ l. is_place_of (role_names h) l q) c.roles.ensures.roles in
-    let below = acting-at h es c.loop-index.index e (sym c.in-Some.ensures.entry) c.requires in
-    let asked : c.is_broken_at.result ≡ breaks h c.in-Some.active.now.session.active set =
-    c.is_broken_at.ensures h c.in-Some.active.now.session.active c.is_hierarchy.ensures own below in
-    unbroken-entry active_in h set es c.loop-index.index e (sym c.in-Some.ensures.entry)
-    c.loop-index.invariant (sym asked ∙ c.if-is_broken_at.false)
+    unbroken-entry active_in c.args.roles.now c.args.set.now c.args.sessions.now.entries
+    c.loop-index.index e (sym c.in-Some.ensures.entry) c.loop-index.invariant
+    (sym (asked (goal.at.loop-index-preserved c).After-is_broken_at) ∙ c.if-is_broken_at.false)
 
 pub returns-then-is_broken_at : goal.returns-then-is_broken_at
 returns-then-is_broken_at c =
-    let h = c.args.roles.now in
-    let set = c.args.set.now in
     let es = c.args.sessions.now.entries in
     let e : ℕ × Active = (c.in-Some.field-0-0.now, c.in-Some.active.now) in
-    let own : IsPlaced (role_names h) set.roles c.places-own.result =
-    λ q. c.places-own.ensures q ∙ ap (λ l. is_place_of (role_names h) l q) c.roles.ensures.roles in
-    let below = acting-at h es c.loop-index.index e (sym c.in-Some.ensures.entry) c.requires in
-    let asked : c.is_broken_at.result ≡ breaks h c.in-Some.active.now.session.active set =
-    c.is_broken_at.ensures h c.in-Some.active.now.session.active c.is_hierarchy.ensures own below in
-    sym (broken-entry active_in h set es c.loop-index.index e (sym c.in-Some.ensures.entry)
-    (sym asked ∙ c.if-is_broken_at.true))
-    ∙ ap (λ l. is_broken h l set) (active-lists es)
+    sym (broken-entry active_in c.args.roles.now c.args.set.now es c.loop-index.index e
+    (sym c.in-Some.ensures.entry)
+    (sym (asked (goal.at.returns-then-is_broken_at c).After-is_broken_at) ∙ c.if-is_broken_at.true))
+    ∙ ap (λ l. is_broken c.args.roles.now l c.args.set.now) (active-lists es)
 
 pub returns : goal.returns
 returns c =

@@ -8,45 +8,45 @@ use Rattle.mpw_rbac.specs.Rows as rows
 use Rattle.mpw_rbac.specs.Sound.{Sound}
 use Rattle.mpw_rbac.specs.Table.{with_value}
 use Rattle.mpw_rbac.proofs.KeepTrimmed.{keep-deassign}
-use Rattle.mpw_rbac.proofs.RowFacts.{deassign-ok}
-use Rattle.mpw_rbac.proofs.RowFacts.{assigned-user}
+use Rattle.mpw_rbac.proofs.RowFacts.{deassign-ok, assigned-user}
+use Rattle.mpw_rbac.proofs.Shown.{shown}
 use Rattle.mpw_rbac.proofs.TableLemmas.{insert-present}
 use Rattle.mpw_rbac.specs.Masked.{AreActing, AreAuthorized}
+use Rattle.mpw_rbac.proofs.policy.Policy.deassign.Goals.{After-trim}
 use Rattle.mpw_rbac.proofs.policy.Policy.deassign.Goals as goal
+
+-- that the role is assigned, and what is left
+left : (c : After-trim)
+    → (contains_name (assigned_roles c.args.self.now c.args.user.now) c.args.role.now ≡ true)
+    × (record (shown c.self.inside) { users = c.in_ok-users.users.users; sessions = c.trim.new.self.sessions }
+    ≡ trim (rows.with_assigned c.args.self.now c.args.user.now
+    (without_name (assigned_roles c.args.self.now c.args.user.now) c.args.role.now)))
+left c =
+    let q = c.args.self.now in
+    let user = c.args.user.now in
+    let role = c.args.role.now in
+    let there = sym c.is_assigned.ensures ∙ c.if-not-is_assigned.false in
+    let assigned : c.in_ok-users.users.users ≡ with_value name_eq q.users user
+    (record {
+      digest = rows.digest_of_user q user;
+      roles = without_name (assigned_roles q user) role;
+    }) =
+    c.in_ok-users.ensures.same ∙ (λ i. insert_entry name_eq (c.self.view_is i).users
+    (c.in_ok-copy.ensures i) (c.in_ok-assigned.ensures i))
+    ∙ insert-present name_eq q.users user _ (assigned-user q user role there) in
+    let sessions = c.trim.ensures.kept ∙ (λ i. kept_sessions
+    (users_and_roles (assigned i) ((c.roles-roles.ensures ∙ ap (λ (p : Policy). p.roles) c.self.view_is) i))
+    (c.self.view_is i).sessions) in (
+      there,
+      λ i. record (c.self.view_is i) { users = assigned i; sessions = sessions i },
+    )
 
 pub invariant_of-self : goal.invariant_of-self
 invariant_of-self c =
-    let in' = c.self.inside in
-    let p = policy_of in'.users.users in'.permissions.roles in'.permissions.granted in'.sets.sets
-    in'.sessions.sessions in
-    let user = c.args.user.now in
-    let role = c.args.role.now in
-    let there : contains_name (assigned_roles p user) role ≡ true =
-    ap (λ (q : Policy). contains_name (assigned_roles q user) role) c.self.view_is
-    ∙ sym c.is_assigned.ensures ∙ c.if-not-is_assigned.false in
-    let assigned : c.in_ok-users.users.users ≡ with_value name_eq p.users user
-    (record {
-      digest = rows.digest_of_user p user;
-      roles = without_name (assigned_roles p user)
-          role;
-    }) =
-    c.in_ok-users.ensures.same ∙ (λ i. insert_entry name_eq p.users (c.in_ok-copy.ensures i)
-    (c.in_ok-assigned.ensures i)) ∙ ap (λ (q : Policy). insert_entry name_eq p.users user
-    (record {
-      digest = rows.digest_of_user q user;
-      roles = without_name (assigned_roles q user)
-          role;
-    })) (sym c.self.view_is) ∙ insert-present name_eq p.users user _
-    (assigned-user p user role there) in
-    let left = c.trim.ensures.kept ∙ (λ i. kept_sessions
-    (users_and_roles (assigned i) (c.roles-roles.ensures i)) in'.sessions.sessions) in
-    let is : policy_of c.in_ok-users.users.users in'.permissions.roles in'.permissions.granted
-    in'.sets.sets c.trim.new.self.sessions
-    ≡ trim (rows.with_assigned p user (without_name (assigned_roles p user) role)) =
-    λ i. policy_of (assigned i) in'.permissions.roles in'.permissions.granted in'.sets.sets
-    (left i) in
+    let is = left (goal.at.invariant_of-self c).After-trim in
     record {
-      sound = subst Sound (sym is) (keep-deassign p user role c.self.invariant.sound);
+      sound = subst Sound (sym is.1) (keep-deassign c.args.self.now c.args.user.now c.args.role.now
+          (subst Sound c.self.view_is c.self.invariant.sound));
       authorized = subst (λ h. AreAuthorized h c.in_ok-users.users) c.roles-roles.ensures
           c.in_ok-users.ensures.masks;
       acting = subst (λ h. AreActing h c.trim.new.self) c.roles-roles.ensures c.trim.ensures.acting;
@@ -55,36 +55,6 @@ invariant_of-self c =
 
 pub returns-clause-ok : goal.returns-clause-ok
 returns-clause-ok c =
-    let in' = c.self.inside in
-    let p = policy_of in'.users.users in'.permissions.roles in'.permissions.granted in'.sets.sets
-    in'.sessions.sessions in
-    let ok : rows.administered p c.args.conn ≡ Ok p =
-    subst (λ (q : Policy). rows.administered q c.args.conn ≡ Ok q) (sym c.self.view_is)
-    c.in_ok-administers.ensures.ok in
-    let user = c.args.user.now in
-    let role = c.args.role.now in
-    let there : contains_name (assigned_roles p user) role ≡ true =
-    ap (λ (q : Policy). contains_name (assigned_roles q user) role) c.self.view_is
-    ∙ sym c.is_assigned.ensures ∙ c.if-not-is_assigned.false in
-    let assigned : c.in_ok-users.users.users ≡ with_value name_eq p.users user
-    (record {
-      digest = rows.digest_of_user p user;
-      roles = without_name (assigned_roles p user)
-          role;
-    }) =
-    c.in_ok-users.ensures.same ∙ (λ i. insert_entry name_eq p.users (c.in_ok-copy.ensures i)
-    (c.in_ok-assigned.ensures i)) ∙ ap (λ (q : Policy). insert_entry name_eq p.users user
-    (record {
-      digest = rows.digest_of_user q user;
-      roles = without_name (assigned_roles q user)
-          role;
-    })) (sym c.self.view_is) ∙ insert-present name_eq p.users user _
-    (assigned-user p user role there) in
-    let left = c.trim.ensures.kept ∙ (λ i. kept_sessions
-    (users_and_roles (assigned i) (c.roles-roles.ensures i)) in'.sessions.sessions) in
-    let is : policy_of c.in_ok-users.users.users in'.permissions.roles in'.permissions.granted
-    in'.sets.sets c.trim.new.self.sessions
-    ≡ trim (rows.with_assigned p user (without_name (assigned_roles p user) role)) =
-    λ i. policy_of (assigned i) in'.permissions.roles in'.permissions.granted in'.sets.sets
-    (left i) in
-    rw (← c.self.view_is) (deassign-ok p c.args.conn ok user role there ∙ ap Ok (sym is))
+    let is = left (goal.at.returns-clause-ok c).After-trim in
+    deassign-ok c.args.self.now c.args.conn c.in_ok-administers.ensures.ok c.args.user.now
+    c.args.role.now is.0 ∙ ap Ok (sym is.1)

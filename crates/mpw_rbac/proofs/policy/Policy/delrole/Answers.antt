@@ -12,31 +12,38 @@ use Rattle.mpw_rbac.proofs.RowFacts.{delrole-ok}
 use Rattle.mpw_rbac.proofs.RowFacts.{removed-role}
 use Rattle.mpw_rbac.specs.Masked.{AreActing, AreAuthorized}
 use Rattle.mpw_separation.specs.Placed.{AreSetsPlaced}
+use Rattle.mpw_rbac.proofs.Shown.{shown}
+use Rattle.mpw_rbac.proofs.policy.Policy.delrole.Goals.{After-place}
 use Rattle.mpw_rbac.proofs.policy.Policy.delrole.Goals as goal
+
+-- that no set uses the role, and what is left
+left : (c : After-place)
+    → ((uses_role (shown c.self.inside).ssd c.args.role.now || uses_role (shown c.self.inside).dsd
+    c.args.role.now) ≡ false)
+    × (policy_of c.in_ok-users.users.users c.in_ok-permissions.permissions.roles
+    c.in_ok-permissions.permissions.granted c.place.new.self.sets c.trim.new.self.sessions
+    ≡ trim (rows.without_role_of (shown c.self.inside) c.args.role.now))
+left c =
+    let in' = c.self.inside in
+    let role = c.args.role.now in
+    let h = removed-role in'.permissions.roles role c.in_ok-permissions.permissions.roles
+    c.in_ok-permissions.ensures.ok in
+    let sessions = c.trim.ensures.kept ∙ (λ i. kept_sessions
+    (users_and_roles (c.in_ok-users.ensures.same i) ((c.roles-roles.ensures ∙ h) i))
+    in'.sessions.sessions) in (
+      ap (λ (q : Policy). uses_role q.ssd role || uses_role q.dsd role) c.self.view_is
+          ∙ sym c.is_used.ensures ∙ c.if-is_used.false,
+      λ i. policy_of (c.in_ok-users.ensures.same i) (h i)
+          (c.in_ok-permissions.ensures.ungranted i) (c.place.ensures.sets i) (sessions i),
+    )
 
 pub invariant_of-self : goal.invariant_of-self
 invariant_of-self c =
-    let in' = c.self.inside in
-    let p = policy_of in'.users.users in'.permissions.roles in'.permissions.granted in'.sets.sets
-    in'.sessions.sessions in
-    let role = c.args.role.now in
-    let used : (uses_role p.ssd role || uses_role p.dsd role) ≡ false =
-    ap (λ (q : Policy). uses_role q.ssd role || uses_role q.dsd role) c.self.view_is
-    ∙ sym c.is_used.ensures ∙ c.if-is_used.false in
-    let unused_by = unused used in
-    let next = c.in_ok-permissions.permissions in
-    let h : next.roles ≡ without_role p.roles role = removed-role p.roles role next.roles
-    c.in_ok-permissions.ensures.ok in
-    let left = c.trim.ensures.kept ∙ (λ i. kept_sessions
-    (users_and_roles (c.in_ok-users.ensures.same i) ((c.roles-roles.ensures ∙ h) i))
-    in'.sessions.sessions) in
-    let is : policy_of c.in_ok-users.users.users next.roles next.granted c.place.new.self.sets
-    c.trim.new.self.sessions ≡ trim (rows.without_role_of p role) =
-    λ i. policy_of (c.in_ok-users.ensures.same i) (h i)
-    (c.in_ok-permissions.ensures.ungranted i) (c.place.ensures.sets i) (left i) in
+    let is = left (goal.at.invariant_of-self c).After-place in
+    let by_no_set = unused is.0 in
     record {
-      sound =
-          subst Sound (sym is) (keep-delrole p role unused_by.0 unused_by.1 c.self.invariant.sound);
+      sound = subst Sound (sym is.1) (keep-delrole (shown c.self.inside) c.args.role.now by_no_set.0
+          by_no_set.1 c.self.invariant.sound);
       authorized = subst (λ h. AreAuthorized h c.in_ok-users.users) c.roles-roles.ensures
           c.in_ok-users.ensures.masks;
       acting = subst (λ h. AreActing h c.trim.new.self) c.roles-roles.ensures c.trim.ensures.acting;
@@ -46,26 +53,13 @@ invariant_of-self c =
 
 pub returns-clause-ok : goal.returns-clause-ok
 returns-clause-ok c =
-    let in' = c.self.inside in
-    let p = policy_of in'.users.users in'.permissions.roles in'.permissions.granted in'.sets.sets
-    in'.sessions.sessions in
-    let role = c.args.role.now in
-    let used : (uses_role p.ssd role || uses_role p.dsd role) ≡ false =
-    ap (λ (q : Policy). uses_role q.ssd role || uses_role q.dsd role) c.self.view_is
-    ∙ sym c.is_used.ensures ∙ c.if-is_used.false in
-    let next = c.in_ok-permissions.permissions in
-    let h : next.roles ≡ without_role p.roles role = removed-role p.roles role next.roles
-    c.in_ok-permissions.ensures.ok in
-    let left = c.trim.ensures.kept ∙ (λ i. kept_sessions
-    (users_and_roles (c.in_ok-users.ensures.same i) ((c.roles-roles.ensures ∙ h) i))
-    in'.sessions.sessions) in
-    let is : policy_of c.in_ok-users.users.users next.roles next.granted c.place.new.self.sets
-    c.trim.new.self.sessions ≡ trim (rows.without_role_of p role) =
-    λ i. policy_of (c.in_ok-users.ensures.same i) (h i)
-    (c.in_ok-permissions.ensures.ungranted i) (c.place.ensures.sets i) (left i) in
+    let p = shown c.self.inside in
+    let is = left (goal.at.returns-clause-ok c).After-place in
     let ok : rows.administered p c.args.conn ≡ Ok p =
     subst (λ (q : Policy). rows.administered q c.args.conn ≡ Ok q) (sym c.self.view_is)
     c.in_ok-administers.ensures.ok in
-    let known : is_role p.roles role ≡ true = ap (λ (q : Policy). is_role q.roles role)
-    c.self.view_is ∙ sym c.is_role.ensures ∙ c.if-not-is_role.false in
-    rw (← c.self.view_is) (delrole-ok p c.args.conn ok role known used ∙ ap Ok (sym is))
+    let known : is_role p.roles c.args.role.now ≡ true =
+    ap (λ (q : Policy). is_role q.roles c.args.role.now) c.self.view_is ∙ sym c.is_role.ensures
+    ∙ c.if-not-is_role.false in
+    rw (← c.self.view_is) (delrole-ok p c.args.conn ok c.args.role.now known is.0
+    ∙ ap Ok (sym is.1))

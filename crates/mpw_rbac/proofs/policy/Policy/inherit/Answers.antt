@@ -14,78 +14,67 @@ use Rattle.mpw_roles.specs.Rows as hierarchy
 use Rattle.mpw_rbac.specs.Masked.{AreActing, AreAuthorized}
 use Rattle.mpw_separation.specs.Placed.{AreSetsPlaced}
 use Rattle.mpw_rbac.proofs.PlacedLemmas.{names-inherited}
+use Rattle.mpw_rbac.proofs.Shown.{shown}
+use Rattle.mpw_rbac.proofs.policy.Policy.inherit.Goals.{After-remask}
 use Rattle.mpw_rbac.proofs.policy.Policy.inherit.Goals as goal
+
+-- that no set is broken, and what is left
+paired : (c : After-remask)
+    → (least_broken (with_pair (shown c.self.inside).roles c.args.senior.now c.args.junior.now)
+    (shown c.self.inside).ssd (assigned_lists (shown c.self.inside).users) ≡ None)
+    × (least_broken (with_pair (shown c.self.inside).roles c.args.senior.now c.args.junior.now)
+    (shown c.self.inside).dsd (active_lists (shown c.self.inside).sessions) ≡ None)
+    × (policy_of c.in_ok-users.users.users c.in_ok-next.next.roles c.in_ok-next.next.granted
+    c.self.inside.sets.sets c.remask.new.self.sessions ≡ record (shown c.self.inside) {
+      roles = with_pair (shown c.self.inside).roles c.args.senior.now c.args.junior.now;
+    })
+paired c =
+    let q = c.args.self.now in
+    let after = inherited-pair c.self.inside.permissions.roles c.args.senior.now c.args.junior.now
+    c.in_ok-next.next.roles c.in_ok-next.ensures.ok in (
+      (λ i. least_broken (sym after.1 i) (c.self.view_is i).ssd
+          (assigned_lists (c.self.view_is i).users))
+          ∙ ap (λ h. least_broken h q.ssd (assigned_lists q.users)) (sym c.roles-roles.ensures)
+          ∙ sym c.in_default.ensures,
+      (λ i. least_broken (sym after.1 i) (c.self.view_is i).dsd
+          (active_lists (c.self.view_is i).sessions))
+          ∙ ap (λ h. least_broken h q.dsd (active_lists q.sessions)) (sym c.roles-roles.ensures)
+          ∙ sym c.in_default-broken_dynamic.ensures,
+      λ i. policy_of (c.in_ok-users.ensures.same i) (after.1 i) (c.in_ok-next.ensures.same i)
+          c.self.inside.sets.sets (c.remask.ensures.same i),
+    )
 
 pub invariant_of-self : goal.invariant_of-self
 invariant_of-self c =
-    let in' = c.self.inside in
-    let p = policy_of in'.users.users in'.permissions.roles in'.permissions.granted in'.sets.sets
-    in'.sessions.sessions in
+    let p = shown c.self.inside in
     let senior = c.args.senior.now in
     let junior = c.args.junior.now in
-    let made : hierarchy.inherit p.roles senior junior ≡ Ok c.in_ok-next.next.roles =
-    c.in_ok-next.ensures.ok in
-    let pair = inherited-pair p.roles senior junior c.in_ok-next.next.roles made in
-    let static : least_broken (with_pair p.roles senior junior) p.ssd (assigned_lists p.users)
-    ≡ None = (λ i. least_broken (sym pair.1 i) (c.self.view_is i).ssd
-    (assigned_lists (c.self.view_is i).users))
-    ∙ ap (λ h. least_broken h c.args.self.now.ssd (assigned_lists c.args.self.now.users))
-    (sym c.roles-roles.ensures) ∙ sym c.in_default.ensures in
-    let dynamic : least_broken (with_pair p.roles senior junior) p.dsd (active_lists p.sessions)
-    ≡ None = (λ i. least_broken (sym pair.1 i) (c.self.view_is i).dsd
-    (active_lists (c.self.view_is i).sessions))
-    ∙ ap (λ h. least_broken h c.args.self.now.dsd (active_lists c.args.self.now.sessions))
-    (sym c.roles-roles.ensures) ∙ sym c.in_default-broken_dynamic.ensures in
-    let next = c.in_ok-next.next in
-    let is : policy_of c.in_ok-users.users.users next.roles next.granted in'.sets.sets
-    c.remask.new.self.sessions ≡ record p { roles = with_pair p.roles senior junior } =
-    λ i. policy_of (c.in_ok-users.ensures.same i) (pair.1 i) (c.in_ok-next.ensures.same i)
-    in'.sets.sets (c.remask.ensures.same i) in
+    let after = c.in_ok-next.next.roles in
+    let made = c.in_ok-next.ensures.ok in
+    let is = paired (goal.at.invariant_of-self c).After-remask in
     record {
-      sound = subst Sound (sym is)
-          (keep-inherit p senior junior pair.0
-          (holds-of_none (with_pair p.roles senior junior) p.ssd (assigned_lists p.users)
-          static) (holds-of_none (with_pair p.roles senior junior) p.dsd
-          (active_lists p.sessions) dynamic) c.self.invariant.sound);
+      sound = subst Sound (sym is.2)
+          (keep-inherit p senior junior (inherited-pair p.roles senior junior after made).0
+          (holds-of_none (with_pair p.roles senior junior) p.ssd (assigned_lists p.users) is.0)
+          (holds-of_none (with_pair p.roles senior junior) p.dsd (active_lists p.sessions) is.1)
+          c.self.invariant.sound);
       authorized = subst (λ h. AreAuthorized h c.in_ok-users.users) c.roles-roles.ensures
           c.in_ok-users.ensures.masks;
       acting =
           subst (λ h. AreActing h c.remask.new.self) c.roles-roles.ensures c.remask.ensures.acting;
-      placed = subst (λ names. AreSetsPlaced names in'.sets) (sym (names-inherited in'.permissions.roles senior junior c.in_ok-next.next.roles
-          c.in_ok-next.ensures.ok))
-          c.self.invariant.placed;
+      placed = subst (λ names. AreSetsPlaced names c.self.inside.sets)
+          (sym (names-inherited p.roles senior junior after made)) c.self.invariant.placed;
     }
 
 pub returns-clause-ok : goal.returns-clause-ok
 returns-clause-ok c =
-    let in' = c.self.inside in
-    let p = policy_of in'.users.users in'.permissions.roles in'.permissions.granted in'.sets.sets
-    in'.sessions.sessions in
-    let senior = c.args.senior.now in
-    let junior = c.args.junior.now in
-    let made : hierarchy.inherit p.roles senior junior ≡ Ok c.in_ok-next.next.roles =
-    c.in_ok-next.ensures.ok in
-    let pair = inherited-pair p.roles senior junior c.in_ok-next.next.roles made in
-    let static : least_broken (with_pair p.roles senior junior) p.ssd (assigned_lists p.users)
-    ≡ None = (λ i. least_broken (sym pair.1 i) (c.self.view_is i).ssd
-    (assigned_lists (c.self.view_is i).users))
-    ∙ ap (λ h. least_broken h c.args.self.now.ssd (assigned_lists c.args.self.now.users))
-    (sym c.roles-roles.ensures) ∙ sym c.in_default.ensures in
-    let dynamic : least_broken (with_pair p.roles senior junior) p.dsd (active_lists p.sessions)
-    ≡ None = (λ i. least_broken (sym pair.1 i) (c.self.view_is i).dsd
-    (active_lists (c.self.view_is i).sessions))
-    ∙ ap (λ h. least_broken h c.args.self.now.dsd (active_lists c.args.self.now.sessions))
-    (sym c.roles-roles.ensures) ∙ sym c.in_default-broken_dynamic.ensures in
-    let next = c.in_ok-next.next in
-    let is : policy_of c.in_ok-users.users.users next.roles next.granted in'.sets.sets
-    c.remask.new.self.sessions ≡ record p { roles = with_pair p.roles senior junior } =
-    λ i. policy_of (c.in_ok-users.ensures.same i) (pair.1 i) (c.in_ok-next.ensures.same i)
-    in'.sets.sets (c.remask.ensures.same i) in
+    let p = shown c.self.inside in
     let admin : rows.administered p c.args.conn ≡ Ok p =
     subst (λ (q : Policy). rows.administered q c.args.conn ≡ Ok q) (sym c.self.view_is)
     c.in_ok-administers.ensures.ok in
-    rw (← c.self.view_is) (inherit-ok p c.args.conn admin senior junior next.roles made static
-    dynamic ∙ ap Ok (sym is))
+    let is = paired (goal.at.returns-clause-ok c).After-remask in
+    rw (← c.self.view_is) (inherit-ok p c.args.conn admin c.args.senior.now c.args.junior.now
+    c.in_ok-next.next.roles c.in_ok-next.ensures.ok is.0 is.1 ∙ ap Ok (sym is.2))
 
 pub returns-in-Some-clause-refused : goal.returns-in-Some-clause-refused
 returns-in-Some-clause-refused c =
