@@ -2,7 +2,7 @@
 use Rattle.std.proofs.Common.{◌≡◌, ℕ, zero, suc, ◌<◌, Bool, true, false, cond, eqb, List, [], ◌∷◌, ◌++◌, length, Option, Some, None, Ok, Err, refl, sym, ap, subst, ◌∙◌, inl, inr, arith, append_assoc, length-append}
 use Rattle.std.proofs.lemmas.Bool.{eqb-true}
 use Rattle.std.proofs.lemmas.List.{append-nil}
-use Rattle.mpw_records.specs.declared.kind.TheConstants.{ENDSTR}
+use Rattle.mpw_records.specs.declared.kind.TheConstants.{BOUNDARY, PATH, SREF, AREF, TEXT, ENDSTR, NODE, BOX}
 use Rattle.mpw_records.specs.Records.{RawRecord, RecordOutcome}
 use Rattle.mpw_elements.specs.declared.element.Element.{Element}
 use Rattle.mpw_elements.specs.Reading.{demanded}
@@ -161,71 +161,36 @@ record FirstOf (unit : ℕ) (front : List RawRecord) (found : Option Element) : 
   not_end : eqb first.kind ENDSTR ≡ false
   not_between : is_between first.kind ≡ false
 
+-- an element whose first record is of a type that a structure has nowhere else
+starts : {unit : ℕ} {rs : List RawRecord} {found : Option Element} (first : RawRecord) (kind : ℕ)
+    → first.kind ≡ kind → eqb kind ENDSTR ≡ false → is_between kind ≡ false
+    → DerivesElement unit (first ∷ rs) found → FirstOf unit (first ∷ rs) found
+starts {rs = rs} first kind e not_end not_between d =
+    record {
+      first = first;
+      behind = rs;
+      parts = refl;
+      derived = d;
+      not_end = ap (λ (n : ℕ). eqb n ENDSTR) e ∙ not_end;
+      not_between = ap is_between e ∙ not_between;
+    }
+
 first_of : {unit : ℕ} {front : List RawRecord} {found : Option Element}
     → DerivesElement unit front found → FirstOf unit front found
-first_of (DerivesElement.boundary {first = first} {rs = rs} e d) =
-    record {
-      first = first;
-      behind = rs;
-      parts = refl;
-      derived = DerivesElement.boundary e d;
-      not_end = rw e refl;
-      not_between = rw e refl;
-    }
-first_of (DerivesElement.box {first = first} {rs = rs} e d) =
-    record {
-      first = first;
-      behind = rs;
-      parts = refl;
-      derived = DerivesElement.box e d;
-      not_end = rw e refl;
-      not_between = rw e refl;
-    }
-first_of (DerivesElement.path {first = first} {rs = rs} e d) =
-    record {
-      first = first;
-      behind = rs;
-      parts = refl;
-      derived = DerivesElement.path e d;
-      not_end = rw e refl;
-      not_between = rw e refl;
-    }
-first_of (DerivesElement.single {first = first} {rs = rs} e d) =
-    record {
-      first = first;
-      behind = rs;
-      parts = refl;
-      derived = DerivesElement.single e d;
-      not_end = rw e refl;
-      not_between = rw e refl;
-    }
-first_of (DerivesElement.array {first = first} {rs = rs} e d) =
-    record {
-      first = first;
-      behind = rs;
-      parts = refl;
-      derived = DerivesElement.array e d;
-      not_end = rw e refl;
-      not_between = rw e refl;
-    }
-first_of (DerivesElement.text {first = first} {rs = rs} e d) =
-    record {
-      first = first;
-      behind = rs;
-      parts = refl;
-      derived = DerivesElement.text e d;
-      not_end = rw e refl;
-      not_between = rw e refl;
-    }
-first_of (DerivesElement.node {first = first} {rs = rs} e d) =
-    record {
-      first = first;
-      behind = rs;
-      parts = refl;
-      derived = DerivesElement.node e d;
-      not_end = rw e refl;
-      not_between = rw e refl;
-    }
+first_of (DerivesElement.boundary {first = first} e d) =
+    starts first BOUNDARY e refl refl (DerivesElement.boundary e d)
+first_of (DerivesElement.box {first = first} e d) =
+    starts first BOX e refl refl (DerivesElement.box e d)
+first_of (DerivesElement.path {first = first} e d) =
+    starts first PATH e refl refl (DerivesElement.path e d)
+first_of (DerivesElement.single {first = first} e d) =
+    starts first SREF e refl refl (DerivesElement.single e d)
+first_of (DerivesElement.array {first = first} e d) =
+    starts first AREF e refl refl (DerivesElement.array e d)
+first_of (DerivesElement.text {first = first} e d) =
+    starts first TEXT e refl refl (DerivesElement.text e d)
+first_of (DerivesElement.node {first = first} e d) =
+    starts first NODE e refl refl (DerivesElement.node e d)
 
 item_found : {unit : ℕ} {front : List RawRecord} {o : Option Element} → DerivesElement unit front o
     → (rest : List RecordOutcome) → item unit (records_then front rest) ≡ Ok (item_of o, rest)
