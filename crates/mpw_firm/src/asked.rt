@@ -3,11 +3,13 @@
 use crate::fault::FirmFault;
 use crate::listing::write_markers;
 use crate::options::Options;
+use crate::picture::{picture, window_of};
 use crate::progress::{tell_checking, tell_summary};
 use crate::reading::{deck_of, read_file};
 use crate::report::report;
 use crate::told::{check_fault, device_fault};
 use mpw_check::{CheckFault, check_layout, read_layout};
+use mpw_geom::Box2;
 use mpw_markers::Book;
 use mpw_tiles::Snapshot;
 use mpw_wire::{Counted, WireFault};
@@ -66,10 +68,44 @@ pub fn print(rt: &HostRuntime, snapshot: &Snapshot, book: Book) -> Result<(), Fi
     }
 }
 
-/// Checks what the command line asks for, prints its markers, writes its report and tells how many markers there are.
+/// The picture that is asked for, with its window.
+fn pictured<'a>(
+    rt: &HostRuntime,
+    options: &'a Options,
+    snapshot: &Snapshot,
+    book: &Book,
+) -> Result<Option<(&'a str, Box2)>, FirmFault> {
+    match &options.picture {
+        Some(wanted) => {
+            let window = window_of(rt.alloc(), wanted, snapshot, book)?;
+            Ok(Some((wanted.file.as_str(), window)))
+        }
+        None => Ok(None),
+    }
+}
+
+/// Prints the markers, and writes the report and the picture.
+fn write_all(
+    rt: &HostRuntime,
+    options: &Options,
+    snapshot: &Snapshot,
+    book: &Book,
+) -> Result<(), FirmFault> {
+    let pictured = pictured(rt, options, snapshot, book)?;
+    print(rt, snapshot, book.copy()?)?;
+    report(rt, &options.report, &options.top, snapshot, book)?;
+    match pictured {
+        Some((file, window)) => picture(rt, file, window, &options.top, snapshot, book),
+        None => Ok(()),
+    }
+}
+
+/// Checks what the command line asks for, prints its markers, writes its report and its picture and tells how many markers there
+/// are. A key that no marker has is refused before anything is printed.
 ///
 /// # Errors
-/// A file that can't be read or written, a library or a deck with a fault, a device that failed, or want of memory.
+/// A file that can't be read or written, a key that no marker has, a library or a deck with a fault, a device that failed, or want
+/// of memory.
 pub fn check(
     rt: &HostRuntime,
     threads: &(impl Threads + Sync),
@@ -84,7 +120,6 @@ pub fn check(
     };
     let found = book.len();
     let _ = tell_summary(rt, &snapshot, book.as_slice(), &start);
-    print(rt, &snapshot, book.copy()?)?;
-    report(rt, &options.report, &options.top, &snapshot, &book)?;
+    write_all(rt, options, &snapshot, &book)?;
     Ok(found)
 }

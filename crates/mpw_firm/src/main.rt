@@ -1,15 +1,20 @@
 //! The program of a firm: `mpw check --deck DECK --top STRUCTURE FILE` checks a structure of a GDSII library under a deck, and
 //! prints its markers as a desk lists them; with `--report OUT` it writes them to a file too, as a report database of KLayout's.
 //! With `--tiles` it checks some tiles of the plan, and prints their part; `mpw stitch PART..` prints the markers of the whole.
+//! With `--picture OUT` it draws what was checked, or with `--marker KEY` what lies round a marker, as SVG.
 #![tactic(auto)]
 
 mod asked;
 mod blank;
 mod cause;
 mod fault;
+mod key;
 mod listing;
 mod options;
+mod out_file;
 mod part;
+mod picture;
+mod picture_options;
 mod place;
 mod progress;
 mod reading;

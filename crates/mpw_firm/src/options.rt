@@ -1,6 +1,8 @@
 //! The command line.
 
 use crate::fault::FirmFault;
+use crate::out_file::{free_option, out_file};
+use crate::picture_options::{Wanted, read_wanted, with_picture};
 use crate::stitch_options::{StitchOptions, read_stitch};
 use clap::error::ErrorKind;
 use clap::{Arg, ArgAction, ArgMatches, Command, Error};
@@ -22,6 +24,8 @@ pub struct Options {
     pub file: String,
     /// The file that the report is written to, if one is wanted.
     pub report: Option<String>,
+    /// The picture, if one is wanted.
+    pub picture: Option<Wanted>,
     /// The tiles whose part is wanted, in place of the markers of the whole.
     pub tiles: Option<TileRange>,
 }
@@ -61,26 +65,25 @@ fn command<'a>(alloc: Global) -> Result<Command<'a>, AllocError> {
         .required(true)
         .action(ArgAction::Set)
         .help("The GDSII library, - for the standard input");
-    let report = Arg::new(alloc, "report")
-        .long("report")
-        .value_name("OUT")
-        .action(ArgAction::Set)
-        .help("A file for the markers as a report database, which KLayout opens");
-    let tiles = Arg::new(alloc, "tiles")
-        .long("tiles")
-        .value_name("TILES")
-        .action(ArgAction::Set)
-        .help(
-            "Checks some tiles, and prints their part for 'mpw stitch': A-B, from tile A to tile B, both included and counted from 0; or K/N, the K-th of N shares",
-        );
-    Command::new(alloc, "mpw check")
+    let report = free_option(
+        alloc,
+        "report",
+        "OUT",
+        "A file for the markers as a report database, which KLayout opens",
+    );
+    let tiles = free_option(
+        alloc,
+        "tiles",
+        "TILES",
+        "Checks some tiles, and prints their part for 'mpw stitch': A-B, from tile A to tile B, both included and counted from 0; or K/N, the K-th of N shares",
+    );
+    let command = Command::new(alloc, "mpw check")
         .version(VERSION)
         .about("Checks a structure of a GDSII library under a deck, and lists its markers")
         .arg(deck)?
         .arg(top)?
-        .arg(report)?
-        .arg(tiles)?
-        .arg(file)
+        .arg(report)?;
+    with_picture(alloc, command)?.arg(tiles)?.arg(file)
 }
 
 /// A fault of the command line, with its text.
@@ -103,35 +106,12 @@ fn read_top(alloc: Global, text: &str) -> Result<Name, FirmFault> {
     }
 }
 
-/// The file of the report.
-fn read_report(
-    alloc: Global,
-    report: Option<&str>,
-    inputs: [&str; 2],
-) -> Result<Option<String>, FirmFault> {
-    let Some(report) = report else {
-        return Ok(None);
-    };
-    if report == "-" {
-        return Err(usage(
-            alloc,
-            "error: --report takes a file, and not the standard output",
-        ));
-    }
-    if report == inputs[0] || report == inputs[1] {
-        return Err(usage(
-            alloc,
-            "error: the report can't be written over the deck or the library",
-        ));
-    }
-    Ok(Some(String::from_str(alloc, report)?))
-}
-
-/// The tiles whose part is wanted.
+/// The tiles whose part is wanted, where neither a report nor a picture is.
 fn read_tiles(
     alloc: Global,
     tiles: Option<&str>,
     report: Option<&str>,
+    picture: Option<&str>,
 ) -> Result<Option<TileRange>, FirmFault> {
     let Some(tiles) = tiles else {
         return Ok(None);
@@ -140,6 +120,12 @@ fn read_tiles(
         return Err(usage(
             alloc,
             "error: a part has no report: give --report to 'mpw stitch'",
+        ));
+    }
+    if picture.is_some() {
+        return Err(usage(
+            alloc,
+            "error: a part has no picture: draw it with a check of all tiles",
         ));
     }
     match read_range(alloc, tiles.as_bytes())? {
@@ -167,12 +153,21 @@ fn given(alloc: Global, matches: &ArgMatches<'_>) -> Result<Options, FirmFault> 
             "error: the deck and the library can't both be the standard input",
         ));
     }
+    let (report, picture) = (matches.get_str("report"), matches.get_str("picture"));
+    let files = [deck, file, report.unwrap_or("-")];
     Ok(Options {
         deck: String::from_str(alloc, deck)?,
         top: read_top(alloc, top)?,
         file: String::from_str(alloc, file)?,
-        report: read_report(alloc, matches.get_str("report"), [deck, file])?,
-        tiles: read_tiles(alloc, matches.get_str("tiles"), matches.get_str("report"))?,
+        report: out_file(
+            alloc,
+            "report",
+            report,
+            &files[..2],
+            "the deck or the library",
+        )?,
+        picture: read_wanted(alloc, picture, matches.get_str("marker"), &files)?,
+        tiles: read_tiles(alloc, matches.get_str("tiles"), report, picture)?,
     })
 }
 

@@ -2,6 +2,7 @@
 
 use crate::fault::FirmFault;
 use crate::options::{Asked, VERSION, asked_by, usage};
+use crate::out_file::{free_option, out_file};
 use clap::{Arg, ArgAction, ArgMatches, Command};
 use std::alloc::{AllocError, Global};
 
@@ -16,11 +17,12 @@ pub struct StitchOptions {
 
 /// The command line's form.
 fn command<'a>(alloc: Global) -> Result<Command<'a>, AllocError> {
-    let report = Arg::new(alloc, "report")
-        .long("report")
-        .value_name("OUT")
-        .action(ArgAction::Set)
-        .help("A file for the markers as a report database, which KLayout opens");
+    let report = free_option(
+        alloc,
+        "report",
+        "OUT",
+        "A file for the markers as a report database, which KLayout opens",
+    );
     let files = Arg::new(alloc, "part")
         .value_name("PART")
         .required(true)
@@ -36,35 +38,9 @@ fn command<'a>(alloc: Global) -> Result<Command<'a>, AllocError> {
         .arg(files)
 }
 
-/// Whether a text is one of these.
-fn is_among(text: &str, words: &[&str]) -> bool {
-    words.iter().any(|word| *word == text)
-}
-
 /// How many of these are the standard input.
 fn inputs(words: &[&str]) -> usize {
     words.iter().filter(|word| **word == "-").count()
-}
-
-/// The file of the report.
-fn read_report(
-    alloc: Global,
-    report: Option<&str>,
-    files: &[&str],
-) -> Result<Option<String>, FirmFault> {
-    let Some(report) = report else {
-        return Ok(None);
-    };
-    if report == "-" {
-        return Err(usage(
-            alloc,
-            "error: --report takes a file, and not the standard output",
-        ));
-    }
-    if is_among(report, files) {
-        return Err(usage(alloc, "error: the report can't be written over a part"));
-    }
-    Ok(Some(String::from_str(alloc, report)?))
 }
 
 /// The texts, each copied.
@@ -86,7 +62,7 @@ fn given(alloc: Global, matches: &ArgMatches<'_>) -> Result<StitchOptions, FirmF
     }
     Ok(StitchOptions {
         files: copied(alloc, files)?,
-        report: read_report(alloc, matches.get_str("report"), files)?,
+        report: out_file(alloc, "report", matches.get_str("report"), files, "a part")?,
     })
 }
 

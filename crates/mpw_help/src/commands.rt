@@ -3,7 +3,7 @@
 use crate::entry::{Detail, Entry};
 
 /// The commands.
-static COMMANDS: [Entry; 3] = [
+static COMMANDS: [Entry; 4] = [
     Entry {
         word: "script",
         form: "mpw script --officer NAME --digest HEX",
@@ -15,9 +15,17 @@ static COMMANDS: [Entry; 3] = [
     Entry {
         word: "check",
         form: "mpw check --deck DECK --top STRUCTURE FILE",
-        meaning: "checks a structure of a GDSII library by itself under a deck, and prints its markers as the request markers does",
+        meaning: "checks a structure of a GDSII library by itself under a deck, and prints its markers as the request markers does; --report OUT and --picture OUT write them to files for KLayout and as SVG, --marker KEY draws what lies round one, and --tiles TILES prints the part of some tiles for mpw stitch",
         detail: Detail::Command {
-            statuses: "0 no markers; 1 markers; 2 the command line isn't one; 3 a file can't be read or written, or the output failed; 4 the library or the deck has a fault, or the structure shows a name outside the library; 5 want of memory",
+            statuses: "0 no markers; 1 markers; 2 the command line isn't one, or no marker has the key; 3 a file can't be read or written, or the output failed; 4 the library or the deck has a fault, or the structure shows a name outside the library; 5 want of memory",
+        },
+    },
+    Entry {
+        word: "stitch",
+        form: "mpw stitch PART..",
+        meaning: "puts the parts of one check together that have each of its tiles once, and prints the markers that mpw check prints of the whole; --report OUT writes them to a file for KLayout",
+        detail: Detail::Command {
+            statuses: "0 no markers; 1 markers; 2 the command line isn't one; 3 a file can't be read or written, or the output failed; 4 a file is no part or one that was cut off, a part is of another library, deck, structure or plan, or a tile is in no part or in two; 5 want of memory",
         },
     },
     Entry {

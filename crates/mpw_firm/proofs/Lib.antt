@@ -1,0 +1,2 @@
+-- The lemmas of the program that checks a cell.
+mod KeyTexts

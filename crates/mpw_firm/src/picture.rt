@@ -1,0 +1,106 @@
+//! The picture of a check.
+ghost use Rattle.std.specs.Prelude.{IfOk, IfErr, IfSome, Some, ◌≡◌, true, false, option_map};
+ghost use Rattle.mpw_geom.specs.Plane.{IsBoxInPlane};
+ghost use Rattle.mpw_picture.specs.Text.{picture_text};
+ghost use Rattle.mpw_report.specs.Writing.{Adds};
+
+use crate::fault::FirmFault;
+use crate::key::find_marker;
+use crate::picture_options::Wanted;
+use crate::told::unwritten;
+use mpw_geom::{Box2, Name};
+use mpw_markers::Book;
+use mpw_picture::{Picture, draw, marker_window, whole_window, write_picture};
+use mpw_tiles::Snapshot;
+use std::alloc::Global;
+use std::fs::File;
+use std::io::{self, BufWriter, Write};
+
+/// What is told of a key that no marker has.
+fn unknown(alloc: Global, key: &str) -> FirmFault {
+    match format!(in alloc;
+        "error: --marker {key}: no marker has this key: take a line of the listing up to the blank"
+    ) {
+        Ok(text) => FirmFault::Usage(text),
+        Err(_) => FirmFault::Memory,
+    }
+}
+
+/// The window round the marker of that key.
+fn window_round(
+    alloc: Global,
+    snapshot: &Snapshot,
+    book: &Book,
+    key: &str,
+) -> Result<Box2, FirmFault>
+    ensures { IfOk result IsBoxInPlane }
+{
+    let rules = snapshot.deck().rules().as_slice();
+    match find_marker(alloc, rules, book.as_slice(), key)? {
+        Some(marker) => Ok(marker_window(rules, marker)),
+        None => Err(unknown(alloc, key)),
+    }
+}
+
+/// The window of the picture that is asked for: round the marker of its key, or round all where it names none.
+///
+/// # Errors
+/// `Usage` where no marker has the key, and `Memory`.
+pub fn window_of(
+    alloc: Global,
+    wanted: &Wanted,
+    snapshot: &Snapshot,
+    book: &Book,
+) -> Result<Box2, FirmFault>
+    ensures { IfOk result IsBoxInPlane }
+{
+    match &wanted.key {
+        Some(key) => window_round(alloc, snapshot, book, key.as_str()),
+        None => Ok(whole_window(snapshot)),
+    }
+}
+
+/// Writes a picture under the deck of a snapshot.
+fn write_drawn<W: Write>(
+    writer: &mut W,
+    snapshot: &Snapshot,
+    top: &Name,
+    picture: &Picture,
+) -> io::Result<()>
+    ensures { Adds W.contents writer.old writer.new result (picture_text snapshot.now.deck.rules top.now picture.now) }
+{
+    write_picture(writer, snapshot.deck().rules().as_slice(), top, picture)
+}
+
+/// Writes a picture to a file, in the place of what it held.
+fn write_file(
+    rt: &HostRuntime,
+    file: &str,
+    snapshot: &Snapshot,
+    top: &Name,
+    picture: &Picture,
+) -> io::Result<()> {
+    let file = File::create(rt, file)?;
+    let mut writer = BufWriter::new(rt.alloc(), file)?;
+    write_drawn(&mut writer, snapshot, top, picture)
+}
+
+/// Draws a window of what was checked into a file.
+///
+/// # Errors
+/// `Device` where the file can't be written, and `Memory`.
+pub fn picture(
+    rt: &HostRuntime,
+    file: &str,
+    window: Box2,
+    top: &Name,
+    snapshot: &Snapshot,
+    book: &Book,
+) -> Result<(), FirmFault> {
+    let picture = draw(rt.alloc(), snapshot, book.as_slice(), window)?;
+    match write_file(rt, file, snapshot, top, &picture) {
+        Ok(()) => Ok(()),
+        Err(error) if error.kind() == io::ErrorKind::OutOfMemory => Err(FirmFault::Memory),
+        Err(_) => Err(unwritten(rt.alloc(), file)),
+    }
+}
