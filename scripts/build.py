@@ -1,161 +1,90 @@
 #!/usr/bin/env python3
-"""Proves the crates that a program stands on, side by side where none stands on the other, and then the program.
+"""Proves a program and the crates that it stands on, and builds it.
 
   scripts/build.py PROGRAM
 
-Two runs of the toolchain in one tree wait for each other, so each crate is proved in a tree of its own that has the
-crates below it. What was proved is put back at once: a run that was broken off goes on where it stood. The way is told
-on the standard error.
+They are proved as the gate proves them, by `rt ci` on a copy of their files: as many side by side as there are processors and
+memory, and what a run on this machine has proved before is not proved again. Wrong bodies are the gate's own business and are
+not tried. The way is told on the standard error.
 """
-import functools
-import importlib.machinery
-import importlib.util
 import os
+import re
 import shutil
 import subprocess
 import sys
 import tempfile
 import time
-from concurrent.futures import FIRST_COMPLETED, ThreadPoolExecutor, wait
 
 TOP = os.path.dirname(os.path.dirname(os.path.abspath(__file__)))
-# The memory that a check may take, in bytes.
-NEED = 4_500_000_000
-# The first word that makes this file the toolchain's rt.
-AS_RT = "rt"
+# What a proof reads of a crate, and what the stored run of a program reads.
+PROOF = ("src", "specs", "proofs")
+RUN = ("stdin", "stdout", "args", "status", "data")
 
 
 def say(text):
     print(f"mpw: {text}", file=sys.stderr, flush=True)
 
 
-def crates_of_file():
-    found = {}
+def lines_of_crates():
+    """Returns the line of each crate in crates.txt."""
     with open(f"{TOP}/crates.txt", encoding="utf-8") as file:
-        for line in file:
-            name, colon, deps = line.partition("#")[0].partition(":")
-            if colon:
-                found[name.split()[0]] = deps.split()
-    return {name: [it for it in deps if it in found] for name, deps in found.items()}
+        return {line.split(":")[0].split()[0]: line for line in file if ":" in line.partition("#")[0]}
 
 
-def below(crates, name):
+def below(lines, name):
+    """Returns the crates of this repository that a crate stands on, and the crate, lowest first."""
     found = []
-    for dep in crates[name]:
-        found += [it for it in [*below(crates, dep), dep] if it not in found]
-    return found
+    for dep in lines[name].partition(":")[2].split():
+        if dep in lines:
+            found += [it for it in below(lines, dep) if it not in found]
+    return [*found, name]
 
 
-def newest(folder):
-    times = [os.path.getmtime(f"{at}/{it}") for at, _, files in os.walk(folder) for it in files]
-    return max(times, default=0)
+def copy(lines, wanted, tree):
+    for name in wanted:
+        for part in (*PROOF, *(RUN if name == wanted[-1] else ())):
+            source, target = f"{TOP}/crates/{name}/{part}", f"{tree}/crates/{name}/{part}"
+            if os.path.isdir(source):
+                shutil.copytree(source, target, symlinks=True)
+            elif os.path.isfile(source):
+                shutil.copy2(source, target)
+    shutil.copy2(f"{TOP}/HANDLES", tree)
+    with open(f"{tree}/crates.txt", "w", encoding="utf-8") as file:
+        file.writelines(lines[name] for name in wanted)
 
 
-def is_proved(crates, name):
-    stamp = f"{TOP}/crates/{name}/out/rlib/stamp"
-    if not os.path.isfile(stamp):
-        return False
-    made = os.path.getmtime(stamp)
-    parts = [f"{TOP}/crates/{it}/{part}" for it in [name, *below(crates, name)] for part in ("src", "specs", "proofs")]
-    return all(newest(part) <= made for part in parts)
-
-
-def link_or_copy(source, target):
-    """A second name of a file that is only read; a copy where the folders are of two file systems."""
-    try:
-        os.link(source, target, follow_symlinks=False)
-    except OSError:
-        shutil.copy2(source, target, follow_symlinks=False)
-
-
-def copy_crate(name, tree, with_out, copy):
-    for part in ("src", "specs", "proofs"):
-        if os.path.isdir(f"{TOP}/crates/{name}/{part}"):
-            shutil.copytree(f"{TOP}/crates/{name}/{part}", f"{tree}/crates/{name}/{part}", symlinks=True)
-    # A program's files of words and status are in the sum of its texts.
-    for it in ("args", "status"):
-        if os.path.isfile(f"{TOP}/crates/{name}/{it}"):
-            shutil.copy2(f"{TOP}/crates/{name}/{it}", f"{tree}/crates/{name}/{it}")
-    if os.path.isdir(f"{TOP}/crates/{name}/{with_out}"):
-        shutil.copytree(f"{TOP}/crates/{name}/{with_out}", f"{tree}/crates/{name}/{with_out}", symlinks=True, copy_function=copy)
-
-
-def prove(crates, name, words):
-    """Proves a crate by a command of the toolchain, and returns whether that was done and what it said."""
-    with tempfile.TemporaryDirectory(prefix="mpw-build-") as tree:
-        wanted = [*below(crates, name), name]
-        with open(f"{TOP}/crates.txt", encoding="utf-8") as file:
-            lines = [line for line in file if line.partition(":")[0].split()[:1] in ([it] for it in wanted)]
-        with open(f"{tree}/crates.txt", "w", encoding="utf-8") as file:
-            file.writelines(lines)
-        for it in wanted[:-1]:
-            copy_crate(it, tree, "out/rlib", link_or_copy)
-        copy_crate(name, tree, "out", shutil.copy2)
-        how = {"cwd": f"{tree}/crates/{name}", "stdin": subprocess.DEVNULL, "stdout": subprocess.PIPE}
-        ran = subprocess.run([sys.executable, __file__, AS_RT, *words], **how, stderr=subprocess.STDOUT, errors="replace")
-        out = f"{TOP}/crates/{name}/out"
-        if os.path.isdir(f"{tree}/crates/{name}/out"):
-            shutil.rmtree(out, ignore_errors=True)
-            shutil.move(f"{tree}/crates/{name}/out", out)
-        return ran.returncode == 0, ran.stdout
-
-
-def as_rt(words):
-    """Runs the toolchain's rt, which then sums up each crate's texts once, and not once for each way that leads to it: of
-    those there are thousands. A tree that nobody else writes in stays as it was summed. A rt of another form runs as it is."""
-    sys.dont_write_bytecode = True
-    loader = importlib.machinery.SourceFileLoader("toolchain", os.path.realpath(shutil.which("rt")))
-    made = importlib.util.module_from_spec(importlib.util.spec_from_loader("toolchain", loader))
-    try:
-        loader.exec_module(made)
-        made.rtlib.Crate.stamp = functools.cache(made.rtlib.Crate.stamp)
-    except (AttributeError, SyntaxError, UnicodeError, ValueError):
-        os.execvp("rt", ["rt", *words])
-    return made.main(words)
-
-
-def lanes():
-    with open("/proc/meminfo", encoding="utf-8") as file:
-        free = next(int(line.split()[1]) * 1024 for line in file if line.startswith("MemAvailable"))
-    return max(1, min(len(os.sched_getaffinity(0)), int(free / NEED)))
-
-
-def prove_all(crates, wanted):
-    """Proves crates, each once those below it are; returns whether all were."""
-    left = [it for it in wanted if not is_proved(crates, it)]
-    total, most, running, began = len(left), lanes(), {}, {}
-    with ThreadPoolExecutor(most) as pool:
-        while left or running:
-            busy = running.values()
-            ready = [it for it in left if not any(dep in left or dep in busy for dep in below(crates, it))]
-            for name in ready[: most - len(running)]:
-                left.remove(name)
-                began[name] = time.monotonic()
-                running[pool.submit(prove, crates, name, ["lib", "--jobs", str(most)])] = name
-            for done in wait(running, return_when=FIRST_COMPLETED).done:
-                name = running.pop(done)
-                proved, said = done.result()
-                if not proved:
-                    say(f"{name} could not be proved:\n{said[-4000:]}")
-                    return False
-                say(f"{total - len(left) - len(running)} of {total} crates proved: {name}, {time.monotonic() - began[name]:.0f} s")
-    return True
+def prove(tree, wanted):
+    """Proves the crates of a tree, telling the way; returns whether all were, and the last of what was said."""
+    began, done, said = time.monotonic(), set(), []
+    how = {"cwd": tree, "stdin": subprocess.DEVNULL, "stdout": subprocess.PIPE, "stderr": subprocess.STDOUT}
+    with subprocess.Popen(["rt", "ci"], text=True, errors="replace", **how) as ran:
+        for line in ran.stdout:
+            said = [*said[-80:], line]
+            found = re.match(r"rt: (\w+) (proved|is kept)", line)
+            if found and found[1] in wanted:
+                done.add(found[1])
+                say(f"{len(done)} of {len(wanted)} crates proved: {found[1]}, {time.monotonic() - began:.0f} s")
+    return ran.returncode == 0, "".join(said)
 
 
 def main(words):
-    program = words[0]
-    crates = crates_of_file()
-    wanted = below(crates, program)
-    say(f"proving and building {program}; the first time takes 20 to 30 minutes on four processors")
-    if not prove_all(crates, wanted):
-        return 1
-    say(f"proving {program} itself")
-    said = prove(crates, program, ["run", "--", "--help"])[1]
-    if not os.path.isfile(f"{TOP}/crates/{program}/out/{program}"):
-        say(f"the program could not be built:\n{said[-4000:]}")
-        return 1
+    if len(words) != 1:
+        print(__doc__, file=sys.stderr)
+        return 2
+    program, lines = words[0], lines_of_crates()
+    wanted = below(lines, program)
+    say(f"proving and building {program}; docs/PROVING.md tells how long that takes where nothing is proved yet")
+    with tempfile.TemporaryDirectory(prefix="mpw-build-") as tree:
+        copy(lines, wanted, tree)
+        proved, said = prove(tree, wanted)
+        made = f"{tree}/crates/{program}/out/{program}"
+        if not proved or not os.path.isfile(made):
+            say(f"{program} could not be proved and built:\n{said[-4000:]}")
+            return 1
+        os.makedirs(f"{TOP}/crates/{program}/out", exist_ok=True)
+        shutil.move(made, f"{TOP}/crates/{program}/out/{program}")
     return 0
 
 
 if __name__ == "__main__":
-    sys.exit(as_rt(sys.argv[2:]) if sys.argv[1:2] == [AS_RT] else main(sys.argv[1:]))
+    sys.exit(main(sys.argv[1:]))
