@@ -38,8 +38,8 @@ impl Elements {
     pub fn into_vec(self) -> Vec<Element>
         ensures { result.items ≡ self }
     {
-        let Elements { items } = self;
-        items
+        let Elements { items: elements } = self;
+        elements
     }
 
     /// The elements in file order.
