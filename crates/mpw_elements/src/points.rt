@@ -39,8 +39,8 @@ impl Points {
     pub fn into_vec(self) -> Vec<Point>
         ensures { result.items ≡ self }
     {
-        let Points { items: points } = self;
-        points
+        let Points { items: taken } = self;
+        taken
     }
 
     /// The points in file order.

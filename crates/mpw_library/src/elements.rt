@@ -38,8 +38,8 @@ impl Elements {
     pub fn into_vec(self) -> Vec<Element>
         ensures { result.items ≡ self }
     {
-        let Elements { items: elements } = self;
-        elements
+        let Elements { items: taken } = self;
+        taken
     }
 
     /// The elements in file order.

@@ -1,5 +1,5 @@
 -- The masks of an operation, one grant after the other, and what they answer.
-use Rattle.std.proofs.Common.{[], ◌≡◌, ℕ, zero, suc, ◌+◌, ◌<◌, Bool, true, false, cond, not, ◌||◌, ◌&&◌, inl, inr, List, ◌∷◌, ◌++◌, length, get_or, eqb, eq-eqb, None, Some, refl, sym, ap, ◌∙◌, true≢false, arith}
+use Rattle.std.proofs.Common.{subst, [], ◌≡◌, ℕ, zero, suc, ◌+◌, ◌<◌, Bool, true, false, cond, not, ◌||◌, ◌&&◌, inl, inr, List, ◌∷◌, ◌++◌, length, get_or, eqb, eq-eqb, None, Some, refl, sym, ap, ◌∙◌, true≢false, arith}
 use Rattle.std.specs.Prelude.{nat_lt, position}
 use Rattle.std.specs.List.{list_any, position_or_len}
 use Rattle.std.proofs.lemmas.Bool.{cases_eq, cases_lt, lt-ltb, ltb-true, ne_eqb}
@@ -165,6 +165,18 @@ held-after more roles granted g old new held changed =
       exact = λ operation inside. (changed.after operation inside).after
           granted (held.exact operation inside);
     }
+
+-- the same where roles and masks are read through references
+pub held-through : (more : Bool) (h here after : Hierarchy) (granted left : List Grant) (g : Grant)
+    (old read new : List Buckets) → AreHeld (role_names h) granted old → here ≡ h → read ≡ old
+    → AreHeldAfter more (role_names here) g read new → after ≡ h
+    → left ≡ grants_after more granted g → AreHeld (role_names after) left new
+held-through more h here after granted left g old read new held same all changed kept is =
+    subst (λ (k : Hierarchy). AreHeld (role_names k) left new) (sym kept)
+    (subst (λ l. AreHeld (role_names h) l new) (sym is)
+    (held-after more (role_names h) granted g old new held
+    (subst (λ (k : Hierarchy). AreHeldAfter more (role_names k) g old new) same
+    (subst (λ l. AreHeldAfter more (role_names here) g l new) all changed))))
 
 length-names : (h : Hierarchy) → length (role_names h) ≡ length h
 length-names [] = refl

@@ -1,5 +1,5 @@
 -- The rows of the policy, test by test.
-use Rattle.std.proofs.Common.{[], ◌≡◌, ℕ, Bool, true, false, cond, not, ◌⊎◌, inl, inr, List, ◌∷◌, ◌++◌, length, Ok, Err, is_some, Option, Some, None, ◌==◌, refl, sym, ap, subst, ◌∙◌}
+use Rattle.std.proofs.Common.{[], ◌≡◌, ℕ, Bool, true, false, cond, not, ◌⊎◌, inl, inr, List, ◌∷◌, ◌++◌, length, Result, Ok, Err, is_some, Option, Some, None, ◌==◌, refl, sym, ap, subst, ◌∙◌}
 use Rattle.std.specs.Prelude.{nat_lt, nat_eq, is_none}
 use Rattle.std.specs.List.{list_all}
 use Rattle.std.specs.Option.{option_map_or}
@@ -10,7 +10,8 @@ use Rattle.mpw_roles.specs.declared.fault.RolesFault.TheVariants as faults
 use Rattle.mpw_roles.specs.Hierarchy.{Name, Hierarchy, is_role, with_role}
 use Rattle.mpw_geom.specs.Names.{name_eq, contains_name, without_name}
 use Rattle.indexmap.specs.IndexMap.{insert_entry}
-use Rattle.mpw_rbac.specs.declared.refusal.Refusal.TheVariants.{Full, Ssd, Dsd}
+use Rattle.mpw_rbac.specs.declared.refusal.Refusal.{Refusal}
+use Rattle.mpw_rbac.specs.declared.refusal.Refusal.TheVariants.{Full, Known, Unknown, Dsd}
 use Rattle.mpw_rbac.specs.Policy.{Policy, authorized, is_user, assigned_lists, active_lists, session_of}
 use Rattle.mpw_rbac.specs.declared.session.User.{User}
 use Rattle.mpw_rbac.specs.declared.session.Session.{Session}
@@ -21,7 +22,7 @@ use Rattle.mpw_separation.specs.declared.fault.SetsFault.{SetsFault}
 use Rattle.mpw_separation.specs.declared.fault.SetsFault.TheVariants as set_faults
 use Rattle.mpw_separation.specs.Set.{SeparationSet}
 use Rattle.mpw_rbac.specs.Internal.Fault.{fault_of_sets}
-use Rattle.mpw_rbac.specs.Sound.{Sound}
+use Rattle.mpw_rbac.specs.Sound.{sets_hold}
 use Rattle.mpw_rbac.specs.Table.{has_key, value_at, without_key}
 use Rattle.mpw_rbac.proofs.HolderLemmas.{least-new}
 use Rattle.mpw_rbac.proofs.TableLemmas.{insert-new, insert-present, is_some-value_at}
@@ -39,84 +40,77 @@ full-fault sets set fault new e = by (has_set sets set.name) (nat_lt (length set
     by false true n f = cc
     by false false n f = (refl, cc)
 
--- a new set
-module _ (p : Policy) (conn : ℕ) (ok : rows.administered p conn ≡ Ok p) (s : Sound p)
-    (set : SeparationSet) (roles_known : list_all (is_role p.roles) set.roles ≡ true) where
-  pub ssd-ok : has_set p.ssd set.name ≡ false
-      → is_broken p.roles (assigned_lists p.users) set ≡ false → nat_lt (length p.ssd) 64 ≡ true
-      → rows.ssd p conn set ≡ Ok (record p { ssd = p.ssd ++ set ∷ [] })
-  ssd-ok new apart room =
+-- the row of a new set of one kind: the sets so far, whom they bind, and how a broken one is told
+abbrev pub set_row : Policy → ℕ → SeparationSet → List SeparationSet → List (List Name)
+    → (Name → Refusal) → Policy → Result Policy Refusal
+set_row p conn set sets holders told next =
+    decided
+    (rows.in_session p conn
+    ∷ rows.administers p conn
+    ∷ (not (has_set sets set.name), Known)
+    ∷ (list_all (is_role p.roles) set.roles, Unknown)
+    ∷ rows.none_broken told (least_broken p.roles (sets ++ set ∷ []) holders)
+    ∷ (nat_lt (length sets) 64, Full)
+    ∷ [])
+    next
+
+-- what that row answers, by whether the set is broken
+pub record TellsSet (p : Policy) (conn : ℕ) (set : SeparationSet) (sets : List SeparationSet)
+    (holders : List (List Name)) (told : Name → Refusal) (next : Policy) : Type 0 where
+  pub made : is_broken p.roles holders set ≡ false → nat_lt (length sets) 64 ≡ true
+      → set_row p conn set sets holders told next ≡ Ok next
+  pub broken : is_broken p.roles holders set ≡ true
+      → set_row p conn set sets holders told next ≡ Err (told set.name)
+  pub refused : is_broken p.roles holders set ≡ false → (fault : SetsFault)
+      → (fault ≡ set_faults.Memory) ⊎ (make sets set ≡ Err fault)
+      → rows.IsFaultOf (set_row p conn set sets holders told next) (fault_of_sets fault)
+
+-- a new name, and roles that are there
+module _ (p : Policy) (conn : ℕ) (set : SeparationSet) (sets : List SeparationSet)
+    (holders : List (List Name)) (told : Name → Refusal) (next : Policy)
+    (ok : rows.administered p conn ≡ Ok p) (hold : sets_hold p.roles sets holders ≡ true)
+    (new : has_set sets set.name ≡ false)
+    (known : list_all (is_role p.roles) set.roles ≡ true) where
+  least : (b : Bool) → is_broken p.roles holders set ≡ b
+      → least_broken p.roles (sets ++ set ∷ []) holders ≡ cond b (Some set.name) None
+  least b is = least-new p.roles sets set holders hold
+      ∙ ap (λ x. cond x (Some set.name) None) is
+
+  set-made : is_broken p.roles holders set ≡ false → nat_lt (length sets) 64 ≡ true
+      → set_row p conn set sets holders told next ≡ Ok next
+  set-made apart room =
       let f = administered-facts p conn ok in
-      let none : least_broken p.roles (p.ssd ++ set ∷ []) (assigned_lists p.users) ≡ None =
-      least-new p.roles p.ssd set (assigned_lists p.users) s.static
-      ∙ ap (λ b. cond b (Some set.name) None) apart in
-      rw (f.0, f.1, new, roles_known, none, room)
+      let none : least_broken p.roles (sets ++ set ∷ []) holders ≡ None = least false apart in
+      rw (f.0, f.1, new, known, none, room)
 
-  pub ssd-broken : has_set p.ssd set.name ≡ false → is_broken p.roles (assigned_lists p.users) set
-      ≡ true → rows.ssd p conn set ≡ Err (Ssd set.name)
-  ssd-broken new broken =
+  set-broken : is_broken p.roles holders set ≡ true
+      → set_row p conn set sets holders told next ≡ Err (told set.name)
+  set-broken broken =
       let f = administered-facts p conn ok in
-      let some : least_broken p.roles (p.ssd ++ set ∷ []) (assigned_lists p.users) ≡ Some set.name =
-      least-new p.roles p.ssd set (assigned_lists p.users) s.static
-      ∙ ap (λ b. cond b (Some set.name) None) broken in
-      rw (f.0, f.1, new, roles_known, some)
+      let some : least_broken p.roles (sets ++ set ∷ []) holders ≡ Some set.name =
+      least true broken in
+      rw (f.0, f.1, new, known, some)
 
-  ssd-full : has_set p.ssd set.name ≡ false → is_broken p.roles (assigned_lists p.users) set ≡ false
-      → nat_lt (length p.ssd) 64 ≡ false → rows.ssd p conn set ≡ Err Full
-  ssd-full new apart full =
+  set-full : is_broken p.roles holders set ≡ false → nat_lt (length sets) 64 ≡ false
+      → set_row p conn set sets holders told next ≡ Err Full
+  set-full apart full =
       let f = administered-facts p conn ok in
-      let none : least_broken p.roles (p.ssd ++ set ∷ []) (assigned_lists p.users) ≡ None =
-      least-new p.roles p.ssd set (assigned_lists p.users) s.static
-      ∙ ap (λ b. cond b (Some set.name) None) apart in
-      rw (f.0, f.1, new, roles_known, none, full)
+      let none : least_broken p.roles (sets ++ set ∷ []) holders ≡ None = least false apart in
+      rw (f.0, f.1, new, known, none, full)
 
-  pub ssd-refused : has_set p.ssd set.name ≡ false → is_broken p.roles (assigned_lists p.users) set
-      ≡ false → (fault : SetsFault) → (fault ≡ set_faults.Memory) ⊎ (make p.ssd set ≡ Err fault)
-      → rows.IsFaultOf (rows.ssd p conn set) (fault_of_sets fault)
-  ssd-refused new apart fault (inl memory) =
-      subst (λ f. rows.IsFaultOf (rows.ssd p conn set) (fault_of_sets f)) (sym memory) tt
-  ssd-refused new apart fault (inr refused) =
-      let is = full-fault p.ssd set fault new refused in
-      subst (λ f. rows.IsFaultOf (rows.ssd p conn set) (fault_of_sets f)) (sym is.1)
-      (ssd-full new apart is.0)
+  set-refused : is_broken p.roles holders set ≡ false → (fault : SetsFault)
+      → (fault ≡ set_faults.Memory) ⊎ (make sets set ≡ Err fault)
+      → rows.IsFaultOf (set_row p conn set sets holders told next) (fault_of_sets fault)
+  set-refused apart fault (inl memory) =
+      subst (λ f. rows.IsFaultOf (set_row p conn set sets holders told next) (fault_of_sets f))
+      (sym memory) tt
+  set-refused apart fault (inr refused) =
+      let is = full-fault sets set fault new refused in
+      subst (λ f. rows.IsFaultOf (set_row p conn set sets holders told next) (fault_of_sets f))
+      (sym is.1) (set-full apart is.0)
 
-  pub dsd-ok : has_set p.dsd set.name ≡ false → is_broken p.roles (active_lists p.sessions) set
-      ≡ false → nat_lt (length p.dsd) 64 ≡ true
-      → rows.dsd p conn set ≡ Ok (record p { dsd = p.dsd ++ set ∷ [] })
-  dsd-ok new apart room =
-      let f = administered-facts p conn ok in
-      let none : least_broken p.roles (p.dsd ++ set ∷ []) (active_lists p.sessions) ≡ None =
-      least-new p.roles p.dsd set (active_lists p.sessions) s.dynamic
-      ∙ ap (λ b. cond b (Some set.name) None) apart in
-      rw (f.0, f.1, new, roles_known, none, room)
-
-  pub dsd-broken : has_set p.dsd set.name ≡ false → is_broken p.roles (active_lists p.sessions) set
-      ≡ true → rows.dsd p conn set ≡ Err (Dsd set.name)
-  dsd-broken new broken =
-      let f = administered-facts p conn ok in
-      let some : least_broken p.roles (p.dsd ++ set ∷ []) (active_lists p.sessions)
-      ≡ Some set.name = least-new p.roles p.dsd set (active_lists p.sessions) s.dynamic
-      ∙ ap (λ b. cond b (Some set.name) None) broken in
-      rw (f.0, f.1, new, roles_known, some)
-
-  dsd-full : has_set p.dsd set.name ≡ false → is_broken p.roles (active_lists p.sessions) set
-      ≡ false → nat_lt (length p.dsd) 64 ≡ false → rows.dsd p conn set ≡ Err Full
-  dsd-full new apart full =
-      let f = administered-facts p conn ok in
-      let none : least_broken p.roles (p.dsd ++ set ∷ []) (active_lists p.sessions) ≡ None =
-      least-new p.roles p.dsd set (active_lists p.sessions) s.dynamic
-      ∙ ap (λ b. cond b (Some set.name) None) apart in
-      rw (f.0, f.1, new, roles_known, none, full)
-
-  pub dsd-refused : has_set p.dsd set.name ≡ false → is_broken p.roles (active_lists p.sessions) set
-      ≡ false → (fault : SetsFault) → (fault ≡ set_faults.Memory) ⊎ (make p.dsd set ≡ Err fault)
-      → rows.IsFaultOf (rows.dsd p conn set) (fault_of_sets fault)
-  dsd-refused new apart fault (inl memory) =
-      subst (λ f. rows.IsFaultOf (rows.dsd p conn set) (fault_of_sets f)) (sym memory) tt
-  dsd-refused new apart fault (inr refused) =
-      let is = full-fault p.dsd set fault new refused in
-      subst (λ f. rows.IsFaultOf (rows.dsd p conn set) (fault_of_sets f)) (sym is.1)
-      (dsd-full new apart is.0)
+  pub tells-set : TellsSet p conn set sets holders told next
+  tells-set = record { made = set-made; broken = set-broken; refused = set-refused }
 
 -- what the hierarchy is where a role was added
 pub added-role : (h : Hierarchy) (role : Name) (after : Hierarchy) → roles.add h role ≡ Ok after

@@ -1,123 +1,79 @@
 -- A new set that nobody breaks.
-use Rattle.std.proofs.Common.{◌≡◌, ◌∙◌, sym, ap, subst, true, false, Ok, Err, [], ◌∷◌, ◌++◌}
+use Rattle.std.proofs.Common.{◌≡◌, ◌∙◌, ◌⊎◌, sym, ap, subst, Ok, Err, [], ◌∷◌, ◌++◌}
 use Rattle.std.specs.List.{list_all}
 use Rattle.std.proofs.lemmas.Result.{err_from_is_err_and}
 use Rattle.mpw_roles.specs.Hierarchy.{is_role}
-use Rattle.mpw_separation.specs.Separation.{is_broken, has_set}
+use Rattle.mpw_separation.specs.Rows.{make}
+use Rattle.mpw_separation.specs.Separation.{has_set}
+use Rattle.mpw_separation.specs.declared.fault.SetsFault.TheVariants as set_faults
 use Rattle.mpw_rbac.specs.Policy.{Policy, policy_of, assigned_lists}
 use Rattle.mpw_rbac.specs.Rows as rows
 use Rattle.mpw_rbac.specs.Sound.{Sound}
 use Rattle.mpw_rbac.specs.declared.refusal.Refusal.TheVariants.{Ssd}
 use Rattle.mpw_rbac.proofs.LawLemmas.{sound-ssd}
-use Rattle.mpw_rbac.proofs.RowLemmas.{ssd-ok, ssd-broken, ssd-refused}
+use Rattle.mpw_rbac.proofs.RowLemmas.{TellsSet, tells-set}
 use Rattle.mpw_rbac.proofs.RowFacts.{made-set}
-use Rattle.mpw_rbac.proofs.PlacedLemmas.{placed-after}
+use Rattle.mpw_rbac.proofs.Shown.{with-sets}
+use Rattle.mpw_rbac.proofs.policy.Policy.ssd.Goals.{After-is_broken_by_users, In_ok-make_ssd}
 use Rattle.mpw_rbac.proofs.policy.Policy.ssd.Goals as goal
+
+-- the row, behind its tests of the name and of the roles
+row : (c : After-is_broken_by_users) → TellsSet c.args.self.now c.args.conn c.args.set
+    c.args.self.now.ssd (assigned_lists c.args.self.now.users) Ssd
+    (record c.args.self.now { ssd = c.args.self.now.ssd ++ c.args.set ∷ [] })
+row c =
+    let q = c.args.self.now in
+    tells-set q c.args.conn c.args.set q.ssd (assigned_lists q.users) Ssd
+    (record q { ssd = q.ssd ++ c.args.set ∷ [] }) c.in_ok-administers.ensures.ok
+    (subst Sound c.self.view_is c.self.invariant.sound).static
+    (ap (has_set q.ssd) (sym c.name.ensures) ∙ sym c.has_ssd.ensures ∙ c.if-has_ssd.false)
+    (ap (list_all (is_role q.roles)) (sym c.roles.ensures.roles) ∙ sym c.are_roles.ensures
+    ∙ c.if-not-are_roles.false)
+
+-- and the policy that it leaves
+accepted : (c : In_ok-make_ssd)
+    → Sound (policy_of c.self.inside.users.users c.self.inside.permissions.roles c.self.inside.permissions.granted c.make_ssd.new.self.sets c.self.inside.sessions.sessions)
+    × (rows.ssd c.args.self.now c.args.conn c.args.set
+    ≡ Ok (policy_of c.self.inside.users.users c.self.inside.permissions.roles c.self.inside.permissions.granted c.make_ssd.new.self.sets c.self.inside.sessions.sessions))
+accepted c =
+    let q = c.args.self.now in
+    let set = c.args.set in
+    let after = c.make_ssd.new.self.sets in
+    let made = made-set q.ssd set after.ssd
+    (subst (λ (p : Policy). make p.ssd set ≡ Ok after.ssd) c.self.view_is c.in_ok-make_ssd.ensures.ok) in
+    let ok = (row (goal.at.In_ok-make_ssd c).After-is_broken_by_users).made
+    (sym c.is_broken_by_users.ensures ∙ c.if-is_broken_by_users.false) made.0 in
+    let others = c.in_ok-make_ssd.ensures.others ∙ ap (λ (p : Policy). p.dsd) c.self.view_is in
+    let is : policy_of c.self.inside.users.users c.self.inside.permissions.roles
+    c.self.inside.permissions.granted after c.self.inside.sessions.sessions
+    ≡ record q { ssd = q.ssd ++ set ∷ [] } =
+    λ i. record (c.self.view_is i) { ssd = made.1 i; dsd = others i } in (
+      subst Sound (sym is) (sound-ssd c.args.conn set q (record q { ssd = q.ssd ++ set ∷ [] }) ok
+          (subst Sound c.self.view_is c.self.invariant.sound)),
+      ok ∙ ap Ok (sym is),
+    )
 
 pub returns-then-is_broken_by_users-clause-refused :
     goal.returns-then-is_broken_by_users-clause-refused
 returns-then-is_broken_by_users-clause-refused c =
-    let in' = c.self.inside in
-    let p = policy_of in'.users.users in'.permissions.roles in'.permissions.granted in'.sets.sets
-    in'.sessions.sessions in
-    let ok : rows.administered p c.args.conn ≡ Ok p =
-    subst (λ (q : Policy). rows.administered q c.args.conn ≡ Ok q) (sym c.self.view_is)
-    c.in_ok-administers.ensures.ok in
-    let set = c.args.set in
-    let new : has_set p.ssd set.name ≡ false = ap (λ (q : Policy). has_set q.ssd set.name)
-    c.self.view_is ∙ ap (has_set c.args.self.now.ssd) (sym c.name.ensures)
-    ∙ sym c.has_ssd.ensures ∙ c.if-has_ssd.false in
-    let known : list_all (is_role p.roles) set.roles ≡ true =
-    ap (λ (q : Policy). list_all (is_role q.roles) set.roles) c.self.view_is
-    ∙ ap (list_all (is_role c.args.self.now.roles)) (sym c.roles.ensures.roles)
-    ∙ sym c.are_roles.ensures ∙ c.if-not-are_roles.false in
-    let broken : is_broken p.roles (assigned_lists p.users) set ≡ true =
-    ap (λ (q : Policy). is_broken q.roles (assigned_lists q.users) set) c.self.view_is
-    ∙ sym c.is_broken_by_users.ensures ∙ c.if-is_broken_by_users.true in
-    rw (← c.self.view_is) (ssd-broken p c.args.conn ok c.self.invariant.sound set known new broken
-    ∙ ap (λ n. Err (Ssd n)) (sym c.into_name.ensures))
+    (row (goal.at.returns-then-is_broken_by_users-clause-refused c).After-is_broken_by_users).broken
+    (sym c.is_broken_by_users.ensures ∙ c.if-is_broken_by_users.true) ∙ ap (λ n. Err (Ssd n)) (sym c.into_name.ensures)
 
 pub returns-in_err-make_ssd-clause-refused : goal.returns-in_err-make_ssd-clause-refused
 returns-in_err-make_ssd-clause-refused c =
-    let in' = c.self.inside in
-    let p = policy_of in'.users.users in'.permissions.roles in'.permissions.granted in'.sets.sets
-    in'.sessions.sessions in
-    let ok : rows.administered p c.args.conn ≡ Ok p =
-    subst (λ (q : Policy). rows.administered q c.args.conn ≡ Ok q) (sym c.self.view_is)
-    c.in_ok-administers.ensures.ok in
-    let set = c.args.set in
-    let new : has_set p.ssd set.name ≡ false = ap (λ (q : Policy). has_set q.ssd set.name)
-    c.self.view_is ∙ ap (has_set c.args.self.now.ssd) (sym c.name.ensures)
-    ∙ sym c.has_ssd.ensures ∙ c.if-has_ssd.false in
-    let known : list_all (is_role p.roles) set.roles ≡ true =
-    ap (λ (q : Policy). list_all (is_role q.roles) set.roles) c.self.view_is
-    ∙ ap (list_all (is_role c.args.self.now.roles)) (sym c.roles.ensures.roles)
-    ∙ sym c.are_roles.ensures ∙ c.if-not-are_roles.false in
-    let broken : is_broken p.roles (assigned_lists p.users) set ≡ false =
-    ap (λ (q : Policy). is_broken q.roles (assigned_lists q.users) set) c.self.view_is
-    ∙ sym c.is_broken_by_users.ensures ∙ c.if-is_broken_by_users.false in
-    let refused = ssd-refused p c.args.conn ok c.self.invariant.sound set known new broken
-    c.in_err-make_ssd.field-0.0 c.in_err-make_ssd.ensures.refused in
+    let fault = c.in_err-make_ssd.field-0.0 in
+    let refused = (row (goal.at.returns-in_err-make_ssd-clause-refused c).After-is_broken_by_users).refused
+    (sym c.is_broken_by_users.ensures ∙ c.if-is_broken_by_users.false) fault
+    (subst (λ (p : Policy). (fault ≡ set_faults.Memory) ⊎ (make p.ssd c.args.set ≡ Err fault))
+    c.self.view_is c.in_err-make_ssd.ensures.refused) in
     let told = err_from_is_err_and c.from_residual-in_err-make_ssd.result
     c.from_residual-in_err-make_ssd.ensures.1 in
-    rw (told.1, told.2) (rw (← c.self.view_is) refused)
+    rw (told.1, told.2) refused
 
 pub invariant_of-self-2 : goal.invariant_of-self-2
-invariant_of-self-2 c =
-    let in' = c.self.inside in
-    let p = policy_of in'.users.users in'.permissions.roles in'.permissions.granted in'.sets.sets
-    in'.sessions.sessions in
-    let ok : rows.administered p c.args.conn ≡ Ok p =
-    subst (λ (q : Policy). rows.administered q c.args.conn ≡ Ok q) (sym c.self.view_is)
-    c.in_ok-administers.ensures.ok in
-    let set = c.args.set in
-    let new : has_set p.ssd set.name ≡ false = ap (λ (q : Policy). has_set q.ssd set.name)
-    c.self.view_is ∙ ap (has_set c.args.self.now.ssd) (sym c.name.ensures)
-    ∙ sym c.has_ssd.ensures ∙ c.if-has_ssd.false in
-    let known : list_all (is_role p.roles) set.roles ≡ true =
-    ap (λ (q : Policy). list_all (is_role q.roles) set.roles) c.self.view_is
-    ∙ ap (list_all (is_role c.args.self.now.roles)) (sym c.roles.ensures.roles)
-    ∙ sym c.are_roles.ensures ∙ c.if-not-are_roles.false in
-    let broken : is_broken p.roles (assigned_lists p.users) set ≡ false =
-    ap (λ (q : Policy). is_broken q.roles (assigned_lists q.users) set) c.self.view_is
-    ∙ sym c.is_broken_by_users.ensures ∙ c.if-is_broken_by_users.false in
-    let made = made-set p.ssd set c.make_ssd.new.self.sets.ssd c.in_ok-make_ssd.ensures.ok in
-    let is : policy_of in'.users.users in'.permissions.roles in'.permissions.granted
-    c.make_ssd.new.self.sets in'.sessions.sessions ≡ record p { ssd = p.ssd ++ set ∷ [] } =
-    λ i. record p { ssd = made.1 i; dsd = c.in_ok-make_ssd.ensures.others i } in
-    record {
-      sound = subst Sound (sym is)
-          (sound-ssd c.args.conn set p (record p { ssd = p.ssd ++ set ∷ [] })
-          (ssd-ok p c.args.conn ok c.self.invariant.sound set known new broken made.0)
-          c.self.invariant.sound);
-      authorized = c.self.invariant.authorized;
-      acting = c.self.invariant.acting;
-      placed = placed-after in'.permissions.roles c.roles-2.result.now c.roles-2.ensures in'.sets
-          c.make_ssd.new.self c.in_ok-make_ssd.ensures.placed c.self.invariant.placed;
-    }
+invariant_of-self-2 c = with-sets c.self.inside c.roles-2.result.now c.make_ssd.new.self
+    c.self.invariant c.roles-2.ensures c.in_ok-make_ssd.ensures.placed
+    (accepted (goal.at.invariant_of-self-2 c).In_ok-make_ssd).0
 
 pub returns-clause-ok : goal.returns-clause-ok
-returns-clause-ok c =
-    let in' = c.self.inside in
-    let p = policy_of in'.users.users in'.permissions.roles in'.permissions.granted in'.sets.sets
-    in'.sessions.sessions in
-    let ok : rows.administered p c.args.conn ≡ Ok p =
-    subst (λ (q : Policy). rows.administered q c.args.conn ≡ Ok q) (sym c.self.view_is)
-    c.in_ok-administers.ensures.ok in
-    let set = c.args.set in
-    let new : has_set p.ssd set.name ≡ false = ap (λ (q : Policy). has_set q.ssd set.name)
-    c.self.view_is ∙ ap (has_set c.args.self.now.ssd) (sym c.name.ensures)
-    ∙ sym c.has_ssd.ensures ∙ c.if-has_ssd.false in
-    let known : list_all (is_role p.roles) set.roles ≡ true =
-    ap (λ (q : Policy). list_all (is_role q.roles) set.roles) c.self.view_is
-    ∙ ap (list_all (is_role c.args.self.now.roles)) (sym c.roles.ensures.roles)
-    ∙ sym c.are_roles.ensures ∙ c.if-not-are_roles.false in
-    let broken : is_broken p.roles (assigned_lists p.users) set ≡ false =
-    ap (λ (q : Policy). is_broken q.roles (assigned_lists q.users) set) c.self.view_is
-    ∙ sym c.is_broken_by_users.ensures ∙ c.if-is_broken_by_users.false in
-    let made = made-set p.ssd set c.make_ssd.new.self.sets.ssd c.in_ok-make_ssd.ensures.ok in
-    let is : policy_of in'.users.users in'.permissions.roles in'.permissions.granted
-    c.make_ssd.new.self.sets in'.sessions.sessions ≡ record p { ssd = p.ssd ++ set ∷ [] } =
-    λ i. record p { ssd = made.1 i; dsd = c.in_ok-make_ssd.ensures.others i } in
-    rw (← c.self.view_is) (ssd-ok p c.args.conn ok c.self.invariant.sound set known new broken
-    made.0 ∙ ap Ok (sym is))
+returns-clause-ok c = (accepted (goal.at.returns-clause-ok c).In_ok-make_ssd).1

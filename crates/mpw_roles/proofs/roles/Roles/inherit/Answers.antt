@@ -8,61 +8,62 @@ use Rattle.mpw_roles.specs.Places.{IsRoles, IsMasked}
 use Rattle.mpw_roles.proofs.HierarchyLemmas.{IsHierarchy-with_pair, names-with_juniors, length-with_juniors}
 use Rattle.mpw_roles.proofs.PlacesLemmas.{written-back}
 use Rattle.mpw_roles.proofs.TableLemmas.{inherit-ok, insert-present}
+use Rattle.mpw_roles.proofs.roles.Roles.inherit.Goals.{In_ok-put}
 use Rattle.mpw_roles.proofs.roles.Roles.inherit.Goals as goal
+
+-- the tests of the pair
+tested : (c : In_ok-put) → (is_role c.args.self.now c.args.senior.now ≡ true)
+    × (is_role c.args.self.now c.args.junior.now ≡ true)
+    × (is_immediate c.args.self.now c.args.senior.now c.args.junior.now ≡ false)
+    × (at_least c.args.self.now c.args.junior.now c.args.senior.now ≡ false)
+tested c = (
+  sym c.contains.ensures ∙ c.if-not-contains.false,
+  sym c.contains-else-not-contains.ensures ∙ c.if-not-contains-2.false,
+  sym c.is_immediate.ensures ∙ c.if-is_immediate.false,
+  sym c.at_least.ensures ∙ c.if-at_least.false,
+)
+
+-- and what was put in place of its senior's juniors
+put : (c : In_ok-put) → c.put.new.table.entries ≡ insert_entry name_eq c.args.self.now
+    c.args.senior.now (immediate_juniors c.args.self.now c.args.senior.now ++ c.args.junior.now ∷ [])
+put c = c.in_ok-put.ensures.ok ∙ (λ i. insert_entry name_eq (c.self.view_is i)
+    (c.in_ok-copy.ensures i) (c.in_ok-juniors.ensures i))
 
 pub invariant_of-self-2 : goal.invariant_of-self-2
 invariant_of-self-2 c =
     let h = c.args.self.now in
     let s = c.args.senior.now in
-    let j = c.args.junior.now in
-    let senior : is_role h s ≡ true = sym c.contains.ensures ∙ c.if-not-contains.false in
-    let junior : is_role h j ≡ true = sym c.contains-else-not-contains.ensures
-    ∙ c.if-not-contains-2.false in
-    let new : is_immediate h s j ≡ false = sym c.is_immediate.ensures ∙ c.if-is_immediate.false in
-    let apart : at_least h j s ≡ false = sym c.at_least.ensures ∙ c.if-at_least.false in
-    let is : c.put.new.table.entries ≡ insert_entry name_eq h s (immediate_juniors h s ++ j ∷ []) =
-    c.in_ok-put.ensures.ok ∙ (λ i. insert_entry name_eq (c.self.view_is i)
-    (c.in_ok-copy.ensures i) (c.in_ok-juniors.ensures i)) in
+    let at = (goal.at.invariant_of-self-2 c).In_ok-put in
+    let t = tested at in
     let old : IsRoles h c.self.inside.masks.items = subst (λ k. IsRoles k c.self.inside.masks.items)
     c.self.view_is c.self.invariant in
-    let table : c.put.new.table.entries ≡ with_pair h s j = is ∙ insert-present h s _ senior in
+    let table : c.put.new.table.entries ≡ with_pair h s c.args.junior.now =
+    put at ∙ insert-present h s _ t.0 in
     let names : role_names h ≡ role_names c.put.new.table.entries =
     sym (ap role_names table ∙ names-with_juniors h s _) in
     let back = written-back c.join.new.masks c.self.inside.masks.items c.self.inside.masks.len
     (let long = c.join.ensures.long in omega arith) (omega arith) in
     subst (IsRoles c.put.new.table.entries) (sym back)
     (subst (λ k. IsRoles k c.join.new.masks) (sym table) (record {
-      kept = IsHierarchy-with_pair h s j senior junior new apart old.kept;
-      masked = c.join.ensures.masked h names senior junior
+      kept = IsHierarchy-with_pair h s c.args.junior.now t.0 t.1 t.2 t.3 old.kept;
+      masked = c.join.ensures.masked h names t.0 t.1
           (subst (IsMasked h) (sym c.deref_mut.ensures.value) old.masked);
     }))
 
 pub returns-clause-ok : goal.returns-clause-ok
 returns-clause-ok c =
-    let h = c.args.self.now in
-    let s = c.args.senior.now in
-    let j = c.args.junior.now in
-    let senior : is_role h s ≡ true = sym c.contains.ensures ∙ c.if-not-contains.false in
-    let junior : is_role h j ≡ true = sym c.contains-else-not-contains.ensures
-    ∙ c.if-not-contains-2.false in
-    let new : is_immediate h s j ≡ false = sym c.is_immediate.ensures ∙ c.if-is_immediate.false in
-    let apart : at_least h j s ≡ false = sym c.at_least.ensures ∙ c.if-at_least.false in
-    let is : c.put.new.table.entries ≡ insert_entry name_eq h s (immediate_juniors h s ++ j ∷ []) =
-    c.in_ok-put.ensures.ok ∙ (λ i. insert_entry name_eq (c.self.view_is i)
-    (c.in_ok-copy.ensures i) (c.in_ok-juniors.ensures i)) in
-    inherit-ok h c.put.new.table.entries s j senior junior new apart is
+    let at = (goal.at.returns-clause-ok c).In_ok-put in
+    let t = tested at in
+    inherit-ok c.args.self.now c.put.new.table.entries c.args.senior.now c.args.junior.now t.0 t.1
+    t.2 t.3 (put at)
 
 pub join-requires : goal.join-requires
 join-requires c =
     let h = c.args.self.now in
     let s = c.args.senior.now in
-    let senior : is_role h s ≡ true = sym c.contains.ensures ∙ c.if-not-contains.false in
-    let is : c.put.new.table.entries ≡ insert_entry name_eq h s
-    (immediate_juniors h s ++ c.args.junior.now ∷ []) = c.in_ok-put.ensures.ok
-    ∙ (λ i. insert_entry name_eq (c.self.view_is i) (c.in_ok-copy.ensures i)
-    (c.in_ok-juniors.ensures i)) in
+    let at = (goal.at.join-requires c).In_ok-put in
     let same : length c.put.new.table.entries ≡ length h =
-    ap length (is ∙ insert-present h s _ senior) ∙ length-with_juniors h s _ in
+    ap length (put at ∙ insert-present h s _ (tested at).0) ∙ length-with_juniors h s _ in
     let room = c.self.invariant.masked.long in
     let view = ap length c.self.view_is in
     let value = ap length c.deref_mut.ensures.value in
