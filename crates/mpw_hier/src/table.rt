@@ -21,16 +21,16 @@ use std::collections::BTreeMap;
 use std::marker::Model;
 
 /// The most flat shapes of a submission.
-const MOST_SHAPES: u32 = 1 << 20;
+const MAX_SHAPES: u32 = 1 << 20;
 
 /// The most levels of a submission.
-const MOST_LEVELS: u32 = 64;
+const MAX_HEIGHT: u32 = 64;
 
 /// The most submissions.
-const MOST_SUBMISSIONS: usize = 4096;
+const MAX_SUBMISSIONS: usize = 4096;
 
 /// The most cells that have a submission.
-const MOST_CELLS: usize = 1024;
+const MAX_CELLS: usize = 1024;
 
 /// Submissions by number, counted from 0, which contracts see as their list, with the table of the present ones and the nodes
 /// of each.
@@ -152,8 +152,8 @@ impl Table {
     fn has_room(&self, cell: &Name) -> bool
         ensures { result ≡ has_room_for self.now cell.now }
     {
-        self.submissions.len() < MOST_SUBMISSIONS
-            && (self.present(cell).is_some() || self.present.len() < MOST_CELLS)
+        self.submissions.len() < MAX_SUBMISSIONS
+            && (self.present(cell).is_some() || self.present.len() < MAX_CELLS)
     }
 
     /// Adds a submission with its nodes and its version.
@@ -203,10 +203,10 @@ impl Table {
         submission.version = self.next_version(&submission.cell);
         let nodes = nodes_of(alloc, self, &submission, outline)?;
         let size = nodes[nodes.len() - 1].size;
-        if size.count > MOST_SHAPES {
+        if size.count > MAX_SHAPES {
             return Err(HierFault::Shapes);
         }
-        if size.height > MOST_LEVELS {
+        if size.height > MAX_HEIGHT {
             return Err(HierFault::Deep);
         }
         if !self.has_room(&submission.cell) {

@@ -11,11 +11,11 @@ use mpw_replies::{
 };
 
 /// The most cells that a marker's line tells, and the most markers and rules of a listing.
-const MOST_CELLS: usize = 1024;
+const MAX_CELLS: usize = 1024;
 
-const MOST_MARKERS: usize = 1024;
+const MAX_MARKERS: usize = 1024;
 
-const MOST_RULES: usize = 1024;
+const MAX_RULES: usize = 1024;
 
 /// Tells a line of an accepted request's reply.
 fn tell_line(rt: &impl Print, line: &Line) -> Result<()> {
@@ -60,7 +60,7 @@ fn tell_key(rt: &impl Print, rule: &str, key: Key) -> Result<()> {
 /// Tells the cells that a marker meets.
 fn tell_cells(rt: &impl Print, cells: MetCells<'_>) -> Result<()> {
     let mut cells = cells;
-    for _ in 0..MOST_CELLS {
+    for _ in 0..MAX_CELLS {
         let Some(cell) = cells.next() else {
             return Ok(println!(rt; "")?);
         };
@@ -78,7 +78,7 @@ fn tell_marker(rt: &impl Print, marker: MarkerView<'_>) -> Result<()> {
 /// Tells the markers that are shown in full.
 fn tell_full(rt: &impl Print, views: MarkerViews<'_>) -> Result<()> {
     let mut views = views;
-    for _ in 0..MOST_MARKERS {
+    for _ in 0..MAX_MARKERS {
         let Some(marker) = views.next() else {
             return Ok(());
         };
@@ -90,7 +90,7 @@ fn tell_full(rt: &impl Print, views: MarkerViews<'_>) -> Result<()> {
 /// Tells how many markers are masked, by rule.
 fn tell_masked(rt: &impl Print, views: MaskedViews<'_>) -> Result<()> {
     let mut views = views;
-    for _ in 0..MOST_RULES {
+    for _ in 0..MAX_RULES {
         let Some(view) = views.next() else {
             return Ok(());
         };

@@ -17,7 +17,7 @@ use std::alloc::{AllocError, Global};
 const NAMES: [&str; 8] = ["A", "B", "C", "D", "E", "F", "G", "H"];
 
 /// The most flat shapes of a root.
-const MOST_SHAPES: u32 = 2000;
+const MAX_SHAPES: u32 = 2000;
 
 /// A linear congruential generator (Knuth, MMIX), and the layer of the last shape.
 #[derive(Drop)]
@@ -245,7 +245,7 @@ impl Random {
         let mut roots = Vec::new(alloc);
         for _ in 0..self.below(9) {
             let root = self.root();
-            let is_small = shelf.count(root.submission) <= MOST_SHAPES;
+            let is_small = shelf.count(root.submission) <= MAX_SHAPES;
             if root.fits(shelf) && is_small {
                 roots.push(root)?;
             }

@@ -14,20 +14,20 @@ returns-in_err-nodes-clause-faults c =
     c.in_err-nodes.ensures.faults (λ e. far_as ss s c.next_version.result
     (c.nodes_of.ensures.far (c.in_err-nodes.was ∙ ap (λ (f : HierFault). Err f) e)))
 
-pub returns-then-size-gt-MOST_SHAPES-clause-faults :
-    goal.returns-then-size-gt-MOST_SHAPES-clause-faults
-returns-then-size-gt-MOST_SHAPES-clause-faults c =
+pub returns-then-size-gt-MAX_SHAPES-clause-faults :
+    goal.returns-then-size-gt-MAX_SHAPES-clause-faults
+returns-then-size-gt-MAX_SHAPES-clause-faults c =
     let ss = c.args.self.now in
     let s = c.args.submission in
     let nodes = c.in_ok-nodes.nodes in
     let size = c.index.result.now.size in
     let m = measured ss s c.next_version.result nodes.items c.in_ok-nodes.ensures.ok c.len.result
     c.index.result.now (omega (arith, c.len.ensures, nodes.ok.0)) c.index.ensures in
-    (m.near, large ss s size m c.if-size-gt-MOST_SHAPES.true)
+    (m.near, large ss s size m c.if-size-gt-MAX_SHAPES.true)
 
-pub returns-then-size-gt-MOST_LEVELS-clause-faults :
-    goal.returns-then-size-gt-MOST_LEVELS-clause-faults
-returns-then-size-gt-MOST_LEVELS-clause-faults c =
+pub returns-then-size-gt-MAX_HEIGHT-clause-faults :
+    goal.returns-then-size-gt-MAX_HEIGHT-clause-faults
+returns-then-size-gt-MAX_HEIGHT-clause-faults c =
     let ss = c.args.self.now in
     let s = c.args.submission in
     let nodes = c.in_ok-nodes.nodes in
@@ -36,8 +36,8 @@ returns-then-size-gt-MOST_LEVELS-clause-faults c =
     c.index.result.now (omega (arith, c.len.ensures, nodes.ok.0)) c.index.ensures in (
       m.near,
       (
-        small ss s size m (omega (arith, c.if-size-gt-MOST_SHAPES.false)),
-        deep ss s size m c.if-size-gt-MOST_LEVELS.true,
+        small ss s size m (omega (arith, c.if-size-gt-MAX_SHAPES.false)),
+        deep ss s size m c.if-size-gt-MAX_HEIGHT.true,
       ),
     )
 
@@ -51,9 +51,9 @@ returns-then-not-has_room-clause-faults c =
     c.index.result.now (omega (arith, c.len.ensures, nodes.ok.0)) c.index.ensures in (
       m.near,
       (
-        small ss s size m (omega (arith, c.if-size-gt-MOST_SHAPES.false)),
+        small ss s size m (omega (arith, c.if-size-gt-MAX_SHAPES.false)),
         (
-          low ss s size m (omega (arith, c.if-size-gt-MOST_LEVELS.false)),
+          low ss s size m (omega (arith, c.if-size-gt-MAX_HEIGHT.false)),
           sym c.has_room.ensures
               ∙ c.if-not-has_room.true,
         ),
@@ -68,8 +68,8 @@ append-requires-clause-nodes c =
     let size = c.index.result.now.size in
     let m = measured ss s c.next_version.result nodes.items c.in_ok-nodes.ensures.ok c.len.result
     c.index.result.now (omega (arith, c.len.ensures, nodes.ok.0)) c.index.ensures in
-    let few = small ss s size m (omega (arith, c.if-size-gt-MOST_SHAPES.false)) in
-    let flat = low ss s size m (omega (arith, c.if-size-gt-MOST_LEVELS.false)) in
+    let few = small ss s size m (omega (arith, c.if-size-gt-MAX_SHAPES.false)) in
+    let flat = low ss s size m (omega (arith, c.if-size-gt-MAX_HEIGHT.false)) in
     let t : Submission = record s { version = c.next_version.result } in
     rw c.in_ok-nodes-2.ensures (nodes_kept ss t nodes.items c.in_ok-nodes.ensures.ok
     c.requires.library few flat)
@@ -82,8 +82,8 @@ returns-clause-kept c =
     let size = c.index.result.now.size in
     let m = measured ss s c.next_version.result nodes.items c.in_ok-nodes.ensures.ok c.len.result
     c.index.result.now (omega (arith, c.len.ensures, nodes.ok.0)) c.index.ensures in
-    let few = small ss s size m (omega (arith, c.if-size-gt-MOST_SHAPES.false)) in
-    let flat = low ss s size m (omega (arith, c.if-size-gt-MOST_LEVELS.false)) in
+    let few = small ss s size m (omega (arith, c.if-size-gt-MAX_SHAPES.false)) in
+    let flat = low ss s size m (omega (arith, c.if-size-gt-MAX_HEIGHT.false)) in
     record {
       near = m.near;
       small = few;
@@ -100,8 +100,8 @@ append-requires-clause-submitted c =
     let size = c.index.result.now.size in
     let m = measured ss s c.next_version.result nodes.items c.in_ok-nodes.ensures.ok c.len.result
     c.index.result.now (omega (arith, c.len.ensures, nodes.ok.0)) c.index.ensures in
-    let few = small ss s size m (omega (arith, c.if-size-gt-MOST_SHAPES.false)) in
-    let flat = low ss s size m (omega (arith, c.if-size-gt-MOST_LEVELS.false)) in
+    let few = small ss s size m (omega (arith, c.if-size-gt-MAX_SHAPES.false)) in
+    let flat = low ss s size m (omega (arith, c.if-size-gt-MAX_HEIGHT.false)) in
     let version = c.next_version.result in
     record {
       read = c.requires.library;
