@@ -9,7 +9,6 @@ use crate::reading::{deck_of, read_file};
 use crate::report::report;
 use crate::told::{check_fault, device_fault};
 use mpw_check::{CheckFault, check_layout, read_layout};
-use mpw_geom::Box2;
 use mpw_markers::Book;
 use mpw_tiles::Snapshot;
 use mpw_wire::{Counted, WireFault};
@@ -68,20 +67,15 @@ pub fn print(rt: &HostRuntime, snapshot: &Snapshot, book: Book) -> Result<(), Fi
     }
 }
 
-/// The picture that is asked for, with its window.
-fn pictured<'a>(
+/// Prints the markers, and writes the report.
+fn write_listed(
     rt: &HostRuntime,
-    options: &'a Options,
+    options: &Options,
     snapshot: &Snapshot,
     book: &Book,
-) -> Result<Option<(&'a str, Box2)>, FirmFault> {
-    match &options.picture {
-        Some(wanted) => {
-            let window = window_of(rt.alloc(), wanted, snapshot, book)?;
-            Ok(Some((wanted.file.as_str(), window)))
-        }
-        None => Ok(None),
-    }
+) -> Result<(), FirmFault> {
+    print(rt, snapshot, book.copy()?)?;
+    report(rt, &options.report, &options.top, snapshot, book)
 }
 
 /// Prints the markers, and writes the report and the picture.
@@ -91,13 +85,13 @@ fn write_all(
     snapshot: &Snapshot,
     book: &Book,
 ) -> Result<(), FirmFault> {
-    let pictured = pictured(rt, options, snapshot, book)?;
-    print(rt, snapshot, book.copy()?)?;
-    report(rt, &options.report, &options.top, snapshot, book)?;
-    match pictured {
-        Some((file, window)) => picture(rt, file, window, &options.top, snapshot, book),
-        None => Ok(()),
-    }
+    let Some(wanted) = &options.picture else {
+        return write_listed(rt, options, snapshot, book);
+    };
+    let window = window_of(rt.alloc(), wanted, snapshot, book)?;
+    write_listed(rt, options, snapshot, book)?;
+    let file = wanted.file.as_str();
+    picture(rt, file, window, &options.top, snapshot, book)
 }
 
 /// Checks what the command line asks for, prints its markers, writes its report and its picture and tells how many markers there

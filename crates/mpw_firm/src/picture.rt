@@ -1,5 +1,5 @@
 //! The picture of a check.
-ghost use Rattle.std.specs.Prelude.{IfOk, IfErr, IfSome, Some, ◌≡◌, true, false, option_map};
+ghost use Rattle.std.specs.Prelude.{IfOk};
 ghost use Rattle.mpw_geom.specs.Plane.{IsBoxInPlane};
 ghost use Rattle.mpw_picture.specs.Text.{picture_text};
 ghost use Rattle.mpw_report.specs.Writing.{Adds};
@@ -96,7 +96,9 @@ pub fn picture(
     top: &Name,
     snapshot: &Snapshot,
     book: &Book,
-) -> Result<(), FirmFault> {
+) -> Result<(), FirmFault>
+    requires { IsBoxInPlane window }
+{
     let picture = draw(rt.alloc(), snapshot, book.as_slice(), window)?;
     match write_file(rt, file, snapshot, top, &picture) {
         Ok(()) => Ok(()),
