@@ -1,5 +1,6 @@
 pub mod Leading
 pub mod Steps
+pub mod StepReads
 pub mod Linking
 pub mod Shown
 pub mod References

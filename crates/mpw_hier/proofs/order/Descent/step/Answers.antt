@@ -1,5 +1,6 @@
 use Rattle.std.proofs.Common.{◌≡◌, ◌-◌, ◌+◌, ◌<◌, length, get_or, ap, arith, ◌∙◌}
-use Rattle.mpw_hier.proofs.Steps.{ended, passed, entered_next, cycle_found, read, at_place, at_target, work_ended, work_passed, work_entered}
+use Rattle.mpw_hier.proofs.Steps.{ended, passed, entered_next, cycle_found, work_ended, work_passed, work_entered}
+use Rattle.mpw_hier.proofs.StepReads.{read, at_place, at_target}
 use Rattle.mpw_hier.proofs.order.Descent.step.Goals as goal
 
 pub returns-then-steps-le1-clause-under_way : goal.returns-then-steps-le1-clause-under_way
