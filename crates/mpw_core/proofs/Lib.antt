@@ -8,6 +8,7 @@ mod RestartLemmas
 pub mod GoingOnLemmas
 mod ReadableLemmas
 mod KeptLemmas
+mod NeedLemmas
 mod PolicyReplies
 mod RunLemmas
 mod PlacingLemmas

@@ -18,7 +18,7 @@ use Rattle.mpw_core.proofs.DenialLemmas.{inside, permission-changed}
 use Rattle.mpw_core.proofs.ReadableLemmas.{never_ok, told_refusal}
 use Rattle.mpw_core.proofs.RefusalLemmas.{settled-denied, settled-ok}
 
-accepted-changed : (s : State) (row : Result Policy Refusal) (lines : List Listed)
+pub accepted-changed : (s : State) (row : Result Policy Refusal) (lines : List Listed)
     → (changed s row).response ≡ response.Told (reply.Ok lines) → (q : Policy) × (row ≡ Ok q)
 accepted-changed s (Ok q) lines e = (q, refl)
 accepted-changed s (Err r) lines e =

@@ -6,9 +6,8 @@ ghost use Rattle.mpw_rbac.specs.Rows.{is_login, user_of};
 ghost use Rattle.mpw_rbac.specs.Existing.{AreTablesSound};
 ghost use Rattle.mpw_rbac.specs.Laws.{IsLeastDynamic, IsLeastStatic};
 ghost use Rattle.mpw_rbac.specs.Sound.{active_authorized, Sound};
-ghost use Rattle.mpw_rbac.specs.declared.permission.Object.TheVariants.{Desk};
-ghost use Rattle.mpw_rbac.specs.declared.permission.Operation.TheVariants.{Admin};
 ghost use Rattle.mpw_requests.specs.declared.policy.PolicyRequest.{PolicyRequest as AnyPolicyRequest};
+ghost use Rattle.mpw_core.specs.Permissions.{Has, need_of};
 ghost use Rattle.mpw_core.specs.Requested.{is_administration, requested};
 ghost use Rattle.mpw_core.specs.History.{state_after, KeptDesk, IsHandled, GoesOnTo};
 ghost use Rattle.mpw_placings.specs.Placements.{ArePlacings};
@@ -55,9 +54,8 @@ use mpw_layouts::{
 };
 use mpw_placings::{each_change_keeps, later_submissions_keep};
 use mpw_rbac::{
-    administration_needs_its_permission, denied_only_for_the_least_broken_set,
-    each_request_keeps_the_tables, own_requests_need_no_permission,
-    sets_are_told_where_they_are_tested,
+    denied_only_for_the_least_broken_set, each_request_keeps_the_tables,
+    own_requests_need_no_permission, sets_are_told_where_they_are_tested,
 };
 use mpw_replies::entering_denies_what_is_lacked;
 use mpw_run::unkept_leaves_the_run;
@@ -181,12 +179,11 @@ pub fn every_state_counts_its_runs()
     a_request_counts_one_run_at_most();
 }
 
-/// A request that administers the desk is accepted only of a session that had the permission `admin desk`.
-pub fn accepted_administration_had_its_permission()
-    ensures { (state : State) (conn : ℕ) (request : AnyPolicyRequest) (kept : Bool) (lines : List Listed) → is_administration request ≡ true → response_of state (event.Ask conn (ask.Policy request)) kept ≡ response.Told (Reply.Ok lines) → permits state.policy conn Admin Desk ≡ true }
-{
-    administration_needs_its_permission();
-}
+/// Whatever the request, it is accepted only of a connection that has what the request needs: nothing for `open`, a session for what
+/// is asked of one's own, and else the permission that the table `need_of` names.
+pub fn accepted_requests_had_what_they_need()
+    ensures { (state : State) (conn : ℕ) (request : AnyRequest) (kept : Bool) (lines : List Listed) → response_of state (event.Ask conn request) kept ≡ response.Told (Reply.Ok lines) → Has state.policy conn (need_of request) }
+{}
 
 /// A denial for a set of separation of duty names the least set of its kind that the policy that was asked for would break.
 pub fn sets_are_denied_for_what_was_asked()

@@ -23,7 +23,7 @@ pub use desk::{Core, MAX_EVENTS, replay};
 pub use event::{Call, Event, Response};
 pub use keeper::{Change, Keeper, KeptChange, NoKeeper, NotKept};
 pub use laws::{
-    a_restart_ends_every_session, accepted_administration_had_its_permission,
+    a_restart_ends_every_session, accepted_requests_had_what_they_need,
     changes_count_once_they_are_kept, clean_runs_are_signed_off,
     denials_and_refusals_change_nothing, denials_name_what_the_session_lacks,
     denials_to_sign_are_true, every_state_counts_its_runs, every_state_has_a_place_for_each_marker,
