@@ -18,23 +18,12 @@ use Rattle.mpw_core.proofs.DenialLemmas.{inside, permission-changed}
 use Rattle.mpw_core.proofs.ReadableLemmas.{never_ok, told_refusal}
 use Rattle.mpw_core.proofs.RefusalLemmas.{settled-denied, settled-ok}
 
+-- what is accepted is what its row leaves
 pub accepted-changed : (s : State) (row : Result Policy Refusal) (lines : List Listed)
     → (changed s row).response ≡ response.Told (reply.Ok lines) → (q : Policy) × (row ≡ Ok q)
 accepted-changed s (Ok q) lines e = (q, refl)
 accepted-changed s (Err r) lines e =
     absurd (never_ok (reply_of r) (told_refusal r) lines (inside e))
-
--- what is accepted is what its row leaves
-pub accepted-row : (s : State) (conn : ℕ) (request : PolicyRequest) (kept : Bool)
-    (lines : List Listed) → response_of s (event.Ask conn (ask.Policy request)) kept ≡ response.Told
-    (reply.Ok lines)
-    → (q : Policy) × (row_of s.policy conn request ≡ Ok q)
-unfolding step wanted
-accepted-row s conn request kept lines e =
-    let same = settled-ok s (event.Ask conn (ask.Policy request)) kept
-    (outcome_of s conn (ask.Policy request)) lines e in
-    accepted-changed s (row_of s.policy conn request) lines
-    (ap (λ (o : Outcome). o.response) (sym same) ∙ e)
 
 ssd-told : (r : Refusal) (name : List ℕ) → reply_of r ≡ reply.Denied (denial.Ssd name)
     → r ≡ refusal.Ssd name
