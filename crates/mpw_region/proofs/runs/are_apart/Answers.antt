@@ -1,8 +1,7 @@
-use Rattle.std.proofs.Common.{◌-◌, ◌<◌, get_or, subst, arith, length-take}
+use Rattle.std.proofs.Common.{◌-◌, get_or, subst, arith, length-take}
 use Rattle.std.specs.Prelude.{AllPairs}
 use Rattle.std.proofs.lemmas.Bool.Decides.{when_false}
 use Rattle.std.proofs.lemmas.List.{take_all}
-use Rattle.mpw_region.specs.declared.runs.Run.{Run}
 use Rattle.mpw_region.specs.Runs.{StandsBefore}
 use Rattle.mpw_region.proofs.Joins.{no_run, apart_more, before_from_unreached}
 use Rattle.mpw_region.proofs.runs.are_apart.Goals as goal
