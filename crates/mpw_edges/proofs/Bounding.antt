@@ -1,5 +1,5 @@
 -- Parts of a list, edges of bands, and what a binary search over them asks and tells.
-use Rattle.std.proofs.Common.{◌≡◌, ℕ, ◌+◌, ◌<◌, ◌≤◌, ℤ, ◌≤ℤ◌, ◌<ℤ◌, Bool, true, false, List, length, get_or, take, drop, map, ◌⊎◌, inl, inr, subst, sym, ap, refl, arith}
+use Rattle.std.proofs.Common.{◌≡◌, ℕ, ◌+◌, ◌<◌, ◌≤◌, ℤ, ◌≤ℤ◌, ◌<ℤ◌, Bool, true, false, List, [], ◌∷◌, length, get_or, take, drop, map, ◌⊎◌, inl, inr, subst, sym, ap, refl, arith}
 use Rattle.std.specs.Prelude.{All, AllPairs, Contains, int_lt, int_le}
 use Rattle.std.specs.List.{AllWithin}
 use Rattle.std.specs.List.Sorted.{IsPartitionedBy, IsPartitionPoint}
@@ -17,9 +17,11 @@ use Rattle.mpw_geom.proofs.Tests.{lt_from_test, test_from_lt, le_from_test, test
 use Rattle.mpw_geom.proofs.Squares.{no_box}
 use Rattle.mpw_region.specs.Banded.{StandsInBands, AreBands}
 use Rattle.mpw_region.proofs.Held.{Held}
+use Rattle.mpw_edges.specs.declared.edges.End.{End}
+use Rattle.mpw_edges.specs.declared.edges.End.TheVariants.{Rise, Fall}
 use Rattle.mpw_edges.specs.declared.pair.Edge.{Edge}
-use Rattle.mpw_edges.specs.Internal.Pairs.{rise_of, fall_of, IsEdgeBefore, AreEdges, IsLeftOf, HasRowsOf, IsBand}
-use Rattle.mpw_edges.proofs.Tests.{gt_from_test}
+use Rattle.mpw_edges.specs.Internal.Pairs.{rise_of, fall_of, edge_of, IsEdgeBefore, AreEdges, IsLeftOf, HasRowsOf, IsBand}
+use Rattle.mpw_edges.proofs.Tests.{gt_from_test, test_from_gt}
 use Rattle.mpw_edges.proofs.Region.{no_edge}
 
 -- ---- parts of a list
@@ -69,7 +71,7 @@ pairs_map R f xs e h i j d l b =
     (sym (get_or-map f xs i e d (omega (arith, l, inside))))
     (subst (λ y. R (f (get_or xs i e)) y) (sym (get_or-map f xs j e d inside)) (h i j e l inside))
 
-pub rises_ordered : (boxes : List Box2) → AreBands boxes → AreEdges (map rise_of boxes)
+rises_ordered : (boxes : List Box2) → AreBands boxes → AreEdges (map rise_of boxes)
 rises_ordered boxes h = record {
   filled = All-map (λ (e : Edge). e.y0 <ℤ e.y1) rise_of boxes
       (All-weaker HasArea (λ b. b.y0 <ℤ b.y1) (λ b a. a.height) boxes h.filled);
@@ -82,7 +84,7 @@ rises_ordered boxes h = record {
     before p q a (inl below) = inl below
     before p q a (inr s) = inr (s.0, s.1, omega (arith, ints, a.width, s.2))
 
-pub falls_ordered : (boxes : List Box2) → AreBands boxes → AreEdges (map fall_of boxes)
+falls_ordered : (boxes : List Box2) → AreBands boxes → AreEdges (map fall_of boxes)
 falls_ordered boxes h = record {
   filled = All-map (λ (e : Edge). e.y0 <ℤ e.y1) fall_of boxes
       (All-weaker HasArea (λ b. b.y0 <ℤ b.y1) (λ b a. a.height) boxes h.filled);
@@ -95,6 +97,11 @@ falls_ordered boxes h = record {
     before p q a (inl below) = inl below
     before p q a (inr s) = inr (s.0, s.1, omega (arith, ints, a.width, s.2))
 
+pub edges_ordered : (end : End) (boxes : List Box2) → AreBands boxes
+    → AreEdges (map (edge_of end) boxes)
+edges_ordered Rise boxes h = rises_ordered boxes h
+edges_ordered Fall boxes h = falls_ordered boxes h
+
 -- ---- what a binary search asks and tells
 
 pub partitioned_by_x : (edges : List Edge) (x : ℤ) → AllPairs IsLeftOf edges
@@ -106,7 +113,7 @@ partitioned_by_x edges x h i j d l b t = elim (cases_lt i j) [
       (let e : j ≡ i = omega arith in e) t
 ]
 
-no_lower : (edges : List Edge) (i j : ℕ) (d : Edge) → AreEdges edges → i < j → j < length edges
+pub no_lower : (edges : List Edge) (i j : ℕ) (d : Edge) → AreEdges edges → i < j → j < length edges
     → (get_or edges i d).y0 ≤ℤ (get_or edges j d).y0
 no_lower edges i j d h l b = elim (h.ordered i j d l b) [
   | inl below ↦ let f = h.filled i d (omega (arith, l, b)) in omega (arith, ints, below, f)
@@ -225,3 +232,47 @@ IsBand-from_search edges r h some within p = record {
               omega (arith, ints, f, below, low, start, at_i, at_j))
           | inr s ↦ s.2
         ]
+
+-- edges looked at one by one: all begin no higher than the first, and the next one does
+pub IsBand-from_steps : (edges : List Edge) (n : ℕ) → AreEdges edges → 1 ≤ length edges
+    → n < length edges → All (λ e. e.y0 ≤ℤ (get_or edges 0 no_edge).y0) (take n edges)
+    → (get_or edges 0 no_edge).y0 <ℤ (get_or edges n no_edge).y0 → IsBand edges n
+IsBand-from_steps edges n h some within low up =
+    IsBand-from_search edges n h some (omega (arith, within)) (
+      λ k d l b. test_from_le (get_or edges k d).y0 (get_or edges 0 no_edge).y0
+          (subst (λ (e : Edge). e.y0 ≤ℤ (get_or edges 0 no_edge).y0) (get_or-take n edges k d b)
+          (low k d (omega (arith, b, within, length-take n edges)))),
+      λ k d l b. test_from_gt (get_or edges k d).y0 (get_or edges 0 no_edge).y0 (higher_on k d l b),
+    )
+  where
+    higher_on : (k : ℕ) (d : Edge) → n ≤ k → k < length edges
+        → (get_or edges 0 no_edge).y0 <ℤ (get_or edges k d).y0
+    higher_on k d l b =
+        let at_n = ap (λ (x : Edge). x.y0) (at_default edges n no_edge d within) in
+        elim (cases_lt n k) [
+          | inl less ↦ omega (arith, ints, up, at_n, no_lower edges n k d h less b)
+          | inr more ↦
+              let e : n ≡ k = omega (arith, l, more) in
+              let same = ap (λ (m : ℕ). (get_or edges m d).y0) e in
+              omega (arith, ints, up, at_n, same)
+        ]
+
+-- the first edge begins no higher than itself
+pub only_first : (edges : List Edge)
+    → All (λ e. e.y0 ≤ℤ (get_or edges 0 no_edge).y0) (take 1 edges)
+only_first [] k d l = absurd (omega (arith, l))
+only_first (x ∷ xs) k d l =
+    let z : k ≡ 0 = omega (arith, l) in
+    let is = ap (λ (m : ℕ). (get_or (x ∷ []) m d).y0) z in
+    omega (arith, ints, is)
+
+-- what is left of an edge is left of those behind it
+pub left_of_later : (froms tos : List Edge) (i n : ℕ) → AllPairs IsLeftOf froms → i < length froms
+    → All (λ to. to.x <ℤ (get_or froms i no_edge).x) (take n tos) → (k : ℕ) (d : Edge) → i + 1 ≤ k
+    → k < length froms → All (λ to. to.x <ℤ (get_or froms k d).x) (take n tos)
+left_of_later froms tos i n h within left k d l b =
+    let near = h i k d (omega (arith, l)) b in
+    let same = ap (λ (x : Edge). x.x) (at_default froms i no_edge d within) in
+    All-weaker (λ (to : Edge). to.x <ℤ (get_or froms i no_edge).x)
+    (λ (to : Edge). to.x <ℤ (get_or froms k d).x) (λ to p. omega (arith, ints, p, near, same))
+    (take n tos) left

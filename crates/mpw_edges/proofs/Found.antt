@@ -8,12 +8,15 @@ use Rattle.mpw_region.specs.Squares.{covers}
 use Rattle.mpw_region.specs.Banded.{AreBands}
 use Rattle.mpw_region.proofs.Order.{same_line}
 use Rattle.mpw_region.proofs.Adding.{Adds-both, Adds-same, Finds-from_adds}
+use Rattle.mpw_edges.specs.declared.edges.End.{End}
+use Rattle.mpw_edges.specs.declared.edges.End.TheVariants.{Rise, Fall}
+use Rattle.mpw_edges.specs.declared.edges.Ends.{Ends}
 use Rattle.mpw_edges.specs.declared.pair.Edge.{Edge}
 use Rattle.mpw_edges.specs.declared.pair.Limits.{Limits}
 use Rattle.mpw_edges.specs.Edges.{IsRise, IsFall}
 use Rattle.mpw_edges.specs.Steps.{IsWidth, IsSpace}
 use Rattle.mpw_edges.specs.Pieces.{IsInCore}
-use Rattle.mpw_edges.specs.Internal.Pairs.{IsNear, IsPairOf, IsWidthOf, rise_of, fall_of}
+use Rattle.mpw_edges.specs.Internal.Pairs.{IsNear, IsPairOf, IsWidthOf, IsBetween, IsEdgeAt, rise_of, fall_of, edge_of}
 use Rattle.mpw_edges.proofs.Region.{EdgesAre, rises_are, falls_are, box_of_width, rise_of_box, fall_of_box, covered}
 
 -- the runs that were added find the places, told in other words
@@ -149,14 +152,14 @@ finds_spaces runs boxes distance core h added =
 
 -- ---- two layers: a pair on each side
 
-abbrev pub IsEither : ℕ → Box2 → (ℤ → ℤ → Type 0) → (ℤ → ℤ → Type 0) → (ℤ → ℤ → Type 0)
+abbrev IsEither : ℕ → Box2 → (ℤ → ℤ → Type 0) → (ℤ → ℤ → Type 0) → (ℤ → ℤ → Type 0)
     → (ℤ → ℤ → Type 0) → Line → ℤ → Type 0
 IsEither distance core E F G K line j =
     (((line.first ≤ℤ line.second) × (((line.side ≡ 0) × E line.first j × F line.second j)
     ⊎ ((line.side ≡ 1) × G line.first j × K line.second j)))
     × ((line.second -ℤ line.first) <ℤ pos distance)) × IsInCore core line.first j
 
-pub finds_either : (mid runs : List Run) (distance : ℕ) (core : Box2) (a b c d : List Edge)
+finds_either : (mid runs : List Run) (distance : ℕ) (core : Box2) (a b c d : List Edge)
     (E F G K : ℤ → ℤ → Type 0) → EdgesAre a E → EdgesAre b F → EdgesAre c G → EdgesAre d K
     → Adds [] mid (IsPairOf 0 (pair_limits distance core) a b)
     → Adds mid runs (IsPairOf 1 (pair_limits distance core) c d)
@@ -184,15 +187,31 @@ finds_either mid runs distance core a b c d E F G K ea eb ec ed one two =
           (p.0, p.1, p.2, (w.0.0.0, w.0.1), w.1))
     ]
 
-pub adds_is : (old old' new : List Run) (side : ℕ) (limits : Limits) (a a' b b' : List Edge)
-    → old ≡ old' → a ≡ a' → b ≡ b' → Adds old new (IsPairOf side limits a b)
-    → Adds old' new (IsPairOf side limits a' b')
-adds_is old old' new side limits a a' b b' e f g h =
-    subst (λ (rs : List Run). Adds rs new (IsPairOf side limits a' b')) e
-    (subst (λ (es : List Edge). Adds old new (IsPairOf side limits es b')) f
-    (subst (λ (es : List Edge). Adds old new (IsPairOf side limits a es)) g h))
+edges_are : (end : End) (boxes : List Box2) → AreBands boxes
+    → EdgesAre (map (edge_of end) boxes) (IsEdgeAt end (covers boxes))
+edges_are Rise boxes h = rises_are boxes h
+edges_are Fall boxes h = falls_are boxes h
 
-pub widths_is : (old new : List Run) (limits : Limits) (boxes : List Box2) → old ≡ []
-    → Adds old new (IsWidthOf limits boxes) → Adds [] new (IsWidthOf limits boxes)
-widths_is old new limits boxes e h =
-    subst (λ (rs : List Run). Adds rs new (IsWidthOf limits boxes)) e h
+-- the pairs on one side
+abbrev IsPairOn : ℕ → ℕ → Box2 → List Box2 → End → List Box2 → End → Line → ℤ → Type 0
+IsPairOn side distance core first from second to =
+    IsPairOf side (pair_limits distance core) (map (edge_of from) first) (map (edge_of to) second)
+
+pub finds_between : (mid runs : List Run) (distance : ℕ) (core : Box2) (ends : Ends)
+    (first second : List Box2) → AreBands first → AreBands second
+    → Adds [] mid (IsPairOn 0 distance core first ends.forth_from second ends.forth_to)
+    → Adds mid runs (IsPairOn 1 distance core second ends.back_from first ends.back_to)
+    → Finds runs (IsBetween ends (covers first) (covers second) distance core)
+finds_between mid runs distance core ends first second h g one two =
+    finds_either mid runs distance core (map (edge_of ends.forth_from) first)
+    (map (edge_of ends.forth_to) second) (map (edge_of ends.back_from) second)
+    (map (edge_of ends.back_to) first) (IsEdgeAt ends.forth_from (covers first))
+    (IsEdgeAt ends.forth_to (covers second)) (IsEdgeAt ends.back_from (covers second))
+    (IsEdgeAt ends.back_to (covers first)) (edges_are ends.forth_from first h)
+    (edges_are ends.forth_to second g) (edges_are ends.back_from second g)
+    (edges_are ends.back_to first h) one two
+
+-- what was added to no runs
+pub adds_to_none : (old new : List Run) (P : Line → ℤ → Type 0) → old ≡ [] → Adds old new P
+    → Adds [] new P
+adds_to_none old new P e h = subst (λ (rs : List Run). Adds rs new P) e h

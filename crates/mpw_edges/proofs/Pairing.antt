@@ -1,5 +1,5 @@
 -- Two lists of edges gone through by bands: what is found, and what is left to find.
-use Rattle.std.proofs.Common.{◌≡◌, ℕ, ◌+◌, ◌<◌, ◌≤◌, ℤ, pos, ◌-ℤ◌, ◌≤ℤ◌, ◌<ℤ◌, Bool, true, false, List, length, get_or, take, drop, ◌⊎◌, inl, inr, subst, sym, ap, ◌∙◌, arith}
+use Rattle.std.proofs.Common.{◌≡◌, ℕ, ◌+◌, ◌<◌, ◌≤◌, ℤ, pos, ◌-ℤ◌, ◌≤ℤ◌, ◌<ℤ◌, Bool, true, false, List, [], ◌∷◌, length, get_or, take, drop, ◌⊎◌, inl, inr, subst, sym, ap, ◌∙◌, arith}
 use Rattle.std.specs.Prelude.{All, AllPairs, Contains, MatchBool}
 use Rattle.std.proofs.lemmas.Int.{ints}
 use Rattle.std.proofs.lemmas.Bool.{cases_lt}
@@ -12,9 +12,9 @@ use Rattle.mpw_region.specs.Internal.Runs.{Adds}
 use Rattle.mpw_region.proofs.Adding.{Adds-none, Adds-same}
 use Rattle.mpw_edges.specs.declared.pair.Edge.{Edge}
 use Rattle.mpw_edges.specs.declared.pair.Limits.{Limits}
-use Rattle.mpw_edges.specs.Internal.Pairs.{IsPairPlace, IsPairFrom, IsPairOf, IsLeftOf, HasRowsOf, IsBand, Moves}
+use Rattle.mpw_edges.specs.Internal.Pairs.{IsPairPlace, IsPairFrom, IsPairOf, IsLeftOf, HasRowsOf, AreEdges, IsBand, Moves}
 use Rattle.mpw_edges.proofs.Region.{no_edge}
-use Rattle.mpw_edges.proofs.Bounding.{held_parts, held_take, held_drop, at_default}
+use Rattle.mpw_edges.proofs.Bounding.{held_parts, held_take, held_drop, at_default, no_lower}
 
 -- ---- pairs of one edge with those of a band
 
@@ -36,6 +36,13 @@ pub pairs_from_start : (side : ℕ) (limits : Limits) (from : Edge) (tos : List 
 pairs_from_start side limits from tos runs n h =
     Adds-none runs (IsPairFrom side limits (take n tos) from)
     (none_left side limits from (take n tos) h)
+
+-- an edge outside the core has no pairs
+pub none_outside : (side : ℕ) (limits : Limits) (from : Edge) (tos : List Edge) (runs : List Run)
+    → ((limits.core.x0 ≤ℤ from.x) × (from.x <ℤ limits.core.x1) → ⊥)
+    → Adds runs runs (IsPairFrom side limits tos from)
+none_outside side limits from tos runs h = Adds-none runs (IsPairFrom side limits tos from)
+    (λ line j p. h (p.2.2, p.2.3))
 
 -- what lies behind an edge that is too far is too far
 pub pairs_from_past : (side : ℕ) (limits : Limits) (from : Edge) (tos : List Edge)
@@ -133,22 +140,6 @@ above_in : (edges : List Edge) (n : ℕ) (e : Edge) → IsBand edges n → Conta
 above_in edges n e h c = All-contains (λ (x : Edge). (get_or edges 0 no_edge).y1 ≤ℤ x.y0)
     (drop n edges) e (h.above no_edge) c
 
--- bands without a row in common have no pairs
-pub no_band_pairs : (side : ℕ) (limits : Limits) (froms tos : List Edge) (m n : ℕ) → IsBand froms m
-    → IsBand tos n
-    → ((get_or tos 0 no_edge).y1 ≤ℤ (get_or froms 0 no_edge).y0)
-    ⊎ ((get_or froms 0 no_edge).y1 ≤ℤ (get_or tos 0 no_edge).y0) → (line : Line) (j : ℤ)
-    → IsPairOf side limits (take m froms) (take n tos) line j → ⊥
-no_band_pairs side limits froms tos m n f t none line j p =
-    let a = rows_in froms m p.0 f p.1 in
-    let b = rows_in tos n p.2.0 t p.2.1 in
-    apart side limits p.0 p.2.0 line j p.2.2
-    (elim none [
-      | inl e ↦ inl (omega (arith, ints, e, a.0, b.1))
-      | inr e
-          ↦ inr (omega (arith, ints, e, a.1, b.0))
-    ])
-
 -- the band of the first list that ends first has no pairs above the other band
 pub past_from : (old mid new : List Run) (P : Line → ℤ → Type 0) (side : ℕ) (limits : Limits)
     (froms tos : List Edge) (m n : ℕ) → IsBand froms m → IsBand tos n
@@ -217,14 +208,75 @@ past_to old mid new P side limits froms tos m n f t first h g =
           p.2,
     )
 
--- where the bands have no row in common, nothing is to be added
-pub Adds-apart : (runs : List Run) (side : ℕ) (limits : Limits) (froms tos : List Edge) (m n : ℕ)
-    → IsBand froms m → IsBand tos n → ((get_or tos 0 no_edge).y1 ≤ℤ (get_or froms 0 no_edge).y0)
-    ⊎ ((get_or froms 0 no_edge).y1 ≤ℤ (get_or tos 0 no_edge).y0)
-    → Adds runs runs (IsPairOf side limits (take m froms) (take n tos))
-Adds-apart runs side limits froms tos m n f t none =
-    Adds-none runs (IsPairOf side limits (take m froms) (take n tos))
-    (no_band_pairs side limits froms tos m n f t none)
+-- ---- an edge below the other list
+
+-- what lies below the first edge lies below each
+none_lower : (edges : List Edge) (e : Edge) (y : ℤ) → AreEdges edges → Contains edges e
+    → y ≤ℤ (get_or edges 0 no_edge).y0 → y ≤ℤ e.y0
+none_lower edges e y h c below =
+    let is = ap (λ (x : Edge). x.y0) (at_default edges c.0 no_edge e c.1 ∙ c.2) in
+    elim (cases_lt 0 c.0) [
+      | inl less ↦
+          let up = no_lower edges 0 c.0 no_edge h less c.1 in
+          omega (arith, ints, below, up, is)
+      | inr more ↦
+          let z : c.0 ≡ 0 = omega (arith, more) in
+          let same = ap (λ (m : ℕ). (get_or edges m no_edge).y0) z in
+          omega (arith, ints, below, same, is)
+    ]
+
+only_first : (edges : List Edge) (e : Edge) → Contains (take 1 edges) e → get_or edges 0 no_edge ≡ e
+only_first [] e c = absurd (omega (arith, c.1))
+only_first (x ∷ xs) e c =
+    let z : 0 ≡ c.0 = omega (arith, c.1) in ap (λ (m : ℕ). get_or (x ∷ []) m e) z ∙ c.2
+
+-- nothing is added, and what is left has all the pairs
+moves_past : (runs : List Run) (P Q : Line → ℤ → Type 0)
+    → ((line : Line) (at : ℤ) → P line at → Q line at)
+    → ((line : Line) (at : ℤ) → Q line at → P line at) → Moves runs P runs Q
+moves_past runs P Q f g = record {
+  places = λ line at. (
+    λ p. elim p [ inl c ↦ inl c | inr q ↦ inr (g line at q) ],
+    λ p. elim p [ inl c ↦ inl c | inr q ↦ inr (f line at q) ],
+  );
+  filled = λ a. a;
+}
+
+-- the first edge of a list that lies below the other list has no pairs
+pub past_low_from : (runs : List Run) (side : ℕ) (limits : Limits) (froms tos : List Edge)
+    → AreEdges tos → (get_or froms 0 no_edge).y1 ≤ℤ (get_or tos 0 no_edge).y0
+    → Moves runs (IsPairOf side limits froms tos) runs (IsPairOf side limits (drop 1 froms) tos)
+past_low_from runs side limits froms tos h below =
+    moves_past runs (IsPairOf side limits froms tos) (IsPairOf side limits (drop 1 froms) tos)
+    (λ line j p. elim (held_parts (λ from. IsPairFrom side limits tos from line j) froms 1 p) [
+      | inr rest ↦ rest
+      | inl low ↦ absurd (never line j low)
+    ])
+    (λ line j p. held_drop (λ from. IsPairFrom side limits tos from line j) froms 1 p)
+  where
+    never : (line : Line) (j : ℤ) → IsPairOf side limits (take 1 froms) tos line j → ⊥
+    never line j p =
+        let first = ap (λ (x : Edge). x.y1) (only_first froms p.0 p.1) in
+        apart side limits p.0 p.2.0 line j p.2.2
+        (inr (none_lower tos p.2.0 p.0.y1 h p.2.1 (omega (arith, ints, below, first))))
+
+pub past_low_to : (runs : List Run) (side : ℕ) (limits : Limits) (froms tos : List Edge)
+    → AreEdges froms → (get_or tos 0 no_edge).y1 ≤ℤ (get_or froms 0 no_edge).y0
+    → Moves runs (IsPairOf side limits froms tos) runs (IsPairOf side limits froms (drop 1 tos))
+past_low_to runs side limits froms tos h below =
+    moves_past runs (IsPairOf side limits froms tos) (IsPairOf side limits froms (drop 1 tos))
+    (λ line j p. elim (held_parts (λ to. IsPairPlace side limits p.0 to line j) tos 1 p.2) [
+      | inr rest ↦ (p.0, p.1, rest)
+      | inl low ↦ absurd (never line j p.0 p.1 low)
+    ])
+    (λ line j p. (p.0, p.1, held_drop (λ to. IsPairPlace side limits p.0 to line j) tos 1 p.2))
+  where
+    never : (line : Line) (j : ℤ) (from : Edge) → Contains froms from
+        → IsPairFrom side limits (take 1 tos) from line j → ⊥
+    never line j from c p =
+        let first = ap (λ (x : Edge). x.y1) (only_first tos p.0 p.1) in
+        apart side limits from p.0 line j p.2
+        (inl (none_lower froms from p.0.y1 h c (omega (arith, ints, below, first))))
 
 pub Moves-on : (old mid new : List Run) (P : Line → ℤ → Type 0) (side : ℕ) (limits : Limits)
     (froms tos F T : List Edge) (i j m n : ℕ) → F ≡ drop i froms → T ≡ drop j tos

@@ -8,3 +8,6 @@ gt_from_test a b h = grind (arith, ints)
 
 pub ge_from_test : (a b : ℤ) → int_lt a b ≡ false → b ≤ℤ a
 ge_from_test a b h = grind (arith, ints)
+
+pub test_from_gt : (a b : ℤ) → b <ℤ a → int_le a b ≡ false
+test_from_gt a b h = grind (arith, ints)

@@ -4,9 +4,16 @@ ghost use Rattle.std.specs.Prelude.{◌≡◌, ◌<ℤ◌, ◌-ℤ◌, pos, IfOk
 ghost use Rattle.mpw_region.specs.Internal.Runs.{Adds, Finds};
 ghost use Rattle.mpw_region.specs.Squares.{covers};
 ghost use Rattle.mpw_region.specs.Banded.{AreBands};
-ghost use Rattle.mpw_edges.specs.Steps.{IsWidth, IsSpace, IsSeparation, IsEnclosing};
+ghost use Rattle.mpw_edges.specs.Steps.{IsWidth, IsSpace};
 ghost use Rattle.mpw_edges.specs.Pieces.{IsInCore, HasVerticalStep};
-ghost use Rattle.mpw_edges.specs.Internal.Pairs.{IsWidthOf, AreEdges, rise_of, fall_of};
+ghost use Rattle.mpw_edges.specs.Internal.Pairs.{
+  IsWidthOf,
+  IsPairOf,
+  IsBetween,
+  edge_of,
+  separation_ends,
+  enclosing_ends,
+};
 
 use crate::pair::{Edge, Limits, add_pair, add_pairs};
 use mpw_deck::{Check, Rule};
@@ -14,58 +21,68 @@ use mpw_geom::Box2;
 use mpw_region::Run;
 use std::alloc::{AllocError, Global};
 
-/// The edge at which a box begins.
-fn rise(b: &Box2) -> Edge
-    ensures { result ≡ rise_of b.now }
+/// An end of a box from left to right: where it begins, or where it ends.
+#[derive(Clone, Copy, Debug, PartialEq, Eq)]
+pub(crate) enum End {
+    Rise,
+    Fall,
+}
+
+/// Which edges of two layers are pairs: those of the first layer with later ones of the second, and those of the second with
+/// later ones of the first.
+#[derive(Clone, Copy, Debug, PartialEq, Eq)]
+pub(crate) struct Ends {
+    pub(crate) forth_from: End,
+    pub(crate) forth_to: End,
+    pub(crate) back_from: End,
+    pub(crate) back_to: End,
+}
+
+/// The edge at an end of a box.
+fn edge(b: &Box2, end: End) -> Edge
+    ensures { result ≡ edge_of end b.now }
 {
-    Edge {
-        x: b.x0,
-        y0: b.y0,
-        y1: b.y1,
+    match end {
+        End::Rise => Edge {
+            x: b.x0,
+            y0: b.y0,
+            y1: b.y1,
+        },
+        End::Fall => Edge {
+            x: b.x1,
+            y0: b.y0,
+            y1: b.y1,
+        },
     }
 }
 
-/// The edge at which a box ends.
-fn fall(b: &Box2) -> Edge
-    ensures { result ≡ fall_of b.now }
+/// The edges at one end of boxes, in the order of the boxes.
+fn edges(alloc: Global, boxes: &[Box2], end: End) -> Result<Vec<Edge>, AllocError>
+    ensures { IfOk result (λ v. v.items ≡ map (edge_of end) boxes.now) }
 {
-    Edge {
-        x: b.x1,
-        y0: b.y0,
-        y1: b.y1,
-    }
+    boxes.iter().map(|b| edge(b, end)).collect(alloc)
 }
 
-/// The edges at which boxes begin, one for each box.
-fn rise_edges(alloc: Global, boxes: &[Box2]) -> Result<Vec<Edge>, AllocError>
-    ensures { IfOk result (λ v. v.items ≡ map rise_of boxes.now) }
+/// Adds the rows of the pairs on one side: of edges at an end of the first boxes with later ones at an end of the second.
+fn add_pairs_of(
+    alloc: Global,
+    runs: &mut Vec<Run>,
+    side: u8,
+    first: &[Box2],
+    from: End,
+    second: &[Box2],
+    to: End,
+    limits: &Limits,
+) -> Result<(), AllocError>
+    requires first { AreBands first.now }
+    requires second { AreBands second.now }
+    ensures { OnOk result (Adds runs.old.items runs.new.items
+        (IsPairOf side limits.now (map (edge_of from) first.now) (map (edge_of to) second.now))) }
 {
-    boxes.iter().map(|b| rise(b)).collect(alloc)
-}
-
-/// The edges at which the boxes of bands begin, from below and from left to right.
-fn rises(alloc: Global, boxes: &[Box2]) -> Result<Vec<Edge>, AllocError>
-    requires { AreBands boxes.now }
-    ensures edges { IfOk result (λ v. v.items ≡ map rise_of boxes.now) }
-    ensures ordered { IfOk result (λ v. AreEdges v.items) }
-{
-    rise_edges(alloc, boxes)
-}
-
-/// The edges at which boxes end, one for each box.
-fn fall_edges(alloc: Global, boxes: &[Box2]) -> Result<Vec<Edge>, AllocError>
-    ensures { IfOk result (λ v. v.items ≡ map fall_of boxes.now) }
-{
-    boxes.iter().map(|b| fall(b)).collect(alloc)
-}
-
-/// The edges at which the boxes of bands end, from below and from left to right.
-fn falls(alloc: Global, boxes: &[Box2]) -> Result<Vec<Edge>, AllocError>
-    requires { AreBands boxes.now }
-    ensures edges { IfOk result (λ v. v.items ≡ map fall_of boxes.now) }
-    ensures ordered { IfOk result (λ v. AreEdges v.items) }
-{
-    fall_edges(alloc, boxes)
+    let froms = edges(alloc, first, from)?;
+    let tos = edges(alloc, second, to)?;
+    add_pairs(runs, side, froms.as_slice(), tos.as_slice(), limits)?;
+    Ok(())
 }
 
 /// Adds the rows of the two edges of each box.
@@ -73,7 +90,7 @@ fn add_widths(runs: &mut Vec<Run>, boxes: &[Box2], limits: &Limits) -> Result<()
     ensures { OnOk result (Adds runs.old.items runs.new.items (IsWidthOf limits.now boxes.now)) }
 {
     for b in boxes {
-        add_pair(runs, 0, &rise(b), &fall(b), limits)?;
+        add_pair(runs, 0, &edge(b, End::Rise), &edge(b, End::Fall), limits)?;
     }
     Ok(())
 }
@@ -85,7 +102,7 @@ fn widths(alloc: Global, boxes: &[Box2], distance: u32, core: Box2) -> Result<Ve
         (IsWidth (covers boxes.now) line.side line.first line.second j
         × ((line.second -ℤ line.first) <ℤ pos distance)) × IsInCore core line.first j)) }
 {
-    let mut runs = Vec::new(alloc);
+    let mut runs = Vec::with_capacity(alloc, boxes.len())?;
     let limits = Limits {
         touching: false,
         distance,
@@ -102,75 +119,73 @@ fn spaces(alloc: Global, boxes: &[Box2], distance: u32, core: Box2) -> Result<Ve
         (IsSpace (covers boxes.now) line.side line.first line.second j
         × ((line.second -ℤ line.first) <ℤ pos distance)) × IsInCore core line.first j)) }
 {
-    let mut runs = Vec::new(alloc);
+    let mut runs = Vec::with_capacity(alloc, boxes.len())?;
     let limits = Limits {
         touching: false,
         distance,
         core,
     };
-    let falls = falls(alloc, boxes)?;
-    let rises = rises(alloc, boxes)?;
-    add_pairs(&mut runs, 0, falls.as_slice(), rises.as_slice(), &limits)?;
+    add_pairs_of(
+        alloc,
+        &mut runs,
+        0,
+        boxes,
+        End::Fall,
+        boxes,
+        End::Rise,
+        &limits,
+    )?;
     Ok(runs)
 }
 
-/// The rows of the falls of each layer and later rises of the other.
-fn separations(
+/// The rows of edges of each layer and later ones of the other, touching ones too.
+fn between(
     alloc: Global,
     first: &[Box2],
     second: &[Box2],
+    ends: Ends,
     distance: u32,
     core: Box2,
 ) -> Result<Vec<Run>, AllocError>
     requires first { AreBands first.now }
     requires second { AreBands second.now }
-    ensures { IfOk result (λ v. Finds v.items (λ line j.
-        (IsSeparation (covers first.now) (covers second.now) line.side line.first line.second j
-        × ((line.second -ℤ line.first) <ℤ pos distance)) × IsInCore core line.first j)) }
+    ensures { IfOk result (λ v. Finds v.items (IsBetween ends (covers first.now) (covers second.now) distance core)) }
 {
-    let mut runs = Vec::new(alloc);
+    let mut runs = Vec::with_capacity(alloc, first.len().min(second.len()))?;
     let limits = Limits {
         touching: true,
         distance,
         core,
     };
-    let ends = falls(alloc, first)?;
-    let begins = rises(alloc, second)?;
-    add_pairs(&mut runs, 0, ends.as_slice(), begins.as_slice(), &limits)?;
-    let ends = falls(alloc, second)?;
-    let begins = rises(alloc, first)?;
-    add_pairs(&mut runs, 1, ends.as_slice(), begins.as_slice(), &limits)?;
+    let (from, to) = (ends.forth_from, ends.forth_to);
+    add_pairs_of(alloc, &mut runs, 0, first, from, second, to, &limits)?;
+    let (from, to) = (ends.back_from, ends.back_to);
+    add_pairs_of(alloc, &mut runs, 1, second, from, first, to, &limits)?;
     Ok(runs)
 }
 
-/// The rows of the rises of the outer layer and later ones of the inner, and of the falls of the
-/// inner layer and later ones of the outer.
-fn enclosings(
-    alloc: Global,
-    outer: &[Box2],
-    inner: &[Box2],
-    distance: u32,
-    core: Box2,
-) -> Result<Vec<Run>, AllocError>
-    requires outer { AreBands outer.now }
-    requires inner { AreBands inner.now }
-    ensures { IfOk result (λ v. Finds v.items (λ line j.
-        (IsEnclosing (covers outer.now) (covers inner.now) line.side line.first line.second j
-        × ((line.second -ℤ line.first) <ℤ pos distance)) × IsInCore core line.first j)) }
+/// The falls of each layer, and later rises of the other.
+fn separation() -> Ends
+    ensures { result ≡ separation_ends }
 {
-    let mut runs = Vec::new(alloc);
-    let limits = Limits {
-        touching: true,
-        distance,
-        core,
-    };
-    let outside = rises(alloc, outer)?;
-    let inside = rises(alloc, inner)?;
-    add_pairs(&mut runs, 0, outside.as_slice(), inside.as_slice(), &limits)?;
-    let inside = falls(alloc, inner)?;
-    let outside = falls(alloc, outer)?;
-    add_pairs(&mut runs, 1, inside.as_slice(), outside.as_slice(), &limits)?;
-    Ok(runs)
+    Ends {
+        forth_from: End::Fall,
+        forth_to: End::Rise,
+        back_from: End::Fall,
+        back_to: End::Rise,
+    }
+}
+
+/// The rises of the outer layer and later ones of the inner, and the falls of the inner and later ones of the outer.
+fn enclosing() -> Ends
+    ensures { result ≡ enclosing_ends }
+{
+    Ends {
+        forth_from: End::Rise,
+        forth_to: End::Rise,
+        back_from: End::Fall,
+        back_to: End::Fall,
+    }
 }
 
 /// The rows with a pair step between vertical edges of the regions' boxes, cut where a band of either
@@ -188,10 +203,11 @@ pub(crate) fn runs(
         HasVerticalStep rule.now (covers first.now) (covers second.now) core
         line.side line.first line.second j)) }
 {
+    let distance = rule.distance;
     match rule.check {
-        Check::Width(_) => widths(alloc, first, rule.distance, core),
-        Check::Space(_) => spaces(alloc, first, rule.distance, core),
-        Check::Separation(..) => separations(alloc, first, second, rule.distance, core),
-        Check::Enclosing(..) => enclosings(alloc, first, second, rule.distance, core),
+        Check::Width(_) => widths(alloc, first, distance, core),
+        Check::Space(_) => spaces(alloc, first, distance, core),
+        Check::Separation(..) => between(alloc, first, second, separation(), distance, core),
+        Check::Enclosing(..) => between(alloc, first, second, enclosing(), distance, core),
     }
 }

@@ -31,6 +31,9 @@ use mpw_geom::Box2;
 use mpw_region::{Line, Run};
 use std::alloc::AllocError;
 
+/// So many edges are looked at one by one before a binary search.
+const FEW: usize = 8;
+
 /// An edge at `x` through the rows from `y0` to before `y1`, in nm.
 #[derive(Clone, Copy, Debug, PartialEq, Eq)]
 pub(crate) struct Edge {
@@ -142,29 +145,52 @@ fn is_past(from: &Edge, to: &Edge, limits: &Limits) -> bool
     from.x <= to.x && to.x.abs_diff(from.x) >= u64::from(limits.distance)
 }
 
-/// The place of the first edge that isn't left of this one. A binary search.
-fn place_of(tos: &[Edge], from: &Edge) -> usize
-    requires { AllPairs IsLeftOf tos.now }
+/// Whether the edge lies in the core's columns.
+fn is_inside(from: &Edge, core: &Box2) -> bool
+    ensures { MatchBool result
+        ((core.now.x0 ≤ℤ from.now.x) × (from.now.x <ℤ core.now.x1))
+        ((core.now.x0 ≤ℤ from.now.x) × (from.now.x <ℤ core.now.x1) → ⊥) }
+{
+    core.x0 <= from.x && from.x < core.x1
+}
+
+/// The place of the first edge that isn't left of this one, where those before `start` are. The first few from there
+/// are looked at one by one, and behind them a binary search.
+fn place_of(tos: &[Edge], start: usize, from: &Edge) -> usize
+    requires ordered { AllPairs IsLeftOf tos.now }
+    requires within { start ≤ length tos.now }
+    requires left { All (λ to. to.x <ℤ from.now.x) (take start tos.now) }
     ensures within { result ≤ length tos.now }
     ensures left { All (λ to. to.x <ℤ from.now.x) (take result tos.now) }
 {
+    for k in start..tos.len().min(start.saturating_add(FEW)) {
+        if from.x <= tos[k].x {
+            return k;
+        }
+    }
     tos.partition_point(|to| to.x < from.x)
 }
 
-/// Adds the rows of each pair of this edge and one of a band's: a search for the first that isn't left
-/// of it, and then one test a pair and one more.
+/// Adds the rows of each pair of this edge and one of a band's, those before `start` being left of it: one test a pair and
+/// one more.
 fn add_pairs_from(
     runs: &mut Vec<Run>,
     side: u8,
     from: &Edge,
     tos: &[Edge],
+    start: usize,
     limits: &Limits,
 ) -> Result<(), AllocError>
-    requires { AllPairs IsLeftOf tos.now }
+    requires ordered { AllPairs IsLeftOf tos.now }
+    requires within { start ≤ length tos.now }
+    requires left { All (λ to. to.x <ℤ from.now.x) (take start tos.now) }
     ensures { OnOk result (Adds runs.old.items runs.new.items
         (IsPairFrom side limits.now tos.now from.now)) }
 {
-    for k in place_of(tos, from)..tos.len() {
+    if !is_inside(from, &limits.core) {
+        return Ok(());
+    }
+    for k in start..tos.len() {
         let to = &tos[k];
         if is_past(from, to, limits) {
             return Ok(());
@@ -174,7 +200,7 @@ fn add_pairs_from(
     Ok(())
 }
 
-/// Adds the rows of each pair of an edge of each of two bands.
+/// Adds the rows of each pair of an edge of each of two bands, from left to right.
 fn add_band_pairs(
     runs: &mut Vec<Run>,
     side: u8,
@@ -182,33 +208,39 @@ fn add_band_pairs(
     tos: &[Edge],
     limits: &Limits,
 ) -> Result<(), AllocError>
-    requires { AllPairs IsLeftOf tos.now }
+    requires froms { AllPairs IsLeftOf froms.now }
+    requires tos { AllPairs IsLeftOf tos.now }
     ensures { OnOk result (Adds runs.old.items runs.new.items
         (IsPairOf side limits.now froms.now tos.now)) }
 {
+    let mut start = 0;
     for from in froms {
-        add_pairs_from(runs, side, from, tos, limits)?;
+        start = place_of(tos, start, from);
+        add_pairs_from(runs, side, from, tos, start, limits)?;
     }
     Ok(())
 }
 
-/// How many edges the band of the first one has. A binary search.
+/// How many edges the band of the first one has. The first few are looked at one by one, and behind them a binary search.
 fn band_length(edges: &[Edge]) -> usize
     requires edges { AreEdges edges.now }
     requires some { 1 ≤ length edges.now }
     ensures { IsBand edges.now result }
 {
     let first = &edges[0];
+    for n in 1..edges.len().min(FEW) {
+        if first.y0 < edges[n].y0 {
+            return n;
+        }
+    }
     edges.partition_point(|edge| edge.y0 <= first.y0)
 }
 
-/// Whether the edges have a row in common.
-fn share_rows(from: &Edge, to: &Edge) -> bool
-    ensures { MatchBool result
-        ((from.now.y0 <ℤ to.now.y1) × (to.now.y0 <ℤ from.now.y1))
-        ((to.now.y1 ≤ℤ from.now.y0) ⊎ (from.now.y1 ≤ℤ to.now.y0)) }
+/// Whether the first edge ends where the second begins or below it.
+fn is_below(from: &Edge, to: &Edge) -> bool
+    ensures { MatchBool result (from.now.y1 ≤ℤ to.now.y0) (to.now.y0 <ℤ from.now.y1) }
 {
-    from.y0 < to.y1 && to.y0 < from.y1
+    from.y1 <= to.y0
 }
 
 /// Whether the first edge ends no higher than the second.
@@ -219,7 +251,7 @@ fn ends_first(from: &Edge, to: &Edge) -> bool
 }
 
 /// Adds the rows of each pair of the lists' lowest bands, and tells how many edges of each list have no
-/// further pairs: those of the band that ends first.
+/// further pairs: the first one where it lies below the other list, or else those of the band that ends first.
 fn add_bands(
     runs: &mut Vec<Run>,
     side: u8,
@@ -238,11 +270,15 @@ fn add_bands(
         Moves runs.old.items (IsPairOf side limits.now froms.now tos.now)
         runs.new.items (IsPairOf side limits.now (drop r.0 froms.now) (drop r.1 tos.now))) }
 {
+    if is_below(&froms[0], &tos[0]) {
+        return Ok((1, 0));
+    }
+    if is_below(&tos[0], &froms[0]) {
+        return Ok((0, 1));
+    }
     let band = band_length(froms);
     let other = band_length(tos);
-    if share_rows(&froms[0], &tos[0]) {
-        add_band_pairs(runs, side, &froms[..band], &tos[..other], limits)?;
-    }
+    add_band_pairs(runs, side, &froms[..band], &tos[..other], limits)?;
     if ends_first(&froms[0], &tos[0]) {
         Ok((band, 0))
     } else {
@@ -253,8 +289,8 @@ fn add_bands(
 /// Adds the rows of each pair of an edge of each list.
 ///
 /// The bands of both lists are gone through from below, by two pointers. In two bands with rows in
-/// common each edge of the first looks for the near ones of the second: a binary search and the pairs
-/// that it finds.
+/// common each edge of the first looks for the near ones of the second: a search from where that of the edge left of it
+/// ended, which is binary where it goes far, and the pairs that it finds.
 pub(crate) fn add_pairs(
     runs: &mut Vec<Run>,
     side: u8,

@@ -1,7 +1,8 @@
 use Rattle.std.proofs.Common.{◌≡◌, ℕ, ◌+◌, ◌<◌, ◌≤◌, ℤ, pos, ◌≤ℤ◌, ◌<ℤ◌, suc, List, [], ◌∷◌, ◌++◌, length, get_or, take, drop, ◌-◌, ◌⊎◌, inl, inr, subst, sym, ap, ◌∙◌, arith}
 use Rattle.std.specs.Prelude.{◌↔◌, All, AllPairs}
 use Rattle.std.proofs.lemmas.Int.{ints, clamps, by_lt_z}
-use Rattle.std.proofs.lemmas.List.{take_more, take_all, get_or_default}
+use Rattle.std.proofs.lemmas.List.{take_more, take_all, get_or_default, get_or-take, length-take}
+use Rattle.std.proofs.lemmas.Bool.{cases_lt}
 use Rattle.std.proofs.lemmas.List.Elements.{All-push, All-nil, All-weaker}
 use Rattle.std.proofs.lemmas.List.Quantifiers.{all_pairs_push}
 use Rattle.std.proofs.lemmas.List.Sorted.{IsPermutation-sym}
@@ -189,3 +190,30 @@ same_places-permutation xs ys m line at = (
   Held-permutation (λ r. HoldsPlace r line at) ys xs (IsPermutation-sym xs ys m),
   Held-permutation (λ r. HoldsPlace r line at) xs ys m,
 )
+
+-- runs each of which ends before the next, up to the place k: one more
+pub apart_more : (runs : List Run) (k : ℕ) → All IsFilled runs → 1 ≤ k → k < length runs
+    → AllPairs StandsBefore (take k runs)
+    → StandsBefore (get_or runs (k - 1) no_run) (get_or runs k no_run)
+    → AllPairs StandsBefore (take (k + 1) runs)
+apart_more runs k filled some within h next =
+    subst (λ (rs : List Run). AllPairs StandsBefore rs) (sym (take_more runs k no_run within))
+    (all_pairs_push StandsBefore (take k runs) (get_or runs k no_run) h near)
+  where
+    near : (m : ℕ) (d : Run) → m < length (take k runs)
+        → StandsBefore (get_or (take k runs) m d) (get_or runs k no_run)
+    near m d lt =
+        let long : length (take k runs) ≡ k = omega (arith, length-take k runs, within) in
+        let last : get_or (take k runs) (k - 1) d ≡ get_or runs (k - 1) no_run =
+        get_or-take k runs (k - 1) d (omega arith)
+        ∙ get_or_default runs (k - 1) d no_run (omega arith) in
+        elim (cases_lt m (k - 1)) [
+          | inl less ↦ StandsBefore-chain (get_or (take k runs) m d) (get_or runs (k - 1) no_run)
+              (get_or runs k no_run) (filled (k - 1) no_run (omega arith))
+              (subst (λ (r : Run). StandsBefore (get_or (take k runs) m d) r) last
+              (h m (k - 1) d less (omega arith))) next
+          | inr more ↦
+              let e : k - 1 ≡ m = omega arith in
+              subst (λ (r : Run). StandsBefore r (get_or runs k no_run))
+              (sym last ∙ ap (λ (n : ℕ). get_or (take k runs) n d) e) next
+        ]

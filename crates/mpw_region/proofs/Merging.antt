@@ -1,16 +1,16 @@
 -- How the columns of a band are joined: the intervals that are done and the last one hold what the boxes hold.
-use Rattle.std.proofs.Common.{◌≡◌, ℕ, ◌+◌, ◌<◌, ◌≤◌, ℤ, pos, ◌≤ℤ◌, ◌<ℤ◌, suc, List, [], ◌∷◌, ◌++◌, length, get_or, take, ◌⊎◌, inl, inr, subst, sym, ap, ◌∙◌, arith}
-use Rattle.std.specs.Prelude.{◌↔◌, All, AllPairs, Contains}
+use Rattle.std.proofs.Common.{◌≡◌, ℕ, ◌+◌, ◌<◌, ◌≤◌, ℤ, ◌≤ℤ◌, ◌<ℤ◌, suc, List, [], ◌∷◌, ◌++◌, length, get_or, take, ◌⊎◌, inl, inr, subst, ap, ◌∙◌, arith}
+use Rattle.std.specs.Prelude.{◌↔◌, All, AllPairs}
 use Rattle.std.proofs.lemmas.Int.{ints, clamps, by_lt_z}
-use Rattle.std.proofs.lemmas.List.{take_more, take_all, get_or_default}
-use Rattle.std.proofs.lemmas.List.Elements.{All-push, All-nil, All-weaker, Contains-push, Contains-push_cases}
+use Rattle.std.proofs.lemmas.List.{take_more, get_or_default}
+use Rattle.std.proofs.lemmas.List.Elements.{All-push, All-weaker}
 use Rattle.std.proofs.lemmas.List.Quantifiers.{all_pairs_push}
 use Rattle.mpw_geom.specs.declared.plane.Box2.{Box2}
 use Rattle.mpw_geom.specs.Plane.{HasArea}
 use Rattle.mpw_region.specs.declared.merge.Rows.{Rows}
 use Rattle.mpw_region.specs.Banded.{StandsInBands, AreBands}
 use Rattle.mpw_region.specs.Internal.Sweep.{BeginsLeft}
-use Rattle.mpw_region.specs.Internal.Swept.{HoldsSquare, IsCovered, HasColumn, IsInBand, interval_of, lengthened, AddsBand}
+use Rattle.mpw_region.specs.Internal.Swept.{HoldsSquare, IsCovered, IsInBand, interval_of, lengthened, AddsBand}
 use Rattle.mpw_region.proofs.Held.{Held-nil, Held-push_left, Held-push_new, Held-push_cases}
 
 pub record Merges (old out done : List Box2) (last : Box2) (rows : Rows) : Type 0 where

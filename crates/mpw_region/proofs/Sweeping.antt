@@ -1,25 +1,21 @@
 -- The bands of a sweep have the squares of the boxes.
-use Rattle.std.proofs.Common.{◌≡◌, ℕ, ◌+◌, ◌-◌, ◌<◌, ◌≤◌, ℤ, pos, negsuc, ◌≤ℤ◌, ◌<ℤ◌, List, [], length, get_or, map, max, ◌⊎◌, inl, inr, subst, sym, ap, ◌∙◌, arith}
+use Rattle.std.proofs.Common.{◌≡◌, ℤ, ◌≤ℤ◌, ◌<ℤ◌, List, [], drop, map, ◌⊎◌, inl, inr, subst, sym, ap, arith}
 use Rattle.std.specs.Prelude.{◌↔◌, All, AllPairs, Contains}
 use Rattle.std.specs.List.Sorted.{IsPermutation}
 use Rattle.std.proofs.lemmas.Int.{ints, by_lt_z}
-use Rattle.std.proofs.lemmas.Bool.{cases_lt}
-use Rattle.std.proofs.lemmas.List.Elements.{All-nil, All-weaker, All-contains}
-use Rattle.std.proofs.lemmas.List.Sorted.{All-permutation, Contains-permutation, IsPermutation-sym}
+use Rattle.std.proofs.lemmas.List.Elements.{All-nil, All-contains}
+use Rattle.std.proofs.lemmas.List.Sorted.{Contains-permutation, IsPermutation-sym}
 use Rattle.mpw_geom.specs.declared.plane.Box2.{Box2}
-use Rattle.mpw_geom.specs.Plane.{Square, HasArea}
-use Rattle.mpw_geom.proofs.Tests.{SquareIn, same_squares}
+use Rattle.mpw_geom.specs.Plane.{HasArea}
+use Rattle.mpw_geom.proofs.Tests.{same_squares}
 use Rattle.mpw_geom.proofs.Squares.{SquareInSome, any_has_square-same, any_has_square-map}
 use Rattle.mpw_region.specs.declared.merge.Rows.{Rows}
 use Rattle.mpw_region.specs.declared.sweep.Sweep.{Sweep}
 use Rattle.mpw_region.specs.Squares.{covers}
-use Rattle.mpw_region.specs.Banded.{AreBands}
 use Rattle.mpw_region.specs.Exchange.{exchanged_box}
-use Rattle.mpw_region.specs.Region.{AreColumnsOf}
-use Rattle.mpw_region.specs.Internal.Sweep.{HasRow, HoldsJust, IsSweep}
-use Rattle.mpw_region.specs.Internal.Swept.{HoldsSquare, IsCovered, IsInBand, HasNoBorderWithin, AddsBand, IsSweptTo}
+use Rattle.mpw_region.specs.Internal.Sweep.{HasRow, HoldsJust, BeginsLeft, IsSweep}
+use Rattle.mpw_region.specs.Internal.Swept.{HoldsSquare, IsCovered, IsInBand, HasNoBorderWithin, AddsBand, IsSweptTo, SweepsUp}
 use Rattle.mpw_region.proofs.Held.{Held-nil}
-use Rattle.mpw_region.proofs.Borders.{HasBorders, Rises, beside, first_row, last_row}
 
 -- ---- one band more
 
@@ -81,139 +77,83 @@ IsSweptTo-more boxes active out new rows up between just h added = record {
 
 -- ---- the whole sweep
 
--- the row at which the band before the border k begins
-abbrev pub row_before : List ℤ → ℕ → ℤ
-row_before rows k = get_or rows (k - 1) (pos 0)
+-- a step up to a row, and what it left of the sweep
+pub record StepsTo (old s : Sweep) (at : ℤ) : Type 0 where
+  pub sweep : IsSweep s
+  pub row : s.row ≡ at
+  pub boxes : s.boxes ≡ old.boxes
+  pub ahead : All (λ b. at <ℤ b.y0) (drop s.next old.boxes.items)
+  pub exact : HoldsJust old.boxes.items (λ b. HasRow b at) s.active.items
+  pub ordered : AllPairs BeginsLeft s.active.items
 
--- where a sweep begins: the least row that code has
-abbrev pub lowest : ℤ
-lowest = negsuc 9223372036854775807
-
-pub record SweepsUp (boxes out : List Box2) (rows : List ℤ) (sweep : Sweep) (k : ℕ) : Type 0 where
-  pub sweeps : IsSweep sweep
-  pub upwards : (sweep.row ≤ℤ row_before rows k) ⊎ (sweep.row ≡ lowest)
-  pub moved : IsPermutation boxes sweep.boxes.items
-  pub filled : All HasArea sweep.boxes.items
-  pub borders : All (HasBorders rows) sweep.boxes.items
-  pub swept : IsSweptTo sweep.boxes.items out (row_before rows k)
-  pub within : k ≤ max 1 (length rows)
-
-pub SweepsUp-start : (boxes : List Box2) (rows : List ℤ) (sweep : Sweep) → Rises rows
-    → All HasArea boxes → All (HasBorders rows) boxes → IsSweep sweep → sweep.row ≡ lowest
-    → IsPermutation boxes sweep.boxes.items → SweepsUp boxes [] rows sweep 1
-SweepsUp-start boxes rows sweep rises filled borders s low moved = record {
-  sweeps = s;
-  upwards = inr low;
-  moved = moved;
-  filled = All-permutation HasArea boxes sweep.boxes.items moved filled;
-  borders = there;
-  swept = record {
-    squares =
-        λ i j. (λ c. absurd (Held-nil (λ b. HoldsSquare b i j) c), λ p. absurd (below i j p.0 p.1));
-    banded = record { filled = All-nil HasArea; ordered = λ i j d l b. absurd (omega arith) };
-    below = All-nil (λ b. b.y1 ≤ℤ get_or rows 0 (pos 0));
-  };
-  within = omega arith;
+swept_up : (old s : Sweep) (out : List Box2) (at : ℤ) → StepsTo old s at
+    → All HasArea old.boxes.items → IsSweptTo old.boxes.items out at → SweepsUp s out
+swept_up old s out at h filled swept = record {
+  sweeps = h.sweep;
+  ahead = subst (λ (z : ℤ). All (λ b. z <ℤ b.y0) (drop s.next s.boxes.items)) row
+      (subst (λ (bs : List Box2). All (λ b. at <ℤ b.y0) (drop s.next bs)) items h.ahead);
+  exact = subst (λ (z : ℤ). HoldsJust s.boxes.items (λ b. HasRow b z) s.active.items) row
+      (subst (λ (bs : List Box2). HoldsJust bs (λ b. HasRow b at) s.active.items) items h.exact);
+  ordered = h.ordered;
+  filled = subst (λ (bs : List Box2). All HasArea bs) items filled;
+  swept = subst (λ (z : ℤ). IsSweptTo s.boxes.items out z) row
+      (subst (λ (bs : List Box2). IsSweptTo bs out at) items swept);
 }
   where
-    there : All (HasBorders rows) sweep.boxes.items
-    there = All-permutation (HasBorders rows) boxes sweep.boxes.items moved borders
+    row : at ≡ s.row
+    row = sym h.row
 
-    below : (i j : ℤ) → IsCovered sweep.boxes.items i j → j <ℤ get_or rows 0 (pos 0) → ⊥
+    items : old.boxes.items ≡ s.boxes.items
+    items = ap (λ v. v.items) (sym h.boxes)
+
+-- before the first band
+pub SweepsUp-start : (old s : Sweep) (at : ℤ) → StepsTo old s at → All HasArea old.boxes.items
+    → All (λ b. at ≤ℤ b.y0) old.boxes.items → SweepsUp s []
+SweepsUp-start old s at h filled least = swept_up old s [] at h filled (record {
+  squares =
+      λ i j. (λ c. absurd (Held-nil (λ b. HoldsSquare b i j) c), λ p. absurd (below i j p.0 p.1));
+  banded = record { filled = All-nil HasArea; ordered = λ i j d l b. absurd (omega arith) };
+  below = All-nil (λ b. b.y1 ≤ℤ at);
+})
+  where
+    below : (i j : ℤ) → IsCovered old.boxes.items i j → j <ℤ at → ⊥
     below i j c l =
-        let b = All-contains (HasBorders rows) sweep.boxes.items c.0 there c.1 in
-        let f = first_row rows c.0.y0 rises b.0 in
+        let f = All-contains (λ (b : Box2). at ≤ℤ b.y0) old.boxes.items c.0 least c.1 in
         omega (arith, ints, f, l, c.2.2)
 
--- between neighbours no box has a border
-pub no_border : (boxes : List Box2) (rows : List ℤ) (k : ℕ) (band : Rows) → Rises rows
-    → All (HasBorders rows) boxes → 1 ≤ k → k < length rows → band.y0 ≡ row_before rows k
-    → band.y1 ≡ get_or rows k (pos 0) → All (HasNoBorderWithin band) boxes
-no_border boxes rows k band rises borders l b e f =
-    All-weaker (HasBorders rows) (HasNoBorderWithin band)
-    (λ x p. (
-      at x.y0 (beside rows x.y0 k rises p.0 l b),
-      at x.y1 (beside rows x.y1 k rises p.1 l b),
-    )) boxes borders
-  where
-    at : (z : ℤ) → (z ≤ℤ get_or rows (k - 1) (pos 0)) ⊎ (get_or rows k (pos 0) ≤ℤ z)
-        → (z ≤ℤ band.y0) ⊎ (band.y1 ≤ℤ z)
-    at z (inl p) = inl (omega (arith, ints, e, p))
-    at z (inr p) = inr (omega (arith, ints, f, p))
-
-one_on : (rows : List ℤ) (k : ℕ) → 1 ≤ k → get_or rows k (pos 0) ≡ row_before rows (k + 1)
-one_on rows k l = ap (λ (m : ℕ). get_or rows m (pos 0)) (let e : k ≡ k + 1 - 1 = omega arith in e)
-
--- neighbours that are one row
-pub SweepsUp-skip : (boxes out : List Box2) (rows : List ℤ) (sweep : Sweep) (k : ℕ)
-    → SweepsUp boxes out rows sweep k → Rises rows → 1 ≤ k → k < length rows
-    → get_or rows k (pos 0) ≤ℤ row_before rows k → SweepsUp boxes out rows sweep (k + 1)
-SweepsUp-skip boxes out rows sweep k h rises l b flat = record {
-  sweeps = h.sweeps;
-  upwards = elim h.upwards [
-    | inl p ↦ inl
-        (subst (λ (z : ℤ). sweep.row ≤ℤ z) (same ∙ one_on rows k l) p)
-    | inr p ↦ inr p
-  ];
-  moved = h.moved;
-  filled = h.filled;
-  borders = h.borders;
-  swept = subst (λ (z : ℤ). IsSweptTo sweep.boxes.items out z) (same ∙ one_on rows k l) h.swept;
-  within = omega arith;
-}
-  where
-    same : row_before rows k ≡ get_or rows k (pos 0)
-    same = let r = rises (k - 1) k (pos 0) (omega arith) b in omega (arith, ints, flat, r)
-
 -- the next band
-pub SweepsUp-more : (boxes out new : List Box2) (rows : List ℤ) (sweep next : Sweep) (k : ℕ)
-    (band : Rows) → SweepsUp boxes out rows sweep k → 1 ≤ k → k < length rows
-    → band.y0 ≡ row_before rows k → band.y1 ≡ get_or rows k (pos 0) → band.y0 <ℤ band.y1
-    → IsSweep next → next.row ≡ band.y0 → next.boxes ≡ sweep.boxes
-    → IsSweptTo sweep.boxes.items new band.y1 → SweepsUp boxes new rows next (k + 1)
-SweepsUp-more boxes out new rows sweep next k band h l b e f up s row same swept = record {
-  sweeps = s;
-  upwards =
-      inl (subst (λ (z : ℤ). next.row ≤ℤ z) (f ∙ one_on rows k l) (omega (arith, ints, row, up)));
-  moved = subst (λ (v : List Box2). IsPermutation boxes v) items h.moved;
-  filled = subst (λ (v : List Box2). All HasArea v) items h.filled;
-  borders = subst (λ (v : List Box2). All (HasBorders rows) v) items h.borders;
-  swept = subst (λ (v : List Box2). IsSweptTo v new (row_before rows (k + 1))) items
-      (subst (λ (z : ℤ). IsSweptTo sweep.boxes.items new z) (f ∙ one_on rows k l) swept);
-  within = omega arith;
-}
-  where
-    items : sweep.boxes.items ≡ next.boxes.items
-    items = ap (λ v. v.items) (sym same)
+pub SweepsUp-more : (old s : Sweep) (out new : List Box2) (at : ℤ) → SweepsUp old out
+    → old.row <ℤ at → All (HasNoBorderWithin (record { y0 = old.row; y1 = at })) old.boxes.items
+    → AddsBand out new old.active.items (record { y0 = old.row; y1 = at }) → StepsTo old s at
+    → SweepsUp s new
+SweepsUp-more old s out new at up l between added h = swept_up old s new at h up.filled
+    (IsSweptTo-more old.boxes.items old.active.items out new (record { y0 = old.row; y1 = at }) l
+    between up.exact up.swept added)
 
--- at the last border
-pub SweepsUp-end : (boxes out : List Box2) (rows : List ℤ) (sweep : Sweep) (k : ℕ)
-    → SweepsUp boxes out rows sweep k → Rises rows → 1 ≤ k → length rows ≤ k → (i j : ℤ)
+-- where all boxes have ended
+pub SweepsUp-end : (boxes out : List Box2) (s : Sweep) → IsPermutation boxes s.boxes.items
+    → SweepsUp s out → All (λ b. b.y1 ≤ℤ s.row) s.boxes.items → (i j : ℤ)
     → IsCovered out i j ↔ IsCovered boxes i j
-SweepsUp-end boxes out rows sweep k h rises l e i j = (
-  λ c. moved ((h.swept.squares i j).0 c).0,
-  λ c. (h.swept.squares i j).1
+SweepsUp-end boxes out s m up ended i j = (
+  λ c. moved ((up.swept.squares i j).0 c).0,
+  λ c. (up.swept.squares i j).1
       (back c, below (back c)),
 )
   where
-    moved : IsCovered sweep.boxes.items i j → IsCovered boxes i j
+    moved : IsCovered s.boxes.items i j → IsCovered boxes i j
     moved c = (
       c.0,
-      Contains-permutation sweep.boxes.items boxes c.0
-          (IsPermutation-sym boxes sweep.boxes.items h.moved) c.1,
+      Contains-permutation s.boxes.items boxes c.0 (IsPermutation-sym boxes s.boxes.items m) c.1,
       c.2,
     )
 
-    back : IsCovered boxes i j → IsCovered sweep.boxes.items i j
-    back c = (c.0, Contains-permutation boxes sweep.boxes.items c.0 h.moved c.1, c.2)
+    back : IsCovered boxes i j → IsCovered s.boxes.items i j
+    back c = (c.0, Contains-permutation boxes s.boxes.items c.0 m c.1, c.2)
 
-    below : IsCovered sweep.boxes.items i j → j <ℤ row_before rows k
+    below : IsCovered s.boxes.items i j → j <ℤ s.row
     below c =
-        let b = All-contains (HasBorders rows) sweep.boxes.items c.0 h.borders c.1 in
-        elim (last_row rows c.0.y1 (k - 1) rises b.1 (omega arith)) [
-          | inl high ↦ omega (arith, ints, high, c.2.3)
-          | inr past ↦ absurd (let w = b.1 in omega (arith, past, w.1, h.within, l, e))
-        ]
+        let f = All-contains (λ (b : Box2). b.y1 ≤ℤ s.row) s.boxes.items c.0 ended c.1 in
+        omega (arith, ints, f, c.2.3)
 
 -- ---- coverage as a test
 

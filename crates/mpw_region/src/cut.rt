@@ -3,31 +3,19 @@
 //! Each border of a box is a row at which a band may begin or end. The sweep goes from one to the next,
 //! and in each band the columns of the boxes that have it are joined.
 //!
-//! For `n` boxes: two sorts of at most `2n`, and then, in each of fewer than `2n` bands, two passes over
-//! the boxes that have it and an order of those that begin with it. The result has at most a box for
+//! For `n` boxes: a sort of them, and then, in each of fewer than `2n` bands, a few passes over the boxes
+//! that have it and an order of those that begin with it. The result has at most a box for
 //! each that has a band. That is a few times `n` where boxes share few rows, and up to `n * n` where
 //! all share rows that all their borders cut: let a window have few boxes, since a band reaches across
 //! it.
 
-ghost use Rattle.std.specs.Prelude.{
-  ◌≡◌,
-  ◌≤ℤ◌,
-  ◌<ℤ◌,
-  ◌↔◌,
-  ℤ,
-  IfOk,
-  OnOk,
-  All,
-  AllPairs,
-  Contains,
-  MatchBool,
-  map,
-};
+ghost use Rattle.std.specs.Prelude.{◌≡◌, ◌<ℤ◌, ◌↔◌, [], ℤ, IfOk, OnOk, All, MatchBool, map};
+ghost use Rattle.std.specs.List.Sorted.{IsPermutation};
 ghost use Rattle.mpw_geom.specs.Plane.{Square, HasArea, any_has_square};
 ghost use Rattle.mpw_region.specs.Banded.{AreBands};
-ghost use Rattle.mpw_region.specs.Internal.Sweep.{HoldsJust, IsSweep};
+ghost use Rattle.mpw_region.specs.Internal.Sweep.{HoldsJust};
 ghost use Rattle.mpw_region.specs.Squares.{covers};
-ghost use Rattle.mpw_region.specs.Internal.Swept.{IsCovered, HasNoBorderWithin, IsSweptTo};
+ghost use Rattle.mpw_region.specs.Internal.Swept.{IsCovered, HasNoBorderWithin, SweepsUp};
 ghost use Rattle.mpw_region.specs.Exchange.{exchanged_box};
 
 use crate::merge::{Rows, add_band};
@@ -95,21 +83,6 @@ fn filled(alloc: Global, boxes: &[Box2]) -> Result<Vec<Box2>, AllocError>
     Ok(kept)
 }
 
-/// The rows at which boxes begin and end, from below.
-fn borders(alloc: Global, boxes: &[Box2]) -> Result<Vec<i64>, AllocError>
-    ensures ordered { IfOk result (λ v. AllPairs (λ a b. a ≤ℤ b) v.items) }
-    ensures all { IfOk result (λ v.
-        All (λ b. Contains v.items b.y0 × Contains v.items b.y1) boxes.now) }
-{
-    let mut rows = Vec::with_capacity(alloc, boxes.len().saturating_mul(2))?;
-    for b in boxes {
-        rows.push(b.y0)?;
-        rows.push(b.y1)?;
-    }
-    rows.sort_unstable();
-    Ok(rows)
-}
-
 /// The unit squares of the boxes as the boxes of bands, for a caller that looks along rows alone: the half
 /// of [`bands`], at half its cost.
 ///
@@ -120,45 +93,49 @@ pub fn row_bands(alloc: Global, boxes: &[Box2]) -> Result<Vec<Box2>, AllocError>
     ensures banded { IfOk result (λ v. AreBands v.items) }
 {
     let boxes = filled(alloc, boxes)?;
-    let rows = borders(alloc, boxes.as_slice())?;
-    sweep_up(alloc, boxes, rows.as_slice())
+    sweep_up(alloc, boxes)
 }
 
-/// Adds the band of the rows, between which no box has a border.
-fn add_next(out: &mut Vec<Box2>, sweep: &mut Sweep, band: Rows) -> Result<(), AllocError>
-    requires sweep { IsSweep sweep.old }
-    requires rows { band.y0 <ℤ band.y1 }
-    requires upwards { sweep.old.row ≤ℤ band.y0 }
-    requires filled { All HasArea sweep.old.boxes.items }
-    requires between { All (HasNoBorderWithin band) sweep.old.boxes.items }
-    requires swept { IsSweptTo sweep.old.boxes.items out.old.items band.y0 }
-    ensures sweep { OnOk result (IsSweep sweep.new) }
-    ensures row { OnOk result (sweep.new.row ≡ band.y0) }
+/// Adds the band from the sweep's row to the next border, and goes up to that.
+fn add_next(out: &mut Vec<Box2>, sweep: &mut Sweep, next: i64) -> Result<(), AllocError>
+    requires sweeps { SweepsUp sweep.old out.old.items }
+    requires up { sweep.old.row <ℤ next }
+    requires between { All (HasNoBorderWithin (record { y0 = sweep.old.row; y1 = next })) sweep.old.boxes.items }
+    ensures sweeps { OnOk result (SweepsUp sweep.new out.new.items) }
+    ensures row { OnOk result (sweep.new.row ≡ next) }
     ensures boxes { sweep.new.boxes ≡ sweep.old.boxes }
-    ensures swept { OnOk result (IsSweptTo sweep.old.boxes.items out.new.items band.y1) }
 {
-    sweep.step(band.y0)?;
-    add_band(out, sweep.active(), band)
+    let rows = Rows {
+        y0: sweep.row(),
+        y1: next,
+    };
+    add_band(out, sweep.active(), rows)?;
+    sweep.step(next)?;
+    Ok(())
 }
 
-/// The bands between neighbours of the rows, which are the borders of the boxes from below.
-fn sweep_up(alloc: Global, boxes: Vec<Box2>, rows: &[i64]) -> Result<Vec<Box2>, AllocError>
-    requires filled { All HasArea boxes.items }
-    requires ordered { AllPairs (λ a b. a ≤ℤ b) rows.now }
-    requires all { All (λ b. Contains rows.now b.y0 × Contains rows.now b.y1) boxes.items }
+/// A sweep of the boxes that has gone up to the lowest of their rows.
+fn begun(alloc: Global, boxes: Vec<Box2>) -> Result<Sweep, AllocError>
+    requires { All HasArea boxes.items }
+    ensures sweeps { IfOk result (λ s. SweepsUp s []) }
+    ensures moved { IfOk result (λ s. IsPermutation boxes.items s.boxes.items) }
+{
+    let mut sweep = Sweep::new(alloc, boxes)?;
+    let lowest = sweep.lowest();
+    sweep.step(lowest)?;
+    Ok(sweep)
+}
+
+/// The bands between the borders of the boxes.
+fn sweep_up(alloc: Global, boxes: Vec<Box2>) -> Result<Vec<Box2>, AllocError>
+    requires { All HasArea boxes.items }
     ensures squares { IfOk result (λ v. (i j : ℤ) → IsCovered v.items i j ↔ IsCovered boxes.items i j) }
     ensures banded { IfOk result (λ v. AreBands v.items) }
 {
-    let mut out = Vec::with_capacity(alloc, rows.len())?;
-    let mut sweep = Sweep::new(alloc, boxes)?;
-    for k in 1..rows.len() {
-        let band = Rows {
-            y0: rows[k - 1],
-            y1: rows[k],
-        };
-        if band.y0 < band.y1 {
-            add_next(&mut out, &mut sweep, band)?;
-        }
+    let mut out = Vec::with_capacity(alloc, boxes.len())?;
+    let mut sweep = begun(alloc, boxes)?;
+    while let Some(next) = sweep.next_border() {
+        add_next(&mut out, &mut sweep, next)?;
     }
     Ok(out)
 }

@@ -1,6 +1,6 @@
 //! Runs of whole numbers on lines, and how they are joined.
 
-ghost use Rattle.std.specs.Prelude.{◌≡◌, ◌↔◌, ◌≤ℤ◌, ◌<ℤ◌, ◌∷◌, ℤ, IfOk, All, MatchBool};
+ghost use Rattle.std.specs.Prelude.{◌≡◌, ◌↔◌, ◌≤ℤ◌, ◌<ℤ◌, ◌∷◌, ℤ, IfOk, IsTrue, All, MatchBool};
 ghost use Rattle.std.specs.List.Sorted.{IsPermutation};
 ghost use Rattle.mpw_region.specs.declared.runs.Line.{Line as LineValue};
 ghost use Rattle.mpw_region.specs.Runs.{CoversPlace, IsFilled, AreApart};
@@ -56,6 +56,20 @@ fn in_order(runs: Vec<Run>) -> Vec<Run>
     runs
 }
 
+/// Whether no run reaches the next one. One pass.
+fn are_apart(runs: &[Run]) -> bool
+    requires filled { All IsFilled runs.now }
+    requires ordered { AreInOrder runs.now }
+    ensures { IsTrue result → AreApart runs.now }
+{
+    for k in 1..runs.len() {
+        if runs[k - 1].reaches(&runs[k]) {
+            return false;
+        }
+    }
+    true
+}
+
 /// Joins ordered runs that overlap or touch on one line, beginning with `first`.
 fn join(alloc: Global, first: Run, rest: &[Run]) -> Result<Vec<Run>, AllocError>
     requires filled { All IsFilled (first ∷ rest.now) }
@@ -64,7 +78,7 @@ fn join(alloc: Global, first: Run, rest: &[Run]) -> Result<Vec<Run>, AllocError>
         CoversPlace v.items line at ↔ CoversPlace (first ∷ rest.now) line at) }
     ensures apart { IfOk result (λ v. AreApart v.items) }
 {
-    let mut joined = Vec::new(alloc);
+    let mut joined = Vec::with_capacity(alloc, rest.len().saturating_add(1))?;
     let mut last = first;
     for run in rest {
         if last.reaches(run) {
@@ -80,8 +94,8 @@ fn join(alloc: Global, first: Run, rest: &[Run]) -> Result<Vec<Run>, AllocError>
 
 /// The same places as the runs, by runs in order no two of which touch: on one line each ends
 /// before the next begins, with a gap. Runs are ordered by line (side, first, second), then by
-/// place. The cost is that of sorting the runs; the result stands in memory beside them, 40 bytes a
-/// run.
+/// place. The cost is that of sorting the runs; where some are joined the result stands in memory beside
+/// them, 40 bytes a run.
 pub fn joined(alloc: Global, runs: Vec<Run>) -> Result<Vec<Run>, AllocError>
     requires { All IsFilled runs.items }
     ensures places { IfOk result (λ v. (line : LineValue) (at : ℤ) →
@@ -89,6 +103,9 @@ pub fn joined(alloc: Global, runs: Vec<Run>) -> Result<Vec<Run>, AllocError>
     ensures apart { IfOk result (λ v. AreApart v.items) }
 {
     let runs = in_order(runs);
+    if are_apart(runs.as_slice()) {
+        return Ok(runs);
+    }
     match runs.as_slice() {
         [] => Ok(Vec::new(alloc)),
         [first, rest @ ..] => join(alloc, *first, rest),

@@ -17,14 +17,18 @@ ghost use Rattle.std.specs.Prelude.{
   All,
   AllPairs,
   Contains,
+  MatchOption,
   ◌↔◌,
   filter,
   length,
   take,
+  drop,
 };
 ghost use Rattle.std.specs.List.Sorted.{IsPermutation};
 ghost use Rattle.mpw_geom.specs.declared.plane.Box2.{Box2 as BoxValue};
-ghost use Rattle.mpw_region.specs.Internal.Sweep.{HasRow, HoldsJust, BeginsBelow, BeginsLeft, IsSweep};
+ghost use Rattle.mpw_geom.specs.Plane.{HasArea};
+ghost use Rattle.mpw_region.specs.Internal.Sweep.{HasRow, HoldsJust, BeginsBelow, BeginsLeft, IsLeastEnd, IsSweep};
+ghost use Rattle.mpw_region.specs.Internal.Swept.{HasNoBorderWithin};
 
 use mpw_geom::Box2;
 use std::alloc::{AllocError, Global};
@@ -79,6 +83,7 @@ fn take_in(
     requires active { HoldsJust (take next boxes.now) (λ b. row <ℤ b.y1) active.old.items }
     ensures within { IfOk result (λ n. n ≤ length boxes.now) }
     ensures begun { IfOk result (λ n. All (λ b. b.y0 ≤ℤ row) (take n boxes.now)) }
+    ensures ahead { IfOk result (λ n. All (λ b. row <ℤ b.y0) (drop n boxes.now)) }
     ensures active { IfOk result (λ n.
         HoldsJust (take n boxes.now) (λ b. row <ℤ b.y1) active.new.items) }
     ensures exact { OnOk result (HoldsJust boxes.now (λ b. HasRow b row) active.new.items) }
@@ -93,6 +98,17 @@ fn take_in(
         }
     }
     Ok(boxes.len())
+}
+
+/// The least of the row and the rows at which the boxes end.
+fn least_end(boxes: &[Box2], row: i64) -> i64
+    ensures { IsLeastEnd boxes.now row result }
+{
+    let mut least = row;
+    for b in boxes {
+        least = least.min(b.y1);
+    }
+    least
 }
 
 impl Sweep {
@@ -125,6 +141,7 @@ impl Sweep {
         ensures sweep { OnOk result (IsSweep self.new) }
         ensures row { OnOk result (self.new.row ≡ row) }
         ensures boxes { self.new.boxes ≡ self.old.boxes }
+        ensures ahead { OnOk result (All (λ b. row <ℤ b.y0) (drop self.new.next self.old.boxes.items)) }
         ensures exact { OnOk result
             (HoldsJust self.old.boxes.items (λ b. HasRow b row) self.new.active.items) }
         ensures ordered { OnOk result (AllPairs BeginsLeft self.new.active.items) }
@@ -135,6 +152,45 @@ impl Sweep {
         self.next = next;
         self.row = row;
         Ok(())
+    }
+
+    /// The row of the last step.
+    pub(crate) fn row(&self) -> i64
+        ensures { result ≡ self.now.row }
+    {
+        self.row
+    }
+
+    /// A row from which on boxes begin: the lowest of theirs, where there are any.
+    pub(crate) fn lowest(&self) -> i64
+        requires { IsSweep self.now }
+        ensures row { i64.MIN ≤ℤ result }
+        ensures least { All (λ b. result ≤ℤ b.y0) self.now.boxes.items }
+    {
+        match self.boxes.as_slice() {
+            [] => self.row,
+            [first, ..] => first.y0,
+        }
+    }
+
+    /// The next row at which a box begins or ends, unless all have ended. One pass over the boxes that have the row of the
+    /// last step.
+    pub(crate) fn next_border(&self) -> Option<i64>
+        requires sweep { IsSweep self.now }
+        requires ahead { All (λ b. self.now.row <ℤ b.y0) (drop self.now.next self.now.boxes.items) }
+        requires filled { All HasArea self.now.boxes.items }
+        ensures { MatchOption result (All (λ b. b.y1 ≤ℤ self.now.row) self.now.boxes.items)
+            (λ next. (self.now.row <ℤ next)
+            × All (HasNoBorderWithin (record { y0 = self.now.row; y1 = next })) self.now.boxes.items) }
+    {
+        let active = self.active.as_slice();
+        if self.next < self.boxes.len() {
+            return Some(least_end(active, self.boxes[self.next].y0));
+        }
+        match active {
+            [] => None,
+            [first, ..] => Some(least_end(active, first.y1)),
+        }
     }
 
     /// The boxes that have the row of the last step.

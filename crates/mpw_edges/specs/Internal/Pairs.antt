@@ -5,8 +5,13 @@ use Rattle.mpw_geom.specs.declared.plane.Box2.{Box2}
 use Rattle.mpw_region.specs.declared.runs.Line.{Line}
 use Rattle.mpw_region.specs.declared.runs.Run.{Run}
 use Rattle.mpw_region.specs.Runs.{CoversPlace, IsFilled}
+use Rattle.mpw_edges.specs.declared.edges.End.{End}
+use Rattle.mpw_edges.specs.declared.edges.End.TheVariants.{Rise, Fall}
+use Rattle.mpw_edges.specs.declared.edges.Ends.{Ends}
 use Rattle.mpw_edges.specs.declared.pair.Edge.{Edge}
 use Rattle.mpw_edges.specs.declared.pair.Limits.{Limits}
+use Rattle.mpw_edges.specs.Edges.{Squares, IsRise, IsFall}
+use Rattle.mpw_edges.specs.Pieces.{IsInCore}
 
 -- the edge runs through the row
 abbrev pub IsInRow : Edge → ℤ → Type 0
@@ -43,6 +48,34 @@ rise_of b = record { x = b.x0; y0 = b.y0; y1 = b.y1 }
 
 abbrev pub fall_of : Box2 → Edge
 fall_of b = record { x = b.x1; y0 = b.y0; y1 = b.y1 }
+
+abbrev pub edge_of : End → Box2 → Edge
+edge_of Rise = rise_of
+edge_of Fall = fall_of
+
+-- the squares have an edge of that kind at x in row j
+abbrev pub IsEdgeAt : End → Squares → ℤ → ℤ → Type 0
+IsEdgeAt Rise squares = IsRise squares
+IsEdgeAt Fall squares = IsFall squares
+
+-- the edges that a separation and an enclosing pair
+abbrev pub separation_ends : Ends
+separation_ends =
+    record { forth_from = Fall; forth_to = Rise; back_from = Fall; back_to = Rise }
+
+abbrev pub enclosing_ends : Ends
+enclosing_ends =
+    record { forth_from = Rise; forth_to = Rise; back_from = Fall; back_to = Fall }
+
+-- an edge of one layer and one of the other at it or later, nearer than the distance, in the core: on side 0 forth, on side 1 back
+abbrev pub IsBetween : Ends → Squares → Squares → ℕ → Box2 → Line → ℤ → Type 0
+IsBetween ends a b distance core line j =
+    (((line.first ≤ℤ line.second)
+    × (((line.side ≡ 0) × IsEdgeAt ends.forth_from a line.first j
+    × IsEdgeAt ends.forth_to b line.second j)
+    ⊎ ((line.side ≡ 1) × IsEdgeAt ends.back_from b line.first j
+    × IsEdgeAt ends.back_to a line.second j)))
+    × ((line.second -ℤ line.first) <ℤ pos distance)) × IsInCore core line.first j
 
 -- the two edges of a box of the list
 abbrev pub IsWidthOf : Limits → List Box2 → Line → ℤ → Type 0

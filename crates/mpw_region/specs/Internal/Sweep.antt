@@ -1,7 +1,6 @@
 -- The sweep: the boxes that have a row, as it goes up from border to border.
-use Rattle.std.specs.Prelude.{◌≡◌, ℤ, ◌≤ℤ◌, ◌<ℤ◌, ◌≤◌, List, All, AllPairs, Contains, take, length}
+use Rattle.std.specs.Prelude.{ℤ, ◌≤ℤ◌, ◌<ℤ◌, ◌≤◌, List, All, AllPairs, Contains, take, length}
 use Rattle.mpw_geom.specs.declared.plane.Box2.{Box2}
-use Rattle.mpw_geom.specs.Plane.{HasArea}
 use Rattle.mpw_region.specs.declared.sweep.Sweep.{Sweep}
 
 -- the box has the row
@@ -19,6 +18,12 @@ BeginsBelow a b = a.y0 ≤ℤ b.y0
 
 abbrev pub BeginsLeft : Box2 → Box2 → Type 0
 BeginsLeft a b = a.x0 ≤ℤ b.x0
+
+-- the least of the row and the rows at which the boxes end
+pub record IsLeastEnd (boxes : List Box2) (row least : ℤ) : Type 0 where
+  pub most : least ≤ℤ row
+  pub ends : All (λ b. least ≤ℤ b.y1) boxes
+  pub above : (low : ℤ) → low <ℤ row → All (λ b. low <ℤ b.y1) boxes → low <ℤ least
 
 -- the boxes stand in the order of their lowest rows; of those that the sweep has come to, it holds the ones that end above its row
 pub record IsSweep (s : Sweep) : Type 0 where

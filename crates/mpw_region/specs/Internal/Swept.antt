@@ -1,9 +1,12 @@
 -- What the bands below a row have.
-use Rattle.std.specs.Prelude.{◌≡◌, ℤ, ◌≤ℤ◌, ◌<ℤ◌, List, All, Contains, ◌⊎◌, ◌↔◌}
+use Rattle.std.specs.Prelude.{ℤ, ◌≤ℤ◌, ◌<ℤ◌, List, All, AllPairs, Contains, drop, ◌⊎◌, ◌↔◌}
 use Rattle.std.specs.Int.{int_max}
 use Rattle.mpw_geom.specs.declared.plane.Box2.{Box2}
+use Rattle.mpw_geom.specs.Plane.{HasArea}
 use Rattle.mpw_region.specs.declared.merge.Rows.{Rows}
+use Rattle.mpw_region.specs.declared.sweep.Sweep.{Sweep}
 use Rattle.mpw_region.specs.Banded.{AreBands}
+use Rattle.mpw_region.specs.Internal.Sweep.{HasRow, HoldsJust, BeginsLeft, IsSweep}
 
 -- the box has the square in column i and row j
 abbrev pub HoldsSquare : Box2 → ℤ → ℤ → Type 0
@@ -45,3 +48,12 @@ pub record IsSweptTo (boxes out : List Box2) (row : ℤ) : Type 0 where
   pub squares : (i j : ℤ) → IsCovered out i j ↔ (IsCovered boxes i j × (j <ℤ row))
   pub banded : AreBands out
   pub below : All (λ b. b.y1 ≤ℤ row) out
+
+-- A sweep that has come to all borders up to its row, and bands that have just the squares below it.
+pub record SweepsUp (s : Sweep) (out : List Box2) : Type 0 where
+  pub sweeps : IsSweep s
+  pub ahead : All (λ b. s.row <ℤ b.y0) (drop s.next s.boxes.items)
+  pub exact : HoldsJust s.boxes.items (λ b. HasRow b s.row) s.active.items
+  pub ordered : AllPairs BeginsLeft s.active.items
+  pub filled : All HasArea s.boxes.items
+  pub swept : IsSweptTo s.boxes.items out s.row

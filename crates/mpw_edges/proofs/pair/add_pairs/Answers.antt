@@ -2,7 +2,7 @@ use Rattle.std.proofs.Common.{inl, inr, arith, length-drop}
 use Rattle.std.proofs.lemmas.List.{take_rest, length-take}
 use Rattle.mpw_edges.specs.declared.pair.Edge.{Edge}
 use Rattle.mpw_edges.specs.Internal.Pairs.{IsPairOf}
-use Rattle.mpw_edges.proofs.Pairing.{Moves-start, Moves-on, Moves-all}
+use Rattle.mpw_edges.proofs.Pairing.{Moves-on, Moves-all}
 use Rattle.mpw_edges.proofs.pair.add_pairs.Goals as goal
 
 pub returns-then-j-tos : goal.returns-then-j-tos

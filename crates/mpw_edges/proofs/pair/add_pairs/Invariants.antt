@@ -1,4 +1,4 @@
-use Rattle.std.proofs.Common.{ℕ, ◌+◌, ◌-◌, ◌≤◌, length, drop}
+use Rattle.std.proofs.Common.{◌+◌, ◌-◌, ◌≤◌, length, drop}
 use Rattle.mpw_edges.specs.Internal.Pairs.{IsPairOf, Moves}
 use Rattle.mpw_edges.proofs.pair.add_pairs.Given as goal
 

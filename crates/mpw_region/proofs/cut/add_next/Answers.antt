@@ -1,15 +1,12 @@
-use Rattle.std.proofs.Common.{◌≡◌, ℤ, ◌<ℤ◌, List, get_or, subst, sym, ap, rules, w64}
+use Rattle.std.proofs.Common.{◌<ℤ◌, List, get_or, rules, w64}
 use mir.Val.{SFits}
-use Rattle.std.specs.Prelude.{All, Contains}
+use Rattle.std.specs.Prelude.{All}
 use Rattle.std.proofs.lemmas.Int.{to_z-of_z}
-use Rattle.std.proofs.lemmas.Result.{on_ok_weaker}
 use Rattle.std.proofs.lemmas.List.Elements.{All-contains, Contains-get_or}
 use Rattle.mpw_geom.specs.declared.plane.Box2.{Box2}
 use Rattle.mpw_geom.specs.Plane.{HasArea}
-use Rattle.mpw_region.specs.declared.merge.Rows.{Rows}
-use Rattle.mpw_region.specs.Internal.Sweep.{HasRow, HoldsJust}
-use Rattle.mpw_region.specs.Internal.Swept.{AddsBand}
-use Rattle.mpw_region.proofs.Sweeping.{IsSweptTo-more}
+use Rattle.mpw_region.specs.Internal.Sweep.{HoldsJust}
+use Rattle.mpw_region.proofs.Sweeping.{SweepsUp-more}
 use Rattle.mpw_region.proofs.cut.add_next.Goals as goal
 
 -- the boxes that a sweep holds have area
@@ -21,17 +18,22 @@ wide boxes active P filled just k d l = let a : HasArea (get_or active k d) =
 
 pub add_band-requires-clause-filled : goal.add_band-requires-clause-filled
 add_band-requires-clause-filled c =
-    rw c.active.ensures (wide c.args.sweep.now.boxes.items c.step.new.self.active.items _
-    c.requires.filled c.in_ok-step.ensures.exact)
+    rw c.active.ensures (wide c.args.sweep.now.boxes.items c.args.sweep.now.active.items _
+    c.requires.sweeps.filled c.requires.sweeps.exact)
 
-pub returns-clause-swept : goal.returns-clause-swept
-returns-clause-swept c =
-    let fits : SFits w64 c.args.band.y0 = search rules in
-    let exact = rw (to_z-of_z w64 c.args.band.y0 fits) at c.in_ok-step.ensures.exact in
-    on_ok_weaker c.add_band.result
-    (λ h. IsSweptTo-more c.args.sweep.now.boxes.items c.step.new.self.active.items
-    c.args.out.now.items c.add_band.new.out.items c.args.band c.requires.rows c.requires.between
-    exact c.requires.swept
-    (subst (λ (bs : List Box2). AddsBand c.args.out.now.items c.add_band.new.out.items bs
-    c.args.band) c.active.ensures h))
-    c.add_band.ensures
+pub returns-clause-sweeps : goal.returns-clause-sweeps
+returns-clause-sweeps c =
+    let old = c.args.sweep.now in
+    let next_is = to_z-of_z w64 c.args.next c.ranges.next in
+    let row_fits : SFits w64 c.row.result = search rules in
+    let row_is = to_z-of_z w64 c.row.result row_fits in
+    let added = rw (next_is, row_is, c.row.ensures, c.active.ensures) at c.in_ok-add_band.ensures in
+    SweepsUp-more old c.step.new.self c.args.out.now.items c.add_band.new.out.items c.args.next
+    c.requires.sweeps c.requires.up c.requires.between added (record {
+      sweep = c.in_ok-step.ensures.sweep;
+      row = rw next_is at c.in_ok-step.ensures.row;
+      boxes = c.in_ok-step.ensures.boxes;
+      ahead = rw next_is at c.in_ok-step.ensures.ahead;
+      exact = rw next_is at c.in_ok-step.ensures.exact;
+      ordered = c.in_ok-step.ensures.ordered;
+    })

@@ -1,6 +1,4 @@
-use Rattle.std.proofs.Common.{◌≡◌, List, [], get_or, arith}
 use Rattle.std.proofs.lemmas.Bool.Decides.{when_true, when_false}
-use Rattle.mpw_geom.specs.declared.plane.Box2.{Box2}
 use Rattle.mpw_geom.specs.Plane.{HasArea}
 use Rattle.mpw_geom.proofs.Squares.{no_box}
 use Rattle.mpw_region.proofs.Active.{HoldsJust-none, HoldsJust-push, HoldsJust-skip, HoldsJust-all}

@@ -1,11 +1,9 @@
 use Rattle.std.proofs.Common.{◌≡◌, ◌-◌, ◌≤◌, List, [], ◌∷◌, length, get_or, take, drop, suc, subst, sym, ap, arith}
-use Rattle.std.specs.Prelude.{AllPairs, All, OnOk}
-use Rattle.std.proofs.lemmas.List.{take_all, nil_from_length}
+use Rattle.std.specs.Prelude.{AllPairs}
+use Rattle.std.proofs.lemmas.List.{take_all}
 use Rattle.mpw_geom.specs.declared.plane.Box2.{Box2}
 use Rattle.mpw_geom.proofs.Squares.{no_box}
 use Rattle.mpw_region.specs.Internal.Sweep.{BeginsLeft}
-use Rattle.mpw_region.specs.Internal.Swept.{AddsBand}
-use Rattle.mpw_region.proofs.Merging.{AddsBand-none}
 use Rattle.mpw_region.proofs.merge.add_band.Goals as goal
 
 -- the first element and the rest, as a slice pattern gives them

@@ -1,10 +1,10 @@
-use Rattle.std.proofs.Common.{◌≡◌, ℤ, ◌<ℤ◌, List, [], ◌∷◌, ◌++◌, suc, get_or, subst, take, arith}
+use Rattle.std.proofs.Common.{List, [], ◌∷◌, ◌++◌, suc, get_or, subst, take, arith}
 use Rattle.std.proofs.lemmas.Bool.Decides.{when_true, when_false}
 use Rattle.std.proofs.lemmas.List.{take_all}
 use Rattle.mpw_geom.specs.declared.plane.Box2.{Box2}
 use Rattle.mpw_geom.proofs.Squares.{no_box}
 use Rattle.mpw_region.specs.Internal.Swept.{AddsBand}
-use Rattle.mpw_region.proofs.Merging.{Merges, Merges-start, Merges-longer, Merges-push, Merges-end, before_start, before_next, done_more}
+use Rattle.mpw_region.proofs.Merging.{Merges-start, Merges-longer, Merges-push, Merges-end, before_start, before_next, done_more}
 use Rattle.mpw_region.proofs.merge.add_intervals.Goals as goal
 use Rattle.mpw_region.proofs.merge.add_intervals.Goals.{then-reaches, else-reaches+in_ok-push}
 

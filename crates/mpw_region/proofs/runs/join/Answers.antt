@@ -8,7 +8,7 @@ use Rattle.mpw_region.proofs.runs.join.Goals.{then-reaches, else-reaches+in_ok-p
 
 pub loop-run-init : goal.loop-run-init
 loop-run-init c = record {
-  joins = rw c.new-joined.ensures.items
+  joins = rw c.in_ok-joined.ensures.items
       (Joins-start c.args.first (c.requires.filled 0 no_run (omega arith)));
   begins = begins_start c.args.first c.args.rest.now c.requires.ordered;
 }

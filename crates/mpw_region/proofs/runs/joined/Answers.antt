@@ -17,25 +17,35 @@ returns-in-empty-clause-places c = λ line at.
     same_places-permutation c.args.runs.items c.in_order-runs.result.items moved line at in
     rw c.new.ensures.items (rw empty at same)
 
+pub are_apart-requires-clause-filled : goal.are_apart-requires-clause-filled
+are_apart-requires-clause-filled c =
+    subst (λ (zs : List Run). All IsFilled zs) (sym c.as_slice.ensures.value)
+    (All-permutation IsFilled c.args.runs.items c.in_order-runs.result.items
+    c.in_order-runs.ensures.moved c.requires)
+
+pub returns-then-are_apart-clause-places : goal.returns-then-are_apart-clause-places
+returns-then-are_apart-clause-places c = same_places-permutation c.args.runs.items
+    c.in_order-runs.result.items c.in_order-runs.ensures.moved
+
 pub join-requires-clause-filled : goal.join-requires-clause-filled
 join-requires-clause-filled c =
     subst (λ (zs : List Run). All IsFilled zs)
-    (sym (first_and_rest c.as_slice.result.now no_run c.in-len1-up.len_at_least
-    ∙ c.as_slice.ensures.value))
+    (sym (first_and_rest c.as_slice-2.result.now no_run c.in-len1-up.len_at_least
+    ∙ c.as_slice-2.ensures.value))
     (All-permutation IsFilled c.args.runs.items c.in_order-runs.result.items
     c.in_order-runs.ensures.moved c.requires)
 
 pub join-requires-clause-ordered : goal.join-requires-clause-ordered
 join-requires-clause-ordered c =
     subst (λ (zs : List Run). AreInOrder zs)
-    (sym (first_and_rest c.as_slice.result.now no_run c.in-len1-up.len_at_least
-    ∙ c.as_slice.ensures.value))
+    (sym (first_and_rest c.as_slice-2.result.now no_run c.in-len1-up.len_at_least
+    ∙ c.as_slice-2.ensures.value))
     c.in_order-runs.ensures.ordered
 
 pub returns-clause-places : goal.returns-clause-places
 returns-clause-places c =
-    let e = first_and_rest c.as_slice.result.now no_run c.in-len1-up.len_at_least
-    ∙ c.as_slice.ensures.value in
+    let e = first_and_rest c.as_slice-2.result.now no_run c.in-len1-up.len_at_least
+    ∙ c.as_slice-2.ensures.value in
     let same = same_places-permutation c.args.runs.items c.in_order-runs.result.items
     c.in_order-runs.ensures.moved in
     IfOk-weaker c.join.result _ _

@@ -1,7 +1,6 @@
 use Rattle.std.proofs.Common.{rules, w64}
 use Rattle.std.specs.Prelude.{int_lt}
 use mir.Val.{SFits}
-use Rattle.std.proofs.lemmas.Int.{to_z-of_z}
 use Rattle.std.proofs.lemmas.Fn.{filter_same}
 use Rattle.mpw_region.proofs.sweep.drop_ended.Goals as goal
 

@@ -1,13 +1,14 @@
-use Rattle.std.proofs.Common.{◌≡◌, ℕ, ℤ, ◌≤ℤ◌, ◌<ℤ◌, length, get_or, subst, arith, rules, w64}
+use Rattle.std.proofs.Common.{◌≡◌, ℕ, ◌≤ℤ◌, ◌<ℤ◌, length, get_or, subst, arith, rules, w64}
 use mir.Val.{SFits}
-use Rattle.std.specs.Prelude.{All, take}
+use Rattle.std.specs.Prelude.{take}
 use Rattle.std.proofs.lemmas.Int.{ints, to_z-of_z}
 use Rattle.std.proofs.lemmas.List.Elements.{All-more}
 use Rattle.mpw_geom.specs.declared.plane.Box2.{Box2}
 use Rattle.mpw_geom.proofs.Tests.{lt_from_test}
 use Rattle.mpw_geom.proofs.Squares.{no_box}
 use Rattle.mpw_region.specs.Internal.Sweep.{HoldsJust}
-use Rattle.mpw_region.proofs.Active.{HoldsJust-push, HoldsJust-skip, HoldsJust-row, HoldsJust-all, ahead, le_from_not_lt}
+use Rattle.mpw_region.proofs.Active.{HoldsJust-push, HoldsJust-skip, HoldsJust-row, ahead, le_from_not_lt}
+use Rattle.mpw_region.proofs.Borders.{all_ahead}
 use Rattle.mpw_region.proofs.sweep.take_in.Goals as goal
 use Rattle.mpw_region.proofs.sweep.take_in.Goals.{then-row-b-2+in_ok-push, else-row-b-2}
 
@@ -22,6 +23,14 @@ returns-then-row-b-clause-exact c =
     let begun = rw row_is at c.loop-n.invariant.begun in
     HoldsJust-row c.args.boxes.now c.loop-n.active.items c.args.row c.loop-n.n active begun
     (λ k d l g. ahead c.args.boxes.now c.args.row c.loop-n.n k d c.requires.ordered l g above)
+
+pub returns-then-row-b-clause-ahead : goal.returns-then-row-b-clause-ahead
+returns-then-row-b-clause-ahead c =
+    let b : Box2 = get_or c.args.boxes.now c.loop-n.n no_box in
+    let fits : SFits w64 b.y0 = search rules in
+    all_ahead c.args.boxes.now c.args.row c.loop-n.n c.requires.ordered c.loop-n-test.true
+    (lt_from_test c.args.row b.y0
+    (rw (to_z-of_z w64 c.args.row c.ranges.row, to_z-of_z w64 b.y0 fits) at c.if-row-b.true))
 
 pub loop-n-preserved : goal.loop-n-preserved
 loop-n-preserved c =

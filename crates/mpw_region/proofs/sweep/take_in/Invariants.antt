@@ -1,4 +1,4 @@
-use Rattle.std.proofs.Common.{take, ◌≤ℤ◌, ◌<ℤ◌, ◌≤◌, length}
+use Rattle.std.proofs.Common.{take, ◌≤ℤ◌, ◌<ℤ◌}
 use Rattle.std.specs.Prelude.{All}
 use Rattle.mpw_region.specs.Internal.Sweep.{HoldsJust}
 use Rattle.mpw_region.proofs.sweep.take_in.Given as goal

@@ -1,4 +1,4 @@
-use Rattle.std.proofs.Common.{◌≡◌, ℤ, ◌≤ℤ◌, ◌<ℤ◌, ◌≤◌, List, length, subst, sym, ap, w64}
+use Rattle.std.proofs.Common.{◌≤ℤ◌, ◌<ℤ◌, ◌≤◌, List, length, subst, w64}
 use Rattle.std.specs.Prelude.{All, take}
 use mir.Val.{to_z, of_z}
 use Rattle.std.proofs.lemmas.Int.{to_z-of_z}
