@@ -24,7 +24,7 @@ use Rattle.mpw_hier.specs.Items.{shown_items}
 use Rattle.mpw_hier.specs.Nodes.{IsTarget, IsNode, AreChildren, shape_places, structure_levels}
 use Rattle.mpw_hier.specs.Sizes.{IsExtentNear, IsSizeOf}
 use Rattle.mpw_hier.specs.Internal.Sizes.{IsExtentFar}
-use Rattle.mpw_hier.specs.Internal.Building.{number_at, IsSizeHere, AreLinked, IsKnown, own, outer, AreKnown, AreSizesHere, IsFarHere}
+use Rattle.mpw_hier.specs.Internal.Building.{IsPlace, number_at, IsSizeHere, AreLinked, IsKnown, own, outer, AreKnown, AreSizesHere, IsFarHere}
 use Rattle.mpw_hier.specs.Values.{structure_items, flats, heights, shown_height}
 use Rattle.mpw_hier.proofs.Unfolding.{IsLow, outside, low_upto, unfolds, items_by_targets, heights_by_targets}
 use Rattle.mpw_hier.proofs.Unfolding as low
@@ -72,20 +72,30 @@ last_get xs x =
     slice_get-get_or (xs ++ x ∷ []) (length xs) x here
     ∙ ap (λ y. Some y) (get_or-append_seam xs x [] x)
 
--- what stands at a place of a library
-pub place_read : (library read : List Structure) (place : ℕ) (p t : Structure) → read ≡ library
-    → slice_get library place ≡ Some p → t ≡ get_or read place t → slice_get library place ≡ Some t
-place_read library read place p t same is at =
-    slice_get_read library (length library) place t refl (slice_get_within library place p is)
-    (subst (λ (xs : List Structure). t ≡ get_or xs place t) same at)
+-- what stands at a place of a library, as the code has read it
+pub record StandsAt (library : List Structure) (place : ℕ) (structure : Structure) : Type 0 where
+  pub is : slice_get library place ≡ Some structure
+  pub named : place_of library structure.name ≡ Some place
 
-pub place_named : (library : List Structure) (place : ℕ) (p t : Structure)
-    → slice_get library place ≡ Some p → place_of library p.name ≡ Some place
-    → slice_get library place ≡ Some t → place_of library t.name ≡ Some place
-place_named library place p t is named at =
-    let both : Some p ≡ Some t = sym is ∙ at in
-    let same : p ≡ t = cc in
-    subst (λ (x : Structure). place_of library x.name ≡ Some place) same named
+pub stands : {library read : List Structure} {place : ℕ} {t : Structure} → IsPlace library place
+    → read ≡ library → t ≡ get_or read place t → StandsAt library place t
+stands {library = library} {place = place} {t = t} p same at =
+    let is = slice_get_read library (length library) place t refl
+    (slice_get_within library place p.structure p.is)
+    (subst (λ (xs : List Structure). t ≡ get_or xs place t) same at) in
+    let both : Some p.structure ≡ Some t = sym p.is ∙ is in
+    let one : p.structure ≡ t = cc in record {
+      is = is;
+      named = subst (λ (x : Structure). place_of library x.name ≡ Some place) one p.named;
+    }
+
+-- the sizes that were told of the elements
+pub told_sizes : (ss : List Submission) (s : Submission) {es read : List Element}
+    {below sizes : List Size} → read ≡ es → sizes ≡ below → AreSizesHere ss s read below
+    → AreSizesHere ss s es sizes
+told_sizes ss s {es = es} {below = below} same given h =
+    subst (λ sizes. AreSizesHere ss s es sizes) (sym given)
+    (subst (λ (es : List Element). AreSizesHere ss s es below) same h)
 
 -- no structure has a node
 pub none_known : (n place k : ℕ) → number_at (replicate n None) place ≡ Some k → ⊥
@@ -95,8 +105,8 @@ none_known (suc n) (suc place) k e = none_known n place k e
 
 -- ---- a structure whose targets are known
 
-module _ (ss : List Submission) (s : Submission) (table : BTreeMap (List ℕ) ℕ)
-    (numbers : List (Option ℕ)) (nodes : List Node) (w : AreLinked ss s table numbers nodes) where
+module _ {ss : List Submission} {s : Submission} {table : BTreeMap (List ℕ) ℕ}
+    {numbers : List (Option ℕ)} {nodes : List Node} (w : AreLinked ss s table numbers nodes) where
   known_low : (name : List ℕ) → IsKnown ss s numbers name → IsLow s.library (length nodes) name
   known_low name (outer n h) = outside (ap (structure_at s.library) h.outside)
   known_low name (own h) =
@@ -124,21 +134,20 @@ module _ (ss : List Submission) (s : Submission) (table : BTreeMap (List ℕ) �
         h.place h.number h.named h.at,
   )
 
-  module _ (place : ℕ) (structure : Structure) (is : slice_get s.library place ≡ Some structure)
-      (named : place_of s.library structure.name ≡ Some place)
+  module _ {place : ℕ} {structure : Structure} (here : StandsAt s.library place structure)
       (known : AreKnown ss s numbers structure.elements)
       (few : length nodes < length s.library) where
     pub added_items : structure_items (flats ss) s structure.name ≡ shown_items (length (flats ss))
         structure (structure_items (flats ss) s)
     added_items = unfolds (shown_items (length (flats ss))) [] _ s.library
         (items_by_targets (length (flats ss))) (length nodes) structure.name structure
-        (named_at s.library structure.name place structure named is)
+        (named_at s.library structure.name place structure here.named here.is)
         (λ name c. known_low name (known name c)) (omega (arith, few))
 
     pub added_levels : structure_levels (heights ss) s structure.name ≡ shown_height structure
         (structure_levels (heights ss) s)
     added_levels = unfolds shown_height 0 _ s.library heights_by_targets (length nodes)
-        structure.name structure (named_at s.library structure.name place structure named is)
+        structure.name structure (named_at s.library structure.name place structure here.named here.is)
         (λ name c. known_low name (known name c)) (omega (arith, few))
 
     pub added_size : (size : Size) → IsSizeOf
@@ -152,7 +161,7 @@ module _ (ss : List Submission) (s : Submission) (table : BTreeMap (List ℕ) �
         → IsFarHere ss s place
     added_far h = record {
       structure = structure;
-      is = is;
+      is = here.is;
       box = h.box;
       extent = ap extent_of added_items ∙ h.is;
       far = h.far;
@@ -165,8 +174,8 @@ module _ (ss : List Submission) (s : Submission) (table : BTreeMap (List ℕ) �
       added_node : IsNode (flats ss) (heights ss) s nodes node
       added_node = record {
         structure = structure;
-        is = rw at is;
-        named = rw at named;
+        is = rw at here.is;
+        named = rw at here.named;
         below = λ name c. known_target name (known name c);
         shapes = shapes;
         children = children;
@@ -190,7 +199,7 @@ module _ (ss : List Submission) (s : Submission) (table : BTreeMap (List ℕ) �
           → (n : Node) × (slice_get (nodes ++ node ∷ []) k ≡ Some n) × (n.structure ≡ p)
       added_number p k e =
           let within : place < length numbers =
-          omega (arith, slice_get_within s.library place structure is, w.sized) in
+          omega (arith, slice_get_within s.library place structure here.is, w.sized) in
           elim (eqb_tells p place) [
             | inl q ↦
                 let there : number_at (set numbers place (Some (length nodes))) p

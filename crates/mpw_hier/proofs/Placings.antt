@@ -1,112 +1,149 @@
 -- Placings one behind another, on points and on boxes.
-use Rattle.std.proofs.Common.{◌≡◌, ℤ, pos, neg_ℤ, ◌+ℤ◌, ◌≤ℤ◌, refl, ap, sym, ◌∙◌, arith}
-use Rattle.std.specs.Int.{int_min, int_max}
+use Rattle.std.proofs.Common.{◌≡◌, ℕ, zero, suc, pos, Bool, true, false, if◌then◌else◌, refl, ap, sym, ◌∙◌, arith}
 use Rattle.std.proofs.lemmas.Int.{ints, clamps}
 use Rattle.mpw_geom.proofs.Boxes.{same_box}
+use Rattle.mpw_geom.proofs.Chains.{same_point, placed-placed_point}
 use Rattle.mpw_geom.specs.declared.plane.Box2.{Box2}
 use Rattle.mpw_geom.specs.declared.plane.Orient.{Orient}
 use Rattle.mpw_geom.specs.declared.plane.Orient.TheVariants.{R0, R90, R180, R270, M0, M90, M180, M270}
 use Rattle.mpw_geom.specs.declared.plane.Point.{Point}
 use Rattle.mpw_geom.specs.declared.placing.Placing.{Placing}
 use Rattle.mpw_geom.specs.Plane.{IsOrdered, box_between}
-use Rattle.mpw_geom.specs.Placing.{by_orient, mirrored_point, turned_point, oriented_point, placed_point}
+use Rattle.mpw_geom.specs.Placing.{is_mirrored, quarter_turns, times, by_orient, mirrored_point, turned_point, moved_point, oriented_point, placed_point}
 use Rattle.mpw_hier.specs.Items.{mirrored, turned, placed_again}
 use Rattle.mpw_hier.specs.Boxes.{joined, placed_box}
 
-same_point : (p q : Point) → p.x ≡ q.x → p.y ≡ q.y → p ≡ q
-same_point p q e f =
-    let k : ◌≡◌ {A = Point} (record { x = p.x; y = p.y }) (record { x = q.x; y = q.y }) = cc in k
-
 -- ---- points
 
-mirrored_is : (o : Orient) (p : Point)
+mirrored_is : (p : Point) (o : Orient)
     → oriented_point (mirrored o) p ≡ mirrored_point (oriented_point o p)
 unfolding oriented_point
-mirrored_is R0 p = same_point _ _ (omega (arith, ints)) (omega (arith, ints))
-mirrored_is R90 p = same_point _ _ (omega (arith, ints)) (omega (arith, ints))
-mirrored_is R180 p = same_point _ _ (omega (arith, ints)) (omega (arith, ints))
-mirrored_is R270 p = same_point _ _ (omega (arith, ints)) (omega (arith, ints))
-mirrored_is M0 p = same_point _ _ (omega (arith, ints)) (omega (arith, ints))
-mirrored_is M90 p = same_point _ _ (omega (arith, ints)) (omega (arith, ints))
-mirrored_is M180 p = same_point _ _ (omega (arith, ints)) (omega (arith, ints))
-mirrored_is M270 p = same_point _ _ (omega (arith, ints)) (omega (arith, ints))
+mirrored_is p R0 = refl
+mirrored_is p R90 = same_point _ _ (omega (arith, ints)) (omega (arith, ints))
+mirrored_is p R180 = same_point _ _ (omega (arith, ints)) (omega (arith, ints))
+mirrored_is p R270 = same_point _ _ (omega (arith, ints)) (omega (arith, ints))
+mirrored_is p M0 = same_point _ _ (omega (arith, ints)) (omega (arith, ints))
+mirrored_is p M90 = same_point _ _ (omega (arith, ints)) (omega (arith, ints))
+mirrored_is p M180 = same_point _ _ (omega (arith, ints)) (omega (arith, ints))
+mirrored_is p M270 = same_point _ _ (omega (arith, ints)) (omega (arith, ints))
 
-turned_is : (o : Orient) (p : Point)
+turned_is : (p : Point) (o : Orient)
     → oriented_point (turned o) p ≡ turned_point (oriented_point o p)
 unfolding oriented_point
-turned_is R0 p = same_point _ _ (omega (arith, ints)) (omega (arith, ints))
-turned_is R90 p = same_point _ _ (omega (arith, ints)) (omega (arith, ints))
-turned_is R180 p = same_point _ _ (omega (arith, ints)) (omega (arith, ints))
-turned_is R270 p = same_point _ _ (omega (arith, ints)) (omega (arith, ints))
-turned_is M0 p = same_point _ _ (omega (arith, ints)) (omega (arith, ints))
-turned_is M90 p = same_point _ _ (omega (arith, ints)) (omega (arith, ints))
-turned_is M180 p = same_point _ _ (omega (arith, ints)) (omega (arith, ints))
-turned_is M270 p = same_point _ _ (omega (arith, ints)) (omega (arith, ints))
+turned_is p R0 = refl
+turned_is p R90 = refl
+turned_is p R180 = refl
+turned_is p R270 = same_point _ _ (omega (arith, ints)) (omega (arith, ints))
+turned_is p M0 = refl
+turned_is p M90 = refl
+turned_is p M180 = refl
+turned_is p M270 = same_point _ _ (omega (arith, ints)) (omega (arith, ints))
 
-oriented_again : (o i : Orient) (p : Point) → oriented_point (by_orient mirrored turned o i) p
-    ≡ by_orient mirrored_point turned_point o (oriented_point i p)
-oriented_again R0 i p = refl
-oriented_again R90 i p = turned_is i p
-oriented_again R180 i p = turned_is (turned i) p ∙ ap turned_point (turned_is i p)
-oriented_again R270 i p = turned_is (turned (turned i)) p
-    ∙ ap turned_point (turned_is (turned i) p ∙ ap turned_point (turned_is i p))
-oriented_again M0 i p = mirrored_is i p
-oriented_again M90 i p = turned_is (mirrored i) p ∙ ap turned_point (mirrored_is i p)
-oriented_again M180 i p = turned_is (turned (mirrored i)) p
-    ∙ ap turned_point (turned_is (mirrored i) p ∙ ap turned_point (mirrored_is i p))
-oriented_again M270 i p =
-    turned_is (turned (turned (mirrored i))) p
-    ∙ ap turned_point (turned_is (turned (mirrored i)) p
-    ∙ ap turned_point (turned_is (mirrored i) p ∙ ap turned_point (mirrored_is i p)))
+turns_go : {A B : Type 0} (turn : A → A) (turn' : B → B) (f : A → B)
+    → ((a : A) → f (turn a) ≡ turn' (f a)) → (n : ℕ) (a : A)
+    → f (times turn n a) ≡ times turn' n (f a)
+turns_go turn turn' f g zero a = refl
+turns_go turn turn' f g (suc n) a = g (times turn n a) ∙ ap turn' (turns_go turn turn' f g n a)
 
--- an orientation keeps sums
-oriented_sum : (o : Orient) (d p e : Point)
-    → placed_point (record { orient = o; by = e }) (record { x = p.x +ℤ d.x; y = p.y +ℤ d.y })
-    ≡ (record {
-      x = (oriented_point o p).x +ℤ (placed_point (record { orient = o; by = e }) d).x;
-      y = (oriented_point o p).y +ℤ (placed_point (record { orient = o; by = e }) d).y;
-    })
-unfolding placed_point oriented_point
-oriented_sum R0 d p e = same_point _ _ (omega (arith, ints)) (omega (arith, ints))
-oriented_sum R90 d p e = same_point _ _ (omega (arith, ints)) (omega (arith, ints))
-oriented_sum R180 d p e = same_point _ _ (omega (arith, ints)) (omega (arith, ints))
-oriented_sum R270 d p e = same_point _ _ (omega (arith, ints)) (omega (arith, ints))
-oriented_sum M0 d p e = same_point _ _ (omega (arith, ints)) (omega (arith, ints))
-oriented_sum M90 d p e = same_point _ _ (omega (arith, ints)) (omega (arith, ints))
-oriented_sum M180 d p e = same_point _ _ (omega (arith, ints)) (omega (arith, ints))
-oriented_sum M270 d p e = same_point _ _ (omega (arith, ints)) (omega (arith, ints))
+-- what goes with the mirror and with the turn goes with each orientation
+orients_go : {A B : Type 0} (mirror turn : A → A) (mirror' turn' : B → B) (f : A → B)
+    → ((a : A) → f (mirror a) ≡ mirror' (f a)) → ((a : A) → f (turn a) ≡ turn' (f a))
+    → (o : Orient) (a : A) → f (by_orient mirror turn o a) ≡ by_orient mirror' turn' o (f a)
+orients_go m t m' t' f h g o a =
+    turns_go t t' f g (quarter_turns o) (if is_mirrored o then m a else a)
+    ∙ ap (times t' (quarter_turns o)) (go (is_mirrored o))
+  where
+    go : (b : Bool) → f (if b then m a else a) ≡ (if b then m' (f a) else f a)
+    go true = h a
+    go false = refl
+
+pub oriented_again : (o i : Orient) (p : Point) → oriented_point (by_orient mirrored turned o i) p
+    ≡ oriented_point o (oriented_point i p)
+unfolding oriented_point
+oriented_again o i p =
+    orients_go mirrored turned mirrored_point turned_point (λ (a : Orient). oriented_point a p)
+    (mirrored_is p) (turned_is p) o i
 
 pub again_point : (t u : Placing) (p : Point)
     → placed_point (placed_again t u) p ≡ placed_point t (placed_point u p)
-unfolding placed_again placed_point oriented_point
-again_point t u p = ap (λ (q : Point).
-    record { x = q.x +ℤ (placed_point t u.by).x; y = q.y +ℤ (placed_point t u.by).y })
-    (oriented_again t.orient u.orient p)
-    ∙ sym (oriented_sum t.orient u.by (oriented_point u.orient p) t.by)
+unfolding placed_again
+again_point t u p =
+    placed-placed_point u t (placed_again t u) p (oriented_again t.orient u.orient p) refl
 
 -- ---- boxes
 
-between_at : (o : Orient) (d p q : Point)
-    → placed_box (record { orient = o; by = d }) (box_between p q) ≡ box_between
-    (placed_point (record { orient = o; by = d }) p)
-    (placed_point (record { orient = o; by = d }) q)
-unfolding placed_box box_between placed_point oriented_point
-between_at R0 d p q = same_box _ _ (omega (arith, ints, clamps)) (omega (arith, ints, clamps))
-    (omega (arith, ints, clamps)) (omega (arith, ints, clamps))
-between_at R90 d p q = same_box _ _ (omega (arith, ints, clamps)) (omega (arith, ints, clamps))
-    (omega (arith, ints, clamps)) (omega (arith, ints, clamps))
-between_at R180 d p q = same_box _ _ (omega (arith, ints, clamps)) (omega (arith, ints, clamps))
-    (omega (arith, ints, clamps)) (omega (arith, ints, clamps))
-between_at R270 d p q = same_box _ _ (omega (arith, ints, clamps)) (omega (arith, ints, clamps))
-    (omega (arith, ints, clamps)) (omega (arith, ints, clamps))
-between_at M0 d p q = same_box _ _ (omega (arith, ints, clamps)) (omega (arith, ints, clamps))
-    (omega (arith, ints, clamps)) (omega (arith, ints, clamps))
-between_at M90 d p q = same_box _ _ (omega (arith, ints, clamps)) (omega (arith, ints, clamps))
-    (omega (arith, ints, clamps)) (omega (arith, ints, clamps))
-between_at M180 d p q = same_box _ _ (omega (arith, ints, clamps)) (omega (arith, ints, clamps))
-    (omega (arith, ints, clamps)) (omega (arith, ints, clamps))
-between_at M270 d p q = same_box _ _ (omega (arith, ints, clamps)) (omega (arith, ints, clamps))
-    (omega (arith, ints, clamps)) (omega (arith, ints, clamps))
+-- the box between the points to which a box's corners are taken
+abbrev taken : (Point → Point) → Box2 → Box2
+taken f b = box_between (f (record { x = b.x0; y = b.y0 })) (f (record { x = b.x1; y = b.y1 }))
+
+between_ordered : (p q : Point) → IsOrdered (box_between p q)
+unfolding box_between
+between_ordered p q = record { x = omega (arith, ints, clamps); y = omega (arith, ints, clamps) }
+
+ruleset boxes = (arith, ints, clamps)
+
+-- to take boxes so goes with the least boxes of points and of boxes
+record Carries (f : Point → Point) : Type 0 where
+  between : (p q : Point) → taken f (box_between p q) ≡ box_between (f p) (f q)
+  joins : (a b : Box2) → IsOrdered a → IsOrdered b
+      → taken f (joined a b) ≡ joined (taken f a) (taken f b)
+
+stays : Carries (λ p. p)
+unfolding box_between
+stays = record {
+  between = λ p q. same_box _ _ (omega boxes) (omega boxes) (omega boxes) (omega boxes);
+  joins = λ a b h k. same_box _ _ (omega boxes) (omega boxes) (omega boxes) (omega boxes);
+}
+
+mirrors : Carries mirrored_point
+unfolding box_between
+mirrors = record {
+  between = λ p q. same_box _ _ (omega boxes) (omega boxes) (omega boxes) (omega boxes);
+  joins = λ a b h k. same_box _ _ (omega boxes) (omega boxes) (omega boxes) (omega boxes);
+}
+
+turns : Carries turned_point
+unfolding box_between
+turns = record {
+  between = λ p q. same_box _ _ (omega boxes) (omega boxes) (omega boxes) (omega boxes);
+  joins = λ a b h k. same_box _ _ (omega boxes) (omega boxes) (omega boxes) (omega boxes);
+}
+
+moves : (d : Point) → Carries (moved_point d)
+unfolding box_between
+moves d = record {
+  between = λ p q. same_box _ _ (omega boxes) (omega boxes) (omega boxes) (omega boxes);
+  joins = λ a b h k. same_box _ _ (omega boxes) (omega boxes) (omega boxes) (omega boxes);
+}
+
+then_carries : (f g : Point → Point) → Carries f → Carries g → Carries (λ p. g (f p))
+then_carries f g h k = record {
+  between = λ p q. sym (both (box_between p q)) ∙ ap (taken g) (h.between p q)
+      ∙ k.between (f p) (f q);
+  joins = λ a b o q. sym (both (joined a b)) ∙ ap (taken g) (h.joins a b o q)
+      ∙ k.joins (taken f a) (taken f b) (between_ordered _ _) (between_ordered _ _)
+      ∙ ap (λ c. joined c (taken g (taken f b))) (both a)
+      ∙ ap (joined (taken (λ p. g (f p)) a)) (both b);
+}
+  where
+    both : (b : Box2) → taken g (taken f b) ≡ taken (λ p. g (f p)) b
+    both b = k.between (f (record { x = b.x0; y = b.y0 })) (f (record { x = b.x1; y = b.y1 }))
+
+carries : (t : Placing) → Carries (placed_point t)
+unfolding placed_point oriented_point
+carries t =
+    then_carries _ (moved_point t.by)
+    (then_carries _ (times turned_point (quarter_turns t.orient)) (first (is_mirrored t.orient))
+    (turned_by (quarter_turns t.orient)))
+    (moves t.by)
+  where
+    first : (b : Bool) → Carries (λ p. if b then mirrored_point p else p)
+    first true = mirrors
+    first false = stays
+
+    turned_by : (n : ℕ) → Carries (times turned_point n)
+    turned_by zero = stays
+    turned_by (suc n) = then_carries (times turned_point n) turned_point (turned_by n) turns
 
 pub again_box : (t u : Placing) (b : Box2)
     → placed_box (placed_again t u) b ≡ placed_box t (placed_box u b)
@@ -115,78 +152,16 @@ again_box t u b =
     let p : Point = record { x = b.x0; y = b.y0 } in
     let q : Point = record { x = b.x1; y = b.y1 } in
     rw (again_point t u p, again_point t u q)
-    (sym (between_at t.orient t.by (placed_point u p) (placed_point u q)))
+    (sym ((carries t).between (placed_point u p) (placed_point u q)))
 
 pub placed_ordered : (t : Placing) (b : Box2) → IsOrdered (placed_box t b)
-unfolding placed_box box_between
-placed_ordered t b = record { x = omega (arith, ints, clamps); y = omega (arith, ints, clamps) }
-
-thrice : (z : ℤ) → neg_ℤ (neg_ℤ (neg_ℤ z)) ≡ neg_ℤ z
-thrice z = omega (arith, ints)
-
-negated_least : (d a c b e : ℤ) → a ≤ℤ c → b ≤ℤ e
-    → int_min (neg_ℤ (int_min a b) +ℤ d) (neg_ℤ (int_max c e) +ℤ d)
-    ≡ int_min (int_min (neg_ℤ a +ℤ d) (neg_ℤ c +ℤ d)) (int_min (neg_ℤ b +ℤ d) (neg_ℤ e +ℤ d))
-negated_least d a c b e h k = omega (arith, ints, clamps)
-
-negated_most : (d a c b e : ℤ) → a ≤ℤ c → b ≤ℤ e
-    → int_max (neg_ℤ (int_min a b) +ℤ d) (neg_ℤ (int_max c e) +ℤ d)
-    ≡ int_max (int_max (neg_ℤ a +ℤ d) (neg_ℤ c +ℤ d)) (int_max (neg_ℤ b +ℤ d) (neg_ℤ e +ℤ d))
-negated_most d a c b e h k = omega (arith, ints, clamps)
-
-abbrev three : ℤ → ℤ
-three z = neg_ℤ (neg_ℤ (neg_ℤ z))
-
-across_least : (d a c b e : ℤ) → a ≤ℤ c → b ≤ℤ e
-    → int_min (three (int_min a b) +ℤ d) (three (int_max c e) +ℤ d)
-    ≡ int_min (int_min (three a +ℤ d) (three c +ℤ d)) (int_min (three b +ℤ d) (three e +ℤ d))
-across_least d a c b e h k = rw (
-  thrice (int_min a b),
-  thrice (int_max c e),
-  thrice a,
-  thrice b,
-  thrice c,
-  thrice e,
-) (negated_least d a c b e h k)
-
-across_most : (d a c b e : ℤ) → a ≤ℤ c → b ≤ℤ e
-    → int_max (three (int_min a b) +ℤ d) (three (int_max c e) +ℤ d)
-    ≡ int_max (int_max (three a +ℤ d) (three c +ℤ d)) (int_max (three b +ℤ d) (three e +ℤ d))
-across_most d a c b e h k = rw (
-  thrice (int_min a b),
-  thrice (int_max c e),
-  thrice a,
-  thrice b,
-  thrice c,
-  thrice e,
-) (negated_most d a c b e h k)
-
-joined_at : (o : Orient) (d : Point) (a b : Box2) → IsOrdered a → IsOrdered b
-    → placed_box (record { orient = o; by = d }) (joined a b)
-    ≡ joined (placed_box (record { orient = o; by = d }) a)
-    (placed_box (record { orient = o; by = d }) b)
-unfolding placed_box box_between placed_point oriented_point
-joined_at R0 d a b h k = same_box _ _ (omega (arith, ints, clamps)) (omega (arith, ints, clamps))
-    (omega (arith, ints, clamps)) (omega (arith, ints, clamps))
-joined_at R90 d a b h k = same_box _ _ (omega (arith, ints, clamps)) (omega (arith, ints, clamps))
-    (omega (arith, ints, clamps)) (omega (arith, ints, clamps))
-joined_at R180 d a b h k = same_box _ _ (omega (arith, ints, clamps)) (omega (arith, ints, clamps))
-    (omega (arith, ints, clamps)) (omega (arith, ints, clamps))
-joined_at R270 d a b h k = same_box _ _ (omega (arith, ints, clamps)) (omega (arith, ints, clamps))
-    (omega (arith, ints, clamps)) (omega (arith, ints, clamps))
-joined_at M0 d a b h k = same_box _ _ (omega (arith, ints, clamps)) (omega (arith, ints, clamps))
-    (omega (arith, ints, clamps)) (omega (arith, ints, clamps))
-joined_at M90 d a b h k = same_box _ _ (omega (arith, ints, clamps)) (omega (arith, ints, clamps))
-    (omega (arith, ints, clamps)) (omega (arith, ints, clamps))
-joined_at M180 d a b h k = same_box _ _ (omega (arith, ints, clamps)) (omega (arith, ints, clamps))
-    (omega (arith, ints, clamps)) (omega (arith, ints, clamps))
-joined_at M270 d a b h k = same_box _ _ (across_least d.x a.y0 a.y1 b.y0 b.y1 h.y k.y)
-    (omega (arith, ints, clamps)) (across_most d.x a.y0 a.y1 b.y0 b.y1 h.y k.y)
-    (omega (arith, ints, clamps))
+unfolding placed_box
+placed_ordered t b = between_ordered _ _
 
 pub placed_joined : (t : Placing) (a b : Box2) → IsOrdered a → IsOrdered b
     → placed_box t (joined a b) ≡ joined (placed_box t a) (placed_box t b)
-placed_joined t a b h k = joined_at t.orient t.by a b h k
+unfolding placed_box
+placed_joined t a b h k = (carries t).joins a b h k
 
 abbrev pub unmoved : Placing
 unmoved = record { orient = R0; by = record { x = pos 0; y = pos 0 } }

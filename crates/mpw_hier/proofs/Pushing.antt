@@ -1,5 +1,5 @@
 -- What the nodes of a submission tell of its limits.
-use Rattle.std.proofs.Common.{◌≡◌, ℕ, ◌-◌, ◌<◌, ◌≤◌, ◌^◌, true, false, List, length, get_or, Some, Result, Ok, Err, refl, sym, ap, subst, ◌∙◌, arith}
+use Rattle.std.proofs.Common.{◌≡◌, ℕ, ◌-◌, ◌<◌, ◌≤◌, ◌^◌, true, false, List, length, get_or, Some, Result, Ok, Err, Vec, Global, vec_len, refl, sym, ap, subst, ◌∙◌, arith}
 use Rattle.std.specs.Prelude.{slice_get, nat_lt, IfSome}
 use Rattle.std.specs.Result.{IfErr, IsErrAnd}
 use Rattle.std.proofs.lemmas.Bool.{lt-ltb, le-ltb, ltb-false}
@@ -13,7 +13,7 @@ use Rattle.mpw_hier.specs.declared.size.Size.{Size}
 use Rattle.mpw_hier.specs.declared.submission.Submission.{Submission}
 use Rattle.mpw_hier.specs.Boxes.{extent_of, is_box_near}
 use Rattle.mpw_hier.specs.Internal.Building.{IsHierarchy}
-use Rattle.mpw_hier.specs.Limits.{IsFar, IsBound, IsRefused, is_too_large, is_too_deep}
+use Rattle.mpw_hier.specs.Limits.{IsFar, IsBound, IsRefused, KeepsLimits, is_too_large, is_too_deep, has_room_for}
 use Rattle.mpw_hier.specs.Internal.Limits.{IsOfNodes}
 use Rattle.mpw_hier.specs.Nodes.{AreNodesOf, structure_levels}
 use Rattle.mpw_hier.specs.Sizes.{IsSizeOf}
@@ -22,18 +22,6 @@ use Rattle.mpw_hier.proofs.Told.{told_limit}
 use Rattle.mpw_hier.proofs.Tops.{same_place}
 
 -- the version says nothing of how far a submission reaches
-pub far_as : (ss : List Submission) (s : Submission) (version : ℕ)
-    → IsFar ss (record s { version = version }) → IsFar ss s
-far_as ss s version h = record {
-  structure = h.structure;
-  place = h.place;
-  inside = h.inside;
-  below = h.below;
-  box = h.box;
-  extent = h.extent;
-  far = h.far;
-}
-
 pub far_of : (ss : List Submission) (s : Submission) (version : ℕ) → IsFar ss s
     → IsFar ss (record s { version = version })
 far_of ss s version h = record {
@@ -45,6 +33,10 @@ far_of ss s version h = record {
   extent = h.extent;
   far = h.far;
 }
+
+pub far_as : (ss : List Submission) (s : Submission) (version : ℕ)
+    → IsFar ss (record s { version = version }) → IsFar ss s
+far_as ss s version h = far_of ss (record s { version = version }) s.version h
 
 pub bound_as : (ss : List Submission) (s : Submission) (version : ℕ) → IsBound ss s
     → IsBound ss (record s { version = version })
@@ -110,18 +102,19 @@ pub record IsMeasured (ss : List Submission) (s : Submission) (size : Size) : Ty
   pub shapes : is_too_large ss s ≡ nat_lt (2 ^ 20) size.count
   pub levels : is_too_deep ss s ≡ nat_lt 64 size.height
 
-pub measured : (ss : List Submission) (s : Submission) (version : ℕ) (nodes : List Node)
-    → IsHierarchy ss (record s { version = version }) nodes → (n : ℕ) (top : Node)
-    → n ≡ length nodes → top ≡ get_or nodes (n - 1) top → IsMeasured ss s top.size
-measured ss s version nodes w n top e at =
+pub measured : (ss : List Submission) (s : Submission) {version n : ℕ} {top : Node}
+    (nodes : Vec Node Global) → IsHierarchy ss (record s { version = version }) nodes.items
+    → n ≡ vec_len nodes → top ≡ get_or nodes.items (n - 1) top → IsMeasured ss s top.size
+measured ss s {version = version} {n = n} {top = top} nodes w e at =
     let t : Submission = record s { version = version } in
-    let told = read_size ss t nodes w n top e at in record {
-      near = λ far. not_far ss t nodes w (far_of ss s version far);
+    let told =
+    read_size ss t nodes.items w n top (omega (arith, e, nodes.ok.0)) at in record {
+      near = λ far. not_far ss t nodes.items w (far_of ss s version far);
       shapes = told_limit (2 ^ 20) top.size.count (length (flat_of (flats ss) t)) told.count;
       levels = told_limit 64 top.size.height (height_of (heights ss) t) told.height;
     }
 
-module _ (ss : List Submission) (s : Submission) (size : Size) (m : IsMeasured ss s size) where
+module _ {ss : List Submission} {s : Submission} {size : Size} (m : IsMeasured ss s size) where
   pub large : 2 ^ 20 < size.count → is_too_large ss s ≡ true
   large lt = m.shapes ∙ lt-ltb (2 ^ 20) size.count lt
 
@@ -133,6 +126,19 @@ module _ (ss : List Submission) (s : Submission) (size : Size) (m : IsMeasured s
 
   pub low : size.height ≤ 64 → is_too_deep ss s ≡ false
   low le = m.levels ∙ le-ltb 64 size.height le
+
+  pub kept : size.count ≤ 2 ^ 20 → size.height ≤ 64 → has_room_for ss s.cell ≡ true
+      → KeepsLimits ss s
+  kept few flat room = record { near = m.near; small = small few; low = low flat; room = room }
+
+pub kept_as : (ss : List Submission) (s : Submission) (version : ℕ) → KeepsLimits ss s
+    → KeepsLimits ss (record s { version = version })
+kept_as ss s version k = record {
+  near = λ far. k.near (far_as ss s version far);
+  small = k.small;
+  low = k.low;
+  room = k.room;
+}
 
 -- what the making of nodes refuses
 pub refused_nodes : (ss : List Submission) (s : Submission) (result : Result ℕ HierFault)

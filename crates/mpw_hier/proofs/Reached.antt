@@ -35,8 +35,8 @@ reach_more (chain s way) r = chain s (reach_more way r)
 abbrev pub AreNumbered : List (Option ℕ) → List ℕ → Type 0
 AreNumbered numbers places = (p : ℕ) → Contains places p → (k : ℕ) × (number_at numbers p ≡ Some k)
 
-module _ (ss : List Submission) (s : Submission) (b : IsBound ss s) (top : ℕ)
-    (e : place_of s.library s.top ≡ Some top) (order : List ℕ)
+module _ {ss : List Submission} {s : Submission} (b : IsBound ss s) {top : ℕ}
+    (e : place_of s.library s.top ≡ Some top) {order : List ℕ}
     (o : IsFromBelow (graph_of s.library) top order) where
   record Found (place : ℕ) : Type 0 where
     structure : Structure
@@ -174,30 +174,61 @@ pub not_at_all : (order : List ℕ) (top i : ℕ) → Contains order top → len
 not_at_all order top i c le before =
     let at = place_among order top c in before at.0 (omega (arith, at.1, le)) at.2
 
-module _ (ss : List Submission) (s : Submission) (b : IsBound ss s) (top : ℕ)
-    (e : place_of s.library s.top ≡ Some top) (order : List ℕ)
+-- the nodes of so many places are made
+pub record AreUpTo (ss : List Submission) (s : Submission) (order : List ℕ) (i : ℕ)
+    (table : BTreeMap (List ℕ) ℕ) (numbers : List (Option ℕ)) (nodes : List Node) : Type 0 where
+  pub linked : AreLinked ss s table numbers nodes
+  pub many : length nodes ≡ i
+  pub known : AreNumbered numbers (take i order)
+  pub reached : AreReached s nodes
+
+module _ {ss : List Submission} {s : Submission} (b : IsBound ss s) {top : ℕ}
+    (e : place_of s.library s.top ≡ Some top) {order : List ℕ}
     (o : IsFromBelow (graph_of s.library) top order) where
-  pub whole : (table : BTreeMap (List ℕ) ℕ) (numbers : List (Option ℕ)) (before after : List Node)
-      (i : ℕ) → i < length order → get_or order i 0 ≡ top → AreLinked ss s table numbers after
-      → IsOneMore (get_or order i 0) before after → AreNumbered numbers (take (i + 1) order)
-      → AreReached s after → IsHierarchy ss s after
-  whole table numbers before after i h is w one known reached =
+  pub one_more : {ss' : List Submission} {s' : Submission} {i : ℕ}
+      {table table' : BTreeMap (List ℕ) ℕ} {numbers numbers' : List (Option ℕ)}
+      {before after : List Node} → (ss' ≡ ss) × (s' ≡ s) → i < length order
+      → AreUpTo ss s order i table numbers before → AreLinked ss' s' table' numbers' after
+      → numbers' ≡ set numbers (get_or order i 0) (Some (length before))
+      → IsOneMore (get_or order i 0) before after
+      → AreUpTo ss s order (i + 1) table' numbers' after
+  one_more {i = i} {numbers = numbers} {before = before} same h w linked written one =
+      let place = order_place b e o i h in
+      let within : get_or order i 0 < length numbers =
+      omega (
+        arith,
+        slice_get_within s.library (get_or order i 0) place.structure place.is,
+        w.linked.sized,
+      ) in
+      let long = ap length one.added ∙ length-append before (one.node ∷ []) in record {
+        linked = rw (← same.0, ← same.1) linked;
+        many = omega (arith, long, w.many);
+        known = rw written (numbered_one numbers order i (length before) h within w.known);
+        reached =
+            reached_one s (get_or order i 0) before _ w.reached one (order_reached b e o i h);
+      }
+
+  pub whole : {i : ℕ} {table : BTreeMap (List ℕ) ℕ} {numbers : List (Option ℕ)}
+      {before after : List Node} → i < length order → get_or order i 0 ≡ top
+      → AreUpTo ss s order (i + 1) table numbers after → IsOneMore (get_or order i 0) before after
+      → IsHierarchy ss s after
+  whole {i = i} {numbers = numbers} {before = before} {after = after} h is w one =
       let long : length after ≡ length before + 1 = ap length one.added
       ∙ length-append before (one.node ∷ []) in
       let last : length after - 1 ≡ length before = omega (arith, long) in
       let at : slice_get after (length before) ≡ Some one.node =
       ap (λ xs. slice_get xs (length before)) one.added ∙ last_get before one.node in
       record {
-        each = w.each;
-        reached = reached;
-        few = w.few;
+        each = w.linked.each;
+        reached = w.reached;
+        few = w.linked.few;
         some = omega (arith, long);
         top = one.node;
         last = subst (λ k. slice_get after k ≡ Some one.node) (sym last) at;
         top_named = e ∙ ap (λ p. Some p) (sym (one.at ∙ is));
         whole = λ name place way named.
-            let k = order_whole ss s b top e order o i h is numbers known name place way named in
-            let r = w.numbered place k.0 k.1 in
+            let k = order_whole b e o i h is numbers w.known name place way named in
+            let r = w.linked.numbered place k.0 k.1 in
             (k.0, r.0, r.1, r.2);
       }
 

@@ -37,10 +37,10 @@ pub record AtPlace (g : List (List ℕ)) (left path : List ℕ) (p steps : ℕ) 
   pub inside : p < length left
   pub left_are : get_or left p 0 ≡ steps
 
-pub at_place : (g : List (List ℕ)) (s : Descent) (n p steps : ℕ) → IsUnderWay g s
+pub at_place : (s : Descent) {g : List (List ℕ)} {n p steps : ℕ} → IsUnderWay g s
     → n ≡ vec_len s.path → false ≡ eqb (vec_len s.path) 0 → p ≡ get_or s.path.items (n - 1) p
     → steps ≡ get_or s.left.items p steps → AtPlace g s.left.items s.path.items p steps
-at_place g s n p steps w e many h k =
+at_place s {g = g} {n = n} {p = p} {steps = steps} w e many h k =
     let some : 0 < length s.path.items =
     omega (arith, some_left (vec_len s.path) many, s.path.ok.0) in
     let last = last_read s.path.items n p (omega (arith, e, s.path.ok.0)) some h in
@@ -61,10 +61,10 @@ pub record AtTarget (g : List (List ℕ)) (left : List ℕ) (p m t : ℕ) : Type
   pub is : get_or (targets g p) m 0 ≡ t
   pub inside : t < length left
 
-pub at_target : (g : List (List ℕ)) (s : Descent) (p steps t : ℕ) → IsGraph g → IsUnderWay g s
+pub at_target : (s : Descent) {g : List (List ℕ)} {p steps t : ℕ} → IsGraph g → IsUnderWay g s
     → AtPlace g s.left.items s.path.items p steps → 1 < steps
     → t ≡ get_or (targets g p) (steps - 2) 0 → AtTarget g s.left.items p (steps - 2) t
-at_target g s p steps t graph w a more e =
+at_target s {g = g} {p = p} {steps = steps} {t = t} graph w a more e =
     let left_are : get_or s.left.items p 0 ≡ (steps - 2) + 2 = omega (arith, a.left_are, more) in
     let within = next_within g s.top s.left.items s.path.items s.order.items p (steps - 2) w
     a.some a.last left_are in

@@ -1,7 +1,8 @@
 -- Versions of a cell, and how many cells a shelf has.
-use Rattle.std.proofs.Common.{◌≡◌, ℕ, suc, ◌+◌, Bool, true, false, cond, ◌||◌, List, [], ◌∷◌, take, map, Option, Some, None, refl, sym, ap, subst, ◌∙◌, arith}
+use Rattle.std.proofs.Common.{◌≡◌, ℕ, suc, ◌+◌, Bool, true, false, cond, ◌||◌, List, [], ◌∷◌, length, get_or, take, map, Option, Some, None, refl, sym, ap, subst, ◌∙◌, arith}
 use Rattle.std.specs.Prelude.{slice_get, is_some}
 use Rattle.std.specs.List.{IsDistinct, list_any}
+use Rattle.std.proofs.lemmas.Option.{slice_get_within, slice_get_read}
 use Rattle.std.specs.Set.{distinct_count, is_member}
 use Rattle.std.specs.Cmp.{IsEquivalence}
 use Rattle.std.specs.BTreeMap as tree
@@ -102,7 +103,7 @@ present_is ss cell n e =
       same_name h.submission.cell cell h.same,
     )
 
-pub next_version : (ss : List Submission) (cell : List ℕ) (n : ℕ) (s : Submission) → IsShelf ss
+next_version : (ss : List Submission) (cell : List ℕ) (n : ℕ) (s : Submission) → IsShelf ss
     → present ss cell ≡ Some n → slice_get ss n ≡ Some s → s.version ≡ versions ss cell
 unfolding present
 next_version ss cell n s numbered e is =
@@ -117,6 +118,14 @@ next_version ss cell n s numbered e is =
     let own : s.version ≡ versions (take n ss) cell + 1 =
     subst (λ c. s.version ≡ versions (take n ss) c + 1) cells (numbered n s is).version in
     own ∙ sym (subst (λ k. versions ss cell ≡ versions (take k ss) cell + 1) at h.count)
+
+-- the same of what stands at its number
+pub version_read : (ss : List Submission) (cell : List ℕ) (n : ℕ) (s : Submission) → IsShelf ss
+    → present ss cell ≡ Some n → s ≡ get_or ss n s → s.version ≡ versions ss cell
+version_read ss cell n s numbered e read =
+    let h = present_is ss cell n e in
+    let within = slice_get_within ss n h.0 h.1 in
+    next_version ss cell n s numbered e (slice_get_read ss (length ss) n s refl within read)
 
 -- ---- cells
 

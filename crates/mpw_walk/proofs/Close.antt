@@ -1,16 +1,15 @@
 -- Where the box of a flat list is near, each of its shapes is close; and a placing that takes a close shape to a close one is short.
-use Rattle.std.proofs.Common.{◌≡◌, Bool, true, false, ℤ, ◌+ℤ◌, List, [], ◌∷◌, map, Option, Some, None, refl, sym, ap, subst, ◌∙◌, arith}
+use Rattle.std.proofs.Common.{◌≡◌, ℕ, zero, suc, Bool, true, false, if◌then◌else◌, ℤ, neg_ℤ, ◌+ℤ◌, List, [], ◌∷◌, map, Option, Some, None, refl, sym, ap, subst, ◌∙◌, arith}
 use Rattle.std.specs.Prelude.{option_map, All, IfSome}
 use Rattle.std.proofs.lemmas.Int.{ints, clamps}
 use Rattle.std.proofs.lemmas.List.Elements.{All-nil, All-cons, All-head, All-tail, All-map}
 use Rattle.std.proofs.lemmas.Bool.{and_parts}
 use Rattle.mpw_geom.specs.declared.plane.Box2.{Box2}
 use Rattle.mpw_geom.specs.declared.plane.Orient.{Orient}
-use Rattle.mpw_geom.specs.declared.plane.Orient.TheVariants.{R0, R90, R180, R270, M0, M90, M180, M270}
 use Rattle.mpw_geom.specs.declared.plane.Point.{Point}
 use Rattle.mpw_geom.specs.declared.placing.Placing.{Placing}
 use Rattle.mpw_geom.specs.Plane.{IsInPlane, box_between}
-use Rattle.mpw_geom.specs.Placing.{oriented_point, placed_point}
+use Rattle.mpw_geom.specs.Placing.{is_mirrored, quarter_turns, times, mirrored_point, turned_point, oriented_point, placed_point}
 use Rattle.mpw_geom.proofs.Tests.{le_from_test, test_from_PointIn, PointIn-from_test, PointIn}
 use Rattle.mpw_geom.proofs.Turns.{placed_points}
 use Rattle.mpw_hier.specs.Items.{Item, placed_again, placed_item}
@@ -21,55 +20,24 @@ use Rattle.mpw_walk.proofs.Placings.{placed_point_again}
 
 -- ---- a placing between close points
 
+minus_close : (z : ℤ) → IsClose z → IsClose (neg_ℤ z)
+minus_close z h = record {
+  low = omega (arith, ints, h.high);
+  high = omega (arith, ints, h.low);
+}
+
 close_turned : (o : Orient) (p : Point) → IsClosePoint p → IsClosePoint (oriented_point o p)
 unfolding oriented_point
-close_turned R0 p h = h
-close_turned R90 p h = record {
-  x = record {
-    low = omega (arith, ints, h.y.high);
-    high = omega (arith, ints, h.y.low);
-  };
-  y = h.x;
-}
-close_turned R180 p h = record {
-  x = record {
-    low = omega (arith, ints, h.x.high);
-    high = omega (arith, ints, h.x.low);
-  };
-  y = record { low = omega (arith, ints, h.y.high); high = omega (arith, ints, h.y.low) };
-}
-close_turned R270 p h = record {
-  x = record {
-    low = omega (arith, ints, h.y.low);
-    high = omega (arith, ints, h.y.high);
-  };
-  y = record { low = omega (arith, ints, h.x.high); high = omega (arith, ints, h.x.low) };
-}
-close_turned M0 p h = record {
-  x = h.x;
-  y = record { low = omega (arith, ints, h.y.high); high = omega (arith, ints, h.y.low) };
-}
-close_turned M90 p h = record {
-  x = record {
-    low = omega (arith, ints, h.y.low);
-    high = omega (arith, ints, h.y.high);
-  };
-  y = h.x;
-}
-close_turned M180 p h = record {
-  x = record {
-    low = omega (arith, ints, h.x.high);
-    high = omega (arith, ints, h.x.low);
-  };
-  y = record { low = omega (arith, ints, h.y.low); high = omega (arith, ints, h.y.high) };
-}
-close_turned M270 p h = record {
-  x = record {
-    low = omega (arith, ints, h.y.high);
-    high = omega (arith, ints, h.y.low);
-  };
-  y = record { low = omega (arith, ints, h.x.high); high = omega (arith, ints, h.x.low) };
-}
+close_turned o p h = turned (quarter_turns o) _ (mirrored (is_mirrored o))
+  where
+    mirrored : (b : Bool) → IsClosePoint (if b then mirrored_point p else p)
+    mirrored true = record { x = h.x; y = minus_close p.y h.y }
+    mirrored false = h
+
+    turned : (n : ℕ) (q : Point) → IsClosePoint q → IsClosePoint (times turned_point n q)
+    turned zero q k = k
+    turned (suc n) q k =
+        let there = turned n q k in record { x = minus_close _ there.y; y = there.x }
 
 short_between : (a d : ℤ) → IsClose a → IsClose (a +ℤ d) → IsShort d
 short_between a d h l =

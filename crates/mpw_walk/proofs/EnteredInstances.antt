@@ -1,9 +1,11 @@
 -- A step that enters an instance, or passes over it.
-use Rattle.std.proofs.Common.{◌≡◌, ℕ, suc, ◌+◌, ◌<◌, ◌≤◌, ◌^◌, Bool, true, false, List, [], ◌∷◌, ◌++◌, length, map, take, Option, sym, ap, subst, ◌∙◌, arith, append_assoc}
+use Rattle.std.proofs.Common.{◌≡◌, ◌+◌, ◌<◌, ◌≤◌, Bool, true, false, List, [], ◌∷◌, ◌++◌, length, map, take, Option, sym, ap, subst, ◌∙◌, arith, append_assoc}
 use Rattle.std.specs.Prelude.{All, option_map}
 use Rattle.std.proofs.lemmas.Option.{slice_get_within}
 use Rattle.std.proofs.lemmas.List.{length-append}
+use Rattle.mpw_geom.specs.Placing.{placed_point}
 use Rattle.mpw_geom.specs.declared.plane.Box2.{Box2}
+use Rattle.mpw_geom.specs.declared.plane.Point.{Point}
 use Rattle.mpw_geom.specs.declared.placing.Placing.{Placing}
 use Rattle.mpw_elements.specs.declared.element.Reference.{Reference}
 use Rattle.mpw_hier.specs.declared.node.Target.{Target}
@@ -13,313 +15,220 @@ use Rattle.mpw_hier.specs.Boxes.{placed_box, extent_of}
 use Rattle.mpw_hier.specs.Sizes.{IsExtentNear}
 use Rattle.mpw_hier.specs.Values.{structure_items, flats}
 use Rattle.mpw_walk.specs.declared.frame.Frame.{Frame}
-use Rattle.mpw_walk.specs.declared.root.Root.{Root}
-use Rattle.mpw_walk.specs.Turns.{Turn, enter, given, placed_turn, behind_first}
-use Rattle.mpw_walk.specs.Internal.Turns.{first_given}
-use Rattle.mpw_walk.specs.Frames.{named_turns, turns_to_come, turns_within, IsFrame, IsWithin}
+use Rattle.mpw_walk.specs.declared.way.Way.{Way}
+use Rattle.mpw_walk.specs.declared.way.Step.TheVariants as steps
+use Rattle.mpw_walk.specs.Turns.{Turn, enter, given, placed_turn}
+use Rattle.mpw_walk.specs.Frames.{named_turns, turns_to_come, turns_within, IsWithin}
 use Rattle.mpw_walk.specs.Internal.Frames.{IsNext, IsNearArray, Shows, ShowsName, behind_instance}
 use Rattle.mpw_walk.specs.Internal.Named.{NamesAreWalked}
+use Rattle.mpw_walk.specs.Internal.Stack.{Stack}
 use Rattle.mpw_walk.specs.Near.{IsCloseItem}
 use Rattle.mpw_walk.specs.Window.{is_in, taken}
-use Rattle.mpw_walk.specs.Way.{left_of, left_in, IsOnWay}
-use Rattle.mpw_walk.specs.Internal.Way.{work_left, GoesOn}
+use Rattle.mpw_walk.specs.Way.{IsWay}
+use Rattle.mpw_walk.proofs.Placings.{then_is}
 use Rattle.mpw_walk.proofs.Given.{given_append, given_placed}
 use Rattle.mpw_walk.proofs.Entered.{named_give}
 use Rattle.mpw_walk.proofs.Shows.{placed_shows}
 use Rattle.mpw_walk.proofs.Nexts.{behind_frame, behind_cases, instance_next}
 use Rattle.mpw_walk.proofs.Depth.{frame_high, less_high}
-use Rattle.mpw_walk.proofs.Reach.{all_left, all_right, shows_close, first_short, near_array}
+use Rattle.mpw_walk.proofs.Reach.{all_left, shows_close, first_short, near_array}
 use Rattle.mpw_walk.proofs.Held.{named_holds}
-use Rattle.mpw_walk.proofs.Taken.{taken_in, taken_out, taken_append, missed_taken}
+use Rattle.mpw_walk.proofs.Taken.{taken_out, missed_taken}
 use Rattle.mpw_walk.proofs.Targets.{next_shows}
-use Rattle.mpw_walk.proofs.FrameStacks.{left_more, each_last, each_front, each_push}
+use Rattle.mpw_walk.proofs.FrameStacks.{left_more, IsEach, each_front, each_push}
+use Rattle.mpw_walk.proofs.Steps.{Comes, ahead, passes, enters, last_frame, last_low}
 
-module _ (law : NamesAreWalked) (window : Option Box2) (ss : List Submission) (roots : List Root)
-    (root turns : ℕ) (frames : List Frame) (f : Frame)
-    (w : IsOnWay window ss roots root turns (frames ++ f ∷ [])) where
-  abbrev last : IsFrame ss f × (length frames + f.node.now.size.height ≤ 64)
-  last = each_last ss frames f w.each
+-- how the next instance of a frame is placed, and its placed extent
+abbrev pub next_placing : Frame → Reference → Placing
+next_placing f r = placed_again f.placing (instance r f.row f.column)
 
-  module _ (target : Target) (r : Reference) (x : IsNext f target r) where
-    pub frame_is : IsFrame ss f
-    frame_is = last.0
+abbrev pub extent_there : List Submission → Frame → Reference → Option Box2
+extent_there ss f r =
+    option_map (placed_box (next_placing f r))
+    (extent_of (given (named_turns ss f.submission r.name)))
 
-    pub grid : (f.row < r.rows) × (f.column < r.columns)
-    grid = last.0.within x.child r x.child_is x.reference_is
+-- the turns that the instance shows, placed
+abbrev shown_there : List Submission → Frame → Reference → List Turn
+shown_there ss f r = map (placed_turn (next_placing f r)) (named_turns ss f.submission r.name)
 
-    pub child_within : f.child < length f.node.now.children.items
-    child_within = slice_get_within f.node.now.children.items f.child x.child x.child_is
+module _ (law : NamesAreWalked) (v : Way) (f : Frame) (w : IsWay v (v.frames.items ++ f ∷ []))
+    (target : Target) (r : Reference) (x : IsNext f target r) where
+  pub grid : (f.row < r.rows) × (f.column < r.columns)
+  grid = (last_frame v f w).within x.child r x.child_is x.reference_is
 
-    abbrev below : List Item
-    below = structure_items (flats (take f.submission ss)) last.0.submission r.name
+  pub child_within : f.child < length f.node.now.children.items
+  child_within = slice_get_within f.node.now.children.items f.child x.child x.child_is
 
-    abbrev placing : Placing
-    placing = placed_again f.placing (instance r f.row f.column)
+  abbrev below : List Item
+  below = structure_items (flats (take f.submission v.shelf.now)) (last_frame v f w).submission r.name
 
-    own_close : (g : Frame) → ShowsName ss f.submission (λ _. r.name) g → All IsCloseItem below
-    own_close g shown =
-        shows_close ss f.submission last.0.submission w.read last.0.is r.name g
-        (shown last.0.submission last.0.is)
+  some_below : 0 < length below
+  some_below = next_shows v.shelf.now f (last_frame v f w) target r x
 
-    pub array_near : (g : Frame) → ShowsName ss f.submission (λ _. r.name) g → IsNearArray r
-    array_near g shown =
-        near_array law ss f last.0 target r w.read x (next_shows ss f last.0 target r x)
-        (own_close g shown)
+  below_given : given (named_turns v.shelf.now f.submission r.name) ≡ below
+  below_given =
+      let q = last_frame v f w in
+      (named_give v.shelf.now f.submission q.submission q.is r.name).items_given
 
-    pub below_given : given (named_turns ss f.submission r.name) ≡ below
-    below_given = (named_give ss f.submission last.0.submission last.0.is r.name).items_given
+  some_turns : 0 < length (named_turns v.shelf.now f.submission r.name)
+  some_turns = go (named_turns v.shelf.now f.submission r.name) below_given some_below
+    where
+      go : (ts : List Turn) → given ts ≡ below → 0 < length below → 0 < length ts
+      go [] e h = omega (arith, h, ap length e)
+      go (t ∷ ts) e h = omega arith
 
-    some_turns : 0 < length (named_turns ss f.submission r.name)
-    some_turns =
-        go (named_turns ss f.submission r.name) below_given (next_shows ss f last.0 target r x)
-      where
-        go : (ts : List Turn) → given ts ≡ below → 0 < length below → 0 < length ts
-        go [] e h = omega (arith, h, ap length e)
-        go (t ∷ ts) e h = omega arith
+  module _ (g : Frame) (shown : ShowsName v.shelf.now f.submission (λ _. r.name) g) where
+    own_close : All IsCloseItem below
+    own_close =
+        let q = last_frame v f w in
+        shows_close v.shelf.now f.submission q.submission w.read q.is r.name g
+        (shown q.submission q.is)
 
-    -- the placed extent of what is entered
-    abbrev pub extent_there : Option Box2
-    extent_there =
-        option_map (placed_box placing) (extent_of (given (named_turns ss f.submission r.name)))
+    pub array_near : IsNearArray r
+    array_near =
+        near_array law v.shelf.now f (last_frame v f w) target r w.read x some_below own_close
 
-    next_turns : length f.node.now.shapes.items ≤ f.shape
-        → turns_to_come ss f
-        ≡ enter extent_there ∷ map (placed_turn placing) (named_turns ss f.submission r.name)
-        ++ turns_to_come ss (behind_instance f r)
-    next_turns over = instance_next law.extents.again ss f last.0 target r x over some_turns
+    pub near : IsExtentNear g.node.now.size.extent
+    near = (shown (last_frame v f w).submission (last_frame v f w).is).size.near
 
-    placing_short : length f.node.now.shapes.items ≤ f.shape → (g : Frame)
-        → ShowsName ss f.submission (λ _. r.name) g → IsWithin placing.by
-    placing_short over g shown =
-        let ts = named_turns ss f.submission r.name in
-        let front = map (placed_turn placing) ts in
-        let rest = turns_to_come ss (behind_instance f r) in
-        let whole : left_of ss roots root (frames ++ f ∷ [])
-        ≡ enter extent_there ∷ (front ++ rest) ++ left_of ss roots root frames =
-        left_more ss roots root frames f
-        ∙ ap (λ turns. turns ++ left_of ss roots root frames) (next_turns over) in
-        let items : given (left_of ss roots root (frames ++ f ∷ []))
-        ≡ (map (placed_item placing) below ++ given rest)
-        ++ given (left_of ss roots root frames) =
-        ap given whole ∙ given_append (front ++ rest) (left_of ss roots root frames)
-        ∙ ap (λ is. is ++ given (left_of ss roots root frames))
-        (given_append front rest
-        ∙ ap (λ is. is ++ given rest)
-        (given_placed placing ts ∙ ap (map (placed_item placing)) below_given)) in
-        let close = subst (All IsCloseItem) items w.close in
-        first_short placing below (next_shows ss f last.0 target r x) (own_close g shown)
-        (all_left IsCloseItem (map (placed_item placing) below) (given rest)
-        (all_left IsCloseItem _ (given (left_of ss roots root frames)) close))
+    module _ (over : length f.node.now.shapes.items ≤ f.shape) where
+      abbrev behind : List Frame
+      behind = v.frames.items ++ behind_instance f r ∷ []
 
-    module _ (over : length f.node.now.shapes.items ≤ f.shape) (g : Frame)
-        (shown : ShowsName ss f.submission (λ _. r.name) g) (p : Placing) (p_is : p ≡ placing) where
-      abbrev behind : Frame
-      behind = behind_instance f r
-
-      abbrev inner : Frame
-      inner = record g { placing = p }
-
-      pub short : IsWithin p.by
-      short = subst (λ (t : Placing). IsWithin t.by) (sym p_is) (placing_short over g shown)
-
-      inner_shows : Shows ss f.submission last.0.submission r.name inner
-      inner_shows =
-          placed_shows ss f.submission last.0.submission r.name g p
-          (shown last.0.submission last.0.is) short
-
-      inner_turns : turns_to_come ss inner
-          ≡ map (placed_turn placing) (named_turns ss f.submission r.name)
-      unfolding turns_to_come
-      inner_turns =
-          ap (λ t. map (placed_turn t) (turns_within ss inner)) p_is
-          ∙ ap (map (placed_turn placing)) inner_shows.turns
-
-      entered_left : left_of ss roots root (frames ++ f ∷ [])
-          ≡ enter extent_there ∷ left_of ss roots root ((frames ++ behind ∷ []) ++ inner ∷ [])
-      entered_left =
-          let whole =
-          left_more ss roots root frames f
-          ∙ ap (λ turns. turns ++ left_of ss roots root frames) (next_turns over) in
-          let under = left_more ss roots root frames behind in
-          let over =
-          left_more ss roots root (frames ++ behind ∷ []) inner
-          ∙ ap (λ turns. turns ++ left_of ss roots root (frames ++ behind ∷ [])) inner_turns
-          ∙ ap
-          (λ turns. map (placed_turn placing) (named_turns ss f.submission r.name) ++ turns)
-          under in
-          whole
-          ∙ ap (λ turns. enter extent_there ∷ turns)
-          (append_assoc (map (placed_turn placing) (named_turns ss f.submission r.name))
-          (turns_to_come ss behind) (left_of ss roots root frames) ∙ sym over)
-
-      -- the extent of its node, placed
-      extent_is : option_map (placed_box p) g.node.now.size.extent ≡ extent_there
-      extent_is =
-          let size : g.node.now.size.extent
-          ≡ extent_of (given (named_turns ss f.submission r.name)) =
-          inner_shows.size.extent ∙ ap extent_of (sym below_given) in
-          ap (λ t. option_map (placed_box t) g.node.now.size.extent) p_is
-          ∙ ap (option_map (placed_box placing)) size
-
-      told : (b : Bool) → is_in window (option_map (placed_box p) g.node.now.size.extent) ≡ b
-          → is_in window extent_there ≡ b
-      told b h = sym (ap (is_in window) extent_is) ∙ h
-
-      pub near : IsExtentNear g.node.now.size.extent
-      near = inner_shows.size.near
-
-      pub lower : length (frames ++ behind ∷ []) + g.node.now.size.height ≤ 64
-      lower =
-          let less =
-          less_high law ss f last.0 target r x g (shown last.0.submission last.0.is)
-          (omega (arith, last.1)) in
-          omega (arith, less, last.1, length-append frames (behind ∷ []))
-
-      behind_low : length frames + behind.node.now.size.height ≤ 64
-      behind_low =
-          behind_cases f r (λ (b : Frame). length frames + b.node.now.size.height ≤ 64)
-          (λ _. last.1) (λ _ _. last.1) (λ _ _. last.1)
-
-      taken_entered : is_in window extent_there ≡ true
-          → left_in window ss roots root (frames ++ f ∷ [])
-          ≡ enter extent_there
-          ∷ left_in window ss roots root ((frames ++ behind ∷ []) ++ inner ∷ [])
-      taken_entered met =
-          ap (taken window) entered_left
-          ∙ taken_in window (enter extent_there)
-          (left_of ss roots root ((frames ++ behind ∷ []) ++ inner ∷ [])) met
-
-      pub entered_way : is_in window (option_map (placed_box p) g.node.now.size.extent) ≡ true
-          → IsOnWay window ss roots root (turns + 1) ((frames ++ behind ∷ []) ++ inner ∷ [])
-      entered_way met =
-          let rest = left_in window ss roots root ((frames ++ behind ∷ []) ++ inner ∷ []) in
-          let long : length (left_in window ss roots root (frames ++ f ∷ [])) ≡ suc (length rest) =
-          ap length (taken_entered (told true met)) in record {
-            read = w.read;
-            present = w.present;
-            begun = w.begun;
-            each =
-                each_push ss (frames ++ behind ∷ []) inner
-                (each_push ss frames behind (each_front ss frames f w.each)
-                (behind_frame ss f last.0 target r x) behind_low) inner_shows.frame lower;
-            close = subst (λ turns. All IsCloseItem (given turns)) entered_left w.close;
-            few = omega (arith, w.few, long);
-          }
-
-      pub entered_does : is_in window (option_map (placed_box p) g.node.now.size.extent) ≡ true
-          → GoesOn
-          (record { turns = turns; left = left_in window ss roots root (frames ++ f ∷ []) })
-          (record {
-            turns = turns + 1;
-            left = left_in window ss roots root ((frames ++ behind ∷ []) ++ inner ∷ []);
-          })
-          × (work_left ss roots root ((frames ++ behind ∷ []) ++ inner ∷ [])
-          < work_left ss roots root (frames ++ f ∷ []))
-      entered_does met =
-          let same = taken_entered (told true met) in
-          let all : length (left_of ss roots root (frames ++ f ∷ []))
-          ≡ suc (length (left_of ss roots root ((frames ++ behind ∷ []) ++ inner ∷ []))) =
-          ap length entered_left in
-          let long : length (left_in window ss roots root (frames ++ f ∷ []))
-          ≡ suc
-          (length (left_in window ss roots root ((frames ++ behind ∷ []) ++ inner ∷ []))) =
-          ap length same in (
-            record {
-              first = ap first_given same;
-              behind = ap behind_first same;
-              count = omega (arith, long);
-            },
-            omega (
-              arith,
-              all,
-              length-append frames (behind ∷ []),
-              length-append (frames ++ behind ∷ []) (inner ∷ []),
-              length-append frames (f ∷ []),
-            ),
-          )
-
-      -- an instance that misses the window is passed over, with all that it shows
-      missed_left : left_of ss roots root (frames ++ f ∷ [])
-          ≡ (enter extent_there ∷ map (placed_turn placing) (named_turns ss f.submission r.name))
-          ++ left_of ss roots root (frames ++ behind ∷ [])
+      missed_left : ahead v (v.frames.items ++ f ∷ [])
+          ≡ (enter (extent_there v.shelf.now f r) ∷ shown_there v.shelf.now f r) ++ ahead v behind
       missed_left =
-          let shown = map (placed_turn placing) (named_turns ss f.submission r.name) in
-          left_more ss roots root frames f
-          ∙ ap (λ turns. turns ++ left_of ss roots root frames) (next_turns over)
-          ∙ ap (λ turns. enter extent_there ∷ turns)
-          (append_assoc shown (turns_to_come ss behind) (left_of ss roots root frames)
-          ∙ ap (λ turns. shown ++ turns) (sym (left_more ss roots root frames behind)))
+          let ss = v.shelf.now in
+          let shown = shown_there ss f r in
+          left_more ss v.roots.now v.root v.frames.items f
+          ∙ ap (λ turns. turns ++ ahead v v.frames.items)
+          (instance_next law.extents.again ss f (last_frame v f w) target r x over some_turns)
+          ∙ ap (λ turns. enter (extent_there ss f r) ∷ turns)
+          (append_assoc shown (turns_to_come ss (behind_instance f r)) (ahead v v.frames.items)
+          ∙ ap (λ turns. shown ++ turns)
+          (sym (left_more ss v.roots.now v.root v.frames.items (behind_instance f r))))
 
-      taken_missed : is_in window extent_there ≡ false
-          → left_in window ss roots root (frames ++ f ∷ [])
-          ≡ left_in window ss roots root (frames ++ behind ∷ [])
-      taken_missed missed =
-          let names = named_turns ss f.submission r.name in
-          let shown = map (placed_turn placing) names in
-          let rest = left_of ss roots root (frames ++ behind ∷ []) in
-          let none : taken window (enter extent_there ∷ shown) ≡ [] =
-          taken_out window (enter extent_there) shown missed
-          ∙ missed_taken law.extents window placing names
-          (named_holds law.extents.placed ss f.submission last.0.submission last.0.is r.name)
-          missed in
-          ap (taken window) missed_left ∙ taken_append window (enter extent_there ∷ shown) rest
-          ∙ ap (λ turns. turns ++ taken window rest) none
+      placing_short : IsWithin (next_placing f r).by
+      placing_short =
+          let t = next_placing f r in
+          let ts = named_turns v.shelf.now f.submission r.name in
+          let items : given (ahead v (v.frames.items ++ f ∷ []))
+          ≡ map (placed_item t) below ++ given (ahead v behind) =
+          ap given missed_left ∙ given_append (shown_there v.shelf.now f r) (ahead v behind)
+          ∙ ap (λ is. is ++ given (ahead v behind))
+          (given_placed t ts ∙ ap (map (placed_item t)) below_given) in
+          first_short t below some_below own_close
+          (all_left IsCloseItem (map (placed_item t) below) (given (ahead v behind))
+          (subst (All IsCloseItem) items w.close))
 
-      pub missed_way : is_in window (option_map (placed_box p) g.node.now.size.extent) ≡ false
-          → IsOnWay window ss roots root turns (frames ++ behind ∷ [])
-      missed_way missed =
-          let shown = map (placed_turn placing) (named_turns ss f.submission r.name) in
-          let rest = left_of ss roots root (frames ++ behind ∷ []) in
-          let items : given (left_of ss roots root (frames ++ f ∷ [])) ≡ given shown ++ given rest =
-          ap given missed_left ∙ given_append shown rest in record {
-            read = w.read;
-            present = w.present;
-            begun = w.begun;
-            each =
-                each_push ss frames behind (each_front ss frames f w.each)
-                (behind_frame ss f last.0 target r x) behind_low;
-            close =
-                all_right IsCloseItem (given shown) (given rest)
-                (subst (All IsCloseItem) items w.close);
-            few =
-                subst (λ left. turns + length left < 2 ^ 64) (taken_missed (told false missed))
-                w.few;
-          }
+      behind_low : length v.frames.items + (behind_instance f r).node.now.size.height ≤ 64
+      behind_low =
+          let low = last_low v f w in
+          behind_cases f r (λ (b : Frame). length v.frames.items + b.node.now.size.height ≤ 64)
+          (λ _. low) (λ _ _. low) (λ _ _. low)
 
-      pub missed_does : is_in window (option_map (placed_box p) g.node.now.size.extent) ≡ false
-          → GoesOn
-          (record { turns = turns; left = left_in window ss roots root (frames ++ f ∷ []) })
-          (record {
-            turns = turns;
-            left = left_in window ss roots root (frames ++ behind ∷ []);
-          })
-          × (work_left ss roots root (frames ++ behind ∷ [])
-          < work_left ss roots root (frames ++ f ∷ []))
-      missed_does missed =
-          let same = taken_missed (told false missed) in
-          let shown = map (placed_turn placing) (named_turns ss f.submission r.name) in
-          let rest = left_of ss roots root (frames ++ behind ∷ []) in
-          let all : length (left_of ss roots root (frames ++ f ∷ []))
-          ≡ suc (length (shown ++ rest)) = ap length missed_left in (
-            record {
-              first = ap first_given same;
-              behind = ap behind_first same;
-              count = ap (λ left. turns + length left) same;
-            },
-            omega (
-              arith,
-              all,
-              length-append shown rest,
-              length-append frames (behind ∷ []),
-              length-append frames (f ∷ []),
-            ),
-          )
+      behind_each : IsEach v.shelf.now behind
+      behind_each =
+          let ss = v.shelf.now in
+          each_push ss v.frames.items (behind_instance f r) (each_front ss v.frames.items f w.each)
+          (behind_frame ss f (last_frame v f w) target r x) behind_low
 
-      pub frames_room : length frames + 1 < 64
+      lower : length behind + g.node.now.size.height ≤ 64
+      lower =
+          let q = last_frame v f w in
+          let low = last_low v f w in
+          let less =
+          less_high law v.shelf.now f q target r x g (shown q.submission q.is)
+          (omega (arith, low)) in
+          omega (arith, less, low, length-append v.frames.items (behind_instance f r ∷ []))
+
+      pub frames_room : length behind < 64
       frames_room =
-          omega (
-            arith,
-            lower,
-            length-append frames (behind ∷ []),
-            frame_high law ss g (shown last.0.submission last.0.is).frame,
-          )
+          let q = last_frame v f w in
+          omega (arith, lower, frame_high law v.shelf.now g (shown q.submission q.is).frame)
+
+      -- the placing as the code computes it
+      module _ (t p : Placing) (t_is : t ≡ instance r f.row f.column)
+          (by : p.by ≡ placed_point f.placing t.by)
+          (points : (q : Point) → placed_point p q ≡ placed_point f.placing (placed_point t q)) where
+        p_is : p ≡ next_placing f r
+        p_is = then_is t f.placing p by points ∙ ap (placed_again f.placing) t_is
+
+        pub short : IsWithin p.by
+        short = subst (λ (t : Placing). IsWithin t.by) (sym p_is) placing_short
+
+        inner_shows : Shows v.shelf.now f.submission (last_frame v f w).submission r.name
+            (record g { placing = p })
+        inner_shows =
+            let q = last_frame v f w in
+            placed_shows v.shelf.now f.submission q.submission r.name g p (shown q.submission q.is)
+            short
+
+        -- the extent of its node, placed
+        told : (b : Bool) → is_in v.window (option_map (placed_box p) g.node.now.size.extent) ≡ b
+            → is_in v.window (extent_there v.shelf.now f r) ≡ b
+        told b h =
+            let size : g.node.now.size.extent
+            ≡ extent_of (given (named_turns v.shelf.now f.submission r.name)) =
+            inner_shows.size.extent ∙ ap extent_of (sym below_given) in
+            let extent =
+            ap (λ t. option_map (placed_box t) g.node.now.size.extent) p_is
+            ∙ ap (option_map (placed_box (next_placing f r))) size in
+            sym (ap (is_in v.window) extent) ∙ h
+
+        inner_turns : turns_to_come v.shelf.now (record g { placing = p })
+            ≡ shown_there v.shelf.now f r
+        unfolding turns_to_come
+        inner_turns =
+            ap (λ t. map (placed_turn t) (turns_within v.shelf.now (record g { placing = p }))) p_is
+            ∙ ap (map (placed_turn (next_placing f r))) inner_shows.turns
+
+        entered_left : ahead v (v.frames.items ++ f ∷ [])
+            ≡ enter (extent_there v.shelf.now f r)
+            ∷ ahead v (behind ++ (record g { placing = p }) ∷ [])
+        entered_left =
+            let ss = v.shelf.now in
+            missed_left
+            ∙ ap (λ turns. enter (extent_there ss f r) ∷ turns)
+            (sym
+            (left_more ss v.roots.now v.root behind (record g { placing = p })
+            ∙ ap (λ turns. turns ++ ahead v behind) inner_turns))
+
+        pub enters_instance : is_in v.window (option_map (placed_box p) g.node.now.size.extent)
+            ≡ true → (stack : Stack) → stack.items ≡ behind ++ (record g { placing = p }) ∷ []
+            → Comes steps.On v (v.frames.items ++ f ∷ [])
+            (record v { frames = stack; turns = v.turns + 1 })
+        enters_instance met stack is =
+            enters v (v.frames.items ++ f ∷ []) w v.root (behind ++ (record g { placing = p }) ∷ [])
+            w.begun
+            (each_push v.shelf.now behind (record g { placing = p }) behind_each inner_shows.frame
+            lower)
+            stack is (extent_there v.shelf.now f r) entered_left (told true met)
+            (omega (
+              arith,
+              length-append v.frames.items (behind_instance f r ∷ []),
+              length-append behind ((record g { placing = p }) ∷ []),
+              length-append v.frames.items (f ∷ []),
+            ))
+
+        -- an instance that misses the window is passed over, with all that it shows
+        pub misses_instance : is_in v.window (option_map (placed_box p) g.node.now.size.extent)
+            ≡ false → (stack : Stack) → stack.items ≡ behind
+            → Comes steps.On v (v.frames.items ++ f ∷ []) (record v { frames = stack })
+        misses_instance missed stack is =
+            let q = last_frame v f w in
+            let extent = extent_there v.shelf.now f r in
+            let shown = shown_there v.shelf.now f r in
+            let none : taken v.window (enter extent ∷ shown) ≡ [] =
+            taken_out v.window (enter extent) shown (told false missed)
+            ∙ missed_taken law.extents v.window (next_placing f r)
+            (named_turns v.shelf.now f.submission r.name)
+            (named_holds law.extents.placed v.shelf.now f.submission q.submission q.is r.name)
+            (told false missed) in
+            passes v (v.frames.items ++ f ∷ []) w v.root behind w.begun behind_each stack is
+            (enter extent ∷ shown) missed_left none
+            (omega (
+              arith,
+              length-append v.frames.items (behind_instance f r ∷ []),
+              length-append v.frames.items (f ∷ []),
+            ))

@@ -101,6 +101,13 @@ got {X = X} xs k o x is at within =
     subst (λ (p : Option (Bor X)). IfSome p (λ (y : Bor X). y.now ≡ get_or xs k y.now)) is at in
     slice_get_read xs (length xs) k x.now refl within h
 
+pub found : {X : Type 0} (xs : List X) (k : ℕ) (o : Option (Bor X)) (x : Bor X) → o ≡ Some x
+    → is_some o ≡ nat_lt k (length xs) → IfSome o (λ (y : Bor X). y.now ≡ get_or xs k y.now)
+    → slice_get xs k ≡ Some x.now
+found xs k o x is told at =
+    let e : nat_lt k (length xs) ≡ true = sym told ∙ ap is_some is in
+    let within : k < length xs = grind (arith, nat_tests) in got xs k o x is at within
+
 pub one : {X : Type 0} (o : Option X) (x y : X) → o ≡ Some x → o ≡ Some y → x ≡ y
 one o x y e f = let g : Some x ≡ Some y = sym e ∙ f in cc
 
@@ -110,11 +117,6 @@ pub structure_within : (ss : List Submission) (number : ℕ) (nodes : List Node)
 structure_within ss number nodes place node w at =
     slice_get_within w.submission.library node.structure (w.shown.each place node at).structure
     (w.shown.each place node at).is
-
-pub some_within : {X : Type 0} (o : Option X) (x : X) (k n : ℕ) → o ≡ Some x
-    → is_some o ≡ nat_lt k n → k < n
-some_within o x k n is told =
-    let e : nat_lt k n ≡ true = sym told ∙ ap is_some is in grind (arith, nat_tests)
 
 pub none_within : {X : Type 0} (o : Option X) (k n : ℕ) → o ≡ None → is_some o ≡ nat_lt k n → n ≤ k
 none_within o k n is told =

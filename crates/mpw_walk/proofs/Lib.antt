@@ -22,6 +22,7 @@ pub mod Targets
 pub mod FrameStacks
 pub mod GivenShapes
 pub mod EnteredInstances
+pub mod Steps
 pub mod LeftFrames
 pub mod EnteredRoots
 pub mod Kept

@@ -1,5 +1,5 @@
 -- Placings one behind another, and what they place.
-use Rattle.std.proofs.Common.{◌≡◌, ℕ, zero, suc, pos, negsuc, ◌+ℤ◌, refl, sym, ap, ◌∙◌, arith, List, [], ◌∷◌, map, Option, Some, None, if◌then◌else◌}
+use Rattle.std.proofs.Common.{◌≡◌, ℕ, zero, suc, Bool, true, false, pos, negsuc, ◌+ℤ◌, refl, sym, ap, ◌∙◌, arith, List, [], ◌∷◌, map, Option, Some, None, if◌then◌else◌}
 use Rattle.std.specs.Prelude.{int_lt, option_map}
 use Rattle.std.proofs.lemmas.Int.{ints}
 use Rattle.mpw_geom.specs.declared.plane.Box2.{Box2}
@@ -7,7 +7,7 @@ use Rattle.mpw_geom.specs.declared.plane.Orient.{Orient}
 use Rattle.mpw_geom.specs.declared.plane.Orient.TheVariants.{R0, R90, R180, R270, M0, M90, M180, M270}
 use Rattle.mpw_geom.specs.declared.plane.Point.{Point}
 use Rattle.mpw_geom.specs.declared.placing.Placing.{Placing}
-use Rattle.mpw_geom.specs.Placing.{by_orient, times, mirrored_point, turned_point, moved_point, oriented_point, placed_point}
+use Rattle.mpw_geom.specs.Placing.{is_mirrored, quarter_turns, by_orient, times, mirrored_point, turned_point, moved_point, oriented_point, placed_point}
 use Rattle.mpw_geom.proofs.Chains.{same_point, placed-placed_point}
 use Rattle.mpw_hier.specs.Items.{Item, mirrored, turned, placed_again, placed_item}
 use Rattle.mpw_hier.specs.Boxes.{placed_box}
@@ -26,14 +26,13 @@ turns_go turn turn' f g (suc n) a = g (times turn n a) ∙ ap turn' (turns_go tu
 orients_go : {A B : Type 0} (mirror turn : A → A) (mirror' turn' : B → B) (f : A → B)
     → ((a : A) → f (mirror a) ≡ mirror' (f a)) → ((a : A) → f (turn a) ≡ turn' (f a))
     → (o : Orient) (a : A) → f (by_orient mirror turn o a) ≡ by_orient mirror' turn' o (f a)
-orients_go m t m' t' f h g R0 a = refl
-orients_go m t m' t' f h g R90 a = turns_go t t' f g 1 a
-orients_go m t m' t' f h g R180 a = turns_go t t' f g 2 a
-orients_go m t m' t' f h g R270 a = turns_go t t' f g 3 a
-orients_go m t m' t' f h g M0 a = h a
-orients_go m t m' t' f h g M90 a = turns_go t t' f g 1 (m a) ∙ ap (times t' 1) (h a)
-orients_go m t m' t' f h g M180 a = turns_go t t' f g 2 (m a) ∙ ap (times t' 2) (h a)
-orients_go m t m' t' f h g M270 a = turns_go t t' f g 3 (m a) ∙ ap (times t' 3) (h a)
+orients_go m t m' t' f h g o a =
+    turns_go t t' f g (quarter_turns o) (if is_mirrored o then m a else a)
+    ∙ ap (times t' (quarter_turns o)) (go (is_mirrored o))
+  where
+    go : (b : Bool) → f (if b then m a else a) ≡ (if b then m' (f a) else f a)
+    go true = h a
+    go false = refl
 
 mirrored_acts : (p : Point) (o : Orient)
     → oriented_point (mirrored o) p ≡ mirrored_point (oriented_point o p)

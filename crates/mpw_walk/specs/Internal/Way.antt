@@ -9,7 +9,7 @@ use Rattle.mpw_walk.specs.declared.way.Step.{Step}
 use Rattle.mpw_walk.specs.declared.way.Step.TheVariants as steps
 use Rattle.mpw_walk.specs.Turns.{Walked, behind_first}
 use Rattle.mpw_walk.specs.Internal.Turns.{first_given}
-use Rattle.mpw_walk.specs.Way.{left_of, walked, left, item_of, IsPlaceable}
+use Rattle.mpw_walk.specs.Way.{left_of, walked, item_of, IsPlaceable}
 
 -- What falls with each step.
 abbrev pub work_left : List Submission → List Root → ℕ → List Frame → ℕ

@@ -1,8 +1,8 @@
 use Rattle.std.proofs.Common.{◌≡◌, ◌≤◌, length, arith, subst}
 use Rattle.std.specs.Prelude.{Option, None, IfNone}
-use Rattle.mpw_walk.proofs.FrameStacks.{each_last}
-use Rattle.mpw_walk.proofs.LeftFrames.{left_way, left_does}
+use Rattle.mpw_walk.proofs.LeftFrames.{leaves}
 use Rattle.mpw_walk.proofs.Nexts.{has_reference}
+use Rattle.mpw_walk.proofs.Steps.{last_frame}
 use Rattle.mpw_walk.proofs.way.Way.go_on.Goals as goal
 use Rattle.mpw_walk.proofs.way.Way.go_on.Goals.{in-Some, in_default}
 
@@ -10,35 +10,24 @@ pub reference-requires : goal.reference-requires
 reference-requires c =
     let v = c.args.self.now in
     let f = c.args.frame.now in
-    has_reference v.shelf.now f (each_last v.shelf.now v.frames.items f c.requires.each).0
+    has_reference v.shelf.now f (last_frame v f c.requires)
 
 none_next : {X : Type 0} (o : Option X) (P : Type 0) → IfNone o P → o ≡ None → P
 none_next o P h is = subst (λ x. IfNone x P) is h
 
-pub returns-clause-way : goal.returns-clause-way
-returns-clause-way c =
+pub returns : goal.returns
+returns c =
     let v = c.args.self.now in
     let f = c.args.frame.now in
     elim c.match-reference.branch [
-      | in-Some w ↦ rw w.self-is w.enter.ensures.way
+      | in-Some w ↦ rw w.self-is (record {
+        way = w.enter.ensures.way;
+        does = w.enter.ensures.does;
+      })
       | in_default w ↦ let none = none_next c.reference.result _ c.reference.ensures.none
           w.in_default.is in
           let over : length f.node.now.shapes.items ≤ f.shape =
           omega (arith, c.if-frame-len.false, c.len.ensures, f.node.now.shapes.ok.0) in
-          rw w.self-is (left_way c.names_are_walked.ensures v.window v.shelf.now v.roots.now v.root
-          v.turns v.frames.items f c.requires over none)
-    ]
-
-pub returns-clause-does : goal.returns-clause-does
-returns-clause-does c =
-    let v = c.args.self.now in
-    let f = c.args.frame.now in
-    elim c.match-reference.branch [
-      | in-Some w ↦ rw w.self-is w.enter.ensures.does
-      | in_default w ↦ let none = none_next c.reference.result _ c.reference.ensures.none
-          w.in_default.is in
-          let over : length f.node.now.shapes.items ≤ f.shape =
-          omega (arith, c.if-frame-len.false, c.len.ensures, f.node.now.shapes.ok.0) in
-          rw w.self-is (left_does c.names_are_walked.ensures v.window v.shelf.now v.roots.now v.root
-          v.turns v.frames.items f c.requires over none)
+          let left = leaves v f c.requires over none in
+          rw w.self-is (record { way = left.way; does = left.does })
     ]
