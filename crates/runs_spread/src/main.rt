@@ -9,7 +9,7 @@
 mod told;
 
 use anyhow::{Result, bail};
-use mpw_check::{read_layout, tile_count};
+use mpw_check::{Silent, read_layout, tile_count};
 use mpw_deck::read_deck;
 use mpw_geom::Name;
 use mpw_parts::{Part, read_part, stitch_parts, write_part};
@@ -81,7 +81,14 @@ fn part_text(
         layout.top.copy()?,
         tiles,
     );
-    let part = check_part(threads, alloc, subject, &layout.snapshot, span)?;
+    let part = check_part(
+        threads,
+        alloc,
+        subject,
+        &layout.snapshot,
+        span,
+        &mut Silent,
+    )?;
     let mut written = Vec::new(alloc);
     write_part(alloc, &mut written, &part)?;
     Ok(Some(written))
