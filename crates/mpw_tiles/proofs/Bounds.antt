@@ -155,9 +155,6 @@ beside b s p q h k t =
     let l = le_from_test p.x s.column u.0 in
     let m = le_from_test p.y s.row v.0 in
     let n = lt_from_test s.row q.y v.1 in
-    let h0 = h.left in
-    let h1 = h.bottom in
-    let k3 = k.top in
     record { left = omega (arith, ints); bottom = omega (arith, ints); top = omega (arith, ints) }
 
 closed_inside : (b : Box2) (corners : List Point) → hull_of_points corners ≡ Some b
@@ -229,22 +226,12 @@ boxed_inside None b s h i = absurd h
 boxed_inside (Some c) b s h i = record {
   box = c;
   is = refl;
-  has = (
-      let h0 = h.left in
-      let h1 = h.right in
-      let h2 = h.bottom in
-      let h3 = h.top in
-      let i0 = i.left in
-      let i1 = i.right in
-      let i2 = i.bottom in
-      let i3 = i.top in
-      record {
-        left = omega (arith, ints);
-        right = omega (arith, ints);
-        bottom = omega (arith, ints);
-        top = omega (arith, ints);
-      }
-      );
+  has = record {
+    left = omega (arith, ints);
+    right = omega (arith, ints);
+    bottom = omega (arith, ints);
+    top = omega (arith, ints);
+  };
 }
 
 boundary_boxed : (corners : List Point) (s : Square) (o : Option Box2) → hull_of_points corners ≡ o
@@ -260,10 +247,6 @@ boundary_boxed corners s (Some b) e h =
 
 area_test : (b : Box2) (s : Square) → SquareIn b s → has_area b ≡ true
 area_test b s i =
-    let l = i.left in
-    let r = i.right in
-    let d = i.bottom in
-    let t = i.top in
     and_from _ _ (test_from_lt b.x0 b.x1 (omega (arith, ints)))
     (test_from_lt b.y0 b.y1 (omega (arith, ints)))
 
@@ -285,10 +268,6 @@ placed_boxed : (t : Placing) (b : Box2) (q : Square) → SquareIn b q
     → SquareIn (placed_box t b) (placed_square t q)
 unfolding placed_box
 placed_boxed t b q i =
-    let l = i.left in
-    let r = i.right in
-    let d = i.bottom in
-    let u = i.top in
     let same = placed_squares t b q (omega (arith, ints)) (omega (arith, ints)) in
     SquareIn-from_test _ (placed_square t q) (same ∙ test_from_SquareIn b q i)
 
@@ -352,16 +331,7 @@ near_roots ss (root ∷ roots) h =
 
 near_square : (b : Box2) (s : Square) → is_box_near b ≡ true → SquareIn b s → IsSquareInPlane s
 near_square b s n i =
-    let h = close_box b n in
-    let a0 = h.x0.low in
-    let a1 = h.x1.high in
-    let b0 = h.y0.low in
-    let b1 = h.y1.high in
-    let i0 = i.left in
-    let i1 = i.right in
-    let i2 = i.bottom in
-    let i3 = i.top in
-    record {
+    let h = close_box b n in record {
       left = omega (arith, ints);
       right = omega (arith, ints);
       bottom = omega (arith, ints);

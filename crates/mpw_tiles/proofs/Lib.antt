@@ -1,4 +1,5 @@
 pub mod Tiles
+pub mod Added
 pub mod Lists
 pub mod Placed
 pub mod Showing

@@ -6,7 +6,7 @@ use Rattle.std.proofs.lemmas.Int.{ints}
 use Rattle.std.proofs.lemmas.List.Elements.{Contains-append_left, Contains-push, Contains-push_cases}
 use Rattle.std.proofs.lemmas.List.{take_more}
 use Rattle.std.proofs.Math.ListN.{length-set}
-use Rattle.mpw_region.proofs.Held.{Held-nil, Held-push_left, Held-push_new, Held-push_cases}
+use Rattle.mpw_region.proofs.Held.{Held-push_left, Held-push_new, Held-push_cases}
 use Rattle.mpw_grid.specs.declared.grid.Block.{Block}
 use Rattle.mpw_geom.specs.declared.plane.Layer.{Layer}
 use Rattle.mpw_geom.specs.Plane.{Square, has_square}
@@ -17,6 +17,7 @@ use Rattle.mpw_tiles.specs.declared.listing.Rectangle.{Rectangle}
 use Rattle.mpw_tiles.specs.Plan.{Tiling, tiles, tile_window}
 use Rattle.mpw_tiles.specs.Listing.{IsListed, HasSquareOf, AreWindowsOf}
 use Rattle.mpw_tiles.specs.Internal.Listing.{Lists, IsInRow, IsInRows, AddsSquares}
+use Rattle.mpw_tiles.proofs.Added.{adds_none, adds_next, added_to_none}
 
 abbrev Tiles : Type 0
 Tiles = List (List Rectangle)
@@ -221,24 +222,16 @@ adds_rectangle plan old new r block count h meets = record {
 -- a rectangle without area adds none
 pub adds_nothing : (plan : Tiling) (old : Tiles) (r : Rectangle)
     → ((s : Square) → has_square r.area s ≡ true → ⊥) → AddsSquares plan old old (HasSquareOf r)
-adds_nothing plan old r none = record {
-  count = refl;
-  squares = λ tile s layer origin u w. (
-    λ l. inl l,
-    λ p. elim p [ inl l ↦ l | inr q ↦ absurd (none s q.has) ],
-  );
-  near = λ tile x u c. inl c;
-}
+adds_nothing plan old r none =
+    adds_none plan old (HasSquareOf r) (λ layer origin s q. none s q.has)
 
 pub no_width : (r : Rectangle) → r.area.x1 ≤ℤ r.area.x0 → (s : Square) → has_square r.area s ≡ true
     → ⊥
-no_width r h s t = let i = SquareIn-from_test r.area s t in let a = i.left in let b = i.right in
-    omega (arith, ints)
+no_width r h s t = let i = SquareIn-from_test r.area s t in omega (arith, ints)
 
 pub no_height : (r : Rectangle) → r.area.y1 ≤ℤ r.area.y0 → (s : Square) → has_square r.area s ≡ true
     → ⊥
-no_height r h s t = let i = SquareIn-from_test r.area s t in let a = i.bottom in let b = i.top in
-    omega (arith, ints)
+no_height r h s t = let i = SquareIn-from_test r.area s t in omega (arith, ints)
 
 -- ---- many rectangles
 
@@ -261,50 +254,14 @@ pub adds_more : (plan : Tiling) (a b c : Tiles) (rs : List Rectangle) (i : ℕ) 
     → i < length rs → AddsSquares plan a b (IsListed (take i rs))
     → AddsSquares plan b c (HasSquareOf (get_or rs i d))
     → AddsSquares plan a c (IsListed (take (i + 1) rs))
-adds_more plan a b c rs i d h f g = record {
-  count = g.count ∙ f.count;
-  squares = λ tile s layer origin u w. (to tile s layer origin u w, from tile s layer origin u w);
-  near = λ tile x u l. elim (g.near tile x u l) [ inl m ↦ f.near tile x u m | inr q ↦ inr q ];
-}
-  where
-    to : (tile : ℕ) (s : Square) (layer : Layer) (origin : ℕ) → tile < tiles plan
-        → has_square (tile_window plan tile) s ≡ true → IsListed (get_or c tile []) layer origin s
-        → IsListed (get_or a tile []) layer origin s ⊎ IsListed (take (i + 1) rs) layer origin s
-    to tile s layer origin u w l = elim ((g.squares tile s layer origin u w).0 l) [
-      | inl m ↦ elim ((f.squares tile s layer origin u w).0 m)
-          [ inl k ↦ inl k | inr p ↦ inr ((listed_more rs i d layer origin s h).0 (inl p)) ]
-      | inr q ↦ inr ((listed_more rs i d layer origin s h).0 (inr q))
-    ]
+adds_more plan a b c rs i d h f g =
+    adds_next plan a b c (IsListed (take i rs)) (HasSquareOf (get_or rs i d))
+    (IsListed (take (i + 1) rs)) (λ tile s layer origin u w. listed_more rs i d layer origin s h) f
+    g
 
-    from : (tile : ℕ) (s : Square) (layer : Layer) (origin : ℕ) → tile < tiles plan
-        → has_square (tile_window plan tile) s ≡ true → IsListed (get_or a tile []) layer origin s
-        ⊎ IsListed (take (i + 1) rs) layer origin s → IsListed (get_or c tile []) layer origin s
-    from tile s layer origin u w (inl k) = (g.squares tile s layer origin u w).1
-        (inl ((f.squares tile s layer origin u w).1 (inl k)))
-    from tile s layer origin u w (inr p) = elim ((listed_more rs i d layer origin s h).1 p) [
-      | inl q ↦ (g.squares tile s layer origin u w).1
-          (inl ((f.squares tile s layer origin u w).1 (inr q)))
-      | inr q ↦ (g.squares tile s layer origin u w).1 (inr q)
-    ]
-
--- what was added to empty windows is all that they have
 pub are_windows : (plan : Tiling) (old new : Tiles) (rs : List Rectangle) → length old ≡ tiles plan
     → All (λ (w : List Rectangle). w ≡ []) old → AddsSquares plan old new (IsListed rs)
     → AreWindowsOf plan rs new
-are_windows plan old new rs e empty f = record {
-  count = f.count ∙ e;
-  squares = λ tile s layer origin u w. (
-    λ l. elim ((f.squares tile s layer origin u w).0 l) [
-      | inl k ↦ absurd (Held-nil (λ (r : Rectangle). HasSquareOf r layer origin s)
-          (subst (λ (xs : List Rectangle). IsListed xs layer origin s)
-          (empty tile [] (subst (λ (n : ℕ). tile < n) (sym e) u)) k))
-      | inr p ↦ p
-    ],
-    λ p. (f.squares tile s layer origin u w).1 (inr p),
-  );
-  near = λ tile r u l. elim (f.near tile r u l) [
-    | inl k ↦ absurd (let c = subst (λ (xs : List Rectangle). Contains xs r)
-        (empty tile [] (subst (λ (n : ℕ). tile < n) (sym e) u)) k in omega (arith, c.1))
-    | inr q ↦ q
-  ];
-}
+are_windows plan old new rs e empty f =
+    let h = added_to_none plan old new (IsListed rs) e empty f in
+    record { count = h.count; squares = h.squares; near = h.near }

@@ -1,6 +1,6 @@
 -- Snapshots: their extents, their plans, and windows that stand for them.
-use Rattle.std.proofs.Common.{◌≡◌, ℕ, w64, SFits, to_z, of_z, ◌+◌, ◌≤◌, ◌<◌, ◌^◌, true, List, [], ◌∷◌, length, get_or, drop, max, Option, Some, None, inl, inr, refl, sym, subst, ap, ◌∙◌, arith}
-use Rattle.std.specs.Prelude.{Contains, IfOk, Result, Ok, Err, ℤ, pos, neg_ℤ, All, IfSome, fold}
+use Rattle.std.proofs.Common.{◌≡◌, ℕ, w64, SFits, to_z, of_z, ◌+◌, ◌≤◌, ◌<◌, ◌^◌, true, List, [], ◌∷◌, length, get_or, drop, max, Option, Some, None, refl, sym, subst, ap, ◌∙◌, arith}
+use Rattle.std.specs.Prelude.{IfOk, Result, Ok, Err, ℤ, pos, neg_ℤ, All, IfSome, fold}
 use Rattle.std.specs.Int.{int_min, int_max}
 use Rattle.std.proofs.lemmas.Bool.{and_parts, and_from}
 use Rattle.std.proofs.lemmas.Int.{ints, clamps, to_z-of_z}
@@ -23,15 +23,14 @@ use Rattle.mpw_walk.specs.Near.{IsClose}
 use Rattle.mpw_walk.specs.Turns.{flat_roots}
 use Rattle.mpw_walk.specs.Roots.{root_extent, roots_extent}
 use Rattle.std.specs.Result.{result_ok}
-use Rattle.mpw_region.proofs.Held.{Held-nil}
 use Rattle.mpw_tiles.specs.declared.listing.Rectangle.{Rectangle}
-use Rattle.mpw_tiles.specs.Listing.{IsListed, HasSquareOf}
 use Rattle.mpw_tiles.specs.Internal.Listing.{AddsSquares}
 use Rattle.mpw_tiles.specs.Shown.{IsShown}
 use Rattle.mpw_tiles.specs.Snapshots.{Snapshot, shown, plan_for, AreWindowsFor, StandFor}
 use Rattle.mpw_tiles.specs.Plan.{Tiling, greatest_distance, plan_of, tiles, tile_window}
 use Rattle.mpw_tiles.specs.Placed.{WindowsLieInPlane}
 use Rattle.mpw_tiles.specs.Internal.Placed.{nearest_point}
+use Rattle.mpw_tiles.proofs.Added.{added_to_none}
 
 -- ---- near boxes
 
@@ -69,10 +68,6 @@ unmoved p q e =
       x1 = int_max p.x q.x;
       y1 = int_max p.y q.y;
     }) e in
-    let a = h.x0.low in
-    let b = h.x1.high in
-    let c = h.y0.low in
-    let d = h.y1.high in
     same_box _ _ (omega (arith, ints, clamps)) (omega (arith, ints, clamps))
     (omega (arith, ints, clamps)) (omega (arith, ints, clamps))
 
@@ -162,25 +157,11 @@ pub windows_in_plane : WindowsReachNoFurther → (deck : Deck) (extent : Box2) �
     → IsOrdered extent → is_box_near extent ≡ true → WindowsLieInPlane (plan_of extent deck)
 windows_in_plane law deck extent d o n tile s u w =
     let h = close_box extent n in
-    let a = h.x0.low in
-    let b = h.y0.low in
-    let c = h.x1.high in
-    let e = h.y1.high in
     let m : greatest_distance deck.rules ≤ 65535 = least_distance 0 deck.rules (omega arith)
     d.rules in
-    let side = d.long in
-    let least = d.short in
     let r = law (plan_of extent deck).grid (plan_of extent deck).margin tile (2 ^ 30) (omega arith)
-    o u (record { left = a; right = c; bottom = b; top = e }) in
+    o u (record { left = h.x0.low; right = h.x1.high; bottom = h.y0.low; top = h.y1.high }) in
     let i = SquareIn-from_test (tile_window (plan_of extent deck) tile) s w in
-    let r0 = r.left in
-    let r1 = r.right in
-    let r2 = r.bottom in
-    let r3 = r.top in
-    let i0 = i.left in
-    let i1 = i.right in
-    let i2 = i.bottom in
-    let i3 = i.top in
     record {
       left = omega (arith, ints);
       right = omega (arith, ints);
@@ -191,14 +172,6 @@ windows_in_plane law deck extent d o n tile s u w =
 pub near_in_plane : (b : Box2) → is_box_near b ≡ true → IsBoxInPlane b
 near_in_plane b n =
     let h = close_box b n in
-    let a0 = h.x0.low in
-    let a1 = h.x0.high in
-    let b0 = h.y0.low in
-    let b1 = h.y0.high in
-    let c0 = h.x1.low in
-    let c1 = h.x1.high in
-    let d0 = h.y1.low in
-    let d1 = h.y1.high in
     record {
       x0 = record { low = omega (arith, ints); high = omega (arith, ints) };
       y0 = record { low = omega (arith, ints); high = omega (arith, ints) };
@@ -222,23 +195,9 @@ pub stand_for : (s : Snapshot) (plan : Tiling) (old new : List (List Rectangle))
     → plan_for s ≡ Some plan → length old ≡ tiles plan → All (λ (w : List Rectangle). w ≡ []) old
     → AddsSquares plan old new (IsShown (shown s)) → StandFor s new
 stand_for s plan old new e count empty f =
-    subst (λ (o : Option Tiling). AreWindowsFor o (shown s) new) (sym e) (record {
-      count = f.count ∙ count;
-      squares = λ tile q layer origin u w. (
-        λ l. elim ((f.squares tile q layer origin u w).0 l) [
-          | inl k ↦ absurd (Held-nil (λ (r : Rectangle). HasSquareOf r layer origin q)
-              (subst (λ (xs : List Rectangle). IsListed xs layer origin q)
-              (empty tile [] (subst (λ (n : ℕ). tile < n) (sym count) u)) k))
-          | inr p ↦ p
-        ],
-        λ p. (f.squares tile q layer origin u w).1 (inr p),
-      );
-      near = λ tile r u l. elim (f.near tile r u l) [
-        | inl k ↦ absurd (let c = subst (λ (xs : List Rectangle). Contains xs r)
-            (empty tile [] (subst (λ (n : ℕ). tile < n) (sym count) u)) k in omega (arith, c.1))
-        | inr q ↦ q
-      ];
-    })
+    let h = added_to_none plan old new (IsShown (shown s)) count empty f in
+    subst (λ (o : Option Tiling). AreWindowsFor o (shown s) new) (sym e)
+    (record { count = h.count; squares = h.squares; near = h.near })
 
 pub same_shown : (s : Snapshot) (shelf : List Submission) (roots : List Root) → shelf ≡ s.shelf
     → roots ≡ s.roots → flat_roots shelf roots ≡ shown s

@@ -1,101 +1,24 @@
--- The squares of placed boxes and shapes, as they are added to the lists of tiles.
-use Rattle.std.proofs.Common.{◌≡◌, ℕ, ◌+◌, ◌<◌, Bool, true, false, ◌||◌, List, [], ◌∷◌, ◌++◌, length, get_or, take, Option, Some, None, ◌⊎◌, inl, inr, refl, sym, subst, ap, ◌∙◌, arith}
-use Rattle.std.specs.Prelude.{◌↔◌, ℤ, pos, neg_ℤ, ◌-ℤ◌}
+-- The squares of placed boxes and shapes.
+use Rattle.std.proofs.Common.{◌≡◌, ℕ, zero, suc, ◌+◌, ◌<◌, Bool, true, false, if◌then◌else◌, ◌||◌, List, [], ◌∷◌, ◌++◌, length, get_or, take, Option, Some, ◌⊎◌, inl, inr, refl, sym, subst, ap, ◌∙◌, arith}
+use Rattle.std.specs.Prelude.{ℤ, pos, neg_ℤ, ◌-ℤ◌}
 use Rattle.std.proofs.lemmas.Bool.{false≢true}
 use Rattle.std.proofs.lemmas.Int.{ints}
 use Rattle.std.proofs.lemmas.List.Folds.{list_any_more}
-use Rattle.mpw_region.proofs.Held.{Held-nil, Held-push_left, Held-push_new, Held-push_cases}
+use Rattle.mpw_region.proofs.Held.{Held-push_left, Held-push_new, Held-push_cases}
 use Rattle.mpw_geom.specs.declared.plane.Box2.{Box2}
 use Rattle.mpw_geom.specs.declared.plane.Layer.{Layer}
-use Rattle.mpw_geom.specs.declared.plane.Orient.{Orient}
-use Rattle.mpw_geom.specs.declared.plane.Orient.TheVariants.{R0, R90, R180, R270, M0, M90, M180, M270}
-use Rattle.mpw_geom.specs.declared.plane.Point.{Point}
 use Rattle.mpw_geom.specs.declared.placing.Placing.{Placing}
 use Rattle.mpw_geom.specs.Plane.{Square, has_square, any_has_square}
-use Rattle.mpw_geom.specs.Placing.{placed_square, oriented_square}
+use Rattle.mpw_geom.specs.Placing.{is_mirrored, quarter_turns, times, mirrored_square, turned_square, moved_square, oriented_square, placed_square}
 use Rattle.mpw_shapes.specs.Element.{element_has}
 use Rattle.mpw_hier.specs.Items.{Item}
 use Rattle.mpw_tiles.specs.declared.listing.Rectangle.{Rectangle}
-use Rattle.mpw_tiles.specs.Plan.{Tiling, tiles, tile_window}
-use Rattle.mpw_tiles.specs.Listing.{IsListed, HasSquareOf}
-use Rattle.mpw_tiles.specs.Internal.Listing.{HasPlacedSquare, AddsSquares}
+use Rattle.mpw_tiles.specs.Plan.{Tiling}
+use Rattle.mpw_tiles.specs.Listing.{HasSquareOf}
+use Rattle.mpw_tiles.specs.Internal.Listing.{HasPlacedSquare}
 use Rattle.mpw_tiles.specs.Placed.{IsSquareInPlane, WindowsLieInPlane}
+use Rattle.mpw_tiles.proofs.Added.{AgreeInWindows, either}
 use Rattle.mpw_tiles.specs.Shown.{layer_of, ShowsSquare, IsShown}
-
-abbrev Tiles : Type 0
-Tiles = List (List Rectangle)
-
-abbrev Shows : Type 1
-Shows = Layer → ℕ → Square → Type 0
-
--- the same in the windows of the plan
-abbrev pub AgreeInWindows : Tiling → (Layer → ℕ → Square → Type 0) → (Layer → ℕ → Square → Type 0)
-    → Type 0
-AgreeInWindows plan P Q = (tile : ℕ) (s : Square) (layer : Layer) (origin : ℕ) → tile < tiles plan
-    → has_square (tile_window plan tile) s ≡ true → P layer origin s ↔ Q layer origin s
-
-abbrev either : (Layer → ℕ → Square → Type 0) → (Layer → ℕ → Square → Type 0) → Layer → ℕ → Square
-    → Type 0
-either P Q layer origin s = P layer origin s ⊎ Q layer origin s
-
--- ---- adding
-
-pub adds_none : (plan : Tiling) (old : Tiles) (P : Layer → ℕ → Square → Type 0)
-    → ((layer : Layer) (origin : ℕ) (s : Square) → P layer origin s → ⊥)
-    → AddsSquares plan old old P
-adds_none plan old P none = record {
-  count = refl;
-  squares = λ tile s layer origin u w. (
-    λ l. inl l,
-    λ p. elim p [ inl l ↦ l | inr q ↦ absurd (none layer origin s q) ],
-  );
-  near = λ tile x u c. inl c;
-}
-
-pub adds_next : (plan : Tiling) (a b c : Tiles) (P Q R : Layer → ℕ → Square → Type 0)
-    → AgreeInWindows plan (either P Q) R → AddsSquares plan a b P → AddsSquares plan b c Q
-    → AddsSquares plan a c R
-adds_next plan a b c P Q R agree f g = record {
-  count = g.count ∙ f.count;
-  squares = λ tile s layer origin u w. (to tile s layer origin u w, from tile s layer origin u w);
-  near = λ tile x u l. elim (g.near tile x u l) [ inl m ↦ f.near tile x u m | inr q ↦ inr q ];
-}
-  where
-    to : (tile : ℕ) (s : Square) (layer : Layer) (origin : ℕ) → tile < tiles plan
-        → has_square (tile_window plan tile) s ≡ true → IsListed (get_or c tile []) layer origin s
-        → IsListed (get_or a tile []) layer origin s ⊎ R layer origin s
-    to tile s layer origin u w l = elim ((g.squares tile s layer origin u w).0 l) [
-      | inl m ↦ elim ((f.squares tile s layer origin u w).0 m)
-          [ inl k ↦ inl k | inr p ↦ inr ((agree tile s layer origin u w).0 (inl p)) ]
-      | inr q ↦ inr ((agree tile s layer origin u w).0 (inr q))
-    ]
-
-    from : (tile : ℕ) (s : Square) (layer : Layer) (origin : ℕ) → tile < tiles plan
-        → has_square (tile_window plan tile) s ≡ true → IsListed (get_or a tile []) layer origin s
-        ⊎ R layer origin s → IsListed (get_or c tile []) layer origin s
-    from tile s layer origin u w (inl k) = (g.squares tile s layer origin u w).1
-        (inl ((f.squares tile s layer origin u w).1 (inl k)))
-    from tile s layer origin u w (inr r) = elim ((agree tile s layer origin u w).1 r) [
-      | inl p ↦ (g.squares tile s layer origin u w).1
-          (inl ((f.squares tile s layer origin u w).1 (inr p)))
-      | inr q ↦ (g.squares tile s layer origin u w).1 (inr q)
-    ]
-
-pub adds_same : (plan : Tiling) (a b : Tiles) (P R : Layer → ℕ → Square → Type 0)
-    → AgreeInWindows plan P R → AddsSquares plan a b P → AddsSquares plan a b R
-adds_same plan a b P R agree f = record {
-  count = f.count;
-  squares = λ tile s layer origin u w. (
-    λ l. elim ((f.squares tile s layer origin u w).0 l)
-        [ inl k ↦ inl k | inr p ↦ inr ((agree tile s layer origin u w).0 p) ],
-    λ p. elim p [
-      | inl k ↦ (f.squares tile s layer origin u w).1 (inl k)
-      | inr r
-          ↦ (f.squares tile s layer origin u w).1 (inr ((agree tile s layer origin u w).1 r))
-    ],
-  );
-  near = f.near;
-}
 
 -- ---- the square that a placing takes to a square
 
@@ -103,69 +26,36 @@ same_square : (a b : Square) → a.column ≡ b.column → a.row ≡ b.row → a
 same_square a b e f = ap (λ (p : ℤ × ℤ). let c : Square = record { column = p.0; row = p.1 } in c)
     (let k : (let q : ℤ × ℤ = (a.column, a.row) in q) ≡ (b.column, b.row) = cc in k)
 
-record Before (t : Placing) (s : Square) : Type 0 where
-  square : Square
-  placed : placed_square t square ≡ s
+pub record Before (t : Placing) (s : Square) : Type 0 where
+  pub square : Square
+  pub placed : placed_square t square ≡ s
 
-abbrev placing : Orient → Point → Placing
-placing o d = record { orient = o; by = d }
+unturned : (n : ℕ) (s : Square) → (q : Square) × (times turned_square n q ≡ s)
+unturned zero s = (s, refl)
+unturned (suc n) s =
+    let q = unturned n (record { column = s.row; row = neg_ℤ s.column -ℤ pos 1 }) in (
+      q.0,
+      ap turned_square q.1 ∙ same_square _ _ (omega (arith, ints)) (omega (arith, ints)),
+    )
 
-before : (o : Orient) (d : Point) (s : Square) → Before (placing o d) s
+unmirrored : (b : Bool) (s : Square)
+    → (q : Square) × ((if b then mirrored_square q else q) ≡ s)
+unmirrored true s =
+    (mirrored_square s, same_square _ _ (omega (arith, ints)) (omega (arith, ints)))
+unmirrored false s = (s, refl)
+
+pub before : (t : Placing) (s : Square) → Before t s
 unfolding placed_square oriented_square
-before R0 d s = record {
-  square = record { column = s.column -ℤ d.x; row = s.row -ℤ d.y };
-  placed = same_square _ _ (omega (arith, ints)) (omega (arith, ints));
-}
-before R90 d s = record {
-  square = record {
-    column = s.row -ℤ d.y;
-    row = neg_ℤ (s.column -ℤ d.x) -ℤ
-        pos 1;
-  };
-  placed = same_square _ _ (omega (arith, ints)) (omega (arith, ints));
-}
-before R180 d s = record {
-  square = record {
-    column = neg_ℤ (s.column -ℤ d.x) -ℤ pos 1;
-    row = neg_ℤ (s.row -ℤ d.y) -ℤ pos 1;
-  };
-  placed = same_square _ _ (omega (arith, ints))
-      (omega (arith, ints));
-}
-before R270 d s = record {
-  square = record {
-    column = neg_ℤ (s.row -ℤ d.y) -ℤ pos 1;
-    row = s.column -ℤ d.x;
-  };
-  placed = same_square _ _ (omega (arith, ints)) (omega (arith, ints));
-}
-before M0 d s = record {
-  square = record {
-    column = s.column -ℤ d.x;
-    row = neg_ℤ (s.row -ℤ d.y) -ℤ
-        pos 1;
-  };
-  placed = same_square _ _ (omega (arith, ints)) (omega (arith, ints));
-}
-before M90 d s = record {
-  square = record { column = s.row -ℤ d.y; row = s.column -ℤ d.x };
-  placed = same_square _ _ (omega (arith, ints)) (omega (arith, ints));
-}
-before M180 d s = record {
-  square = record {
-    column = neg_ℤ (s.column -ℤ d.x) -ℤ pos 1;
-    row = s.row -ℤ d.y;
-  };
-  placed = same_square _ _ (omega (arith, ints)) (omega (arith, ints));
-}
-before M270 d s = record {
-  square = record {
-    column = neg_ℤ (s.row -ℤ d.y) -ℤ pos 1;
-    row = neg_ℤ (s.column -ℤ d.x) -ℤ pos 1;
-  };
-  placed = same_square _ _ (omega (arith, ints))
-      (omega (arith, ints));
-}
+before t s =
+    let turn = times turned_square (quarter_turns t.orient) in
+    let q = unturned (quarter_turns t.orient)
+    (record { column = s.column -ℤ t.by.x; row = s.row -ℤ t.by.y }) in
+    let p = unmirrored (is_mirrored t.orient) q.0 in record {
+      square = p.0;
+      placed =
+          ap (λ (x : Square). moved_square t.by (turn x)) p.1 ∙ ap (moved_square t.by) q.1
+          ∙ same_square _ _ (omega (arith, ints)) (omega (arith, ints));
+    }
 
 -- ---- boxes
 
@@ -222,7 +112,7 @@ boxes_more plan boxes i d area t own number plane h exact tile s layer origin u 
       placed = p.placed;
     }
     to (inr p) =
-        let b = before t.orient t.by s in
+        let b = before t s in
         let k : has_square area (placed_square t b.square) ≡ true =
         subst (λ (x : Square). has_square area x ≡ true) (sym b.placed) p.has in
         let e = exact b.square (subst IsSquareInPlane (sym b.placed) (plane tile s u w)) in

@@ -1,11 +1,11 @@
 -- Pair steps belong to one tile, and windows decide.
-use Rattle.std.proofs.Common.{◌≡◌, ℕ, ◌≤◌, ℤ, pos, ◌-ℤ◌, true, List, [], ◌∷◌, max, inl, inr, ◌⊎◌, arith}
+use Rattle.std.proofs.Common.{◌≡◌, ℕ, ◌≤◌, ℤ, pos, ◌-ℤ◌, ◌≤ℤ◌, true, List, [], ◌∷◌, max, inl, inr, ◌⊎◌, arith}
 use Rattle.std.specs.Prelude.{Contains, All, ◌↔◌, fold}
 use Rattle.std.proofs.lemmas.Int.{ints}
 use Rattle.std.proofs.lemmas.List.Elements.{All-nil, All-cons, All-contains}
 use Rattle.mpw_geom.specs.declared.plane.Box2.{Box2}
 use Rattle.mpw_geom.specs.declared.plane.Point.{Point}
-use Rattle.mpw_geom.specs.Plane.{has_point, has_square}
+use Rattle.mpw_geom.specs.Plane.{Square, has_point, has_square}
 use Rattle.mpw_geom.proofs.Tests.{SquareIn-from_test, test_from_SquareIn, test_from_PointIn}
 use Rattle.mpw_deck.specs.declared.rule.Rule.{Rule}
 use Rattle.mpw_deck.specs.declared.rule.Check.{Check}
@@ -43,43 +43,36 @@ beside (Enclosing _ _) a b side x1 x2 j p =
 abbrev point : ℤ → ℤ → Point
 point x y = record { x = x; y = y }
 
-beside_in : (box : Box2) (a : Squares) (x j : ℤ) → LieIn box a → HasBeside a x j
-    → has_point box (point x j) ≡ true
-beside_in box a x j h (inl e) =
-    let s = SquareIn-from_test box _ (h x j e) in
-    test_from_PointIn box (point x j) (record {
-      left = s.left;
-      right = omega (arith, ints);
-      bottom = s.bottom;
-      top = omega (arith, ints);
-    })
-beside_in box a x j h (inr e) =
-    let s = SquareIn-from_test box _ (h (x -ℤ pos 1) j e) in
-    test_from_PointIn box (point x j) (record {
+-- a corner of a square in the box is a point of it
+corner_in : (box : Box2) (s : Square) (p : Point) → has_square box s ≡ true → s.column ≤ℤ p.x
+    → (p.x -ℤ pos 1) ≤ℤ s.column → s.row ≤ℤ p.y → (p.y -ℤ pos 1) ≤ℤ s.row
+    → has_point box p ≡ true
+corner_in box s p h l r d u =
+    let i = SquareIn-from_test box s h in
+    test_from_PointIn box p (record {
       left = omega (arith, ints);
-      right = omega (arith, ints);
-      bottom = s.bottom;
-      top = omega (arith, ints);
-    })
-
-beside_exchanged : (box : Box2) (a : Squares) (x j : ℤ) → LieIn box a → HasBeside (exchanged a) x j
-    → has_point box (point j x) ≡ true
-beside_exchanged box a x j h (inl e) =
-    let s = SquareIn-from_test box _ (h j x e) in
-    test_from_PointIn box (point j x) (record {
-      left = s.left;
-      right = omega (arith, ints);
-      bottom = s.bottom;
-      top = omega (arith, ints);
-    })
-beside_exchanged box a x j h (inr e) =
-    let s = SquareIn-from_test box _ (h j (x -ℤ pos 1) e) in
-    test_from_PointIn box (point j x) (record {
-      left = s.left;
       right = omega (arith, ints);
       bottom = omega (arith, ints);
       top = omega (arith, ints);
     })
+
+beside_in : (box : Box2) (a : Squares) (x j : ℤ) → LieIn box a → HasBeside a x j
+    → has_point box (point x j) ≡ true
+beside_in box a x j h (inl e) =
+    corner_in box _ (point x j) (h x j e) (omega (arith, ints)) (omega (arith, ints))
+    (omega (arith, ints)) (omega (arith, ints))
+beside_in box a x j h (inr e) =
+    corner_in box _ (point x j) (h (x -ℤ pos 1) j e) (omega (arith, ints)) (omega (arith, ints))
+    (omega (arith, ints)) (omega (arith, ints))
+
+beside_exchanged : (box : Box2) (a : Squares) (x j : ℤ) → LieIn box a → HasBeside (exchanged a) x j
+    → has_point box (point j x) ≡ true
+beside_exchanged box a x j h (inl e) =
+    corner_in box _ (point j x) (h j x e) (omega (arith, ints)) (omega (arith, ints))
+    (omega (arith, ints)) (omega (arith, ints))
+beside_exchanged box a x j h (inr e) =
+    corner_in box _ (point j x) (h j (x -ℤ pos 1) e) (omega (arith, ints)) (omega (arith, ints))
+    (omega (arith, ints)) (omega (arith, ints))
 
 in_core : (box : Box2) (x y : ℤ) → has_square box (record { column = x; row = y }) ≡ true
     → IsInCore box x y

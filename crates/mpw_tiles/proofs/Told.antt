@@ -9,8 +9,8 @@ use Rattle.mpw_deck.specs.declared.rule.Rule.{Rule}
 use Rattle.mpw_deck.specs.Decks.{Deck}
 use Rattle.mpw_edges.specs.declared.run.Axis.{Axis}
 use Rattle.mpw_edges.specs.declared.run.Axis.TheVariants.{V, H}
-use Rattle.mpw_edges.specs.Edges.{Squares}
-use Rattle.mpw_edges.specs.Pieces.{HasStep, IsPiece}
+use Rattle.mpw_edges.specs.Edges.{Squares, exchanged}
+use Rattle.mpw_edges.specs.Pieces.{exchanged_box, HasStep, IsPiece}
 use Rattle.mpw_grid.specs.Grid.{widened}
 use Rattle.mpw_tiles.specs.declared.listing.Rectangle.{Rectangle}
 use Rattle.mpw_tiles.specs.Plan.{Tiling, greatest_distance, plan_of, tiles, tile_core, tile_window}
@@ -62,14 +62,6 @@ unfolding closed_square
 next_to b s m =
     let i = PointIn-from_test (closed_square s) m.0 m.1 in
     let k = PointIn-from_test b m.0 m.2 in
-    let i0 = i.left in
-    let i1 = i.right in
-    let i2 = i.bottom in
-    let i3 = i.top in
-    let k0 = k.left in
-    let k1 = k.right in
-    let k2 = k.bottom in
-    let k3 = k.top in
     record {
       left = omega (arith, ints);
       right = omega (arith, ints);
@@ -82,46 +74,28 @@ abbrev HasEnds : Rule → Squares → Squares → Box2 → Axis → ℕ → (x1 
 HasEnds rule a b core axis side x1 x2 y0 y1 =
     HasStep rule a b core axis side x1 x2 y0 × HasStep rule a b core axis side x1 x2 (y1 -ℤ pos 1)
 
+near_vertical : (rule : Rule) (a b : Squares) (core : Box2) (greatest side : ℕ)
+    (x1 x2 y0 y1 : ℤ) (s : Square) → rule.distance ≤ greatest
+    → HasEnds rule a b core V side x1 x2 y0 y1 → IsNext (box_on V x1 x2 y0 y1) s
+    → SquareIn (widened core (greatest + 1)) s
+near_vertical rule a b core greatest side x1 x2 y0 y1 s h ends n = record {
+  left = omega (arith, ints);
+  right = omega (arith, ints);
+  bottom = omega (arith, ints);
+  top = omega (arith, ints);
+}
+
 near_run : (rule : Rule) (a b : Squares) (core : Box2) (greatest : ℕ) (axis : Axis) (side : ℕ)
     (x1 x2 y0 y1 : ℤ) (s : Square) → rule.distance ≤ greatest
     → HasEnds rule a b core axis side x1 x2 y0 y1 → IsNext (box_on axis x1 x2 y0 y1) s
     → SquareIn (widened core (greatest + 1)) s
 near_run rule a b core greatest V side x1 x2 y0 y1 s h ends n =
-    let first = ends.0 in
-    let last = ends.1 in
-    let d = first.0.1 in
-    let p0 = first.1.0 in
-    let p1 = first.1.1 in
-    let p2 = first.1.2 in
-    let q3 = last.1.3 in
-    let n0 = n.left in
-    let n1 = n.right in
-    let n2 = n.bottom in
-    let n3 = n.top in
-    record {
-      left = omega (arith, ints);
-      right = omega (arith, ints);
-      bottom = omega (arith, ints);
-      top = omega (arith, ints);
-    }
+    near_vertical rule a b core greatest side x1 x2 y0 y1 s h ends n
 near_run rule a b core greatest H side x1 x2 y0 y1 s h ends n =
-    let first = ends.0 in
-    let last = ends.1 in
-    let d = first.0.1 in
-    let p0 = first.1.0 in
-    let p1 = first.1.1 in
-    let p2 = first.1.2 in
-    let q3 = last.1.3 in
-    let n0 = n.left in
-    let n1 = n.right in
-    let n2 = n.bottom in
-    let n3 = n.top in
-    record {
-      left = omega (arith, ints);
-      right = omega (arith, ints);
-      bottom = omega (arith, ints);
-      top = omega (arith, ints);
-    }
+    let i = near_vertical rule (exchanged a) (exchanged b) (exchanged_box core) greatest side x1 x2
+    y0 y1 (record { column = s.row; row = s.column }) h ends
+    (record { left = n.bottom; right = n.top; bottom = n.left; top = n.right }) in
+    record { left = i.bottom; right = i.top; bottom = i.left; top = i.right }
 
 pub met_in_window : MetSquaresLieInWindows
 met_in_window extent deck rule tile a b p s c piece m =

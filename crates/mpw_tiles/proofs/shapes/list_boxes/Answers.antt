@@ -1,7 +1,8 @@
 use Rattle.std.proofs.Common.{[], take}
 use Rattle.mpw_tiles.specs.Listing.{HasSquareOf}
 use Rattle.mpw_tiles.specs.Internal.Listing.{HasPlacedSquare}
-use Rattle.mpw_tiles.proofs.Showing.{adds_none, adds_next, no_boxes, boxes_more}
+use Rattle.mpw_tiles.proofs.Added.{adds_none, adds_next}
+use Rattle.mpw_tiles.proofs.Showing.{no_boxes, boxes_more}
 use Rattle.mpw_tiles.proofs.shapes.list_boxes.Goals as goal
 
 pub loop-b-init : goal.loop-b-init

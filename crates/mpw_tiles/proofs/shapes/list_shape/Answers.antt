@@ -2,7 +2,8 @@ use Rattle.std.proofs.Common.{◌∙◌, sym}
 use Rattle.mpw_walk.specs.Way.{item_of}
 use Rattle.mpw_tiles.specs.Internal.Listing.{HasPlacedSquare}
 use Rattle.mpw_tiles.specs.Shown.{ShowsSquare}
-use Rattle.mpw_tiles.proofs.Showing.{adds_same, boxes_show}
+use Rattle.mpw_tiles.proofs.Added.{adds_same}
+use Rattle.mpw_tiles.proofs.Showing.{boxes_show}
 use Rattle.mpw_tiles.proofs.shapes.list_shape.Goals as goal
 
 pub returns : goal.returns

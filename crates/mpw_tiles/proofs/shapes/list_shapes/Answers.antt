@@ -5,7 +5,8 @@ use Rattle.mpw_region.proofs.Held.{Held-nil}
 use Rattle.mpw_walk.specs.Turns.{given}
 use Rattle.mpw_walk.specs.Way.{item_of}
 use Rattle.mpw_tiles.specs.Shown.{ShowsSquare, IsShown}
-use Rattle.mpw_tiles.proofs.Showing.{adds_none, adds_next, shown_more}
+use Rattle.mpw_tiles.proofs.Added.{adds_none, adds_next}
+use Rattle.mpw_tiles.proofs.Showing.{shown_more}
 use Rattle.mpw_tiles.proofs.shapes.list_shapes.Goals as goal
 
 pub loop-placed-init : goal.loop-placed-init

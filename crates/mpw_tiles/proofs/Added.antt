@@ -1,0 +1,115 @@
+-- Rectangles that are added to the lists of tiles, by the squares that they have in the tiles' windows.
+use Rattle.std.proofs.Common.{◌≡◌, ℕ, ◌<◌, true, List, [], length, get_or, ◌⊎◌, inl, inr, refl, sym, subst, ◌∙◌, arith}
+use Rattle.std.specs.Prelude.{Contains, All, ◌↔◌}
+use Rattle.mpw_region.proofs.Held.{Held-nil}
+use Rattle.mpw_geom.specs.declared.plane.Layer.{Layer}
+use Rattle.mpw_geom.specs.Plane.{Square, has_square}
+use Rattle.mpw_grid.specs.Grid.{ShareSquare}
+use Rattle.mpw_tiles.specs.declared.listing.Rectangle.{Rectangle}
+use Rattle.mpw_tiles.specs.Plan.{Tiling, tiles, tile_window}
+use Rattle.mpw_tiles.specs.Listing.{IsListed, HasSquareOf}
+use Rattle.mpw_tiles.specs.Internal.Listing.{AddsSquares}
+
+abbrev Tiles : Type 0
+Tiles = List (List Rectangle)
+
+-- the same in the windows of the plan
+abbrev pub AgreeInWindows : Tiling → (Layer → ℕ → Square → Type 0) → (Layer → ℕ → Square → Type 0)
+    → Type 0
+AgreeInWindows plan P Q = (tile : ℕ) (s : Square) (layer : Layer) (origin : ℕ) → tile < tiles plan
+    → has_square (tile_window plan tile) s ≡ true → P layer origin s ↔ Q layer origin s
+
+abbrev pub either : (Layer → ℕ → Square → Type 0) → (Layer → ℕ → Square → Type 0) → Layer → ℕ → Square
+    → Type 0
+either P Q layer origin s = P layer origin s ⊎ Q layer origin s
+
+pub adds_none : (plan : Tiling) (old : Tiles) (P : Layer → ℕ → Square → Type 0)
+    → ((layer : Layer) (origin : ℕ) (s : Square) → P layer origin s → ⊥)
+    → AddsSquares plan old old P
+adds_none plan old P none = record {
+  count = refl;
+  squares = λ tile s layer origin u w. (
+    λ l. inl l,
+    λ p. elim p [ inl l ↦ l | inr q ↦ absurd (none layer origin s q) ],
+  );
+  near = λ tile x u c. inl c;
+}
+
+pub adds_next : (plan : Tiling) (a b c : Tiles) (P Q R : Layer → ℕ → Square → Type 0)
+    → AgreeInWindows plan (either P Q) R → AddsSquares plan a b P → AddsSquares plan b c Q
+    → AddsSquares plan a c R
+adds_next plan a b c P Q R agree f g = record {
+  count = g.count ∙ f.count;
+  squares = λ tile s layer origin u w. (to tile s layer origin u w, from tile s layer origin u w);
+  near = λ tile x u l. elim (g.near tile x u l) [ inl m ↦ f.near tile x u m | inr q ↦ inr q ];
+}
+  where
+    to : (tile : ℕ) (s : Square) (layer : Layer) (origin : ℕ) → tile < tiles plan
+        → has_square (tile_window plan tile) s ≡ true → IsListed (get_or c tile []) layer origin s
+        → IsListed (get_or a tile []) layer origin s ⊎ R layer origin s
+    to tile s layer origin u w l = elim ((g.squares tile s layer origin u w).0 l) [
+      | inl m ↦ elim ((f.squares tile s layer origin u w).0 m)
+          [ inl k ↦ inl k | inr p ↦ inr ((agree tile s layer origin u w).0 (inl p)) ]
+      | inr q ↦ inr ((agree tile s layer origin u w).0 (inr q))
+    ]
+
+    from : (tile : ℕ) (s : Square) (layer : Layer) (origin : ℕ) → tile < tiles plan
+        → has_square (tile_window plan tile) s ≡ true → IsListed (get_or a tile []) layer origin s
+        ⊎ R layer origin s → IsListed (get_or c tile []) layer origin s
+    from tile s layer origin u w (inl k) = (g.squares tile s layer origin u w).1
+        (inl ((f.squares tile s layer origin u w).1 (inl k)))
+    from tile s layer origin u w (inr r) = elim ((agree tile s layer origin u w).1 r) [
+      | inl p ↦ (g.squares tile s layer origin u w).1
+          (inl ((f.squares tile s layer origin u w).1 (inr p)))
+      | inr q ↦ (g.squares tile s layer origin u w).1 (inr q)
+    ]
+
+pub adds_same : (plan : Tiling) (a b : Tiles) (P R : Layer → ℕ → Square → Type 0)
+    → AgreeInWindows plan P R → AddsSquares plan a b P → AddsSquares plan a b R
+adds_same plan a b P R agree f = record {
+  count = f.count;
+  squares = λ tile s layer origin u w. (
+    λ l. elim ((f.squares tile s layer origin u w).0 l)
+        [ inl k ↦ inl k | inr p ↦ inr ((agree tile s layer origin u w).0 p) ],
+    λ p. elim p [
+      | inl k ↦ (f.squares tile s layer origin u w).1 (inl k)
+      | inr r
+          ↦ (f.squares tile s layer origin u w).1 (inr ((agree tile s layer origin u w).1 r))
+    ],
+  );
+  near = f.near;
+}
+
+-- windows that list just these squares, and nothing that has none of their squares
+pub record HaveSquares (plan : Tiling) (windows : Tiles) (P : Layer → ℕ → Square → Type 0) : Type 0
+  where
+    pub count : length windows ≡ tiles plan
+    pub squares : (tile : ℕ) (s : Square) (layer : Layer) (origin : ℕ) → tile < tiles plan
+        → has_square (tile_window plan tile) s ≡ true
+        → IsListed (get_or windows tile []) layer origin s ↔ P layer origin s
+    pub near : (tile : ℕ) (r : Rectangle) → tile < tiles plan → Contains (get_or windows tile []) r
+        → ShareSquare (tile_window plan tile) r.area
+
+-- what was added to empty windows is all that they have
+pub added_to_none : (plan : Tiling) (old new : Tiles) (P : Layer → ℕ → Square → Type 0)
+    → length old ≡ tiles plan → All (λ (w : List Rectangle). w ≡ []) old
+    → AddsSquares plan old new P → HaveSquares plan new P
+added_to_none plan old new P e none f = record {
+  count = f.count ∙ e;
+  squares = λ tile s layer origin u w. (
+    λ l. elim ((f.squares tile s layer origin u w).0 l) [
+      | inl k ↦ absurd (Held-nil (λ (r : Rectangle). HasSquareOf r layer origin s)
+          (subst (λ (xs : List Rectangle). IsListed xs layer origin s) (empty tile u) k))
+      | inr p ↦ p
+    ],
+    λ p. (f.squares tile s layer origin u w).1 (inr p),
+  );
+  near = λ tile r u l. elim (f.near tile r u l) [
+    | inl k ↦ absurd (let c = subst (λ (xs : List Rectangle). Contains xs r) (empty tile u) k in
+        omega (arith, c.1))
+    | inr q ↦ q
+  ];
+}
+  where
+    empty : (tile : ℕ) → tile < tiles plan → get_or old tile [] ≡ []
+    empty tile u = none tile [] (subst (λ (n : ℕ). tile < n) (sym e) u)
