@@ -18,6 +18,9 @@ use Rattle.mpw_check.proofs.TileLemmas.{count-planned, count-unplanned}
 
 -- ---- lists that follow on one another
 
+pub no_lists : (s : Snapshot) (first : ℕ) → AreOfTiles s first first []
+no_lists s first = record { count = omega arith; own = λ k less. absurd (omega (arith, less)) }
+
 pub follow_on : TilesFollowOn
 follow_on s first mid end lists more front back = record { count = counted; own = own }
   where

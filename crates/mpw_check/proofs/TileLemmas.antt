@@ -19,7 +19,7 @@ use Rattle.mpw_tiles.specs.declared.listing.Rectangle.{Rectangle}
 use Rattle.mpw_tiles.specs.Plan.{Tiling, tiles}
 use Rattle.mpw_tiles.specs.Snapshots.{Snapshot, shown, shown_extent, plan_over, plan_for, ShowItems, AreWindowsFor, StandFor}
 use Rattle.mpw_check.specs.Lists.{only_run, ShowsTile, IsOfTile, AreOfTiles, AreTiles, count_over, tile_count}
-use Rattle.mpw_check.specs.Internal.Tiled.{job_at, jobs_of, markers_in, IsAnswered}
+use Rattle.mpw_check.specs.Internal.Tiled.{IsCut, job_at, jobs_of, markers_in, IsAnswered}
 
 -- An answer of a tile's job has markers that answer the tile's task.
 answered-task : (x : Answer) (task : Task) → job_of x ≡ jobs.Tile task → IsAnswered x
@@ -62,10 +62,10 @@ shows-tile s plan windows tile planned stand small =
     }
 
 pub of_tiles : (s : Snapshot) (plan : Tiling) (windows : List (List Rectangle)) (first end : ℕ)
-    (xs : List Answer) (lists : List (List Marker)) → plan_for s ≡ Some plan → StandFor s windows
+    (xs : List Answer) (lists : List (List Marker)) → IsCut s plan windows
     → first ≤ end → end ≤ tiles plan → map job_of xs ≡ jobs_of s plan windows first end
     → All IsAnswered xs → lists ≡ map markers_in xs → AreOfTiles s first end lists
-of_tiles s plan windows first end xs lists planned stand ordered within e all is =
+of_tiles s plan windows first end xs lists is_cut ordered within e all is =
     rw is (record { count = counted; own = own })
   where
     many : length xs ≡ end - first
@@ -89,10 +89,10 @@ of_tiles s plan windows first end xs lists planned stand ordered within e all is
         let tile : first + k < tiles plan = omega (arith, small, within) in
         record {
           plan = plan;
-          planned = planned;
+          planned = is_cut.planned;
           within = tile;
           window = slice_index_or windows (first + k) [];
-          shows = shows-tile s plan windows (first + k) planned stand tile;
+          shows = shows-tile s plan windows (first + k) is_cut.planned is_cut.stand tile;
           answered = answered k small;
         }
 

@@ -1,16 +1,17 @@
 //! Checking: the cut, a job a tile, and the stitching.
 
-ghost use Rattle.std.specs.Prelude.{◌≡◌, ◌≤◌, Some, map, length, All, IfOk, IfErr, IfSome};
+ghost use Rattle.std.specs.Prelude.{◌≡◌, ◌≤◌, Some, map, All, IfOk, IfErr, IfSome};
 ghost use Rattle.mpw_job.specs.Layout.{AreLayoutMarkers};
 ghost use Rattle.mpw_tiles.specs.Placed.{WindowsLieInPlane};
 ghost use Rattle.mpw_tiles.specs.Plan.{tiles};
-ghost use Rattle.mpw_tiles.specs.Snapshots.{plan_for, StandFor};
+ghost use Rattle.mpw_tiles.specs.Snapshots.{plan_for};
 ghost use Rattle.mpw_check.specs.Lists.{tile_count, AreTiles, AreOfTiles};
 ghost use Rattle.mpw_check.specs.Tiled.{IsOfPlan};
-ghost use Rattle.mpw_check.specs.Internal.Tiled.{jobs_of, markers_in, IsAnswered};
+ghost use Rattle.mpw_check.specs.Internal.Tiled.{IsCut, jobs_of, markers_in, IsAnswered};
 
 use crate::fault::CheckFault;
 use crate::laws::tiles_make_the_layout;
+use crate::progress::Progress;
 use mpw_job::{Answer, Job, tile_job, work_all};
 use mpw_markers::{Book, TileMarkers, stitch};
 use mpw_tiles::{Plan, Snapshot, Windows, cut};
@@ -20,25 +21,32 @@ use std::thread::Threads;
 /// The number of the only run.
 const ONLY_RUN: u32 = 1;
 
+/// The greatest number of tiles of a batch.
+const BATCH: u32 = 128;
+
+/// A snapshot with its plan, and the windows into which it is cut for it.
+#[derive(Clone, Copy)]
+struct CutLayout<'a> {
+    snapshot: &'a Snapshot,
+    plan: &'a Plan,
+    windows: &'a Windows,
+}
+
 /// The jobs of the tiles from `first` to below `end`, in order.
 fn tile_jobs(
     alloc: Global,
-    snapshot: &Snapshot,
-    plan: &Plan,
-    windows: &Windows,
+    layout: &CutLayout<'_>,
     first: u32,
     end: u32,
 ) -> Result<Vec<Job>, AllocError>
-    requires plan { plan_for snapshot.now ≡ Some plan.now }
-    requires plane { WindowsLieInPlane plan.now }
-    requires windows { length windows.now ≡ tiles plan.now }
+    requires cut { IsCut layout.now.snapshot.now layout.now.plan.now layout.now.windows.now }
     requires ordered { first ≤ end }
-    requires within { end ≤ tiles plan.now }
-    ensures { IfOk result (λ jobs. jobs.items ≡ jobs_of snapshot.now plan.now windows.now first end) }
+    requires within { end ≤ tiles layout.now.plan.now }
+    ensures { IfOk result (λ jobs. jobs.items ≡ jobs_of layout.now.snapshot.now layout.now.plan.now layout.now.windows.now first end) }
 {
     let mut jobs = Vec::new(alloc);
     for tile in first..end {
-        let job = tile_job(ONLY_RUN, tile, snapshot, plan, windows)?;
+        let job = tile_job(ONLY_RUN, tile, layout.snapshot, layout.plan, layout.windows)?;
         jobs.push(Job::Tile(job))?;
     }
     Ok(jobs)
@@ -85,37 +93,61 @@ fn are_answered(answers: &[Answer])
 
 /// The markers of the tiles from `first` to below `end`, found in as many threads as there are processors.
 #[tactic(auto, using(crate::proofs::TileLemmas::of_tiles))]
-fn tile_lists(
+fn batch_lists(
     rt: &(impl Threads + Sync),
     alloc: Global,
-    snapshot: &Snapshot,
-    plan: &Plan,
-    windows: &Windows,
+    layout: &CutLayout<'_>,
     first: u32,
     end: u32,
 ) -> Result<Vec<TileMarkers>, AllocError>
-    requires plan { plan_for snapshot.now ≡ Some plan.now }
-    requires plane { WindowsLieInPlane plan.now }
-    requires windows { length windows.now ≡ tiles plan.now }
-    requires stand { StandFor snapshot.now windows.now }
+    requires cut { IsCut layout.now.snapshot.now layout.now.plan.now layout.now.windows.now }
     requires ordered { first ≤ end }
-    requires within { end ≤ tiles plan.now }
-    ensures { IfOk result (λ lists. AreOfTiles snapshot.now first end lists.items) }
+    requires within { end ≤ tiles layout.now.plan.now }
+    ensures { IfOk result (λ lists. AreOfTiles layout.now.snapshot.now first end lists.items) }
 {
-    let jobs = tile_jobs(alloc, snapshot, plan, windows, first, end)?;
+    let jobs = tile_jobs(alloc, layout, first, end)?;
     let answers = work_all(rt, alloc, jobs.as_slice())?;
     are_answered(answers.as_slice());
     lists_of(alloc, answers.as_slice())
 }
 
+/// The same, a batch behind the other; progress is told before the first and behind each.
+fn tile_lists<P: Progress>(
+    rt: &(impl Threads + Sync),
+    alloc: Global,
+    layout: &CutLayout<'_>,
+    first: u32,
+    end: u32,
+    progress: &mut P,
+) -> Result<Vec<TileMarkers>, AllocError>
+    requires cut { IsCut layout.now.snapshot.now layout.now.plan.now layout.now.windows.now }
+    requires ordered { first ≤ end }
+    requires within { end ≤ tiles layout.now.plan.now }
+    ensures { IfOk result (λ lists. AreOfTiles layout.now.snapshot.now first end lists.items) }
+{
+    let total = (end - first) as usize;
+    progress.tell(0, total);
+    let mut lists = Vec::new(alloc);
+    let mut reached = first;
+    while reached < end {
+        let next = reached.saturating_add(BATCH).min(end);
+        let mut batch = batch_lists(rt, alloc, layout, reached, next)?;
+        lists.append(&mut batch)?;
+        progress.tell(lists.len(), total);
+        reached = next;
+    }
+    Ok(lists)
+}
+
 /// The same of a snapshot with that plan, which is cut for them.
-fn planned_lists(
+fn planned_lists<P: Progress>(
     rt: &(impl Threads + Sync),
     alloc: Global,
     snapshot: &Snapshot,
     plan: &Plan,
     first: u32,
     end: u32,
+    progress: &mut P,
 ) -> Result<Vec<TileMarkers>, AllocError>
     requires plan { plan_for snapshot.now ≡ Some plan.now }
     requires plane { WindowsLieInPlane plan.now }
@@ -123,8 +155,13 @@ fn planned_lists(
     requires within { end ≤ tiles plan.now }
     ensures { IfOk result (λ lists. AreOfTiles snapshot.now first end lists.items) }
 {
-    let windows = cut(alloc, snapshot)?;
-    tile_lists(rt, alloc, snapshot, plan, &windows, first, end)
+    let windows = &cut(alloc, snapshot)?;
+    let layout = CutLayout {
+        snapshot,
+        plan,
+        windows,
+    };
+    tile_lists(rt, alloc, &layout, first, end, progress)
 }
 
 /// How many tiles there are to check, at most 4096: 0 without shapes, and none where there would be more. Linear in the roots and
@@ -145,62 +182,66 @@ pub fn tile_count(snapshot: &Snapshot) -> Option<u32>
 /// The markers of the tiles from `first` to below `end`, counted from 0, a list for each. Lists of all tiles, found anywhere, are
 /// stitched to the markers of the layout ([`tiles_make_the_layout`]).
 ///
-/// The layout is cut once; each of these tiles is a job, and the jobs are done in as many threads as there are processors. It costs
-/// what [`mpw_tiles::cut`] and [`mpw_job::do_job`] for each of these tiles do.
+/// The layout is cut once; each of these tiles is a job, and the jobs are done in as many threads as there are processors, in
+/// batches of up to 128 tiles, whose jobs alone are held at a time. Progress is told behind the cut and behind each batch. It
+/// costs what [`mpw_tiles::cut`] and [`mpw_job::do_job`] for each of these tiles do.
 ///
 /// # Errors
 /// Want of memory.
 #[tactic(auto, using(crate::proofs::TileLemmas::within_plan, crate::proofs::TileLemmas::none_there))]
-pub fn check_tiles(
+pub fn check_tiles<P: Progress>(
     rt: &(impl Threads + Sync),
     alloc: Global,
     snapshot: &Snapshot,
     first: u32,
     end: u32,
+    progress: &mut P,
 ) -> Result<Vec<TileMarkers>, AllocError>
     requires { AreTiles snapshot.now first end }
     ensures { IfOk result (λ lists. AreOfTiles snapshot.now first end lists.items) }
 {
     match snapshot.plan() {
-        Some(plan) => planned_lists(rt, alloc, snapshot, &plan, first, end),
+        Some(plan) => planned_lists(rt, alloc, snapshot, &plan, first, end, progress),
         None => Ok(Vec::new(alloc)),
     }
 }
 
 /// The markers of so many tiles, which are all.
 #[tactic(auto, using(crate::proofs::TileLemmas::all_there))]
-fn check_all(
+fn check_all<P: Progress>(
     rt: &(impl Threads + Sync),
     alloc: Global,
     snapshot: &Snapshot,
     tiles: u32,
+    progress: &mut P,
 ) -> Result<Book, AllocError>
     requires { tile_count snapshot.now ≡ Some tiles }
     ensures { IfOk result (AreLayoutMarkers snapshot.now) }
 {
     tiles_make_the_layout();
     snapshot.is_snapshot();
-    let lists = check_tiles(rt, alloc, snapshot, 0, tiles)?;
+    let lists = check_tiles(rt, alloc, snapshot, 0, tiles, progress)?;
     stitch(alloc, &lists)
 }
 
 /// The markers of the flat layout of a snapshot's roots under its deck, in the order of their keys.
 ///
-/// It costs what [`check_tiles`] does for all tiles, and [`mpw_markers::stitch`].
+/// It costs what [`check_tiles`] does for all tiles, and [`mpw_markers::stitch`]; progress is told as there.
 ///
 /// # Errors
 /// More than 4096 tiles of the deck's side over the layout's extent, or want of memory.
 #[tactic(auto, using(crate::proofs::TileLemmas::too_many))]
-pub fn check_layout(
+pub fn check_layout<P: Progress>(
     rt: &(impl Threads + Sync),
     alloc: Global,
     snapshot: &Snapshot,
+    progress: &mut P,
 ) -> Result<Book, CheckFault>
     ensures markers { IfOk result (AreLayoutMarkers snapshot.now) }
     ensures faults { IfErr result (IsOfPlan snapshot.now) }
 {
     match tile_count(snapshot) {
-        Some(tiles) => Ok(check_all(rt, alloc, snapshot, tiles)?),
+        Some(tiles) => Ok(check_all(rt, alloc, snapshot, tiles, progress)?),
         None => Err(CheckFault::Tiles),
     }
 }

@@ -2,7 +2,7 @@
 //!
 //! [`read_layout`] reads a library and places its top where it was drawn; [`check_layout`] cuts it into tiles, finds each
 //! tile's markers in as many threads as there are processors, and stitches them. The markers are those of the flat layout of
-//! that top alone, whatever the tiles' side ([`markers_are_the_librarys`]).
+//! that top alone, whatever the tiles' side ([`markers_are_the_librarys`]). A [`Progress`] is told how many tiles are checked.
 //!
 //! [`check_tiles`] does the same for some tiles, so that the tiles can be spread over machines: the lists of all tiles, stitched, are
 //! the layout's markers again ([`tiles_make_the_layout`]).
@@ -12,8 +12,10 @@ mod check;
 mod fault;
 mod laws;
 mod layout;
+mod progress;
 
 pub use check::{check_layout, check_tiles, tile_count};
 pub use fault::CheckFault;
 pub use laws::{markers_are_the_librarys, tiles_follow_on, tiles_make_the_layout};
 pub use layout::read_layout;
+pub use progress::{Progress, Silent};

@@ -1,10 +1,14 @@
 //! A check of a whole layout, done.
+ghost use Rattle.std.specs.Prelude.{IfOk, IfErr};
+ghost use Rattle.mpw_check.specs.Tiled.{IsOfPlan};
+ghost use Rattle.mpw_job.specs.Layout.{AreLayoutMarkers};
 
 use crate::fault::FirmFault;
+use crate::line::Line;
 use crate::listing::write_markers;
 use crate::options::Options;
 use crate::picture::{picture, window_of};
-use crate::progress::{tell_checking, tell_summary};
+use crate::progress::tell_summary;
 use crate::reading::{deck_of, read_file};
 use crate::report::report;
 use crate::told::{check_fault, device_fault};
@@ -94,6 +98,22 @@ fn write_all(
     picture(rt, file, window, &options.top, snapshot, book)
 }
 
+/// The markers of a layout, while a terminal is told how far the check came.
+fn book_of(
+    rt: &HostRuntime,
+    threads: &(impl Threads + Sync),
+    snapshot: &Snapshot,
+) -> Result<Book, CheckFault>
+    ensures markers { IfOk result (AreLayoutMarkers snapshot.now) }
+    ensures faults { IfErr result (IsOfPlan snapshot.now) }
+{
+    let mut line = Line::new(rt);
+    line.tell_read(snapshot);
+    let book = check_layout(threads, rt.alloc(), snapshot, &mut line);
+    line.end();
+    book
+}
+
 /// Checks what the command line asks for, prints its markers, writes its report and its picture and tells how many markers there
 /// are. A key that no marker has is refused before anything is printed.
 ///
@@ -107,8 +127,7 @@ pub fn check(
 ) -> Result<usize, FirmFault> {
     let start = now(rt)?;
     let snapshot = snapshot_of(rt, options)?;
-    tell_checking(rt, &snapshot);
-    let book = match check_layout(threads, rt.alloc(), &snapshot) {
+    let book = match book_of(rt, threads, &snapshot) {
         Ok(book) => book,
         Err(fault) => return Err(refused(rt, options, &fault, &[])),
     };

@@ -9,6 +9,7 @@ mod blank;
 mod cause;
 mod fault;
 mod key;
+mod line;
 mod listing;
 mod options;
 mod out_file;

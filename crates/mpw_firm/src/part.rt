@@ -2,8 +2,9 @@
 
 use crate::asked::{now, output_fault, refused};
 use crate::fault::FirmFault;
+use crate::line::Line;
 use crate::options::Options;
-use crate::progress::{count_of, tell_checking, tell_part};
+use crate::progress::{count_of, tell_part};
 use crate::reading::{deck_of, read_file};
 use crate::told_parts::beyond_plan;
 use mpw_check::{CheckFault, read_layout, tile_count};
@@ -44,9 +45,12 @@ fn part_of(
     let Some(span) = range.span(tiles) else {
         return Err(beyond_plan(rt.alloc(), tiles));
     };
-    tell_checking(rt, snapshot);
     let subject = subject_of(texts.1, texts.0, options.top.copy()?, tiles);
-    let part = check_part(threads, rt.alloc(), subject, snapshot, span)?;
+    let mut line = Line::new(rt);
+    line.tell_read(snapshot);
+    let part = check_part(threads, rt.alloc(), subject, snapshot, span, &mut line);
+    line.end();
+    let part = part?;
     let _ = tell_part(rt, snapshot, span, part.lists(), &start);
     Ok(part)
 }

@@ -1,11 +1,11 @@
-//! What is told on the standard error of a check that goes on or has ended.
+//! What is told on the standard error of a check that has ended.
 
 use mpw_check::tile_count;
 use mpw_deck::Rules;
 use mpw_markers::{Marker, TileMarkers};
 use mpw_spread::Span;
 use mpw_tiles::Snapshot;
-use std::io::{self, IsTerminal};
+use std::io;
 use std::time::Instant;
 
 /// How many tiles the layout has.
@@ -13,15 +13,6 @@ fn tiles_of(snapshot: &Snapshot) -> u32 {
     match tile_count(snapshot) {
         Some(tiles) => tiles,
         None => 0,
-    }
-}
-
-/// Tells what was read and is checked now, where the standard error is a terminal. A terminal that fails keeps nothing from
-/// being checked.
-pub fn tell_checking(rt: &HostRuntime, snapshot: &Snapshot) {
-    if rt.stderr().is_terminal() {
-        let (shapes, tiles) = (snapshot.shelf().count(0), tiles_of(snapshot));
-        let _ = eprintln!(rt; "read {shapes} shapes; checking {tiles} tiles");
     }
 }
 

@@ -9,7 +9,6 @@ mod commands;
 mod denials;
 mod entry;
 mod files;
-mod put;
 mod refusals;
 mod requests;
 mod told;

@@ -9,12 +9,13 @@ use Rattle.std.proofs.lemmas.List.Sorted.{All-permutation}
 use Rattle.std.proofs.lemmas.Bool.{cases_lt}
 use Rattle.mpw_markers.specs.declared.marker.Marker.{Marker}
 use Rattle.mpw_parts.specs.Parts.{Found}
-use Rattle.mpw_parts.specs.Stitching.{lists_of, FollowOn, IsListOf, EachTileHasItsList}
+use Rattle.mpw_parts.specs.Stitching.{lists_of, BeginsAt, FollowOn, IsListOf, EachTileHasItsList}
 
 -- another part behind parts
 pub follow_more : (from : ℕ) (parts : List Found) (end : ℕ) (part : Found) → FollowOn from parts end
-    → part.first ≡ end → FollowOn from (parts ++ part ∷ []) (end + length part.lists)
-follow_more from [] end part so begins = (begins ∙ sym so, ap (λ n. n + length part.lists) so)
+    → BeginsAt end part → FollowOn from (parts ++ part ∷ []) (end + length part.lists)
+follow_more from [] end part so begins =
+    (subst (λ n. BeginsAt n part) (sym so) begins, ap (λ n. n + length part.lists) so)
 follow_more from (p ∷ parts) end part so begins =
     (so.0, follow_more (from + length p.lists) parts end part so.1 begins)
 
@@ -22,7 +23,7 @@ follow_more from (p ∷ parts) end part so begins =
 pub lists_more : (parts : List Found) (i : ℕ) (part : Found) (items added : List (List Marker))
     → i < length parts → get_or parts i part ≡ part → (items ≡ lists_of (take i parts))
     × FollowOn 0 (take i parts) (length items)
-    → part.first ≡ length items → added ≡ items ++ part.lists
+    → BeginsAt (length items) part → added ≡ items ++ part.lists
     → (added ≡ lists_of (take (i + 1) parts)) × FollowOn 0 (take (i + 1) parts) (length added)
 lists_more parts i part items added less at so begins is =
     let taken : take (i + 1) parts ≡ take i parts ++ part ∷ [] = take_more parts i part less
@@ -41,6 +42,30 @@ lists_more parts i part items added less at so begins is =
 -- what holds of each list with its tile
 abbrev HoldsFrom : (ℕ → List Marker → Type 0) → ℕ → List (List Marker) → Type 0
 HoldsFrom Holds first lists = (k : ℕ) → k < length lists → Holds (first + k) (get_or lists k [])
+
+-- a part without tiles has none of which anything could fail to hold
+none_held : (Holds : ℕ → List Marker → Type 0) (from : ℕ) (lists : List (List Marker)) → lists ≡ []
+    → HoldsFrom Holds from lists
+none_held Holds from lists none k less =
+    absurd (let empty : length lists ≡ 0 = ap length none in omega (arith, less, empty))
+
+holds_here : (Holds : ℕ → List Marker → Type 0) (from : ℕ) (part : Found) → BeginsAt from part
+    → HoldsFrom Holds part.first part.lists → HoldsFrom Holds from part.lists
+holds_here Holds from part (inl begins) own = subst (λ n. HoldsFrom Holds n part.lists) begins own
+holds_here Holds from part (inr none) own = none_held Holds from part.lists none
+
+-- the tiles so far are of the plan, and with those of the part too
+pub stays_within : (tiles : ℕ) (part : Found) (items added : List (List Marker))
+    → BeginsAt (length items) part → length items ≤ tiles
+    → part.first + length part.lists ≤ part.subject.tiles → part.subject.tiles ≡ tiles
+    → added ≡ items ++ part.lists → length added ≤ tiles
+stays_within tiles part items added (inl begins) few within own is =
+    let long = ap length is ∙ length-append items part.lists in
+    omega (arith, begins, within, own, long)
+stays_within tiles part items added (inr none) few within own is =
+    let long = ap length is ∙ length-append items part.lists in
+    let empty : length part.lists ≡ 0 = ap length none in
+    omega (arith, few, long, empty)
 
 holds_both : (Holds : ℕ → List Marker → Type 0) (from : ℕ) (xs ys : List (List Marker))
     → HoldsFrom Holds from xs → HoldsFrom Holds (from + length xs) ys
@@ -63,7 +88,7 @@ each_tile Holds from [] end so all = (omega (arith, so), λ k less. absurd (omeg
 each_tile Holds from (p ∷ parts) end so all =
     let rest = each_tile Holds (from + length p.lists) parts end so.1
     (All-tail (λ (part : Found). HoldsFrom Holds part.first part.lists) p parts all) in
-    let here = subst (λ n. HoldsFrom Holds n p.lists) so.0
+    let here = holds_here Holds from p so.0
     (All-head (λ (part : Found). HoldsFrom Holds part.first part.lists) p parts all) in
     let counted = length-append p.lists (lists_of parts) in
     (omega (arith, rest.0, counted), holds_both Holds from p.lists (lists_of parts) here rest.1)

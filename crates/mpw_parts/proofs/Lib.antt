@@ -1,5 +1,4 @@
 mod WordLemmas
-mod Adding
 mod AllOf
 mod Splitting
 mod Words
@@ -8,3 +7,4 @@ mod PartLemmas
 mod Following
 mod Ending
 mod Subjects
+mod Faults

@@ -1,6 +1,6 @@
 pub mod Parts
 pub mod Text
 pub mod Reading
-pub mod Writing
 pub mod Stitching
 pub mod Laws
+pub mod Internal

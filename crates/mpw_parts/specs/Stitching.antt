@@ -1,6 +1,6 @@
 -- Parts put together.
-use Rattle.std.specs.Prelude.{◌≡◌, ◌<◌, ◌+◌, ◌==◌, not, ℕ, List, [], ◌∷◌, length, slice_get, slice_index_or, All, Contains, Option, None, Some, if◌then◌else◌}
-use Rattle.std.specs.List.{flat_map}
+use Rattle.std.specs.Prelude.{◌≡◌, ◌<◌, ◌≤◌, ◌+◌, ◌==◌, ◌&&◌, ◌⊎◌, not, nat_le, nat_lt, ℕ, Bool, List, [], ◌∷◌, codes, length, slice_get, slice_index_or, All, Contains, Option, None, Some, if◌then◌else◌}
+use Rattle.std.specs.List.{flat_map, count_by, AllPairs}
 use Rattle.std.specs.List.Sorted.{IsPermutation}
 use Rattle.mpw_geom.specs.Names.{name_eq}
 use Rattle.mpw_markers.specs.declared.marker.Marker.{Marker}
@@ -15,11 +15,15 @@ use Rattle.mpw_parts.specs.Parts.{Checked, Found}
 abbrev pub lists_of : List Found → List (List Marker)
 lists_of parts = flat_map (λ (part : Found). part.lists) parts
 
--- the first part begins at a tile, each other one where the one before ends, and the last ends at another
+-- the part begins at the tile, or it has no tile
+abbrev pub BeginsAt : ℕ → Found → Type 0
+BeginsAt tile part = (part.first ≡ tile) ⊎ (part.lists ≡ [])
+
+-- of the parts that have tiles the first begins at a tile, each other one where the one before ends, and the last ends at another
 abbrev pub FollowOn : ℕ → List Found → ℕ → Type 0
 FollowOn from [] end = from ≡ end
 FollowOn from (part ∷ parts) end =
-    (part.first ≡ from) × FollowOn (from + length part.lists) parts end
+    BeginsAt from part × FollowOn (from + length part.lists) parts end
 
 -- They are parts of one check, and in that order they have each tile of its plan once.
 pub record ArePartsOf (subject : Checked) (parts ordered : List Found) : Type 0 where
@@ -42,25 +46,45 @@ difference_of a b =
     else if not (a.tiles == b.tiles) then Some other.Plan
     else None
 
+-- The word of that.
+unfoldable pub word_of : Difference → List ℕ
+word_of other.Library = codes "library"
+word_of other.Deck = codes "deck"
+word_of other.Top = codes "structure"
+word_of other.Plan = codes "plan of tiles"
+
 -- A part is of another check than this one.
 abbrev pub IsOther : Checked → List Found → PartsFault → Type 0
 IsOther first parts (faults.Other place what) = (part : Found) × (slice_get parts place ≡ Some part)
     × (difference_of first part.subject ≡ Some what)
 IsOther first parts fault = ⊥
 
--- A tile is missing or doubled, or there is no room.
-abbrev pub IsOfTiles : PartsFault → Type 0
-IsOfTiles (faults.Other place what) = ⊥
-IsOfTiles faults.NoPart = ⊥
-IsOfTiles fault = Unit {0}
+-- How many of the parts have the tile.
+abbrev pub has_tile : ℕ → Found → Bool
+has_tile tile part = nat_le part.first tile && nat_lt tile (part.first + length part.lists)
 
--- Why parts aren't stitched: there are none; one is of another check than the first; or, in the order of their first tiles, one doesn't
--- begin where the one before ends.
+abbrev pub holders : ℕ → List Found → ℕ
+holders tile parts = count_by (has_tile tile) parts
+
+-- Of a plan with so many tiles, no part has the one that is missing, and more than one has the one that is doubled; or there is no
+-- room.
+abbrev pub IsOfTiles : ℕ → List Found → PartsFault → Type 0
+IsOfTiles tiles parts (faults.Missing tile) = (tile < tiles) × (holders tile parts ≡ 0)
+IsOfTiles tiles parts (faults.Doubled tile) = 2 ≤ holders tile parts
+IsOfTiles tiles parts faults.Memory = Unit {0}
+IsOfTiles tiles parts (faults.Other place what) = ⊥
+IsOfTiles tiles parts faults.NoPart = ⊥
+
+-- Why parts aren't stitched: there are none; one is of another check than the first; a tile of the plan is in none of them, or in more
+-- than one; or there is no room.
 abbrev pub IsFaultOf : List Found → PartsFault → Type 0
+IsFaultOf parts faults.Memory = Unit {0}
 IsFaultOf parts faults.NoPart = parts ≡ []
 IsFaultOf parts (faults.Other place what) = (first : Found) × (slice_get parts 0 ≡ Some first)
     × IsOther first.subject parts (faults.Other place what)
-IsFaultOf parts fault = Unit {0}
+IsFaultOf parts (faults.Missing tile) = (first : Found) × (slice_get parts 0 ≡ Some first)
+    × IsOfTiles first.subject.tiles parts (faults.Missing tile)
+IsFaultOf parts (faults.Doubled tile) = 2 ≤ holders tile parts
 
 -- The list is that of the tile in one of the parts.
 abbrev pub IsListOf : List Found → ℕ → List Marker → Type 0

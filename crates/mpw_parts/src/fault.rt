@@ -1,11 +1,14 @@
 //! Why parts aren't stitched.
 ghost use Rattle.std.specs.Prelude.{◌≡◌};
 ghost use Rattle.mpw_parts.specs.declared.fault.PartsFault.TheVariants.{Memory};
+ghost use Rattle.mpw_parts.specs.Stitching.{word_of};
 
 use std::alloc::{AllocError, AllocFailed};
+use std::fmt;
+use thiserror::Error;
 
 /// What a part doesn't share with the first.
-#[derive(Clone, Copy)]
+#[derive(Clone, Copy, Debug)]
 pub enum Difference {
     /// The library's text.
     Library,
@@ -17,18 +20,44 @@ pub enum Difference {
     Plan,
 }
 
+impl Difference {
+    /// What the part has another one of: `library`, `deck`, `structure` or `plan of tiles`.
+    #[tactic(auto, unfolding(crate::specs::Stitching::word_of))]
+    pub fn word(self) -> &'static str
+        ensures { result.now ≡ word_of self }
+    {
+        match self {
+            Difference::Library => "library",
+            Difference::Deck => "deck",
+            Difference::Top => "structure",
+            Difference::Plan => "plan of tiles",
+        }
+    }
+}
+
+impl fmt::Display for Difference {
+    fn fmt<W: fmt::Write>(&self, f: &mut fmt::Formatter<W>) -> fmt::Result {
+        f.write_str(self.word())
+    }
+}
+
 /// Why parts aren't stitched.
-#[derive(Clone, Copy)]
+#[derive(Clone, Copy, Debug, Error)]
 pub enum PartsFault {
     /// There is no room.
+    #[error("out of memory")]
     Memory,
     /// There is no part.
+    #[error("there is no part")]
     NoPart,
     /// The part at that place, counted from 0, is of another check.
+    #[error("part {0} has another {1}")]
     Other(usize, Difference),
     /// No part has that tile.
+    #[error("tile {0} is in no part")]
     Missing(usize),
-    /// Two parts have that tile.
+    /// More than one part has that tile.
+    #[error("tile {0} is in more than one part")]
     Doubled(usize),
 }
 

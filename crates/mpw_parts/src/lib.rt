@@ -10,7 +10,6 @@ mod head;
 mod laws;
 mod marker;
 mod part;
-mod put;
 mod read;
 mod stitch;
 mod tile;

@@ -1,3 +1,2 @@
 mod Escaped
-pub mod Adding
 mod Exact

@@ -2,4 +2,3 @@ pub mod Escapes
 pub mod Lengths
 pub mod Parts
 pub mod Report
-pub mod Writing

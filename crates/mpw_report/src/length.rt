@@ -1,9 +1,9 @@
 //! Lengths in micrometres, exactly: as many decimals as they need, three at most.
 ghost use Rattle.std.specs.Prelude.{◌≡◌};
 ghost use Rattle.mpw_report.specs.Lengths.{last_digits, fraction, sign_text, micrometres};
-ghost use Rattle.mpw_report.specs.Writing.{Adds};
+ghost use Rattle.mpw_writing.specs.Writing.{Adds};
 
-use crate::texts::put;
+use mpw_writing::put;
 use itoa::Buffer;
 use std::io::{self, Write};
 

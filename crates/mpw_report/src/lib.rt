@@ -3,8 +3,8 @@
 //! [`write_report`] writes a category for each rule of a deck and an item for each marker, one
 //! behind another: it takes no memory. Lengths are in micrometres, exactly ([`lengths_are_exact`]).
 //! What stands in a name is escaped, for XML and for the path that names a category
-//! ([`names_are_escaped`]). Its parts that other drawings and texts have too are public: [`put`], [`put_name`],
-//! [`put_rule`] and [`put_micrometres`].
+//! ([`names_are_escaped`]). Its parts that other drawings and texts have too are public: [`put_name`], [`put_rule`] and
+//! [`put_micrometres`].
 #![tactic(auto)]
 
 mod category;
@@ -15,11 +15,9 @@ mod length;
 mod name;
 mod part;
 mod report;
-mod texts;
 
 pub use category::put_rule;
 pub use laws::{lengths_are_exact, names_are_escaped};
 pub use length::put_micrometres;
 pub use name::put_name;
 pub use report::write_report;
-pub use texts::put;

@@ -1,9 +1,9 @@
 //! Names in a report.
 ghost use Rattle.std.specs.List.{flat_map};
 ghost use Rattle.mpw_report.specs.Escapes.{character, path_character, escaped, path_text};
-ghost use Rattle.mpw_report.specs.Writing.{Adds};
+ghost use Rattle.mpw_writing.specs.Writing.{Adds};
 
-use crate::texts::put;
+use mpw_writing::put;
 use mpw_geom::Name;
 use std::io::{self, Write};
 

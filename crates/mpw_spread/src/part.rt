@@ -4,7 +4,7 @@ ghost use Rattle.mpw_check.specs.Lists.{tile_count, AreOfTiles};
 ghost use Rattle.mpw_spread.specs.Spread.{Texts, subject_of, AreOf, IsPartOf};
 
 use crate::range::Span;
-use mpw_check::check_tiles;
+use mpw_check::{Progress, check_tiles};
 use mpw_geom::Name;
 use mpw_parts::{Part, Subject};
 use mpw_tiles::Snapshot;
@@ -21,16 +21,17 @@ pub fn subject_of(library: &[u8], deck: Vec<u8>, top: Name, tiles: u32) -> Subje
     Subject::new(Sha256::digest(library), deck, top, tiles)
 }
 
-/// The part with the markers of the tiles of a span. It costs what [`check_tiles`] does.
+/// The part with the markers of the tiles of a span. It costs what [`check_tiles`] does, and progress is told as there.
 ///
 /// # Errors
 /// Want of memory.
-pub fn check_part(
+pub fn check_part<P: Progress>(
     rt: &(impl Threads + Sync),
     alloc: Global,
     subject: Subject,
     snapshot: &Snapshot,
     span: Span,
+    progress: &mut P,
 ) -> Result<Part, AllocError>
     requires counted { tile_count snapshot.now ≡ Some subject.tiles }
     requires ordered { span.first ≤ span.end }
@@ -41,6 +42,6 @@ pub fn check_part(
     ensures made { (texts : Texts) → AreOf texts snapshot.now subject → IfOk result (IsPartOf texts) }
 {
     snapshot.is_snapshot();
-    let lists = check_tiles(rt, alloc, snapshot, span.first, span.end)?;
+    let lists = check_tiles(rt, alloc, snapshot, span.first, span.end, progress)?;
     Ok(Part::new(subject, span.first, lists))
 }

@@ -23,15 +23,37 @@ abbrev pub either : (Layer → ℕ → Square → Type 0) → (Layer → ℕ →
     → Type 0
 either P Q layer origin s = P layer origin s ⊎ Q layer origin s
 
+-- ---- what is there with something more
+
+pub none_more : {A P : Type 0} → (P → ⊥) → A ↔ (A ⊎ P)
+none_more none = (λ a. inl a, λ x. elim x [ inl a ↦ a | inr p ↦ absurd (none p) ])
+
+pub next_more : {A B C P Q R : Type 0} → (P ⊎ Q) ↔ R → B ↔ (A ⊎ P) → C ↔ (B ⊎ Q) → C ↔ (A ⊎ R)
+next_more agree f g = (
+  λ c. elim (g.0 c) [
+    | inl b ↦ elim (f.0 b) [ inl a ↦ inl a | inr p ↦ inr (agree.0 (inl p)) ]
+    | inr q ↦ inr (agree.0 (inr q))
+  ],
+  λ x. elim x [
+    | inl a ↦ g.1 (inl (f.1 (inl a)))
+    | inr r ↦ elim (agree.1 r) [ inl p ↦ g.1 (inl (f.1 (inr p))) | inr q ↦ g.1 (inr q) ]
+  ],
+)
+
+pub same_more : {A B P R : Type 0} → P ↔ R → B ↔ (A ⊎ P) → B ↔ (A ⊎ R)
+same_more agree f = (
+  λ b. elim (f.0 b) [ inl a ↦ inl a | inr p ↦ inr (agree.0 p) ],
+  λ x. elim x [ inl a ↦ f.1 (inl a) | inr r ↦ f.1 (inr (agree.1 r)) ],
+)
+
+-- ---- the windows of the plan
+
 pub adds_none : (plan : Tiling) (old : Tiles) (P : Layer → ℕ → Square → Type 0)
     → ((layer : Layer) (origin : ℕ) (s : Square) → P layer origin s → ⊥)
     → AddsSquares plan old old P
 adds_none plan old P none = record {
   count = refl;
-  squares = λ tile s layer origin u w. (
-    λ l. inl l,
-    λ p. elim p [ inl l ↦ l | inr q ↦ absurd (none layer origin s q) ],
-  );
+  squares = λ tile s layer origin u w. none_more (none layer origin s);
   near = λ tile x u c. inl c;
 }
 
@@ -40,43 +62,18 @@ pub adds_next : (plan : Tiling) (a b c : Tiles) (P Q R : Layer → ℕ → Squar
     → AddsSquares plan a c R
 adds_next plan a b c P Q R agree f g = record {
   count = g.count ∙ f.count;
-  squares = λ tile s layer origin u w. (to tile s layer origin u w, from tile s layer origin u w);
+  squares = λ tile s layer origin u w.
+      next_more (agree tile s layer origin u w) (f.squares tile s layer origin u w)
+      (g.squares tile s layer origin u w);
   near = λ tile x u l. elim (g.near tile x u l) [ inl m ↦ f.near tile x u m | inr q ↦ inr q ];
 }
-  where
-    to : (tile : ℕ) (s : Square) (layer : Layer) (origin : ℕ) → tile < tiles plan
-        → has_square (tile_window plan tile) s ≡ true → IsListed (get_or c tile []) layer origin s
-        → IsListed (get_or a tile []) layer origin s ⊎ R layer origin s
-    to tile s layer origin u w l = elim ((g.squares tile s layer origin u w).0 l) [
-      | inl m ↦ elim ((f.squares tile s layer origin u w).0 m)
-          [ inl k ↦ inl k | inr p ↦ inr ((agree tile s layer origin u w).0 (inl p)) ]
-      | inr q ↦ inr ((agree tile s layer origin u w).0 (inr q))
-    ]
-
-    from : (tile : ℕ) (s : Square) (layer : Layer) (origin : ℕ) → tile < tiles plan
-        → has_square (tile_window plan tile) s ≡ true → IsListed (get_or a tile []) layer origin s
-        ⊎ R layer origin s → IsListed (get_or c tile []) layer origin s
-    from tile s layer origin u w (inl k) = (g.squares tile s layer origin u w).1
-        (inl ((f.squares tile s layer origin u w).1 (inl k)))
-    from tile s layer origin u w (inr r) = elim ((agree tile s layer origin u w).1 r) [
-      | inl p ↦ (g.squares tile s layer origin u w).1
-          (inl ((f.squares tile s layer origin u w).1 (inr p)))
-      | inr q ↦ (g.squares tile s layer origin u w).1 (inr q)
-    ]
 
 pub adds_same : (plan : Tiling) (a b : Tiles) (P R : Layer → ℕ → Square → Type 0)
     → AgreeInWindows plan P R → AddsSquares plan a b P → AddsSquares plan a b R
 adds_same plan a b P R agree f = record {
   count = f.count;
-  squares = λ tile s layer origin u w. (
-    λ l. elim ((f.squares tile s layer origin u w).0 l)
-        [ inl k ↦ inl k | inr p ↦ inr ((agree tile s layer origin u w).0 p) ],
-    λ p. elim p [
-      | inl k ↦ (f.squares tile s layer origin u w).1 (inl k)
-      | inr r
-          ↦ (f.squares tile s layer origin u w).1 (inr ((agree tile s layer origin u w).1 r))
-    ],
-  );
+  squares = λ tile s layer origin u w.
+      same_more (agree tile s layer origin u w) (f.squares tile s layer origin u w);
   near = f.near;
 }
 

@@ -1,6 +1,6 @@
 -- The squares of placed boxes and shapes.
 use Rattle.std.proofs.Common.{◌≡◌, ℕ, zero, suc, ◌+◌, ◌<◌, Bool, true, false, if◌then◌else◌, ◌||◌, List, [], ◌∷◌, ◌++◌, length, get_or, take, Option, Some, ◌⊎◌, inl, inr, refl, sym, subst, ap, ◌∙◌, arith}
-use Rattle.std.specs.Prelude.{ℤ, pos, neg_ℤ, ◌-ℤ◌}
+use Rattle.std.specs.Prelude.{◌↔◌, ℤ, pos, neg_ℤ, ◌-ℤ◌}
 use Rattle.std.proofs.lemmas.Bool.{false≢true}
 use Rattle.std.proofs.lemmas.Int.{ints}
 use Rattle.std.proofs.lemmas.List.Folds.{list_any_more}
@@ -86,16 +86,17 @@ pub no_boxes : (t : Placing) (own : Layer) (number : ℕ) (layer : Layer) (origi
 unfolding any_has_square
 no_boxes t own number layer origin s h = false≢true h.has
 
-abbrev rectangle_of : Box2 → Layer → ℕ → Rectangle
+abbrev pub rectangle_of : Box2 → Layer → ℕ → Rectangle
 rectangle_of area own number = record { area = area; layer = own; origin = number }
 
-pub boxes_more : (plan : Tiling) (boxes : List Box2) (i : ℕ) (d area : Box2) (t : Placing)
-    (own : Layer) (number : ℕ) → WindowsLieInPlane plan → i < length boxes
-    → IsPlacedArea t (get_or boxes i d) area
-    → AgreeInWindows plan (either (HasPlacedSquare (take i boxes) t own number)
-    (HasSquareOf (rectangle_of area own number)))
-    (HasPlacedSquare (take (i + 1) boxes) t own number)
-boxes_more plan boxes i d area t own number plane h exact tile s layer origin u w = (to, from)
+-- a box more, placed, has the squares of its area in the plane
+pub boxes_at : (boxes : List Box2) (i : ℕ) (d area : Box2) (t : Placing) (own : Layer) (number : ℕ)
+    → i < length boxes → IsPlacedArea t (get_or boxes i d) area → (layer : Layer) (origin : ℕ)
+    (s : Square) → IsSquareInPlane s
+    → either (HasPlacedSquare (take i boxes) t own number)
+    (HasSquareOf (rectangle_of area own number)) layer origin s
+    ↔ HasPlacedSquare (take (i + 1) boxes) t own number layer origin s
+boxes_at boxes i d area t own number h exact layer origin s plane = (to, from)
   where
     more : (q : Square) → any_has_square (take (i + 1) boxes) q
         ≡ (any_has_square (take i boxes) q || has_square (get_or boxes i d) q)
@@ -115,7 +116,7 @@ boxes_more plan boxes i d area t own number plane h exact tile s layer origin u 
         let b = before t s in
         let k : has_square area (placed_square t b.square) ≡ true =
         subst (λ (x : Square). has_square area x ≡ true) (sym b.placed) p.has in
-        let e = exact b.square (subst IsSquareInPlane (sym b.placed) (plane tile s u w)) in
+        let e = exact b.square (subst IsSquareInPlane (sym b.placed) plane) in
         record {
           on_layer = p.on_layer;
           of_origin = p.of_origin;
@@ -139,9 +140,18 @@ boxes_more plan boxes i d area t own number plane h exact tile s layer origin u 
         on_layer = p.on_layer;
         of_origin = p.of_origin;
         has = subst (λ (x : Square). has_square area x ≡ true) p.placed
-            (exact p.square (subst IsSquareInPlane (sym p.placed) (plane tile s u w)) ∙ e);
+            (exact p.square (subst IsSquareInPlane (sym p.placed) plane) ∙ e);
       })
     ]
+
+pub boxes_more : (plan : Tiling) (boxes : List Box2) (i : ℕ) (d area : Box2) (t : Placing)
+    (own : Layer) (number : ℕ) → WindowsLieInPlane plan → i < length boxes
+    → IsPlacedArea t (get_or boxes i d) area
+    → AgreeInWindows plan (either (HasPlacedSquare (take i boxes) t own number)
+    (HasSquareOf (rectangle_of area own number)))
+    (HasPlacedSquare (take (i + 1) boxes) t own number)
+boxes_more plan boxes i d area t own number plane h exact tile s layer origin u w =
+    boxes_at boxes i d area t own number h exact layer origin s (plane tile s u w)
 
 -- ---- shapes
 
@@ -149,11 +159,13 @@ same_layer : (a b : Layer) → (let some : Option Layer = Some a in some) ≡ So
 same_layer a b e = cc
 
 -- the boxes of a shape, placed, are the shape's squares
-pub boxes_show : (plan : Tiling) (item : Item) (boxes : List Box2) (own : Layer)
+pub boxes_show : (item : Item) (boxes : List Box2) (own : Layer)
     → layer_of item.element ≡ Some own
     → ((s : Square) → any_has_square boxes s ≡ element_has item.element s)
-    → AgreeInWindows plan (HasPlacedSquare boxes item.placing own item.origin) (ShowsSquare item)
-boxes_show plan item boxes own e same tile s layer origin u w = (
+    → (layer : Layer) (origin : ℕ) (s : Square)
+    → HasPlacedSquare boxes item.placing own item.origin layer origin s
+    ↔ ShowsSquare item layer origin s
+boxes_show item boxes own e same layer origin s = (
   λ p. record {
     on_layer = e ∙ ap Some p.on_layer;
     of_origin = p.of_origin;
@@ -172,9 +184,10 @@ boxes_show plan item boxes own e same tile s layer origin u w = (
 
 -- ---- lists of shapes
 
-pub shown_more : (plan : Tiling) (done : List Item) (item : Item)
-    → AgreeInWindows plan (either (IsShown done) (ShowsSquare item)) (IsShown (done ++ item ∷ []))
-shown_more plan done item tile s layer origin u w = (
+pub shown_more : (done : List Item) (item : Item) (layer : Layer) (origin : ℕ) (s : Square)
+    → either (IsShown done) (ShowsSquare item) layer origin s
+    ↔ IsShown (done ++ item ∷ []) layer origin s
+shown_more done item layer origin s = (
   λ p. elim p [
     | inl l ↦ Held-push_left (λ (i : Item). ShowsSquare i layer origin s) done item l
     | inr q ↦ Held-push_new (λ (i : Item). ShowsSquare i layer origin s) done item q

@@ -26,4 +26,5 @@ pub use laws::{
 pub use listing::{Rectangle, Window, Windows};
 pub use place::placed_area;
 pub use plan::{MAX_TILES, Plan, TooManyTiles};
+pub use shapes::layer_of;
 pub use snapshot::{MAX_ROOTS, MAX_SHAPES, Snapshot, are_roots, cut};

@@ -21,7 +21,7 @@ use mpw_walk::{Placed, Walk};
 use std::alloc::{AllocError, Global};
 
 /// The layer of a shape; a reference has none.
-fn layer_of(element: &Element) -> Option<Layer>
+pub fn layer_of(element: &Element) -> Option<Layer>
     ensures { result ≡ layer_of element.now }
 {
     match element {

@@ -8,7 +8,7 @@ mod plane;
 mod random;
 mod rule;
 
-pub use markers::{axis, marker, side};
+pub use markers::{axis, marker, print_marker, side};
 pub use numerals::{coordinate, coordinate_or_zero, number, numbers};
 pub use plane::{
     ORIENTS, coordinates, is_coordinate, is_near, is_ordered, orient, orient_word, placing,

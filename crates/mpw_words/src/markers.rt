@@ -1,4 +1,4 @@
-//! Markers by their words.
+//! Markers by their words, read and printed.
 
 use crate::numerals::{coordinate, number};
 use anyhow::{Result, bail};
@@ -28,6 +28,30 @@ pub fn side(word: &str) -> Result<u8> {
         "1" => Ok(1),
         _ => bail!("a side"),
     }
+}
+
+/// The letter of an axis.
+fn letter(axis: Axis) -> &'static str {
+    match axis {
+        Axis::V => "V",
+        Axis::H => "H",
+    }
+}
+
+/// Prints a marker on a line of its own: its key, and the submissions that it meets.
+///
+/// # Errors
+/// Where the output fails.
+pub fn print_marker(rt: &impl Print, marker: &Marker) -> Result<()> {
+    let axis = letter(marker.axis);
+    print!(rt;
+        "    {} {axis} {} {} {} {} {} met",
+        marker.rule, marker.side, marker.x1, marker.x2, marker.y0, marker.y1
+    )?;
+    for number in marker.met.as_slice() {
+        print!(rt; " {number}")?;
+    }
+    Ok(println!(rt; "")?)
 }
 
 /// The marker of a line of seven words: rule, axis, side, x1, x2, y0, y1. It meets no submission.

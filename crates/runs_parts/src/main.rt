@@ -6,13 +6,11 @@
 //! - `stitch` stitches the parts, prints the book, a marker a line, or why there is none, and begins anew.
 #![tactic(auto)]
 
-mod told;
-
 use anyhow::{Result, bail};
 use mpw_parts::{Part, read_part, stitch_parts, write_part};
+use mpw_words::print_marker;
 use std::alloc::Global;
 use std::mem;
-use told::{fault, print};
 
 /// The parts so far, and the text of the one that is being read.
 #[derive(Drop)]
@@ -83,11 +81,11 @@ impl Parts {
         match stitch_parts(rt.alloc(), parts) {
             Ok(book) => {
                 for marker in book.as_slice() {
-                    print(rt, marker)?;
+                    print_marker(rt, marker)?;
                 }
                 println!(rt; "    {} markers", book.len())?;
             }
-            Err(why) => fault(rt, why)?,
+            Err(fault) => println!(rt; "    {fault}")?,
         }
         Ok(())
     }

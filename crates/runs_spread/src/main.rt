@@ -6,19 +6,17 @@
 //! - `stitch` stitches the parts that are kept, prints the book, a marker a line, or why there is none, and begins anew.
 #![tactic(auto)]
 
-mod told;
-
 use anyhow::{Result, bail};
-use mpw_check::{read_layout, tile_count};
+use mpw_check::{Silent, read_layout, tile_count};
 use mpw_deck::read_deck;
 use mpw_geom::Name;
 use mpw_parts::{Part, read_part, stitch_parts, write_part};
 use mpw_spread::{check_part, read_range, subject_of};
 use mpw_tiles::Snapshot;
+use mpw_words::print_marker;
 use std::alloc::Global;
 use std::thread::Threads;
 use std::{fs, mem, str};
-use told::{fault, print};
 
 /// What is checked: its texts, the structure, and what they give.
 #[derive(Drop)]
@@ -81,7 +79,7 @@ fn part_text(
         layout.top.copy()?,
         tiles,
     );
-    let part = check_part(threads, alloc, subject, &layout.snapshot, span)?;
+    let part = check_part(threads, alloc, subject, &layout.snapshot, span, &mut Silent)?;
     let mut written = Vec::new(alloc);
     write_part(alloc, &mut written, &part)?;
     Ok(Some(written))
@@ -120,11 +118,11 @@ fn stitch(rt: &HostRuntime, parts: &mut Vec<Part>) -> Result<()> {
     match stitch_parts(rt.alloc(), parts) {
         Ok(book) => {
             for marker in book.as_slice() {
-                print(rt, marker)?;
+                print_marker(rt, marker)?;
             }
             println!(rt; "    {} markers", book.len())?;
         }
-        Err(why) => fault(rt, why)?,
+        Err(fault) => println!(rt; "    {fault}")?,
     }
     Ok(())
 }

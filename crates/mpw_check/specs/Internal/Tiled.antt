@@ -1,5 +1,5 @@
--- What private functions and proofs need of this: the jobs of the tiles of what is checked.
-use Rattle.std.specs.Prelude.{ℕ, ◌-◌, List, [], map}
+-- What private functions and proofs need of this: a layout that is cut, and the jobs of its tiles.
+use Rattle.std.specs.Prelude.{◌≡◌, ℕ, ◌-◌, List, [], map, length, Some}
 use Rattle.std.specs.List.{range_with_len}
 use Rattle.mpw_job.specs.Answers.{Answers}
 use Rattle.mpw_job.specs.Laws.{task_of}
@@ -9,9 +9,18 @@ use Rattle.mpw_job.specs.declared.job.Job.{Job}
 use Rattle.mpw_job.specs.declared.job.Job.TheVariants as jobs
 use Rattle.mpw_markers.specs.declared.marker.Marker.{Marker}
 use Rattle.mpw_tiles.specs.declared.listing.Rectangle.{Rectangle}
-use Rattle.mpw_tiles.specs.Plan.{Tiling}
-use Rattle.mpw_tiles.specs.Snapshots.{Snapshot}
+use Rattle.mpw_tiles.specs.Placed.{WindowsLieInPlane}
+use Rattle.mpw_tiles.specs.Plan.{Tiling, tiles}
+use Rattle.mpw_tiles.specs.Snapshots.{Snapshot, plan_for, StandFor}
 use Rattle.mpw_check.specs.Lists.{only_run}
+
+-- The plan is the snapshot's, and the windows are those of a cut for it.
+pub record IsCut (snapshot : Snapshot) (plan : Tiling) (windows : List (List Rectangle)) :
+    Type 0 where
+  pub planned : plan_for snapshot ≡ Some plan
+  pub plane : WindowsLieInPlane plan
+  pub count : length windows ≡ tiles plan
+  pub stand : StandFor snapshot windows
 
 -- The job of a tile, and those of the tiles from `first` to below `end`, in order.
 abbrev pub job_at : Snapshot → Tiling → List (List Rectangle) → ℕ → Job

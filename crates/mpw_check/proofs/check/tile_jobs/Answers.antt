@@ -7,7 +7,8 @@ use Rattle.mpw_check.proofs.check.tile_jobs.Goals as goal
 
 pub loop-tile-preserved : goal.loop-tile-preserved
 loop-tile-preserved c =
-    let f = job_at c.args.snapshot.now c.args.plan.now c.args.windows.now in
+    let layout = c.args.layout.now in
+    let f = job_at layout.snapshot.now layout.plan.now layout.windows.now in
     let first = c.args.first in
     let tile = c.loop-tile.tile in
     let reached = c.loop-tile.invariant.0 in

@@ -7,5 +7,5 @@ use Rattle.mpw_check.proofs.check.tile_jobs.Given as goal
 -- the jobs are those of the tiles so far
 abbrev pub invariant-loop-tile : goal.invariant-loop-tile
 invariant-loop-tile l = (l.fn.first ≤ l.tile) × (l.jobs.items
-    ≡ map (job_at l.fn.snapshot l.fn.plan l.fn.windows)
+    ≡ map (job_at l.fn.layout.snapshot.now l.fn.layout.plan.now l.fn.layout.windows.now)
     (range_with_len l.fn.first (l.tile - l.fn.first)))

@@ -13,7 +13,7 @@ returns c =
     record {
       ok = adds_same c.args.plan.now c.args.lists.now.items c.list_boxes.new.lists.items
           (HasPlacedSquare boxes item.placing c.in-Some.layer item.origin) (ShowsSquare item)
-          (boxes_show c.args.plan.now item boxes c.in-Some.layer
-          (sym c.layer_of.ensures ∙ c.in-Some.is) c.in_ok-boxes.ensures.squares)
+          (λ tile s layer origin u w. boxes_show item boxes c.in-Some.layer
+          (sym c.layer_of.ensures ∙ c.in-Some.is) c.in_ok-boxes.ensures.squares layer origin s)
           (rw c.as_slice.ensures.value at c.in_ok-list_boxes.ensures.ok);
     }

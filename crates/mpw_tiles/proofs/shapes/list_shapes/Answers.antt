@@ -26,6 +26,7 @@ loop-placed-preserved c =
           ∙ ap (λ rest. done ++ rest) (sym c.in-Some.ensures.some) ∙ c.loop-placed.invariant.1,
       adds_next c.args.plan.now c.args.lists.now.items c.loop-placed.lists.items
           c.list_shape.new.lists.items (IsShown done) (ShowsSquare item)
-          (IsShown (done ++ item ∷ [])) (shown_more c.args.plan.now done item)
+          (IsShown (done ++ item ∷ []))
+          (λ tile s layer origin u w. shown_more done item layer origin s)
           c.loop-placed.invariant.2 c.in_ok-list_shape.ensures.ok,
     )

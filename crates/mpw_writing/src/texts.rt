@@ -1,11 +1,14 @@
 //! Writing some texts one behind another.
 ghost use Rattle.std.specs.List.{flat_map};
-ghost use Rattle.mpw_parts.specs.Writing.{Adds};
+ghost use Rattle.mpw_writing.specs.Writing.{Adds};
 
 use std::io::{self, Write};
 
-/// Writes the texts in their order.
-pub(crate) fn put<W: Write>(writer: &mut W, parts: &[&str]) -> io::Result<()>
+/// Writes the texts in their order. It takes no memory.
+///
+/// # Errors
+/// The writer's; it then holds a part of them.
+pub fn put<W: Write>(writer: &mut W, parts: &[&str]) -> io::Result<()>
     ensures { Adds W.contents writer.old writer.new result (flat_map (λ part. part.now) parts.now) }
 {
     for part in parts {

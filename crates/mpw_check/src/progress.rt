@@ -1,0 +1,18 @@
+//! Who is told how far a check came.
+
+/// Who is told how far the tiles of a check came.
+///
+/// It takes part in no contract: whatever it does with what it is told, the markers are the same.
+pub trait Progress {
+    /// Tells how many of all tiles are checked: 0 behind the cut, then how many behind each batch. `done` grows up to `total`,
+    /// which stays the same throughout a check. The check waits until it returns.
+    fn tell(&mut self, done: usize, total: usize);
+}
+
+/// Tells nobody.
+#[derive(Clone, Copy, Debug, PartialEq, Eq)]
+pub struct Silent;
+
+impl Progress for Silent {
+    fn tell(&mut self, _done: usize, _total: usize) {}
+}

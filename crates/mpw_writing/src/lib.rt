@@ -1,0 +1,7 @@
+//! Texts written to std's writers, one behind another: [`put`], and what contracts say of a writer that was given a text (`Adds`, in
+//! `specs/Writing.antt`).
+#![tactic(auto)]
+
+mod texts;
+
+pub use texts::put;
