@@ -8,4 +8,6 @@ pub mod PlacesLemmas
 pub mod SearchLemmas
 pub mod TableLemmas
 pub mod BitLemmas
+pub mod PositionLemmas
+pub mod RegisterLemmas
 pub mod RoleLemmas

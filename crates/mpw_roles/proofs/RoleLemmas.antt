@@ -84,7 +84,7 @@ IsHierarchy-empty = record {
 }
 
 -- lists of distinct names
-name_eq-apart : (a b : Name) → name_eq a b ≡ false → name_eq b a ≡ false
+pub name_eq-apart : (a b : Name) → name_eq a b ≡ false → name_eq b a ≡ false
 name_eq-apart a b apart = refuted (name_eq b a)
     (λ is. true≢false (sym ((bytes_decides a b).1 (sym (same_name b a is))) ∙ apart))
 

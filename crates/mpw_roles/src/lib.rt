@@ -12,11 +12,14 @@ mod fault;
 mod laws;
 mod mask;
 mod places;
+mod register;
 mod roles;
 mod search;
+mod settled;
 
 pub use below::Below;
 pub use fault::RolesFault;
 pub use laws::order_is_chains;
 pub use mask::Mask;
+pub use register::Register;
 pub use roles::{MAX_ROLES, Roles};
