@@ -1,9 +1,11 @@
 pub mod CallerLemmas
 pub mod CommonLemmas
+pub mod EntryLemmas
 pub mod HierarchyLemmas
 pub mod MarksLemmas
 pub mod MaskLemmas
 pub mod NamedLemmas
+pub mod NumberLemmas
 pub mod PlacesLemmas
 pub mod SearchLemmas
 pub mod TableLemmas

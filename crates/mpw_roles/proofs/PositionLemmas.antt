@@ -1,12 +1,19 @@
 -- The first place at which a test passes.
 use Rattle.std.proofs.Common.{◌≡◌, ℕ, zero, suc, ◌+◌, ◌<◌, ◌≤◌, Bool, true, false, cond, not, ◌||◌, inl, inr, List, [], ◌∷◌, ◌++◌, length, get_or, None, Some, is_some, refl, sym, ap, ◌∙◌, true≢false, arith, length-append}
-use Rattle.std.specs.Prelude.{nat_lt, position}
+use Rattle.std.specs.Prelude.{nat_lt, position, slice_get}
 use Rattle.std.specs.List.{list_any, position_or_len}
 use Rattle.std.specs.Option.{option_map}
 use Rattle.std.proofs.lemmas.Bool.{cases_lt, lt-ltb, le-ltb}
 
 module _ {X : Type 0} where
-  position-cons : (p : X → Bool) (x : X) (xs : List X)
+  -- an item that is there is the one at its place
+  pub item-there : (xs : List X) (i : ℕ) (x d : X) → i < length xs → get_or xs i d ≡ x
+      → slice_get xs i ≡ Some x
+  item-there [] i x d inside at = absurd (omega arith)
+  item-there (y ∷ ys) zero x d inside at = ap Some at
+  item-there (y ∷ ys) (suc i) x d inside at = item-there ys i x d (omega arith) at
+
+  pub position-cons : (p : X → Bool) (x : X) (xs : List X)
       → position p (x ∷ xs) ≡ cond (p x) (Some 0) (option_map suc (position p xs))
   position-cons p x xs =
       let n = position_or_len p xs in
@@ -95,3 +102,15 @@ module _ {X : Type 0} where
       ∙ (λ t. cond (same 0 x (omega arith) t) (Some 0) (option_map suc
       (position-same p q xs (λ i d inside. same (suc i) d (omega arith)) t)))
       ∙ sym (position-cons q x xs)
+
+  -- it is known by what stands there and before
+  pub position-at : (p : X → Bool) (xs : List X) (i : ℕ) (d : X) → i < length xs
+      → p (get_or xs i d) ≡ true → ((k : ℕ) → k < i → p (get_or xs k d) ≡ false)
+      → Some i ≡ position p xs
+  position-at p [] i d inside at first = absurd (omega arith)
+  position-at p (x ∷ xs) zero d inside at first =
+      sym (position-cons p x xs ∙ ap (λ b. cond b (Some 0) (option_map suc (position p xs))) at)
+  position-at p (x ∷ xs) (suc i) d inside at first =
+      sym (position-cons p x xs
+      ∙ (λ t. cond (first 0 (omega arith) t) (Some 0) (option_map suc
+      (sym (position-at p xs i d (omega arith) at (λ k below. first (suc k) (omega arith))) t))))

@@ -1,14 +1,14 @@
 -- Names, each once, in two lists.
-use Rattle.std.proofs.Common.{◌≡◌, Bool, true, false, cond, not, ◌||◌, ◌&&◌, List, [], ◌∷◌, ◌++◌, refl, sym, ap, ◌∙◌, true≢false, append_assoc}
+use Rattle.std.proofs.Common.{◌≡◌, ℕ, ◌+◌, length, None, Some, Option, is_some, arith, Bool, true, false, cond, not, ◌||◌, ◌&&◌, List, [], ◌∷◌, ◌++◌, refl, sym, ap, ◌∙◌, true≢false, append_assoc}
+use Rattle.std.specs.Prelude.{position}
+use Rattle.std.specs.Option.{option_map}
 use Rattle.mpw_geom.specs.Names.{name_eq, contains_name}
+use Rattle.mpw_geom.proofs.Linked.{name_eq-refl}
 use Rattle.mpw_roles.specs.Hierarchy.{Name}
 use Rattle.mpw_roles.specs.Order.{are_distinct}
 use Rattle.indexmap.specs.IndexSet.{insert_key}
-use Rattle.mpw_roles.proofs.RoleLemmas.{contains-append, and_parts, and_both, not_true, name_eq-apart, refuted, or_left}
-
-neither : (a b : Bool) → (a || b) ≡ false → (a ≡ false) × (b ≡ false)
-neither true b e = absurd (true≢false e)
-neither false b e = (refl, e)
+use Rattle.mpw_roles.proofs.PositionLemmas.{position-any, position-cons, position-right}
+use Rattle.mpw_roles.proofs.RoleLemmas.{contains-append, and_parts, and_both, not_true, name_eq-apart, neither}
 
 -- what stands behind some names is none of them
 pub name-next : (xs ys : List Name) (n : Name) → are_distinct (xs ++ n ∷ ys) ≡ true
@@ -37,3 +37,19 @@ pub next-inserted : (set rest all : List Name) (n : Name) → are_distinct all �
 next-inserted set rest all n once is =
     let new : contains_name set n ≡ false = name-next set rest n (ap are_distinct is ∙ once) in
     ap (λ b. cond b set (set ++ n ∷ []) ++ rest) new ∙ append_assoc set (n ∷ []) rest ∙ is
+
+-- a new name gets the next number
+pub last-number : (names : List Name) (n : Name) (number : ℕ) → contains_name names n ≡ false
+    → number ≡ length names → Some number ≡ position (name_eq n) (names ++ n ∷ [])
+last-number names n number new is =
+    let none : position (name_eq n) names ≡ None = absent (position (name_eq n) names)
+    (position-any (name_eq n) names ∙ new) in
+    ap Some is
+    ∙ sym (position-right (name_eq n) names (n ∷ []) none
+    ∙ ap (option_map (λ i. length names + i)) (position-cons (name_eq n) n []
+    ∙ ap (λ b. cond b (Some 0) None) (name_eq-refl n))
+    ∙ ap Some (omega arith))
+  where
+    absent : (o : Option ℕ) → is_some o ≡ false → o ≡ None
+    absent None is = refl
+    absent (Some i) is = absurd (true≢false is)

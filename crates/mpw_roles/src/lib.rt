@@ -11,11 +11,13 @@ mod below;
 mod fault;
 mod laws;
 mod mask;
+mod pairs;
 mod places;
 mod register;
 mod roles;
 mod search;
 mod settled;
+mod table;
 
 pub use below::Below;
 pub use fault::RolesFault;
