@@ -4,6 +4,7 @@ pub mod EntryLemmas
 pub mod HierarchyLemmas
 pub mod MarksLemmas
 pub mod MaskLemmas
+pub mod MaskedLemmas
 pub mod NamedLemmas
 pub mod NumberLemmas
 pub mod PlacesLemmas

@@ -14,6 +14,7 @@ mod mask;
 mod pairs;
 mod places;
 mod register;
+mod remask;
 mod roles;
 mod search;
 mod settled;
