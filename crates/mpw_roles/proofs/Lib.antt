@@ -13,4 +13,5 @@ pub mod TableLemmas
 pub mod BitLemmas
 pub mod PositionLemmas
 pub mod RegisterLemmas
+pub mod RenumberLemmas
 pub mod RoleLemmas

@@ -15,6 +15,7 @@ mod pairs;
 mod places;
 mod register;
 mod remask;
+mod renumber;
 mod roles;
 mod search;
 mod settled;

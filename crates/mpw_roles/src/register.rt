@@ -63,6 +63,21 @@ impl Register {
         }
     }
 
+    /// The register of these names: a hash for each.
+    ///
+    /// # Errors
+    /// Where there is no room.
+    pub fn of_names(alloc: Global, names: &[Name]) -> Result<Register, AllocError>
+        requires { are_distinct names.now ≡ true }
+        ensures { IfOk result (λ register. register ≡ names.now) }
+    {
+        let settled = Settled::new().with(alloc, names)?;
+        Ok(Register {
+            settled,
+            latest: Names::new(alloc),
+        })
+    }
+
     /// The number of names.
     pub fn len(&self) -> usize
         ensures { result ≡ length self.now }

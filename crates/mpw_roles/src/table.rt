@@ -7,11 +7,13 @@ ghost use Rattle.std.specs.Prelude.{◌≡◌, ℕ, ◌<◌, ◌≤◌, [], true
 ghost use Rattle.std.specs.Option.{option_copied};
 ghost use Rattle.mpw_geom.specs.Names.{name_eq};
 ghost use Rattle.mpw_roles.specs.Hierarchy.{role_names, is_role, is_immediate, with_role, without_role, with_pair, without_pair};
-ghost use Rattle.mpw_roles.specs.Internal.Table.{entries_of, IsTable};
 ghost use Rattle.mpw_roles.specs.Order.{are_distinct};
+ghost use Rattle.mpw_roles.specs.Places.{IsMasked};
 
-use crate::Register;
 use crate::pairs::{Pair, has_pair, place_of, without_ends, without_number, without_pair};
+use crate::remask::remask;
+use crate::renumber::{is_straight, names_with, numbers, placed_pairs};
+use crate::{Mask, Register};
 use mpw_geom::Name;
 use std::alloc::{AllocError, Global};
 use std::marker::Model;
@@ -90,6 +92,60 @@ impl Table {
             order: Vec::new(alloc),
             pairs: Vec::new(alloc),
         }
+    }
+
+    /// The same roles. The names are numbered anew where roles went.
+    ///
+    /// # Errors
+    /// Where there is no room.
+    pub(crate) fn copy(&self) -> Result<Table, AllocError>
+        ensures { IfOk result (λ table. table ≡ self.now) }
+    {
+        if is_straight(&self.order, self.names.len()) {
+            return self.shared();
+        }
+        self.renumbered()
+    }
+
+    /// The same roles with the same numbers: a copy of the numbers, and what a copy of the register costs.
+    fn shared(&self) -> Result<Table, AllocError>
+        ensures { IfOk result (λ table. table ≡ self.now) }
+    {
+        let alloc = self.allocator();
+        let names = self.names.copy()?;
+        let order = order_copied(alloc, &self.order)?;
+        let pairs = pairs_copied(alloc, &self.pairs)?;
+        Ok(Table {
+            names,
+            order,
+            pairs,
+        })
+    }
+
+    /// The same roles with other numbers, each its place: a hash for each role, and two look-ups for each pair.
+    fn renumbered(&self) -> Result<Table, AllocError>
+        ensures { IfOk result (λ table. table ≡ self.now) }
+    {
+        let alloc = self.allocator();
+        let names = names_with(alloc, &self.names, &self.order)?;
+        let names = Register::of_names(alloc, names.as_slice())?;
+        let order = numbers(alloc, self.order.len())?;
+        let pairs = placed_pairs(alloc, &self.order, &self.pairs)?;
+        Ok(Table {
+            names,
+            order,
+            pairs,
+        })
+    }
+
+    /// Writes the mask of each role anew: a pass over the masks for each pair. It takes no memory.
+    pub(crate) fn remask(&self, masks: &mut [Mask])
+        requires small { length self.now ≤ 512 }
+        requires long { length self.now ≤ length masks.old }
+        ensures masked { IsMasked self.now masks.new }
+        ensures same { length masks.new ≡ length masks.old }
+    {
+        remask(&self.order, &self.pairs, masks);
     }
 
     /// The allocator of the roles.

@@ -1,6 +1,6 @@
 -- What private functions and proofs need of the table of roles: names with numbers, the roles' numbers in the order of the
 -- roles, and the immediate pairs by number in the order in which they were commanded.
-use Rattle.std.specs.Prelude.{◌≡◌, ℕ, ◌<◌, Bool, true, not, ◌&&◌, ◌||◌, ◌==◌, List, [], ◌∷◌, length, map, filter, slice_index_or}
+use Rattle.std.specs.Prelude.{◌≡◌, ℕ, ◌<◌, Bool, true, not, ◌&&◌, ◌||◌, ◌==◌, List, [], ◌∷◌, length, map, filter, position, unwrap_or, slice_index_or}
 use Rattle.std.specs.List.{list_any, list_all}
 use Rattle.mpw_roles.specs.Hierarchy.{Name, Hierarchy}
 use Rattle.mpw_roles.specs.Order.{are_distinct}
@@ -50,3 +50,12 @@ pub record IsTable (names : List Name) (pairs : List Pair) (order : List ℕ) : 
   pub once : are_once order ≡ true
   pub known : (number : ℕ) → has_number order number ≡ true → number < length names
   pub between : list_all (is_between order) pairs ≡ true
+
+-- the place of a number that is there
+abbrev pub place_in : List ℕ → ℕ → ℕ
+place_in order number = unwrap_or (position (λ other. number == other) order) 0
+
+-- a pair by the places of its roles
+abbrev pub placed_pair : List ℕ → Pair → Pair
+placed_pair order pair =
+    record { senior = place_in order pair.senior; junior = place_in order pair.junior }
