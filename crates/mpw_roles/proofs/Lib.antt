@@ -1,11 +1,17 @@
 pub mod CallerLemmas
 pub mod CommonLemmas
+pub mod EntryLemmas
 pub mod HierarchyLemmas
 pub mod MarksLemmas
 pub mod MaskLemmas
+pub mod MaskedLemmas
 pub mod NamedLemmas
+pub mod NumberLemmas
 pub mod PlacesLemmas
 pub mod SearchLemmas
 pub mod TableLemmas
 pub mod BitLemmas
+pub mod PositionLemmas
+pub mod RegisterLemmas
+pub mod RenumberLemmas
 pub mod RoleLemmas

@@ -84,7 +84,7 @@ IsHierarchy-empty = record {
 }
 
 -- lists of distinct names
-name_eq-apart : (a b : Name) → name_eq a b ≡ false → name_eq b a ≡ false
+pub name_eq-apart : (a b : Name) → name_eq a b ≡ false → name_eq b a ≡ false
 name_eq-apart a b apart = refuted (name_eq b a)
     (λ is. true≢false (sym ((bytes_decides a b).1 (sym (same_name b a is))) ∙ apart))
 
@@ -96,9 +96,9 @@ pub and_both : (a b : Bool) → a ≡ true → b ≡ true → (a && b) ≡ true
 and_both true b p q = q
 and_both false b p q = absurd (true≢false (sym p))
 
-not_parts : (a b : Bool) → (a || b) ≡ false → (a ≡ false) × (b ≡ false)
-not_parts true b e = absurd (true≢false e)
-not_parts false b e = (refl, e)
+pub neither : (a b : Bool) → (a || b) ≡ false → (a ≡ false) × (b ≡ false)
+neither true b e = absurd (true≢false e)
+neither false b e = (refl, e)
 
 pub not_true : (a : Bool) → not a ≡ true → a ≡ false
 not_true true e = absurd (true≢false (sym e))
@@ -109,7 +109,7 @@ pub distinct-append : (xs : List Name) (n : Name) → are_distinct xs ≡ true �
 distinct-append [] n once new = refl
 distinct-append (x ∷ xs) n once new =
     let parts = and_parts (not (contains_name xs x)) (are_distinct xs) once in
-    let apart = not_parts (name_eq n x) (contains_name xs n) new in
+    let apart = neither (name_eq n x) (contains_name xs n) new in
     let first : contains_name xs x ≡ false = not_true (contains_name xs x) parts.0 in
     let other : name_eq x n ≡ false = name_eq-apart n x apart.0 in
     and_both (not (contains_name (xs ++ n ∷ []) x)) _

@@ -1,7 +1,7 @@
 use Rattle.std.proofs.Common.{◌≡◌, ℕ, ◌||◌, ◌&&◌, ◌<◌, ◌≤◌}
 use Rattle.mpw_roles.specs.Mask.{has}
 use Rattle.mpw_roles.specs.Places.{mask_at}
-use Rattle.mpw_roles.proofs.roles.join_places.Given as goal
+use Rattle.mpw_roles.proofs.remask.join_places.Given as goal
 
 -- the masks so far are joined, and the others are as they were
 abbrev pub invariant-loop-role : goal.invariant-loop-role

@@ -1,0 +1,72 @@
+//! Immediate pairs by the numbers of their roles, and where a number stands in the order of the roles.
+ghost use Rattle.std.specs.Prelude.{◌≡◌, ◌==◌, not, true, filter, position};
+ghost use Rattle.std.specs.List.{list_any};
+ghost use Rattle.mpw_roles.specs.Internal.Table.{are_once, is_pair, is_end};
+
+/// An immediate pair, by the numbers of its roles.
+#[derive(Clone, Copy)]
+pub(crate) struct Pair {
+    pub(crate) senior: usize,
+    pub(crate) junior: usize,
+}
+
+/// Whether the pair of two numbers is there: a look at each pair.
+pub(crate) fn has_pair(pairs: &[Pair], senior: usize, junior: usize) -> bool
+    ensures { result ≡ list_any (is_pair senior junior) pairs.now }
+{
+    pairs.iter().any(
+        |pair: &Pair| -> bool
+            ensures { result ≡ is_pair senior junior pair.now }
+        { (senior == pair.senior) & (junior == pair.junior) },
+    )
+}
+
+/// The pair of two numbers goes. It takes no memory.
+pub(crate) fn without_pair(pairs: &mut Vec<Pair>, senior: usize, junior: usize)
+    ensures { pairs.new.items ≡ filter (λ pair. not (is_pair senior junior pair)) pairs.old.items }
+{
+    pairs.retain(
+        |pair: &Pair| -> bool
+            ensures { result ≡ not (is_pair senior junior pair.now) }
+        { !((senior == pair.senior) & (junior == pair.junior)) },
+    );
+}
+
+/// Each pair of a role goes. It takes no memory.
+pub(crate) fn without_ends(pairs: &mut Vec<Pair>, number: usize)
+    ensures { pairs.new.items ≡ filter (λ pair. not (is_end number pair)) pairs.old.items }
+{
+    pairs.retain(
+        |pair: &Pair| -> bool
+            ensures { result ≡ not (is_end number pair.now) }
+        { !((number == pair.senior) | (number == pair.junior)) },
+    );
+}
+
+/// A number goes. It takes no memory.
+pub(crate) fn without_number(order: &mut Vec<usize>, number: usize)
+    ensures { order.new.items ≡ filter (λ other. not (number == other)) order.old.items }
+{
+    order.retain(
+        |other: &usize| -> bool
+            ensures { result ≡ not (number == other.now) }
+        { number != *other },
+    );
+}
+
+/// The place of a number in the order: a look at the place of that number, where no role went, and otherwise at each.
+pub(crate) fn place_of(order: &[usize], number: usize) -> Option<usize>
+    requires { are_once order.now ≡ true }
+    ensures { result ≡ position (λ other. number == other) order.now }
+{
+    if let Some(here) = order.get(number) {
+        if *here == number {
+            return Some(number);
+        }
+    }
+    order.iter().position(
+        |other: &usize| -> bool
+            ensures { result ≡ number == other.now }
+        { number == *other },
+    )
+}

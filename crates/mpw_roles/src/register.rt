@@ -1,0 +1,147 @@
+//! Names, each once, with their numbers.
+//!
+//! A name's number is how many names came before it, and stays. Most names stand in a set that copies share, and the latest
+//! in a short list beside it: a copy is a count and the latest names, and a look-up a hash and a look at those. Where the list
+//! is full, the next name makes a set of all, of which each name in the list so pays a part.
+ghost use Rattle.std.specs.Prelude.{◌≡◌, ◌<◌, ◌∷◌, ◌++◌, [], true, false, length, position, slice_get, IfOk, IfSome, OnOk, OnErr};
+ghost use Rattle.std.specs.Option.{option_copied};
+ghost use Rattle.mpw_geom.specs.Names.{name_eq, contains_name};
+ghost use Rattle.mpw_roles.specs.Order.{are_distinct};
+
+use crate::settled::Settled;
+use mpw_geom::{Name, Names};
+use std::alloc::{AllocError, Global};
+use std::marker::Model;
+
+/// How many names stand beside the set at most.
+const LATEST: usize = 32;
+
+/// Names, each once, in the order in which they were added. The number of a name is its place there.
+pub struct Register {
+    settled: Settled,
+    latest: Names,
+}
+
+impl Drop for Register {
+    fn drop(self) {
+        let Register { settled, latest } = self;
+        drop(settled);
+        drop(latest);
+    }
+}
+
+impl Model for Register {
+    ghost use Rattle.std.specs.Prelude.{ℕ, List, ◌++◌};
+    ghost use Rattle.mpw_roles.specs.Internal.Register.{IsRegister};
+
+    ghost Value = { List (List ℕ) };
+
+    ghost view = { λ register. register.settled ++ register.latest };
+
+    ghost invariant = { λ register. IsRegister register.settled register.latest };
+}
+
+/// The place of a name among some.
+fn place_among(names: &[Name], name: &Name) -> Option<usize>
+    ensures { result ≡ position (name_eq name.now) names.now }
+{
+    names.iter().position(
+        |other: &Name| -> bool
+            ensures { result ≡ name_eq name.entry.now other.now }
+        { *name == *other },
+    )
+}
+
+impl Register {
+    /// The register without names. It takes no memory.
+    pub fn new(alloc: Global) -> Register
+        ensures { result ≡ [] }
+    {
+        Register {
+            settled: Settled::new(),
+            latest: Names::new(alloc),
+        }
+    }
+
+    /// The register of these names: a hash for each.
+    ///
+    /// # Errors
+    /// Where there is no room.
+    pub fn of_names(alloc: Global, names: &[Name]) -> Result<Register, AllocError>
+        requires { are_distinct names.now ≡ true }
+        ensures { IfOk result (λ register. register ≡ names.now) }
+    {
+        let settled = Settled::new().with(alloc, names)?;
+        Ok(Register {
+            settled,
+            latest: Names::new(alloc),
+        })
+    }
+
+    /// The number of names.
+    pub fn len(&self) -> usize
+        ensures { result ≡ length self.now }
+    {
+        self.settled.len() + self.latest.as_slice().len()
+    }
+
+    /// The number of a name: a hash, and a comparison for each of the latest names where it is none of the others.
+    pub fn number(&self, name: &Name) -> Option<usize>
+        ensures number { result ≡ position (name_eq name.now) self.now }
+        ensures within { IfSome result (λ number. number < length self.now) }
+        ensures once { are_distinct self.now ≡ true }
+    {
+        if let Some(number) = self.settled.place(name) {
+            return Some(number);
+        }
+        match place_among(self.latest.as_slice(), name) {
+            Some(place) => Some(self.settled.len() + place),
+            None => None,
+        }
+    }
+
+    /// The name with a number.
+    pub fn name(&self, number: usize) -> Option<&Name>
+        ensures { option_copied result ≡ slice_get self.now number }
+    {
+        let settled = self.settled.len();
+        if number < settled {
+            self.settled.get(number)
+        } else {
+            self.latest.as_slice().get(number - settled)
+        }
+    }
+
+    /// Adds a name that isn't there.
+    ///
+    /// # Errors
+    /// Where there is no room; the names are then as they were.
+    pub fn push(&mut self, alloc: Global, name: Name) -> Result<(), AllocError>
+        requires { contains_name self.old name ≡ false }
+        ensures ok { OnOk result (self.new ≡ self.old ++ name ∷ []) }
+        ensures err { OnErr result (self.new ≡ self.old) }
+    {
+        if self.latest.as_slice().len() < LATEST {
+            self.latest.push(name)?;
+            return Ok(());
+        }
+        let settled = self.settled.with(alloc, self.latest.as_slice())?;
+        let mut latest = Names::new(alloc);
+        latest.push(name)?;
+        self.settled = settled;
+        self.latest = latest;
+        Ok(())
+    }
+
+    /// The same names: a count, and one for each of the latest names.
+    ///
+    /// # Errors
+    /// Where there is no room.
+    pub fn copy(&self) -> Result<Register, AllocError>
+        ensures { IfOk result (λ register. register ≡ self.now) }
+    {
+        let settled = self.settled.copy()?;
+        let latest = self.latest.copy()?;
+        Ok(Register { settled, latest })
+    }
+}

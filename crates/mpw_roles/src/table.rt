@@ -1,0 +1,260 @@
+//! The table of roles: each role with its immediate juniors, in the order in which the roles were added.
+//!
+//! A role stands in it by its name's number in a [`Register`], which copies share, and a pair by two numbers. So a copy of
+//! the table copies plain numbers, and counts the latest names alone. A role that goes leaves its name in the register: to
+//! take it out takes no memory, and the next copy numbers the names anew.
+ghost use Rattle.std.specs.Prelude.{◌≡◌, ℕ, ◌<◌, ◌≤◌, [], true, false, length, position, slice_get, slice_index_or, is_some, IfOk, IfSome, OnOk, OnErr, Some};
+ghost use Rattle.std.specs.Option.{option_copied};
+ghost use Rattle.mpw_geom.specs.Names.{name_eq};
+ghost use Rattle.mpw_roles.specs.Hierarchy.{role_names, is_role, is_immediate, with_role, without_role, with_pair, without_pair};
+ghost use Rattle.mpw_roles.specs.Order.{are_distinct};
+ghost use Rattle.mpw_roles.specs.Places.{IsMasked};
+
+use crate::pairs::{Pair, has_pair, place_of, without_ends, without_number, without_pair};
+use crate::remask::remask;
+use crate::renumber::{is_straight, names_with, numbers, placed_pairs};
+use crate::{Mask, Register};
+use mpw_geom::Name;
+use std::alloc::{AllocError, Global};
+use std::marker::Model;
+
+/// Roles in the order in which they were added, each with its immediate juniors.
+pub(crate) struct Table {
+    names: Register,
+    order: Vec<usize>,
+    pairs: Vec<Pair>,
+}
+
+impl Drop for Table {
+    fn drop(self) {
+        let Table {
+            names,
+            order,
+            pairs,
+        } = self;
+        drop(names);
+        drop(order);
+        drop(pairs);
+    }
+}
+
+impl Model for Table {
+    ghost use Rattle.std.specs.Prelude.{ℕ, List};
+    ghost use Rattle.mpw_roles.specs.Internal.Table.{entries_of, IsTable};
+
+    ghost Value = { List (List ℕ × List (List ℕ)) };
+
+    ghost view = { λ table. entries_of table.names table.pairs.items table.order.items };
+
+    ghost invariant = { λ table. IsTable table.names table.pairs.items table.order.items };
+}
+
+/// The number of a name, which gets one where it has none.
+fn numbered(names: &mut Register, alloc: Global, name: Name) -> Result<usize, AllocError>
+    ensures number { IfOk result (λ number. Some number ≡ position (name_eq name) names.new) }
+    ensures once { are_distinct names.new ≡ true }
+    ensures long { length names.old ≤ length names.new }
+    ensures kept { (number : ℕ) → number < length names.old → slice_index_or names.new number [] ≡ slice_index_or names.old number [] }
+{
+    if let Some(number) = names.number(&name) {
+        return Ok(number);
+    }
+    let number = names.len();
+    names.push(alloc, name)?;
+    Ok(number)
+}
+
+/// The same numbers, with room for one more.
+fn order_copied(alloc: Global, order: &[usize]) -> Result<Vec<usize>, AllocError>
+    ensures { IfOk result (λ copy. copy.items ≡ order.now) }
+{
+    let mut copy = Vec::with_capacity(alloc, order.len().saturating_add(1))?;
+    copy.extend_from_slice(order)?;
+    Ok(copy)
+}
+
+/// The same pairs, with room for one more.
+fn pairs_copied(alloc: Global, pairs: &[Pair]) -> Result<Vec<Pair>, AllocError>
+    ensures { IfOk result (λ copy. copy.items ≡ pairs.now) }
+{
+    let mut copy = Vec::with_capacity(alloc, pairs.len().saturating_add(1))?;
+    copy.extend_from_slice(pairs)?;
+    Ok(copy)
+}
+
+impl Table {
+    /// No roles. It takes no memory.
+    pub(crate) fn new(alloc: Global) -> Table
+        ensures { result ≡ [] }
+    {
+        Table {
+            names: Register::new(alloc),
+            order: Vec::new(alloc),
+            pairs: Vec::new(alloc),
+        }
+    }
+
+    /// The same roles. The names are numbered anew where roles went.
+    ///
+    /// # Errors
+    /// Where there is no room.
+    pub(crate) fn copy(&self) -> Result<Table, AllocError>
+        ensures { IfOk result (λ table. table ≡ self.now) }
+    {
+        if is_straight(&self.order, self.names.len()) {
+            return self.shared();
+        }
+        self.renumbered()
+    }
+
+    /// The same roles with the same numbers: a copy of the numbers, and what a copy of the register costs.
+    fn shared(&self) -> Result<Table, AllocError>
+        ensures { IfOk result (λ table. table ≡ self.now) }
+    {
+        let alloc = self.allocator();
+        let names = self.names.copy()?;
+        let order = order_copied(alloc, &self.order)?;
+        let pairs = pairs_copied(alloc, &self.pairs)?;
+        Ok(Table {
+            names,
+            order,
+            pairs,
+        })
+    }
+
+    /// The same roles with other numbers, each its place: a hash for each role, and two look-ups for each pair.
+    fn renumbered(&self) -> Result<Table, AllocError>
+        ensures { IfOk result (λ table. table ≡ self.now) }
+    {
+        let alloc = self.allocator();
+        let names = names_with(alloc, &self.names, &self.order)?;
+        let names = Register::of_names(alloc, names.as_slice())?;
+        let order = numbers(alloc, self.order.len())?;
+        let pairs = placed_pairs(alloc, &self.order, &self.pairs)?;
+        Ok(Table {
+            names,
+            order,
+            pairs,
+        })
+    }
+
+    /// Writes the mask of each role anew: a pass over the masks for each pair. It takes no memory.
+    pub(crate) fn remask(&self, masks: &mut [Mask])
+        requires small { length self.now ≤ 512 }
+        requires long { length self.now ≤ length masks.old }
+        ensures masked { IsMasked self.now masks.new }
+        ensures same { length masks.new ≡ length masks.old }
+    {
+        remask(&self.order, &self.pairs, masks);
+    }
+
+    /// The allocator of the roles.
+    pub(crate) fn allocator(&self) -> Global {
+        *self.order.allocator()
+    }
+
+    /// The number of roles.
+    pub(crate) fn len(&self) -> usize
+        ensures { result ≡ length self.now }
+    {
+        self.order.len()
+    }
+
+    /// The place of a role: a look-up of its name's number.
+    pub(crate) fn place(&self, role: &Name) -> Option<usize>
+        ensures place { result ≡ position (name_eq role.now) (role_names self.now) }
+        ensures found { is_some result ≡ is_role self.now role.now }
+        ensures within { IfSome result (λ place. place < length self.now) }
+        ensures once { are_distinct (role_names self.now) ≡ true }
+    {
+        match self.names.number(role) {
+            Some(number) => place_of(&self.order, number),
+            None => None,
+        }
+    }
+
+    /// The name of the role at a place.
+    pub(crate) fn name(&self, place: usize) -> Option<&Name>
+        ensures { option_copied result ≡ slice_get (role_names self.now) place }
+    {
+        match self.order.get(place) {
+            Some(number) => self.names.name(*number),
+            None => None,
+        }
+    }
+
+    /// Whether the pair was commanded: two look-ups, and a look at each pair.
+    pub(crate) fn is_immediate(&self, senior: &Name, junior: &Name) -> bool
+        ensures { result ≡ is_immediate self.now senior.now junior.now }
+    {
+        let Some(senior) = self.names.number(senior) else {
+            return false;
+        };
+        let Some(junior) = self.names.number(junior) else {
+            return false;
+        };
+        has_pair(&self.pairs, senior, junior)
+    }
+
+    /// Adds a role, without pairs.
+    ///
+    /// # Errors
+    /// Where there is no room. The roles are then as they were.
+    pub(crate) fn add(&mut self, role: Name) -> Result<(), AllocError>
+        requires { is_role self.old role ≡ false }
+        ensures ok { OnOk result (self.new ≡ with_role self.old role) }
+        ensures err { OnErr result (self.new ≡ self.old) }
+    {
+        let alloc = *self.order.allocator();
+        let number = numbered(&mut self.names, alloc, role)?;
+        self.order.push(number)?;
+        Ok(())
+    }
+
+    /// Removes a role with each pair that it is in. It takes no memory.
+    pub(crate) fn remove(&mut self, role: &Name)
+        requires { is_role self.old role.now ≡ true }
+        ensures { self.new ≡ without_role self.old role.now }
+    {
+        let Some(number) = self.names.number(role) else {
+            return;
+        };
+        without_number(&mut self.order, number);
+        without_ends(&mut self.pairs, number);
+    }
+
+    /// Adds an immediate pair of roles.
+    ///
+    /// # Errors
+    /// Where there is no room. The roles are then as they were.
+    pub(crate) fn add_pair(&mut self, senior: &Name, junior: &Name) -> Result<(), AllocError>
+        requires senior { is_role self.old senior.now ≡ true }
+        requires junior { is_role self.old junior.now ≡ true }
+        ensures ok { OnOk result (self.new ≡ with_pair self.old senior.now junior.now) }
+        ensures err { OnErr result (self.new ≡ self.old) }
+    {
+        let Some(senior) = self.names.number(senior) else {
+            return Ok(());
+        };
+        let Some(junior) = self.names.number(junior) else {
+            return Ok(());
+        };
+        self.pairs.push(Pair { senior, junior })?;
+        Ok(())
+    }
+
+    /// Takes an immediate pair of roles away. It takes no memory.
+    pub(crate) fn remove_pair(&mut self, senior: &Name, junior: &Name)
+        requires senior { is_role self.old senior.now ≡ true }
+        requires junior { is_role self.old junior.now ≡ true }
+        ensures { self.new ≡ without_pair self.old senior.now junior.now }
+    {
+        let Some(senior) = self.names.number(senior) else {
+            return;
+        };
+        let Some(junior) = self.names.number(junior) else {
+            return;
+        };
+        without_pair(&mut self.pairs, senior, junior);
+    }
+}
