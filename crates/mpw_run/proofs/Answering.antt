@@ -9,8 +9,7 @@ use Rattle.mpw_markers.specs.declared.marker.Marker.{Marker}
 use Rattle.mpw_job.specs.Answers.{Task, Answers}
 use Rattle.mpw_job.specs.Jobs.{CutWindows, FoundMarkers, IsCutAnswer, IsTileAnswer}
 use Rattle.mpw_job.specs.Laws.{AnswerTiles, AnswersMakeTheLayout}
-use Rattle.mpw_job.specs.declared.job.Job.TheVariants as job
-use Rattle.mpw_run.specs.declared.phase.Phase.TheVariants.{Cutting, Checking, Finished}
+use Rattle.mpw_run.specs.declared.phase.Phase.TheVariants.{Cutting, Checking}
 use Rattle.mpw_run.specs.declared.phase.RunReply.TheVariants as reply
 use Rattle.mpw_run.specs.declared.prepare.Change.TheVariants as change
 use Rattle.mpw_run.specs.declared.prepare.Prepared.{Prepared}
@@ -88,6 +87,20 @@ pub record IsOpen (run : Run) (c : Checks) (answer : FoundMarkers) (k : ℕ) : T
   pub unanswered : (x : Tile) → slice_get c.tiles k ≡ Some x → x.answer ≡ None
   pub task : answer.job ≡ tile_task run.number c k
   pub right : IsTileAnswer answer
+
+pub open_tile : (run : Run) (c : Checks) (answer : FoundMarkers) (k : ℕ) → run.phase ≡ Checking c
+    → run.number < 2 ^ 32 → IsRun run → k < length c.tiles
+    → ((x : Tile) → slice_get c.tiles k ≡ Some x → x.answer ≡ None)
+    → answer.job ≡ tile_task run.number c k → IsTileAnswer answer → IsOpen run c answer k
+open_tile run c answer k phase few run_is within unanswered task right = record {
+  phase = phase;
+  few = few;
+  run_is = run_is;
+  within = within;
+  unanswered = unanswered;
+  task = task;
+  right = right;
+}
 
 tile_at : Checks → ℕ → Tile
 tile_at c k = get_or c.tiles k new_tile

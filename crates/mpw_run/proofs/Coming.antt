@@ -1,6 +1,6 @@
 -- What is true of runs holds after any events.
-use Rattle.std.proofs.Common.{◌≡◌, ℕ, ◌<◌, Bool, true, false, List, [], ◌∷◌, Option, Some, None, refl, sym, subst, ap, ◌∙◌, inl, inr, arith, length-set}
-use Rattle.std.specs.Prelude.{◌==◌, slice_get, slice_set, if◌then◌else◌, nat_lt}
+use Rattle.std.proofs.Common.{◌≡◌, ℕ, ◌<◌, false, List, [], ◌∷◌, Option, Some, None, refl, sym, subst, ap, ◌∙◌, inl, inr, arith, length-set}
+use Rattle.std.specs.Prelude.{◌==◌, slice_get, slice_set, nat_lt}
 use Rattle.std.proofs.lemmas.Bool.{false≢true, eqb-true, eq-eqb, cases_eq}
 use Rattle.mpw_tiles.specs.Plan.{tiles}
 use Rattle.mpw_tiles.specs.Snapshots.{Snapshot, StandFor}
@@ -17,17 +17,11 @@ use Rattle.mpw_run.specs.Laws.{StitchedComputes, Event, step, IsRight, run_after
 use Rattle.mpw_run.proofs.Exactness.{snapshots, tasks}
 use Rattle.mpw_run.proofs.TileLists.{few_answered}
 use Rattle.mpw_run.proofs.Next.{next_is}
+use Rattle.mpw_run.proofs.Tests.{either}
 use Rattle.mpw_run.proofs.Opened.{begins, raise_keeps, answer_keeps, finishes}
-
--- ---- tests
 
 abbrev Keeps : Outcome → Type 0
 Keeps o = IsRun o.run
-
-either : (b : Bool) (x y : Outcome) → (b ≡ true → Keeps x) → (b ≡ false → Keeps y)
-    → Keeps (if b then x else y)
-either true x y f g = f refl
-either false x y f g = g refl
 
 -- ---- events
 
@@ -51,7 +45,7 @@ cut_keeps : (run : Run) (answer : CutWindows) (phase : Phase) → IsCutAnswer an
     → IsPhase run.number phase → IsRun run → Keeps (cut_in run answer phase)
 cut_keeps run answer Idle a h r = r
 cut_keeps run answer (Cutting planned) a h r =
-    either (same_snapshot answer.job.snapshot planned.snapshot) _ _
+    either Keeps (same_snapshot answer.job.snapshot planned.snapshot) _ _
     (λ t. (
       h,
       begins run.number planned answer.windows
@@ -68,7 +62,7 @@ kept_keeps : AnswersMakeTheLayout → StitchedComputes
     → slice_get c.tiles k ≡ Some x → Answers (tile_task run.number c k) m
     → Keeps (kept run c (slice_set c.tiles k (answered_by m x)))
 kept_keeps law computes run c k x m p h e right =
-    either (answered now == tiles c.planned.plan) _ _
+    either Keeps (answered now == tiles c.planned.plan) _ _
     (λ t. (p, finishes law computes run.number c k x m p h e right (eqb-true _ _ t)))
     (λ f. (p, answer_keeps run.number c k x m h e right (less f)))
   where
@@ -94,7 +88,7 @@ compared_keeps : AnswersMakeTheLayout → StitchedComputes
     → IsRun run → Keeps (tile_compared run c answer x a)
 compared_keeps law computes run c answer x (Some m) t p h e r = r
 compared_keeps law computes run c answer x None t p h e r =
-    either (same_task answer.job (tile_task run.number c answer.job.tile)) _ _
+    either Keeps (same_task answer.job (tile_task run.number c answer.job.tile)) _ _
     (λ b. kept_keeps law computes run c answer.job.tile x answer.markers p h e
     (subst (λ (task : Task). Answers task answer.markers)
     ((tasks answer.job (tile_task run.number c answer.job.tile)).0 b) t))
@@ -116,7 +110,7 @@ tile_keeps law computes run answer (Cutting planned) t h r = r
 tile_keeps law computes run answer (Checking c) t h r =
     checked_keeps law computes run c answer (slice_get c.tiles answer.job.tile) t h.0 h.1 refl r
 tile_keeps law computes run answer (Finished f) t h r =
-    either (nat_lt answer.job.tile (tiles f.planned.plan)) _ _ (λ u. r) (λ u. r)
+    either Keeps (nat_lt answer.job.tile (tiles f.planned.plan)) _ _ (λ u. r) (λ u. r)
 
 -- ---- all events
 
@@ -126,8 +120,10 @@ event_keeps law computes run (Event.start planned) p r = p
 event_keeps law computes run Event.cancel p r = tt
 event_keeps law computes run Event.take p r = take_keeps run run.phase r r
 event_keeps law computes run (Event.cut answer) p r =
-    either (run.number == answer.job.run) _ _ (λ t. cut_keeps run answer run.phase p r r) (λ f. r)
-event_keeps law computes run (Event.tile answer) p r = either (run.number == answer.job.run) _ _
+    either Keeps (run.number == answer.job.run) _ _ (λ t. cut_keeps run answer run.phase p r r)
+    (λ f. r)
+event_keeps law computes run (Event.tile answer) p r =
+    either Keeps (run.number == answer.job.run) _ _
     (λ t. tile_keeps law computes run answer run.phase p r r) (λ f. r)
 
 pub keeps : AnswersMakeTheLayout → StitchedComputes → EachRunKeeps

@@ -1,5 +1,5 @@
 -- The tests of equality are exact.
-use Rattle.std.proofs.Common.{◌≡◌, false, ◌&&◌, ◌==◌, ap, Decides}
+use Rattle.std.proofs.Common.{◌≡◌, Bool, false, ◌&&◌, ◌==◌, ap, Decides}
 use Rattle.std.specs.Ordering.{int_eq}
 use Rattle.std.specs.Cmp.Lexicographic.{pointwise}
 use Rattle.std.proofs.lemmas.Bool.{false≢true}
@@ -12,6 +12,7 @@ use Rattle.mpw_elements.specs.declared.element.Reference.{Reference as Reference
 use Rattle.mpw_elements.specs.declared.element.Element.TheVariants.{Boundary, Path, Reference}
 use Rattle.mpw_library.specs.declared.structures.Structure.{Structure}
 use Rattle.mpw_deck.specs.Decks.{Deck}
+use Rattle.mpw_deck.specs.declared.rule.Check.{Check}
 use Rattle.mpw_deck.specs.declared.rule.Check.TheVariants.{Width, Space, Separation, Enclosing}
 use Rattle.mpw_deck.specs.declared.rule.Rule.{Rule}
 use Rattle.mpw_hier.specs.declared.bindings.Binding.{Binding}
@@ -115,41 +116,26 @@ references a b =
       ),
     ))
 
--- values of different cases
+-- values of different cases, and of one case
 apart : {X : Type 0} (a b : X) → (a ≡ b → ⊥) → Decides false (a ≡ b)
 apart a b ne = (λ e. absurd (false≢true e), λ e. absurd (ne e))
 
-boundary_parts : (a b : BoundaryParts) → Boundary a ≡ Boundary b → a ≡ b
-boundary_parts a b e = cc
-
-path_parts : (a b : PathParts) → Path a ≡ Path b → a ≡ b
-path_parts a b e = cc
-
-reference_parts : (a b : ReferenceParts) → Reference a ≡ Reference b → a ≡ b
-reference_parts a b e = cc
+alike : {P X : Type 0} (make : P → X) (test : Bool) (a b : P) → Decides test (a ≡ b)
+    → (make a ≡ make b → a ≡ b) → Decides test (make a ≡ make b)
+alike make test a b decides parts = one test decides (ap make) parts
 
 elements : Exact same_element
 elements (Boundary a) (Boundary b) =
-    one {X = Boundary a ≡ Boundary b} (same_boundary a b)
-    (boundaries a b)
-    (λ e. ap Boundary e)
-    (boundary_parts a b)
+    alike Boundary (same_boundary a b) a b (boundaries a b) (λ e. cc)
 elements (Boundary a) (Path b) = apart (Boundary a) (Path b) (λ e. cc)
 elements (Boundary a) (Reference b) = apart (Boundary a) (Reference b) (λ e. cc)
 elements (Path a) (Boundary b) = apart (Path a) (Boundary b) (λ e. cc)
-elements (Path a) (Path b) =
-    one {X = Path a ≡ Path b} (same_path a b)
-    (paths a b)
-    (λ e. ap Path e)
-    (path_parts a b)
+elements (Path a) (Path b) = alike Path (same_path a b) a b (paths a b) (λ e. cc)
 elements (Path a) (Reference b) = apart (Path a) (Reference b) (λ e. cc)
 elements (Reference a) (Boundary b) = apart (Reference a) (Boundary b) (λ e. cc)
 elements (Reference a) (Path b) = apart (Reference a) (Path b) (λ e. cc)
 elements (Reference a) (Reference b) =
-    one {X = Reference a ≡ Reference b} (same_reference a b)
-    (references a b)
-    (λ e. ap Reference e)
-    (reference_parts a b)
+    alike Reference (same_reference a b) a b (references a b) (λ e. cc)
 
 structures : Exact same_structure
 structures a b =
@@ -214,51 +200,30 @@ roots a b =
 
 -- ---- decks
 
-width_parts : (a b : Layer) → Width a ≡ Width b → a ≡ b
-width_parts a b e = cc
-
-space_parts : (a b : Layer) → Space a ≡ Space b → a ≡ b
-space_parts a b e = cc
-
-separation_parts : (a b c d : Layer) → Separation a c ≡ Separation b d → (a ≡ b) × (c ≡ d)
-separation_parts a b c d e = ((cc), (cc))
-
-enclosing_parts : (a b c d : Layer) → Enclosing a c ≡ Enclosing b d → (a ≡ b) × (c ≡ d)
-enclosing_parts a b c d e = ((cc), (cc))
+-- a case of two layers
+paired : (make : Layer → Layer → Check) (a b c d : Layer)
+    → (make a c ≡ make b d → (a ≡ b) × (c ≡ d))
+    → Decides (same_layer a b && same_layer c d) (make a c ≡ make b d)
+paired make a b c d = two {X = make a c ≡ make b d} (same_layer a b) (same_layer c d) (layers a b)
+    (layers c d) (λ e f. λ i. make (e i) (f i))
 
 checks : Exact same_check
-checks (Width a) (Width b) =
-    one {X = Width a ≡ Width b} (same_layer a b)
-    (layers a b)
-    (λ e. ap Width e)
-    (width_parts a b)
+checks (Width a) (Width b) = alike Width (same_layer a b) a b (layers a b) (λ e. cc)
 checks (Width a) (Space b) = apart (Width a) (Space b) (λ e. cc)
 checks (Width a) (Separation b d) = apart (Width a) (Separation b d) (λ e. cc)
 checks (Width a) (Enclosing b d) = apart (Width a) (Enclosing b d) (λ e. cc)
 checks (Space a) (Width b) = apart (Space a) (Width b) (λ e. cc)
-checks (Space a) (Space b) =
-    one {X = Space a ≡ Space b} (same_layer a b)
-    (layers a b)
-    (λ e. ap Space e)
-    (space_parts a b)
+checks (Space a) (Space b) = alike Space (same_layer a b) a b (layers a b) (λ e. cc)
 checks (Space a) (Separation b d) = apart (Space a) (Separation b d) (λ e. cc)
 checks (Space a) (Enclosing b d) = apart (Space a) (Enclosing b d) (λ e. cc)
 checks (Separation a c) (Width b) = apart (Separation a c) (Width b) (λ e. cc)
 checks (Separation a c) (Space b) = apart (Separation a c) (Space b) (λ e. cc)
-checks (Separation a c) (Separation b d) =
-    two {X = Separation a c ≡ Separation b d} (same_layer a b) (same_layer c d)
-    (layers a b) (layers c d)
-    (λ e f. λ i. Separation (e i) (f i))
-    (separation_parts a b c d)
+checks (Separation a c) (Separation b d) = paired Separation a b c d (λ e. ((cc), (cc)))
 checks (Separation a c) (Enclosing b d) = apart (Separation a c) (Enclosing b d) (λ e. cc)
 checks (Enclosing a c) (Width b) = apart (Enclosing a c) (Width b) (λ e. cc)
 checks (Enclosing a c) (Space b) = apart (Enclosing a c) (Space b) (λ e. cc)
 checks (Enclosing a c) (Separation b d) = apart (Enclosing a c) (Separation b d) (λ e. cc)
-checks (Enclosing a c) (Enclosing b d) =
-    two {X = Enclosing a c ≡ Enclosing b d} (same_layer a b) (same_layer c d)
-    (layers a b) (layers c d)
-    (λ e f. λ i. Enclosing (e i) (f i))
-    (enclosing_parts a b c d)
+checks (Enclosing a c) (Enclosing b d) = paired Enclosing a b c d (λ e. ((cc), (cc)))
 
 rules_of : Exact same_rule
 rules_of a b =

@@ -1,6 +1,6 @@
 -- A run is finished exactly once an answer of each of its tiles was kept.
 use Rattle.std.proofs.Common.{◌≡◌, ℕ, suc, ◌<◌, Bool, true, false, ◌&&◌, ◌||◌, List, [], ◌∷◌, length, Option, Some, None, refl, sym, subst, ap, ◌∙◌, inl, inr, arith, length-append, length-set}
-use Rattle.std.specs.Prelude.{◌==◌, slice_get, slice_set, is_some, if◌then◌else◌, nat_lt}
+use Rattle.std.specs.Prelude.{◌==◌, slice_get, slice_set, is_some, nat_lt}
 use Rattle.std.proofs.lemmas.Bool.{false≢true, cases_eq, eqb-true, eq-eqb}
 use Rattle.std.proofs.lemmas.Option.{slice_get_within, same_Some, none-some}
 use Rattle.mpw_tiles.specs.Plan.{tiles}
@@ -15,6 +15,7 @@ use Rattle.mpw_run.specs.Run.{Planned, Tile, Checks, answers_of, answered}
 use Rattle.mpw_run.specs.Same.{same_snapshot, same_task}
 use Rattle.mpw_run.specs.Step.{Run, Offer, Outcome, IsPhase, IsRun, raised, answered_by, next_from, handed, taken_in, left_as, cut_in, kept, tile_task, tile_compared, tile_checked, tile_in}
 use Rattle.mpw_run.specs.Laws.{StitchedComputes, Event, AreRight, run_after, is_kept, looked_at, was_kept, is_finished, AllWereKept, FinishedOnceAllWereKept}
+use Rattle.mpw_run.proofs.Tests.{either}
 use Rattle.mpw_run.proofs.TileLists.{own, own_some, same_tile, other_tile, new_get, all_answered}
 use Rattle.mpw_run.proofs.Next.{next_is}
 use Rattle.mpw_run.proofs.Opened.{some_tile}
@@ -71,11 +72,6 @@ take_agrees looked was run (Finished f) h r = r
 abbrev RunAgrees : Option Planned → (ℕ → Bool) → Outcome → Type 0
 RunAgrees looked was o = Agrees looked was o.run.phase
 
-either : (looked : Option Planned) (was : ℕ → Bool) (b : Bool) (x y : Outcome)
-    → RunAgrees looked was x → RunAgrees looked was y → RunAgrees looked was (if b then x else y)
-either looked was true x y f g = f
-either looked was false x y f g = g
-
 no_answer : (t : Tile) → t.answer ≡ None → is_some t.answer ≡ false
 no_answer t e = ap (λ (a : Option (List Marker)). is_some a) e
 
@@ -84,9 +80,9 @@ cut_agrees : (looked : Option Planned) (was : ℕ → Bool) (run : Run) (answer 
     → RunAgrees looked was (cut_in run answer phase)
 cut_agrees looked was run answer Idle h r = r
 cut_agrees looked was run answer (Cutting planned) h r =
-    either looked was (same_snapshot answer.job.snapshot planned.snapshot) _ _
-    (h.0, λ k t g. h.1 k ∙ sym (no_answer t (new_get (tiles planned.plan) k t g)))
-    r
+    either (RunAgrees looked was) (same_snapshot answer.job.snapshot planned.snapshot) _ _
+    (λ e. (h.0, λ k t g. h.1 k ∙ sym (no_answer t (new_get (tiles planned.plan) k t g))))
+    (λ e. r)
 cut_agrees looked was run answer (Checking c) h r = r
 cut_agrees looked was run answer (Finished f) h r = r
 
@@ -114,12 +110,6 @@ left : (looked : Option Planned) (was : ℕ → Bool) (tile : ℕ) (r : RunReply
 left looked was tile r run e h =
     let same : was ≡ with_one was tile r = (λ i k. sym (not_one was tile r k e) i) in
     subst (λ (f : ℕ → Bool). Agrees looked f run.phase) same h
-
-one_of : (looked : Option Planned) (was : ℕ → Bool) (tile : ℕ) (b : Bool) (x y : Outcome)
-    → (b ≡ true → AgreesWith looked was tile x) → (b ≡ false → AgreesWith looked was tile y)
-    → AgreesWith looked was tile (if b then x else y)
-one_of looked was tile true x y f g = f refl
-one_of looked was tile false x y f g = g refl
 
 -- the answer that is kept
 own_one : (was : ℕ → Bool) (tile k : ℕ) (r : RunReply) → is_kept r ≡ true → k ≡ tile
@@ -160,7 +150,7 @@ kept_agrees : (looked : Option Planned) (was : ℕ → Bool) (run : Run) (c : Ch
     → length c.tiles ≡ tiles c.planned.plan → slice_get c.tiles k ≡ Some x
     → AgreesWith looked was k (kept run c (slice_set c.tiles k (answered_by m x)))
 kept_agrees looked was run c k x m h count at =
-    one_of looked was k (answered now == tiles c.planned.plan) _ _
+    either (AgreesWith looked was k) (answered now == tiles c.planned.plan) _ _
     (λ e. (
       h.0,
       all_kept (with_one was k reply.Finished) now (tiles c.planned.plan)
@@ -180,8 +170,8 @@ compared_agrees : (looked : Option Planned) (was : ℕ → Bool) (run : Run) (c 
 compared_agrees looked was run c answer x (Some m) h count at r =
     left looked was answer.job.tile reply.Double run refl r
 compared_agrees looked was run c answer x None h count at r =
-    one_of looked was answer.job.tile (same_task answer.job
-    (tile_task run.number c answer.job.tile)) _ _
+    either (AgreesWith looked was answer.job.tile)
+    (same_task answer.job (tile_task run.number c answer.job.tile)) _ _
     (λ b. kept_agrees looked was run c answer.job.tile x answer.markers h count at)
     (λ f. left looked was answer.job.tile reply.Stranger run refl r)
 
@@ -205,7 +195,8 @@ tile_agrees looked was run answer (Cutting planned) t h r =
 tile_agrees looked was run answer (Checking c) t h r =
     checked_agrees looked was run c answer (slice_get c.tiles answer.job.tile) h t.1.count refl r
 tile_agrees looked was run answer (Finished f) t h r =
-    one_of looked was answer.job.tile (nat_lt answer.job.tile (tiles f.planned.plan)) _ _
+    either (AgreesWith looked was answer.job.tile)
+    (nat_lt answer.job.tile (tiles f.planned.plan)) _ _
     (λ e. left looked was answer.job.tile reply.Double run refl r)
     (λ e. left looked was answer.job.tile reply.Stranger run refl r)
 
@@ -220,11 +211,13 @@ event_agrees Event.cancel before t h = refl
 event_agrees Event.take before t h =
     take_agrees (looked_at before) (was_kept before) (run_after before) (run_after before).phase h h
 event_agrees (Event.cut answer) before t h =
-    either (looked_at before) (was_kept before) ((run_after before).number == answer.job.run) _ _
-    (cut_agrees (looked_at before) (was_kept before) (run_after before) answer
-    (run_after before).phase h h) h
+    either (RunAgrees (looked_at before) (was_kept before))
+    ((run_after before).number == answer.job.run) _ _
+    (λ e. cut_agrees (looked_at before) (was_kept before) (run_after before) answer
+    (run_after before).phase h h)
+    (λ e. h)
 event_agrees (Event.tile answer) before t h =
-    one_of (looked_at before) (was_kept before) answer.job.tile
+    either (AgreesWith (looked_at before) (was_kept before) answer.job.tile)
     ((run_after before).number == answer.job.run) _ _
     (λ e. tile_agrees (looked_at before) (was_kept before) (run_after before) answer
     (run_after before).phase t h h)

@@ -1,6 +1,7 @@
 pub mod Exactness
 pub mod TileLists
 pub mod Next
+pub mod Tests
 pub mod Opened
 pub mod Changes
 pub mod Coming

@@ -17,7 +17,7 @@ use Rattle.mpw_job.specs.Answers.{Answers}
 use Rattle.mpw_job.specs.Laws.{task_of, AnswerTiles, AnswersMakeTheLayout}
 use Rattle.mpw_job.specs.Layout.{AreLayoutMarkers}
 use Rattle.mpw_run.specs.Run.{Planned, Tile, Checks, answers_of, answered, IsPlanned, IsChecks}
-use Rattle.mpw_run.specs.Step.{tile_task, with_tiles, raised, answered_by, new_tiles, kept}
+use Rattle.mpw_run.specs.Step.{tile_task, with_tiles, raised, answered_by, new_tiles}
 use Rattle.mpw_run.specs.Stitching.{stitched, AreFilled}
 use Rattle.mpw_run.specs.Laws.{StitchedComputes}
 use Rattle.mpw_run.proofs.TileLists.{same_tile, other_tile, raised_same, new_answered, new_open, all_answered}

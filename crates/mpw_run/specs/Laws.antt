@@ -1,5 +1,5 @@
 -- What follows for a run from its events.
-use Rattle.std.specs.Prelude.{◌≡◌, ◌↔◌, ◌<◌, ◌≤◌, ◌==◌, ◌&&◌, ◌||◌, ℕ, Bool, true, false, List, [], ◌∷◌, map, Option, Some, None, slice_get}
+use Rattle.std.specs.Prelude.{◌≡◌, ◌↔◌, ◌<◌, ◌≤◌, ◌==◌, ◌&&◌, ◌||◌, ◌⊎◌, ℕ, Bool, true, false, List, [], ◌∷◌, map, Option, Some, None, slice_get}
 use Rattle.mpw_tiles.specs.Plan.{tiles}
 use Rattle.mpw_tiles.specs.Snapshots.{Snapshot}
 use Rattle.mpw_markers.specs.declared.marker.Marker.{Marker}
@@ -130,6 +130,41 @@ leaves reply.OldRun = true
 abbrev pub UnkeptLeavesTheRun : Type 0
 UnkeptLeavesTheRun =
     (run : Run) (event : Event) → leaves (step run event).reply ≡ true → (step run event).run ≡ run
+
+-- ---- how a run goes on
+
+-- The reply to the last tile's answer.
+abbrev pub finishes : RunReply → Bool
+finishes (reply.Taken job) = false
+finishes reply.NoJob = false
+finishes reply.Kept = false
+finishes reply.Finished = true
+finishes reply.Stranger = false
+finishes reply.Double = false
+finishes reply.OldRun = false
+
+-- A run is as it was, or it goes on and is not finished, neither before nor behind.
+pub data GoesOn (run : Run) (o : Outcome) : Type 0 where
+  stays : o.run ≡ run → finishes o.reply ≡ false → GoesOn run o
+  moves : o.run.number ≡ run.number → is_finished run.phase ≡ false
+      → is_finished o.run.phase ≡ false → leaves o.reply ≡ false → finishes o.reply ≡ false
+      → GoesOn run o
+
+-- A run that was not finished is finished now.
+pub record IsFinishedNow (run : Run) (o : Outcome) : Type 0 where
+  pub number : o.run.number ≡ run.number
+  pub before : is_finished run.phase ≡ false
+  pub behind : is_finished o.run.phase ≡ true
+  pub told : o.reply ≡ reply.Finished
+
+-- A run goes on by a call for a job and by the windows of a cut, and it goes on or is finished by the markers of a tile.
+pub record RunsGoOnOrAreFinished : Type 0 where
+  pub take : (run : Run) → GoesOn run (taken run)
+  pub cut : (run : Run) (answer : CutWindows) → GoesOn run (cut_answered run answer)
+  pub tile : (run : Run) (answer : FoundMarkers)
+      → GoesOn run (tile_answered run answer) ⊎ IsFinishedNow run (tile_answered run answer)
+
+-- ---- what a call for a job changes
 
 -- A phase but for how often its tiles were handed out.
 abbrev pub uncounted : Tile → Tile

@@ -6,6 +6,7 @@ ghost use Rattle.mpw_run.specs.Laws.{
   EachRunKeeps,
   FinishedOnceAllWereKept,
   UnkeptLeavesTheRun,
+  RunsGoOnOrAreFinished,
   TakingCountsAlone,
   NextIsFewest,
 };
@@ -46,6 +47,12 @@ pub fn finished_once_all_were_kept()
 /// What is not kept, and a call to which no job is handed out, leaves the run as it was.
 pub fn unkept_leaves_the_run()
     ensures { UnkeptLeavesTheRun }
+{}
+
+/// A call for a job and the windows of a cut leave a run as it was, or it goes on and is not finished; so do the markers of a
+/// tile, or they finish a run that was not finished. The number stays.
+pub fn runs_go_on_or_are_finished()
+    ensures { RunsGoOnOrAreFinished }
 {}
 
 /// A call for a job changes nothing but how often a tile was handed out.
