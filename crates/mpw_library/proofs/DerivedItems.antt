@@ -8,13 +8,14 @@ use Rattle.mpw_elements.specs.declared.element.Element.{Element}
 use Rattle.mpw_elements.specs.Reading.{demanded}
 use Rattle.mpw_elements.specs.Grammar.{element}
 use Rattle.mpw_elements.specs.Derivation.{DerivesElement, records_then, Begins}
-use Rattle.mpw_elements.proofs.DerivedFields.{bind_ok, ok_is, chosen, records_both, parts_both, demanded_sound, demanded_complete}
+use Rattle.mpw_elements.proofs.DerivedFields.{bind_ok, ok_is, chosen, records_both, demanded_sound, demanded_complete}
 use Rattle.mpw_elements.proofs.DerivedElements.{element_sound, element_complete}
 use Rattle.mpw_library.specs.declared.read.Item.{Item}
 use Rattle.mpw_library.specs.declared.read.Item.TheVariants as items
 use Rattle.mpw_library.specs.Grammar.{next_is, is_between, item_of, item, is_end, placed, elements_behind}
 use Rattle.mpw_library.specs.Derivation.{DerivesElements}
 use Rattle.mpw_library.proofs.Loops.{elements_next}
+use Rattle.mpw_library.proofs.Ended.{ManyIn, none_in, more_in}
 
 -- ---- the next record
 
@@ -73,15 +74,9 @@ item_sound unit (Ok r ∷ all) x e =
     ]
 
 -- the elements of some records up to ENDSTR, behind others
-pub record ElementsIn (unit : ℕ) (before : List Element) (all : List RecordOutcome)
-    (x : List Element × List RecordOutcome) : Type 0 where
-  pub records : List RawRecord
-  pub end : RawRecord
-  pub es : List Element
-  pub parts : all ≡ records_then records (Ok end ∷ x.1)
-  pub last : end.kind ≡ ENDSTR
-  pub derived : DerivesElements unit records es
-  pub total : x.0 ≡ before ++ es
+abbrev pub ElementsIn : ℕ → List Element → List RecordOutcome → List Element × List RecordOutcome
+    → Type 0
+ElementsIn unit before all x = ManyIn ENDSTR (DerivesElements unit) before all x
 
 item_then : (unit most : ℕ) (before : List Element) (all : List RecordOutcome)
     (x : List Element × List RecordOutcome) (i : Item × List RecordOutcome) → ItemIn unit all i
@@ -92,54 +87,16 @@ item_then : (unit most : ℕ) (before : List Element) (all : List RecordOutcome)
     → ElementsIn unit before all x
 item_then unit most before all x i (ItemIn.ends {end = end} {rest = rest} p k) e more =
     subst (ElementsIn unit before all) (ok_is (before, rest) x e)
-    (record {
-      records = [];
-      end = end;
-      es = [];
-      parts = p;
-      last = k;
-      derived = DerivesElements.none;
-      total = sym (append-nil before);
-    })
+    (none_in before p k DerivesElements.none)
 item_then unit most before all x i (ItemIn.between {r = r} {rest = rest} p k) e more =
     let h = more (before ++ []) rest e in
-    record {
-      records = r ∷ h.records;
-      end = h.end;
-      es = h.es;
-      parts = p
-          ∙ ap (λ (os : List RecordOutcome). Ok r ∷ os) h.parts;
-      last = h.last;
-      derived = DerivesElements.between k h.derived;
-      total = h.total
-          ∙ ap (λ (l : List Element). l ++ h.es) (append-nil before);
-    }
+    more_in before (r ∷ []) [] p h (DerivesElements.between k h.derived)
 item_then unit most before all x i (ItemIn.found {o = None} {rest = rest} b) e more =
     let h = more (before ++ []) rest e in
-    record {
-      records = b.records ++ h.records;
-      end = h.end;
-      es = h.es;
-      parts = parts_both all rest
-          (Ok h.end ∷ x.1) b.records h.records b.parts h.parts;
-      last = h.last;
-      derived = DerivesElements.passed b.told h.derived;
-      total = h.total
-          ∙ ap (λ (l : List Element). l ++ h.es) (append-nil before);
-    }
+    more_in before b.records [] b.parts h (DerivesElements.passed b.told h.derived)
 item_then unit most before all x i (ItemIn.found {o = Some el} {rest = rest} b) e more =
     let h = more (before ++ el ∷ []) rest e in
-    record {
-      records = b.records ++ h.records;
-      end = h.end;
-      es = el
-          ∷ h.es;
-      parts = parts_both all rest (Ok h.end ∷ x.1) b.records h.records b.parts h.parts;
-      last = h.last;
-      derived = DerivesElements.placed b.told h.derived;
-      total = h.total
-          ∙ append_assoc before (el ∷ []) h.es;
-    }
+    more_in before b.records (el ∷ []) b.parts h (DerivesElements.placed b.told h.derived)
 
 pub elements_sound : (most unit : ℕ) (before : List Element) (all : List RecordOutcome)
     (x : List Element × List RecordOutcome) → elements_behind most unit before all ≡ Ok x

@@ -149,7 +149,8 @@ pub library_parts : (o1 o2 o3 o4 : List RecordOutcome) (header begin : RawRecord
     → o1 ≡ Ok header ∷ o2 → header.kind ≡ HEADER → o2 ≡ Ok begin ∷ o3 → begin.kind ≡ BGNLIB
     → HeadIn o3 (unit, o4) → (rest : List RecordOutcome) → StructuresIn unit [] o4 (ss, rest)
     → LibraryIn o1 (ss, rest)
-library_parts o1 o2 o3 o4 header begin unit ss p1 k1 p2 k2 h rest s =
+library_parts o1 o2 o3 o4 header begin unit ss p1 k1 p2 k2 h rest found =
+    let s = found.in_order in
     let a : o3 ≡ records_then (h.to_name.records ++ h.to_unit.records ++ s.records)
     (Ok s.end ∷ rest) = parts_both o3 o4 (Ok s.end ∷ rest)
     (h.to_name.records ++ h.to_unit.records) s.records
@@ -162,7 +163,7 @@ library_parts o1 o2 o3 o4 header begin unit ss p1 k1 p2 k2 h rest s =
           (p2 ∙ ap (λ (os : List RecordOutcome). Ok begin ∷ os) a);
       last = s.last;
       derived = DerivesLibrary.library s.end k1 k2 h.to_name.told h.to_unit.told h.unit s.derived
-          (subst HaveNamesApart s.total (s.apart tt)) s.last;
+          (subst HaveNamesApart s.total (found.apart tt)) s.last;
     })
 
 library_sound : (all : List RecordOutcome) (ss : List Structure) → library all ≡ Ok ss

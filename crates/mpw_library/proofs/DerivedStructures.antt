@@ -8,13 +8,14 @@ use Rattle.mpw_elements.specs.declared.element.Element.{Element}
 use Rattle.mpw_elements.specs.Reading.{demanded}
 use Rattle.mpw_elements.specs.Values.{name_of}
 use Rattle.mpw_elements.specs.Derivation.{records_then, Begins}
-use Rattle.mpw_elements.proofs.DerivedFields.{bind_ok, ok_is, chosen, records_both, parts_both, demanded_sound, demanded_complete}
+use Rattle.mpw_elements.proofs.DerivedFields.{bind_ok, ok_is, chosen, records_both, demanded_sound, demanded_complete}
 use Rattle.mpw_library.specs.declared.structures.Structure.{Structure}
 use Rattle.mpw_library.specs.Places.{place_of}
 use Rattle.mpw_library.specs.Grammar.{next_is, all_elements, untaken, structure, next_structure, added, structures_behind}
 use Rattle.mpw_library.specs.Derivation.{DerivesElements, DerivesStructure, DerivesStructures, HaveNamesApart}
 use Rattle.mpw_library.proofs.Apart.{apart_push, apart_front, apart_new}
 use Rattle.mpw_library.proofs.Loops.{structures_next}
+use Rattle.mpw_library.proofs.Ended.{ManyIn, none_in, more_in}
 use Rattle.mpw_library.proofs.DerivedItems.{next_is_sound, next_is_complete, elements_sound, elements_complete}
 
 -- ---- structures
@@ -57,7 +58,7 @@ structure_sound unit before all x e =
       records = h.records;
       end = h.end;
       name = n.0;
-      es = h.es;
+      es = h.made;
       parts = s.0 ∙ ap (λ (os : List RecordOutcome). Ok a.0.0 ∷ os) h.parts;
       first = s.1;
       named = n.1;
@@ -114,13 +115,7 @@ next_sound unit before (Ok r ∷ all) x e =
 -- the structures of some records up to ENDLIB, behind others
 pub record StructuresIn (unit : ℕ) (before : List Structure) (all : List RecordOutcome)
     (x : List Structure × List RecordOutcome) : Type 0 where
-  pub records : List RawRecord
-  pub end : RawRecord
-  pub ss : List Structure
-  pub parts : all ≡ records_then records (Ok end ∷ x.1)
-  pub last : end.kind ≡ ENDLIB
-  pub derived : DerivesStructures unit records ss
-  pub total : x.0 ≡ before ++ ss
+  pub in_order : ManyIn ENDLIB (DerivesStructures unit) before all x
   pub apart : HaveNamesApart before → HaveNamesApart x.0
 
 next_then : (unit most : ℕ) (before : List Structure) (all : List RecordOutcome)
@@ -133,28 +128,13 @@ next_then : (unit most : ℕ) (before : List Structure) (all : List RecordOutcom
     → StructuresIn unit before all x
 next_then unit most before all x i (NextIn.ends {end = end} {rest = rest} p k) e onward =
     subst (StructuresIn unit before all) (ok_is (before, rest) x e)
-    (record {
-      records = [];
-      end = end;
-      ss = [];
-      parts = p;
-      last = k;
-      derived = DerivesStructures.none;
-      total = sym (append-nil before);
-      apart = λ h. h;
-    })
+    (record { in_order = none_in before p k DerivesStructures.none; apart = λ h. h })
 next_then unit most before all x i (NextIn.more {s = s} {rest = rest} b new) e onward =
     let h = onward (before ++ s ∷ []) rest e in
     record {
-      records = b.records ++ h.records;
-      end = h.end;
-      ss = s
-          ∷ h.ss;
-      parts = parts_both all rest (Ok h.end ∷ x.1) b.records h.records b.parts h.parts;
-      last = h.last;
-      derived = DerivesStructures.more b.told h.derived;
-      total = h.total
-          ∙ append_assoc before (s ∷ []) h.ss;
+      in_order =
+          more_in before b.records (s ∷ []) b.parts h.in_order
+          (DerivesStructures.more b.told h.in_order.derived);
       apart = λ a. h.apart (apart_push 0 before s a new);
     }
 

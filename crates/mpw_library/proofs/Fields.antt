@@ -9,7 +9,7 @@ use Rattle.mpw_elements.specs.Reading.{Reading, ◌>>=◌, fault_at, is_skipped,
 use Rattle.mpw_elements.specs.Derivation.{records_then}
 use Rattle.mpw_elements.proofs.DerivedFields.{bind_ok, demanded_sound, demanded_complete}
 use Rattle.mpw_library.specs.Fronts.{is_formed}
-use Rattle.mpw_library.proofs.Refusals.{unexpected_at, IsEnded, Completes, Refuses, Reads, Local, bind_err, done_local, done_completes}
+use Rattle.mpw_library.proofs.Refusals.{unexpected_at, IsEnded, Completes, Refuses, Reads, Local, bind_err, done_local, done_completes, goes_on_by}
 
 -- ---- what a reader does behind a record
 
@@ -50,14 +50,9 @@ module _ {V : Type 0} {Good : V → Type 0} where
     rest = q.rest;
     parts = ap (λ (os : List RecordOutcome). Ok r ∷ os) q.parts;
     stands = q.stands;
-    goes_on = record {
-      behind = q.goes_on.behind;
-      formed = q.goes_on.formed;
-      value = q.goes_on.value;
-      good = q.goes_on.good;
-      reads =
-          λ rest. same (records_then (q.before ++ q.goes_on.behind) rest) ∙ q.goes_on.reads rest;
-    };
+    goes_on =
+        goes_on_by q.goes_on q.goes_on.good
+        (λ rest. same (records_then (q.before ++ q.goes_on.behind) rest) ∙ q.goes_on.reads rest);
     refuses = λ rest. same (records_then q.before (Ok q.refused ∷ rest)) ∙ q.refuses rest;
   }
 
@@ -106,13 +101,9 @@ module _ {V : Type 0} {Good : V → Type 0} where
             rest = q.rest;
             parts = parts;
             stands = q.stands;
-            goes_on = record {
-              behind = goes_on.behind;
-              formed = goes_on.formed;
-              value = goes_on.value;
-              good = goes_on.good;
-              reads = λ rest. alike (records_then (bs ++ goes_on.behind) rest) ∙ goes_on.reads rest;
-            };
+            goes_on =
+                goes_on_by goes_on goes_on.good
+                (λ rest. alike (records_then (bs ++ goes_on.behind) rest) ∙ goes_on.reads rest);
             refuses = λ rest. alike (records_then bs (Ok q.refused ∷ rest)) ∙ refuses rest;
           }
 
@@ -282,13 +273,9 @@ module _ {V : Type 0} (kind : ℕ) (Q : RawRecord → List RecordOutcome → Rea
     }
       where
         own : Completes (demanding kind Q c) Good []
-        own = record {
-          behind = begin.behind;
-          formed = begin.formed;
-          value = begin.value;
-          good = begin.good;
-          reads = λ rest. demands_same c is (records_then begin.behind rest) ∙ begin.reads rest;
-        }
+        own =
+            goes_on_by begin begin.good
+            (λ rest. demands_same c is (records_then begin.behind rest) ∙ begin.reads rest)
 
         here : Completes (held (demanding kind Q)) Good []
         here = cons_completes (held (demanding kind Q)) (Q c) c formed (demands_same c is) begin

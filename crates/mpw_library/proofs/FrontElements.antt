@@ -10,11 +10,11 @@ use Rattle.mpw_elements.specs.declared.element.Element.TheVariants as elements
 use Rattle.mpw_elements.specs.Reading.{Reading, ◌>>=◌, fault_at}
 use Rattle.mpw_elements.specs.Grammar.{boundary, path, single, array, ignored, element}
 use Rattle.mpw_elements.specs.Derivation.{records_then}
-use Rattle.mpw_library.proofs.Refusals.{unexpected_at, IsEnded, Completes, Refuses, Reads, Any, done_local, done_completes}
+use Rattle.mpw_library.proofs.Refusals.{unexpected_at, IsEnded, Completes, Refuses, Reads, Any, done_local, done_completes, goes_on_by, refuses_by}
 use Rattle.mpw_library.proofs.Fields.{as_reads, cons_reads, cons_refuses, here_refuses, cons_completes}
 use Rattle.mpw_library.proofs.FrontShapes.{Whole, done_whole, then_whole, boundary_whole, path_whole}
 use Rattle.mpw_library.proofs.FrontReferences.{single_whole, array_whole}
-use Rattle.mpw_library.proofs.Samples.{datatype, datatype_is, boxtype, boxtype_is, last, last_is}
+use Rattle.mpw_library.proofs.Samples.{datatype, boxtype, last, samples}
 
 -- ---- texts and nodes
 
@@ -36,7 +36,7 @@ module _ (start : ℕ) where
 
   ignored_completes : Completes (ignored start) Any []
   ignored_completes =
-      cons_completes (ignored start) (λ os. Ok (tt, os)) last last_is.formed (ends_same last refl)
+      cons_completes (ignored start) (λ os. Ok (tt, os)) last samples.last_is.formed (ends_same last refl)
       (done_completes tt tt)
 
   ignored_reads : (all : List RecordOutcome) (x : Unit {0} × List RecordOutcome)
@@ -98,31 +98,15 @@ as_whole P Q same w = record {
   local = record {
     reads = λ all x e. as_reads P Q all x same (w.local.reads all x (sym (same all) ∙ e));
     fails = λ all offset h e.
-        let q = w.local.fails all offset h (sym (same all) ∙ e) in record {
-          before = q.before;
-          refused = q.refused;
-          rest = q.rest;
-          parts = q.parts;
-          stands = q.stands;
-          goes_on = record {
-            behind = q.goes_on.behind;
-            formed = q.goes_on.formed;
-            value = q.goes_on.value;
-            good = tt;
-            reads =
-                λ rest. same (records_then (q.before ++ q.goes_on.behind) rest)
-                ∙ q.goes_on.reads rest;
-          };
-          refuses = λ rest. same (records_then q.before (Ok q.refused ∷ rest)) ∙ q.refuses rest;
-        };
+        let q = w.local.fails all offset h (sym (same all) ∙ e) in
+        refuses_by q
+        (goes_on_by q.goes_on tt
+        (λ rest. same (records_then (q.before ++ q.goes_on.behind) rest) ∙ q.goes_on.reads rest))
+        (λ rest. same (records_then q.before (Ok q.refused ∷ rest)) ∙ q.refuses rest);
   };
-  begin = record {
-    behind = w.begin.behind;
-    formed = w.begin.formed;
-    value = w.begin.value;
-    good = tt;
-    reads = λ rest. same (records_then w.begin.behind rest) ∙ w.begin.reads rest;
-  };
+  begin =
+      goes_on_by w.begin tt
+      (λ rest. same (records_then w.begin.behind rest) ∙ w.begin.reads rest);
 }
 
 -- what a reader reads, seen by f
@@ -159,11 +143,11 @@ element_at unit some r =
     go true b c d e f g p1 p2 p3 p4 p5 p6 p7 =
         of_kind unit r BOUNDARY p1 refl
         (shape (boundary r.offset unit DATATYPE) (λ x. Some (elements.Boundary x))
-        (boundary_whole r.offset unit DATATYPE datatype datatype_is) (λ os. rw p1 refl))
+        (boundary_whole r.offset unit DATATYPE datatype samples.datatype_is) (λ os. rw p1 refl))
     go false true c d e f g p1 p2 p3 p4 p5 p6 p7 =
         of_kind unit r BOX p2 refl
         (shape (boundary r.offset unit BOXTYPE) (λ x. Some (elements.Boundary x))
-        (boundary_whole r.offset unit BOXTYPE boxtype boxtype_is) (λ os. rw (p1, p2) refl))
+        (boundary_whole r.offset unit BOXTYPE boxtype samples.boxtype_is) (λ os. rw (p1, p2) refl))
     go false false true d e f g p1 p2 p3 p4 p5 p6 p7 =
         of_kind unit r PATH p3 refl
         (shape (path r.offset unit) (λ x. Some (elements.Path x)) (path_whole r.offset unit some)

@@ -21,7 +21,7 @@ use Rattle.mpw_library.proofs.Loops.{item_gone}
 use Rattle.mpw_library.proofs.Refusals.{unexpected_at, IsEnded, Completes, Refuses, Reads, Any, done_local, done_completes}
 use Rattle.mpw_library.proofs.Fields.{cons_reads, cons_refuses, here_refuses, cons_completes}
 use Rattle.mpw_library.proofs.FrontShapes.{Whole}
-use Rattle.mpw_library.proofs.FrontLoops.{Loop, end_completes, loop_fails}
+use Rattle.mpw_library.proofs.FrontLoops.{Loop, end_completes, loop_fails, length_completes, length_refuses}
 use Rattle.mpw_library.proofs.FrontElements.{ElementAt, element_at, mapped}
 use Rattle.mpw_library.proofs.Samples.{sample}
 
@@ -186,40 +186,14 @@ module _ (unit : ℕ) (some : 1 ≤ unit) where
       → all_elements unit all ≡ Err (unexpected_at offset)
       → Refuses (all_elements unit) Any all offset
   elements_fail_at all offset h e =
-      let r =
-      loop_fails step is_end onward loop over_elements (λ es n. Unit {0})
+      length_refuses
+      (loop_fails step is_end onward loop over_elements (λ es n. Unit {0})
       (λ s i m n p lt holds. tt) (λ s all x holds p e. item_reads unit some all x e)
       (λ s all offset holds h e. item_fails unit some all offset h e) (length all) [] all offset
-      tt (omega arith) h e in
-      record {
-        before = r.before;
-        refused = r.refused;
-        rest = r.rest;
-        parts = r.parts;
-        stands = r.stands;
-        goes_on = record {
-          behind = r.goes_on.behind;
-          formed = r.goes_on.formed;
-          value = r.goes_on.value;
-          good = tt;
-          reads =
-              λ rest. r.goes_on.reads (length (records_then (r.before ++ r.goes_on.behind) rest))
-              rest (omega arith);
-        };
-        refuses =
-            λ rest. r.refuses (length (records_then r.before (Ok r.refused ∷ rest))) rest
-            (omega arith);
-      }
+      tt (omega arith) h e)
 
   pub elements_whole : Whole (all_elements unit)
-  elements_whole =
-      let c = end_completes step is_end onward loop over_elements [] in record {
-        local = record { reads = elements_read; fails = elements_fail_at };
-        begin = record {
-          behind = c.behind;
-          formed = c.formed;
-          value = c.value;
-          good = tt;
-          reads = λ rest. c.reads (length (records_then c.behind rest)) rest (omega arith);
-        };
-      }
+  elements_whole = record {
+    local = record { reads = elements_read; fails = elements_fail_at };
+    begin = length_completes (end_completes step is_end onward loop over_elements []);
+  }

@@ -53,6 +53,36 @@ pub record LoopRefuses {S : Type 0} (loop : ℕ → S → List RecordOutcome →
       → length (records_then before (Ok refused ∷ rest)) ≤ most
       → loop most s (records_then before (Ok refused ∷ rest)) ≡ Err (fault_at Unexpected refused)
 
+-- a loop with as many steps as there are records
+abbrev pub at_length : {S : Type 0} → (ℕ → S → List RecordOutcome → Reading S) → S
+    → List RecordOutcome → Reading S
+at_length loop s os = loop (length os) s os
+
+pub length_completes : {S : Type 0} {loop : ℕ → S → List RecordOutcome → Reading S} {s : S}
+    {before : List RawRecord} → LoopCompletes loop s before
+    → Completes (at_length loop s) Any before
+length_completes {before = before} c = record {
+  behind = c.behind;
+  formed = c.formed;
+  value = c.value;
+  good = tt;
+  reads = λ rest. c.reads (length (records_then (before ++ c.behind) rest)) rest (omega arith);
+}
+
+pub length_refuses : {S : Type 0} {loop : ℕ → S → List RecordOutcome → Reading S} {s : S}
+    {all : List RecordOutcome} {offset : ℕ} → LoopRefuses loop s all offset
+    → Refuses (at_length loop s) Any all offset
+length_refuses r = record {
+  before = r.before;
+  refused = r.refused;
+  rest = r.rest;
+  parts = r.parts;
+  stands = r.stands;
+  goes_on = length_completes r.goes_on;
+  refuses = λ rest.
+      r.refuses (length (records_then r.before (Ok r.refused ∷ rest))) rest (omega arith);
+}
+
 module _ {S I : Type 0} (step : S → List RecordOutcome → Reading I) (is_end : I → Bool) (next : S
     → I → S)
     (loop : ℕ → S → List RecordOutcome → Reading S) (l : Loop step is_end next loop) where

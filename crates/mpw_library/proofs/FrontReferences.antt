@@ -1,25 +1,23 @@
 -- References refuse at the first record with which nothing goes on.
-use Rattle.std.proofs.Common.{◌≡◌, ℕ, Bool, true, false, eqb, List, [], ◌∷◌, Option, Some, None, Result, Ok, Err, refl, sym, ap, ◌∙◌}
-use Rattle.std.proofs.lemmas.Bool.{eqb-true}
+use Rattle.std.proofs.Common.{◌≡◌, ℕ, Bool, true, false, eqb, List, Option, Some, None, Result, Ok, Err, refl}
 use Rattle.mpw_geom.specs.declared.plane.Point.{Point}
 use Rattle.mpw_geom.specs.declared.plane.Orient.{Orient}
 use Rattle.mpw_geom.specs.declared.plane.Orient.TheVariants.{R0}
 use Rattle.mpw_records.specs.declared.fault.Code.TheVariants.{BadName, BadSize, Magnification, Angle, Columns, Pitch, Absolute}
 use Rattle.mpw_records.specs.declared.fault.ReadFault.{ReadFault}
-use Rattle.mpw_records.specs.declared.kind.TheConstants.{ENDLIB, XY, ENDEL, SNAME, COLROW, STRANS, MAG, ANGLE}
+use Rattle.mpw_records.specs.declared.kind.TheConstants.{XY, ENDEL, SNAME, COLROW, STRANS, MAG, ANGLE}
 use Rattle.mpw_records.specs.Records.{RawRecord, RecordOutcome}
 use Rattle.mpw_real8.specs.Real.{real_value}
 use Rattle.mpw_elements.specs.declared.element.Reference.{Reference}
 use Rattle.mpw_elements.specs.declared.values.Grid.{Grid}
 use Rattle.mpw_elements.specs.Reading.{Reading, ◌>>=◌, is_skipped, field, expected, optional}
 use Rattle.mpw_elements.specs.Values.{origin_of, name_of, mirrored_of, magnification_of, turns, turns_or_fault, turns_of, orient_of, counts_of, grid_or_fault, step_of, point_at, grid_of, no_point}
-use Rattle.mpw_elements.specs.Derivation.{records_then}
 use Rattle.mpw_elements.specs.Grammar.{orientation, single, array}
-use Rattle.mpw_library.proofs.Refusals.{unexpected_at, IsEnded, Completes, Refuses, Reads, Any, IsOfValue, done_local, done_completes, tested_local}
-use Rattle.mpw_library.proofs.Fields.{as_reads, cons_refuses, as_refuses, cons_completes, held, Ahead, demanding, fielded, fielded_local, fielded_completes}
-use Rattle.mpw_library.proofs.Options.{opting, opting_ahead}
+use Rattle.mpw_library.proofs.Refusals.{Any, IsOfValue, done_local, done_completes, tested_local}
+use Rattle.mpw_library.proofs.Fields.{Ahead, demanding, fielded, fielded_local, fielded_completes}
+use Rattle.mpw_library.proofs.Options.{opting, branching_ahead, opting_ahead}
 use Rattle.mpw_library.proofs.FrontShapes.{Whole, expected_then, expected_tested, demanded_tested, never, choice_own, ok_own}
-use Rattle.mpw_library.proofs.Samples.{dot, dot_is, dot_place, corner, corner_is, corner_grid, last, last_is, sname, sname_is, sname_name, colrow, colrow_is, colrow_counts}
+use Rattle.mpw_library.proofs.Samples.{dot, dot_place, corner, corner_grid, last, sname, sname_name, colrow, colrow_counts, samples}
 
 -- ---- faults of values
 
@@ -138,76 +136,36 @@ module _ {X : Type 0} (start : ℕ) (K : Orient → RawRecord → List RecordOut
         opting_ahead start MAG magnification_of tt (λ (u : Unit {0}). angle_at m) first
         magnification_own refl not_mag kept (λ u. angle_ahead m)
 
-    abbrev upright : Ahead first (K R0) Any
-    upright = k R0
-
-    starts_other : eqb upright.start.kind STRANS ≡ false
-    starts_other = ap (λ (n : ℕ). eqb n STRANS) upright.kind ∙ not_flags
-
-    abbrev O : RawRecord → List RecordOutcome → Reading X
-    O = orienting start K
-
-    begins : Completes (O upright.start) Any []
-    begins =
-        let b = upright.begin in
-        record {
-          behind = b.behind;
-          formed = b.formed;
-          value = b.value;
-          good = tt;
-          reads =
-              λ rest. upright_same upright.start starts_other (records_then b.behind rest)
-              ∙ b.reads rest;
-        }
-
-    oriented_reads : (r : RawRecord) (all : List RecordOutcome) (x : X × List RecordOutcome)
-        → O r all ≡ Ok x
-        → Reads (O r) all x × (eqb r.kind ENDLIB ≡ false)
-    oriented_reads r all x e = go (eqb r.kind STRANS) refl
-      where
-        go : (b : Bool) → eqb r.kind STRANS ≡ b → Reads (O r) all x × (eqb r.kind ENDLIB ≡ false)
-        go true p =
-            let t =
-            tested_local (λ m. fielded start (magnified_at m)) (mirrored_of r) (mirrored_own r)
-            (λ m f. fielded_local start (magnified_at m) (magnified_ahead m) kept) in (
-              as_reads (O r) (turned r) all x (turned_same r p)
-                  (t.reads all x (sym (turned_same r p all) ∙ e)),
-              ap (λ (n : ℕ). eqb n ENDLIB) (eqb-true _ _ p),
-            )
-        go false p =
-            let h = upright.reads r all x (sym (upright_same r p all) ∙ e) in
-            (as_reads (O r) (K R0 r) all x (upright_same r p) h.0, h.1)
-
-    oriented_fails : (r : RawRecord) (all : List RecordOutcome) (offset : ℕ)
-        → (eqb r.kind ENDLIB ≡ false → IsEnded all) → O r all ≡ Err (unexpected_at offset)
-        → Refuses (held O) Any (Ok r ∷ all) offset
-    oriented_fails r all offset h e = go (eqb r.kind STRANS) refl
-      where
-        go : (b : Bool) → eqb r.kind STRANS ≡ b → Refuses (held O) Any (Ok r ∷ all) offset
-        go true p =
-            let t =
-            tested_local (λ m. fielded start (magnified_at m)) (mirrored_of r) (mirrored_own r)
-            (λ m f. fielded_local start (magnified_at m) (magnified_ahead m) kept) in
-            cons_refuses (held O) (turned r) r all offset (turned_same r p)
-            (t.fails all offset (h (ap (λ (n : ℕ). eqb n ENDLIB) (eqb-true _ _ p)))
-            (sym (turned_same r p all) ∙ e))
-        go false p =
-            as_refuses (held O) (held (K R0)) r all offset (upright_same r p)
-            (cons_completes (held O) (O upright.start) upright.start upright.formed (λ os. refl)
-            begins)
-            (upright.fails r all offset h (sym (upright_same r p all) ∙ e))
-
-    oriented_ahead : Ahead first O Any
-    oriented_ahead = record {
-      reads = oriented_reads;
-      fails = oriented_fails;
-      start = upright.start;
-      kind = upright.kind;
-      formed = upright.formed;
-      begin = begins;
-    }
+    oriented_ahead : Ahead first (orienting start K) Any
+    oriented_ahead =
+        branching_ahead STRANS first (orienting start K) (K R0) turned turned_same upright_same
+        (λ r. tested_local (λ m. fielded start (magnified_at m)) (mirrored_of r) (mirrored_own r)
+        (λ m e. fielded_local start (magnified_at m) (magnified_ahead m) kept))
+        refl not_flags (k R0)
 
 -- ---- references
+
+-- a name, an orientation, and what stands behind them
+module _ (start kind : ℕ)
+    (at : List ℕ → Orient → RawRecord → List RecordOutcome → Reading Reference)
+    (not_flags : eqb kind STRANS ≡ false) (not_mag : eqb kind MAG ≡ false)
+    (not_angle : eqb kind ANGLE ≡ false) (kept : is_skipped kind ≡ false)
+    (ahead : (name : List ℕ) (orient : Orient) → Ahead kind (at name orient) Any) where
+  reference_named : (name : List ℕ) → Whole (fielded start (orienting start (at name)))
+  reference_named name =
+      let a =
+      oriented_ahead start (at name) kind not_flags not_mag not_angle kept (ahead name) in
+      record {
+        local = fielded_local start (orienting start (at name)) a kept;
+        begin = fielded_completes start (orienting start (at name)) a kept;
+      }
+
+  reference_whole : Whole (λ all. expected start SNAME all >>= λ sname. name_of sname.0
+      >>= λ name. fielded start (orienting start (at name)) sname.1)
+  reference_whole =
+      expected_tested start SNAME sname samples.sname_is name_of
+      _ (λ x name. fielded start (orienting start (at name))) name_own sname_name
+      (λ x name e. reference_named name)
 
 module _ (start unit : ℕ) where
   abbrev reference_end : Reference → List RecordOutcome → Reading Reference
@@ -215,7 +173,7 @@ module _ (start unit : ℕ) where
 
   reference_end_whole : (r : Reference) → Whole (reference_end r)
   reference_end_whole r =
-      expected_then start ENDEL last last_is (λ x all. Ok (r, all)) (λ x. done_local r)
+      expected_then start ENDEL last samples.last_is (λ x all. Ok (r, all)) (λ x. done_local r)
       (done_completes r tt)
 
   abbrev single_made : List ℕ → Orient → Point → Reference
@@ -236,26 +194,13 @@ module _ (start unit : ℕ) where
 
   single_ahead : (name : List ℕ) (orient : Orient) → Ahead XY (single_at name orient) Any
   single_ahead name orient =
-      demanded_tested XY dot dot_is (origin_of unit)
+      demanded_tested XY dot samples.dot_is (origin_of unit)
       _ (λ x origin. reference_end (single_made name orient origin)) (place_own unit)
       (dot_place unit) (λ x origin e. reference_end_whole (single_made name orient origin))
 
-  single_oriented : (name : List ℕ) → Ahead XY (orienting start (single_at name)) Any
-  single_oriented name =
-      oriented_ahead start (single_at name) XY refl refl refl refl (single_ahead name)
-
-  single_named : (name : List ℕ) → Whole (fielded start (orienting start (single_at name)))
-  single_named name = record {
-    local = fielded_local start (orienting start (single_at name)) (single_oriented name) refl;
-    begin = fielded_completes start (orienting start (single_at name)) (single_oriented name) refl;
-  }
-
   pub single_whole : Whole (single start unit)
   unfolding single
-  single_whole =
-      expected_tested start SNAME sname sname_is name_of
-      _ (λ x name. fielded start (orienting start (single_at name))) name_own sname_name
-      (λ x name e. single_named name)
+  single_whole = reference_whole start XY single_at refl refl refl refl single_ahead
 
   -- ---- arrays
 
@@ -279,7 +224,7 @@ module _ (start unit : ℕ) where
       → Whole (grid_then name orient counts)
   grid_whole name orient counts =
       let g = corner_grid unit counts.0 counts.1 in
-      expected_tested start XY corner corner_is (grid_of unit counts.0 counts.1) g.0
+      expected_tested start XY corner samples.corner_is (grid_of unit counts.0 counts.1) g.0
       (λ x grid. reference_end (array_made name orient counts grid))
       (grid_own unit counts.0 counts.1) g.1
       (λ x grid e. reference_end_whole (array_made name orient counts grid))
@@ -290,22 +235,9 @@ module _ (start unit : ℕ) where
 
   array_ahead : (name : List ℕ) (orient : Orient) → Ahead COLROW (array_at name orient) Any
   array_ahead name orient =
-      demanded_tested COLROW colrow colrow_is counts_of _ (λ x counts. grid_then name orient counts)
+      demanded_tested COLROW colrow samples.colrow_is counts_of _ (λ x counts. grid_then name orient counts)
       counts_own colrow_counts (λ x counts e. grid_whole name orient counts)
-
-  array_oriented : (name : List ℕ) → Ahead COLROW (orienting start (array_at name)) Any
-  array_oriented name =
-      oriented_ahead start (array_at name) COLROW refl refl refl refl (array_ahead name)
-
-  array_named : (name : List ℕ) → Whole (fielded start (orienting start (array_at name)))
-  array_named name = record {
-    local = fielded_local start (orienting start (array_at name)) (array_oriented name) refl;
-    begin = fielded_completes start (orienting start (array_at name)) (array_oriented name) refl;
-  }
 
   pub array_whole : Whole (array start unit)
   unfolding array
-  array_whole =
-      expected_tested start SNAME sname sname_is name_of
-      _ (λ x name. fielded start (orienting start (array_at name))) name_own sname_name
-      (λ x name e. array_named name)
+  array_whole = reference_whole start COLROW array_at refl refl refl refl array_ahead

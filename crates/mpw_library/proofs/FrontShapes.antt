@@ -14,7 +14,7 @@ use Rattle.mpw_elements.specs.Grammar.{boundary, path}
 use Rattle.mpw_library.proofs.Refusals.{unexpected_at, Completes, Local, Any, IsOfValue, then_local, then_completes, done_local, done_completes, tested_local, tested_completes}
 use Rattle.mpw_library.proofs.Fields.{Ahead, demanding, demanding_ahead, IsSample, expected_local, expected_completes, fielded, fielded_local, fielded_completes}
 use Rattle.mpw_library.proofs.Options.{opting, opting_ahead}
-use Rattle.mpw_library.proofs.Samples.{layer, layer_is, datatype, datatype_is, dot, dot_is, dot_corners, segment, segment_is, segment_centre, last, last_is}
+use Rattle.mpw_library.proofs.Samples.{layer, datatype, dot, dot_corners, segment, segment_centre, last, samples}
 
 -- ---- readers that can always begin
 
@@ -132,19 +132,19 @@ module _ (start unit : ℕ) where
           layer = record { layer = short_of l; datatype = short_of d };
           points = corners;
         } in
-        expected_then start ENDEL last last_is (λ x all. Ok (made, all)) (λ x. done_local made)
+        expected_then start ENDEL last samples.last_is (λ x all. Ok (made, all)) (λ x. done_local made)
         (done_completes made tt)
 
     ring_whole : (l d : RawRecord) → Whole (ring_then l d)
     ring_whole l d =
-        expected_tested start XY dot dot_is (corners_of unit)
+        expected_tested start XY dot samples.dot_is (corners_of unit)
         _ (λ x corners. corners_then l d corners) (corners_own unit) (dot_corners unit)
         (λ x corners e. corners_whole l d corners)
 
     pub boundary_whole : (c : RawRecord) → IsSample kind c → Whole (boundary start unit kind)
     unfolding boundary
     boundary_whole c s =
-        expected_then start LAYER layer layer_is ring_of (λ l. (of l).local) (of layer).begin
+        expected_then start LAYER layer samples.layer_is ring_of (λ l. (of l).local) (of layer).begin
       where
         of : (l : RawRecord) → Whole (ring_of l)
         of l =
@@ -158,7 +158,7 @@ module _ (start unit : ℕ) where
 
   line_end_whole : (p : Path) → Whole (line_end p)
   line_end_whole p =
-      expected_then start ENDEL last last_is (λ x all. Ok (p, all)) (λ x. done_local p)
+      expected_then start ENDEL last samples.last_is (λ x all. Ok (p, all)) (λ x. done_local p)
       (done_completes p tt)
 
   abbrev line_made : RawRecord → RawRecord → ℕ → ℤ → ℤ → ℤ → List Point → Path
@@ -191,7 +191,7 @@ module _ (start unit : ℕ) where
   module _ (some : 1 ≤ unit) where
     line_ahead : (l d : RawRecord) (t : ℕ) (w g h : ℤ) → Ahead XY (line_at l d t w g h) Any
     line_ahead l d t w g h =
-        demanded_tested XY segment segment_is (centre_of unit)
+        demanded_tested XY segment samples.segment_is (centre_of unit)
         _ (λ x centre. line_end (line_made l d t w g h centre)) (centre_own unit)
         (segment_centre unit some) (λ x centre e. line_end_whole (line_made l d t w g h centre))
 
@@ -220,12 +220,12 @@ module _ (start unit : ℕ) where
 
     line_whole : (l : RawRecord) → Whole (line_of l)
     line_whole l =
-        expected_then start DATATYPE datatype datatype_is (λ d. fielded start (type_at l d))
+        expected_then start DATATYPE datatype samples.datatype_is (λ d. fielded start (type_at l d))
         (λ d. fielded_local start (type_at l d) (type_ahead l d) refl)
         (fielded_completes start (type_at l datatype) (type_ahead l datatype) refl)
 
     pub path_whole : Whole (path start unit)
     unfolding path
     path_whole =
-        expected_then start LAYER layer layer_is line_of (λ l. (line_whole l).local)
+        expected_then start LAYER layer samples.layer_is line_of (λ l. (line_whole l).local)
         (line_whole layer).begin

@@ -1,5 +1,6 @@
 pub mod Apart
 pub mod DerivedLibrary
+pub mod Ended
 pub mod DerivedItems
 pub mod DerivedStructures
 pub mod EndedTexts

@@ -52,6 +52,37 @@ pub record Reads {V : Type 0} (P : List RecordOutcome → Reading V) (all : List
   pub same : (rest : List RecordOutcome) → P (records_then records rest) ≡ Ok (x.0, rest)
   pub ended : IsEnded all → IsEnded x.1
 
+-- the same records go on with another reader
+pub goes_on_by : {V : Type 0} {P Q : List RecordOutcome → Reading V} {Good Best : V → Type 0}
+    {front before : List RawRecord} (c : Completes P Good front) → Best c.value
+    → ((rest : List RecordOutcome) → Q (records_then (before ++ c.behind) rest) ≡ Ok (c.value, rest))
+    → Completes Q Best before
+goes_on_by c good reads = record {
+  behind = c.behind;
+  formed = c.formed;
+  value = c.value;
+  good = good;
+  reads = reads;
+}
+
+-- and another reader refuses the same record
+pub refuses_by : {V X : Type 0} {P : List RecordOutcome → Reading V}
+    {Q : List RecordOutcome → Reading X} {Good : V → Type 0} {Best : X → Type 0}
+    {all : List RecordOutcome} {offset : ℕ} (r : Refuses P Good all offset)
+    → Completes Q Best r.before
+    → ((rest : List RecordOutcome)
+    → Q (records_then r.before (Ok r.refused ∷ rest)) ≡ Err (fault_at Unexpected r.refused))
+    → Refuses Q Best all offset
+refuses_by r goes_on refuses = record {
+  before = r.before;
+  refused = r.refused;
+  rest = r.rest;
+  parts = r.parts;
+  stands = r.stands;
+  goes_on = goes_on;
+  refuses = refuses;
+}
+
 pub record Local {V : Type 0} (P : List RecordOutcome → Reading V) (Good : V → Type 0) :
     Type 0 where
   pub reads : (all : List RecordOutcome) (x : V × List RecordOutcome) → P all ≡ Ok x → Reads P all x
@@ -129,17 +160,12 @@ module _ {V X : Type 0} (P : List RecordOutcome → Reading V) (Q : V → List R
       rest = q.rest;
       parts = parts_both all v.1 (Ok q.refused ∷ q.rest) p.records q.before p.parts q.parts;
       stands = q.stands;
-      goes_on = record {
-        behind = q.goes_on.behind;
-        formed = q.goes_on.formed;
-        value = q.goes_on.value;
-        good = q.goes_on.good;
-        reads = λ rest.
-            ap (then_reader P Q) (behind_then p.records q.before q.goes_on.behind rest)
-            ∙ ap (λ (y : Reading V). y >>= λ x. Q x.0 x.1)
-            (p.same (records_then (q.before ++ q.goes_on.behind) rest))
-            ∙ q.goes_on.reads rest;
-      };
+      goes_on =
+          goes_on_by q.goes_on q.goes_on.good
+          (λ rest. ap (then_reader P Q) (behind_then p.records q.before q.goes_on.behind rest)
+          ∙ ap (λ (y : Reading V). y >>= λ x. Q x.0 x.1)
+          (p.same (records_then (q.before ++ q.goes_on.behind) rest))
+          ∙ q.goes_on.reads rest);
       refuses = λ rest.
           ap (then_reader P Q) (records_both p.records q.before (Ok q.refused ∷ rest))
           ∙ ap (λ (y : Reading V). y >>= λ x. Q x.0 x.1)
@@ -164,15 +190,10 @@ module _ {V X : Type 0} (P : List RecordOutcome → Reading V) (Q : V → List R
       first_refuses : (all : List RecordOutcome) (offset : ℕ)
           → ((v : V) → Good v → Completes (Q v) Best []) → Refuses P Good all offset
           → Refuses (then_reader P Q) Best all offset
-      first_refuses all offset begin p = record {
-        before = p.before;
-        refused = p.refused;
-        rest = p.rest;
-        parts = p.parts;
-        stands = p.stands;
-        goes_on = then_completes p.before p.goes_on (begin p.goes_on.value p.goes_on.good);
-        refuses = λ rest. ap (λ (y : Reading V). y >>= λ x. Q x.0 x.1) (p.refuses rest);
-      }
+      first_refuses all offset begin p =
+          refuses_by p
+          (then_completes p.before p.goes_on (begin p.goes_on.value p.goes_on.good))
+          (λ rest. ap (λ (y : Reading V). y >>= λ x. Q x.0 x.1) (p.refuses rest))
 
       pub then_local : Local P Good → ((v : V) → Local (Q v) Best)
           → ((v : V) → Good v → Completes (Q v) Best []) → Local (then_reader P Q) Best
@@ -225,10 +246,4 @@ module _ {X : Type 0} {Best : X → Type 0} where
 
     pub tested_completes : (t : Result W ReadFault) (w : W) → t ≡ Ok w → Completes (Q w) Best []
         → Completes (λ all. t >>= λ w. Q w all) Best []
-    tested_completes t w e c = record {
-      behind = c.behind;
-      formed = c.formed;
-      value = c.value;
-      good = c.good;
-      reads = λ rest. rw e (c.reads rest);
-    }
+    tested_completes t w e c = goes_on_by c c.good (λ rest. rw e (c.reads rest))

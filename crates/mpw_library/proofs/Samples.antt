@@ -57,41 +57,31 @@ sname = sample SNAME 6 (65 ∷ 65 ∷ [])
 abbrev pub colrow : RawRecord
 colrow = sample COLROW 2 (0 ∷ 1 ∷ 0 ∷ 1 ∷ [])
 
-pub layer_is : IsSample LAYER layer
-unfolding data_fault
-layer_is = record { kind_is = refl; formed = refl; inner = refl; kept = refl }
+-- each is a record of its type
+pub record AreSamples : Type 0 where
+  pub layer_is : IsSample LAYER layer
+  pub datatype_is : IsSample DATATYPE datatype
+  pub boxtype_is : IsSample BOXTYPE boxtype
+  pub dot_is : IsSample XY dot
+  pub segment_is : IsSample XY segment
+  pub corner_is : IsSample XY corner
+  pub last_is : IsSample ENDEL last
+  pub sname_is : IsSample SNAME sname
+  pub colrow_is : IsSample COLROW colrow
 
-pub datatype_is : IsSample DATATYPE datatype
+pub samples : AreSamples
 unfolding data_fault
-datatype_is = record { kind_is = refl; formed = refl; inner = refl; kept = refl }
-
-pub boxtype_is : IsSample BOXTYPE boxtype
-unfolding data_fault
-boxtype_is = record { kind_is = refl; formed = refl; inner = refl; kept = refl }
-
-pub dot_is : IsSample XY dot
-unfolding data_fault
-dot_is = record { kind_is = refl; formed = refl; inner = refl; kept = refl }
-
-pub segment_is : IsSample XY segment
-unfolding data_fault
-segment_is = record { kind_is = refl; formed = refl; inner = refl; kept = refl }
-
-pub corner_is : IsSample XY corner
-unfolding data_fault
-corner_is = record { kind_is = refl; formed = refl; inner = refl; kept = refl }
-
-pub last_is : IsSample ENDEL last
-unfolding data_fault
-last_is = record { kind_is = refl; formed = refl; inner = refl; kept = refl }
-
-pub sname_is : IsSample SNAME sname
-unfolding data_fault
-sname_is = record { kind_is = refl; formed = refl; inner = refl; kept = refl }
-
-pub colrow_is : IsSample COLROW colrow
-unfolding data_fault
-colrow_is = record { kind_is = refl; formed = refl; inner = refl; kept = refl }
+samples = record {
+  layer_is = record { kind_is = refl; formed = refl; inner = refl; kept = refl };
+  datatype_is = record { kind_is = refl; formed = refl; inner = refl; kept = refl };
+  boxtype_is = record { kind_is = refl; formed = refl; inner = refl; kept = refl };
+  dot_is = record { kind_is = refl; formed = refl; inner = refl; kept = refl };
+  segment_is = record { kind_is = refl; formed = refl; inner = refl; kept = refl };
+  corner_is = record { kind_is = refl; formed = refl; inner = refl; kept = refl };
+  last_is = record { kind_is = refl; formed = refl; inner = refl; kept = refl };
+  sname_is = record { kind_is = refl; formed = refl; inner = refl; kept = refl };
+  colrow_is = record { kind_is = refl; formed = refl; inner = refl; kept = refl };
+}
 
 -- ---- their values
 

@@ -25,6 +25,7 @@ use Rattle.mpw_shapes.proofs.Whole.{right_of_all}
 use Rattle.mpw_hier.specs.Items.{Item}
 use Rattle.mpw_hier.specs.Boxes.{hull, hull_of, hull_of_points, has_area, element_box, placed_box, item_box, extent_of, is_box_near}
 use Rattle.mpw_hier.specs.Holding.{IsInside, IsHeld, ExtentsHoldItems}
+use Rattle.mpw_hier.proofs.Nearness.{close_box, near_hull}
 use Rattle.mpw_hier.proofs.Holding.{inside_itself, inside_joined, first_inside}
 use Rattle.mpw_hier.specs.declared.submission.Submission.{Submission}
 use Rattle.mpw_hier.specs.Values.{extent}
@@ -34,7 +35,6 @@ use Rattle.mpw_walk.specs.Turns.{flat_roots}
 use Rattle.mpw_walk.specs.Walk.{IsRoot}
 use Rattle.mpw_tiles.specs.Laws.{IsInBox, SquaresLieInBoxes, SquaresLieInExtents, LayersLieInExtents, SquaresLieInPlane}
 use Rattle.mpw_tiles.specs.Placed.{IsSquareInPlane}
-use Rattle.mpw_tiles.proofs.Looking.{close_box, near_hull}
 use Rattle.mpw_tiles.specs.Shown.{ShowsSquare, IsShown}
 
 -- ---- least boxes

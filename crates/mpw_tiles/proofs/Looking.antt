@@ -1,8 +1,7 @@
 -- Snapshots: their extents, their plans, and windows that stand for them.
 use Rattle.std.proofs.Common.{◌≡◌, ℕ, w64, SFits, to_z, of_z, ◌+◌, ◌≤◌, ◌<◌, ◌^◌, true, List, [], ◌∷◌, length, get_or, drop, max, Option, Some, None, refl, sym, subst, ap, ◌∙◌, arith}
-use Rattle.std.specs.Prelude.{IfOk, Result, Ok, Err, ℤ, pos, neg_ℤ, All, IfSome, fold}
+use Rattle.std.specs.Prelude.{IfOk, Result, Ok, Err, ℤ, All, IfSome, fold}
 use Rattle.std.specs.Int.{int_min, int_max}
-use Rattle.std.proofs.lemmas.Bool.{and_parts, and_from}
 use Rattle.std.proofs.lemmas.Int.{ints, clamps, to_z-of_z}
 use Rattle.std.proofs.lemmas.List.{at_drop_more, drop_all}
 use Rattle.std.proofs.lemmas.List.Elements.{All-head, All-tail}
@@ -12,14 +11,14 @@ use Rattle.mpw_geom.specs.declared.plane.Point.{Point}
 use Rattle.mpw_geom.specs.declared.placing.Placing.{Placing}
 use Rattle.mpw_geom.specs.Plane.{IsOrdered, IsBoxInPlane, box_between}
 use Rattle.mpw_geom.specs.Placing.{placed_point}
-use Rattle.mpw_geom.proofs.Tests.{le_from_test, test_from_le, SquareIn-from_test}
+use Rattle.mpw_geom.proofs.Tests.{SquareIn-from_test}
 use Rattle.mpw_deck.specs.declared.rule.Rule.{Rule}
 use Rattle.mpw_deck.specs.Decks.{Deck, IsRule, IsDeck}
 use Rattle.mpw_grid.specs.Laws.{WindowsReachNoFurther}
 use Rattle.mpw_hier.specs.declared.submission.Submission.{Submission}
-use Rattle.mpw_hier.specs.Boxes.{joined, hull, placed_box, is_near, is_box_near}
+use Rattle.mpw_hier.specs.Boxes.{joined, hull, placed_box, is_box_near}
+use Rattle.mpw_hier.proofs.Nearness.{close_box}
 use Rattle.mpw_walk.specs.declared.root.Root.{Root}
-use Rattle.mpw_walk.specs.Near.{IsClose}
 use Rattle.mpw_walk.specs.Turns.{flat_roots}
 use Rattle.mpw_walk.specs.Roots.{root_extent, roots_extent}
 use Rattle.std.specs.Result.{result_ok}
@@ -31,26 +30,6 @@ use Rattle.mpw_tiles.specs.Plan.{Tiling, greatest_distance, plan_of, tiles, tile
 use Rattle.mpw_tiles.specs.Placed.{WindowsLieInPlane}
 use Rattle.mpw_tiles.specs.Internal.Placed.{nearest_point}
 use Rattle.mpw_tiles.proofs.Added.{added_to_none}
-
--- ---- near boxes
-
-pub record AreClose (b : Box2) : Type 0 where
-  pub x0 : IsClose b.x0
-  pub y0 : IsClose b.y0
-  pub x1 : IsClose b.x1
-  pub y1 : IsClose b.y1
-
-close : (z : ℤ) → is_near z ≡ true → IsClose z
-close z e =
-    let h = and_parts _ _ e in record { low = le_from_test _ _ h.0; high = le_from_test _ _ h.1 }
-
-pub close_box : (b : Box2) → is_box_near b ≡ true → AreClose b
-unfolding is_box_near
-close_box b e =
-    let p = and_parts _ _ e in
-    let q = and_parts _ _ p.0 in
-    let r = and_parts _ _ q.0 in
-    record { x0 = close b.x0 r.0; y0 = close b.y0 r.1; x1 = close b.x1 q.1; y1 = close b.y1 p.1 }
 
 -- what a least or a greatest of numbers that fit is, as code shows it
 pub fitting : (f : ℤ → ℤ → ℤ) (a b r : ℤ) → SFits w64 a → SFits w64 b → SFits w64 r
@@ -115,36 +94,6 @@ unfolding roots_extent
 hull_last ss roots i so_far whole h e = sym (hull_none so_far)
     ∙ ap (λ rest. hull so_far (roots_extent ss rest)) (sym (drop_all i roots h)) ∙ e
 
-abbrev IsNearOption : Option Box2 → Type 0
-IsNearOption o = IfSome o (λ b. is_box_near b ≡ true)
-
-near_min : (a b : ℤ) → IsClose a → IsClose b → is_near (int_min a b) ≡ true
-near_min a b h k = and_from _ _ (test_from_le (neg_ℤ (pos (2 ^ 30))) (int_min a b)
-    (omega (arith, ints, clamps))) (test_from_le (int_min a b) (pos (2 ^ 30))
-    (omega (arith, ints, clamps)))
-
-near_max : (a b : ℤ) → IsClose a → IsClose b → is_near (int_max a b) ≡ true
-near_max a b h k = and_from _ _ (test_from_le (neg_ℤ (pos (2 ^ 30))) (int_max a b)
-    (omega (arith, ints, clamps))) (test_from_le (int_max a b) (pos (2 ^ 30))
-    (omega (arith, ints, clamps)))
-
-near_joined : (a b : Box2) → is_box_near a ≡ true → is_box_near b ≡ true
-    → is_box_near (joined a b) ≡ true
-unfolding is_box_near
-near_joined a b e f =
-    let h = close_box a e in
-    let k = close_box b f in
-    and_from _ _
-    (and_from _ _
-    (and_from _ _ (near_min a.x0 b.x0 h.x0 k.x0) (near_min a.y0 b.y0 h.y0 k.y0))
-    (near_max a.x1 b.x1 h.x1 k.x1))
-    (near_max a.y1 b.y1 h.y1 k.y1)
-
-pub near_hull : (a b : Option Box2) → IsNearOption a → IsNearOption b → IsNearOption (hull a b)
-near_hull None b h k = k
-near_hull (Some a) None h k = h
-near_hull (Some a) (Some b) h k = near_joined a b h k
-
 -- ---- plans
 
 least_distance : (n : ℕ) (rules : List Rule) → n ≤ 65535 → All IsRule rules
@@ -160,7 +109,7 @@ windows_in_plane law deck extent d o n tile s u w =
     let m : greatest_distance deck.rules ≤ 65535 = least_distance 0 deck.rules (omega arith)
     d.rules in
     let r = law (plan_of extent deck).grid (plan_of extent deck).margin tile (2 ^ 30) (omega arith)
-    o u (record { left = h.x0.low; right = h.x1.high; bottom = h.y0.low; top = h.y1.high }) in
+    o u (record { left = h.x0.above; right = h.x1.below; bottom = h.y0.above; top = h.y1.below }) in
     let i = SquareIn-from_test (tile_window (plan_of extent deck) tile) s w in
     record {
       left = omega (arith, ints);

@@ -1,12 +1,13 @@
 -- The squares of placed boxes and shapes.
 use Rattle.std.proofs.Common.{◌≡◌, ℕ, zero, suc, ◌+◌, ◌<◌, Bool, true, false, if◌then◌else◌, ◌||◌, List, [], ◌∷◌, ◌++◌, length, get_or, take, Option, Some, ◌⊎◌, inl, inr, refl, sym, subst, ap, ◌∙◌, arith}
-use Rattle.std.specs.Prelude.{◌↔◌, ℤ, pos, neg_ℤ, ◌-ℤ◌}
+use Rattle.std.specs.Prelude.{◌↔◌, pos, neg_ℤ, ◌-ℤ◌}
 use Rattle.std.proofs.lemmas.Bool.{false≢true}
 use Rattle.std.proofs.lemmas.Int.{ints}
 use Rattle.std.proofs.lemmas.List.Folds.{list_any_more}
 use Rattle.mpw_region.proofs.Held.{Held-push_left, Held-push_new, Held-push_cases}
 use Rattle.mpw_geom.specs.declared.plane.Box2.{Box2}
 use Rattle.mpw_geom.specs.declared.plane.Layer.{Layer}
+use Rattle.mpw_geom.proofs.Chains.{same_square}
 use Rattle.mpw_geom.specs.declared.placing.Placing.{Placing}
 use Rattle.mpw_geom.specs.Plane.{Square, has_square, any_has_square}
 use Rattle.mpw_geom.specs.Placing.{is_mirrored, quarter_turns, times, mirrored_square, turned_square, moved_square, oriented_square, placed_square}
@@ -21,10 +22,6 @@ use Rattle.mpw_tiles.proofs.Added.{AgreeInWindows, either}
 use Rattle.mpw_tiles.specs.Shown.{layer_of, ShowsSquare, IsShown}
 
 -- ---- the square that a placing takes to a square
-
-same_square : (a b : Square) → a.column ≡ b.column → a.row ≡ b.row → a ≡ b
-same_square a b e f = ap (λ (p : ℤ × ℤ). let c : Square = record { column = p.0; row = p.1 } in c)
-    (let k : (let q : ℤ × ℤ = (a.column, a.row) in q) ≡ (b.column, b.row) = cc in k)
 
 pub record Before (t : Placing) (s : Square) : Type 0 where
   pub square : Square

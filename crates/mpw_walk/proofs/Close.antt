@@ -13,10 +13,10 @@ use Rattle.mpw_geom.specs.Placing.{is_mirrored, quarter_turns, times, mirrored_p
 use Rattle.mpw_geom.proofs.Tests.{le_from_test, test_from_PointIn, PointIn-from_test, PointIn}
 use Rattle.mpw_geom.proofs.Turns.{placed_points}
 use Rattle.mpw_hier.specs.Items.{Item, placed_again, placed_item}
+use Rattle.mpw_hier.proofs.Placings.{again_point}
 use Rattle.mpw_hier.specs.Boxes.{joined, hull, element_box, placed_box, item_box, extent_of, is_near, is_box_near}
 use Rattle.mpw_walk.specs.Near.{IsClose, IsClosePoint, IsCloseItem, corner_of}
 use Rattle.mpw_walk.specs.Frames.{IsShort, IsWithin}
-use Rattle.mpw_walk.proofs.Placings.{placed_point_again}
 
 -- ---- a placing between close points
 
@@ -63,7 +63,7 @@ short_placing t i h l =
     let there =
     subst (λ c. IsClosePoint (placed_point (placed_again t i.placing) c)) same l.close in
     within_between t (placed_point i.placing h.corner) h.close
-    (subst IsClosePoint (placed_point_again t i.placing h.corner) there)
+    (subst IsClosePoint (again_point t i.placing h.corner) there)
 
 -- ---- boxes and the points in them
 
@@ -235,7 +235,7 @@ placed_close t items d near =
         λ k d' lt. let h = covers box some k d' lt in record {
           corner = h.corner;
           is = h.is;
-          close = subst IsClosePoint (sym (placed_point_again t _ h.corner))
+          close = subst IsClosePoint (sym (again_point t _ h.corner))
               (close_in (placed_box t box) _ near (placed_in t box _ h.covered));
         }
 

@@ -1,5 +1,5 @@
 -- Placings one behind another, and what they place.
-use Rattle.std.proofs.Common.{◌≡◌, ℕ, zero, suc, Bool, true, false, pos, negsuc, ◌+ℤ◌, refl, sym, ap, ◌∙◌, arith, List, [], ◌∷◌, map, Option, Some, None, if◌then◌else◌}
+use Rattle.std.proofs.Common.{◌≡◌, pos, negsuc, ◌+ℤ◌, refl, sym, ap, ◌∙◌, arith, List, [], ◌∷◌, map, Option, Some, None, if◌then◌else◌}
 use Rattle.std.specs.Prelude.{int_lt, option_map}
 use Rattle.std.proofs.lemmas.Int.{ints}
 use Rattle.mpw_geom.specs.declared.plane.Box2.{Box2}
@@ -7,63 +7,15 @@ use Rattle.mpw_geom.specs.declared.plane.Orient.{Orient}
 use Rattle.mpw_geom.specs.declared.plane.Orient.TheVariants.{R0, R90, R180, R270, M0, M90, M180, M270}
 use Rattle.mpw_geom.specs.declared.plane.Point.{Point}
 use Rattle.mpw_geom.specs.declared.placing.Placing.{Placing}
-use Rattle.mpw_geom.specs.Placing.{is_mirrored, quarter_turns, by_orient, times, mirrored_point, turned_point, moved_point, oriented_point, placed_point}
-use Rattle.mpw_geom.proofs.Chains.{same_point, placed-placed_point}
+use Rattle.mpw_geom.specs.Placing.{by_orient, mirrored_point, turned_point, moved_point, oriented_point, placed_point}
+use Rattle.mpw_geom.proofs.Chains.{same_point}
 use Rattle.mpw_hier.specs.Items.{Item, mirrored, turned, placed_again, placed_item}
 use Rattle.mpw_hier.specs.Boxes.{placed_box}
 use Rattle.mpw_hier.specs.Placed.{BoxesArePlacedAgain}
+use Rattle.mpw_hier.proofs.Placings.{oriented_again, again_point}
 use Rattle.mpw_walk.specs.Turns.{Turn, enter, give, placed_turn}
 
 -- ---- orientations
-
-turns_go : {A B : Type 0} (turn : A → A) (turn' : B → B) (f : A → B)
-    → ((a : A) → f (turn a) ≡ turn' (f a)) → (n : ℕ) (a : A)
-    → f (times turn n a) ≡ times turn' n (f a)
-turns_go turn turn' f g zero a = refl
-turns_go turn turn' f g (suc n) a = g (times turn n a) ∙ ap turn' (turns_go turn turn' f g n a)
-
--- what goes with the mirror and with the turn goes with each orientation
-orients_go : {A B : Type 0} (mirror turn : A → A) (mirror' turn' : B → B) (f : A → B)
-    → ((a : A) → f (mirror a) ≡ mirror' (f a)) → ((a : A) → f (turn a) ≡ turn' (f a))
-    → (o : Orient) (a : A) → f (by_orient mirror turn o a) ≡ by_orient mirror' turn' o (f a)
-orients_go m t m' t' f h g o a =
-    turns_go t t' f g (quarter_turns o) (if is_mirrored o then m a else a)
-    ∙ ap (times t' (quarter_turns o)) (go (is_mirrored o))
-  where
-    go : (b : Bool) → f (if b then m a else a) ≡ (if b then m' (f a) else f a)
-    go true = h a
-    go false = refl
-
-mirrored_acts : (p : Point) (o : Orient)
-    → oriented_point (mirrored o) p ≡ mirrored_point (oriented_point o p)
-unfolding oriented_point
-mirrored_acts p R0 = refl
-mirrored_acts p R90 = same_point _ _ (omega (arith, ints)) (omega (arith, ints))
-mirrored_acts p R180 = same_point _ _ (omega (arith, ints)) (omega (arith, ints))
-mirrored_acts p R270 = same_point _ _ (omega (arith, ints)) (omega (arith, ints))
-mirrored_acts p M0 = same_point _ _ (omega (arith, ints)) (omega (arith, ints))
-mirrored_acts p M90 = same_point _ _ (omega (arith, ints)) (omega (arith, ints))
-mirrored_acts p M180 = same_point _ _ (omega (arith, ints)) (omega (arith, ints))
-mirrored_acts p M270 = same_point _ _ (omega (arith, ints)) (omega (arith, ints))
-
-turned_acts : (p : Point) (o : Orient)
-    → oriented_point (turned o) p ≡ turned_point (oriented_point o p)
-unfolding oriented_point
-turned_acts p R0 = refl
-turned_acts p R90 = refl
-turned_acts p R180 = refl
-turned_acts p R270 = same_point _ _ (omega (arith, ints)) (omega (arith, ints))
-turned_acts p M0 = refl
-turned_acts p M90 = refl
-turned_acts p M180 = refl
-turned_acts p M270 = same_point _ _ (omega (arith, ints)) (omega (arith, ints))
-
-pub oriented_again : (o i : Orient) (p : Point) → oriented_point (by_orient mirrored turned o i) p
-    ≡ oriented_point o (oriented_point i p)
-unfolding oriented_point
-oriented_again o i p =
-    orients_go mirrored turned mirrored_point turned_point (λ (a : Orient). oriented_point a p)
-    (mirrored_acts p) (turned_acts p) o i
 
 -- an orientation is known by where it takes one point
 abbrev probe : Point
@@ -97,12 +49,6 @@ same_placing a b e f =
     let h : ◌≡◌ {A = Placing} (record { orient = a.orient; by = a.by })
     (record { orient = b.orient; by = b.by }) = cc in h
 
-pub placed_point_again : (a b : Placing) (p : Point)
-    → placed_point (placed_again a b) p ≡ placed_point a (placed_point b p)
-unfolding placed_again
-placed_point_again a b p =
-    placed-placed_point b a (placed_again a b) p (oriented_again a.orient b.orient p) refl
-
 pub placed_again_again : (a b c : Placing)
     → placed_again (placed_again a b) c ≡ placed_again a (placed_again b c)
 unfolding placed_again
@@ -111,7 +57,7 @@ placed_again_again a b c =
     same_placing _ _ (same_orient _ _ (λ p. oriented_again (o a.orient b.orient) c.orient p
     ∙ oriented_again a.orient b.orient (oriented_point c.orient p)
     ∙ ap (oriented_point a.orient) (sym (oriented_again b.orient c.orient p))
-    ∙ sym (oriented_again a.orient (o b.orient c.orient) p))) (placed_point_again a b c.by)
+    ∙ sym (oriented_again a.orient (o b.orient c.orient) p))) (again_point a b c.by)
 
 -- the placing that is one and then another, as it is computed
 pub then_is : (inner outer result : Placing) → result.by ≡ placed_point outer inner.by
@@ -130,7 +76,7 @@ then_is inner outer result by points =
 
     go : (p : Point) → moved_point result.by (oriented_point result.orient p) ≡ moved_point
         result.by (oriented_point (by_orient mirrored turned outer.orient inner.orient) p)
-    go p = points p ∙ sym (placed_point_again outer inner p)
+    go p = points p ∙ sym (again_point outer inner p)
         ∙ ap (λ (d : Point). moved_point d
         (oriented_point (by_orient mirrored turned outer.orient inner.orient) p)) (sym by)
 

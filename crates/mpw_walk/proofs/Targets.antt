@@ -2,8 +2,8 @@
 use Rattle.std.proofs.Common.{◌≡◌, ℕ, ◌-◌, ◌<◌, ◌≤◌, List, length, take, Option, Some, sym, ap, subst, ◌∙◌, arith}
 use Rattle.std.specs.Prelude.{slice_get, IfSome}
 use Rattle.std.specs.Borrow.{Bor}
-use Rattle.std.proofs.lemmas.Option.{slice_get_within, slice_get-get_or, get_or_from_slice_get}
-use Rattle.std.proofs.lemmas.List.{length-take, get_or-take}
+use Rattle.std.proofs.lemmas.Option.{slice_get_within, slice_get-get_or}
+use Rattle.std.proofs.lemmas.List.{length-take}
 use Rattle.mpw_elements.specs.declared.element.Element.TheVariants as elements
 use Rattle.mpw_elements.specs.declared.element.Reference.{Reference}
 use Rattle.mpw_library.specs.Places.{place_of}
@@ -13,6 +13,7 @@ use Rattle.mpw_hier.specs.declared.node.Target.TheVariants as targets
 use Rattle.mpw_hier.specs.declared.submission.Submission.{Submission}
 use Rattle.mpw_hier.specs.Nodes.{IsTarget, IsOwn, IsOuter, AreNodes}
 use Rattle.mpw_hier.specs.Values.{structure_items, flats}
+use Rattle.mpw_hier.proofs.Tops.{front_get}
 use Rattle.mpw_walk.specs.declared.frame.Frame.{Frame}
 use Rattle.mpw_walk.specs.Internal.Named.{NamesAreWalked}
 use Rattle.mpw_walk.specs.Frames.{IsFrame}
@@ -21,16 +22,6 @@ use Rattle.mpw_walk.proofs.Fronts.{one}
 use Rattle.mpw_walk.proofs.Nexts.{frame_child, same_reference}
 use Rattle.mpw_walk.proofs.Shapes.{IsChild}
 use Rattle.mpw_walk.proofs.Shows.{front_shows, top_shows, outer_shows}
-
--- what a list has in front
-front_get : {X : Type 0} (n : ℕ) (xs : List X) (k : ℕ) (x : X) → slice_get (take n xs) k ≡ Some x
-    → slice_get xs k ≡ Some x
-front_get n xs k x is =
-    let within = slice_get_within (take n xs) k x is in
-    let lt : k < n = omega (arith, within, length-take n xs) in
-    let here : k < length xs = omega (arith, within, length-take n xs) in
-    slice_get-get_or xs k x here ∙ ap (λ y. Some y) (sym (get_or-take n xs k x lt)
-    ∙ get_or_from_slice_get (take n xs) k x x is)
 
 next_child : (ss : List Submission) (f : Frame) (q : IsFrame ss f) (target : Target) (r : Reference)
     (x : IsNext f target r) → (k : IsChild q.submission (flats (take f.submission ss))
@@ -72,7 +63,8 @@ pub own_within : (ss : List Submission) (f : Frame) (q : IsFrame ss f) (target :
     → place < length f.nodes.now
 own_within ss f q target r x place is =
     let o = own_is ss f q target r x place is in
-    slice_get_within f.nodes.now place o.node (front_get q.place f.nodes.now place o.node o.is)
+    slice_get_within f.nodes.now place o.node
+    (front_get q.place f.nodes.now place o.node o.is).1
 
 pub own_shows : (law : NamesAreWalked) (ss : List Submission) (f : Frame) (q : IsFrame ss f)
     (target : Target) (r : Reference) (x : IsNext f target r) (place : ℕ)
@@ -81,7 +73,7 @@ pub own_shows : (law : NamesAreWalked) (ss : List Submission) (f : Frame) (q : I
 own_shows law ss f q target r x place is g w s at =
     let o = own_is ss f q target r x place is in
     let node = one (slice_get f.nodes.now place) o.node g.node.now
-    (front_get q.place f.nodes.now place o.node o.is) w.node_is in
+    (front_get q.place f.nodes.now place o.node o.is).1 w.node_is in
     let same = one (slice_get ss f.submission) q.submission s q.is at in
     let named : place_of s.library r.name ≡ Some g.node.now.structure =
     subst (λ (t : Submission). place_of t.library r.name ≡ Some g.node.now.structure) same

@@ -1,4 +1,5 @@
-use Rattle.mpw_tiles.proofs.Looking.{hull_more, hull_last, near_hull}
+use Rattle.mpw_hier.proofs.Nearness.{near_hull}
+use Rattle.mpw_tiles.proofs.Looking.{hull_more, hull_last}
 use Rattle.mpw_tiles.proofs.extent.roots_extent.Goals as goal
 
 pub loop-root-preserved : goal.loop-root-preserved
