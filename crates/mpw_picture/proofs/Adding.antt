@@ -1,40 +1,34 @@
 -- The squares of placed boxes and shapes, as they are added to the rectangles of a window.
-use Rattle.std.proofs.Common.{◌≡◌, ℕ, ◌+◌, ◌<◌, Bool, true, false, ◌||◌, List, [], ◌∷◌, ◌++◌, length, get_or, take, Option, Some, None, ◌⊎◌, inl, inr, refl, sym, subst, ap, ◌∙◌, arith}
-use Rattle.std.specs.Prelude.{Contains, All, ◌↔◌, ℤ, pos, neg_ℤ, ◌-ℤ◌, ◌≤ℤ◌, ◌<ℤ◌}
+use Rattle.std.proofs.Common.{◌≡◌, ℕ, true, List, [], ◌∷◌, ◌++◌, ◌⊎◌, inl, inr, sym, subst, ap, ◌∙◌, arith}
+use Rattle.std.specs.Prelude.{Contains, ◌↔◌, ◌≤ℤ◌}
 use Rattle.std.specs.Int.{int_min, int_max}
-use Rattle.std.proofs.lemmas.Bool.{false≢true, and_from}
+use Rattle.std.proofs.lemmas.Bool.{and_from}
 use Rattle.std.proofs.lemmas.Int.{ints, clamps}
 use Rattle.std.proofs.lemmas.List.Elements.{Contains-push_cases, All-weaker, All-contains_itself}
 use Rattle.mpw_region.proofs.Active.{kept_from, kept}
 use Rattle.mpw_region.proofs.Held.{Held-nil, Held-push_left, Held-push_new, Held-push_cases}
 use Rattle.mpw_geom.specs.declared.plane.Box2.{Box2}
 use Rattle.mpw_geom.specs.declared.plane.Layer.{Layer}
-use Rattle.mpw_geom.specs.Plane.{Square, has_square, any_has_square, HasArea, IsBoxInPlane}
+use Rattle.mpw_geom.specs.Plane.{Square, has_square, HasArea, IsBoxInPlane}
 use Rattle.mpw_geom.proofs.Tests.{SquareIn, SquareIn-from_test, test_from_SquareIn, test_from_le}
-use Rattle.mpw_shapes.specs.Element.{element_has}
 use Rattle.mpw_hier.specs.Items.{Item}
 use Rattle.mpw_tiles.specs.declared.listing.Rectangle.{Rectangle}
 use Rattle.mpw_tiles.specs.Listing.{IsListed, HasSquareOf}
-use Rattle.mpw_tiles.specs.Shown.{layer_of, ShowsSquare, IsShown}
+use Rattle.mpw_tiles.specs.Shown.{ShowsSquare, IsShown}
 use Rattle.mpw_tiles.specs.Laws.{SquaresLieInBoxes}
 use Rattle.mpw_tiles.specs.Snapshots.{Snapshot, shown}
 use Rattle.mpw_hier.specs.Boxes.{item_box}
 use Rattle.mpw_walk.specs.Window.{do_meet, is_met, items_met}
 use Rattle.mpw_picture.specs.Drawn.{LiesIn, ShowShapes}
-use Rattle.mpw_picture.specs.Internal.Adding.{clipped, HasPlacedSquare, AddsIn}
-
-abbrev Shows : Type 1
-Shows = Layer → ℕ → Square → Type 0
+use Rattle.mpw_picture.specs.Internal.Adding.{clipped, AddsIn}
+use Rattle.mpw_tiles.specs.Placed.{IsSquareInPlane}
+use Rattle.mpw_tiles.proofs.Added.{either, none_more, next_more, same_more}
+use Rattle.mpw_tiles.proofs.Showing.{rectangle_of}
 
 -- the same in the window
 abbrev pub AgreeIn : Box2 → (Layer → ℕ → Square → Type 0) → (Layer → ℕ → Square → Type 0) → Type 0
 AgreeIn w P Q = (s : Square) (layer : Layer) (origin : ℕ) → has_square w s ≡ true
     → P layer origin s ↔ Q layer origin s
-
-abbrev pub either : (Layer → ℕ → Square → Type 0) → (Layer → ℕ → Square → Type 0) → Layer → ℕ
-    → Square
-    → Type 0
-either P Q layer origin s = P layer origin s ⊎ Q layer origin s
 
 -- ---- adding
 
@@ -42,52 +36,36 @@ pub adds_none : (w : Box2) (old : List Rectangle) (P : Layer → ℕ → Square 
     → ((s : Square) (layer : Layer) (origin : ℕ) → has_square w s ≡ true → P layer origin s → ⊥)
     → AddsIn w old old P
 adds_none w old P none = record {
-  squares = λ s layer origin u. (
-    λ l. inl l,
-    λ p. elim p [ inl l ↦ l | inr q ↦ absurd (none s layer origin u q) ],
-  );
+  squares = λ s layer origin u. none_more (none s layer origin u);
   inside = λ r c. inl c;
 }
 
 pub adds_next : (w : Box2) (a b c : List Rectangle) (P Q R : Layer → ℕ → Square → Type 0)
     → AgreeIn w (either P Q) R → AddsIn w a b P → AddsIn w b c Q → AddsIn w a c R
 adds_next w a b c P Q R agree f g = record {
-  squares = λ s layer origin u. (to s layer origin u, from s layer origin u);
+  squares = λ s layer origin u.
+      next_more (agree s layer origin u) (f.squares s layer origin u) (g.squares s layer origin u);
   inside = λ r l. elim (g.inside r l) [ inl m ↦ f.inside r m | inr q ↦ inr q ];
 }
-  where
-    to : (s : Square) (layer : Layer) (origin : ℕ) → has_square w s ≡ true
-        → IsListed c layer origin s → IsListed a layer origin s ⊎ R layer origin s
-    to s layer origin u l = elim ((g.squares s layer origin u).0 l) [
-      | inl m ↦ elim ((f.squares s layer origin u).0 m)
-          [ inl k ↦ inl k | inr p ↦ inr ((agree s layer origin u).0 (inl p)) ]
-      | inr q ↦ inr ((agree s layer origin u).0 (inr q))
-    ]
-
-    from : (s : Square) (layer : Layer) (origin : ℕ) → has_square w s ≡ true
-        → IsListed a layer origin s ⊎ R layer origin s → IsListed c layer origin s
-    from s layer origin u (inl k) = (g.squares s layer origin u).1
-        (inl ((f.squares s layer origin u).1 (inl k)))
-    from s layer origin u (inr r) = elim ((agree s layer origin u).1 r) [
-      | inl p ↦ (g.squares s layer origin u).1 (inl ((f.squares s layer origin u).1 (inr p)))
-      | inr q ↦ (g.squares s layer origin u).1 (inr q)
-    ]
 
 pub adds_same : (w : Box2) (a b : List Rectangle) (P R : Layer → ℕ → Square → Type 0)
     → AgreeIn w P R → AddsIn w a b P → AddsIn w a b R
 adds_same w a b P R agree f = record {
-  squares = λ s layer origin u. (
-    λ l. elim ((f.squares s layer origin u).0 l)
-        [ inl k ↦ inl k | inr p ↦ inr ((agree s layer origin u).0 p) ],
-    λ p. elim p [
-      | inl k ↦ (f.squares s layer origin u).1 (inl k)
-      | inr r ↦ (f.squares s layer origin u).1 (inr ((agree s layer origin u).1 r))
-    ],
-  );
+  squares = λ s layer origin u. same_more (agree s layer origin u) (f.squares s layer origin u);
   inside = f.inside;
 }
 
 -- ---- what a rectangle has in the window
+
+pub in_plane : (w : Box2) (s : Square) → IsBoxInPlane w → has_square w s ≡ true → IsSquareInPlane s
+in_plane w s plane u =
+    let h = SquareIn-from_test w s u in
+    record {
+      left = omega (arith, ints);
+      right = omega (arith, ints);
+      bottom = omega (arith, ints);
+      top = omega (arith, ints);
+    }
 
 clipped_in : (w b : Box2) (s : Square) → SquareIn w s → SquareIn b s → SquareIn (clipped w b) s
 clipped_in w b s h k = record {
@@ -107,9 +85,6 @@ clipped_out w b s h = record {
 
 some_area : (b : Box2) (s : Square) → SquareIn b s → HasArea b
 some_area b s h = record { width = omega (arith, ints); height = omega (arith, ints) }
-
-abbrev pub rectangle_of : Box2 → Layer → ℕ → Rectangle
-rectangle_of area own number = record { area = area; layer = own; origin = number }
 
 -- one that has no area there adds nothing
 pub adds_missed : (w : Box2) (r : Rectangle) (area : Box2) (old : List Rectangle)
@@ -177,53 +152,6 @@ adds_pushed w r area old new e some is =
     subst (λ xs. AddsIn w old xs (HasSquareOf r))
     (sym (is ∙ ap (λ b. old ++ rectangle_of b r.layer r.origin ∷ []) e))
     (adds_clipped w r old (subst HasArea e some))
-
--- ---- shapes
-
-same_layer : (a b : Layer) → (let some : Option Layer = Some a in some) ≡ Some b → a ≡ b
-same_layer a b e = cc
-
--- a reference shows nothing
-pub no_layer : (item : Item) → layer_of item.element ≡ None → (layer : Layer) (origin : ℕ)
-    (s : Square) → ShowsSquare item layer origin s → ⊥
-no_layer item e layer origin s h = none (sym e ∙ h.on_layer)
-  where
-    none : (let n : Option Layer = None in n) ≡ Some layer → ⊥
-    none k = cc
-
--- the boxes of a shape, placed, are the shape's squares
-pub boxes_show : (w : Box2) (item : Item) (boxes : List Box2) (own : Layer)
-    → layer_of item.element ≡ Some own
-    → ((s : Square) → any_has_square boxes s ≡ element_has item.element s)
-    → AgreeIn w (HasPlacedSquare boxes item.placing own item.origin) (ShowsSquare item)
-boxes_show w item boxes own e same s layer origin u = (
-  λ p. record {
-    on_layer = e ∙ ap Some p.on_layer;
-    of_origin = p.of_origin;
-    square = p.square;
-    has = sym (same p.square) ∙ p.has;
-    placed = p.placed;
-  },
-  λ p. record {
-    on_layer = same_layer own layer (sym e ∙ p.on_layer);
-    of_origin = p.of_origin;
-    square = p.square;
-    has = same p.square ∙ p.has;
-    placed = p.placed;
-  },
-)
-
--- ---- lists of shapes
-
-pub shown_more : (w : Box2) (done : List Item) (item : Item)
-    → AgreeIn w (either (IsShown done) (ShowsSquare item)) (IsShown (done ++ item ∷ []))
-shown_more w done item s layer origin u = (
-  λ p. elim p [
-    | inl l ↦ Held-push_left (λ (i : Item). ShowsSquare i layer origin s) done item l
-    | inr q ↦ Held-push_new (λ (i : Item). ShowsSquare i layer origin s) done item q
-  ],
-  λ l. Held-push_cases (λ (i : Item). ShowsSquare i layer origin s) done item l,
-)
 
 -- ---- what a walk within the window leaves out
 

@@ -2,7 +2,7 @@
 use Rattle.std.proofs.Common.{◌≡◌, w64, SFits, to_z, of_z, ℤ, refl, ap, arith, rules}
 use Rattle.std.specs.Prelude.{◌-ℤ◌}
 use Rattle.std.specs.Int.{w128}
-use Rattle.std.proofs.lemmas.Int.{ints, to_z-of_z}
+use Rattle.std.proofs.lemmas.Int.{to_z-of_z}
 use Rattle.mpw_picture.specs.declared.size.Corners.{Corners}
 
 wide : (z : ℤ) → SFits w64 z → SFits w128 z

@@ -1,7 +1,6 @@
 -- Windows lie in the plane.
 use Rattle.std.proofs.Common.{ℕ, ℤ, arith}
 use Rattle.std.specs.Prelude.{◌-ℤ◌, ◌+ℤ◌, pos}
-use Rattle.std.specs.Int.{int_min, int_max}
 use Rattle.std.proofs.lemmas.Int.{ints, clamps}
 use Rattle.mpw_geom.specs.declared.plane.Box2.{Box2}
 use Rattle.mpw_geom.specs.Plane.{IsCoordinate, IsBoxInPlane}

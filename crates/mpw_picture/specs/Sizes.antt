@@ -1,5 +1,5 @@
 -- Sizes of a drawing: 1000 pixels are the window's longer side.
-use Rattle.std.specs.Prelude.{ℕ, ◌+◌, ◌-◌, ◌*◌, ◌/◌, max, ℤ, ◌-ℤ◌, List, [], ◌∷◌, fold, nat_le, if◌then◌else◌}
+use Rattle.std.specs.Prelude.{ℕ, ◌+◌, ◌-◌, ◌*◌, ◌/◌, ◌-ℤ◌, List, [], ◌∷◌, fold, nat_le, if◌then◌else◌}
 use Rattle.mpw_geom.specs.declared.plane.Box2.{Box2}
 use Rattle.mpw_picture.specs.declared.size.Corners.{Corners}
 use Rattle.mpw_picture.specs.Windows.{side, longer_side}

@@ -2,7 +2,7 @@
 ghost use Rattle.std.specs.Prelude.{◌≡◌, ◌<◌, ◌^◌, ◌*◌, length};
 ghost use Rattle.std.specs.List.{flat_map, enumerate_from};
 ghost use Rattle.mpw_picture.specs.Text.{bar_line, bar_text, swatch, swatches, count_of, row_head, row_end, row_text, legend_head, legend_text};
-ghost use Rattle.mpw_report.specs.Writing.{Adds};
+ghost use Rattle.mpw_writing.specs.Writing.{Adds};
 
 use crate::colour::{layer_colour, rule_colour};
 use crate::picture::{Mark, Picture};
@@ -10,7 +10,8 @@ use crate::size::{bar_length, drawing_height, longer_side};
 use itoa::Buffer;
 use mpw_deck::{Check, Rule};
 use mpw_geom::{Box2, Layer};
-use mpw_report::{put, put_micrometres, put_rule};
+use mpw_report::{put_micrometres, put_rule};
+use mpw_writing::put;
 use std::io::{self, Write};
 
 /// Writes the scale bar behind its length.

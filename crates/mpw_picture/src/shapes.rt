@@ -4,28 +4,17 @@ ghost use Rattle.std.specs.Prelude.{◌≡◌, ◌↔◌, All, IfOk, IsTrue, OnO
 ghost use Rattle.mpw_elements.specs.Element.{IsElement};
 ghost use Rattle.mpw_geom.specs.Plane.{HasArea, IsBoxInPlane};
 ghost use Rattle.mpw_tiles.specs.Listing.{HasSquareOf};
-ghost use Rattle.mpw_tiles.specs.Shown.{layer_of, ShowsSquare, IsShown};
+ghost use Rattle.mpw_tiles.specs.Shown.{ShowsSquare, IsShown};
 ghost use Rattle.mpw_walk.specs.Turns.{given};
 ghost use Rattle.mpw_walk.specs.Way.{item_of};
 ghost use Rattle.mpw_picture.specs.Drawn.{ShowShapes};
-ghost use Rattle.mpw_picture.specs.Internal.Adding.{clipped, HasPlacedSquare, AddsIn};
+ghost use Rattle.mpw_tiles.specs.Internal.Listing.{HasPlacedSquare};
+ghost use Rattle.mpw_picture.specs.Internal.Adding.{clipped, AddsIn};
 
-use mpw_elements::Element;
 use mpw_geom::{Box2, Layer, Placing};
-use mpw_tiles::{Rectangle, Snapshot, placed_area, squares_lie_in_boxes};
+use mpw_tiles::{Rectangle, Snapshot, layer_of, placed_area, squares_lie_in_boxes};
 use mpw_walk::{Placed, Walk};
 use std::alloc::{AllocError, Global};
-
-/// The layer of a shape; a reference has none.
-fn layer_of(element: &Element) -> Option<Layer>
-    ensures { result ≡ layer_of element.now }
-{
-    match element {
-        Element::Boundary(boundary) => Some(boundary.layer),
-        Element::Path(path) => Some(path.layer),
-        Element::Reference(_) => None,
-    }
-}
 
 /// What two boxes share.
 fn clipped(window: &Box2, area: &Box2) -> Box2

@@ -1,6 +1,6 @@
 //! The whole picture's text.
 ghost use Rattle.mpw_picture.specs.Text.{head_text, picture_text};
-ghost use Rattle.mpw_report.specs.Writing.{Adds};
+ghost use Rattle.mpw_writing.specs.Writing.{Adds};
 
 use crate::drawing::put_drawing;
 use crate::legend::put_legend;
@@ -10,7 +10,8 @@ use crate::size::drawing_height;
 use itoa::Buffer;
 use mpw_deck::Rule;
 use mpw_geom::{Box2, Name};
-use mpw_report::{put, put_name};
+use mpw_report::put_name;
+use mpw_writing::put;
 use std::io::{self, Write};
 
 /// Writes what stands before the drawing.

@@ -3,9 +3,7 @@ use Rattle.std.specs.Prelude.{◌≡◌, ℕ, true, List, Contains, ◌⊎◌, �
 use Rattle.std.specs.Int.{int_min, int_max}
 use Rattle.mpw_geom.specs.declared.plane.Box2.{Box2}
 use Rattle.mpw_geom.specs.declared.plane.Layer.{Layer}
-use Rattle.mpw_geom.specs.declared.placing.Placing.{Placing}
-use Rattle.mpw_geom.specs.Plane.{Square, has_square, any_has_square}
-use Rattle.mpw_geom.specs.Placing.{placed_square}
+use Rattle.mpw_geom.specs.Plane.{Square, has_square}
 use Rattle.mpw_tiles.specs.declared.listing.Rectangle.{Rectangle}
 use Rattle.mpw_tiles.specs.Listing.{IsListed}
 use Rattle.mpw_picture.specs.Drawn.{LiesIn}
@@ -18,15 +16,6 @@ clipped window b = record {
   x1 = int_min window.x1 b.x1;
   y1 = int_min window.y1 b.y1;
 }
-
--- A box of the list, placed, has the unit square, and these are its layer and origin.
-pub record HasPlacedSquare (boxes : List Box2) (placing : Placing) (own : Layer) (number : ℕ)
-    (layer : Layer) (origin : ℕ) (s : Square) : Type 0 where
-  pub on_layer : own ≡ layer
-  pub of_origin : number ≡ origin
-  pub square : Square
-  pub has : any_has_square boxes square ≡ true
-  pub placed : placed_square placing square ≡ s
 
 -- Rectangles were added that lie in the window and have just its squares of P.
 pub record AddsIn (window : Box2) (old new : List Rectangle) (P : Layer → ℕ → Square → Type 0) :

@@ -1,4 +1,4 @@
-use Rattle.std.proofs.Common.{◌+◌, take, subst, sym, ap}
+use Rattle.std.proofs.Common.{take, subst}
 use Rattle.std.specs.List.{flat_map, enumerate_from}
 use Rattle.std.specs.Io.KnownBytes.{Appends}
 use Rattle.std.proofs.KnownBytes.{Appends-trans}

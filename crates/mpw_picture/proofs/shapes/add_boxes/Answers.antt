@@ -1,8 +1,8 @@
 use Rattle.std.proofs.Common.{[], take}
 use Rattle.mpw_tiles.specs.Listing.{HasSquareOf}
-use Rattle.mpw_picture.specs.Internal.Adding.{HasPlacedSquare}
-use Rattle.mpw_picture.proofs.Adding.{adds_none, adds_next}
-use Rattle.mpw_picture.proofs.Boxes.{no_boxes, boxes_more}
+use Rattle.mpw_tiles.specs.Internal.Listing.{HasPlacedSquare}
+use Rattle.mpw_tiles.proofs.Showing.{no_boxes, boxes_at}
+use Rattle.mpw_picture.proofs.Adding.{adds_none, adds_next, in_plane}
 use Rattle.mpw_picture.proofs.shapes.add_boxes.Goals as goal
 
 pub loop-b-init : goal.loop-b-init
@@ -22,7 +22,7 @@ loop-b-preserved c =
     adds_next c.args.window.now c.args.rectangles.now.items c.loop-b.rectangles.items
     c.add_rectangle.new.rectangles.items (HasPlacedSquare (take i boxes) t own number)
     (HasSquareOf (record { area = c.placed_area.result; layer = own; origin = number })) _
-    (boxes_more c.args.window.now boxes i _ c.placed_area.result t own number c.requires.plane
-    c.loop-b-test.true c.placed_area.ensures.squares)
+    (λ s layer origin u. boxes_at boxes i _ c.placed_area.result t own number c.loop-b-test.true
+    c.placed_area.ensures.squares layer origin s (in_plane c.args.window.now s c.requires.plane u))
     c.loop-b.invariant
     c.in_ok-add_rectangle.ensures.ok

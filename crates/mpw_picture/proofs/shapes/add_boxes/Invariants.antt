@@ -1,5 +1,6 @@
-use Rattle.std.proofs.Common.{[], take}
-use Rattle.mpw_picture.specs.Internal.Adding.{AddsIn, HasPlacedSquare}
+use Rattle.std.proofs.Common.{take}
+use Rattle.mpw_tiles.specs.Internal.Listing.{HasPlacedSquare}
+use Rattle.mpw_picture.specs.Internal.Adding.{AddsIn}
 use Rattle.mpw_picture.proofs.shapes.add_boxes.Given as goal
 
 abbrev pub invariant-loop-b : goal.invariant-loop-b

@@ -1,4 +1,4 @@
-use Rattle.std.proofs.Common.{◌≡◌, true, false, ◌∙◌, sym}
+use Rattle.std.proofs.Common.{◌∙◌, sym}
 use Rattle.std.proofs.lemmas.Bool.{false≢true}
 use Rattle.mpw_picture.proofs.Adding.{adds_missed, adds_pushed}
 use Rattle.mpw_picture.proofs.shapes.add_rectangle.Goals as goal

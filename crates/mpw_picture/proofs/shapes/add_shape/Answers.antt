@@ -1,8 +1,9 @@
 use Rattle.std.proofs.Common.{◌∙◌, sym}
 use Rattle.mpw_walk.specs.Way.{item_of}
 use Rattle.mpw_tiles.specs.Shown.{ShowsSquare}
-use Rattle.mpw_picture.specs.Internal.Adding.{HasPlacedSquare}
-use Rattle.mpw_picture.proofs.Adding.{adds_none, adds_same, no_layer, boxes_show}
+use Rattle.mpw_tiles.specs.Internal.Listing.{HasPlacedSquare}
+use Rattle.mpw_tiles.proofs.Showing.{boxes_show}
+use Rattle.mpw_picture.proofs.Adding.{adds_same}
 use Rattle.mpw_picture.proofs.shapes.add_shape.Goals as goal
 
 pub returns : goal.returns
@@ -12,7 +13,7 @@ returns c =
     record {
       ok = adds_same c.args.window.now c.args.rectangles.now.items c.add_boxes.new.rectangles.items
           (HasPlacedSquare boxes item.placing c.in-Some.layer item.origin) (ShowsSquare item)
-          (boxes_show c.args.window.now item boxes c.in-Some.layer
-          (sym c.layer_of.ensures ∙ c.in-Some.is) c.in_ok-boxes.ensures.squares)
+          (λ s layer origin u. boxes_show item boxes c.in-Some.layer
+          (sym c.layer_of.ensures ∙ c.in-Some.is) c.in_ok-boxes.ensures.squares layer origin s)
           (rw c.as_slice.ensures.value at c.in_ok-add_boxes.ensures.ok);
     }

@@ -5,7 +5,8 @@ use Rattle.mpw_region.proofs.Held.{Held-nil}
 use Rattle.mpw_walk.specs.Turns.{given}
 use Rattle.mpw_walk.specs.Way.{item_of}
 use Rattle.mpw_tiles.specs.Shown.{ShowsSquare, IsShown}
-use Rattle.mpw_picture.proofs.Adding.{adds_none, adds_next, shown_more}
+use Rattle.mpw_tiles.proofs.Showing.{shown_more}
+use Rattle.mpw_picture.proofs.Adding.{adds_none, adds_next}
 use Rattle.mpw_picture.proofs.shapes.add_shapes.Goals as goal
 
 pub loop-placed-init : goal.loop-placed-init
@@ -25,6 +26,7 @@ loop-placed-preserved c =
           ∙ ap (λ rest. done ++ rest) (sym c.in-Some.ensures.some) ∙ c.loop-placed.invariant.1,
       adds_next c.args.window.now c.args.rectangles.now.items c.loop-placed.rectangles.items
           c.add_shape.new.rectangles.items (IsShown done) (ShowsSquare item)
-          (IsShown (done ++ item ∷ [])) (shown_more c.args.window.now done item)
+          (IsShown (done ++ item ∷ []))
+          (λ s layer origin u. shown_more done item layer origin s)
           c.loop-placed.invariant.2 c.in_ok-add_shape.ensures.ok,
     )
