@@ -9,7 +9,7 @@ use Rattle.mpw_roles.proofs.RoleLemmas.{names-with_role, at_least-fewer, contain
 pub use Rattle.mpw_geom.proofs.Linked.{same_name, name_eq-refl, or_right, or_cases, some_name, any_name}
 pub use Rattle.mpw_roles.proofs.HierarchyLemmas.{contains-filter, contains-without, names-with_juniors, pairs-with_pair, pairs-without_pair, pairs-without_role, names-without_role, roles-left}
 pub use Rattle.mpw_roles.proofs.RoleLemmas.{contains-append, at_least-fewer, juniors-with_role}
-pub use Rattle.mpw_roles.proofs.SearchLemmas.{first_role}
+pub use Rattle.mpw_roles.proofs.RoleLemmas.{first_role}
 
 both_parts : (a b : Bool) → (a && b) ≡ true → (a ≡ true) × (b ≡ true)
 both_parts true b e = (refl, e)

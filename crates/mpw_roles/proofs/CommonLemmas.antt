@@ -1,9 +1,9 @@
 -- How many places two sets have in common.
-use Rattle.std.proofs.Common.{◌≡◌, ℕ, zero, suc, ◌+◌, ◌*◌, ◌/◌, ◌%◌, ◌^◌, ◌<◌, ◌≤◌, Bool, true, false, cond, ◌&&◌, ◌||◌, List, [], ◌∷◌, length, filter, get_or, eqb, min, refl, sym, ap, subst, ◌∙◌, true≢false, eq-eqb, inl, inr, arith}
+use Rattle.std.proofs.Common.{◌≡◌, ℕ, zero, suc, ◌+◌, ◌*◌, ◌/◌, ◌%◌, ◌^◌, ◌<◌, ◌≤◌, Bool, true, cond, ◌&&◌, get_or, eqb, min, refl, sym, ap, ◌∙◌, eq-eqb, inl, inr, arith}
 use Rattle.std.proofs.Math.Nat.{two-pow-succ, suc-add, zero-add}
 use Rattle.std.specs.Prelude.{nat_lt, bit_and, count_by, count_ones}
 use Rattle.std.specs.Int.{bit_at}
-use Rattle.std.specs.List.{range_with_len, IsDistinct, AllByRecursion}
+use Rattle.std.specs.List.{range_with_len}
 use Rattle.std.proofs.lemmas.Bool.{lt-ltb, cases_eq, ne_eqb, and_right}
 use Rattle.std.proofs.lemmas.List.Sums.{sum_by-cons, count_by-le-length}
 use Rattle.std.proofs.lemmas.List.FromFn.{length-range_with_len}

@@ -7,7 +7,7 @@ use Rattle.mpw_roles.specs.Hierarchy.{Name, Hierarchy, role_names, is_role, imme
 use Rattle.mpw_roles.specs.Order.{are_distinct}
 use Rattle.mpw_roles.specs.declared.pairs.Pair.{Pair}
 use Rattle.mpw_roles.specs.Internal.Table.{name_of, juniors_of, entry_of, entries_of, has_number, are_once, is_between, is_pair, is_end}
-use Rattle.mpw_roles.proofs.NumberLemmas.{or_later, eqb-same, eqb-back, name-number, own-number, contains-number, contains-unnumbered, place-number, place-unnumbered, distinct-numbered, has-more, has-filter}
+use Rattle.mpw_roles.proofs.NumberLemmas.{or_later, eqb-same, eqb-back, name-number, contains-number, contains-unnumbered, place-number, place-unnumbered, distinct-numbered, has-more, has-filter}
 use Rattle.mpw_roles.proofs.PositionLemmas.{item-there}
 use Rattle.mpw_roles.proofs.RoleLemmas.{refuted, and_parts, and_both, not_true, neither}
 
@@ -135,9 +135,11 @@ same-entries : (ns : List Name) (ps qs : List Pair) (os : List ℕ)
     → ((m : ℕ) → has_number os m ≡ true → juniors_of qs m ≡ juniors_of ps m)
     → entries_of ns ps os ≡ entries_of ns qs os
 same-entries ns ps qs [] same = refl
-same-entries ns ps qs (o ∷ os) same = λ t.
-    (name_of ns o, map (name_of ns)
-    (sym (same o (ap (λ b. b || has_number os o) (eqb-same o))) t))
+same-entries ns ps qs (o ∷ os) same = λ t. (
+  name_of ns o,
+  map (name_of ns)
+      (sym (same o (ap (λ b. b || has_number os o) (eqb-same o))) t),
+)
     ∷ same-entries ns ps qs os (λ m there. same m (or_later (eqb m o) _ there)) t
 
 with-juniors-entries : (ns : List Name) (ps qs : List Pair) (os : List ℕ)
@@ -382,9 +384,10 @@ pub more-names : (ns ms : List Name) (ps : List Pair) (os : List ℕ)
     → ((k : ℕ) → k < length ns → name_of ms k ≡ name_of ns k)
     → entries_of ms ps os ≡ entries_of ns ps os
 more-names ns ms ps [] known below kept = refl
-more-names ns ms ps (o ∷ os) known below kept = λ t.
-    (kept o (known o (ap (λ b. b || has_number os o) (eqb-same o))) t,
-    mapped (juniors_of ps o) (below o) t)
+more-names ns ms ps (o ∷ os) known below kept = λ t. (
+  kept o (known o (ap (λ b. b || has_number os o) (eqb-same o))) t,
+  mapped (juniors_of ps o) (below o) t,
+)
     ∷ more-names ns ms ps os (λ k there. known k (or_later (eqb k o) _ there)) below kept t
   where
     mapped : (ks : List ℕ) → ((k : ℕ) → has_number ks k ≡ true → k < length ns)

@@ -268,7 +268,7 @@ no_longer (e ∷ es) r =
     (cond (not b) (e ∷ entries_without es r) (entries_without es r)) ≤ suc (length es))
     [ true ↦ omega arith | false ↦ omega arith ]
 
-shrinks : (h : Hierarchy) (r : Name) → length (without_role h r) ≤ length h
+pub shrinks : (h : Hierarchy) (r : Name) → length (without_role h r) ≤ length h
 shrinks h r =
     let kept = no_longer h r in
     let mapped : length (without_role h r) ≡ length (entries_without h r) =

@@ -8,7 +8,6 @@ pub mod MaskedLemmas
 pub mod NamedLemmas
 pub mod NumberLemmas
 pub mod PlacesLemmas
-pub mod SearchLemmas
 pub mod TableLemmas
 pub mod BitLemmas
 pub mod PositionLemmas

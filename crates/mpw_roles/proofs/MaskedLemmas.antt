@@ -1,6 +1,6 @@
 -- The masks of the table of roles, pair by pair.
-use Rattle.std.proofs.Common.{◌≡◌, ℕ, zero, suc, ◌<◌, ◌≤◌, Bool, true, false, cond, ◌||◌, ◌&&◌, inl, inr, List, [], ◌∷◌, ◌++◌, length, map, take, eqb, eq-eqb, Some, None, is_some, refl, sym, ap, subst, ◌∙◌, true≢false, arith}
-use Rattle.std.specs.Prelude.{nat_lt, position}
+use Rattle.std.proofs.Common.{◌≡◌, ℕ, zero, suc, ◌<◌, ◌≤◌, true, false, cond, ◌||◌, ◌&&◌, inl, inr, List, [], ◌∷◌, ◌++◌, length, take, eqb, eq-eqb, Some, None, is_some, refl, sym, ap, subst, ◌∙◌, true≢false, arith}
+use Rattle.std.specs.Prelude.{position}
 use Rattle.std.specs.List.{list_all}
 use Rattle.std.specs.Cmp.{both_ways}
 use Rattle.std.proofs.lemmas.Bool.{cases_eq, cases_lt, lt-ltb, le-ltb, ne_eqb}
@@ -10,11 +10,11 @@ use Rattle.mpw_geom.specs.Links.{same, chain}
 use Rattle.mpw_geom.proofs.Linked.{same_name, name_eq-refl, leads-sound, leads-complete}
 use Rattle.mpw_roles.specs.declared.mask.Mask.{Mask}
 use Rattle.mpw_roles.specs.declared.pairs.Pair.{Pair}
-use Rattle.mpw_roles.specs.Hierarchy.{Name, Hierarchy, role_names, is_role, immediate_juniors, with_pair}
+use Rattle.mpw_roles.specs.Hierarchy.{Name, role_names, is_role, immediate_juniors}
 use Rattle.mpw_roles.specs.Internal.Table.{name_of, entry_of, entries_of, has_number, is_between, IsTable}
 use Rattle.mpw_roles.specs.Mask.{has}
 use Rattle.mpw_roles.specs.Order.{at_least, IsAtLeast}
-use Rattle.mpw_roles.specs.Places.{name_at, is_place_under, mask_at, IsMasked}
+use Rattle.mpw_roles.specs.Places.{name_at, mask_at, IsMasked}
 use Rattle.mpw_roles.proofs.EntryLemmas.{role-number, place-found, distinct-entries, with-pair-entries}
 use Rattle.mpw_roles.proofs.MarksLemmas.{length-names}
 use Rattle.mpw_roles.proofs.NumberLemmas.{name-number, own-number}
@@ -80,12 +80,15 @@ masked-alone ns ps os ms table long own =
 -- the table without its last pair
 pub table-front : (ns : List Name) (ps : List Pair) (p : Pair) (os : List ℕ)
     → IsTable ns (ps ++ p ∷ []) os → IsTable ns ps os × (is_between os p ≡ true)
-table-front ns ps p os table = (record {
-  names_once = table.names_once;
-  once = table.once;
-  known = table.known;
-  between = (split ps table.between).0;
-}, (split ps table.between).1)
+table-front ns ps p os table = (
+  record {
+    names_once = table.names_once;
+    once = table.once;
+    known = table.known;
+    between = (split ps table.between).0;
+  },
+  (split ps table.between).1,
+)
   where
     split : (qs : List Pair) → list_all (is_between os) (qs ++ p ∷ []) ≡ true
         → (list_all (is_between os) qs ≡ true) × (is_between os p ≡ true)

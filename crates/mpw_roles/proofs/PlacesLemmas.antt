@@ -1,24 +1,20 @@
 -- Places of roles, and the masks of each change of a hierarchy.
-use Rattle.std.proofs.Common.{[], ◌≡◌, ℕ, zero, suc, ◌+◌, ◌<◌, ◌≤◌, Bool, true, false, cond, ◌||◌, ◌&&◌, ◌⊎◌, inl, inr, List, ◌∷◌, ◌++◌, length, get_or, set, eqb, eq-eqb, Some, refl, sym, ap, subst, ◌∙◌, true≢false, arith, length-append, add-one, drop, take}
-use Rattle.std.specs.Prelude.{nat_lt, position, replicate}
+use Rattle.std.proofs.Common.{[], ◌≡◌, ℕ, zero, suc, ◌+◌, ◌<◌, ◌≤◌, Bool, true, false, cond, ◌||◌, ◌&&◌, ◌⊎◌, inl, inr, List, ◌∷◌, ◌++◌, length, get_or, eqb, eq-eqb, Some, refl, sym, ap, ◌∙◌, true≢false, arith, length-append, add-one, drop, take}
+use Rattle.std.specs.Prelude.{nat_lt, position}
 use Rattle.std.specs.Cmp.{both_ways}
-use Rattle.std.specs.List.{IsDistinct}
 use Rattle.std.proofs.lemmas.List.{take_all}
-use Rattle.std.proofs.lemmas.Bool.{cases_eq, cases_lt, lt-ltb, ltb-true, le-ltb, ne_eqb, and_right}
+use Rattle.std.proofs.lemmas.Bool.{cases_eq, cases_lt, lt-ltb, le-ltb, ne_eqb, and_right}
 use Rattle.mpw_geom.specs.Names.{name_eq, contains_name}
 use Rattle.mpw_geom.specs.Links.{chain}
 use Rattle.mpw_geom.proofs.Linked.{same_name, name_eq-refl, leads-sound, leads-complete, chain-trans}
 use Rattle.mpw_roles.specs.declared.mask.Mask.{Mask}
 use Rattle.mpw_roles.specs.Hierarchy.{Name, Hierarchy, role_names, is_role, is_immediate, immediate_juniors, with_role, with_pair}
-use Rattle.mpw_roles.specs.Marks.{Marks, marked_names}
-use Rattle.mpw_roles.specs.Internal.Marks.{marked, IsReached, Keeps, IsExpanded}
+use Rattle.mpw_roles.specs.Marks.{marked_names}
 use Rattle.mpw_roles.specs.Mask.{has}
 use Rattle.mpw_roles.specs.Order.{at_least, is_below, roles_below, IsHierarchy}
 use Rattle.mpw_roles.specs.Places.{name_at, is_place_under, is_place_below, marks_from, mask_at, IsMasked}
 use Rattle.mpw_roles.proofs.HierarchyLemmas.{names-with_juniors, length-with_juniors, pairs-with_pair, with_pair-chains, juniors-with_juniors}
 use Rattle.mpw_roles.proofs.RoleLemmas.{refuted, juniors-with_role, at_least-fewer, chains-fewer, contains-append}
-use Rattle.mpw_roles.proofs.MarksLemmas.{set-first, read-first, distinct-first, length-names}
-use Rattle.mpw_roles.proofs.SearchLemmas.{search-end}
 use Rattle.mpw_roles.proofs.BitLemmas.{length-marks_from, mark-at, marked_names-places, name-found, name-is_role, stranger-above, stranger-below, mask-none}
 
 -- one senior more, joined or no role
@@ -52,37 +48,6 @@ pub mask-found : (h : Hierarchy) (ms : List Mask) → IsMasked h ms → (a : Nam
     → has (mask_at ms i) p ≡ is_place_under h a p
 mask-found h ms masked a i at p = let above = name-found h a i at in masked.exact i above.0 p
     ∙ ap (λ k. is_place_under h k p) above.1
-
--- what a search from one place leaves
-pub searched-place : (h : Hierarchy) (i : ℕ) (ms : Marks) → IsDistinct name_eq (role_names h)
-    → i < length h → length h ≤ 512 → length h ≤ length ms
-    → IsReached h (set (replicate 512 false) i true) ms
-    → Keeps h (set (replicate 512 false) i true) ms → IsExpanded h ms ms
-    → (q : ℕ) → (nat_lt q (length h) && get_or ms q false) ≡ is_place_under h (name_at h i) q
-searched-place h i ms apart inside small long reached keeps closed q =
-    elim (nat_lt q (length h)) as (λ b. nat_lt q (length h) ≡ b
-    → (b && get_or ms q false) ≡ (b && at_least h (name_at h i) (name_at h q))) [
-      | true ↦ λ is.
-          let within : q < length h = ltb-true q (length h) is in
-          let r = name_at h q in
-          sym (sym (read-first h ms r q (omega (arith, length-names h)) (omega arith)
-          (name_eq-refl r) (λ k below. distinct-first (role_names h) apart q k
-          (omega (arith, length-names h)) below)))
-          ∙ search-end h ms (name_at h i ∷ []) 512 small
-          (subst (λ (m : Marks). IsReached h m ms) start reached)
-          (subst (λ (m : Marks). Keeps h m ms) start keeps) closed r (name-is_role h q within)
-          ∙ or_false (at_least h (name_at h i) r)
-      | false ↦ λ _. refl
-    ] refl
-  where
-    or_false : (b : Bool) → (b || false) ≡ b
-    or_false true = refl
-    or_false false = refl
-
-    start : set (replicate 512 false) i true ≡ marked h (replicate 512 false) (name_at h i)
-    start = set-first h (replicate 512 false) (name_at h i) i (omega (arith, length-names h))
-        (name_eq-refl (name_at h i)) (λ k below. distinct-first (role_names h) apart i k
-        (omega (arith, length-names h)) below)
 
 name-kept : (h : Hierarchy) (r : Name) (p : ℕ) → p < length h
     → name_at (with_role h r) p ≡ name_at h p

@@ -1,5 +1,5 @@
 -- Names, each once, in two lists.
-use Rattle.std.proofs.Common.{◌≡◌, ℕ, ◌+◌, length, None, Some, Option, is_some, arith, Bool, true, false, cond, not, ◌||◌, ◌&&◌, List, [], ◌∷◌, ◌++◌, refl, sym, ap, ◌∙◌, true≢false, append_assoc}
+use Rattle.std.proofs.Common.{◌≡◌, ℕ, ◌+◌, length, None, Some, Option, is_some, arith, true, false, cond, not, ◌||◌, List, [], ◌∷◌, ◌++◌, refl, sym, ap, ◌∙◌, true≢false, append_assoc}
 use Rattle.std.specs.Prelude.{position}
 use Rattle.std.specs.Option.{option_map}
 use Rattle.mpw_geom.specs.Names.{name_eq, contains_name}

@@ -1,9 +1,9 @@
 -- The table of roles with other numbers.
-use Rattle.std.proofs.Common.{◌≡◌, ℕ, zero, suc, ◌+◌, ◌<◌, ◌≤◌, Bool, true, false, cond, not, ◌||◌, ◌&&◌, inl, inr, List, [], ◌∷◌, ◌++◌, length, map, filter, take, get_or, eqb, eq-eqb, Some, None, is_some, refl, sym, ap, subst, ◌∙◌, true≢false, arith}
-use Rattle.std.specs.Prelude.{position, slice_get, unwrap_or}
+use Rattle.std.proofs.Common.{◌≡◌, ℕ, zero, suc, ◌+◌, ◌<◌, ◌≤◌, true, false, cond, not, ◌||◌, inl, inr, List, [], ◌∷◌, ◌++◌, length, map, filter, take, get_or, eqb, eq-eqb, Some, None, is_some, refl, sym, ap, ◌∙◌, true≢false, arith}
+use Rattle.std.specs.Prelude.{position, unwrap_or}
 use Rattle.std.specs.List.{list_all, range_with_len}
 use Rattle.std.specs.Cmp.{both_ways}
-use Rattle.std.proofs.lemmas.Bool.{cases_eq, ne_eqb}
+use Rattle.std.proofs.lemmas.Bool.{cases_eq}
 use Rattle.std.proofs.lemmas.List.{take_more, map-append, get_or-map, length-map}
 use Rattle.std.proofs.lemmas.List.FromFn.{map-range_with_len_more}
 use Rattle.std.proofs.lemmas.List.Quantifiers.{position-Some}
@@ -11,7 +11,7 @@ use Rattle.mpw_geom.proofs.Linked.{or_cases}
 use Rattle.mpw_roles.specs.declared.pairs.Pair.{Pair}
 use Rattle.mpw_roles.specs.Hierarchy.{Name}
 use Rattle.mpw_roles.specs.Internal.Table.{name_of, juniors_of, entry_of, entries_of, has_number, are_once, is_between, place_in, placed_pair, IsTable}
-use Rattle.mpw_roles.proofs.NumberLemmas.{or_later, eqb-same, eqb-back, position-once, distinct-numbered}
+use Rattle.mpw_roles.proofs.NumberLemmas.{or_later, eqb-back, position-once, distinct-numbered}
 use Rattle.mpw_roles.proofs.PositionLemmas.{item-there, position-any}
 use Rattle.mpw_roles.proofs.RoleLemmas.{refuted, and_parts, and_both}
 

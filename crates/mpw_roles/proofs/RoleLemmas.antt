@@ -131,3 +131,10 @@ IsHierarchy-with_role h r room new is = record {
   where
     fewer : (a b : Name) → is_immediate (with_role h r) a b ≡ true → is_immediate h a b ≡ true
     fewer a b pair = ap (λ l. contains_name l b) (sym (juniors-with_role h r a)) ∙ pair
+
+-- the senior of a pair is a role
+pub first_role : (h : Hierarchy) (c d : Name) → is_immediate h c d ≡ true → is_role h c ≡ true
+first_role [] c d p = absurd (true≢false (sym p))
+first_role (e ∷ es) c d p = elim (name_eq c e.0) as
+    (λ b. contains_name (cond b e.1 (immediate_juniors es c)) d ≡ true → (b || is_role es c) ≡ true)
+    [ true ↦ λ _. refl | false ↦ λ q. first_role es c d q ] p

@@ -5,7 +5,7 @@ ghost use Rattle.mpw_roles.specs.Marks.{marked_names};
 ghost use Rattle.mpw_roles.specs.Places.{marks_from};
 
 use crate::Mask;
-use crate::roles::Table;
+use crate::table::Table;
 use mpw_geom::{Name, Names};
 use std::alloc::{AllocError, Global};
 use std::marker::Model;
@@ -17,10 +17,10 @@ fn push_marked(
     index: usize,
     names: &mut Names,
 ) -> Result<(), AllocError>
-    requires { index < length table.now.entries }
-    ensures { OnOk result (names.new ++ marked_names (drop (index + 1) table.now.entries) (drop (index + 1) (marks_from 0 (length table.now.entries) mask.now)) ≡ names.old ++ marked_names (drop index table.now.entries) (drop index (marks_from 0 (length table.now.entries) mask.now))) }
+    requires { index < length table.now }
+    ensures { OnOk result (names.new ++ marked_names (drop (index + 1) table.now) (drop (index + 1) (marks_from 0 (length table.now) mask.now)) ≡ names.old ++ marked_names (drop index table.now) (drop index (marks_from 0 (length table.now) mask.now))) }
 {
-    let Some((role, _)) = table.get_index(index) else {
+    let Some(role) = table.name(index) else {
         return Ok(());
     };
     if !mask.contains(index) {
@@ -44,13 +44,13 @@ impl<'a> Model for Below<'a> {
 
     ghost Value = { List (List ℕ) };
 
-    ghost view = { λ below. marked_names below.table.now.entries (marks_from 0 (length below.table.now.entries) below.mask) };
+    ghost view = { λ below. marked_names below.table.now (marks_from 0 (length below.table.now) below.mask) };
 }
 
 impl<'a> Below<'a> {
     /// The roles whose places the mask has. It takes no memory.
     pub(crate) fn new(table: &'a Table, mask: Mask) -> Below<'a>
-        ensures { result ≡ marked_names table.now.entries (marks_from 0 (length table.now.entries) mask) }
+        ensures { result ≡ marked_names table.now (marks_from 0 (length table.now) mask) }
     {
         Below { table, mask }
     }
@@ -59,7 +59,7 @@ impl<'a> Below<'a> {
     pub fn contains(&self, role: &Name) -> bool
         ensures { result ≡ contains_name self.now role.now }
     {
-        match self.table.get_index_of(role) {
+        match self.table.place(role) {
             Some(place) => self.mask.contains(place),
             None => false,
         }

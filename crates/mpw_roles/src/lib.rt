@@ -17,7 +17,6 @@ mod register;
 mod remask;
 mod renumber;
 mod roles;
-mod search;
 mod settled;
 mod table;
 

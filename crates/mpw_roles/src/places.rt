@@ -6,17 +6,17 @@ ghost use Rattle.mpw_roles.specs.Order.{IsHierarchy};
 ghost use Rattle.mpw_roles.specs.Places.{is_place_of};
 
 use crate::Mask;
-use crate::roles::Table;
+use crate::table::Table;
 use mpw_geom::Name;
 
 /// The places of those names that are roles: a look-up for each.
 pub(crate) fn places_of(table: &Table, names: &[Name]) -> Mask
-    requires { IsHierarchy table.now.entries }
-    ensures { (place : ℕ) → has result place ≡ is_place_of (role_names table.now.entries) names.now place }
+    requires { IsHierarchy table.now }
+    ensures { (place : ℕ) → has result place ≡ is_place_of (role_names table.now) names.now place }
 {
     let mut mask = Mask::new();
     for name in names {
-        if let Some(place) = table.get_index_of(name) {
+        if let Some(place) = table.place(name) {
             mask.insert(place);
         }
     }

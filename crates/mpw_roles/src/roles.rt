@@ -1,17 +1,16 @@
 //! The roles with their immediate juniors.
-ghost use Rattle.std.specs.Prelude.{◌≡◌, ◌⊎◌, ◌==◌, ◌<◌, ◌≤◌, ◌&&◌, ◌||◌, ℕ, List, [], ◌∷◌, ◌++◌, not, length, true, Ok, Err, IfOk, IfErr, IfSome, OnOk, OnErr, position};
-ghost use Rattle.indexmap.specs.IndexMap.{insert_entry};
-ghost use Rattle.mpw_geom.specs.Names.{name_eq, without_name, by_name};
-ghost use Rattle.mpw_roles.specs.Hierarchy.{Name as RoleName, Hierarchy, role_names, with_pair, is_role, is_immediate, immediate_juniors};
+ghost use Rattle.std.specs.Prelude.{◌≡◌, ◌⊎◌, ◌<◌, ◌≤◌, ℕ, List, [], ◌∷◌, length, true, Ok, Err, IfOk, IfErr, IfSome, OnOk, OnErr, position};
+ghost use Rattle.mpw_geom.specs.Names.{name_eq, by_name};
+ghost use Rattle.mpw_roles.specs.Hierarchy.{Name as RoleName, Hierarchy, role_names, with_pair, is_role, is_immediate};
 ghost use Rattle.mpw_roles.specs.Mask.{has};
 ghost use Rattle.mpw_roles.specs.Order.{at_least, roles_below, IsHierarchy};
 ghost use Rattle.mpw_roles.specs.Places.{mask_at, is_place_under, is_place_below, is_place_of, IsMasked};
 ghost use Rattle.mpw_roles.specs.Rows as rows;
 
 use crate::places::places_of;
-use crate::search::remask;
+use crate::remask::{join_places, write_own};
+use crate::table::Table;
 use crate::{Below, Mask, RolesFault};
-use indexmap::IndexMap;
 use mpw_geom::{Name, Names};
 use std::alloc::{AllocError, Global};
 use std::marker::Model;
@@ -19,9 +18,6 @@ use std::slice;
 
 /// The greatest number of roles.
 pub const MAX_ROLES: usize = 512;
-
-/// Each role with its immediate juniors.
-pub(crate) type Table = IndexMap<Name, Names>;
 
 /// Roles in the order in which they were added, each with its immediate juniors; and for the role at each place the mask
 /// of the places of the roles at or below it. There may be more masks than roles.
@@ -44,19 +40,9 @@ impl Model for Roles {
 
     ghost Value = { List (List ℕ × List (List ℕ)) };
 
-    ghost view = { λ roles. roles.table.entries };
+    ghost view = { λ roles. roles.table };
 
-    ghost invariant = { λ roles. IsRoles roles.table.entries roles.masks.items };
-}
-
-/// Gives a role these immediate juniors; a new role goes last.
-fn put(table: &mut Table, role: Name, juniors: Names) -> Result<(), RolesFault>
-    ensures ok { OnOk result (table.new.entries ≡ insert_entry name_eq table.old.entries role juniors) }
-    ensures memory { IfErr result (λ fault. fault ≡ RolesFault.Memory) }
-    ensures err { OnErr result (table.new.entries ≡ table.old.entries) }
-{
-    table.insert(role, juniors)?;
-    Ok(())
+    ghost invariant = { λ roles. IsRoles roles.table roles.masks.items };
 }
 
 /// Makes room for the mask of one more role.
@@ -73,44 +59,25 @@ fn reserve(masks: &mut Vec<Mask>, count: usize) -> Result<(), RolesFault>
     Ok(())
 }
 
-/// Writes the mask of a role that has no juniors: its own place.
-fn write_own(masks: &mut [Mask], place: usize)
-    requires within { place < length masks.old }
-    requires small { place < 512 }
-    ensures own { (other : ℕ) → has (mask_at masks.new place) other ≡ other == place }
-    ensures others { (role : ℕ) → role < place → mask_at masks.new role ≡ mask_at masks.old role }
-    ensures long { length masks.new ≡ length masks.old }
+/// The same masks, with room for one more.
+fn masks_copied(alloc: Global, masks: &[Mask]) -> Result<Vec<Mask>, AllocError>
+    ensures { IfOk result (λ copy. copy.items ≡ masks.now) }
 {
-    let mut own = Mask::new();
-    own.insert(place);
-    masks[place] = own;
-}
-
-/// Each mask that has the place of the senior gets the places of the junior's mask.
-fn join_places(masks: &mut [Mask], senior: usize, junior: usize)
-    requires senior { senior < length masks.old }
-    requires junior { junior < length masks.old }
-    ensures joined { (role : ℕ) → role < length masks.old → (place : ℕ) → has (mask_at masks.new role) place ≡ (has (mask_at masks.old role) place || (has (mask_at masks.old role) senior && has (mask_at masks.old junior) place)) }
-    ensures long { length masks.new ≡ length masks.old }
-{
-    let added = masks[junior];
-    for role in 0..masks.len() {
-        if masks[role].contains(senior) {
-            masks[role].add(&added);
-        }
-    }
+    let mut copy = Vec::with_capacity(alloc, masks.len().saturating_add(1))?;
+    copy.extend_from_slice(masks)?;
+    Ok(copy)
 }
 
 /// The masks after a new pair of roles.
 fn join(table: &Table, masks: &mut [Mask], senior: &Name, junior: &Name)
-    requires { length table.now.entries ≤ length masks.old }
-    ensures masked { (h : Hierarchy) → role_names h ≡ role_names table.now.entries → is_role h senior.now ≡ true → is_role h junior.now ≡ true → IsMasked h masks.old → IsMasked (with_pair h senior.now junior.now) masks.new }
+    requires { length table.now ≤ length masks.old }
+    ensures masked { (h : Hierarchy) → role_names h ≡ role_names table.now → is_role h senior.now ≡ true → is_role h junior.now ≡ true → IsMasked h masks.old → IsMasked (with_pair h senior.now junior.now) masks.new }
     ensures long { length masks.new ≡ length masks.old }
 {
-    let Some(above) = table.get_index_of(senior) else {
+    let Some(above) = table.place(senior) else {
         return;
     };
-    let Some(below) = table.get_index_of(junior) else {
+    let Some(below) = table.place(junior) else {
         return;
     };
     join_places(masks, above, below);
@@ -118,13 +85,13 @@ fn join(table: &Table, masks: &mut [Mask], senior: &Name, junior: &Name)
 
 /// The masks of the roles among the seniors, joined.
 fn joined(table: &Table, masks: &[Mask], seniors: &[Name]) -> Mask
-    requires hierarchy { IsHierarchy table.now.entries }
-    requires masked { IsMasked table.now.entries masks.now }
-    ensures { (place : ℕ) → has result place ≡ is_place_below table.now.entries seniors.now place }
+    requires hierarchy { IsHierarchy table.now }
+    requires masked { IsMasked table.now masks.now }
+    ensures { (place : ℕ) → has result place ≡ is_place_below table.now seniors.now place }
 {
     let mut mask = Mask::new();
     for senior in seniors {
-        if let Some(place) = table.get_index_of(senior) {
+        if let Some(place) = table.place(senior) {
             mask.add(&masks[place]);
         }
     }
@@ -137,14 +104,14 @@ impl Roles {
         ensures { result ≡ [] }
     {
         Roles {
-            table: IndexMap::new(alloc),
+            table: Table::new(alloc),
             masks: Vec::new(alloc),
         }
     }
 
     /// The allocator of the roles.
     pub fn allocator(&self) -> Global {
-        *self.table.allocator()
+        self.table.allocator()
     }
 
     /// The number of roles.
@@ -158,7 +125,7 @@ impl Roles {
     pub fn contains(&self, role: &Name) -> bool
         ensures { result ≡ is_role self.now role.now }
     {
-        self.table.contains_key(role)
+        self.table.place(role).is_some()
     }
 
     /// Adds a role, without pairs.
@@ -178,13 +145,12 @@ impl Roles {
         }
         let place = self.table.len();
         reserve(&mut self.masks, place)?;
-        let juniors = Names::new(*self.table.allocator());
-        put(&mut self.table, role, juniors)?;
+        self.table.add(role)?;
         write_own(&mut self.masks, place);
         Ok(())
     }
 
-    /// Removes a role with each pair that it is in. It takes no memory, and costs a search for each role.
+    /// Removes a role with each pair that it is in. It takes no memory, and costs a pass over the masks for each pair.
     ///
     /// # Errors
     /// `NoRole`. The roles are then as they were.
@@ -196,15 +162,8 @@ impl Roles {
         if !self.contains(role) {
             return Err(RolesFault::NoRole);
         }
-        self.table.retain(
-            |name: &Name, juniors: &mut Names| -> bool
-                ensures { (result ≡ not (name_eq role.entry.now name.now)) × (juniors.new ≡ without_name juniors.old role.entry.now) }
-            {
-                juniors.remove(role);
-                *role != *name
-            },
-        );
-        remask(&self.table, &mut self.masks);
+        self.table.remove(role);
+        self.table.remask(&mut self.masks);
         Ok(())
     }
 
@@ -227,8 +186,7 @@ impl Roles {
         if self.at_least(junior, senior) {
             return Err(RolesFault::Cycle);
         }
-        let juniors = self.juniors_with(senior, junior)?;
-        put(&mut self.table, senior.copy()?, juniors)?;
+        self.table.add_pair(senior, junior)?;
         join(&self.table, &mut self.masks, senior, junior);
         Ok(())
     }
@@ -245,9 +203,8 @@ impl Roles {
         if !self.is_immediate(senior, junior) {
             return Err(RolesFault::NoPair);
         }
-        let juniors = self.juniors_without(senior, junior)?;
-        put(&mut self.table, senior.copy()?, juniors)?;
-        remask(&self.table, &mut self.masks);
+        self.table.remove_pair(senior, junior);
+        self.table.remask(&mut self.masks);
         Ok(())
     }
 
@@ -255,38 +212,7 @@ impl Roles {
     pub fn is_immediate(&self, senior: &Name, junior: &Name) -> bool
         ensures { result ≡ is_immediate self.now senior.now junior.now }
     {
-        match self.table.get(senior) {
-            Some(juniors) => juniors.contains(junior),
-            None => false,
-        }
-    }
-
-    /// The immediate juniors of the senior, and one more.
-    fn juniors_with(&self, senior: &Name, junior: &Name) -> Result<Names, AllocError>
-        ensures { IfOk result (λ names. names ≡ immediate_juniors self.now senior.now ++ junior.now ∷ []) }
-    {
-        let mut juniors = self.immediate(senior)?;
-        juniors.push(junior.copy()?)?;
-        Ok(juniors)
-    }
-
-    /// The immediate juniors of the senior without one.
-    fn juniors_without(&self, senior: &Name, junior: &Name) -> Result<Names, AllocError>
-        ensures { IfOk result (λ names. names ≡ without_name (immediate_juniors self.now senior.now) junior.now) }
-    {
-        let mut juniors = self.immediate(senior)?;
-        juniors.remove(junior);
-        Ok(juniors)
-    }
-
-    /// The immediate juniors of a role.
-    fn immediate(&self, role: &Name) -> Result<Names, AllocError>
-        ensures { IfOk result (λ names. names ≡ immediate_juniors self.now role.now) }
-    {
-        match self.table.get(role) {
-            Some(juniors) => juniors.copy(),
-            None => Ok(Names::new(*self.table.allocator())),
-        }
+        self.table.is_immediate(senior, junior)
     }
 
     /// The place of a role: where it stands in the order of the roles, which is its bit in every mask. A look-up.
@@ -295,7 +221,7 @@ impl Roles {
         ensures within { IfSome result (λ place. place < length self.now) }
         ensures small { IfSome result (λ place. place < 512) }
     {
-        self.table.get_index_of(role)
+        self.table.place(role)
     }
 
     /// The places of those names that are roles. It takes no memory, and costs a look-up for each name.
@@ -309,7 +235,7 @@ impl Roles {
     pub fn mask(&self, role: &Name) -> Mask
         ensures { (place : ℕ) → has result place ≡ is_place_under self.now role.now place }
     {
-        match self.table.get_index_of(role) {
+        match self.table.place(role) {
             Some(place) => self.masks[place],
             None => Mask::new(),
         }
@@ -347,10 +273,7 @@ impl Roles {
     pub fn at_least(&self, senior: &Name, junior: &Name) -> bool
         ensures { result ≡ at_least self.now senior.now junior.now }
     {
-        match (
-            self.table.get_index_of(senior),
-            self.table.get_index_of(junior),
-        ) {
+        match (self.table.place(senior), self.table.place(junior)) {
             (Some(above), Some(below)) => self.masks[above].contains(below),
             _ => *senior == *junior,
         }
@@ -364,7 +287,7 @@ impl Roles {
         ensures { IfOk result (λ names. names ≡ by_name (roles_below self.now (role.now ∷ []))) }
     {
         let below = self.below(slice::from_ref(role));
-        let mut names = below.names(*self.table.allocator())?;
+        let mut names = below.names(self.table.allocator())?;
         names.sort()?;
         Ok(names)
     }
@@ -376,8 +299,8 @@ impl Roles {
     pub fn copy(&self) -> Result<Roles, AllocError>
         ensures { IfOk result (λ roles. roles ≡ self.now) }
     {
-        let table = self.table.clone()?;
-        let masks = self.masks.clone()?;
+        let table = self.table.copy()?;
+        let masks = masks_copied(self.table.allocator(), &self.masks)?;
         Ok(Roles { table, masks })
     }
 

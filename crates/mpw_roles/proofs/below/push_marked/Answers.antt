@@ -8,11 +8,10 @@ use Rattle.mpw_roles.proofs.below.push_marked.Goals as goal
 
 pub returns-then-not-contains : goal.returns-then-not-contains
 returns-then-not-contains c =
-    let h = c.args.table.now.entries in
+    let h = c.args.table.now in
     let ms = marks_from 0 (length h) c.args.mask.now in
     let i = c.args.index in
-    let e = marked_names-drop h ms i (c.in-Some.role.now, c.in-Some.field-0-1.now)
-    (sym c.in-Some.ensures.entry) (omega
+    let e = marked_names-drop h ms i c.in-Some.role.now (sym c.in-Some.ensures) (omega
     (arith, length-marks_from 0 (length h) c.args.mask.now)) in
     let mark = mark-at (length h) c.args.mask.now i (omega arith) in
     let rest = marked_names (drop (i + 1) h) (drop (i + 1) ms) in
@@ -22,11 +21,10 @@ returns-then-not-contains c =
 
 pub returns : goal.returns
 returns c =
-    let h = c.args.table.now.entries in
+    let h = c.args.table.now in
     let ms = marks_from 0 (length h) c.args.mask.now in
     let i = c.args.index in
-    let e = marked_names-drop h ms i (c.in-Some.role.now, c.in-Some.field-0-1.now)
-    (sym c.in-Some.ensures.entry) (omega
+    let e = marked_names-drop h ms i c.in-Some.role.now (sym c.in-Some.ensures) (omega
     (arith, length-marks_from 0 (length h) c.args.mask.now)) in
     let mark = mark-at (length h) c.args.mask.now i (omega arith) in
     let rest = marked_names (drop (i + 1) h) (drop (i + 1) ms) in

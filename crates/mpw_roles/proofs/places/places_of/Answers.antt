@@ -3,7 +3,6 @@ use Rattle.std.proofs.Common.{◌≡◌, ◌∙◌, ◌+◌, ◌||◌, sym, ap, 
 use Rattle.mpw_roles.specs.Hierarchy.{role_names}
 use Rattle.mpw_roles.specs.Mask.{has}
 use Rattle.mpw_roles.specs.Places.{is_place_of}
-use Rattle.mpw_roles.proofs.TableLemmas.{is_role-lookup}
 use Rattle.mpw_roles.proofs.PlacesLemmas.{item-cons}
 use Rattle.mpw_roles.proofs.NamedLemmas.{turn-place, turn-no_place}
 use Rattle.mpw_roles.proofs.places.places_of.Goals as goal
@@ -11,24 +10,24 @@ use Rattle.mpw_roles.proofs.places.places_of.Goals.{in-Some, in_default}
 
 pub loop-name-preserved : goal.loop-name-preserved
 loop-name-preserved c = λ q.
-    let h = c.args.table.now.entries in
+    let h = c.args.table.now in
     let n = c.name-item.result in
     let i = c.loop-name.name-index in
     let rest = drop (i + 1) c.args.names.now in
     let cons : drop i c.args.names.now ≡ n ∷ rest = item-cons c.args.names.now i n
     c.loop-name-test.true c.name-item.is in
     let before = has c.loop-name.mask q in
-    elim c.match-get_index_of.branch [
+    elim c.match-place.branch [
       | in-Some w ↦
           ap (λ m. has m q || is_place_of (role_names h) rest q) w.mask-is
           ∙ ap (λ t. t || is_place_of (role_names h) rest q) (w.insert.ensures q)
-          ∙ turn-place h c.requires n rest w.in-Some.place w.in-Some.ensures.index q before
+          ∙ turn-place h c.requires n rest w.in-Some.place w.in-Some.ensures.place q before
           ∙ ap (λ l. before || is_place_of (role_names h) l q) (sym cons)
           ∙ c.loop-name.invariant q
       | in_default w ↦
           ap (λ m. has m q || is_place_of (role_names h) rest q) w.mask-is
           ∙ turn-no_place h n rest q before
-          (sym (is_role-lookup h n) ∙ sym w.in_default.ensures.found)
+          (sym w.in_default.ensures.found)
           ∙ ap (λ l. before || is_place_of (role_names h) l q) (sym cons)
           ∙ c.loop-name.invariant q
     ]

@@ -7,5 +7,5 @@ use Rattle.mpw_roles.proofs.places.places_of.Given as goal
 -- the places so far and those to come are all
 abbrev pub invariant-loop-name : goal.invariant-loop-name
 invariant-loop-name l = (q : ℕ) → (has l.mask q
-    || is_place_of (role_names l.table.entries) (drop l.name-index l.names) q) ≡ is_place_of
-    (role_names l.table.entries) l.names q
+    || is_place_of (role_names l.table) (drop l.name-index l.names) q) ≡ is_place_of
+    (role_names l.table) l.names q

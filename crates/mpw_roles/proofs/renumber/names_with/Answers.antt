@@ -1,5 +1,5 @@
 -- The next name goes last.
-use Rattle.std.proofs.Common.{◌∙◌, ◌++◌, ◌∷◌, [], ap, sym, get_or, refl}
+use Rattle.std.proofs.Common.{◌∙◌, ◌++◌, ◌∷◌, [], sym, get_or, refl}
 use Rattle.std.proofs.lemmas.Option.{get_or_from_slice_get}
 use Rattle.mpw_roles.specs.Internal.Table.{name_of}
 use Rattle.mpw_roles.proofs.RenumberLemmas.{mapped-more}

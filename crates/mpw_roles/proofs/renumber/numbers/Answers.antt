@@ -1,6 +1,5 @@
 -- The next number goes last.
-use Rattle.std.proofs.Common.{◌≡◌, ◌∙◌, ◌+◌, ◌++◌, ◌∷◌, [], ℕ, List, zero, suc, ap, sym, refl, arith}
-use Rattle.std.specs.List.{range_with_len}
+use Rattle.std.proofs.Common.{◌∙◌, ◌++◌, ◌∷◌, [], ap, sym, arith}
 use Rattle.mpw_roles.proofs.RenumberLemmas.{range-more}
 use Rattle.mpw_roles.proofs.renumber.numbers.Goals as goal
 

@@ -1,5 +1,5 @@
 -- The next pair goes last.
-use Rattle.std.proofs.Common.{◌∙◌, ◌++◌, ◌∷◌, [], ap, sym, map, take, get_or, refl}
+use Rattle.std.proofs.Common.{◌∙◌, ◌++◌, ◌∷◌, [], sym, get_or, refl}
 use Rattle.mpw_roles.specs.Internal.Table.{placed_pair}
 use Rattle.mpw_roles.specs.declared.pairs.Pair.{Pair}
 use Rattle.mpw_roles.proofs.RenumberLemmas.{mapped-more}

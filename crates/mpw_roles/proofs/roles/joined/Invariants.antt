@@ -6,5 +6,5 @@ use Rattle.mpw_roles.proofs.roles.joined.Given as goal
 -- the places so far and those to come are all
 abbrev pub invariant-loop-senior : goal.invariant-loop-senior
 invariant-loop-senior l = (q : ℕ) → (has l.mask q
-    || is_place_below l.table.entries (drop l.senior-index l.seniors) q) ≡ is_place_below
-    l.table.entries l.seniors q
+    || is_place_below l.table (drop l.senior-index l.seniors) q) ≡ is_place_below
+    l.table l.seniors q

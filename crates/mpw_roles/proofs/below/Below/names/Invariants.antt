@@ -5,7 +5,7 @@ use Rattle.mpw_roles.proofs.below.Below.names.Given as goal
 
 -- the names so far and those to come are all
 abbrev pub invariant-loop-index : goal.invariant-loop-index
-invariant-loop-index l = l.names ++ marked_names (drop l.index l.self-inside.table.now.entries)
-    (drop l.index (marks_from 0 (length l.self-inside.table.now.entries) l.self-inside.mask))
-    ≡ marked_names l.self-inside.table.now.entries
-    (marks_from 0 (length l.self-inside.table.now.entries) l.self-inside.mask)
+invariant-loop-index l = l.names ++ marked_names (drop l.index l.self-inside.table.now)
+    (drop l.index (marks_from 0 (length l.self-inside.table.now) l.self-inside.mask))
+    ≡ marked_names l.self-inside.table.now
+    (marks_from 0 (length l.self-inside.table.now) l.self-inside.mask)

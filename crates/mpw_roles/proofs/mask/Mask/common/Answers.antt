@@ -1,5 +1,5 @@
 -- Each turn adds the places of a word.
-use Rattle.std.proofs.Common.{◌≡◌, ◌∙◌, ◌+◌, ◌*◌, ◌^◌, ◌<◌, ℕ, sym, ap, arith, get_or}
+use Rattle.std.proofs.Common.{◌≡◌, ◌∙◌, ◌+◌, ◌*◌, ◌^◌, ◌<◌, sym, ap, arith, get_or}
 use Rattle.std.specs.Prelude.{bit_and, count_ones}
 use Rattle.std.proofs.lemmas.Nat.{and_le_l}
 use lib.Count.{ones-le}

@@ -1,5 +1,5 @@
 -- The name is one of those in the set, or stands behind them.
-use Rattle.std.proofs.Common.{◌≡◌, ◌∙◌, ◌+◌, sym, ap, length, Some}
+use Rattle.std.proofs.Common.{◌∙◌, ◌+◌, sym, ap, length, Some}
 use Rattle.std.specs.Prelude.{position}
 use Rattle.std.specs.Option.{option_map}
 use Rattle.mpw_geom.specs.Names.{name_eq}

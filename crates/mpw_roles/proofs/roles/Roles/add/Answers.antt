@@ -1,30 +1,25 @@
 -- A new role goes last, without pairs.
-use Rattle.std.proofs.Common.{◌≡◌, ◌∙◌, sym, ap, subst, arith, false, [], ◌<◌, length, eqb}
-use Rattle.indexmap.specs.IndexMap.{insert_entry}
-use Rattle.mpw_geom.specs.Names.{name_eq}
+use Rattle.std.proofs.Common.{◌≡◌, ◌∙◌, sym, ap, subst, arith, false, ◌<◌, length, eqb}
 use Rattle.mpw_roles.specs.Hierarchy.{is_role, with_role}
 use Rattle.mpw_roles.specs.Mask.{has}
 use Rattle.mpw_roles.specs.Places.{IsRoles, mask_at}
 use Rattle.mpw_roles.proofs.RoleLemmas.{IsHierarchy-with_role}
 use Rattle.mpw_roles.proofs.PlacesLemmas.{IsMasked-with_role, written-back}
-use Rattle.mpw_roles.proofs.TableLemmas.{add-ok, insert-new}
+use Rattle.mpw_roles.proofs.TableLemmas.{add-ok}
 use Rattle.mpw_roles.proofs.roles.Roles.add.Goals as goal
 
 pub invariant_of-self-2 : goal.invariant_of-self-2
 invariant_of-self-2 c =
-    let h = c.self.inside.table.entries in
+    let h = c.self.inside.table in
     let new : is_role h c.args.role ≡ false = ap (λ k. is_role k c.args.role) c.self.view_is
     ∙ sym c.contains.ensures ∙ c.if-contains.false in
     let room : length h < 512 = let same = ap length c.self.view_is in omega arith in
-    let is : c.put.new.table.entries ≡ with_role h c.args.role = c.in_ok-put.ensures.ok
-    ∙ ap (insert_entry name_eq h c.args.role) c.new-juniors.ensures
-    ∙ insert-new h c.args.role new in
     let new_masks = c.write_own.new.masks in
-    let place = c.len-place.ensures.len in
+    let place = c.len-place.ensures in
     let back = written-back new_masks c.reserve.new.masks.items c.reserve.new.masks.len
     (omega arith) (omega arith) in
-    subst (IsRoles c.put.new.table.entries) (sym back)
-    (subst (λ k. IsRoles k new_masks) (sym is) (record {
+    subst (IsRoles c.add.new.self) (sym back)
+    (subst (λ k. IsRoles k new_masks) (sym c.in_ok-add.ensures.ok) (record {
       kept = IsHierarchy-with_role h c.args.role room new c.self.invariant.kept;
       masked = IsMasked-with_role h c.args.role c.self.inside.masks.items new_masks new
           c.self.invariant.kept c.self.invariant.masked (let more = c.in_ok-reserve.ensures.ok in
@@ -40,7 +35,9 @@ pub returns-clause-ok : goal.returns-clause-ok
 returns-clause-ok c =
     let h = c.args.self.now in
     let new : is_role h c.args.role ≡ false = sym c.contains.ensures ∙ c.if-contains.false in
-    let is : c.put.new.table.entries ≡ insert_entry name_eq h c.args.role [] =
-    c.in_ok-put.ensures.ok ∙ (λ i. insert_entry name_eq (c.self.view_is i) c.args.role
-    (c.new-juniors.ensures i)) in
-    add-ok h c.put.new.table.entries c.args.role new (omega arith) is
+    add-ok h c.add.new.self c.args.role new (omega arith)
+    (c.in_ok-add.ensures.ok ∙ ap (λ k. with_role k c.args.role) c.self.view_is)
+
+pub add-requires : goal.add-requires
+add-requires c = ap (λ k. is_role k c.args.role) c.self.view_is
+    ∙ sym c.contains.ensures ∙ c.if-contains.false

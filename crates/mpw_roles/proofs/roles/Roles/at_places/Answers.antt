@@ -7,7 +7,7 @@ use Rattle.mpw_roles.proofs.roles.Roles.at_places.Goals as goal
 
 pub returns : goal.returns
 returns c = λ seniors is.
-    let h = c.self.inside.table.entries in
+    let h = c.self.inside.table in
     c.new.ensures
     ∙ below-places h seniors c.args.mask.now
     (λ q. is q ∙ ap (λ k. is_place_below k seniors q) (sym c.self.view_is))

@@ -7,7 +7,7 @@ use Rattle.mpw_roles.proofs.roles.Roles.below.Goals as goal
 
 pub returns : goal.returns
 returns c =
-    let h = c.self.inside.table.entries in
+    let h = c.self.inside.table in
     let seniors = c.args.seniors.now in
     c.new.ensures
     ∙ below-places h seniors c.mask_below-mask.result (λ q. c.mask_below-mask.ensures q

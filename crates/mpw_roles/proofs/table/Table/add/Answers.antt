@@ -1,5 +1,5 @@
 -- The new number goes last, and no pair has it.
-use Rattle.std.proofs.Common.{◌≡◌, ◌∙◌, ◌<◌, ◌++◌, ◌∷◌, [], ◌||◌, ℕ, Bool, sym, ap, subst, false, true, ◌⊎◌, inl, inr, arith, length, eqb, true≢false}
+use Rattle.std.proofs.Common.{◌≡◌, ◌∙◌, ◌<◌, ℕ, sym, ap, subst, false, true, inl, inr, arith, length, eqb}
 use Rattle.std.proofs.lemmas.Result.{err_from_is_err_and}
 use Rattle.mpw_geom.proofs.Linked.{or_cases}
 use Rattle.mpw_roles.specs.Hierarchy.{with_role, is_role}
@@ -46,14 +46,13 @@ number c old =
     let found = c.in_ok-number.ensures.number in
     let longer = c.numbered.ensures.long in
     let known : (k : ℕ) → has_number in'.order.items k ≡ true → k < length ns = λ k there.
-    (let inside = inv.known k there in omega (arith, inside, longer)) in
-    (
+    (let inside = inv.known k there in omega (arith, inside, longer)) in (
       sym (name-numbered ns c.args.role n found),
       number-within ns c.args.role n found,
       sym (role-number ns in'.pairs.items in'.order.items known c.numbered.ensures.once c.args.role n
           found)
-      ∙ ap (λ h. is_role h c.args.role) old
-      ∙ c.requires,
+          ∙ ap (λ h. is_role h c.args.role) old
+          ∙ c.requires,
     )
 
 pub invariant_of-self-2 : goal.invariant_of-self-2

@@ -1,6 +1,6 @@
 -- Both names have numbers, and the new pair goes behind the others.
-use Rattle.std.proofs.Common.{◌≡◌, ◌∙◌, ◌++◌, ◌∷◌, [], sym, ap, subst, true, true≢false}
-use Rattle.mpw_roles.specs.Hierarchy.{with_pair, is_role}
+use Rattle.std.proofs.Common.{◌≡◌, ◌∙◌, sym, ap, subst, true, true≢false}
+use Rattle.mpw_roles.specs.Hierarchy.{with_pair}
 use Rattle.mpw_roles.specs.Internal.Table.{IsTable, entries_of, has_number}
 use Rattle.mpw_roles.specs.declared.pairs.Pair.{Pair}
 use Rattle.mpw_roles.proofs.EntryLemmas.{role-number, role-unnumbered, between-pair, with-pair-entries}

@@ -1,9 +1,8 @@
 -- A pair is one of numbers.
-use Rattle.std.proofs.Common.{◌≡◌, ◌∙◌, sym, ap, map, false}
+use Rattle.std.proofs.Common.{◌∙◌, sym, ap}
 use Rattle.std.specs.List.{list_any}
 use Rattle.mpw_geom.specs.Names.{contains_name}
-use Rattle.mpw_roles.specs.Hierarchy.{immediate_juniors}
-use Rattle.mpw_roles.specs.Internal.Table.{is_pair, juniors_of, entries_of}
+use Rattle.mpw_roles.specs.Internal.Table.{is_pair, juniors_of}
 use Rattle.mpw_roles.proofs.EntryLemmas.{linked-number, linked-unnumbered, pair-number, juniors-there}
 use Rattle.mpw_roles.proofs.NumberLemmas.{contains-number, contains-unnumbered}
 use Rattle.mpw_roles.proofs.table.Table.is_immediate.Goals as goal

@@ -1,5 +1,5 @@
 -- The name with the number at the place.
-use Rattle.std.proofs.Common.{◌≡◌, ◌∙◌, sym, arith, length, ap, get_or, true≢false, inl, inr}
+use Rattle.std.proofs.Common.{◌∙◌, sym, arith, length, ap, get_or, true≢false, inl, inr}
 use Rattle.std.proofs.lemmas.Bool.{cases_lt, lt-ltb}
 use Rattle.mpw_roles.proofs.EntryLemmas.{name-at-place, no-name-at}
 use Rattle.mpw_roles.proofs.table.Table.name.Goals as goal

@@ -1,5 +1,5 @@
 -- Both names have numbers, and the other pairs stay.
-use Rattle.std.proofs.Common.{◌≡◌, ◌∙◌, sym, ap, subst, not, true≢false}
+use Rattle.std.proofs.Common.{◌∙◌, sym, ap, subst, not, true≢false}
 use Rattle.mpw_roles.specs.Hierarchy.{without_pair}
 use Rattle.mpw_roles.specs.Internal.Table.{IsTable, entries_of, is_pair}
 use Rattle.mpw_roles.specs.declared.pairs.Pair.{Pair}

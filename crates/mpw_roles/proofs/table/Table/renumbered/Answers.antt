@@ -2,7 +2,6 @@
 use Rattle.std.proofs.Common.{◌≡◌, ◌∙◌, sym, ap, subst, map, length, arith}
 use Rattle.std.specs.List.{range_with_len}
 use Rattle.mpw_roles.specs.Internal.Table.{IsTable, entries_of, name_of, placed_pair}
-use Rattle.mpw_roles.specs.declared.pairs.Pair.{Pair}
 use Rattle.mpw_roles.specs.Order.{are_distinct}
 use Rattle.mpw_roles.proofs.NumberLemmas.{distinct-numbered}
 use Rattle.mpw_roles.proofs.RenumberLemmas.{renumbered-entries, renumbered-table}
