@@ -1,9 +1,10 @@
 -- The rows of requests: the tests of a row in order, of which the first that fails ends it.
-use Rattle.std.specs.Prelude.{◌≡◌, ℕ, Bool, [], ◌∷◌, is_some, Result, Ok, Err}
+use Rattle.std.specs.Prelude.{◌≡◌, ℕ, Bool, List, [], ◌∷◌, is_some, Result, Ok, Err}
 use Rattle.mpw_roles.specs.Decided.{decided}
 use Rattle.mpw_rbac.specs.declared.permission.Operation.{Operation}
 use Rattle.mpw_rbac.specs.declared.permission.Object.{Object}
 use Rattle.mpw_rbac.specs.Policy.{Policy, session_of, permits}
+use Rattle.mpw_replies.specs.Listing.{Listed}
 use Rattle.mpw_replies.specs.declared.reply.Denial.TheVariants as denial
 use Rattle.mpw_replies.specs.declared.reply.Reply.{Reply}
 use Rattle.mpw_replies.specs.declared.reply.Reply.TheVariants as reply
@@ -22,6 +23,11 @@ abbrev pub ◌>>=◌ : {A B : Type 0} → Result A Ending → (A → Result B En
 abbrev pub ended_by : Ending → Reply
 ended_by (ending.Denied why) = reply.Denied why
 ended_by (ending.Refused why) = reply.Refused why
+
+-- The reply of a row that lists.
+abbrev pub listing_reply : Result (List Listed) Ending → Reply
+listing_reply (Ok lines) = reply.Ok lines
+listing_reply (Err ending) = ended_by ending
 
 abbrev pub denied : Operation → Object → Ending
 denied operation object = ending.Denied (denial.Permission operation object)
@@ -46,6 +52,11 @@ Told (fault.Told ending) row = row ≡ Err ending
 abbrev pub Answers : {A B : Type 0} → (A → B) → Result A Fault → Result B Ending → Type 0
 Answers view (Ok x) row = row ≡ Ok (view x)
 Answers view (Err e) row = Told e row
+
+-- The reply tells what ends the row; none tells want of memory.
+abbrev pub IsToldBy : Fault → Reply → Type 0
+IsToldBy fault.Memory r = ⊥
+IsToldBy (fault.Told ending) r = r ≡ ended_by ending
 
 -- A reply that denies or refuses.
 abbrev pub IsNegative : Reply → Type 0

@@ -1,11 +1,13 @@
 //! What a request's row gives: a value, or what ends the row at the first test that fails.
-ghost use Rattle.std.specs.Prelude.{◌≡◌, IfOk};
+ghost use Rattle.std.specs.Prelude.{◌≡◌, IfOk, OnErr, List, Result, Err};
 ghost use Rattle.mpw_rbac.specs.Rows.{user_of};
 ghost use Rattle.mpw_replies.specs.Laws.{EnteringDeniesWhatIsLacked};
-ghost use Rattle.mpw_replies.specs.Rows.{Answers, ended_by, permitted};
+ghost use Rattle.mpw_replies.specs.Rows.{Answers, IsToldBy, ended_by, listing_reply, permitted};
+ghost use Rattle.mpw_replies.specs.Listing.{Listed};
+ghost use Rattle.mpw_replies.specs.declared.row.Ending.{Ending as AnyEnding};
 ghost use Rattle.mpw_replies.specs.declared.row.Fault.TheVariants.{Memory};
 
-use crate::{Code, Denial, Reply};
+use crate::{Code, Denial, Lines, Reply};
 use mpw_geom::Name;
 use mpw_rbac::{Object, Operation, Policy};
 use std::alloc::AllocError;
@@ -44,6 +46,20 @@ impl Fault {
     {
         Fault::Told(Ending::Refused(code))
     }
+
+    /// What ends the row, as the reply that tells it.
+    ///
+    /// # Errors
+    /// Want of memory, which no reply tells.
+    pub fn reply(self) -> Result<Reply, AllocError>
+        ensures told { IfOk result (IsToldBy self) }
+        ensures memory { OnErr result (self ≡ Memory) }
+    {
+        match self {
+            Fault::Told(ending) => Ok(ending.reply()),
+            Fault::Memory => Err(AllocError),
+        }
+    }
 }
 
 impl From<AllocError> for Fault {
@@ -51,6 +67,20 @@ impl From<AllocError> for Fault {
 
     fn from(_error: AllocError) -> Fault {
         Fault::Memory
+    }
+}
+
+/// The reply of what lists: its lines, or what ends the row.
+///
+/// # Errors
+/// Want of memory, which no reply tells.
+pub fn listing_reply(made: Result<Lines, Fault>) -> Result<Reply, AllocError>
+    ensures told { (row : Result (List Listed) AnyEnding) → Answers (λ lines. lines) made row → IfOk result (λ reply. reply ≡ listing_reply row) }
+    ensures memory { OnErr result (made ≡ Err Memory) }
+{
+    match made {
+        Ok(lines) => Ok(Reply::Ok(lines)),
+        Err(fault) => fault.reply(),
     }
 }
 

@@ -152,6 +152,13 @@ impl Snapshot {
         self.roots.as_slice()
     }
 
+    /// Whether these are its roots, in order, by value. It stops at the first difference, and takes no memory.
+    pub fn has_roots(&self, roots: &[Root]) -> bool
+        ensures { IsTrue result ↔ (roots.now ≡ self.now.roots) }
+    {
+        are_same_roots(roots, self.roots())
+    }
+
     /// The shelf.
     pub fn shelf(&self) -> &Shelf
         ensures { result.now ≡ self.now.shelf }
