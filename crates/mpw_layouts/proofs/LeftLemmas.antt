@@ -2,25 +2,18 @@
 use Rattle.std.proofs.Common.{◌≡◌, List, Result, Ok, Err, refl}
 use Rattle.mpw_hier.specs.declared.submission.Submission.{Submission}
 use Rattle.mpw_requests.specs.declared.layouts.LayoutRequest.TheVariants as ask
-use Rattle.mpw_replies.specs.Listing.{Listed}
 use Rattle.mpw_replies.specs.declared.row.Ending.{Ending}
 use Rattle.mpw_replies.specs.Rows.{IsNegative}
 use Rattle.mpw_layouts.specs.Laws.{NegativesLeaveTheShelf}
-use Rattle.mpw_layouts.specs.Layouts.{submitted, cells, shapes, shelved, listed}
+use Rattle.mpw_layouts.specs.Layouts.{submitted, shelved}
 
 left-shelved : (shelf : List Submission) (row : Result Submission Ending)
     → IsNegative (shelved shelf row).reply → (shelved shelf row).shelf ≡ shelf
 left-shelved shelf (Ok s) told = absurd told
 left-shelved shelf (Err ending) told = refl
 
-left-listed : (shelf : List Submission) (row : Result (List Listed) Ending)
-    → (listed shelf row).shelf ≡ shelf
-left-listed shelf (Ok lines) = refl
-left-listed shelf (Err ending) = refl
-
 pub negatives-leave : NegativesLeaveTheShelf
 negatives-leave policy shelf conn (ask.Submit cell top text) told =
     left-shelved shelf (submitted policy shelf conn cell top text) told
-negatives-leave policy shelf conn ask.Cells told = left-listed shelf (cells policy shelf conn)
-negatives-leave policy shelf conn (ask.Shapes cell) told =
-    left-listed shelf (shapes policy shelf conn cell)
+negatives-leave policy shelf conn ask.Cells told = refl
+negatives-leave policy shelf conn (ask.Shapes cell) told = refl

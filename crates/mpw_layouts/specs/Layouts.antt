@@ -23,7 +23,7 @@ use Rattle.mpw_requests.specs.declared.layouts.LayoutRequest.{LayoutRequest}
 use Rattle.mpw_requests.specs.declared.layouts.LayoutRequest.TheVariants as ask
 use Rattle.mpw_replies.specs.Listing.{Listed, stored, line_if}
 use Rattle.mpw_replies.specs.Sight.{may_read}
-use Rattle.mpw_replies.specs.Rows.{◌>>=◌, denied, in_session, permitted, ended_by}
+use Rattle.mpw_replies.specs.Rows.{◌>>=◌, denied, in_session, permitted, ended_by, listing_reply}
 use Rattle.mpw_replies.specs.declared.reply.Line.{Line}
 use Rattle.mpw_replies.specs.declared.reply.Line.TheVariants as line
 use Rattle.mpw_replies.specs.declared.reply.Code.TheVariants as code
@@ -170,8 +170,7 @@ shelved shelf (Ok s) = record {
 shelved shelf (Err ending) = left (ended_by ending) shelf
 
 abbrev pub listed : List Submission → Result (List Listed) Ending → Outcome
-listed shelf (Ok lines) = left (reply.Ok lines) shelf
-listed shelf (Err ending) = left (ended_by ending) shelf
+listed shelf row = left (listing_reply row) shelf
 
 -- Each request by its row.
 abbrev pub outcome_of : Policy → List Submission → ℕ → LayoutRequest → Outcome

@@ -2,8 +2,8 @@
 ghost use Rattle.std.specs.Prelude.{◌≡◌, ◌∷◌, [], List, Result, IfOk, IfErr};
 ghost use Rattle.mpw_hier.specs.declared.submission.Submission.{Submission};
 ghost use Rattle.mpw_layouts.specs.Answers.{Gives};
-ghost use Rattle.mpw_layouts.specs.Internal.Answers.{IsEnd, IsShelved};
-ghost use Rattle.mpw_layouts.specs.Layouts.{outcome_of, listed, shelved};
+ghost use Rattle.mpw_layouts.specs.Internal.Answers.{IsShelved};
+ghost use Rattle.mpw_layouts.specs.Layouts.{outcome_of, shelved};
 ghost use Rattle.mpw_replies.specs.Listing.{Listed, stored};
 ghost use Rattle.mpw_replies.specs.Rows.{Answers, Told};
 ghost use Rattle.mpw_replies.specs.declared.row.Ending.{Ending as AnyEnding};
@@ -11,7 +11,7 @@ ghost use Rattle.mpw_replies.specs.declared.row.Ending.{Ending as AnyEnding};
 use crate::rows::{Shelved, cells, shapes, submit};
 use mpw_hier::Shelf;
 use mpw_rbac::Policy;
-use mpw_replies::{Fault, Line, Lines, Reply};
+use mpw_replies::{Fault, Line, Lines, Reply, listing_reply};
 use mpw_requests::LayoutRequest;
 use std::alloc::{AllocError, Global};
 
@@ -42,33 +42,10 @@ fn submission(alloc: Global, made: Result<Shelved, Fault>) -> Result<LayoutAnswe
                 next: Some(next.shelf),
             })
         }
-        Err(fault) => told(fault),
-    }
-}
-
-/// The answer to what lists.
-fn listing(made: Result<Lines, Fault>) -> Result<LayoutAnswer, AllocError>
-    ensures { (shelf : List Submission) (row : Result (List Listed) AnyEnding) → Answers (λ lines. lines) made row → IfOk result (λ answer. Gives shelf (listed shelf row) answer) }
-{
-    match made {
-        Ok(lines) => Ok(LayoutAnswer {
-            reply: Reply::Ok(lines),
+        Err(fault) => Ok(LayoutAnswer {
+            reply: fault.reply()?,
             next: None,
         }),
-        Err(fault) => told(fault),
-    }
-}
-
-/// What ends a row is told, and leaves the shelf; want of memory gives no answer.
-fn told(fault: Fault) -> Result<LayoutAnswer, AllocError>
-    ensures { IfOk result (IsEnd fault) }
-{
-    match fault {
-        Fault::Told(ending) => Ok(LayoutAnswer {
-            reply: ending.reply(),
-            next: None,
-        }),
-        Fault::Memory => Err(AllocError),
     }
 }
 
@@ -90,7 +67,13 @@ pub fn answer_request(
         LayoutRequest::Submit { cell, top, text } => {
             submission(alloc, submit(alloc, policy, shelf, conn, cell, top, text))
         }
-        LayoutRequest::Cells => listing(cells(alloc, policy, shelf, conn)),
-        LayoutRequest::Shapes { cell } => listing(shapes(alloc, policy, shelf, conn, cell)),
+        LayoutRequest::Cells => Ok(LayoutAnswer {
+            reply: listing_reply(cells(alloc, policy, shelf, conn))?,
+            next: None,
+        }),
+        LayoutRequest::Shapes { cell } => Ok(LayoutAnswer {
+            reply: listing_reply(shapes(alloc, policy, shelf, conn, cell))?,
+            next: None,
+        }),
     }
 }

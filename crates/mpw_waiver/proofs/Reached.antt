@@ -1,12 +1,12 @@
 -- What is so after any requests.
 use Rattle.std.proofs.Common.{◌≡◌, ℕ, List, [], ◌∷◌, zero, suc, length, Option, None, Some, Ok, refl, sym, ap, ◌∙◌, inl, inr}
-use Rattle.std.specs.Prelude.{◌⊎◌, slice_set}
+use Rattle.std.specs.Prelude.{slice_set}
 use Rattle.std.proofs.lemmas.List.{length-replicate}
 use Rattle.mpw_hier.specs.declared.submission.Submission.{Submission}
 use Rattle.mpw_waiver.specs.declared.waiver.Waiver.{Waiver}
-use Rattle.mpw_waiver.specs.Laws.{IsApart, AreWaiversReached, none, ask, sign}
+use Rattle.mpw_waiver.specs.Laws.{PutOrBefore, NoneAtFirst, IsApart, AreWaiversReached, none, ask, sign}
 use Rattle.mpw_waiver.specs.Signing.{ask_test, asked}
-use Rattle.mpw_waiver.specs.Waivers.{waiver_at, none_asked, with_asker, with_signer, signed_by}
+use Rattle.mpw_waiver.specs.Waivers.{waiver_at, with_asker, with_signer, signed_by}
 use Rattle.mpw_waiver.proofs.Signed.{passed_is, signers_apart}
 
 -- ---- places
@@ -17,11 +17,7 @@ length-put [] place o = refl
 length-put (w ∷ waivers) zero o = refl
 length-put (w ∷ waivers) (suc place) o = ap suc (length-put waivers place o)
 
--- at a place where there is a waiver, it is the one that was put there, or it was there before
-put_or_before : (waivers : List (Option Waiver)) (at place : ℕ) (o : Option Waiver)
-    (waiver : Waiver)
-    → waiver_at (slice_set waivers at o) place ≡ Some waiver
-    → ((at ≡ place) × (o ≡ Some waiver)) ⊎ (waiver_at waivers place ≡ Some waiver)
+pub put_or_before : PutOrBefore
 put_or_before [] at place o waiver e = inr e
 put_or_before (w ∷ waivers) zero zero o waiver e = inl (refl, e)
 put_or_before (w ∷ waivers) zero (suc place) o waiver e = inr e
@@ -32,7 +28,7 @@ put_or_before (w ∷ waivers) (suc at) (suc place) o waiver e =
       | inr before ↦ inr before
     ]
 
-none_at : (size place : ℕ) (waiver : Waiver) → waiver_at (none_asked size) place ≡ Some waiver → ⊥
+pub none_at : NoneAtFirst
 none_at zero place waiver e = absurd cc
 none_at (suc size) zero waiver e = absurd cc
 none_at (suc size) (suc place) waiver e = none_at size place waiver e

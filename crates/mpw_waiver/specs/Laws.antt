@@ -1,5 +1,5 @@
 -- Laws of waivers: who signed, why others are denied, and what is so after any requests.
-use Rattle.std.specs.Prelude.{◌≡◌, ◌≢◌, ◌↔◌, ℕ, true, false, List, length, slice_get, All, Contains, Option, None, Some, Ok, Err}
+use Rattle.std.specs.Prelude.{◌≡◌, ◌≢◌, ◌↔◌, ◌⊎◌, ℕ, true, false, List, length, slice_get, slice_set, All, Contains, Option, None, Some, Ok, Err}
 use Rattle.std.specs.Ordering.{is_lt}
 use Rattle.mpw_geom.specs.Names.{name_cmp}
 use Rattle.mpw_hier.specs.declared.submission.Submission.{Submission}
@@ -7,6 +7,20 @@ use Rattle.mpw_waiver.specs.declared.fault.WaiverFault.TheVariants.{Submitter, A
 use Rattle.mpw_waiver.specs.declared.waiver.Waiver.{Waiver}
 use Rattle.mpw_waiver.specs.Waivers.{none_asked, waiver_at, is_signed, unsigned, with_signer}
 use Rattle.mpw_waiver.specs.Signing.{asked, signed}
+
+-- ---- places
+
+-- A waiver that stands at a place behind one that was put was put there, or it stood there before.
+abbrev pub PutOrBefore : Type 0
+PutOrBefore =
+    (waivers : List (Option Waiver)) (at place : ℕ) (o : Option Waiver) (waiver : Waiver)
+    → waiver_at (slice_set waivers at o) place ≡ Some waiver
+    → ((at ≡ place) × (o ≡ Some waiver)) ⊎ (waiver_at waivers place ≡ Some waiver)
+
+-- None stands anywhere where none was asked for.
+abbrev pub NoneAtFirst : Type 0
+NoneAtFirst = (size place : ℕ) (waiver : Waiver) → waiver_at (none_asked size) place ≡ Some waiver
+    → ⊥
 
 -- ---- one request
 

@@ -1,6 +1,12 @@
 //! Laws of the definitions alone. Each function has an empty body: its contract is the law.
 
-ghost use Rattle.mpw_waiver.specs.Laws.{SignersAreApart, ApartMaySign, SubmitterIsLeast, AskerAsked, ReachedHaveTheirSize, ReachedAreSignedApart, NoneIsUnsigned};
+ghost use Rattle.mpw_waiver.specs.Laws.{PutOrBefore, NoneAtFirst, SignersAreApart, ApartMaySign, SubmitterIsLeast, AskerAsked, ReachedHaveTheirSize, ReachedAreSignedApart, NoneIsUnsigned};
+
+/// Behind a waiver that was put, one that stands at a place was put there or stood there before; at first none stands anywhere.
+pub fn waivers_stand_where_they_were_put()
+    ensures put { PutOrBefore }
+    ensures none { NoneAtFirst }
+{}
 
 /// A waiver is signed exactly by a user who neither asked for it nor submitted what its marker meets.
 pub fn signers_are_apart()

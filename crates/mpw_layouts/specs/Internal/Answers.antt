@@ -1,15 +1,13 @@
 -- What private functions and proofs need of this: what functions of the rows over the shelf answer.
-use Rattle.std.specs.Prelude.{◌≡◌, ℕ, List, [], ◌∷◌, ◌++◌, None, Result, Ok}
+use Rattle.std.specs.Prelude.{◌≡◌, ℕ, List, [], ◌∷◌, ◌++◌, Result, Ok}
 use Rattle.mpw_hier.specs.declared.fault.HierFault.{HierFault}
 use Rattle.mpw_hier.specs.declared.fault.HierFault.TheVariants as hier
 use Rattle.mpw_hier.specs.declared.submission.Submission.{Submission}
-use Rattle.mpw_replies.specs.Rows.{ended_by}
 use Rattle.mpw_replies.specs.declared.reply.Code.TheVariants as code
 use Rattle.mpw_replies.specs.declared.row.Ending.{Ending}
 use Rattle.mpw_replies.specs.declared.row.Ending.TheVariants as ending
 use Rattle.mpw_replies.specs.declared.row.Fault.{Fault}
 use Rattle.mpw_replies.specs.declared.row.Fault.TheVariants as fault
-use Rattle.mpw_layouts.specs.declared.answer.LayoutAnswer.{LayoutAnswer}
 
 -- a fault of the shelf as what ends a row
 abbrev pub fault_of : HierFault → Fault
@@ -29,8 +27,3 @@ pub record IsShelved (shelf : List Submission) (row : Result Submission Ending)
   pub is : row ≡ Ok submission
   pub grown : next ≡ shelf ++ submission ∷ []
   pub version_is : version ≡ submission.version
-
--- What ends a row is told, and leaves the shelf; want of memory gives no answer.
-abbrev pub IsEnd : Fault → LayoutAnswer → Type 0
-IsEnd fault.Memory answer = ⊥
-IsEnd (fault.Told ending) answer = (answer.reply ≡ ended_by ending) × (answer.next ≡ None)
