@@ -156,7 +156,10 @@ pub fn strips_of(
 /// any order that may overlap. `first` are those of the check's first layer, `second` those of its
 /// second; a check of one layer ignores `second`, which is then best empty.
 ///
-/// The cost is that of [`strips_of`] and of [`pieces_in`]. The only error is that memory ran out.
+/// The cost is that of [`strips_of`] and of [`pieces_in`].
+///
+/// # Errors
+/// Where there is no room.
 pub fn pieces(
     alloc: Global,
     rule: &Rule,

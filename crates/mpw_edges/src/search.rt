@@ -129,7 +129,10 @@ pub fn pieces_of(
 /// The cost on each axis is a test a box for a width. For the other checks it is, in each two bands of
 /// the regions with rows in common, a binary search for each box of the first, and the pairs found,
 /// which are cut where a band ends; each list of bands is gone through once. Then the runs found are
-/// sorted and joined. The only error is that memory ran out.
+/// sorted and joined.
+///
+/// # Errors
+/// Where there is no room.
 pub fn pieces(
     alloc: Global,
     rule: &Rule,

@@ -54,7 +54,10 @@ pub fn is_kind(found: Record<'_>, kind: u8) -> bool
     found.kind == kind
 }
 
-/// A record that must be of a type.
+/// A record that must be of a type. Constant time.
+///
+/// # Errors
+/// `unexpected`, at the record, where it is of another one.
 #[tactic(auto, unfolding(crate::specs::Reading::demanded))]
 pub fn demand(found: Record<'_>, kind: u8) -> Result<Record<'_>, ReadFault>
     requires { IsSized (raw found) }

@@ -45,7 +45,10 @@ impl Model for Bindings {
 }
 
 impl Bindings {
-    /// These bindings. An error is want of memory.
+    /// These bindings. Constant time.
+    ///
+    /// # Errors
+    /// Where there is no room.
     pub fn from_vec(alloc: Global, items: Vec<Binding>) -> Result<Bindings, AllocError>
         ensures { IfOk result (λ bindings. bindings ≡ items.items) }
     {

@@ -59,7 +59,10 @@ impl Model for Nodes {
 }
 
 impl Nodes {
-    /// These nodes. An error is want of memory.
+    /// These nodes. Constant time.
+    ///
+    /// # Errors
+    /// Where there is no room.
     pub fn from_vec(alloc: Global, items: Vec<Node>) -> Result<Nodes, AllocError>
         ensures { IfOk result (λ nodes. nodes ≡ items.items) }
     {

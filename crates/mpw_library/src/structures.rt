@@ -85,7 +85,10 @@ impl Structures {
         self.places.get(name).copied()
     }
 
-    /// Adds a structure of a new name at the end. An error is want of memory, and changes nothing.
+    /// Adds a structure of a new name at the end. A look-up's cost.
+    ///
+    /// # Errors
+    /// Where there is no room; nothing is changed then.
     pub fn push(&mut self, structure: Structure) -> Result<(), AllocError>
         requires { place_of self.old structure.name ≡ None }
         ensures ok { OnOk result (self.new ≡ self.old ++ structure ∷ []) }

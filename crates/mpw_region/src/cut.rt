@@ -29,7 +29,10 @@ use std::alloc::{AllocError, Global};
 ///
 /// The region also keeps the bands of the exchanged boxes, so that what looks along columns needs no
 /// bands of its own. The cost is that of two sweeps: `n log n` for `n` boxes, and in each band, of which
-/// there are fewer than `2n`, the boxes that have it. The only error is that memory ran out.
+/// there are fewer than `2n`, the boxes that have it.
+///
+/// # Errors
+/// Where there is no room.
 pub fn bands(alloc: Global, boxes: &[Box2]) -> Result<Bands, AllocError>
     ensures squares { IfOk result (λ b. (s : Square) →
         any_has_square b s ≡ any_has_square boxes.now s) }

@@ -96,6 +96,9 @@ fn join(alloc: Global, first: Run, rest: &[Run]) -> Result<Vec<Run>, AllocError>
 /// before the next begins, with a gap. Runs are ordered by line (side, first, second), then by
 /// place. The cost is that of sorting the runs; where some are joined the result stands in memory beside
 /// them, 40 bytes a run.
+///
+/// # Errors
+/// Where there is no room.
 pub fn joined(alloc: Global, runs: Vec<Run>) -> Result<Vec<Run>, AllocError>
     requires { All IsFilled runs.items }
     ensures places { IfOk result (λ v. (line : LineValue) (at : ℤ) →

@@ -13,10 +13,13 @@ use mpw_geom::Box2;
 use std::alloc::{AllocError, Global};
 
 /// Rectangles whose union is the element's set of unit squares, in nm. They may overlap, and each
-/// has area. An error is want of memory.
+/// has area.
 ///
 /// A reference has none. A path of n points gives at most n - 1 rectangles and takes O(n). A boundary
 /// of n corners that gives m rectangles takes O((n + m) log n); a simple polygon gives O(n).
+///
+/// # Errors
+/// Where there is no room.
 #[tactic(auto, unfolding(mpw_geom::specs::Plane::any_has_square))]
 pub fn rectangles(alloc: Global, element: &Element) -> Result<Vec<Box2>, AllocError>
     requires { IsElement element.now }

@@ -110,6 +110,7 @@ fn read_tiles(words: &[&[u8]]) -> Option<TileRange>
 }
 
 /// The tiles that a text names: `A-B`, or `K/N` for a share. Numbers are decimal, without leading zeros, up to 4096.
+/// One pass.
 ///
 /// # Errors
 /// Where there is no room for its words.

@@ -6,7 +6,10 @@ ghost use Rattle.mpw_text.specs.Text.{lines_of, is_last_empty};
 
 use std::alloc::{AllocError, Global};
 
-/// The parts of the bytes between separators, empty ones too.
+/// The parts of the bytes between separators, empty ones too. One pass.
+///
+/// # Errors
+/// Where there is no room for them.
 pub fn parts(alloc: Global, bytes: &[u8], separator: u8) -> Result<Vec<&[u8]>, AllocError>
     ensures { IfOk result (λ v.
         map (λ x. x.now) v.items ≡ slice_split (λ b. b == separator) bytes.now) }
@@ -24,7 +27,10 @@ fn is_last_empty(parts: &[&[u8]]) -> bool
     }
 }
 
-/// The lines of a text. Each ends with a line feed, which the last may lack.
+/// The lines of a text. Each ends with a line feed, which the last may lack. One pass.
+///
+/// # Errors
+/// Where there is no room for them.
 pub fn lines(alloc: Global, text: &[u8]) -> Result<Vec<&[u8]>, AllocError>
     ensures { IfOk result (λ v. map (λ x. x.now) v.items ≡ lines_of text.now) }
 {

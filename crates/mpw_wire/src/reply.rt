@@ -71,7 +71,10 @@ fn refusal_words(refusal: LineRefusal) -> &'static str
     }
 }
 
-/// Writes a refusal, and has the sink hand it on.
+/// Writes a refusal, and has the sink hand it on. It takes no memory, and costs its text.
+///
+/// # Errors
+/// `Write` where the sink failed.
 #[tactic(auto, unfolding(crate::specs::Reply::refusal_text))]
 pub fn write_refusal<W: Sink>(refusal: LineRefusal, writer: &mut W) -> Result<(), WireFault>
     ensures text { Writes W.contents W.failures writer.old writer.new result (refusal_text refusal) }
