@@ -6,10 +6,10 @@ ghost use Rattle.mpw_writing.specs.Writing.{Adds};
 
 use crate::name::put_name;
 use crate::part::{Part, put_part};
-use mpw_writing::put;
 use itoa::Buffer;
 use mpw_deck::{Check, Rule};
 use mpw_geom::Layer;
+use mpw_writing::put;
 use std::io::{self, Write};
 
 /// Writes a layer as a deck has it, behind a space.

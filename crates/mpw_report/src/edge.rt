@@ -4,10 +4,10 @@ ghost use Rattle.mpw_report.specs.Report.{first_edge, second_edge, point_text, e
 ghost use Rattle.mpw_writing.specs.Writing.{Adds};
 
 use crate::length::put_micrometres;
-use mpw_writing::put;
 use mpw_edges::Axis;
 use mpw_geom::Point;
 use mpw_markers::Marker;
+use mpw_writing::put;
 use std::io::{self, Write};
 
 /// An edge, from its start to its end, in nm.

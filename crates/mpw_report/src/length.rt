@@ -3,8 +3,8 @@ ghost use Rattle.std.specs.Prelude.{◌≡◌};
 ghost use Rattle.mpw_report.specs.Lengths.{last_digits, fraction, sign_text, micrometres};
 ghost use Rattle.mpw_writing.specs.Writing.{Adds};
 
-use mpw_writing::put;
 use itoa::Buffer;
+use mpw_writing::put;
 use std::io::{self, Write};
 
 /// Writes the last two of three decimals, without zeros at the end.

@@ -3,8 +3,8 @@ ghost use Rattle.std.specs.List.{flat_map};
 ghost use Rattle.mpw_report.specs.Escapes.{character, path_character, escaped, path_text};
 ghost use Rattle.mpw_writing.specs.Writing.{Adds};
 
-use mpw_writing::put;
 use mpw_geom::Name;
+use mpw_writing::put;
 use std::io::{self, Write};
 
 /// Writes a byte as XML's text.
