@@ -2,7 +2,7 @@
 ghost use Rattle.std.specs.Prelude.{IfOk};
 ghost use Rattle.mpw_geom.specs.Plane.{IsBoxInPlane};
 ghost use Rattle.mpw_picture.specs.Text.{picture_text};
-ghost use Rattle.mpw_report.specs.Writing.{Adds};
+ghost use Rattle.mpw_writing.specs.Writing.{Adds};
 
 use crate::fault::FirmFault;
 use crate::key::find_marker;

@@ -1,6 +1,6 @@
 //! The report of a check, which KLayout's marker browser opens.
 ghost use Rattle.mpw_report.specs.Report.{report_text};
-ghost use Rattle.mpw_report.specs.Writing.{Adds};
+ghost use Rattle.mpw_writing.specs.Writing.{Adds};
 
 use crate::fault::FirmFault;
 use crate::told::unwritten;

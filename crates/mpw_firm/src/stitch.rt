@@ -1,4 +1,8 @@
 //! Parts stitched, and the markers of the whole.
+ghost use Rattle.std.specs.Prelude.{◌≡◌, Some, IfOk, IfErr};
+ghost use Rattle.mpw_parts.specs.Reading.{part_of};
+ghost use Rattle.mpw_parts.specs.Stitching.{IsBookOf};
+ghost use Rattle.mpw_firm.specs.Stitched.{IsOfFile, IsOfParts, is_alone};
 
 use crate::asked::print;
 use crate::blank::blank_layout;
@@ -17,12 +21,15 @@ use mpw_tiles::Snapshot;
 use std::alloc::{AllocError, Global};
 use std::io;
 
-/// The part of a file.
-fn part_of(rt: &HostRuntime, file: &str) -> Result<Part, FirmFault> {
-    let text = read_file(rt, file)?;
-    match read_part(rt.alloc(), &text)? {
-        Some(part) => Ok(part),
-        None => Err(no_part(rt.alloc(), file)),
+/// The part that a file's text is.
+fn part_in(alloc: Global, file: &str, text: &[u8]) -> Result<Part, FirmFault>
+    ensures part { IfOk result (λ part. part_of text.now ≡ Some part) }
+    ensures refused { IfErr result (IsOfFile file.now text.now) }
+{
+    match read_part(alloc, text) {
+        Ok(Some(part)) => Ok(part),
+        Ok(None) => Err(no_part(alloc, file)),
+        Err(_) => Err(FirmFault::Memory),
     }
 }
 
@@ -30,7 +37,8 @@ fn part_of(rt: &HostRuntime, file: &str) -> Result<Part, FirmFault> {
 fn parts_of(rt: &HostRuntime, files: &[String]) -> Result<Vec<Part>, FirmFault> {
     let mut parts = Vec::new(rt.alloc());
     for file in files {
-        parts.push(part_of(rt, file.as_str())?)?;
+        let text = read_file(rt, file.as_str())?;
+        parts.push(part_in(rt.alloc(), file.as_str(), &text)?)?;
     }
     Ok(parts)
 }
@@ -41,11 +49,11 @@ fn files_of<'a>(
     files: &'a [String],
     parts: &[Part],
 ) -> Result<Vec<PartFile<'a>>, AllocError> {
-    let mut found = Vec::new(alloc);
-    for (file, part) in files.iter().zip(parts.iter()) {
-        found.push(PartFile::of(file.as_str(), part))?;
-    }
-    Ok(found)
+    files
+        .iter()
+        .zip(parts.iter())
+        .map(|(file, part)| PartFile::of(file.as_str(), part))
+        .collect(alloc)
 }
 
 /// What was checked: the deck, the structure's name, and the number of tiles.
@@ -78,31 +86,55 @@ fn subject_of(alloc: Global, files: &[String], parts: &[Part]) -> Result<Subject
 }
 
 /// Whether a marker is one of a check by itself under so many rules: it meets the only submission.
-fn is_alone(marker: &Marker, rules: usize) -> bool {
+fn is_alone(marker: &Marker, rules: usize) -> bool
+    ensures { result ≡ is_alone rules marker.now }
+{
     let meets_it = match marker.met.as_slice() {
         [origin] => *origin == 0,
         _ => false,
     };
-    meets_it && (marker.rule as usize) < rules
+    meets_it & ((marker.rule as usize) < rules)
 }
 
-/// The book of the parts.
-fn book_of(
+/// The book of parts of these files, of a plan with so many tiles.
+fn stitched(
     alloc: Global,
-    options: &StitchOptions,
-    subject: &Subject,
+    files: &[PartFile<'_>],
+    tiles: u32,
     parts: Vec<Part>,
-) -> Result<Book, FirmFault> {
-    let files = files_of(alloc, options.files.as_slice(), parts.as_slice())?;
-    let book = match stitch_parts(alloc, parts) {
-        Ok(book) => book,
-        Err(fault) => return Err(parts_fault(alloc, files.as_slice(), subject.tiles, fault)),
-    };
-    let rules = subject.deck.rules().as_slice().len();
+) -> Result<Book, FirmFault>
+    ensures book { IfOk result (IsBookOf parts.items) }
+    ensures refused { IfErr result (IsOfParts files.now tiles parts.items) }
+{
+    match stitch_parts(alloc, parts) {
+        Ok(book) => Ok(book),
+        Err(fault) => Err(parts_fault(alloc, files, tiles, fault)),
+    }
+}
+
+/// A book, where its markers are those of a check by itself under so many rules.
+fn alone(alloc: Global, rules: usize, book: Book) -> Result<Book, FirmFault> {
     if book.as_slice().iter().all(|marker| is_alone(marker, rules)) {
         Ok(book)
     } else {
         Err(no_markers(alloc))
+    }
+}
+
+/// The book of the parts of files, under a deck with so many rules and a plan with so many tiles.
+fn book_of(
+    alloc: Global,
+    files: &[String],
+    tiles: u32,
+    rules: usize,
+    parts: Vec<Part>,
+) -> Result<Book, FirmFault> {
+    let Ok(files) = files_of(alloc, files, parts.as_slice()) else {
+        return Err(FirmFault::Memory);
+    };
+    match stitched(alloc, files.as_slice(), tiles, parts) {
+        Ok(book) => alone(alloc, rules, book),
+        Err(fault) => Err(fault),
     }
 }
 
@@ -127,7 +159,8 @@ pub fn stitch(rt: &HostRuntime, options: &StitchOptions) -> Result<usize, FirmFa
     let alloc = rt.alloc();
     let parts = parts_of(rt, options.files.as_slice())?;
     let subject = subject_of(alloc, options.files.as_slice(), parts.as_slice())?;
-    let book = book_of(alloc, options, &subject, parts)?;
+    let rules = subject.deck.rules().as_slice().len();
+    let book = book_of(alloc, options.files.as_slice(), subject.tiles, rules, parts)?;
     let snapshot = layout_of(alloc, "mpw stitch", &subject)?;
     let files = options.files.len();
     let _ = tell_stitched(rt, files, subject.tiles, &snapshot, book.as_slice());
