@@ -62,10 +62,6 @@ all_ahead boxes row n o l h k d within = subst (λ (b : Box2). row <ℤ b.y0)
     (sym (get_or-drop n boxes k d))
     (ahead boxes row n (n + k) d o (omega arith) (omega (arith, within, length-drop n boxes)) h)
 
-pub none_ahead : (boxes : List Box2) (P : Box2 → Type 0) (n : ℕ) → length boxes ≤ n
-    → All P (drop n boxes)
-none_ahead boxes P n l k d within = absurd (omega (arith, within, length-drop n boxes))
-
 pub begins_ahead : (boxes : List Box2) (n : ℕ) (b : Box2) → AllPairs BeginsBelow boxes
     → n < length boxes → Contains (drop n boxes) b → (get_or boxes n no_box).y0 ≤ℤ b.y0
 begins_ahead boxes n b o l c =

@@ -196,19 +196,6 @@ Merges-end old out done last rows h = record {
       (λ b p. ends b last rows h.bottom h.top h.rises p) out h.near) (omega (arith, ints, h.top));
 }
 
-pub AddsBand-none : (old : List Box2) (rows : Rows) → rows.y0 <ℤ rows.y1 → AreBands old
-    → All (λ b. b.y1 ≤ℤ rows.y0) old → AddsBand old old [] rows
-AddsBand-none old rows up banded below = record {
-  squares = λ i j. (λ c. inl c, from i j);
-  banded = banded;
-  below = All-weaker (λ b. b.y1 ≤ℤ rows.y0) (λ b. b.y1 ≤ℤ rows.y1)
-      (λ b p. omega (arith, ints, up, p)) old below;
-}
-  where
-    from : (i j : ℤ) → IsCovered old i j ⊎ IsInBand rows [] i j → IsCovered old i j
-    from i j (inl c) = c
-    from i j (inr w) = absurd (Held-nil (Columns i) w.1)
-
 -- ---- the boxes from the left
 
 pub before_start : (first : Box2) (rest : List Box2) → AllPairs BeginsLeft (first ∷ rest)
