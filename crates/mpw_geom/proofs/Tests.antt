@@ -2,7 +2,6 @@
 use Rattle.std.proofs.Common.{◌≡◌, ◌≤ℤ◌, ◌<ℤ◌, Bool, true, false, refl, ℤ, arith}
 use Rattle.std.specs.Prelude.{int_lt, int_le}
 use Rattle.std.proofs.lemmas.Int.{ints}
-use Rattle.std.proofs.lemmas.Bool.{and_parts, and_from}
 use Rattle.mpw_geom.specs.declared.plane.Box2.{Box2}
 use Rattle.mpw_geom.specs.declared.plane.Point.{Point}
 use Rattle.mpw_geom.specs.Plane.{Square, has_point, has_square}
@@ -38,47 +37,19 @@ pub record SquareIn (b : Box2) (s : Square) : Type 0 where
 
 pub PointIn-from_test : (b : Box2) (p : Point) → has_point b p ≡ true → PointIn b p
 unfolding has_point
-PointIn-from_test b p h =
-    let f = and_parts _ _ h in
-    let g = and_parts _ _ f.0 in
-    let k = and_parts _ _ g.0 in
-    record {
-      left = le_from_test _ _ k.0;
-      right = le_from_test _ _ k.1;
-      bottom = le_from_test _ _ g.1;
-      top = le_from_test _ _ f.1;
-    }
+PointIn-from_test b p h = grind (arith, ints, h)
 
 pub test_from_PointIn : (b : Box2) (p : Point) → PointIn b p → has_point b p ≡ true
 unfolding has_point
-test_from_PointIn b p h =
-    and_from _ _
-    (and_from _ _
-    (and_from _ _ (test_from_le _ _ h.left) (test_from_le _ _ h.right))
-    (test_from_le _ _ h.bottom))
-    (test_from_le _ _ h.top)
+test_from_PointIn b p h = grind (arith, ints, h)
 
 pub SquareIn-from_test : (b : Box2) (s : Square) → has_square b s ≡ true → SquareIn b s
 unfolding has_square
-SquareIn-from_test b s h =
-    let f = and_parts _ _ h in
-    let g = and_parts _ _ f.0 in
-    let k = and_parts _ _ g.0 in
-    record {
-      left = le_from_test _ _ k.0;
-      right = lt_from_test _ _ k.1;
-      bottom = le_from_test _ _ g.1;
-      top = lt_from_test _ _ f.1;
-    }
+SquareIn-from_test b s h = grind (arith, ints, h)
 
 pub test_from_SquareIn : (b : Box2) (s : Square) → SquareIn b s → has_square b s ≡ true
 unfolding has_square
-test_from_SquareIn b s h =
-    and_from _ _
-    (and_from _ _
-    (and_from _ _ (test_from_le _ _ h.left) (test_from_lt _ _ h.right))
-    (test_from_le _ _ h.bottom))
-    (test_from_lt _ _ h.top)
+test_from_SquareIn b s h = grind (arith, ints, h)
 
 -- two boxes have the same points, or squares, where the inequalities say so both ways
 pub same_points : (b c : Box2) (p q : Point) → (PointIn b p → PointIn c q)

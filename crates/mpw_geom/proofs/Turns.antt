@@ -25,54 +25,24 @@ mirrored_closed : (s : Square) (p : Point)
 unfolding closed_square
 mirrored_closed s p =
     same_points (closed_square (mirrored_square s)) (closed_square s) (mirrored_point p) p
-    (λ h. record {
-      left = h.left;
-      right = h.right;
-      bottom = omega (arith, ints, h.top);
-      top = omega (arith, ints, h.bottom);
-    })
-    (λ h. record {
-      left = h.left;
-      right = h.right;
-      bottom = omega (arith, ints, h.top);
-      top = omega (arith, ints, h.bottom);
-    })
+    (λ h. grind (arith, ints, clamps, h))
+    (λ h. grind (arith, ints, clamps, h))
 
 turned_closed : (s : Square) (p : Point)
     → has_point (closed_square (turned_square s)) (turned_point p) ≡ has_point (closed_square s) p
 unfolding closed_square
 turned_closed s p =
     same_points (closed_square (turned_square s)) (closed_square s) (turned_point p) p
-    (λ h. record {
-      left = h.bottom;
-      right = h.top;
-      bottom = omega (arith, ints, h.right);
-      top = omega (arith, ints, h.left);
-    })
-    (λ h. record {
-      left = omega (arith, ints, h.top);
-      right = omega (arith, ints, h.bottom);
-      bottom = h.left;
-      top = h.right;
-    })
+    (λ h. grind (arith, ints, clamps, h))
+    (λ h. grind (arith, ints, clamps, h))
 
 moved_closed : (d : Point) (s : Square) (p : Point)
     → has_point (closed_square (moved_square d s)) (moved_point d p) ≡ has_point (closed_square s) p
 unfolding closed_square
 moved_closed d s p =
     same_points (closed_square (moved_square d s)) (closed_square s) (moved_point d p) p
-    (λ h. record {
-      left = omega (arith, ints, h.left);
-      right = omega (arith, ints, h.right);
-      bottom = omega (arith, ints, h.bottom);
-      top = omega (arith, ints, h.top);
-    })
-    (λ h. record {
-      left = omega (arith, ints, h.left);
-      right = omega (arith, ints, h.right);
-      bottom = omega (arith, ints, h.bottom);
-      top = omega (arith, ints, h.top);
-    })
+    (λ h. grind (arith, ints, clamps, h))
+    (λ h. grind (arith, ints, clamps, h))
 
 turns_keep : {A B : Type 0} (turn : A → A) (turn' : B → B) (P : A → A → B → Bool)
     → ((a c : A) (b : B) → P (turn a) (turn c) (turn' b) ≡ P a c b) → (n : ℕ) (a c : A) (b : B)
@@ -112,36 +82,16 @@ unfolding box_between
 mirrored_between a b p =
     same_points (box_between (mirrored_point a) (mirrored_point b)) (box_between a b)
     (mirrored_point p) p
-    (λ h. record {
-      left = h.left;
-      right = h.right;
-      bottom = omega (arith, ints, clamps, h.top);
-      top = omega (arith, ints, clamps, h.bottom);
-    })
-    (λ h. record {
-      left = h.left;
-      right = h.right;
-      bottom = omega (arith, ints, clamps, h.top);
-      top = omega (arith, ints, clamps, h.bottom);
-    })
+    (λ h. grind (arith, ints, clamps, h))
+    (λ h. grind (arith, ints, clamps, h))
 
 turned_between : (a b p : Point) → has_point (box_between (turned_point a) (turned_point b))
     (turned_point p) ≡ has_point (box_between a b) p
 unfolding box_between
 turned_between a b p =
     same_points (box_between (turned_point a) (turned_point b)) (box_between a b) (turned_point p) p
-    (λ h. record {
-      left = h.bottom;
-      right = h.top;
-      bottom = omega (arith, ints, clamps, h.right);
-      top = omega (arith, ints, clamps, h.left);
-    })
-    (λ h. record {
-      left = omega (arith, ints, clamps, h.top);
-      right = omega (arith, ints, clamps, h.bottom);
-      bottom = h.left;
-      top = h.right;
-    })
+    (λ h. grind (arith, ints, clamps, h))
+    (λ h. grind (arith, ints, clamps, h))
 
 moved_between : (d a b p : Point) → has_point (box_between (moved_point d a) (moved_point d b))
     (moved_point d p) ≡ has_point (box_between a b) p
@@ -149,18 +99,8 @@ unfolding box_between
 moved_between d a b p =
     same_points (box_between (moved_point d a) (moved_point d b)) (box_between a b)
     (moved_point d p) p
-    (λ h. record {
-      left = omega (arith, ints, clamps, h.left);
-      right = omega (arith, ints, clamps, h.right);
-      bottom = omega (arith, ints, clamps, h.bottom);
-      top = omega (arith, ints, clamps, h.top);
-    })
-    (λ h. record {
-      left = omega (arith, ints, clamps, h.left);
-      right = omega (arith, ints, clamps, h.right);
-      bottom = omega (arith, ints, clamps, h.bottom);
-      top = omega (arith, ints, clamps, h.top);
-    })
+    (λ h. grind (arith, ints, clamps, h))
+    (λ h. grind (arith, ints, clamps, h))
 
 mirrored_squares : (a b : Point) (s : Square)
     → has_square (box_between (mirrored_point a) (mirrored_point b)) (mirrored_square s)
@@ -169,18 +109,8 @@ unfolding box_between
 mirrored_squares a b s =
     same_squares (box_between (mirrored_point a) (mirrored_point b)) (box_between a b)
     (mirrored_square s) s
-    (λ h. record {
-      left = h.left;
-      right = h.right;
-      bottom = omega (arith, ints, clamps, h.top);
-      top = omega (arith, ints, clamps, h.bottom);
-    })
-    (λ h. record {
-      left = h.left;
-      right = h.right;
-      bottom = omega (arith, ints, clamps, h.top);
-      top = omega (arith, ints, clamps, h.bottom);
-    })
+    (λ h. grind (arith, ints, clamps, h))
+    (λ h. grind (arith, ints, clamps, h))
 
 turned_squares : (a b : Point) (s : Square)
     → has_square (box_between (turned_point a) (turned_point b)) (turned_square s)
@@ -189,18 +119,8 @@ unfolding box_between
 turned_squares a b s =
     same_squares (box_between (turned_point a) (turned_point b)) (box_between a b) (turned_square s)
     s
-    (λ h. record {
-      left = h.bottom;
-      right = h.top;
-      bottom = omega (arith, ints, clamps, h.right);
-      top = omega (arith, ints, clamps, h.left);
-    })
-    (λ h. record {
-      left = omega (arith, ints, clamps, h.top);
-      right = omega (arith, ints, clamps, h.bottom);
-      bottom = h.left;
-      top = h.right;
-    })
+    (λ h. grind (arith, ints, clamps, h))
+    (λ h. grind (arith, ints, clamps, h))
 
 moved_squares : (d a b : Point) (s : Square)
     → has_square (box_between (moved_point d a) (moved_point d b)) (moved_square d s)
@@ -209,18 +129,8 @@ unfolding box_between
 moved_squares d a b s =
     same_squares (box_between (moved_point d a) (moved_point d b)) (box_between a b)
     (moved_square d s) s
-    (λ h. record {
-      left = omega (arith, ints, clamps, h.left);
-      right = omega (arith, ints, clamps, h.right);
-      bottom = omega (arith, ints, clamps, h.bottom);
-      top = omega (arith, ints, clamps, h.top);
-    })
-    (λ h. record {
-      left = omega (arith, ints, clamps, h.left);
-      right = omega (arith, ints, clamps, h.right);
-      bottom = omega (arith, ints, clamps, h.bottom);
-      top = omega (arith, ints, clamps, h.top);
-    })
+    (λ h. grind (arith, ints, clamps, h))
+    (λ h. grind (arith, ints, clamps, h))
 
 abbrev corner0 : Box2 → Point
 corner0 b = record { x = b.x0; y = b.y0 }
@@ -234,36 +144,16 @@ own_points : (b : Box2) (p : Point) → b.x0 ≤ℤ b.x1 → b.y0 ≤ℤ b.y1
 unfolding box_between
 own_points b p u v =
     same_points (box_between (corner0 b) (corner1 b)) b p p
-    (λ h. record {
-      left = omega (arith, ints, clamps, h.left);
-      right = omega (arith, ints, clamps, h.right);
-      bottom = omega (arith, ints, clamps, h.bottom);
-      top = omega (arith, ints, clamps, h.top);
-    })
-    (λ h. record {
-      left = omega (arith, ints, clamps, h.left);
-      right = omega (arith, ints, clamps, h.right);
-      bottom = omega (arith, ints, clamps, h.bottom);
-      top = omega (arith, ints, clamps, h.top);
-    })
+    (λ h. grind (arith, ints, clamps, h))
+    (λ h. grind (arith, ints, clamps, h))
 
 own_squares : (b : Box2) (s : Square) → b.x0 ≤ℤ b.x1 → b.y0 ≤ℤ b.y1
     → has_square (box_between (corner0 b) (corner1 b)) s ≡ has_square b s
 unfolding box_between
 own_squares b s u v =
     same_squares (box_between (corner0 b) (corner1 b)) b s s
-    (λ h. record {
-      left = omega (arith, ints, clamps, h.left);
-      right = omega (arith, ints, clamps, h.right);
-      bottom = omega (arith, ints, clamps, h.bottom);
-      top = omega (arith, ints, clamps, h.top);
-    })
-    (λ h. record {
-      left = omega (arith, ints, clamps, h.left);
-      right = omega (arith, ints, clamps, h.right);
-      bottom = omega (arith, ints, clamps, h.bottom);
-      top = omega (arith, ints, clamps, h.top);
-    })
+    (λ h. grind (arith, ints, clamps, h))
+    (λ h. grind (arith, ints, clamps, h))
 
 pub placed_points : (t : Placing) (b : Box2) (p : Point) → b.x0 ≤ℤ b.x1 → b.y0 ≤ℤ b.y1
     → has_point (box_between (placed_point t (corner0 b)) (placed_point t (corner1 b)))

@@ -1,11 +1,9 @@
 -- The cells of a grid: their numbers, and which core has a point.
 use Rattle.std.proofs.Common.{◌≡◌, ℕ, ◌+◌, ◌*◌, ◌/◌, ◌%◌, ◌≤◌, ◌<◌, ◌∙◌, sym, ap, subst, true, arith}
-use Rattle.std.specs.Prelude.{ℤ, pos, ◌+ℤ◌, ◌≤ℤ◌, ◌<ℤ◌}
-use Rattle.std.proofs.lemmas.Int.{ints}
 use Rattle.std.proofs.lemmas.Nat.{mul-add-lt, div-mul-add, mod-mul-add, div_below, mod_below}
 use Rattle.mpw_geom.specs.declared.plane.Box2.{Box2}
 use Rattle.mpw_geom.specs.declared.plane.Point.{Point}
-use Rattle.mpw_geom.specs.Plane.{Square, has_point, has_square}
+use Rattle.mpw_geom.specs.Plane.{has_point, has_square}
 use Rattle.mpw_geom.proofs.Tests.{PointIn, PointIn-from_test, SquareIn, SquareIn-from_test, test_from_SquareIn}
 use Rattle.mpw_grid.specs.Grid.{Cells, sides_between, columns, rows, cells, core_at, core_of, column_of, row_of, found_cell, square_at, IsOnlyCell}
 use Rattle.mpw_grid.proofs.Intervals.{found_low, found_high, found_only, found_within}

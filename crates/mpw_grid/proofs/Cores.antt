@@ -11,7 +11,7 @@ use Rattle.mpw_grid.specs.Grid.{Cells, columns, rows, cells, core_at, core_of, c
 use Rattle.mpw_grid.proofs.Intervals.{begins_within}
 use Rattle.mpw_grid.proofs.Cells.{column_within, row_within}
 
-column_short : (g : Cells) (n k column : ℕ) → IsGrid g n k → column < columns g
+pub column_short : (g : Cells) (n k column : ℕ) → IsGrid g n k → column < columns g
     → column * g.side ≤ 2 ^ 49
 unfolding columns
 column_short g n k column h u =
@@ -20,7 +20,7 @@ column_short g n k column h u =
     let r = h.plane.x1.high in
     omega (arith, ints)
 
-row_short : (g : Cells) (n k row : ℕ) → IsGrid g n k → row < rows g → row * g.side ≤ 2 ^ 49
+pub row_short : (g : Cells) (n k row : ℕ) → IsGrid g n k → row < rows g → row * g.side ≤ 2 ^ 49
 unfolding rows
 row_short g n k row h u =
     let p = begins_within g.extent.y0 g.extent.y1 g.side row h.side h.ordered.y u in
@@ -37,22 +37,27 @@ pub rows_short : (g : Cells) (n k cell : ℕ) → IsGrid g n k → cell < cells 
 rows_short g n k cell h u = subst (λ (m : ℕ). cell / m * g.side ≤ 2 ^ 49) (sym h.columns_are)
     (row_short g n k (row_of g cell) h (row_within g cell u))
 
--- the core of a cell, by the columns that are kept
-pub core_is : (g : Cells) (n k cell : ℕ) (b : Box2) → IsGrid g n k
-    → b.x0 ≡ g.extent.x0 +ℤ pos (cell % n * g.side) → b.y0 ≡ g.extent.y0 +ℤ pos (cell / n * g.side)
-    → b.x1 ≡ b.x0 +ℤ pos g.side → b.y1 ≡ b.y0 +ℤ pos g.side → b ≡ core_of g cell
+-- where a core begins, by the columns that are kept
+pub left_is : (g : Cells) (n k cell : ℕ) (x : ℤ) → IsGrid g n k
+    → x ≡ g.extent.x0 +ℤ pos (cell % n * g.side)
+    → x ≡ g.extent.x0 +ℤ pos (column_of g cell * g.side)
+left_is g n k cell x h e =
+    e ∙ ap (λ (m : ℕ). g.extent.x0 +ℤ pos (cell % m * g.side)) h.columns_are
+
+pub bottom_is : (g : Cells) (n k cell : ℕ) (y : ℤ) → IsGrid g n k
+    → y ≡ g.extent.y0 +ℤ pos (cell / n * g.side) → y ≡ g.extent.y0 +ℤ pos (row_of g cell * g.side)
+bottom_is g n k cell y h e =
+    e ∙ ap (λ (m : ℕ). g.extent.y0 +ℤ pos (cell / m * g.side)) h.columns_are
+
+-- the core of a cell, by where it begins
+pub core_is : (g : Cells) (cell : ℕ) (b : Box2) (x y : ℤ)
+    → x ≡ g.extent.x0 +ℤ pos (column_of g cell * g.side)
+    → y ≡ g.extent.y0 +ℤ pos (row_of g cell * g.side) → b.x0 ≡ x → b.y0 ≡ y
+    → b.x1 ≡ x +ℤ pos g.side → b.y1 ≡ y +ℤ pos g.side → b ≡ core_of g cell
 unfolding core_at
-core_is g n k cell b h e f i j =
-    let c : cell % n ≡ column_of g cell = ap (λ (m : ℕ). cell % m) h.columns_are in
-    let r : cell / n ≡ row_of g cell = ap (λ (m : ℕ). cell / m) h.columns_are in
-    let c' : pos (cell % n * g.side) ≡ pos (column_of g cell * g.side) =
-    ap (λ (m : ℕ). pos (m * g.side)) c in
-    let r' : pos (cell / n * g.side) ≡ pos (row_of g cell * g.side) =
-    ap (λ (m : ℕ). pos (m * g.side)) r in
-    same_box b (core_of g cell) (e ∙ ap (λ (z : ℤ). g.extent.x0 +ℤ z) c')
-    (f ∙ ap (λ (z : ℤ). g.extent.y0 +ℤ z) r')
-    (i ∙ ap (λ (z : ℤ). z +ℤ pos g.side) (e ∙ ap (λ (z : ℤ). g.extent.x0 +ℤ z) c'))
-    (j ∙ ap (λ (z : ℤ). z +ℤ pos g.side) (f ∙ ap (λ (z : ℤ). g.extent.y0 +ℤ z) r'))
+core_is g cell b x y e f p q r s =
+    same_box b (core_of g cell) (p ∙ e) (q ∙ f) (r ∙ ap (λ (z : ℤ). z +ℤ pos g.side) e)
+    (s ∙ ap (λ (z : ℤ). z +ℤ pos g.side) f)
 
 -- a core reaches at most a side past the extent
 pub core_near : (g : Cells) (n k cell m : ℕ) → IsGrid g n k → cell < cells g

@@ -11,6 +11,9 @@ ghost use Rattle.mpw_grid.specs.Grid.{
   window_at,
   window_of,
   found_cell,
+  column_of,
+  row_of,
+  sides_between,
   IsOnlyCell,
   IsInBlock,
   IsBoxWithin,
@@ -61,8 +64,8 @@ impl Grid {
         ensures few { IfSome result (λ g. cells g ≤ most) }
         ensures none { IfNone result (most < cells (record { extent = extent; side = side })) }
     {
-        let columns = sides_between(side, extent.x0, extent.x1) + 1;
-        let rows = sides_between(side, extent.y0, extent.y1) + 1;
+        let columns = column_count(&extent, side);
+        let rows = row_count(&extent, side);
         let Some(cells) = rows.checked_mul(columns) else {
             return None;
         };
@@ -116,8 +119,7 @@ impl Grid {
         ensures reach { IsBoxWithin (2 ^ 50) result }
         ensures near { (m : ℕ) → IsBoxWithin m self.now.extent → IsBoxWithin (m + 2 ^ 32) result }
     {
-        let x0 = self.extent.x0 + distance(cell % self.columns, self.side);
-        let y0 = self.extent.y0 + distance(cell / self.columns, self.side);
+        let (x0, y0) = (self.left_of(cell), self.bottom_of(cell));
         let side = i64::from(self.side);
         Box2 {
             x0,
@@ -125,6 +127,24 @@ impl Grid {
             x1: x0 + side,
             y1: y0 + side,
         }
+    }
+
+    /// Where the core of a cell begins from left to right.
+    fn left_of(&self, cell: u32) -> i64
+        requires { cell < cells self.now }
+        ensures place { result ≡ self.now.extent.x0 +ℤ pos (column_of self.now cell * self.now.side) }
+        ensures short { column_of self.now cell * self.now.side ≤ 2 ^ 49 }
+    {
+        self.extent.x0 + distance(cell % self.columns, self.side)
+    }
+
+    /// Where the core of a cell begins from bottom to top.
+    fn bottom_of(&self, cell: u32) -> i64
+        requires { cell < cells self.now }
+        ensures place { result ≡ self.now.extent.y0 +ℤ pos (row_of self.now cell * self.now.side) }
+        ensures short { row_of self.now cell * self.now.side ≤ 2 ^ 49 }
+    {
+        self.extent.y0 + distance(cell / self.columns, self.side)
     }
 
     /// The window of a cell: its core, wider by the margin on each side. Takes no memory.
@@ -150,9 +170,26 @@ impl Grid {
         ensures found { result ≡ found_cell self.now p }
         ensures only { IsOnlyCell self.now p result }
     {
-        let column = sides_between(self.side, self.extent.x0, p.x) as u32;
-        let row = sides_between(self.side, self.extent.y0, p.y) as u32;
-        self.cell(column, row)
+        self.cell(self.column_at(p), self.row_at(p))
+    }
+
+    /// The column of a point of the extent.
+    fn column_at(&self, p: Point) -> u32
+        requires { has_point self.now.extent p ≡ true }
+        ensures place { result ≡ sides_between self.now.side self.now.extent.x0 p.x }
+        ensures within { result < columns self.now }
+        ensures side { 1 ≤ self.now.side }
+    {
+        sides_between(self.side, self.extent.x0, p.x) as u32
+    }
+
+    /// The row of a point of the extent.
+    fn row_at(&self, p: Point) -> u32
+        requires { has_point self.now.extent p ≡ true }
+        ensures place { result ≡ sides_between self.now.side self.now.extent.y0 p.y }
+        ensures within { result < rows self.now }
+    {
+        sides_between(self.side, self.extent.y0, p.y) as u32
     }
 
     /// The cells whose windows share a unit square with the box, by division. Takes no memory.
@@ -176,6 +213,26 @@ impl Grid {
             row1,
         }
     }
+}
+
+/// The columns of a grid over an extent.
+fn column_count(extent: &Box2, side: u32) -> u64
+    requires plane { IsBoxInPlane extent.now }
+    requires side { 1 ≤ side }
+    ensures count { result ≡ columns (record { extent = extent.now; side = side }) }
+    ensures some { 1 ≤ result }
+{
+    sides_between(side, extent.x0, extent.x1) + 1
+}
+
+/// The rows of a grid over an extent.
+fn row_count(extent: &Box2, side: u32) -> u64
+    requires plane { IsBoxInPlane extent.now }
+    requires side { 1 ≤ side }
+    ensures count { result ≡ rows (record { extent = extent.now; side = side }) }
+    ensures some { 1 ≤ result }
+{
+    sides_between(side, extent.y0, extent.y1) + 1
 }
 
 /// The length of so many sides, in nm.

@@ -1,7 +1,7 @@
 -- Sorted and without repeats, the names are `by_name` of those before.
 use Rattle.std.proofs.Common.{sym, ◌∙◌}
 use Rattle.std.proofs.lemmas.List.Filters.{dedup_is}
-use Rattle.mpw_geom.specs.Names.{by_name, name_eq}
+use Rattle.mpw_geom.specs.Names.{name_eq}
 use Rattle.mpw_geom.proofs.NamesLemmas.{by_name-sorted}
 use Rattle.mpw_geom.proofs.names.Names.sort.Goals as goal
 

@@ -1,11 +1,8 @@
-use Rattle.std.proofs.Common.{◌≡◌, ℕ, ◌<◌, ◌≤◌, sym, subst, arith, rules, w64, SFits}
-use Rattle.std.specs.Prelude.{pos, ◌+ℤ◌, ◌-ℤ◌, ◌≤ℤ◌, ◌<ℤ◌, ◌↔◌}
+use Rattle.std.proofs.Common.{ℕ, ◌<◌, sym, subst, arith, rules, w64, SFits}
+use Rattle.std.specs.Prelude.{pos, ◌+ℤ◌, ◌-ℤ◌, ◌↔◌}
 use Rattle.std.proofs.lemmas.Int.{ints}
-use Rattle.mpw_geom.specs.declared.plane.Box2.{Box2}
-use Rattle.mpw_geom.specs.Plane.{HasArea}
 use Rattle.mpw_grid.specs.declared.grid.Block.{Block}
 use Rattle.mpw_grid.specs.Grid.{Cells, columns, rows, IsInBlock, ShareSquare, window_at}
-use Rattle.mpw_grid.proofs.Intervals.{Overlaps}
 use Rattle.mpw_grid.proofs.Windows.{block_meets, same_overlaps}
 use Rattle.mpw_grid.proofs.grid.Grid.meeting.Goals as goal
 
