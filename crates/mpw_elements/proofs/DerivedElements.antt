@@ -6,9 +6,9 @@ use Rattle.mpw_records.specs.Records.{RawRecord, RecordOutcome}
 use Rattle.std.specs.Prelude.{◌⊎◌}
 use Rattle.mpw_elements.specs.declared.element.Element.{Element}
 use Rattle.mpw_elements.specs.declared.element.Element.TheVariants as elements
-use Rattle.mpw_elements.specs.Reading.{◌>>=◌}
+use Rattle.mpw_elements.specs.Reading.{Reading, ◌>>=◌}
 use Rattle.mpw_elements.specs.Grammar.{boundary, path, single, array, ignored, element}
-use Rattle.mpw_elements.specs.Derivation.{Behind, is_inner, DerivesElement, records_then, Begins, ElementsAreDerived}
+use Rattle.mpw_elements.specs.Derivation.{Behind, is_inner, DerivesBoundary, DerivesPath, DerivesSingle, DerivesArray, DerivesElement, records_then, Begins, ElementsAreDerived}
 use Rattle.mpw_elements.proofs.DerivedFields.{bind_ok, done, ok_is, chosen}
 use Rattle.mpw_elements.proofs.DerivedShapes.{boundary_sound, boundary_complete, path_sound, path_complete}
 use Rattle.mpw_elements.proofs.DerivedReferences.{single_sound, single_complete, array_sound, array_complete}
@@ -67,69 +67,68 @@ ignored_complete (Behind.over {s = s} p d) start rest =
 
 -- ---- all of them
 
+-- an element that is read behind its first record is derived with it, where what is read is derived
+first_of : {A : Type 0} (unit : ℕ) (first : RawRecord) (all : List RecordOutcome)
+    (read : Reading A) (make : A → Option Element) (D : List RawRecord → A → Type 0)
+    (x : Option Element × List RecordOutcome)
+    → ((a : A × List RecordOutcome) → read ≡ Ok a → Begins all a.1 (λ rs. D rs a.0))
+    → ((rs : List RawRecord) (a : A) → D rs a → DerivesElement unit (first ∷ rs) (make a))
+    → (read >>= λ a. done (make a.0, a.1)) ≡ Ok x
+    → Begins all x.1 (λ rs. DerivesElement unit (first ∷ rs) x.0)
+first_of unit first all read make D x sound derives e =
+    let a = bind_ok read (λ a. Ok (make a.0, a.1)) x e in
+    let h = sound a.0 a.1 in
+    subst (λ (y : Option Element × List RecordOutcome).
+    Begins all y.1 (λ rs. DerivesElement unit (first ∷ rs) y.0))
+    (ok_is (make a.0.0, a.0.1) x a.2) (record {
+      records = h.records;
+      parts = h.parts;
+      told = derives h.records a.0.0 h.told;
+    })
+
 boundary_first : (unit : ℕ) (first : RawRecord) (all : List RecordOutcome)
     (x : Option Element × List RecordOutcome) → first.kind ≡ BOUNDARY
     → (boundary first.offset unit DATATYPE all >>= λ b. done (Some (elements.Boundary b.0), b.1))
     ≡ Ok x → Begins all x.1 (λ rs. DerivesElement unit (first ∷ rs) x.0)
 boundary_first unit first all x is e =
-    let a = bind_ok (boundary first.offset unit DATATYPE all)
-    (λ b. Ok (Some (elements.Boundary b.0), b.1)) x e in
-    let h = boundary_sound first.offset unit DATATYPE all a.0 a.1 in
-    subst (λ (y : Option Element × List RecordOutcome).
-    Begins all y.1 (λ rs. DerivesElement unit (first ∷ rs) y.0))
-    (ok_is (Some (elements.Boundary a.0.0), a.0.1) x a.2)
-    (record { records = h.records; parts = h.parts; told = DerivesElement.boundary is h.told })
+    first_of unit first all (boundary first.offset unit DATATYPE all)
+    (λ b. Some (elements.Boundary b)) (DerivesBoundary unit DATATYPE) x
+    (boundary_sound first.offset unit DATATYPE all) (λ rs b d. DerivesElement.boundary is d) e
 
 box_first : (unit : ℕ) (first : RawRecord) (all : List RecordOutcome)
     (x : Option Element × List RecordOutcome) → first.kind ≡ BOX
     → (boundary first.offset unit BOXTYPE all >>= λ b. done (Some (elements.Boundary b.0), b.1))
     ≡ Ok x → Begins all x.1 (λ rs. DerivesElement unit (first ∷ rs) x.0)
 box_first unit first all x is e =
-    let a = bind_ok (boundary first.offset unit BOXTYPE all)
-    (λ b. Ok (Some (elements.Boundary b.0), b.1)) x e in
-    let h = boundary_sound first.offset unit BOXTYPE all a.0 a.1 in
-    subst (λ (y : Option Element × List RecordOutcome).
-    Begins all y.1 (λ rs. DerivesElement unit (first ∷ rs) y.0))
-    (ok_is (Some (elements.Boundary a.0.0), a.0.1) x a.2)
-    (record { records = h.records; parts = h.parts; told = DerivesElement.box is h.told })
+    first_of unit first all (boundary first.offset unit BOXTYPE all)
+    (λ b. Some (elements.Boundary b)) (DerivesBoundary unit BOXTYPE) x
+    (boundary_sound first.offset unit BOXTYPE all) (λ rs b d. DerivesElement.box is d) e
 
 path_first : (unit : ℕ) (first : RawRecord) (all : List RecordOutcome)
     (x : Option Element × List RecordOutcome) → first.kind ≡ PATH
     → (path first.offset unit all >>= λ p. done (Some (elements.Path p.0), p.1)) ≡ Ok x
     → Begins all x.1 (λ rs. DerivesElement unit (first ∷ rs) x.0)
 path_first unit first all x is e =
-    let a = bind_ok (path first.offset unit all) (λ p. Ok (Some (elements.Path p.0), p.1)) x e in
-    let h = path_sound first.offset unit all a.0 a.1 in
-    subst (λ (y : Option Element × List RecordOutcome).
-    Begins all y.1 (λ rs. DerivesElement unit (first ∷ rs) y.0))
-    (ok_is (Some (elements.Path a.0.0), a.0.1) x a.2)
-    (record { records = h.records; parts = h.parts; told = DerivesElement.path is h.told })
+    first_of unit first all (path first.offset unit all) (λ p. Some (elements.Path p))
+    (DerivesPath unit) x (path_sound first.offset unit all) (λ rs p d. DerivesElement.path is d) e
 
 single_first : (unit : ℕ) (first : RawRecord) (all : List RecordOutcome)
     (x : Option Element × List RecordOutcome) → first.kind ≡ SREF
     → (single first.offset unit all >>= λ r. done (Some (elements.Reference r.0), r.1)) ≡ Ok x
     → Begins all x.1 (λ rs. DerivesElement unit (first ∷ rs) x.0)
 single_first unit first all x is e =
-    let a =
-    bind_ok (single first.offset unit all) (λ r. Ok (Some (elements.Reference r.0), r.1)) x e in
-    let h = single_sound first.offset unit all a.0 a.1 in
-    subst (λ (y : Option Element × List RecordOutcome).
-    Begins all y.1 (λ rs. DerivesElement unit (first ∷ rs) y.0))
-    (ok_is (Some (elements.Reference a.0.0), a.0.1) x a.2)
-    (record { records = h.records; parts = h.parts; told = DerivesElement.single is h.told })
+    first_of unit first all (single first.offset unit all) (λ r. Some (elements.Reference r))
+    (DerivesSingle unit) x (single_sound first.offset unit all)
+    (λ rs r d. DerivesElement.single is d) e
 
 array_first : (unit : ℕ) (first : RawRecord) (all : List RecordOutcome)
     (x : Option Element × List RecordOutcome) → first.kind ≡ AREF
     → (array first.offset unit all >>= λ r. done (Some (elements.Reference r.0), r.1)) ≡ Ok x
     → Begins all x.1 (λ rs. DerivesElement unit (first ∷ rs) x.0)
 array_first unit first all x is e =
-    let a =
-    bind_ok (array first.offset unit all) (λ r. Ok (Some (elements.Reference r.0), r.1)) x e in
-    let h = array_sound first.offset unit all a.0 a.1 in
-    subst (λ (y : Option Element × List RecordOutcome).
-    Begins all y.1 (λ rs. DerivesElement unit (first ∷ rs) y.0))
-    (ok_is (Some (elements.Reference a.0.0), a.0.1) x a.2)
-    (record { records = h.records; parts = h.parts; told = DerivesElement.array is h.told })
+    first_of unit first all (array first.offset unit all) (λ r. Some (elements.Reference r))
+    (DerivesArray unit) x (array_sound first.offset unit all)
+    (λ rs r d. DerivesElement.array is d) e
 
 either : (a b : Bool) → (a || b) ≡ true → (a ≡ true) ⊎ (b ≡ true)
 either true b e = inl refl

@@ -106,6 +106,35 @@ single_end start unit name orient next rs = do
     last.1,
   )
 
+-- what stands before the rest of a reference is read alike for one instance and for an array
+reference_sound : (start : ℕ)
+    (end : List ℕ → Orient → RawRecord → List RecordOutcome → Reading Reference)
+    (D : List RawRecord → Reference → Type 0)
+    → ((o1 o2 o3 : List RecordOutcome) (sname : RawRecord) (name : List ℕ) (orient : Orient)
+    (next : RawRecord) (rs : List RecordOutcome) (x : Reference × List RecordOutcome)
+    → Begins o1 o2 (λ rs. IsField SNAME rs sname) → name_of sname ≡ Ok name
+    → Begins o2 o3 (λ rs. DerivesOrient rs orient) → field start o3 ≡ Ok (next, rs)
+    → end name orient next rs ≡ Ok x → Begins o1 x.1 (λ rs. D rs x.0))
+    → (all : List RecordOutcome) (x : Reference × List RecordOutcome)
+    → (expected start SNAME all >>= λ sname. name_of sname.0 >>= λ name. field start sname.1
+    >>= λ next. orientation start next.0 next.1 >>= λ orient. end name orient.0.0 orient.0.1
+    orient.1) ≡ Ok x → Begins all x.1 (λ rs. D rs x.0)
+reference_sound start end D sound all x e =
+    let a = bind_ok (expected start SNAME all)
+    (λ sname. name_of sname.0 >>= λ name. field start sname.1
+    >>= λ next. orientation start next.0 next.1 >>= λ orient. end name orient.0.0 orient.0.1
+    orient.1) x e in
+    let v = bind_ok (name_of a.0.0) (λ name. field start a.0.1
+    >>= λ next. orientation start next.0 next.1 >>= λ orient. end name orient.0.0 orient.0.1
+    orient.1) x a.2 in
+    let n = bind_ok (field start a.0.1) (λ next. orientation start next.0 next.1
+    >>= λ orient. end v.0 orient.0.0 orient.0.1 orient.1) x v.2 in
+    let o = bind_ok (orientation start n.0.0 n.0.1)
+    (λ orient. end v.0 orient.0.0 orient.0.1 orient.1) x n.2 in
+    let lo = orientation_sound start a.0.1 n.0 n.1 o.0 o.1 in
+    sound all a.0.1 lo.rest a.0.0 v.0 o.0.0.0 o.0.0.1 o.0.1 x
+    (expected_sound start SNAME all a.0 a.1) v.1 lo.begins lo.ahead o.2
+
 single_end_sound : (start unit : ℕ) (o1 o2 o3 : List RecordOutcome) (sname : RawRecord)
     (name : List ℕ) (orient : Orient) (next : RawRecord) (rs : List RecordOutcome)
     (x : Reference × List RecordOutcome)
@@ -142,20 +171,8 @@ pub single_sound : (start unit : ℕ) (all : List RecordOutcome) (x : Reference 
     → single start unit all ≡ Ok x → Begins all x.1 (λ rs. DerivesSingle unit rs x.0)
 unfolding single
 single_sound start unit all x e =
-    let a = bind_ok (expected start SNAME all)
-    (λ sname. name_of sname.0 >>= λ name. field start sname.1
-    >>= λ next. orientation start next.0 next.1 >>= λ orient. single_end start unit name
-    orient.0.0 orient.0.1 orient.1) x e in
-    let v = bind_ok (name_of a.0.0) (λ name. field start a.0.1
-    >>= λ next. orientation start next.0 next.1 >>= λ orient. single_end start unit name
-    orient.0.0 orient.0.1 orient.1) x a.2 in
-    let n = bind_ok (field start a.0.1) (λ next. orientation start next.0 next.1
-    >>= λ orient. single_end start unit v.0 orient.0.0 orient.0.1 orient.1) x v.2 in
-    let o = bind_ok (orientation start n.0.0 n.0.1)
-    (λ orient. single_end start unit v.0 orient.0.0 orient.0.1 orient.1) x n.2 in
-    let lo = orientation_sound start a.0.1 n.0 n.1 o.0 o.1 in
-    single_end_sound start unit all a.0.1 lo.rest a.0.0 v.0 o.0.0.0 o.0.0.1 o.0.1 x
-    (expected_sound start SNAME all a.0 a.1) v.1 lo.begins lo.ahead o.2
+    reference_sound start (single_end start unit) (DerivesSingle unit)
+    (single_end_sound start unit) all x e
 
 pub single_complete : {unit : ℕ} {rs : List RawRecord} {r : Reference} → DerivesSingle unit rs r
     → (start : ℕ) (rest : List RecordOutcome)
@@ -241,20 +258,8 @@ pub array_sound : (start unit : ℕ) (all : List RecordOutcome) (x : Reference �
     → array start unit all ≡ Ok x → Begins all x.1 (λ rs. DerivesArray unit rs x.0)
 unfolding array
 array_sound start unit all x e =
-    let a = bind_ok (expected start SNAME all)
-    (λ sname. name_of sname.0 >>= λ name. field start sname.1
-    >>= λ next. orientation start next.0 next.1 >>= λ orient. array_end start unit name
-    orient.0.0 orient.0.1 orient.1) x e in
-    let v = bind_ok (name_of a.0.0) (λ name. field start a.0.1
-    >>= λ next. orientation start next.0 next.1 >>= λ orient. array_end start unit name
-    orient.0.0 orient.0.1 orient.1) x a.2 in
-    let n = bind_ok (field start a.0.1) (λ next. orientation start next.0 next.1
-    >>= λ orient. array_end start unit v.0 orient.0.0 orient.0.1 orient.1) x v.2 in
-    let o = bind_ok (orientation start n.0.0 n.0.1)
-    (λ orient. array_end start unit v.0 orient.0.0 orient.0.1 orient.1) x n.2 in
-    let lo = orientation_sound start a.0.1 n.0 n.1 o.0 o.1 in
-    array_end_sound start unit all a.0.1 lo.rest a.0.0 v.0 o.0.0.0 o.0.0.1 o.0.1 x
-    (expected_sound start SNAME all a.0 a.1) v.1 lo.begins lo.ahead o.2
+    reference_sound start (array_end start unit) (DerivesArray unit) (array_end_sound start unit)
+    all x e
 
 regroup5 : (a b c d e : List RawRecord) (rest : List RecordOutcome)
     → records_then (a ++ b ++ c ++ d ++ e) rest ≡ records_then a

@@ -5,6 +5,7 @@ pub mod Laid
 pub mod Lists
 pub mod NearLemmas
 pub mod Order
+pub mod Orientations
 pub mod PlacedSteps
 pub mod PlacedBoundary
 pub mod PlacedPath

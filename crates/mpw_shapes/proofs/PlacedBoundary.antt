@@ -7,7 +7,6 @@ use Rattle.std.proofs.lemmas.Bool.Decides.{Decides-int_eq}
 use Rattle.std.proofs.lemmas.List.{map-append}
 use Rattle.mpw_geom.specs.declared.plane.Point.{Point}
 use Rattle.mpw_geom.specs.declared.plane.Orient.{Orient}
-use Rattle.mpw_geom.specs.declared.plane.Orient.TheVariants.{R0, R90, R180, R270, M0, M90, M180, M270}
 use Rattle.mpw_geom.specs.declared.placing.Placing.{Placing}
 use Rattle.mpw_geom.specs.Plane.{Square}
 use Rattle.mpw_geom.specs.Placing.{mirrored_point, mirrored_square, turned_point, turned_square, moved_point, moved_square, oriented_point, oriented_square, placed_point, placed_square}
@@ -15,6 +14,7 @@ use Rattle.mpw_geom.proofs.Tests.{same_tests}
 use Rattle.mpw_elements.specs.Element.{closed, each_step, is_manhattan_step}
 use Rattle.mpw_shapes.specs.Boundary.{count_steps, rises_across, upward, downward, winding, boundary_has}
 use Rattle.mpw_shapes.proofs.Chains.{last_of, last_of_push}
+use Rattle.mpw_shapes.proofs.Orientations.{each_orientation}
 use Rattle.mpw_shapes.proofs.Whole.{winding_is}
 use Rattle.mpw_shapes.proofs.PlacedSteps.{left, above, rises_by_tests, turned_by_tests, mirrored_by_tests, moved_rises, same_side, turn_bits, mirror_bits}
 
@@ -273,19 +273,8 @@ then_carries f f' g g' a b = record {
 }
 
 orient_carries : (o : Orient) → Carries (oriented_point o) (oriented_square o)
-unfolding oriented_point oriented_square
-orient_carries R0 = nothing_carries
-orient_carries R90 = turn_carries
-orient_carries R180 = then_carries _ _ _ _ turn_carries turn_carries
-orient_carries R270 =
-    then_carries _ _ _ _ (then_carries _ _ _ _ turn_carries turn_carries) turn_carries
-orient_carries M0 = mirror_carries
-orient_carries M90 = then_carries _ _ _ _ mirror_carries turn_carries
-orient_carries M180 =
-    then_carries _ _ _ _ (then_carries _ _ _ _ mirror_carries turn_carries) turn_carries
-orient_carries M270 = then_carries _ _ _ _
-    (then_carries _ _ _ _ (then_carries _ _ _ _ mirror_carries turn_carries) turn_carries)
-    turn_carries
+orient_carries o =
+    each_orientation Carries nothing_carries then_carries mirror_carries turn_carries o
 
 pub placed_boundary : (t : Placing) (corners : List Point) (s : Square)
     → each_step is_manhattan_step (closed corners) ≡ true

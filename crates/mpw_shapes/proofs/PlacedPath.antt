@@ -9,7 +9,6 @@ use Rattle.mpw_geom.proofs.Boxes.{same_box}
 use Rattle.mpw_geom.specs.declared.plane.Box2.{Box2}
 use Rattle.mpw_geom.specs.declared.plane.Point.{Point}
 use Rattle.mpw_geom.specs.declared.plane.Orient.{Orient}
-use Rattle.mpw_geom.specs.declared.plane.Orient.TheVariants.{R0, R90, R180, R270, M0, M90, M180, M270}
 use Rattle.mpw_geom.specs.declared.placing.Placing.{Placing}
 use Rattle.mpw_geom.specs.Plane.{Square, any_has_square, has_square}
 use Rattle.mpw_geom.specs.Placing.{mirrored_point, mirrored_square, turned_point, turned_square, moved_point, moved_square, oriented_point, oriented_square, placed_point, placed_square}
@@ -18,6 +17,7 @@ use Rattle.mpw_elements.specs.declared.element.Path.{Path}
 use Rattle.mpw_elements.specs.Element.{each_step, is_segment}
 use Rattle.mpw_shapes.specs.Path.{wire_box, wire_boxes, path_has}
 use Rattle.mpw_shapes.proofs.Counts.{cases_lt_z}
+use Rattle.mpw_shapes.proofs.Orientations.{each_orientation}
 use Rattle.mpw_shapes.proofs.Wires.{wire_right, wire_left, wire_up, wire_down}
 
 -- ---- boxes
@@ -35,52 +35,22 @@ mirrored_box_has : (b : Box2) (s : Square)
     → has_square (mirrored_box b) (mirrored_square s) ≡ has_square b s
 mirrored_box_has b s =
     same_squares (mirrored_box b) b (mirrored_square s) s
-    (λ h. record {
-      left = h.left;
-      right = h.right;
-      bottom = omega (arith, ints, h.top);
-      top = omega (arith, ints, h.bottom);
-    })
-    (λ h. record {
-      left = h.left;
-      right = h.right;
-      bottom = omega (arith, ints, h.top);
-      top = omega (arith, ints, h.bottom);
-    })
+    (λ h. grind (arith, ints, h))
+    (λ h. grind (arith, ints, h))
 
 turned_box_has : (b : Box2) (s : Square)
     → has_square (turned_box b) (turned_square s) ≡ has_square b s
 turned_box_has b s =
     same_squares (turned_box b) b (turned_square s) s
-    (λ h. record {
-      left = h.bottom;
-      right = h.top;
-      bottom = omega (arith, ints, h.right);
-      top = omega (arith, ints, h.left);
-    })
-    (λ h. record {
-      left = omega (arith, ints, h.top);
-      right = omega (arith, ints, h.bottom);
-      bottom = h.left;
-      top = h.right;
-    })
+    (λ h. grind (arith, ints, h))
+    (λ h. grind (arith, ints, h))
 
 moved_box_has : (d : Point) (b : Box2) (s : Square)
     → has_square (moved_box d b) (moved_square d s) ≡ has_square b s
 moved_box_has d b s =
     same_squares (moved_box d b) b (moved_square d s) s
-    (λ h. record {
-      left = omega (arith, ints, h.left);
-      right = omega (arith, ints, h.right);
-      bottom = omega (arith, ints, h.bottom);
-      top = omega (arith, ints, h.top);
-    })
-    (λ h. record {
-      left = omega (arith, ints, h.left);
-      right = omega (arith, ints, h.right);
-      bottom = omega (arith, ints, h.bottom);
-      top = omega (arith, ints, h.top);
-    })
+    (λ h. grind (arith, ints, h))
+    (λ h. grind (arith, ints, h))
 
 -- ---- segments
 
@@ -277,19 +247,8 @@ then_carries f f' g g' a b = record {
 }
 
 orient_carries : (o : Orient) → Carries (oriented_point o) (oriented_square o)
-unfolding oriented_point oriented_square
-orient_carries R0 = nothing_carries
-orient_carries R90 = turn_carries
-orient_carries R180 = then_carries _ _ _ _ turn_carries turn_carries
-orient_carries R270 =
-    then_carries _ _ _ _ (then_carries _ _ _ _ turn_carries turn_carries) turn_carries
-orient_carries M0 = mirror_carries
-orient_carries M90 = then_carries _ _ _ _ mirror_carries turn_carries
-orient_carries M180 =
-    then_carries _ _ _ _ (then_carries _ _ _ _ mirror_carries turn_carries) turn_carries
-orient_carries M270 = then_carries _ _ _ _
-    (then_carries _ _ _ _ (then_carries _ _ _ _ mirror_carries turn_carries) turn_carries)
-    turn_carries
+orient_carries o =
+    each_orientation Carries nothing_carries then_carries mirror_carries turn_carries o
 
 wires_carried : (f : Point → Point) (g : Square → Square) → Carries f g
     → (half before end : ℤ) (ps : List Point) (s : Square) → each_step is_segment ps ≡ true

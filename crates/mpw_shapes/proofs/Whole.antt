@@ -39,47 +39,7 @@ above row p = cond (int_lt row p.y) 1 0
 step_even : (s : Square) (p q : Point) → p.x ≤ℤ s.column → q.x ≤ℤ s.column
     → cond (rises_across s p q) 1 0 + above s.row p ≡ cond (rises_across s q p) 1 0 + above s.row q
 unfolding rises_across
-step_even s p q u v =
-    elim (cases_lt_z s.row p.y) [
-      | inl a ↦
-          elim (cases_lt_z s.row q.y) [
-            | inl b ↦ rw (
-              test_from_le p.x s.column u,
-              test_from_le q.x s.column v,
-              test_from_lt s.row p.y a,
-              test_from_lt s.row q.y b,
-              not_le_test p.y s.row a,
-              not_le_test q.y s.row b,
-            )
-            | inr b ↦ rw (
-              test_from_le p.x s.column u,
-              test_from_le q.x s.column v,
-              test_from_lt s.row p.y a,
-              not_lt_test s.row q.y b,
-              not_le_test p.y s.row a,
-              test_from_le q.y s.row b,
-            )
-          ]
-      | inr a ↦
-          elim (cases_lt_z s.row q.y) [
-            | inl b ↦ rw (
-              test_from_le p.x s.column u,
-              test_from_le q.x s.column v,
-              not_lt_test s.row p.y a,
-              test_from_lt s.row q.y b,
-              test_from_le p.y s.row a,
-              not_le_test q.y s.row b,
-            )
-            | inr b ↦ rw (
-              test_from_le p.x s.column u,
-              test_from_le q.x s.column v,
-              not_lt_test s.row p.y a,
-              not_lt_test s.row q.y b,
-              test_from_le p.y s.row a,
-              test_from_le q.y s.row b,
-            )
-          ]
-    ]
+step_even s p q u v = grind (arith, ints, u, v)
 
 chain_even : (s : Square) (p : Point) (ps : List Point) → p.x ≤ℤ s.column
     → All (λ (q : Point). q.x ≤ℤ s.column) ps
