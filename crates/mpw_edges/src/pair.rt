@@ -250,8 +250,15 @@ fn ends_first(from: &Edge, to: &Edge) -> bool
     from.y1 <= to.y1
 }
 
+/// Whether the edges end in the same row.
+fn end_together(from: &Edge, to: &Edge) -> bool
+    ensures { MatchBool result (from.now.y1 ≡ to.now.y1) (from.now.y1 ≡ to.now.y1 → ⊥) }
+{
+    from.y1 == to.y1
+}
+
 /// Adds the rows of each pair of the lists' lowest bands, and tells how many edges of each list have no
-/// further pairs: the first one where it lies below the other list, or else those of the band that ends first.
+/// further pairs: those of the band that lies below the other list, or else of the band that ends first, or of both.
 fn add_bands(
     runs: &mut Vec<Run>,
     side: u8,
@@ -271,14 +278,19 @@ fn add_bands(
         runs.new.items (IsPairOf side limits.now (drop r.0 froms.now) (drop r.1 tos.now))) }
 {
     if is_below(&froms[0], &tos[0]) {
-        return Ok((1, 0));
+        let low = band_length(froms);
+        return Ok((low, 0));
     }
     if is_below(&tos[0], &froms[0]) {
-        return Ok((0, 1));
+        let lower = band_length(tos);
+        return Ok((0, lower));
     }
     let band = band_length(froms);
     let other = band_length(tos);
     add_band_pairs(runs, side, &froms[..band], &tos[..other], limits)?;
+    if end_together(&froms[0], &tos[0]) {
+        return Ok((band, other));
+    }
     if ends_first(&froms[0], &tos[0]) {
         Ok((band, 0))
     } else {
