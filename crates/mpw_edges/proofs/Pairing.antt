@@ -247,34 +247,33 @@ moves_as old new P Q R h f g = record {
     from line at (inl c) = inl c
     from line at (inr q) = inr (f line at q)
 
--- the band of the first list has no pairs where it lies below the other list
+-- edges of the first list that end below the other list have no pairs
 pub past_low_from : (runs : List Run) (side : ℕ) (limits : Limits) (froms tos : List Edge) (m : ℕ)
-    → IsBand froms m → AreEdges tos
-    → (get_or froms 0 no_edge).y1 ≤ℤ (get_or tos 0 no_edge).y0
+    → AreEdges tos → All (λ (e : Edge). e.y1 ≤ℤ (get_or tos 0 no_edge).y0) (take m froms)
     → Moves runs (IsPairOf side limits froms tos) runs (IsPairOf side limits (drop m froms) tos)
-past_low_from runs side limits froms tos m f h below =
+past_low_from runs side limits froms tos m h low =
     moves_as runs runs (IsPairOf side limits froms tos) (IsPairOf side limits froms tos)
     (IsPairOf side limits (drop m froms) tos)
     (Moves-start runs (IsPairOf side limits froms tos))
     (λ line j p. elim (held_parts (λ from. IsPairFrom side limits tos from line j) froms m p) [
       | inr rest ↦ rest
-      | inl low ↦ absurd (never line j low)
+      | inl first ↦ absurd (never line j first)
     ])
     (λ line j p. held_drop (λ from. IsPairFrom side limits tos from line j) froms m p)
   where
     never : (line : Line) (j : ℤ) → IsPairOf side limits (take m froms) tos line j → ⊥
     never line j p =
-        let first = (rows_in froms m p.0 f p.1).1 in
-        apart side limits p.0 p.2.0 line j p.2.2
-        (inr (none_lower tos p.2.0 p.0.y1 h p.2.1 (omega (arith, ints, below, first))))
+        apart side limits p.0 p.2.0 line j p.2.2 (inr (none_lower tos p.2.0 p.0.y1 h p.2.1
+        (All-contains (λ (e : Edge). e.y1 ≤ℤ (get_or tos 0 no_edge).y0) (take m froms) p.0 low
+        p.1)))
 
--- the band of the second list has no pairs where it lies below each edge of the first
+-- edges of the second list that end below each of the first have no pairs
 past_under : (old new : List Run) (P : Line → ℤ → Type 0) (side : ℕ) (limits : Limits)
-    (froms tos : List Edge) (n : ℕ) → IsBand tos n
-    → ((from : Edge) → Contains froms from → (get_or tos 0 no_edge).y1 ≤ℤ from.y0)
+    (froms tos : List Edge) (n : ℕ)
+    → ((from to : Edge) → Contains froms from → Contains (take n tos) to → to.y1 ≤ℤ from.y0)
     → Moves old P new (IsPairOf side limits froms tos)
     → Moves old P new (IsPairOf side limits froms (drop n tos))
-past_under old new P side limits froms tos n t under h =
+past_under old new P side limits froms tos n under h =
     moves_as old new P (IsPairOf side limits froms tos) (IsPairOf side limits froms (drop n tos)) h
     (λ line j p. elim (held_parts (λ to. IsPairPlace side limits p.0 to line j) tos n p.2) [
       | inr rest ↦ (p.0, p.1, rest)
@@ -284,18 +283,15 @@ past_under old new P side limits froms tos n t under h =
   where
     never : (line : Line) (j : ℤ) (from : Edge) → Contains froms from
         → IsPairFrom side limits (take n tos) from line j → ⊥
-    never line j from c p =
-        let first = (rows_in tos n p.0 t p.1).1 in
-        let low = under from c in
-        apart side limits from p.0 line j p.2 (inl (omega (arith, ints, low, first)))
+    never line j from c p = apart side limits from p.0 line j p.2 (inl (under from p.0 c p.1))
 
 pub past_low_to : (runs : List Run) (side : ℕ) (limits : Limits) (froms tos : List Edge) (n : ℕ)
-    → IsBand tos n → AreEdges froms
-    → (get_or tos 0 no_edge).y1 ≤ℤ (get_or froms 0 no_edge).y0
+    → AreEdges froms → All (λ (e : Edge). e.y1 ≤ℤ (get_or froms 0 no_edge).y0) (take n tos)
     → Moves runs (IsPairOf side limits froms tos) runs (IsPairOf side limits froms (drop n tos))
-past_low_to runs side limits froms tos n t h below =
-    past_under runs runs (IsPairOf side limits froms tos) side limits froms tos n t
-    (λ from c. none_lower froms from (get_or tos 0 no_edge).y1 h c below)
+past_low_to runs side limits froms tos n h low =
+    past_under runs runs (IsPairOf side limits froms tos) side limits froms tos n
+    (λ from to c d. none_lower froms from to.y1 h c
+    (All-contains (λ (e : Edge). e.y1 ≤ℤ (get_or froms 0 no_edge).y0) (take n tos) to low d))
     (Moves-start runs (IsPairOf side limits froms tos))
 
 -- bands that end together have no further pairs
@@ -306,8 +302,11 @@ pub past_both : (old mid new : List Run) (P : Line → ℤ → Type 0) (side : �
     → Adds mid new (IsPairOf side limits (take m froms) (take n tos))
     → Moves old P new (IsPairOf side limits (drop m froms) (drop n tos))
 past_both old mid new P side limits froms tos m n f t same h g =
-    past_under old new P side limits (drop m froms) tos n t
-    (λ from c. let above = above_in froms m from f c in omega (arith, ints, above, same))
+    past_under old new P side limits (drop m froms) tos n
+    (λ from to c d.
+    let above = above_in froms m from f c in
+    let rows = (rows_in tos n to t d).1 in
+    omega (arith, ints, above, rows, same))
     (past_from old mid new P side limits froms tos m n f t (omega (arith, ints, same)) h g)
 
 pub Moves-on : (old mid new : List Run) (P : Line → ℤ → Type 0) (side : ℕ) (limits : Limits)

@@ -2,15 +2,15 @@ use Rattle.mpw_edges.specs.Internal.Pairs.{IsPairOf}
 use Rattle.mpw_edges.proofs.Pairing.{Moves-start, past_low_from, past_low_to, past_from, past_to, past_both}
 use Rattle.mpw_edges.proofs.pair.add_bands.Goals as goal
 
-pub returns-then-is_below-clause-moves : goal.returns-then-is_below-clause-moves
-returns-then-is_below-clause-moves c = past_low_from c.args.runs.now.items c.args.side
-    c.args.limits.now c.args.froms.now c.args.tos.now c.band_length-low.result
-    c.band_length-low.ensures c.requires.tos c.if-is_below.ensures
+pub returns-then-low-gt0-clause-moves : goal.returns-then-low-gt0-clause-moves
+returns-then-low-gt0-clause-moves c =
+    past_low_from c.args.runs.now.items c.args.side c.args.limits.now c.args.froms.now
+    c.args.tos.now c.count_below-low.result c.requires.tos c.count_below-low.ensures.below
 
-pub returns-then-is_below-2-clause-moves : goal.returns-then-is_below-2-clause-moves
-returns-then-is_below-2-clause-moves c = past_low_to c.args.runs.now.items c.args.side
-    c.args.limits.now c.args.froms.now c.args.tos.now c.band_length-lower.result
-    c.band_length-lower.ensures c.requires.froms c.if-is_below-2.ensures
+pub returns-then-lower-gt0-clause-moves : goal.returns-then-lower-gt0-clause-moves
+returns-then-lower-gt0-clause-moves c =
+    past_low_to c.args.runs.now.items c.args.side c.args.limits.now c.args.froms.now
+    c.args.tos.now c.count_below-lower.result c.requires.froms c.count_below-lower.ensures.below
 
 pub returns-then-end_together-clause-moves : goal.returns-then-end_together-clause-moves
 returns-then-end_together-clause-moves c =
