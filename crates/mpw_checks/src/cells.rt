@@ -63,7 +63,7 @@ fn add_core(
         (λ rule. StepsIn rule layers.now.first.items layers.now.second.items core V)) }
 {
     let load = layers.load;
-    if depth == 0 || load.is_light() {
+    if depth == 0 || !load.may_be_eased(&core, distance) {
         return add_strip(alloc, strips, layers, core, distance);
     }
     let (left, right) = halves(&core, &load.extent);

@@ -108,19 +108,18 @@ fn has_area(b: &Box2) -> bool
     b.x0 < b.x1 && b.y0 < b.y1
 }
 
-/// The parts of the boxes in the window, and how much work they are. One pass.
+/// The parts of the boxes in the window, and how much work they are. Two passes.
 fn parts(alloc: Global, boxes: &[Box2], window: &Box2) -> Result<Loaded, AllocError>
     ensures { IfOk result (λ s. AreAlikeIn window.now boxes.now s.boxes.items) }
 {
     let mut found = Vec::with_capacity(alloc, boxes.len())?;
-    let mut load = Load::none();
     for b in boxes {
         let part = part(b, window);
         if has_area(&part) {
             found.push(part)?;
-            load.add(&part);
         }
     }
+    let load = Load::of(found.as_slice());
     Ok(Loaded { boxes: found, load })
 }
 

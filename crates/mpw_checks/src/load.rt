@@ -5,6 +5,9 @@ use mpw_geom::Box2;
 /// So few rectangles are a strip.
 const FEW: u64 = 16;
 
+/// So many may crowd in some rows.
+const MANY: u64 = 512;
+
 /// What a rectangle costs beside the bands that it shares.
 const ITSELF: u64 = 12;
 
@@ -26,35 +29,33 @@ fn joined(a: &Box2, b: &Box2) -> Box2 {
     }
 }
 
-impl Load {
-    /// The load of no rectangle.
-    pub(crate) fn none() -> Load {
-        Load {
-            count: 0,
-            heights: 0,
-            extent: Box2 {
-                x0: i64::MAX,
-                y0: i64::MAX,
-                x1: i64::MIN,
-                y1: i64::MIN,
-            },
-        }
-    }
+/// How many of those in the whole width a part of it has.
+fn share(count: u64, part: u64, whole: u64) -> u64 {
+    count
+        .saturating_mul(part)
+        .checked_div(whole)
+        .unwrap_or(count)
+}
 
+impl Load {
     /// The load of the rectangles. One pass.
     pub(crate) fn of(boxes: &[Box2]) -> Load {
-        let mut load = Load::none();
+        let mut heights = 0u64;
+        let mut extent = Box2 {
+            x0: i64::MAX,
+            y0: i64::MAX,
+            x1: i64::MIN,
+            y1: i64::MIN,
+        };
         for b in boxes {
-            load.add(b);
+            heights = heights.saturating_add(b.y0.abs_diff(b.y1));
+            extent = joined(&extent, b);
         }
-        load
-    }
-
-    /// Adds a rectangle.
-    pub(crate) fn add(&mut self, b: &Box2) {
-        self.count = self.count.saturating_add(1);
-        self.heights = self.heights.saturating_add(b.y0.abs_diff(b.y1));
-        self.extent = joined(&self.extent, b);
+        Load {
+            count: boxes.len() as u64,
+            heights,
+            extent,
+        }
     }
 
     /// The load of both together.
@@ -66,16 +67,35 @@ impl Load {
         }
     }
 
-    /// Whether there are so few rectangles that halves would be no gain.
-    pub(crate) fn is_light(&self) -> bool {
-        self.count <= FEW
+    /// How many rectangles a row has.
+    fn in_a_row(&self) -> u64 {
+        let height = self.extent.y0.abs_diff(self.extent.y1);
+        self.heights.checked_div(height).unwrap_or(0)
     }
 
     /// About how many boxes the bands have: two borders a rectangle, each with as many rectangles as a row has.
-    pub(crate) fn work(&self) -> u64 {
-        let height = self.extent.y0.abs_diff(self.extent.y1);
-        let in_a_row = self.heights.checked_div(height).unwrap_or(0);
-        self.count.saturating_mul(in_a_row.saturating_add(ITSELF))
+    fn work(&self) -> u64 {
+        self.count
+            .saturating_mul(self.in_a_row().saturating_add(ITSELF))
+    }
+
+    /// Whether halves of a core may be a gain: there are more than a few rectangles, and either many or such that halves
+    /// of narrow and evenly spread ones, whose windows overlap by a margin on each side of the cut, would be less work by
+    /// more than one part in eight. It saves the passes that make halves in vain.
+    pub(crate) fn may_be_eased(&self, core: &Box2, distance: u32) -> bool {
+        if self.count <= FEW || self.count > MANY {
+            return self.count > FEW;
+        }
+        let margins = u64::from(distance).saturating_add(1).saturating_mul(2);
+        let width = core.x0.abs_diff(core.x1);
+        let whole = width.saturating_add(margins);
+        let half = (width / 2).saturating_add(margins);
+        let in_a_row = share(self.in_a_row(), half, whole).saturating_add(ITSELF);
+        let halves = share(self.count, half, whole)
+            .saturating_mul(in_a_row)
+            .saturating_mul(2);
+        let work = self.work();
+        halves < work.saturating_sub(work / 8)
     }
 
     /// Whether two halves are less work by more than one part in sixteen.

@@ -1,5 +1,5 @@
 -- Two lists of edges gone through by bands: what is found, and what is left to find.
-use Rattle.std.proofs.Common.{◌≡◌, ℕ, ◌+◌, ◌<◌, ◌≤◌, ℤ, pos, ◌-ℤ◌, ◌≤ℤ◌, ◌<ℤ◌, Bool, true, false, List, [], ◌∷◌, length, get_or, take, drop, ◌⊎◌, inl, inr, subst, sym, ap, ◌∙◌, arith}
+use Rattle.std.proofs.Common.{◌≡◌, ℕ, ◌+◌, ◌<◌, ◌≤◌, ℤ, pos, ◌-ℤ◌, ◌≤ℤ◌, ◌<ℤ◌, Bool, true, false, List, length, get_or, take, drop, ◌⊎◌, inl, inr, subst, sym, ap, ◌∙◌, arith}
 use Rattle.std.specs.Prelude.{All, AllPairs, Contains, MatchBool}
 use Rattle.std.proofs.lemmas.Int.{ints}
 use Rattle.std.proofs.lemmas.Bool.{cases_lt}
@@ -208,7 +208,7 @@ past_to old mid new P side limits froms tos m n f t first h g =
           p.2,
     )
 
--- ---- an edge below the other list
+-- ---- a band below the other list
 
 -- what lies below the first edge lies below each
 none_lower : (edges : List Edge) (e : Edge) (y : ℤ) → AreEdges edges → Contains edges e
@@ -225,58 +225,89 @@ none_lower edges e y h c below =
           omega (arith, ints, below, same, is)
     ]
 
-only_first : (edges : List Edge) (e : Edge) → Contains (take 1 edges) e → get_or edges 0 no_edge ≡ e
-only_first [] e c = absurd (omega (arith, c.1))
-only_first (x ∷ xs) e c =
-    let z : 0 ≡ c.0 = omega (arith, c.1) in ap (λ (m : ℕ). get_or (x ∷ []) m e) z ∙ c.2
-
--- nothing is added, and what is left has all the pairs
-moves_past : (runs : List Run) (P Q : Line → ℤ → Type 0)
-    → ((line : Line) (at : ℤ) → P line at → Q line at)
-    → ((line : Line) (at : ℤ) → Q line at → P line at) → Moves runs P runs Q
-moves_past runs P Q f g = record {
+-- what is left to find, told in other words
+moves_as : (old new : List Run) (P Q R : Line → ℤ → Type 0) → Moves old P new Q
+    → ((line : Line) (at : ℤ) → Q line at → R line at)
+    → ((line : Line) (at : ℤ) → R line at → Q line at) → Moves old P new R
+moves_as old new P Q R h f g = record {
   places = λ line at. (
-    λ p. elim p [ inl c ↦ inl c | inr q ↦ inr (g line at q) ],
-    λ p. elim p [ inl c ↦ inl c | inr q ↦ inr (f line at q) ],
+    λ p. (h.places line at).0 (to line at p),
+    λ p. from line at ((h.places line at).1 p),
   );
-  filled = λ a. a;
+  filled = h.filled;
 }
-
--- the first edge of a list that lies below the other list has no pairs
-pub past_low_from : (runs : List Run) (side : ℕ) (limits : Limits) (froms tos : List Edge)
-    → AreEdges tos → (get_or froms 0 no_edge).y1 ≤ℤ (get_or tos 0 no_edge).y0
-    → Moves runs (IsPairOf side limits froms tos) runs (IsPairOf side limits (drop 1 froms) tos)
-past_low_from runs side limits froms tos h below =
-    moves_past runs (IsPairOf side limits froms tos) (IsPairOf side limits (drop 1 froms) tos)
-    (λ line j p. elim (held_parts (λ from. IsPairFrom side limits tos from line j) froms 1 p) [
-      | inr rest ↦ rest
-      | inl low ↦ absurd (never line j low)
-    ])
-    (λ line j p. held_drop (λ from. IsPairFrom side limits tos from line j) froms 1 p)
   where
-    never : (line : Line) (j : ℤ) → IsPairOf side limits (take 1 froms) tos line j → ⊥
-    never line j p =
-        let first = ap (λ (x : Edge). x.y1) (only_first froms p.0 p.1) in
-        apart side limits p.0 p.2.0 line j p.2.2
-        (inr (none_lower tos p.2.0 p.0.y1 h p.2.1 (omega (arith, ints, below, first))))
+    to : (line : Line) (at : ℤ) → CoversPlace new line at ⊎ R line at → CoversPlace new line at
+        ⊎ Q line at
+    to line at (inl c) = inl c
+    to line at (inr r) = inr (g line at r)
 
-pub past_low_to : (runs : List Run) (side : ℕ) (limits : Limits) (froms tos : List Edge)
-    → AreEdges froms → (get_or tos 0 no_edge).y1 ≤ℤ (get_or froms 0 no_edge).y0
-    → Moves runs (IsPairOf side limits froms tos) runs (IsPairOf side limits froms (drop 1 tos))
-past_low_to runs side limits froms tos h below =
-    moves_past runs (IsPairOf side limits froms tos) (IsPairOf side limits froms (drop 1 tos))
-    (λ line j p. elim (held_parts (λ to. IsPairPlace side limits p.0 to line j) tos 1 p.2) [
+    from : (line : Line) (at : ℤ) → CoversPlace new line at ⊎ Q line at → CoversPlace new line at
+        ⊎ R line at
+    from line at (inl c) = inl c
+    from line at (inr q) = inr (f line at q)
+
+-- edges of the first list that end below the other list have no pairs
+pub past_low_from : (runs : List Run) (side : ℕ) (limits : Limits) (froms tos : List Edge) (m : ℕ)
+    → AreEdges tos → All (λ (e : Edge). e.y1 ≤ℤ (get_or tos 0 no_edge).y0) (take m froms)
+    → Moves runs (IsPairOf side limits froms tos) runs (IsPairOf side limits (drop m froms) tos)
+past_low_from runs side limits froms tos m h low =
+    moves_as runs runs (IsPairOf side limits froms tos) (IsPairOf side limits froms tos)
+    (IsPairOf side limits (drop m froms) tos)
+    (Moves-start runs (IsPairOf side limits froms tos))
+    (λ line j p. elim (held_parts (λ from. IsPairFrom side limits tos from line j) froms m p) [
+      | inr rest ↦ rest
+      | inl first ↦ absurd (never line j first)
+    ])
+    (λ line j p. held_drop (λ from. IsPairFrom side limits tos from line j) froms m p)
+  where
+    never : (line : Line) (j : ℤ) → IsPairOf side limits (take m froms) tos line j → ⊥
+    never line j p =
+        apart side limits p.0 p.2.0 line j p.2.2 (inr (none_lower tos p.2.0 p.0.y1 h p.2.1
+        (All-contains (λ (e : Edge). e.y1 ≤ℤ (get_or tos 0 no_edge).y0) (take m froms) p.0 low
+        p.1)))
+
+-- edges of the second list that end below each of the first have no pairs
+past_under : (old new : List Run) (P : Line → ℤ → Type 0) (side : ℕ) (limits : Limits)
+    (froms tos : List Edge) (n : ℕ)
+    → ((from to : Edge) → Contains froms from → Contains (take n tos) to → to.y1 ≤ℤ from.y0)
+    → Moves old P new (IsPairOf side limits froms tos)
+    → Moves old P new (IsPairOf side limits froms (drop n tos))
+past_under old new P side limits froms tos n under h =
+    moves_as old new P (IsPairOf side limits froms tos) (IsPairOf side limits froms (drop n tos)) h
+    (λ line j p. elim (held_parts (λ to. IsPairPlace side limits p.0 to line j) tos n p.2) [
       | inr rest ↦ (p.0, p.1, rest)
       | inl low ↦ absurd (never line j p.0 p.1 low)
     ])
-    (λ line j p. (p.0, p.1, held_drop (λ to. IsPairPlace side limits p.0 to line j) tos 1 p.2))
+    (λ line j p. (p.0, p.1, held_drop (λ to. IsPairPlace side limits p.0 to line j) tos n p.2))
   where
     never : (line : Line) (j : ℤ) (from : Edge) → Contains froms from
-        → IsPairFrom side limits (take 1 tos) from line j → ⊥
-    never line j from c p =
-        let first = ap (λ (x : Edge). x.y1) (only_first tos p.0 p.1) in
-        apart side limits from p.0 line j p.2
-        (inl (none_lower froms from p.0.y1 h c (omega (arith, ints, below, first))))
+        → IsPairFrom side limits (take n tos) from line j → ⊥
+    never line j from c p = apart side limits from p.0 line j p.2 (inl (under from p.0 c p.1))
+
+pub past_low_to : (runs : List Run) (side : ℕ) (limits : Limits) (froms tos : List Edge) (n : ℕ)
+    → AreEdges froms → All (λ (e : Edge). e.y1 ≤ℤ (get_or froms 0 no_edge).y0) (take n tos)
+    → Moves runs (IsPairOf side limits froms tos) runs (IsPairOf side limits froms (drop n tos))
+past_low_to runs side limits froms tos n h low =
+    past_under runs runs (IsPairOf side limits froms tos) side limits froms tos n
+    (λ from to c d. none_lower froms from to.y1 h c
+    (All-contains (λ (e : Edge). e.y1 ≤ℤ (get_or froms 0 no_edge).y0) (take n tos) to low d))
+    (Moves-start runs (IsPairOf side limits froms tos))
+
+-- bands that end together have no further pairs
+pub past_both : (old mid new : List Run) (P : Line → ℤ → Type 0) (side : ℕ) (limits : Limits)
+    (froms tos : List Edge) (m n : ℕ) → IsBand froms m → IsBand tos n
+    → (get_or froms 0 no_edge).y1 ≡ (get_or tos 0 no_edge).y1
+    → Moves old P mid (IsPairOf side limits froms tos)
+    → Adds mid new (IsPairOf side limits (take m froms) (take n tos))
+    → Moves old P new (IsPairOf side limits (drop m froms) (drop n tos))
+past_both old mid new P side limits froms tos m n f t same h g =
+    past_under old new P side limits (drop m froms) tos n
+    (λ from to c d.
+    let above = above_in froms m from f c in
+    let rows = (rows_in tos n to t d).1 in
+    omega (arith, ints, above, rows, same))
+    (past_from old mid new P side limits froms tos m n f t (omega (arith, ints, same)) h g)
 
 pub Moves-on : (old mid new : List Run) (P : Line → ℤ → Type 0) (side : ℕ) (limits : Limits)
     (froms tos F T : List Edge) (i j m n : ℕ) → F ≡ drop i froms → T ≡ drop j tos

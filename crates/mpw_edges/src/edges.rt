@@ -11,6 +11,8 @@ ghost use Rattle.mpw_edges.specs.Internal.Pairs.{
   IsPairOf,
   IsBetween,
   edge_of,
+  rise_of,
+  fall_of,
   separation_ends,
   enclosing_ends,
 };
@@ -38,21 +40,25 @@ pub(crate) struct Ends {
     pub(crate) back_to: End,
 }
 
-/// The edge at an end of a box.
-fn edge(b: &Box2, end: End) -> Edge
-    ensures { result ≡ edge_of end b.now }
+/// The edge at which a box begins.
+fn rise(b: &Box2) -> Edge
+    ensures { result ≡ rise_of b.now }
 {
-    match end {
-        End::Rise => Edge {
-            x: b.x0,
-            y0: b.y0,
-            y1: b.y1,
-        },
-        End::Fall => Edge {
-            x: b.x1,
-            y0: b.y0,
-            y1: b.y1,
-        },
+    Edge {
+        x: b.x0,
+        y0: b.y0,
+        y1: b.y1,
+    }
+}
+
+/// The edge at which a box ends.
+fn fall(b: &Box2) -> Edge
+    ensures { result ≡ fall_of b.now }
+{
+    Edge {
+        x: b.x1,
+        y0: b.y0,
+        y1: b.y1,
     }
 }
 
@@ -60,7 +66,10 @@ fn edge(b: &Box2, end: End) -> Edge
 fn edges(alloc: Global, boxes: &[Box2], end: End) -> Result<Vec<Edge>, AllocError>
     ensures { IfOk result (λ v. v.items ≡ map (edge_of end) boxes.now) }
 {
-    boxes.iter().map(|b| edge(b, end)).collect(alloc)
+    match end {
+        End::Rise => boxes.iter().map(|b| rise(b)).collect(alloc),
+        End::Fall => boxes.iter().map(|b| fall(b)).collect(alloc),
+    }
 }
 
 /// Adds the rows of the pairs on one side: of edges at an end of the first boxes with later ones at an end of the second.
@@ -90,7 +99,7 @@ fn add_widths(runs: &mut Vec<Run>, boxes: &[Box2], limits: &Limits) -> Result<()
     ensures { OnOk result (Adds runs.old.items runs.new.items (IsWidthOf limits.now boxes.now)) }
 {
     for b in boxes {
-        add_pair(runs, 0, &edge(b, End::Rise), &edge(b, End::Fall), limits)?;
+        add_pair(runs, 0, &rise(b), &fall(b), limits)?;
     }
     Ok(())
 }

@@ -32,7 +32,7 @@ use mpw_region::{Line, Run};
 use std::alloc::AllocError;
 
 /// So many edges are looked at one by one before a binary search.
-const FEW: usize = 8;
+const FEW: usize = 16;
 
 /// An edge at `x` through the rows from `y0` to before `y1`, in nm.
 #[derive(Clone, Copy, Debug, PartialEq, Eq)]
@@ -236,11 +236,17 @@ fn band_length(edges: &[Edge]) -> usize
     edges.partition_point(|edge| edge.y0 <= first.y0)
 }
 
-/// Whether the first edge ends where the second begins or below it.
-fn is_below(from: &Edge, to: &Edge) -> bool
-    ensures { MatchBool result (from.now.y1 ≤ℤ to.now.y0) (to.now.y0 <ℤ from.now.y1) }
+/// How many edges, from the first on, end where the other begins or below it. A test an edge and one more.
+fn count_below(edges: &[Edge], other: &Edge) -> usize
+    ensures within { result ≤ length edges.now }
+    ensures below { All (λ e. e.y1 ≤ℤ other.now.y0) (take result edges.now) }
 {
-    from.y1 <= to.y0
+    for n in 0..edges.len() {
+        if other.y0 < edges[n].y1 {
+            return n;
+        }
+    }
+    edges.len()
 }
 
 /// Whether the first edge ends no higher than the second.
@@ -250,8 +256,15 @@ fn ends_first(from: &Edge, to: &Edge) -> bool
     from.y1 <= to.y1
 }
 
+/// Whether the edges end in the same row.
+fn end_together(from: &Edge, to: &Edge) -> bool
+    ensures { MatchBool result (from.now.y1 ≡ to.now.y1) (from.now.y1 ≡ to.now.y1 → ⊥) }
+{
+    from.y1 == to.y1
+}
+
 /// Adds the rows of each pair of the lists' lowest bands, and tells how many edges of each list have no
-/// further pairs: the first one where it lies below the other list, or else those of the band that ends first.
+/// further pairs: those that lie below the other list, or else the band that ends first, or both bands.
 fn add_bands(
     runs: &mut Vec<Run>,
     side: u8,
@@ -270,15 +283,20 @@ fn add_bands(
         Moves runs.old.items (IsPairOf side limits.now froms.now tos.now)
         runs.new.items (IsPairOf side limits.now (drop r.0 froms.now) (drop r.1 tos.now))) }
 {
-    if is_below(&froms[0], &tos[0]) {
-        return Ok((1, 0));
+    let low = count_below(froms, &tos[0]);
+    if low > 0 {
+        return Ok((low, 0));
     }
-    if is_below(&tos[0], &froms[0]) {
-        return Ok((0, 1));
+    let lower = count_below(tos, &froms[0]);
+    if lower > 0 {
+        return Ok((0, lower));
     }
     let band = band_length(froms);
     let other = band_length(tos);
     add_band_pairs(runs, side, &froms[..band], &tos[..other], limits)?;
+    if end_together(&froms[0], &tos[0]) {
+        return Ok((band, other));
+    }
     if ends_first(&froms[0], &tos[0]) {
         Ok((band, 0))
     } else {

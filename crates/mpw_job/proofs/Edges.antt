@@ -1,12 +1,13 @@
 -- Each pair step has a square beside its first edge.
-use Rattle.std.proofs.Common.{◌≡◌, ℕ, true, List, [], Option, Some, None, inl, inr, arith, rules}
-use Rattle.std.specs.Prelude.{ℤ, pos, ◌-ℤ◌, ◌≤ℤ◌, ◌<ℤ◌}
-use Rattle.std.proofs.lemmas.Bool.{false≢true}
+use Rattle.std.proofs.Common.{◌≡◌, ℕ, true, ◌&&◌, List, [], get_or, Option, Some, None, inl, inr, refl, arith, rules}
+use Rattle.std.specs.Prelude.{ℤ, pos, ◌-ℤ◌, ◌≤ℤ◌, ◌<ℤ◌, All}
+use Rattle.std.proofs.lemmas.Bool.{false≢true, and_parts}
 use Rattle.std.proofs.lemmas.Int.{ints}
+use Rattle.std.proofs.lemmas.List.Elements.{Contains-get_or}
 use Rattle.mpw_geom.specs.declared.plane.Layer.{Layer}
 use Rattle.mpw_geom.specs.declared.plane.Point.{Point}
 use Rattle.mpw_geom.specs.declared.plane.Box2.{Box2}
-use Rattle.mpw_geom.specs.Plane.{Square, has_point, closed_square}
+use Rattle.mpw_geom.specs.Plane.{Square, has_point, has_square, closed_square}
 use Rattle.mpw_geom.proofs.Tests.{test_from_PointIn}
 use Rattle.mpw_deck.specs.declared.rule.Rule.{Rule}
 use Rattle.mpw_deck.specs.declared.rule.Check.{Check}
@@ -15,18 +16,22 @@ use Rattle.mpw_edges.specs.declared.run.Axis.{Axis}
 use Rattle.mpw_edges.specs.declared.run.Axis.TheVariants.{V, H}
 use Rattle.mpw_edges.specs.Edges.{Squares, exchanged}
 use Rattle.mpw_edges.specs.Steps.{IsPairStep}
+use Rattle.mpw_edges.specs.Pieces.{HasStep}
 use Rattle.mpw_edges.specs.Computed.{TestDecidesPairSteps}
 use Rattle.mpw_hier.specs.Items.{Item}
+use Rattle.mpw_tiles.specs.declared.listing.Rectangle.{Rectangle}
 use Rattle.mpw_tiles.specs.Laws.{IsStepOn, SquaresLieInExtents}
 use Rattle.mpw_tiles.specs.Snapshots.{shown, shown_extent}
 use Rattle.mpw_markers.specs.declared.marker.Key.{Key}
 use Rattle.mpw_markers.specs.Markers.{key_of, line_of_key, box_on}
 use Rattle.mpw_markers.specs.Book.{IsBook}
 use Rattle.mpw_markers.specs.Whole.{IsMet, IsMaximal}
-use Rattle.mpw_job.specs.Layers.{first_squares, second_squares, steps_of}
+use Rattle.mpw_job.specs.Layers.{same_layer, Coverage, first_squares, second_squares, steps_of}
+use Rattle.mpw_job.specs.Answers.{Task, listed_on, HasListed, IsFoundIn}
+use Rattle.mpw_job.specs.Internal.Found.{run_at, AreKeys, MeetsSome}
 use Rattle.mpw_job.specs.Layout.{shown_on, HasShown}
 use Rattle.mpw_job.specs.Laws.{EachMarkerMeetsSome, NoShapesNoMarkers}
-use Rattle.mpw_job.proofs.Tests.{step_on, rule_of}
+use Rattle.mpw_job.proofs.Tests.{step_on, rule_of, some_passes}
 use Rattle.mpw_job.proofs.Shapes.{tests_tell}
 
 -- a square in the row beside the first edge
@@ -91,29 +96,37 @@ beside P (Enclosing l m) distance a b side x1 x2 j f g h =
       }
     ]
 
--- a shape shows the square
-abbrev IsSeen : List Item → Square → Type 0
-IsSeen items s = (origin : ℕ) × HasShown items origin s
+-- squares that a test tells are there
+abbrev IsSeen : (ℕ → Square → Type 0) → Square → Type 0
+IsSeen has s = (origin : ℕ) × has origin s
 
-seen_on : (items : List Item) (layer : Layer) (i j : ℤ) → shown_on items layer i j ≡ true
-    → IsSeen items (record { column = i; row = j })
-seen_on items layer i j e = let p = (tests_tell items layer).shown i j e in (p.0, (layer, p.1))
+abbrev TellsSeen : Coverage → (ℕ → Square → Type 0) → Type 0
+TellsSeen on has = (layer : Layer) (i j : ℤ) → on layer i j ≡ true
+    → IsSeen has (record { column = i; row = j })
 
-seen_first : (check : Check) (items : List Item) (i j : ℤ)
-    → first_squares check (shown_on items) i j ≡ true
-    → IsSeen items (record { column = i; row = j })
-seen_first (Width l) items i j e = seen_on items l i j e
-seen_first (Space l) items i j e = seen_on items l i j e
-seen_first (Separation l m) items i j e = seen_on items l i j e
-seen_first (Enclosing l m) items i j e = seen_on items l i j e
+seen_first : (check : Check) (on : Coverage) (has : ℕ → Square → Type 0) → TellsSeen on has
+    → (i j : ℤ) → first_squares check on i j ≡ true → IsSeen has (record { column = i; row = j })
+seen_first (Width l) on has tells = tells l
+seen_first (Space l) on has tells = tells l
+seen_first (Separation l m) on has tells = tells l
+seen_first (Enclosing l m) on has tells = tells l
 
-seen_second : (check : Check) (items : List Item) (i j : ℤ)
-    → second_squares check (shown_on items) i j ≡ true
-    → IsSeen items (record { column = i; row = j })
-seen_second (Width l) items i j e = absurd (false≢true e)
-seen_second (Space l) items i j e = absurd (false≢true e)
-seen_second (Separation l m) items i j e = seen_on items m i j e
-seen_second (Enclosing l m) items i j e = seen_on items m i j e
+seen_second : (check : Check) (on : Coverage) (has : ℕ → Square → Type 0) → TellsSeen on has
+    → (i j : ℤ) → second_squares check on i j ≡ true → IsSeen has (record { column = i; row = j })
+seen_second (Width l) on has tells i j e = absurd (false≢true e)
+seen_second (Space l) on has tells i j e = absurd (false≢true e)
+seen_second (Separation l m) on has tells i j e = tells m i j e
+seen_second (Enclosing l m) on has tells i j e = tells m i j e
+
+shown_seen : (items : List Item) → TellsSeen (shown_on items) (HasShown items)
+shown_seen items layer i j e =
+    let p = (tests_tell items layer).shown i j e in (p.0, (layer, p.1))
+
+listed_seen : (listed : List Rectangle) → TellsSeen (listed_on listed) (HasListed listed)
+listed_seen listed layer i j e =
+    let s : Square = record { column = i; row = j } in
+    let p = some_passes (λ (r : Rectangle). same_layer r.layer layer && has_square r.area s) listed e in
+    (p.0.origin, (p.0, p.1, refl, (and_parts _ _ p.2).1))
 
 -- what is seen, met by the box of a run
 in_box : (b : Box2) (p : Point) → b.x0 ≤ℤ p.x → p.x ≤ℤ b.x1 → b.y0 ≤ℤ p.y → p.y ≤ℤ b.y1
@@ -126,14 +139,14 @@ unfolding closed_square
 in_square s p l r d u = test_from_PointIn (closed_square s) p
     (record { left = l; right = omega (arith, ints); bottom = d; top = omega (arith, ints) })
 
-some_met : (rule : Rule) (items : List Item) (axis : Axis) (side : ℕ) (x1 x2 y0 y1 : ℤ) → y0 <ℤ y1
-    → IsStepOn rule (first_squares rule.check (shown_on items))
-    (second_squares rule.check (shown_on items)) axis side x1 x2 y0
-    → (origin : ℕ) × IsMet (HasShown items) (box_on axis x1 x2 y0 y1) origin
-some_met rule items V side x1 x2 y0 y1 lt h =
-    let k = beside (λ i j. IsSeen items (record { column = i; row = j })) rule.check rule.distance
-    (first_squares rule.check (shown_on items)) (second_squares rule.check (shown_on items))
-    side x1 x2 y0 (seen_first rule.check items) (seen_second rule.check items) h in
+some_met : (rule : Rule) (on : Coverage) (has : ℕ → Square → Type 0) → TellsSeen on has
+    → (axis : Axis) (side : ℕ) (x1 x2 y0 y1 : ℤ) → y0 <ℤ y1
+    → IsStepOn rule (first_squares rule.check on) (second_squares rule.check on) axis side x1 x2 y0
+    → (origin : ℕ) × IsMet has (box_on axis x1 x2 y0 y1) origin
+some_met rule on has tells V side x1 x2 y0 y1 lt h =
+    let k = beside (λ i j. IsSeen has (record { column = i; row = j })) rule.check rule.distance
+    (first_squares rule.check on) (second_squares rule.check on) side x1 x2 y0
+    (seen_first rule.check on has tells) (seen_second rule.check on has tells) h in
     let p : Point = record { x = x1; y = y0 } in
     let s : Square = record { column = k.at; row = y0 } in
     let low = k.low in
@@ -151,11 +164,11 @@ some_met rule items V side x1 x2 y0 y1 lt h =
         ),
       ),
     )
-some_met rule items H side x1 x2 y0 y1 lt h =
-    let k = beside (λ i j. IsSeen items (record { column = j; row = i })) rule.check rule.distance
-    (exchanged (first_squares rule.check (shown_on items)))
-    (exchanged (second_squares rule.check (shown_on items))) side x1 x2 y0
-    (λ i j e. seen_first rule.check items j i e) (λ i j e. seen_second rule.check items j i e) h in
+some_met rule on has tells H side x1 x2 y0 y1 lt h =
+    let k = beside (λ i j. IsSeen has (record { column = j; row = i })) rule.check rule.distance
+    (exchanged (first_squares rule.check on)) (exchanged (second_squares rule.check on)) side
+    x1 x2 y0 (λ i j e. seen_first rule.check on has tells j i e)
+    (λ i j e. seen_second rule.check on has tells j i e) h in
     let p : Point = record { x = y0; y = x1 } in
     let s : Square = record { column = y0; row = k.at } in
     let low = k.low in
@@ -180,9 +193,31 @@ key_met : TestDecidesPairSteps → (rules : List Rule) (items : List Item) (k : 
 key_met law rules items k m =
     let r = rule_of rules (shown_on items) (line_of_key k) k.y0
     (m.rows k.y0 (omega (arith, ints)) m.filled) in
-    some_met r.rule items k.axis k.side k.x1 k.x2 k.y0 k.y1 m.filled
+    some_met r.rule (shown_on items) (HasShown items) (shown_seen items) k.axis k.side k.x1 k.x2
+    k.y0 k.y1 m.filled
     (step_on law r.rule (first_squares r.rule.check (shown_on items))
     (second_squares r.rule.check (shown_on items)) k.axis k.side k.x1 k.x2 k.y0 r.step)
+
+-- a run in a core meets a rectangle of the window
+anywhere : (rule : Rule) (a b : Squares) (core : Box2) (axis : Axis) (side : ℕ) (x1 x2 j : ℤ)
+    → HasStep rule a b core axis side x1 x2 j → IsStepOn rule a b axis side x1 x2 j
+anywhere rule a b core V side x1 x2 j h = h.0
+anywhere rule a b core H side x1 x2 j h = h.0
+
+run_met : (core : Box2) (listed : List Rectangle) (rule : Rule) (k : Key)
+    → IsFoundIn core (listed_on listed) rule (run_at k) → MeetsSome listed k
+run_met core listed rule k h =
+    some_met rule (listed_on listed) (HasListed listed) (listed_seen listed) k.axis k.side k.x1 k.x2
+    k.y0 k.y1 h.filled
+    (anywhere rule (first_squares rule.check (listed_on listed))
+    (second_squares rule.check (listed_on listed)) core k.axis k.side k.x1 k.x2 k.y0
+    (h.steps k.y0 (omega (arith, ints)) h.filled))
+
+pub keys_meet : (task : Task) (keys : List Key) → AreKeys task keys
+    → All (MeetsSome task.window) keys
+keys_meet task keys h k d lt =
+    let s = (h.sound (get_or keys k d) (Contains-get_or keys k d lt)).1 in
+    run_met task.core task.window s.rule (get_or keys k d) s.run
 
 pub each_meets : TestDecidesPairSteps → EachMarkerMeetsSome
 each_meets law s markers m h c =

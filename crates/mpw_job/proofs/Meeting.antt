@@ -3,8 +3,8 @@ use Rattle.std.proofs.Common.{◌≡◌, ℕ, ◌<◌, ◌≤◌, ◌+◌, Bool,
 use Rattle.std.specs.Prelude.{Contains, All, MatchBool, ◌↔◌}
 use Rattle.std.proofs.lemmas.Bool.{false≢true}
 use Rattle.std.proofs.lemmas.Int.{ints}
-use Rattle.std.proofs.lemmas.List.{take_more, take_all, length-map, get_or-map, map_push}
-use Rattle.std.proofs.lemmas.List.Elements.{All-nil, All-push, Contains-append_left, Contains-append_right, Contains-push_cases}
+use Rattle.std.proofs.lemmas.List.{take_more, take_all, length-map, get_or-map}
+use Rattle.std.proofs.lemmas.List.Elements.{All-nil, All-push, Contains-append_left, Contains-append_right, Contains-push_cases, All-contains}
 use Rattle.mpw_geom.specs.declared.plane.Box2.{Box2}
 use Rattle.mpw_geom.specs.Plane.{HasArea, Square, has_square}
 use Rattle.mpw_geom.proofs.Tests.{SquareIn-from_test}
@@ -17,7 +17,7 @@ use Rattle.mpw_markers.specs.Markers.{key_of}
 use Rattle.mpw_markers.specs.Met.{IsAscending}
 use Rattle.mpw_markers.specs.Whole.{IsMet}
 use Rattle.mpw_job.specs.Answers.{HasListed, TellsMet}
-use Rattle.mpw_job.specs.Internal.Found.{key_box, met_of, TellMet, AreMarkersOfKeys}
+use Rattle.mpw_job.specs.Internal.Found.{key_box, met_of, TellMet, MeetsSome, AreMarkersOfKeys}
 
 -- ---- rectangles with squares
 
@@ -190,4 +190,48 @@ are_markers listed keys mets markers e f t = record { keys_are = e; met = met }
               (subst (λ (ns : List ℕ). Contains ns origin
               ↔ IsMet (HasListed listed) (key_box (get_or keys k (key_of d))) origin) told
               (t.met k origin (key_of d) (omega arith)));
+        }
+
+-- ---- one origin alone
+
+pub alone : (origin : ℕ) → IsAscending (origin ∷ [])
+alone origin i j d lt within = absurd (omega arith)
+
+pub of_one : (listed : List Rectangle) (origin : ℕ) (keys : List Key) (markers : List Marker)
+    → All (λ (r : Rectangle). r.origin ≡ origin) listed → All (MeetsSome listed) keys
+    → map key_of markers ≡ keys → All (λ (m : Marker). m.met ≡ origin ∷ []) markers
+    → AreMarkersOfKeys listed keys markers
+of_one listed origin keys markers only some e mets = record { keys_are = e; met = met }
+  where
+    is_it : (b : Box2) (o : ℕ) → IsMet (HasListed listed) b o → origin ≡ o
+    is_it b o h = sym (All-contains (λ (r : Rectangle). r.origin ≡ origin) listed h.1.0 only h.1.1)
+        ∙ h.1.2
+
+    has_it : (b : Box2) → (o : ℕ) × IsMet (HasListed listed) b o → (o : ℕ)
+        → Contains (origin ∷ []) o ↔ IsMet (HasListed listed) b o
+    has_it b s o = (
+      λ c. elim (Contains-push_cases [] origin o c) [
+        | inl n ↦ absurd (omega (arith, n.1))
+        | inr f ↦ subst (λ (n : ℕ). IsMet (HasListed listed) b n)
+            (sym (is_it b s.0 s.1) ∙ f) s.1
+      ],
+      λ m. subst (λ (n : ℕ). Contains (origin ∷ []) n) (is_it b o m) (0, omega arith, refl),
+    )
+
+    met : All (TellsMet listed) markers
+    met k d lt =
+        let m = get_or markers k d in
+        let keyed : get_or keys k (key_of d) ≡ key_of m =
+        ap (λ (ks : List Key). get_or ks k (key_of d)) (sym e)
+        ∙ get_or-map key_of markers k d (key_of d) lt in
+        let many : length keys ≡ length markers = ap (λ (ks : List Key). length ks) (sym e)
+        ∙ length-map markers key_of in
+        let one = sym (mets k d lt) in
+        let s = subst (MeetsSome listed) keyed (some k (key_of d) (omega arith)) in
+        record {
+          ascending = subst IsAscending one (alone origin);
+          exact = λ o.
+              subst (λ (ns : List ℕ). Contains ns o
+              ↔ IsMet (HasListed listed) (key_box (key_of m)) o) one
+              (has_it (key_box (key_of m)) s o);
         }

@@ -1,5 +1,5 @@
 -- What a rule finds in strips that serve it.
-use Rattle.std.proofs.Common.{◌≡◌, ℕ, Option, Some, subst, sym}
+use Rattle.std.proofs.Common.{ℕ, Option, subst, sym}
 use Rattle.std.specs.Prelude.{ℤ, ◌↔◌}
 use Rattle.mpw_geom.specs.declared.plane.Box2.{Box2}
 use Rattle.mpw_geom.specs.declared.plane.Layer.{Layer}

@@ -15,7 +15,6 @@ use Rattle.mpw_deck.specs.declared.rule.Check.{Check}
 use Rattle.mpw_deck.specs.declared.rule.Check.TheVariants.{Width, Space, Separation, Enclosing}
 use Rattle.mpw_edges.specs.declared.run.Axis.{Axis}
 use Rattle.mpw_edges.specs.declared.run.Axis.TheVariants.{V, H}
-use Rattle.mpw_edges.specs.declared.run.Piece.{Piece}
 use Rattle.mpw_edges.specs.Edges.{Squares, exchanged}
 use Rattle.mpw_edges.specs.Pieces.{HasStep}
 use Rattle.mpw_edges.specs.Computed.{TestDecidesPairSteps}

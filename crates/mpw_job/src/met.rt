@@ -1,13 +1,14 @@
 //! The submissions that markers meet.
 //!
-//! All markers of a tile are looked at together, so that a rectangle is not compared with each of them.
+//! Each marker meets one submission at least, so where all rectangles are of one, nothing is looked for. Else all markers of
+//! a tile are looked at together, so that a rectangle is not compared with each of them.
 
-ghost use Rattle.std.specs.Prelude.{◌≡◌, ◌↔◌, ℕ, IfOk, MatchBool, All, length, map};
+ghost use Rattle.std.specs.Prelude.{◌≡◌, ◌↔◌, ℕ, [], ◌∷◌, IfOk, IfSome, IsTrue, MatchBool, All, length, map};
 ghost use Rattle.mpw_geom.specs.Plane.{Square, HasArea, IsOrdered};
 ghost use Rattle.mpw_markers.specs.Markers.{key_of};
 ghost use Rattle.mpw_origins.specs.Origins.{HasSquareOf};
 ghost use Rattle.mpw_job.specs.Answers.{HasListed};
-ghost use Rattle.mpw_job.specs.Internal.Found.{key_box, met_of, TellMet, AreMarkersOfKeys};
+ghost use Rattle.mpw_job.specs.Internal.Found.{key_box, met_of, TellMet, MeetsSome, AreMarkersOfKeys};
 
 use mpw_edges::Axis;
 use mpw_geom::Box2;
@@ -114,10 +115,8 @@ fn with_mets(alloc: Global, keys: &[Key], mets: &[Met]) -> Result<Vec<Marker>, A
     Ok(markers)
 }
 
-/// The markers of these keys, each with the origins of the rectangles, on any layer, with a closed unit square that meets
-/// its closed box. A pass over the rectangles, and what [`met_origins`] takes for them and the boxes. An error is want of
-/// memory.
-pub(crate) fn markers_of(
+/// The markers of these keys, each with what is found that it meets.
+fn with_those_met(
     alloc: Global,
     window: &[Rectangle],
     keys: &[Key],
@@ -128,4 +127,56 @@ pub(crate) fn markers_of(
     let mets = mets_of(alloc, window, keys)?;
     let markers = with_mets(alloc, keys, mets.as_slice())?;
     Ok(markers)
+}
+
+/// Whether each rectangle is of that origin.
+fn are_of(window: &[Rectangle], origin: u32) -> bool
+    ensures { IsTrue result → All (λ r. r.origin ≡ origin) window.now }
+{
+    window.iter().all(|r| r.origin == origin)
+}
+
+/// The origin of all rectangles, where they have one.
+fn only_origin(window: &[Rectangle]) -> Option<u32>
+    ensures { IfSome result (λ origin. All (λ r. r.origin ≡ origin) window.now) }
+{
+    match window {
+        [] => None,
+        [first, ..] if are_of(window, first.origin) => Some(first.origin),
+        _ => None,
+    }
+}
+
+/// The markers of these keys, each of which meets that origin alone.
+fn with_origin(alloc: Global, keys: &[Key], origin: u32) -> Result<Vec<Marker>, AllocError>
+    ensures keys { IfOk result (λ v. map key_of v.items ≡ keys.now) }
+    ensures mets { IfOk result (λ v. All (λ m. m.met ≡ origin ∷ []) v.items) }
+{
+    let mut markers = Vec::with_capacity(alloc, keys.len())?;
+    for key in keys {
+        let met = Met::of(alloc, &[origin])?;
+        markers.push(marker(key, met))?;
+    }
+    Ok(markers)
+}
+
+/// The markers of these keys, each with the origins of the rectangles, on any layer, with a closed unit square that meets
+/// its closed box. A pass over the rectangles, and where they have several origins what [`met_origins`] takes for them and
+/// the boxes. An error is want of memory.
+pub(crate) fn markers_of(
+    alloc: Global,
+    window: &[Rectangle],
+    keys: &[Key],
+) -> Result<Vec<Marker>, AllocError>
+    requires ordered { All (λ k. IsOrdered (key_box k)) keys.now }
+    requires some { All (MeetsSome window.now) keys.now }
+    ensures { IfOk result (λ v. AreMarkersOfKeys window.now keys.now v.items) }
+{
+    match only_origin(window) {
+        Some(origin) => {
+            let markers = with_origin(alloc, keys, origin)?;
+            Ok(markers)
+        }
+        None => with_those_met(alloc, window, keys),
+    }
 }

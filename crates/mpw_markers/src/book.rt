@@ -6,35 +6,33 @@ ghost use Rattle.mpw_markers.specs.declared.marker.Marker.{Marker as MarkerValue
 ghost use Rattle.mpw_markers.specs.Markers.{key_of};
 ghost use Rattle.mpw_markers.specs.Book.{IsBook, place_in};
 
-use crate::marker::{Key, Marker};
+use crate::marker::{Key, Marker, TileMarkers};
 use std::alloc::{AllocError, Global};
 use std::marker::Model;
-use std::sync::Arc;
 
 /// The markers of a run, which contracts see as a list in order: by the rule's place in the deck, axis `V` before
 /// `H`, side, `x1`, `x2` and `y0`. On a line no two overlap or touch. Copies share them.
 pub struct Book {
-    items: Option<Arc<Vec<Marker>>>,
+    markers: TileMarkers,
 }
 
 impl Drop for Book {
     fn drop(self) {
-        let Book { items } = self;
-        drop(items);
+        let Book { markers } = self;
+        drop(markers);
     }
 }
 
 impl Model for Book {
-    ghost use Rattle.std.specs.Prelude.{List, []};
-    ghost use Rattle.std.specs.Option.{option_map_or};
+    ghost use Rattle.std.specs.Prelude.{List};
     ghost use Rattle.mpw_markers.specs.declared.marker.Marker.{Marker};
     ghost use Rattle.mpw_markers.specs.Book.{IsBook};
 
     ghost Value = { List Marker };
 
-    ghost view = { λ b. option_map_or (λ items. items.value.items) b.items [] };
+    ghost view = { λ b. b.markers };
 
-    ghost invariant = { λ b. IsBook (option_map_or (λ items. items.value.items) b.items []) };
+    ghost invariant = { λ b. IsBook b.markers };
 }
 
 /// The marker at a place, counted from 0.
@@ -49,7 +47,9 @@ impl Book {
     pub fn new() -> Book
         ensures { result ≡ [] }
     {
-        Book { items: None }
+        Book {
+            markers: TileMarkers::none(),
+        }
     }
 
     /// The book of these markers. One allocation.
@@ -60,8 +60,8 @@ impl Book {
         requires { IsBook markers.items }
         ensures { IfOk result (λ book. book ≡ markers.items) }
     {
-        let items = Arc::new(alloc, markers)?;
-        Ok(Book { items: Some(items) })
+        let markers = TileMarkers::from_vec(alloc, markers)?;
+        Ok(Book { markers })
     }
 
     /// The markers in order.
@@ -69,24 +69,21 @@ impl Book {
         ensures markers { result.now ≡ self.now }
         ensures book { IsBook self.now }
     {
-        match &self.items {
-            Some(items) => items.as_slice(),
-            None => &[],
-        }
+        self.markers.as_slice()
     }
 
     /// How many markers there are.
     pub fn len(&self) -> usize
         ensures { result ≡ length self.now }
     {
-        self.as_slice().len()
+        self.markers.len()
     }
 
     /// Whether there is no marker.
     pub fn is_empty(&self) -> bool
         ensures { result ≡ (length self.now == 0) }
     {
-        self.as_slice().is_empty()
+        self.markers.is_empty()
     }
 
     /// Where the marker of this key stands, counted from 0, where there is one. A binary search, which takes no memory.
@@ -120,11 +117,7 @@ impl Book {
     pub fn copy(&self) -> Result<Book, AllocError>
         ensures { IfOk result (λ book. book ≡ self.now) }
     {
-        match &self.items {
-            Some(items) => Ok(Book {
-                items: Some(items.clone()?),
-            }),
-            None => Ok(Book::new()),
-        }
+        let markers = self.markers.copy()?;
+        Ok(Book { markers })
     }
 }

@@ -83,13 +83,7 @@ impl Marker {
     pub fn line(&self) -> Line
         ensures { result ≡ line_of self.now }
     {
-        Line {
-            rule: self.rule,
-            axis: self.axis,
-            side: self.side,
-            x1: self.x1,
-            x2: self.x2,
-        }
+        self.key().line()
     }
 
     /// The marker's key.

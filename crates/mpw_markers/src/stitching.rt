@@ -167,7 +167,7 @@ fn joined(alloc: Global, markers: &[Marker]) -> Result<Vec<Marker>, AllocError>
     requires ordered { AreInOrder markers.now }
     ensures { IfOk result (λ v. IsJoined (Contains markers.now) v.items) }
 {
-    let mut book = Vec::new(alloc);
+    let mut book = Vec::with_capacity(alloc, markers.len())?;
     let mut start = 0;
     while start < markers.len() {
         start += add_run(alloc, &mut book, &markers[start..])?;

@@ -66,6 +66,10 @@ pub record TellMet (listed : List Rectangle) (keys : List Key) (mets : List (Lis
       → Contains (slice_index_or mets k []) origin
       ↔ IsMet (HasListed listed) (key_box (slice_index_or keys k d)) origin
 
+-- The key's closed box meets some origin.
+abbrev pub MeetsSome : List Rectangle → Key → Type 0
+MeetsSome listed k = (origin : ℕ) × IsMet (HasListed listed) (key_box k) origin
+
 -- The markers are those of the keys, each with what it meets.
 pub record AreMarkersOfKeys (listed : List Rectangle) (keys : List Key) (markers : List Marker) :
     Type 0 where

@@ -1,7 +1,5 @@
 use Rattle.std.proofs.Common.{◌∙◌, ◌++◌, List, ap}
 use Rattle.mpw_region.specs.declared.runs.Run.{Run}
-use Rattle.mpw_region.specs.Squares.{covers}
-use Rattle.mpw_edges.specs.declared.run.Axis.TheVariants.{V}
 use Rattle.mpw_checks.specs.Strips.{HasStepIn}
 use Rattle.mpw_checks.proofs.Halving.{Adds-found, places_in}
 use Rattle.mpw_checks.proofs.strips.add_runs.Goals as goal

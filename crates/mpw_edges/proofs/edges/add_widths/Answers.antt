@@ -17,9 +17,9 @@ loop-b-preserved c =
     c.loop-b.b-index no_box c.loop-b-test.true c.loop-b.invariant
     (subst (λ (e : Edge). Adds c.loop-b.runs.items c.add_pair.new.runs.items
     (IsPairPlace 0 c.args.limits.now e
-    (fall_of (get_or c.args.boxes.now c.loop-b.b-index no_box)))) c.edge.ensures
+    (fall_of (get_or c.args.boxes.now c.loop-b.b-index no_box)))) c.rise.ensures
     (subst (λ (e : Edge). Adds c.loop-b.runs.items c.add_pair.new.runs.items
-    (IsPairPlace 0 c.args.limits.now c.edge.result e)) c.edge-in-loop-b.ensures c.in_ok-add_pair.ensures))
+    (IsPairPlace 0 c.args.limits.now c.rise.result e)) c.fall.ensures c.in_ok-add_pair.ensures))
 
 pub returns : goal.returns
 returns c = Adds-all c.args.runs.now.items _

@@ -1,14 +1,25 @@
 use Rattle.mpw_edges.specs.Internal.Pairs.{IsPairOf}
-use Rattle.mpw_edges.proofs.Pairing.{Moves-start, past_low_from, past_low_to, past_from, past_to}
+use Rattle.mpw_edges.proofs.Pairing.{Moves-start, past_low_from, past_low_to, past_from, past_to, past_both}
 use Rattle.mpw_edges.proofs.pair.add_bands.Goals as goal
 
-pub returns-then-is_below-clause-moves : goal.returns-then-is_below-clause-moves
-returns-then-is_below-clause-moves c = past_low_from c.args.runs.now.items c.args.side
-    c.args.limits.now c.args.froms.now c.args.tos.now c.requires.tos c.if-is_below.ensures
+pub returns-then-low-gt0-clause-moves : goal.returns-then-low-gt0-clause-moves
+returns-then-low-gt0-clause-moves c =
+    past_low_from c.args.runs.now.items c.args.side c.args.limits.now c.args.froms.now
+    c.args.tos.now c.count_below-low.result c.requires.tos c.count_below-low.ensures.below
 
-pub returns-then-is_below-2-clause-moves : goal.returns-then-is_below-2-clause-moves
-returns-then-is_below-2-clause-moves c = past_low_to c.args.runs.now.items c.args.side
-    c.args.limits.now c.args.froms.now c.args.tos.now c.requires.froms c.if-is_below-2.ensures
+pub returns-then-lower-gt0-clause-moves : goal.returns-then-lower-gt0-clause-moves
+returns-then-lower-gt0-clause-moves c =
+    past_low_to c.args.runs.now.items c.args.side c.args.limits.now c.args.froms.now
+    c.args.tos.now c.count_below-lower.result c.requires.froms c.count_below-lower.ensures.below
+
+pub returns-then-end_together-clause-moves : goal.returns-then-end_together-clause-moves
+returns-then-end_together-clause-moves c =
+    let old = c.args.runs.now.items in
+    let pairs = IsPairOf c.args.side c.args.limits.now c.args.froms.now c.args.tos.now in
+    past_both old old c.add_band_pairs.new.runs.items pairs c.args.side c.args.limits.now
+    c.args.froms.now c.args.tos.now c.band_length-band.result c.band_length-other.result
+    c.band_length-band.ensures c.band_length-other.ensures c.if-end_together.ensures
+    (Moves-start old pairs) c.in_ok-add_band_pairs.ensures
 
 pub returns-then-ends_first-clause-moves : goal.returns-then-ends_first-clause-moves
 returns-then-ends_first-clause-moves c =

@@ -1,4 +1,4 @@
-use Rattle.std.proofs.Common.{◌-◌, length, take, drop, w64, arith}
+use Rattle.std.proofs.Common.{◌-◌, length, take, drop}
 use Rattle.std.proofs.lemmas.List.{take_rest}
 use Rattle.mpw_job.proofs.ByLayer.{found_between}
 use Rattle.mpw_job.proofs.layers.on_layer.Goals as goal

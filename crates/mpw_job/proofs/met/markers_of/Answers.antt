@@ -1,9 +1,7 @@
-use Rattle.std.proofs.Common.{◌∙◌}
-use Rattle.mpw_job.proofs.Meeting.{are_markers}
+use Rattle.mpw_job.proofs.Meeting.{of_one}
 use Rattle.mpw_job.proofs.met.markers_of.Goals as goal
 
-pub returns : goal.returns
-returns c =
-    are_markers c.args.window.now c.args.keys.now c.in_ok-mets.mets.items
-    c.in_ok-markers.markers.items c.in_ok-markers.ensures.keys (c.in_ok-markers.ensures.mets
-    ∙ c.as_slice.ensures.value) c.in_ok-mets.ensures
+pub returns-in_ok-markers-in-Some : goal.returns-in_ok-markers-in-Some
+returns-in_ok-markers-in-Some c = of_one c.args.window.now c.in-Some.origin c.args.keys.now
+    c.in_ok-markers-in-Some.markers.items c.in-Some.ensures c.requires.some c.in_ok-markers-in-Some.ensures.keys
+    c.in_ok-markers-in-Some.ensures.mets

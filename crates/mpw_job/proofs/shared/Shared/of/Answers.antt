@@ -1,4 +1,4 @@
-use Rattle.std.proofs.Common.{◌≡◌, ◌∙◌, ap, subst, sym}
+use Rattle.std.proofs.Common.{◌≡◌, ◌∙◌, ap, subst}
 use mathlib.Core.Path.{fun_ext}
 use Rattle.mpw_region.specs.Squares.{covers}
 use Rattle.mpw_edges.specs.Edges.{Squares}
