@@ -5,90 +5,17 @@ ghost use Rattle.mpw_deck.specs.Decks.{IsDeck};
 ghost use Rattle.mpw_deck.specs.declared.deck.DeckKind.TheVariants.{Memory};
 
 use crate::rule::Rule;
-use std::alloc::{AllocError, Global};
+use mpw_lists::SharedList;
+use std::alloc::AllocError;
 use std::error::Error;
 use std::fmt;
 use std::marker::Model;
-use std::sync::Arc;
 
 /// The greatest number of rules of a deck.
 pub const MAX_RULES: usize = 256;
 
 /// Rules in order, which contracts see as that list. Copies share them.
-pub struct Rules {
-    items: Arc<Vec<Rule>>,
-}
-
-impl Drop for Rules {
-    fn drop(self) {
-        let Rules { items } = self;
-        drop(items);
-    }
-}
-
-impl Model for Rules {
-    ghost use Rattle.std.specs.Prelude.{List};
-    ghost use Rattle.mpw_deck.specs.declared.rule.Rule.{Rule};
-
-    ghost Value = { List Rule };
-
-    ghost view = { λ r. r.items.value.items };
-}
-
-impl Rules {
-    /// The rules of a vector, in its order. Constant time.
-    ///
-    /// # Errors
-    /// Where there is no memory for the count of their copies.
-    pub fn from_vec(alloc: Global, items: Vec<Rule>) -> Result<Rules, AllocError>
-        ensures { IfOk result (λ rules. rules ≡ items.items) }
-    {
-        Ok(Rules {
-            items: Arc::new(alloc, items)?,
-        })
-    }
-
-    /// The rules, in order.
-    pub fn as_slice(&self) -> &[Rule]
-        ensures { result.now ≡ self.now }
-    {
-        self.items.as_slice()
-    }
-
-    /// The same rules, in constant time and without further memory.
-    ///
-    /// # Errors
-    /// Where no more copies can be counted.
-    pub fn copy(&self) -> Result<Rules, AllocError>
-        ensures { IfOk result (λ rules. rules ≡ self.now) }
-    {
-        Ok(Rules {
-            items: self.items.clone()?,
-        })
-    }
-
-    /// Whether these are the same rules, in order. It stops at the first difference, and takes no memory.
-    pub fn is_same(&self, other: &Rules) -> bool
-        ensures { IsTrue result ↔ (self.now ≡ other.now) }
-    {
-        are_same(self.as_slice(), other.as_slice())
-    }
-}
-
-/// Whether the lists have the same rules, in order.
-fn are_same(first: &[Rule], second: &[Rule]) -> bool
-    ensures { IsTrue result ↔ (first.now ≡ second.now) }
-{
-    if first.len() != second.len() {
-        return false;
-    }
-    for i in 0..first.len() {
-        if !first[i].is_same(&second[i]) {
-            return false;
-        }
-    }
-    true
-}
+pub type Rules = SharedList<Rule>;
 
 /// A deck: the side of the tiles in nm, 256 to 2^30, and at most 256 rules, each with a distance of 1 to 65535 nm.
 /// Copies share the rules.

@@ -1,8 +1,9 @@
 //! Rules: a check with its layers, a name and a distance.
 
-ghost use Rattle.std.specs.Prelude.{◌≡◌, ◌↔◌, IfOk, IsTrue};
+ghost use Rattle.std.specs.Prelude.{◌≡◌, IfOk};
 
 use mpw_geom::{Layer, Name};
+use mpw_lists::Same;
 use std::alloc::AllocError;
 
 /// A check, named after the KLayout DRC reference, with its layers.
@@ -47,11 +48,11 @@ impl Rule {
             distance: self.distance,
         })
     }
+}
 
+impl Same for Rule {
     /// Whether the rules have equal names, checks with equal layers, and equal distances.
-    pub fn is_same(&self, other: &Rule) -> bool
-        ensures { IsTrue result ↔ (self.now ≡ other.now) }
-    {
+    fn is_same(&self, other: &Rule) -> bool {
         self.name == other.name && self.check == other.check && self.distance == other.distance
     }
 }

@@ -19,6 +19,7 @@ use crate::size::Size;
 use crate::submission::Submission;
 use crate::table::Table;
 use mpw_geom::{Box2, Name, Names};
+use mpw_lists::are_same;
 use std::alloc::{AllocError, Global};
 use std::marker::Model;
 use std::sync::Arc;
@@ -256,19 +257,4 @@ fn cells_of(alloc: Global, submissions: &[Submission]) -> Result<Names, AllocErr
         cells.push(submission.cell.copy()?)?;
     }
     Ok(cells)
-}
-
-/// Whether the submissions are the same, in order.
-fn are_same(first: &[Submission], second: &[Submission]) -> bool
-    ensures { IsTrue result ↔ (first.now ≡ second.now) }
-{
-    if first.len() != second.len() {
-        return false;
-    }
-    for i in 0..first.len() {
-        if !first[i].is_same(&second[i]) {
-            return false;
-        }
-    }
-    true
 }

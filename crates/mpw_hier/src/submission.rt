@@ -5,6 +5,7 @@ ghost use Rattle.std.specs.Prelude.{◌≡◌, ◌↔◌, IfOk, IsTrue};
 use crate::bindings::Bindings;
 use mpw_geom::Name;
 use mpw_library::Library;
+use mpw_lists::Same;
 use std::alloc::AllocError;
 
 /// A version of a cell, with the library that shows it.
@@ -67,5 +68,11 @@ impl Submission {
             & (self.submitter == other.submitter)
             & (self.top == other.top);
         same_cell && self.bound.is_same(&other.bound) && self.library.is_same(&other.library)
+    }
+}
+
+impl Same for Submission {
+    fn is_same(&self, other: &Submission) -> bool {
+        Submission::is_same(self, other)
     }
 }

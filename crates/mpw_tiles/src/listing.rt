@@ -7,9 +7,9 @@ ghost use Rattle.std.specs.Prelude.{◌≡◌, ◌↔◌, ◌<◌, [], ◌∷◌
 ghost use Rattle.mpw_tiles.specs.Internal.Listing.{Lists};
 
 use mpw_geom::{Box2, Layer};
+use mpw_lists::{Same, SharedList};
 use std::alloc::{AllocError, Global};
 use std::marker::Model;
-use std::sync::Arc;
 
 /// A rectangle of a shape where it is placed: its squares in nm, its layer, and the number of the submission
 /// from which the shape comes.
@@ -34,11 +34,9 @@ fn is_same_layer(a: Layer, b: Layer) -> bool
     a == b
 }
 
-impl Rectangle {
+impl Same for Rectangle {
     /// Whether the rectangles have equal areas, layers and origins.
-    fn is_same(&self, other: &Rectangle) -> bool
-        ensures { IsTrue result ↔ (self.now ≡ other.now) }
-    {
+    fn is_same(&self, other: &Rectangle) -> bool {
         is_same_area(&self.area, &other.area)
             & is_same_layer(self.layer, other.layer)
             & (self.origin == other.origin)
@@ -100,156 +98,10 @@ pub(crate) fn list_at(
 }
 
 /// The rectangles of a tile's window, which contracts see as a list. Copies share them.
-pub struct Window {
-    items: Arc<Vec<Rectangle>>,
-}
-
-impl Drop for Window {
-    fn drop(self) {
-        let Window { items } = self;
-        drop(items);
-    }
-}
-
-impl Model for Window {
-    ghost use Rattle.std.specs.Prelude.{List};
-    ghost use Rattle.mpw_tiles.specs.declared.listing.Rectangle.{Rectangle};
-
-    ghost Value = { List Rectangle };
-
-    ghost view = { λ w. w.items.value.items };
-}
-
-/// Whether the lists have equal rectangles, in order.
-fn are_same_rectangles(first: &[Rectangle], second: &[Rectangle]) -> bool
-    ensures { IsTrue result ↔ (first.now ≡ second.now) }
-{
-    if first.len() != second.len() {
-        return false;
-    }
-    for i in 0..first.len() {
-        if !first[i].is_same(&second[i]) {
-            return false;
-        }
-    }
-    true
-}
-
-impl Window {
-    /// The window that lists the rectangles of a vector, in its order. Constant time.
-    ///
-    /// # Errors
-    /// Where there is no memory for the count of its copies.
-    pub fn from_vec(alloc: Global, items: Vec<Rectangle>) -> Result<Window, AllocError>
-        ensures { IfOk result (λ window. window ≡ items.items) }
-    {
-        Ok(Window {
-            items: Arc::new(alloc, items)?,
-        })
-    }
-
-    /// The rectangles.
-    pub fn as_slice(&self) -> &[Rectangle]
-        ensures { result.now ≡ self.now }
-    {
-        self.items.as_slice()
-    }
-
-    /// The same window, in constant time and without further memory.
-    ///
-    /// # Errors
-    /// Where no more copies can be counted.
-    pub fn copy(&self) -> Result<Window, AllocError>
-        ensures { IfOk result (λ window. window ≡ self.now) }
-    {
-        Ok(Window {
-            items: self.items.clone()?,
-        })
-    }
-
-    /// Whether the windows list equal rectangles, in order. It stops at the first difference, and takes no memory.
-    pub fn is_same(&self, other: &Window) -> bool
-        ensures { IsTrue result ↔ (self.now ≡ other.now) }
-    {
-        are_same_rectangles(self.as_slice(), other.as_slice())
-    }
-}
+pub type Window = SharedList<Rectangle>;
 
 /// Windows by tile, which contracts see as the list of their lists. Copies share them.
-pub struct Windows {
-    items: Arc<Vec<Window>>,
-}
-
-impl Drop for Windows {
-    fn drop(self) {
-        let Windows { items } = self;
-        drop(items);
-    }
-}
-
-impl Model for Windows {
-    ghost use Rattle.std.specs.Prelude.{List};
-    ghost use Rattle.mpw_tiles.specs.declared.listing.Rectangle.{Rectangle};
-
-    ghost Value = { List (List Rectangle) };
-
-    ghost view = { λ w. w.items.value.items };
-}
-
-/// Whether the lists have equal windows, in order.
-fn are_same_windows(first: &[Window], second: &[Window]) -> bool
-    ensures { IsTrue result ↔ (first.now ≡ second.now) }
-{
-    if first.len() != second.len() {
-        return false;
-    }
-    for i in 0..first.len() {
-        if !first[i].is_same(&second[i]) {
-            return false;
-        }
-    }
-    true
-}
-
-impl Windows {
-    /// The windows of a vector, in its order. Constant time.
-    ///
-    /// # Errors
-    /// Where there is no memory for the count of their copies.
-    pub fn from_vec(alloc: Global, items: Vec<Window>) -> Result<Windows, AllocError>
-        ensures { IfOk result (λ windows. windows ≡ items.items) }
-    {
-        Ok(Windows {
-            items: Arc::new(alloc, items)?,
-        })
-    }
-
-    /// The windows, by tile.
-    pub fn as_slice(&self) -> &[Window]
-        ensures { result.now ≡ self.now }
-    {
-        self.items.as_slice()
-    }
-
-    /// The same windows, in constant time and without further memory.
-    ///
-    /// # Errors
-    /// Where no more copies can be counted.
-    pub fn copy(&self) -> Result<Windows, AllocError>
-        ensures { IfOk result (λ windows. windows ≡ self.now) }
-    {
-        Ok(Windows {
-            items: self.items.clone()?,
-        })
-    }
-
-    /// Whether the windows are equal, tile by tile. It stops at the first difference, and takes no memory.
-    pub fn is_same(&self, other: &Windows) -> bool
-        ensures { IsTrue result ↔ (self.now ≡ other.now) }
-    {
-        are_same_windows(self.as_slice(), other.as_slice())
-    }
-}
+pub type Windows = SharedList<Window>;
 
 /// The windows of these lists, in their order. An error is want of memory.
 pub(crate) fn windows_from(alloc: Global, lists: Vec<Listed>) -> Result<Windows, AllocError>

@@ -18,10 +18,10 @@ use mpw_deck::Deck;
 use mpw_geom::{Box2, Placing, Point};
 use mpw_grid::windows_reach_no_further;
 use mpw_hier::{Shelf, extents_are_least_boxes};
+use mpw_lists::SharedList;
 use mpw_walk::{Root, Walk, all_fit, roots_show_what_their_submissions_do};
 use std::alloc::{AllocError, Global};
 use std::marker::Model;
-use std::sync::Arc;
 
 /// The most roots of a snapshot.
 pub const MAX_ROOTS: usize = 4096;
@@ -59,7 +59,7 @@ pub fn are_roots(shelf: &Shelf, roots: &[Root]) -> bool
 /// and together they show at most 2^20 shapes. Copies share all three.
 pub struct Snapshot {
     deck: Deck,
-    roots: Arc<Vec<Root>>,
+    roots: SharedList<Root>,
     shelf: Shelf,
 }
 
@@ -77,9 +77,9 @@ impl Model for Snapshot {
 
     ghost Value = { Snapshot };
 
-    ghost view = { λ s. record { deck = s.deck; roots = s.roots.value.items; shelf = s.shelf } };
+    ghost view = { λ s. record { deck = s.deck; roots = s.roots; shelf = s.shelf } };
 
-    ghost invariant = { λ s. IsSnapshot (record { deck = s.deck; roots = s.roots.value.items; shelf = s.shelf }) };
+    ghost invariant = { λ s. IsSnapshot (record { deck = s.deck; roots = s.roots; shelf = s.shelf }) };
 }
 
 /// Whether the points have equal coordinates.
@@ -134,7 +134,7 @@ impl Snapshot {
     {
         deck.is_deck();
         shelf.is_shelf();
-        let roots = Arc::new(alloc, roots)?;
+        let roots = SharedList::from_vec(alloc, roots)?;
         Ok(Snapshot { deck, roots, shelf })
     }
 
@@ -181,7 +181,7 @@ impl Snapshot {
         ensures { IfOk result (λ s. s ≡ self.now) }
     {
         let deck = self.deck.copy()?;
-        let roots = self.roots.clone()?;
+        let roots = self.roots.copy()?;
         let shelf = self.shelf.copy(alloc)?;
         Ok(Snapshot { deck, roots, shelf })
     }
