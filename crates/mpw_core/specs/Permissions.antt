@@ -73,6 +73,7 @@ sign_off_need (Sign marker) = permission to.Sign Desk
 sign_off_need Waivers = session
 sign_off_need Verdict = permission to.Verdict Desk
 
+-- What each request needs, by its group.
 abbrev pub need_of : Request → Need
 need_of (ask.Policy request) = policy_need request
 need_of ask.Whoami = session

@@ -34,6 +34,7 @@ has_pair (Enclosing _ _) a b side x1 x2 j =
     int_le x1 x2 && (((side == 0) && (has_rise a x1 j && has_rise b x2 j))
     || ((side == 1) && (has_fall b x1 j && has_fall a x2 j)))
 
+-- Whether the row has a pair step of the check from x1 to x2: `IsPairStep` as a test, which is the same by a law.
 abbrev pub has_pair_step : Check → ℕ → Squares → Squares → ℕ → ℤ → ℤ → ℤ → Bool
 has_pair_step check distance a b side x1 x2 j =
     has_pair check a b side x1 x2 j && int_lt (x2 -ℤ x1) (pos distance)

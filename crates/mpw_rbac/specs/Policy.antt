@@ -79,6 +79,7 @@ abbrev pub session_permits : Policy → Session → Operation → Object → Boo
 session_permits policy session operation object =
     list_any (is_granted_to (acting policy session) operation object) policy.granted
 
+-- A role of the connection's session acts that was granted the operation on the object.
 abbrev pub permits : Policy → ℕ → Operation → Object → Bool
 permits policy conn operation object =
     option_map_or (λ (session : Session). session_permits policy session operation object)
