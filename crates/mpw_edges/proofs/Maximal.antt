@@ -158,7 +158,7 @@ in_pieces axis runs p e c =
 
 -- ---- pieces of both axes
 
-pub exact_pieces : (rule : Rule) (a b : Squares) (core : Box2) (vs hs : List Run) → AreApart vs
+exact_pieces : (rule : Rule) (a b : Squares) (core : Box2) (vs hs : List Run) → AreApart vs
     → AreApart hs
     → HoldJust vs (StepsOf rule a b core V) → HoldJust hs (StepsOf rule a b core H)
     → (p : Piece) → Contains (map (piece_of V) vs ++ map (piece_of H) hs) p
@@ -265,7 +265,31 @@ all_pairs_append R xs ys f g h i j d l b =
           ]
     ]
 
-pub ordered_pieces : (vs hs : List Run) → AreApart vs → AreApart hs
+ordered_pieces : (vs hs : List Run) → AreApart vs → AreApart hs
     → AllPairs ComesBefore (map (piece_of V) vs ++ map (piece_of H) hs)
 ordered_pieces vs hs va ha = all_pairs_append ComesBefore (map (piece_of V) vs)
     (map (piece_of H) hs) (on_axis V vs va) (on_axis H hs ha) (across vs hs)
+
+-- ---- the list of the code, which was made of two lists
+
+both_lists : (all : List Piece) (seen vs seen' hs : List Run) → all ≡ map (piece_of V) seen
+    ++ map (piece_of H) seen' → seen ≡ vs → seen' ≡ hs → all ≡ map (piece_of V) vs
+    ++ map (piece_of H) hs
+both_lists all seen vs seen' hs e f g =
+    e ∙ ap (λ (rs : List Run). map (piece_of V) rs ++ map (piece_of H) seen') f
+    ∙ ap (λ (rs : List Run). map (piece_of V) vs ++ map (piece_of H) rs) g
+
+pub exact_list : (rule : Rule) (a b : Squares) (core : Box2) (all : List Piece)
+    (seen vs seen' hs : List Run) → all ≡ map (piece_of V) seen ++ map (piece_of H) seen'
+    → seen ≡ vs → seen' ≡ hs → AreApart vs → AreApart hs → HoldJust vs (StepsOf rule a b core V)
+    → HoldJust hs (StepsOf rule a b core H) → (p : Piece) → Contains all p ↔ IsPiece rule a b core p
+exact_list rule a b core all seen vs seen' hs e f g va ha vp hp p =
+    subst (λ (ps : List Piece). Contains ps p ↔ IsPiece rule a b core p)
+    (sym (both_lists all seen vs seen' hs e f g)) (exact_pieces rule a b core vs hs va ha vp hp p)
+
+pub ordered_list : (all : List Piece) (seen vs seen' hs : List Run)
+    → all ≡ map (piece_of V) seen ++ map (piece_of H) seen' → seen ≡ vs → seen' ≡ hs
+    → AreApart vs → AreApart hs → AllPairs ComesBefore all
+ordered_list all seen vs seen' hs e f g va ha =
+    subst (λ (ps : List Piece). AllPairs ComesBefore ps)
+    (sym (both_lists all seen vs seen' hs e f g)) (ordered_pieces vs hs va ha)

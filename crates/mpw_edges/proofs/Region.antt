@@ -1,4 +1,4 @@
-use Rattle.std.proofs.Common.{◌≡◌, ℤ, pos, ◌-ℤ◌, ◌≤ℤ◌, ◌<ℤ◌, true, false, List, map, ◌⊎◌, inl, inr, subst, refl, ap, arith}
+use Rattle.std.proofs.Common.{◌≡◌, ℤ, pos, ◌-ℤ◌, ◌≤ℤ◌, ◌<ℤ◌, true, false, List, map, ◌⊎◌, inl, inr, subst, sym, refl, ap, arith}
 use Rattle.std.specs.Prelude.{Contains}
 use Rattle.std.proofs.lemmas.Int.{ints, by_lt_z}
 use Rattle.std.proofs.lemmas.Bool.{false_from_ne_true}
@@ -140,28 +140,28 @@ pub record EdgesAre (edges : List Edge) (E : ℤ → ℤ → Type 0) : Type 0 wh
   pub there : (e : Edge) (j : ℤ) → Contains edges e → IsInRow e j → E e.x j
   pub back : (x j : ℤ) → E x j → (e : Edge) × Contains edges e × ((e.x ≡ x) × IsInRow e j)
 
+-- edges at one end of boxes
+edges_are : (edge : Box2 → Edge) (E : ℤ → ℤ → Type 0) (boxes : List Box2)
+    → ((b : Box2) (j : ℤ) → Contains boxes b → IsInRow (edge b) j → E (edge b).x j)
+    → ((x j : ℤ) → E x j
+    → (b : Box2) × Contains boxes b × (((edge b).x ≡ x) × IsInRow (edge b) j))
+    → EdgesAre (map edge boxes) E
+edges_are edge E boxes to from = record {
+  there = λ e j c r. let m = held_map edge boxes no_box (λ x. x ≡ e) (e, c, refl) in
+      subst (λ (x : ℤ). E x j) (ap (λ (x : Edge). x.x) m.2)
+      (to m.0 j m.1 (subst (λ (x : Edge). IsInRow x j) (sym m.2) r));
+  back = λ x j r. let b = from x j r in
+      map_held edge boxes (λ e. (e.x ≡ x) × IsInRow e j) b.0 b.1 b.2;
+}
+
 pub rises_are : (boxes : List Box2) → AreBands boxes
     → EdgesAre (map rise_of boxes) (IsRise (covers boxes))
-rises_are boxes h = record {
-  there = λ e j c r. let m = held_map rise_of boxes no_box (λ x. x ≡ e) (e, c, refl) in
-      subst (λ (x : ℤ). IsRise (covers boxes) x j) (ap (λ (x : Edge). x.x) m.2)
-      (rise_of_box boxes m.0 j h m.1 (
-        omega (arith, ints, ap (λ (x : Edge). x.y0) m.2, r.0),
-        omega (arith, ints, ap (λ (x : Edge). x.y1) m.2, r.1),
-      ));
-  back = λ x j r. let b = box_of_rise boxes x j r in
-      map_held rise_of boxes (λ e. (e.x ≡ x) × IsInRow e j) b.0 b.1 (b.2, b.3);
-}
+rises_are boxes h = edges_are rise_of (IsRise (covers boxes)) boxes
+    (λ b j c r. rise_of_box boxes b j h c r)
+    (λ x j r. let b = box_of_rise boxes x j r in (b.0, b.1, (b.2, b.3)))
 
 pub falls_are : (boxes : List Box2) → AreBands boxes
     → EdgesAre (map fall_of boxes) (IsFall (covers boxes))
-falls_are boxes h = record {
-  there = λ e j c r. let m = held_map fall_of boxes no_box (λ x. x ≡ e) (e, c, refl) in
-      subst (λ (x : ℤ). IsFall (covers boxes) x j) (ap (λ (x : Edge). x.x) m.2)
-      (fall_of_box boxes m.0 j h m.1 (
-        omega (arith, ints, ap (λ (x : Edge). x.y0) m.2, r.0),
-        omega (arith, ints, ap (λ (x : Edge). x.y1) m.2, r.1),
-      ));
-  back = λ x j r. let b = box_of_fall boxes x j r in
-      map_held fall_of boxes (λ e. (e.x ≡ x) × IsInRow e j) b.0 b.1 (b.2, b.3);
-}
+falls_are boxes h = edges_are fall_of (IsFall (covers boxes)) boxes
+    (λ b j c r. fall_of_box boxes b j h c r)
+    (λ x j r. let b = box_of_fall boxes x j r in (b.0, b.1, (b.2, b.3)))

@@ -1,49 +1,28 @@
-use Rattle.std.proofs.Common.{◌≡◌, ◌∙◌, ◌++◌, ap, subst, sym, map, List}
-use Rattle.std.specs.Prelude.{Contains, AllPairs, ◌↔◌}
 use Rattle.std.proofs.lemmas.Result.{IfOk-weaker}
-use Rattle.mpw_region.specs.declared.runs.Run.{Run}
 use Rattle.mpw_edges.specs.declared.run.Axis.TheVariants.{V, H}
-use Rattle.mpw_edges.specs.declared.run.Piece.{Piece}
-use Rattle.mpw_edges.specs.Pieces.{piece_of, IsPiece, ComesBefore}
-use Rattle.mpw_edges.proofs.Maximal.{exact_pieces, ordered_pieces}
+use Rattle.mpw_edges.proofs.Maximal.{exact_list, ordered_list}
 use Rattle.mpw_checks.proofs.Halving.{places_of}
 use Rattle.mpw_checks.proofs.strips.pieces_in.Goals as goal
-
--- the list of the code, as the two lists that it was made of
-both_lists : (all : List Piece) (seen vs seen' hs : List Run) → all ≡ map (piece_of V) seen
-    ++ map (piece_of H) seen' → seen ≡ vs → seen' ≡ hs → all ≡ map (piece_of V) vs
-    ++ map (piece_of H) hs
-both_lists all seen vs seen' hs e f g =
-    e ∙ ap (λ (rs : List Run). map (piece_of V) rs ++ map (piece_of H) seen') f
-    ∙ ap (λ (rs : List Run). map (piece_of V) vs ++ map (piece_of H) rs) g
 
 pub returns-clause-exact : goal.returns-clause-exact
 returns-clause-exact c = λ distance a b core are le.
     IfOk-weaker c.pieces_of.result _ _
-    (λ v e p.
-    subst (λ (ps : List Piece). Contains ps p ↔ IsPiece c.args.rule.now a b core p)
-    (sym (both_lists v.items c.as_slice.result.now c.in_ok-vertical.vertical.items
-    c.as_slice-2.result.now c.in_ok-horizontal.horizontal.items e c.as_slice.ensures.value
-    c.as_slice-2.ensures.value))
-    (exact_pieces c.args.rule.now a b core c.in_ok-vertical.vertical.items
-    c.in_ok-horizontal.horizontal.items c.in_ok-vertical.ensures.apart
+    (λ v e p. exact_list c.args.rule.now a b core v.items c.as_slice.result.now
+    c.in_ok-vertical.vertical.items c.as_slice-2.result.now c.in_ok-horizontal.horizontal.items e
+    c.as_slice.ensures.value c.as_slice-2.ensures.value c.in_ok-vertical.ensures.apart
     c.in_ok-horizontal.ensures.apart
     (places_of c.in_ok-vertical.vertical.items c.rows.result.now c.args.strips.now.rows
     c.args.rule.now a b core V c.rows.ensures.strips c.in_ok-vertical.ensures.places
     (are.rows c.args.rule.now le))
     (places_of c.in_ok-horizontal.horizontal.items c.columns.result.now c.args.strips.now.columns
     c.args.rule.now a b core H c.columns.ensures.strips c.in_ok-horizontal.ensures.places
-    (are.columns c.args.rule.now le)) p))
+    (are.columns c.args.rule.now le)) p)
     c.pieces_of.ensures
 
 pub returns-clause-ordered : goal.returns-clause-ordered
 returns-clause-ordered c =
     IfOk-weaker c.pieces_of.result _ _
-    (λ v e.
-    subst (λ (ps : List Piece). AllPairs ComesBefore ps)
-    (sym (both_lists v.items c.as_slice.result.now c.in_ok-vertical.vertical.items
+    (λ v e. ordered_list v.items c.as_slice.result.now c.in_ok-vertical.vertical.items
     c.as_slice-2.result.now c.in_ok-horizontal.horizontal.items e c.as_slice.ensures.value
-    c.as_slice-2.ensures.value))
-    (ordered_pieces c.in_ok-vertical.vertical.items c.in_ok-horizontal.horizontal.items
-    c.in_ok-vertical.ensures.apart c.in_ok-horizontal.ensures.apart))
+    c.as_slice-2.ensures.value c.in_ok-vertical.ensures.apart c.in_ok-horizontal.ensures.apart)
     c.pieces_of.ensures
