@@ -8,13 +8,13 @@ use arrayvec::ArrayVec;
 use std::marker::Model;
 
 /// The greatest number of levels.
-const LEVELS: usize = 64;
+const MAX_LEVELS: usize = 64;
 
 /// At most 64 frames, the last entered last.
 #[derive(Drop)]
 pub struct Frames<'a> {
     /// Each place that is taken holds a frame; the others hold none.
-    places: ArrayVec<Option<Frame<'a>>, LEVELS>,
+    places: ArrayVec<Option<Frame<'a>>, MAX_LEVELS>,
 }
 
 impl<'a> Model for Frames<'a> {

@@ -13,7 +13,7 @@ use mpw_text::read_count;
 use std::alloc::{AllocError, Global};
 
 /// How far from 0 a coordinate of a connection may lie, in nm.
-const FARTHEST: usize = 1 << 30;
+const MAX_COORDINATE: usize = 1 << 30;
 
 /// The word of an orientation.
 #[tactic(auto, unfolding(crate::specs::Placement::orient_text))]
@@ -64,7 +64,7 @@ fn below(origin: Origin, digits: &[u8]) -> Option<i64>
     ensures { result ≡ option_map negative (number_of 1 (farthest_below origin) digits.now) }
 {
     let farthest = match origin {
-        Origin::Connection => FARTHEST,
+        Origin::Connection => MAX_COORDINATE,
         Origin::Store => 1 << 63,
     };
     match read_count(digits, 1, farthest) {
@@ -79,7 +79,7 @@ fn above(origin: Origin, digits: &[u8]) -> Option<i64>
     ensures { result ≡ option_map pos (number_of 0 (farthest_above origin) digits.now) }
 {
     let farthest = match origin {
-        Origin::Connection => FARTHEST,
+        Origin::Connection => MAX_COORDINATE,
         Origin::Store => (1 << 63) - 1,
     };
     match read_count(digits, 0, farthest) {
