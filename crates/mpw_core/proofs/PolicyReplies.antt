@@ -1,5 +1,5 @@
 -- What the replies to requests of the policy tell of their rows.
-use Rattle.std.proofs.Common.{◌≡◌, ℕ, Bool, List, Result, Ok, Err, refl, sym, ap, ◌∙◌}
+use Rattle.std.proofs.Common.{◌≡◌, ℕ, Bool, List, Result, Ok, Err, refl}
 use Rattle.mpw_rbac.specs.declared.permission.Object.{Object}
 use Rattle.mpw_rbac.specs.declared.permission.Operation.{Operation}
 use Rattle.mpw_rbac.specs.declared.refusal.Refusal.{Refusal}
@@ -13,10 +13,9 @@ use Rattle.mpw_replies.specs.declared.reply.Reply.TheVariants as reply
 use Rattle.mpw_core.specs.declared.event.Response.TheVariants as response
 use Rattle.mpw_core.specs.declared.event.Event.TheVariants as event
 use Rattle.mpw_core.specs.PolicyRows.{row_of}
-use Rattle.mpw_core.specs.Step.{State, Outcome, reply_of, changed, outcome_of, wanted, step, response_of}
+use Rattle.mpw_core.specs.Step.{State, reply_of, changed, response_of}
 use Rattle.mpw_core.proofs.DenialLemmas.{inside, denied-row}
 use Rattle.mpw_core.proofs.ReadableLemmas.{never_ok, told_refusal}
-use Rattle.mpw_core.proofs.RefusalLemmas.{settled-denied, settled-ok}
 
 -- what is accepted is what its row leaves
 pub accepted-changed : (s : State) (row : Result Policy Refusal) (lines : List Listed)
