@@ -1,65 +1,58 @@
 -- What a request leaves of the run.
 use Rattle.std.proofs.Common.{◌≡◌, ◌≤◌, ℕ, ◌+◌, false, List, Result, Ok, Err, arith, refl}
+use Rattle.mpw_hier.specs.declared.submission.Submission.{Submission}
+use Rattle.mpw_rbac.specs.Policy.{Policy}
+use Rattle.mpw_requests.specs.declared.run.RunRequest.{RunRequest}
 use Rattle.mpw_requests.specs.declared.run.RunRequest.TheVariants as ask
 use Rattle.mpw_replies.specs.Listing.{Listed}
 use Rattle.mpw_replies.specs.Rows.{IsNegative}
 use Rattle.mpw_replies.specs.declared.row.Ending.{Ending}
 use Rattle.mpw_run.specs.Run.{Planned}
 use Rattle.mpw_run.specs.Step.{Run}
+use Rattle.mpw_wafer.specs.declared.wafer.Wafer.{Wafer}
 use Rattle.mpw_checking.specs.Laws.{NegativesAreNoChange, NegativesLeaveTheRun, NumbersAreCounted}
-use Rattle.mpw_checking.specs.Checking.{run_row, cancel_row, status, markers, begun_outcome, left_off_outcome, listed}
+use Rattle.mpw_checking.specs.Checking.{run_row, cancel_row, status, markers, begun_outcome, left_off_outcome, listed, Outcome, outcome_of}
 
 -- ---- denials and refusals
 
-begun_left : (run : Run) (row : Result Planned Ending) → IsNegative (begun_outcome run row).reply
-    → (begun_outcome run row).run ≡ run
-begun_left run (Ok planned) told = absurd told
-begun_left run (Err why) told = refl
-
-cancel_left : (run : Run) (row : Result (Unit {0}) Ending)
-    → IsNegative (left_off_outcome run row).reply → (left_off_outcome run row).run ≡ run
-cancel_left run (Ok x) told = absurd told
-cancel_left run (Err why) told = refl
-
-listed_left : (run : Run) (row : Result (List Listed) Ending) → (listed run row).run ≡ run
-listed_left run (Ok lines) = refl
-listed_left run (Err why) = refl
-
-pub negatives_leave : NegativesLeaveTheRun
-negatives_leave policy shelf wafer run conn ask.Run told =
-    begun_left run (run_row policy shelf wafer run conn) told
-negatives_leave policy shelf wafer run conn ask.Cancel told =
-    cancel_left run (cancel_row policy run conn) told
-negatives_leave policy shelf wafer run conn ask.Status told =
-    listed_left run (status policy run conn)
-negatives_leave policy shelf wafer run conn ask.Markers told =
-    listed_left run (markers policy run conn)
-
--- ---- no change
+-- the run is left, and nothing has to be kept
+abbrev IsUnchanged : Run → Outcome → Type 0
+IsUnchanged run o = (o.run ≡ run) × (o.changes ≡ false)
 
 begun_same : (run : Run) (row : Result Planned Ending) → IsNegative (begun_outcome run row).reply
-    → (begun_outcome run row).changes ≡ false
+    → IsUnchanged run (begun_outcome run row)
 begun_same run (Ok planned) told = absurd told
-begun_same run (Err why) told = refl
+begun_same run (Err why) told = (refl, refl)
 
 cancel_same : (run : Run) (row : Result (Unit {0}) Ending)
-    → IsNegative (left_off_outcome run row).reply → (left_off_outcome run row).changes ≡ false
+    → IsNegative (left_off_outcome run row).reply → IsUnchanged run (left_off_outcome run row)
 cancel_same run (Ok x) told = absurd told
-cancel_same run (Err why) told = refl
+cancel_same run (Err why) told = (refl, refl)
 
-listed_same : (run : Run) (row : Result (List Listed) Ending) → (listed run row).changes ≡ false
-listed_same run (Ok lines) = refl
-listed_same run (Err why) = refl
+listed_same : (run : Run) (row : Result (List Listed) Ending) → IsUnchanged run (listed run row)
+listed_same run (Ok lines) = (refl, refl)
+listed_same run (Err why) = (refl, refl)
+
+negatives_same_run : (policy : Policy) (shelf : List Submission) (wafer : Wafer) (run : Run)
+    (conn : ℕ) (request : RunRequest)
+    → IsNegative (outcome_of policy shelf wafer run conn request).reply
+    → IsUnchanged run (outcome_of policy shelf wafer run conn request)
+negatives_same_run policy shelf wafer run conn ask.Run told =
+    begun_same run (run_row policy shelf wafer run conn) told
+negatives_same_run policy shelf wafer run conn ask.Cancel told =
+    cancel_same run (cancel_row policy run conn) told
+negatives_same_run policy shelf wafer run conn ask.Status told =
+    listed_same run (status policy run conn)
+negatives_same_run policy shelf wafer run conn ask.Markers told =
+    listed_same run (markers policy run conn)
+
+pub negatives_leave : NegativesLeaveTheRun
+negatives_leave policy shelf wafer run conn request told =
+    (negatives_same_run policy shelf wafer run conn request told).0
 
 pub negatives_same : NegativesAreNoChange
-negatives_same policy shelf wafer run conn ask.Run told =
-    begun_same run (run_row policy shelf wafer run conn) told
-negatives_same policy shelf wafer run conn ask.Cancel told =
-    cancel_same run (cancel_row policy run conn) told
-negatives_same policy shelf wafer run conn ask.Status told =
-    listed_same run (status policy run conn)
-negatives_same policy shelf wafer run conn ask.Markers told =
-    listed_same run (markers policy run conn)
+negatives_same policy shelf wafer run conn request told =
+    (negatives_same_run policy shelf wafer run conn request told).1
 
 -- ---- numbers
 

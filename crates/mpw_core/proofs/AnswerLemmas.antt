@@ -1,5 +1,5 @@
 -- Prepared answers give the outcome of their row.
-use Rattle.std.proofs.Common.{◌≡◌, Result, Ok, Err, IfOk, sym, ap, subst, ◌∙◌}
+use Rattle.std.proofs.Common.{Result, Ok, Err, IfOk, sym, ap, subst}
 use Rattle.std.specs.declared.alloc.AllocError.{AllocError}
 use Rattle.mpw_rbac.specs.declared.refusal.Refusal.{Refusal}
 use Rattle.mpw_rbac.specs.declared.refusal.PolicyFault.{PolicyFault}
@@ -8,8 +8,7 @@ use Rattle.mpw_rbac.specs.Policy.{Policy}
 use Rattle.mpw_rbac.specs.Rows.{IsFaultOf}
 use Rattle.mpw_core.specs.declared.answer.Answer.{Answer}
 use Rattle.mpw_core.specs.Internal.Answer.{IsRefusal, Fits, Gives, state_with, is_change}
-use Rattle.mpw_core.specs.Step.{State, Outcome, changed, left}
-use Rattle.mpw_core.specs.declared.answer.Next.TheVariants.{Nothing}
+use Rattle.mpw_core.specs.Step.{State, changed}
 
 pub refused-gives : (state : State) (row : Result Policy Refusal) (fault : PolicyFault)
     (result : Result Answer AllocError) → IsFaultOf row fault

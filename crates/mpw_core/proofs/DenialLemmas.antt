@@ -1,5 +1,6 @@
 -- A denial names what the connection's session lacks.
-use Rattle.std.proofs.Common.{◌≡◌, ℕ, Bool, List, Result, Ok, Err, false, sym, ap, ◌∙◌}
+use Rattle.std.proofs.Common.{◌≡◌, ◌⊎◌, inl, inr, ℕ, Bool, List, Option, Some, None, Result, Ok, Err, false, refl, sym, ap, ◌∙◌}
+use Rattle.std.proofs.lemmas.Option.{none-some, same_Some}
 use Rattle.mpw_geom.specs.Names.{contains_name}
 use Rattle.mpw_rbac.specs.declared.permission.Object.{Object}
 use Rattle.mpw_rbac.specs.declared.permission.Operation.{Operation}
@@ -15,6 +16,7 @@ use Rattle.mpw_requests.specs.declared.request.Request.TheVariants as ask
 use Rattle.mpw_requests.specs.declared.policy.PolicyRequest.{PolicyRequest}
 use Rattle.mpw_requests.specs.declared.policy.PolicyRequest.TheVariants.{Open, Close, Activate, DropRole, AddUser, DelUser, AddRole, DelRole, Assign, Deassign, Grant, Revoke, Inherit, Uninherit, Ssd, Dsd, UnSsd, UnDsd}
 use Rattle.mpw_core.specs.PolicyRows.{row_of}
+use Rattle.mpw_replies.specs.declared.reply.Denial.{Denial}
 use Rattle.mpw_replies.specs.declared.reply.Denial.TheVariants as denial
 use Rattle.mpw_replies.specs.declared.reply.Reply.{Reply}
 use Rattle.mpw_replies.specs.declared.reply.Reply.TheVariants as reply
@@ -36,58 +38,62 @@ use Rattle.mpw_core.proofs.RefusalLemmas.{settled-denied}
 pub inside : {a b : Reply} → response.Told a ≡ response.Told b → a ≡ b
 inside e = cc
 
-permission-told : (r : Refusal) (operation : Operation) (object : Object)
-    → reply_of r ≡ reply.Denied (denial.Permission operation object)
-    → r ≡ refusal.NotPermitted operation object
-permission-told refusal.Opened operation object e = cc
-permission-told refusal.Login operation object e = cc
-permission-told refusal.NoSession operation object e = cc
-permission-told (refusal.NotPermitted o b) operation object e = cc
-permission-told (refusal.NotAuthorized role) operation object e = cc
-permission-told (refusal.Ssd name) operation object e = cc
-permission-told (refusal.Dsd name) operation object e = cc
-permission-told refusal.Unknown operation object e = cc
-permission-told refusal.Loop operation object e = cc
-permission-told refusal.Known operation object e = cc
-permission-told refusal.Used operation object e = cc
-permission-told refusal.Full operation object e = cc
+-- the refusal that a denial tells of
+abbrev pub told_of : Reply → Option Refusal
+told_of (reply.Denied (denial.Permission operation object)) =
+    Some (refusal.NotPermitted operation object)
+told_of (reply.Denied (denial.Activation role)) = Some (refusal.NotAuthorized role)
+told_of (reply.Denied (denial.Ssd name)) = Some (refusal.Ssd name)
+told_of (reply.Denied (denial.Dsd name)) = Some (refusal.Dsd name)
+told_of (reply.Denied denial.Session) = None
+told_of (reply.Denied denial.Login) = None
+told_of (reply.Denied (denial.Submitter cell)) = None
+told_of (reply.Denied denial.Asker) = None
+told_of (reply.Ok lines) = None
+told_of (reply.Refused code) = None
 
-activation-told : (r : Refusal) (other : List ℕ)
-    → reply_of r ≡ reply.Denied (denial.Activation other) → r ≡ refusal.NotAuthorized other
-activation-told refusal.Opened other e = cc
-activation-told refusal.Login other e = cc
-activation-told refusal.NoSession other e = cc
-activation-told (refusal.NotPermitted o b) other e = cc
-activation-told (refusal.NotAuthorized role) other e = cc
-activation-told (refusal.Ssd name) other e = cc
-activation-told (refusal.Dsd name) other e = cc
-activation-told refusal.Unknown other e = cc
-activation-told refusal.Loop other e = cc
-activation-told refusal.Known other e = cc
-activation-told refusal.Used other e = cc
-activation-told refusal.Full other e = cc
+told_back : (r : Refusal) → (told_of (reply_of r) ≡ Some r) ⊎ (told_of (reply_of r) ≡ None)
+told_back (refusal.NotPermitted operation object) = inl refl
+told_back (refusal.NotAuthorized role) = inl refl
+told_back (refusal.Ssd name) = inl refl
+told_back (refusal.Dsd name) = inl refl
+told_back refusal.Opened = inr refl
+told_back refusal.Login = inr refl
+told_back refusal.NoSession = inr refl
+told_back refusal.Unknown = inr refl
+told_back refusal.Loop = inr refl
+told_back refusal.Known = inr refl
+told_back refusal.Used = inr refl
+told_back refusal.Full = inr refl
 
-pub permission-changed : (s : State) (row : Result Policy Refusal) (operation : Operation)
-    (object : Object) → (changed s row).response ≡ response.Told
-    (reply.Denied (denial.Permission operation object))
-    → row ≡ Err (refusal.NotPermitted operation object)
-permission-changed s (Ok q) operation object e = cc
-permission-changed s (Err r) operation object e =
-    ap (λ x. Err x) (permission-told r operation object (inside e))
+told_by : (r x : Refusal) (d : Reply) → told_of d ≡ Some x → reply_of r ≡ d → r ≡ x
+told_by r x d is e =
+    elim (told_back r) [
+      | inl p ↦ same_Some r x (sym p ∙ ap told_of e ∙ is)
+      | inr p ↦ absurd (none-some x (sym p ∙ ap told_of e ∙ is))
+    ]
 
-permission-asked : (s : State) (row : Result Identity Refusal) (operation : Operation)
-    (object : Object) → (asked s identity_lines row).response ≡ response.Told
-    (reply.Denied (denial.Permission operation object))
-    → row ≡ Err (refusal.NotPermitted operation object)
-permission-asked s (Ok q) operation object e = cc
-permission-asked s (Err r) operation object e =
-    ap (λ x. Err x) (permission-told r operation object (inside e))
+denied-changed : (s : State) (row : Result Policy Refusal) (d : Reply) (x : Refusal)
+    → told_of d ≡ Some x → (changed s row).response ≡ response.Told d → row ≡ Err x
+denied-changed s (Ok q) d x is e = absurd (none-some x (ap told_of (inside e) ∙ is))
+denied-changed s (Err r) d x is e = ap (λ x. Err x) (told_by r x d is (inside e))
 
-activation-changed : (s : State) (row : Result Policy Refusal) (other : List ℕ)
-    → (changed s row).response ≡ response.Told (reply.Denied (denial.Activation other))
-    → row ≡ Err (refusal.NotAuthorized other)
-activation-changed s (Ok q) other e = cc
-activation-changed s (Err r) other e = ap (λ x. Err x) (activation-told r other (inside e))
+denied-asked : (s : State) (row : Result Identity Refusal) (d : Reply) (x : Refusal)
+    → told_of d ≡ Some x → (asked s identity_lines row).response ≡ response.Told d → row ≡ Err x
+denied-asked s (Ok q) d x is e = absurd (none-some x (ap told_of (inside e) ∙ is))
+denied-asked s (Err r) d x is e = ap (λ x. Err x) (told_by r x d is (inside e))
+
+-- what a request of the policy is denied is what its row tells
+pub denied-row : (s : State) (conn : ℕ) (request : PolicyRequest) (kept : Bool) (w : Denial)
+    (x : Refusal) → told_of (reply.Denied w) ≡ Some x
+    → response_of s (event.Ask conn (ask.Policy request)) kept ≡ response.Told (reply.Denied w)
+    → row_of s.policy conn request ≡ Err x
+unfolding step wanted
+denied-row s conn request kept w x is e =
+    let same = settled-denied s (event.Ask conn (ask.Policy request)) kept
+    (outcome_of s conn (ask.Policy request)) w e in
+    denied-changed s (row_of s.policy conn request) (reply.Denied w) x is
+    (ap (λ (o : Outcome). o.response) (sym same) ∙ e)
 
 lacks-row : (p : Policy) (conn : ℕ) (request : PolicyRequest) (operation : Operation)
     (object : Object) → row_of p conn request ≡ Err (refusal.NotPermitted operation object)
@@ -143,10 +149,14 @@ module _ (shelves : LayoutsDenyWhatIsLacked) (wafers : WafersDenyWhatIsLacked)
       (reply.Denied (denial.Permission operation object))
       → permits s.policy conn operation object ≡ false
   lacks-request s conn (ask.Policy request) operation object e = lacks-row s.policy conn request
-      operation object (permission-changed s (row_of s.policy conn request) operation object e)
+      operation object (denied-changed s
+      (row_of s.policy conn request) (reply.Denied (denial.Permission operation object)) (refusal.NotPermitted operation object)
+      refl e)
   lacks-request s conn ask.Whoami operation object e =
       absurd (law.denies-whoami s.policy conn operation object
-      (permission-asked s (rows.whoami s.policy conn) operation object e))
+      (denied-asked s (rows.whoami s.policy conn)
+      (reply.Denied (denial.Permission operation object)) (refusal.NotPermitted operation object)
+      refl e))
   lacks-request s conn (ask.Layout request) operation object e = shelves s.policy s.shelf conn
       request operation object (inside e)
   lacks-request s conn (ask.Wafer request) operation object e = wafers s.policy s.shelf s.wafer conn
@@ -176,10 +186,7 @@ pub lacks-role : (s : State) (conn : ℕ) (role other : List ℕ) (kept : Bool)
     (reply.Denied (denial.Activation other))
     → (other ≡ role) × (contains_name (authorized s.policy (rows.user_of s.policy conn)) role
     ≡ false)
-unfolding step wanted
 lacks-role s conn role other kept e =
-    let same = settled-denied s (event.Ask conn (ask.Policy (Activate role))) kept
-    (outcome_of s conn (ask.Policy (Activate role))) (denial.Activation other) e in
     law.denies-activate s.policy conn role other
-    (activation-changed s (rows.activate s.policy conn role) other
-    (ap (λ (o : Outcome). o.response) (sym same) ∙ e))
+    (denied-row s conn (Activate role) kept (denial.Activation other) (refusal.NotAuthorized other)
+    refl e)

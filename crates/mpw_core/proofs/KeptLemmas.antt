@@ -1,9 +1,8 @@
--- What every state keeps of the policy's tables.
+-- What each request of the policy and each end of a session keeps, every history keeps.
 use Rattle.std.proofs.Common.{◌≡◌, ℕ, Bool, true, false, cond, List, [], ◌∷◌, Result, Ok, Err, refl}
 use Rattle.std.specs.Prelude.{◌&&◌, not}
 use Rattle.mpw_rbac.specs.declared.refusal.Refusal.{Refusal}
 use Rattle.mpw_rbac.specs.declared.session.Identity.{Identity}
-use Rattle.mpw_rbac.specs.Existing.{AreTablesSound, KeepsTables}
 use Rattle.mpw_rbac.specs.Policy.{Policy, new_policy}
 use Rattle.mpw_rbac.specs.Rows as rows
 use Rattle.mpw_rbac.specs.declared.permission.Object.TheVariants as object
@@ -20,29 +19,33 @@ use Rattle.mpw_core.specs.History.{state_after}
 use Rattle.mpw_core.specs.PolicyRows.{row_of}
 use Rattle.mpw_core.specs.Step.{State, Outcome, new_state, left, changed, asked, audited, identity_lines, outcome_of, wanted, unkept, settled, step, after}
 
-kept-changed : (s : State) (row : Result Policy Refusal)
-    → ((q : Policy) → row ≡ Ok q → AreTablesSound q) → AreTablesSound s.policy
-    → AreTablesSound (changed s row).state.policy
-kept-changed s (Ok q) each kept = each q refl
-kept-changed s (Err r) each kept = kept
-
-kept-asked : (s : State) (row : Result Identity Refusal) → AreTablesSound s.policy
-    → AreTablesSound (asked s identity_lines row).state.policy
-kept-asked s (Ok q) kept = kept
-kept-asked s (Err r) kept = kept
-
-kept-audited : (s : State) (row : Result (Unit {0}) Ending) → AreTablesSound s.policy
-    → AreTablesSound (audited s row).state.policy
-kept-audited s (Ok allowed) kept = kept
-kept-audited s (Err ending) kept = kept
+-- what the row leaves has the property where the policy before had it
+abbrev Keeps : (Policy → Type 0) → (Policy → Result Policy Refusal) → Type 0
+Keeps P row = (p q : Policy) → row p ≡ Ok q → P p → P q
 
 module _
-    (row_keeps : (conn : ℕ) (request : PolicyRequest) → KeepsTables (λ p. row_of p conn request))
-    (end_keeps : (conn : ℕ) → KeepsTables (λ p. Ok (rows.end_session p conn)))
-    (ends_keep : KeepsTables (λ p. Ok (rows.end_sessions p)))
+    (P : Policy → Type 0)
+    (row_keeps : (conn : ℕ) (request : PolicyRequest) → Keeps P (λ p. row_of p conn request))
+    (end_keeps : (conn : ℕ) → Keeps P (λ p. Ok (rows.end_session p conn)))
+    (ends_keep : Keeps P (λ p. Ok (rows.end_sessions p)))
   where
-    kept-request : (s : State) (conn : ℕ) (request : Request) → AreTablesSound s.policy
-        → AreTablesSound (outcome_of s conn request).state.policy
+    kept-changed : (s : State) (row : Result Policy Refusal)
+        → ((q : Policy) → row ≡ Ok q → P q) → P s.policy → P (changed s row).state.policy
+    kept-changed s (Ok q) each kept = each q refl
+    kept-changed s (Err r) each kept = kept
+
+    kept-asked : (s : State) (row : Result Identity Refusal) → P s.policy
+        → P (asked s identity_lines row).state.policy
+    kept-asked s (Ok q) kept = kept
+    kept-asked s (Err r) kept = kept
+
+    kept-audited : (s : State) (row : Result (Unit {0}) Ending) → P s.policy
+        → P (audited s row).state.policy
+    kept-audited s (Ok allowed) kept = kept
+    kept-audited s (Err ending) kept = kept
+
+    kept-request : (s : State) (conn : ℕ) (request : Request) → P s.policy
+        → P (outcome_of s conn request).state.policy
     kept-request s conn (ask.Policy request) kept = kept-changed s (row_of s.policy conn request)
         (λ q is. row_keeps conn request s.policy q is kept) kept
     kept-request s conn ask.Whoami kept = kept-asked s (rows.whoami s.policy conn) kept
@@ -53,8 +56,8 @@ module _
     kept-request s conn ask.Trail kept =
         kept-audited s (permitted s.policy conn operation.Audit object.Desk) kept
 
-    kept-wanted : (s : State) (event : Event) → AreTablesSound s.policy
-        → AreTablesSound (wanted s event).state.policy
+    kept-wanted : (s : State) (event : Event) → P s.policy
+        → P (wanted s event).state.policy
     unfolding wanted
     kept-wanted s (event.Ask conn request) kept = kept-request s conn request kept
     kept-wanted s (event.Gone conn) kept = end_keeps conn s.policy (rows.end_session s.policy conn)
@@ -65,27 +68,27 @@ module _
     kept-wanted s event.Restart kept = ends_keep s.policy (rows.end_sessions s.policy) refl kept
 
     kept-settled : (s : State) (event : Event) (was : Bool) (outcome : Outcome)
-        → AreTablesSound s.policy → AreTablesSound outcome.state.policy
-        → AreTablesSound (settled s event was outcome).state.policy
+        → P s.policy → P outcome.state.policy
+        → P (settled s event was outcome).state.policy
     kept-settled s event was outcome before now =
         elim (outcome.changes && not was) as
-        (λ b. AreTablesSound (cond b (left (unkept event) (record s { closed = true }))
+        (λ b. P (cond b (left (unkept event) (record s { closed = true }))
         outcome).state.policy) [ true ↦ before | false ↦ now ]
 
-    kept-step : (s : State) (event : Event) (was : Bool) → AreTablesSound s.policy
-        → AreTablesSound (after s event was).policy
+    kept-step : (s : State) (event : Event) (was : Bool) → P s.policy
+        → P (after s event was).policy
     unfolding step
     kept-step s event was kept = kept-settled s event was (wanted s event) kept
         (kept-wanted s event kept)
 
-    kept-calls : (s : State) (calls : List Call) → AreTablesSound s.policy
-        → AreTablesSound (state_after s calls).policy
+    kept-calls : (s : State) (calls : List Call) → P s.policy
+        → P (state_after s calls).policy
     kept-calls s [] kept = kept
     kept-calls s (call ∷ calls) kept = kept-calls (after s call.event call.kept) calls
         (kept-step s call.event call.kept kept)
 
     pub kept-history : (officer digest : List ℕ) (calls : List Call)
-        → AreTablesSound (new_policy officer digest)
-        → AreTablesSound (state_after (new_state officer digest) calls).policy
+        → P (new_policy officer digest)
+        → P (state_after (new_state officer digest) calls).policy
     unfolding new_state
     kept-history officer digest calls new = kept-calls (new_state officer digest) calls new

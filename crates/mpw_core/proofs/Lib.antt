@@ -16,4 +16,5 @@ mod ReadyLemmas
 mod SettlingLemmas
 mod TrailLemmas
 mod PlaceLemmas
+pub mod WaivedLemmas
 mod WaiverLemmas

@@ -1,5 +1,5 @@
 -- What is placed is sound on the shelf, in every state.
-use Rattle.std.proofs.Common.{◌≡◌, ℕ, Bool, true, false, cond, List, [], ◌∷◌, Result, Ok, Err}
+use Rattle.std.proofs.Common.{ℕ, Bool, true, false, cond, List, [], ◌∷◌, Result, Ok, Err}
 use Rattle.std.specs.Prelude.{◌&&◌, not}
 use Rattle.mpw_rbac.specs.declared.refusal.Refusal.{Refusal}
 use Rattle.mpw_rbac.specs.declared.session.Identity.{Identity}

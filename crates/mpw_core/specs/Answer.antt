@@ -1,7 +1,6 @@
 -- What a prepared answer has to be.
 use Rattle.std.specs.Prelude.{Bool}
 use Rattle.mpw_run.specs.declared.phase.RunReply.{RunReply}
-use Rattle.mpw_run.specs.Step.{Run}
 use Rattle.mpw_core.specs.declared.event.Response.{Response}
 use Rattle.mpw_core.specs.declared.event.Response.TheVariants as response
 use Rattle.mpw_core.specs.declared.tables.Tables.{Tables}

@@ -1,5 +1,5 @@
 -- In every state each waiver that is signed was signed by one who neither asked for it nor submitted what its marker meets.
-use Rattle.std.proofs.Common.{◌≡◌, ◌∙◌, ℕ, zero, suc, Bool, true, false, cond, ◌⊎◌, inl, inr, List, [], ◌∷◌, slice_get, slice_set, Option, None, Some, Result, Ok, Err, refl, sym, ap, subst}
+use Rattle.std.proofs.Common.{◌≡◌, ◌∙◌, ℕ, zero, suc, Bool, true, false, cond, ◌⊎◌, inl, inr, List, [], ◌∷◌, length, slice_get, slice_set, Option, None, Some, Result, Ok, Err, refl, sym, ap, subst}
 use Rattle.std.specs.Prelude.{◌==◌, ◌&&◌, not, nat_lt, if◌then◌else◌}
 use Rattle.std.proofs.lemmas.Option.{none-some, same_Some}
 use Rattle.mpw_hier.specs.declared.submission.Submission.{Submission}
@@ -43,6 +43,7 @@ use Rattle.mpw_core.specs.declared.event.Event.{Event}
 use Rattle.mpw_core.specs.declared.event.Event.TheVariants as event
 use Rattle.mpw_core.specs.History.{state_after}
 use Rattle.mpw_core.specs.Step.{State, Outcome, new_state, left, changed, asked, audited, identity_lines, of_run, outcome_of, over_run, wanted, unkept, settled, step, after}
+use Rattle.mpw_core.proofs.WaivedLemmas.{waived-history}
 use Rattle.mpw_secrecy.specs.Apart.{EveryStateIsSignedApart, IsSignedApart}
 
 -- the waivers of a run that is so far
@@ -147,109 +148,12 @@ of_signed policy run waivers conn name now s fit place waiver signer is by =
       | inr before ↦ fit place waiver signer before by
     ]
 
--- ---- requests
-
-fit-changed : (s : State) (row : Result Policy Refusal) → Fit s → Fit (changed s row).state
-fit-changed s (Ok q) fit = fit
-fit-changed s (Err r) fit = fit
-
-fit-asked : (s : State) (row : Result Identity Refusal) → Fit s
-    → Fit (asked s identity_lines row).state
-fit-asked s (Ok who) fit = fit
-fit-asked s (Err r) fit = fit
-
-fit-audited : (s : State) (row : Result (Unit {0}) Ending) → Fit s → Fit (audited s row).state
-fit-audited s (Ok allowed) fit = fit
-fit-audited s (Err ending) fit = fit
-
-fit-begun : (s : State) (row : Result Planned Ending) → Fit s
-    → Fit (over_run s (checking.begun_outcome s.run row)).state
-fit-begun s (Ok planned) fit = of_none (Cutting planned)
-fit-begun s (Err ending) fit = fit
-
-fit-left : (s : State) (row : Result (Unit {0}) Ending) → Fit s
-    → Fit (over_run s (checking.left_off_outcome s.run row)).state
-fit-left s (Ok x) fit = of_none Idle
-fit-left s (Err ending) fit = fit
-
-fit-listed : (s : State) (row : Result (List Listed) Ending) → Fit s
-    → Fit (over_run s (checking.listed s.run row)).state
-fit-listed s (Ok lines) fit = fit
-fit-listed s (Err ending) fit = fit
-
-fit-run : (s : State) (conn : ℕ) (request : RunRequest) → Fit s
-    → Fit (over_run s (checking.outcome_of s.policy s.shelf s.wafer s.run conn request)).state
-fit-run s conn run_ask.Run fit =
-    fit-begun s (checking.run_row s.policy s.shelf s.wafer s.run conn) fit
-fit-run s conn run_ask.Cancel fit = fit-left s (checking.cancel_row s.policy s.run conn) fit
-fit-run s conn run_ask.Status fit = fit-listed s (checking.status s.policy s.run conn) fit
-fit-run s conn run_ask.Markers fit = fit-listed s (checking.markers s.policy s.run conn) fit
+-- ---- requests over the waivers
 
 fit-told : (phase : Phase) (waivers : List (Option Waiver)) (row : Result (List Listed) Ending)
     → SignedIn phase waivers → SignedIn phase (signing.listed waivers row).waivers
 fit-told phase waivers (Ok lines) fit = fit
 fit-told phase waivers (Err ending) fit = fit
-
--- ---- the run's own events
-
-abbrev FitRun : State → RunOutcome → Type 0
-FitRun s o = Fit (of_run s o).state
-
-one_of : (s : State) (b : Bool) (x y : RunOutcome) → FitRun s x → FitRun s y
-    → FitRun s (if b then x else y)
-one_of s true x y f g = f
-one_of s false x y f g = g
-
-fit-handed : (s : State) (c : Checks) (o : Option Offer) → Fit s → SignedIn (Checking c) s.waivers
-    → FitRun s (handed s.run c o)
-fit-handed s c None fit none = fit
-fit-handed s c (Some offer) fit none = of_unfinished _ c s.waivers none
-
-fit-taken : (s : State) (phase : Phase) → Fit s → SignedIn phase s.waivers
-    → FitRun s (taken_in s.run phase)
-fit-taken s Idle fit none = fit
-fit-taken s (Cutting planned) fit none = fit
-fit-taken s (Checking c) fit none = fit-handed s c (next_from 0 c.tiles) fit none
-fit-taken s (Finished f) fit same = fit
-
-fit-cut : (s : State) (answer : CutWindows) (phase : Phase) → Fit s → SignedIn phase s.waivers
-    → FitRun s (cut_in s.run answer phase)
-fit-cut s answer Idle fit none = fit
-fit-cut s answer (Cutting planned) fit none =
-    one_of s (same_snapshot answer.job.snapshot planned.snapshot) _ _
-    (of_cutting _ planned s.waivers none) fit
-fit-cut s answer (Checking c) fit none = fit
-fit-cut s answer (Finished f) fit same = fit
-
-fit-kept : (s : State) (c : Checks) (now : List Tile) → SignedIn (Checking c) s.waivers
-    → FitRun s (kept s.run c now)
-fit-kept s c now none = one_of s (answered now == tiles c.planned.plan) _ _ (of_new _ _)
-    (of_unfinished _ c s.waivers none)
-
-fit-compared : (s : State) (c : Checks) (answer : FoundMarkers) (tile : Tile)
-    (a : Option (List Marker)) → Fit s → SignedIn (Checking c) s.waivers
-    → FitRun s (tile_compared s.run c answer tile a)
-fit-compared s c answer tile (Some m) fit none = fit
-fit-compared s c answer tile None fit none =
-    one_of s (same_task answer.job (tile_task s.run.number c answer.job.tile)) _ _
-    (fit-kept s c (slice_set c.tiles answer.job.tile (answered_by answer.markers tile)) none)
-    fit
-
-fit-checked : (s : State) (c : Checks) (answer : FoundMarkers) (tile : Option Tile) → Fit s
-    → SignedIn (Checking c) s.waivers → FitRun s (tile_checked s.run c answer tile)
-fit-checked s c answer None fit none = fit
-fit-checked s c answer (Some tile) fit none = fit-compared s c answer tile tile.answer fit none
-
-fit-tile : (s : State) (answer : FoundMarkers) (phase : Phase) → Fit s → SignedIn phase s.waivers
-    → FitRun s (tile_in s.run answer phase)
-fit-tile s answer Idle fit none = fit
-fit-tile s answer (Cutting planned) fit none = fit
-fit-tile s answer (Checking c) fit none =
-    fit-checked s c answer (slice_get c.tiles answer.job.tile) fit none
-fit-tile s answer (Finished f) fit same =
-    one_of s (nat_lt answer.job.tile (tiles f.planned.plan)) _ _ fit fit
-
--- ---- requests over the waivers
 
 abbrev SignedBehind : State → ℕ → SignOffRequest → Type 0
 SignedBehind s conn request =
@@ -302,44 +206,9 @@ module _ (shown : AskedAreShown) (apart : SignersStandApart)
   fit-sign s conn sign_ask.Verdict fit = fit-told s.run.phase s.waivers
       (signing.verdict_row s.policy s.wafer s.run s.waivers conn) fit
 
-  fit-request : (s : State) (conn : ℕ) (request : Request) → Fit s
-      → Fit (outcome_of s conn request).state
-  fit-request s conn (ask.Policy request) fit = fit-changed s (row_of s.policy conn request) fit
-  fit-request s conn ask.Whoami fit = fit-asked s (rows.whoami s.policy conn) fit
-  fit-request s conn (ask.Layout request) fit = fit
-  fit-request s conn (ask.Wafer request) fit = fit
-  fit-request s conn (ask.Run request) fit = fit-run s conn request fit
-  fit-request s conn (ask.SignOff request) fit = fit-sign s conn request fit
-  fit-request s conn ask.Trail fit = fit-audited s
-      (permitted s.policy conn operation.Audit object.Desk) fit
-
-  fit-wanted : (s : State) (event : Event) → Fit s → Fit (wanted s event).state
-  unfolding wanted
-  fit-wanted s (event.Ask conn request) fit = fit-request s conn request fit
-  fit-wanted s (event.Gone conn) fit = fit
-  fit-wanted s (event.Take worker) fit = fit-taken s s.run.phase fit fit
-  fit-wanted s (event.Cut answer) fit = one_of s (s.run.number == answer.job.run) _ _
-      (fit-cut s answer s.run.phase fit fit) fit
-  fit-wanted s (event.Tile answer) fit = one_of s (s.run.number == answer.job.run) _ _
-      (fit-tile s answer s.run.phase fit fit) fit
-  fit-wanted s event.Restart fit = of_restart s.run.phase s.waivers fit
-
-  fit-settled : (s : State) (event : Event) (was : Bool) (outcome : Outcome) → Fit s
-      → Fit outcome.state → Fit (settled s event was outcome).state
-  fit-settled s event was outcome before now =
-      elim (outcome.changes && not was) as
-      (λ b. Fit (cond b (left (unkept event) (record s { closed = true })) outcome).state)
-      [ true ↦ before | false ↦ now ]
-
-  fit-step : (s : State) (event : Event) (was : Bool) → Fit s → Fit (after s event was)
-  unfolding step
-  fit-step s event was fit = fit-settled s event was (wanted s event) fit (fit-wanted s event fit)
-
-  fit-calls : (s : State) (calls : List Call) → Fit s → Fit (state_after s calls)
-  fit-calls s [] fit = fit
-  fit-calls s (call ∷ calls) fit = fit-calls (after s call.event call.kept) calls
-      (fit-step s call.event call.kept fit)
-
   pub signers_apart : EveryStateIsSignedApart
-  unfolding new_state
-  signers_apart officer digest calls = fit-calls (new_state officer digest) calls (of_none Idle)
+  signers_apart officer digest calls =
+      waived-history SignedIn (of_none Idle) (λ planned. of_none (Cutting planned))
+      (λ planned c waivers h. of_cutting (Checking c) planned waivers h)
+      (λ c c' waivers h. of_unfinished (Checking c') c waivers h)
+      (λ f. of_new (Finished f) (length f.book)) of_restart fit-sign officer digest calls

@@ -1,5 +1,5 @@
 use Rattle.std.proofs.Common.{ℕ}
-use Rattle.mpw_rbac.specs.Existing.{KeepsTables}
+use Rattle.mpw_rbac.specs.Existing.{AreTablesSound, KeepsTables}
 use Rattle.mpw_requests.specs.declared.policy.PolicyRequest.{PolicyRequest}
 use Rattle.mpw_requests.specs.declared.policy.PolicyRequest.TheVariants.{Open, Close, Activate, DropRole, AddUser, DelUser, AddRole, DelRole, Assign, Deassign, Grant, Revoke, Inherit, Uninherit, Ssd, Dsd, UnSsd, UnDsd}
 use Rattle.mpw_core.specs.PolicyRows.{row_of}
@@ -7,7 +7,7 @@ use Rattle.mpw_core.proofs.KeptLemmas.{kept-history}
 use Rattle.mpw_core.proofs.laws.every_state_keeps_its_tables.Goals as goal
 
 pub returns : goal.returns
-returns c = λ officer digest calls. kept-history keeps
+returns c = λ officer digest calls. kept-history AreTablesSound keeps
     c.each_request_keeps_the_tables.ensures.end_session
     c.each_request_keeps_the_tables.ensures.end_sessions officer digest calls
     (c.each_request_keeps_the_tables.ensures.new_desk officer digest)

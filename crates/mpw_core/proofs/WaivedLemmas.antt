@@ -1,0 +1,196 @@
+-- What holds of a run's phase with its waivers, where each way in which a request or an event leaves them keeps it,
+-- holds in every state.
+use Rattle.std.proofs.Common.{ℕ, Bool, true, false, cond, List, [], ◌∷◌, length, Option, None, Some, Result, Ok, Err}
+use Rattle.std.specs.Prelude.{◌==◌, ◌&&◌, not, slice_get, slice_set, nat_lt, if◌then◌else◌}
+use Rattle.mpw_tiles.specs.Plan.{tiles}
+use Rattle.mpw_markers.specs.declared.marker.Marker.{Marker}
+use Rattle.mpw_job.specs.Jobs.{CutWindows, FoundMarkers}
+use Rattle.mpw_rbac.specs.declared.permission.Object.TheVariants as object
+use Rattle.mpw_rbac.specs.declared.permission.Operation.TheVariants as operation
+use Rattle.mpw_rbac.specs.declared.refusal.Refusal.{Refusal}
+use Rattle.mpw_rbac.specs.declared.session.Identity.{Identity}
+use Rattle.mpw_rbac.specs.Policy.{Policy}
+use Rattle.mpw_rbac.specs.Rows as rows
+use Rattle.mpw_requests.specs.declared.request.Request.{Request}
+use Rattle.mpw_requests.specs.declared.request.Request.TheVariants as ask
+use Rattle.mpw_requests.specs.declared.run.RunRequest.{RunRequest}
+use Rattle.mpw_requests.specs.declared.run.RunRequest.TheVariants as run_ask
+use Rattle.mpw_replies.specs.Listing.{Listed}
+use Rattle.mpw_replies.specs.Rows.{permitted}
+use Rattle.mpw_replies.specs.declared.row.Ending.{Ending}
+use Rattle.mpw_checking.specs.Checking as checking
+use Rattle.mpw_run.specs.declared.phase.Checked.{Checked}
+use Rattle.mpw_run.specs.declared.phase.Phase.{Phase}
+use Rattle.mpw_run.specs.declared.phase.Phase.TheVariants.{Idle, Cutting, Checking, Finished}
+use Rattle.mpw_run.specs.Run.{Planned, Tile, Checks, answered}
+use Rattle.mpw_run.specs.Same.{same_snapshot, same_task}
+use Rattle.mpw_run.specs.Step.{Offer, Outcome as RunOutcome, answered_by, next_from, handed, taken_in, cut_in, kept, restarted_phase, tile_task, tile_compared, tile_checked, tile_in}
+use Rattle.mpw_requests.specs.declared.sign_off.SignOffRequest.{SignOffRequest}
+use Rattle.mpw_signoff.specs.SigningOff as signing
+use Rattle.mpw_waiver.specs.declared.waiver.Waiver.{Waiver}
+use Rattle.mpw_waiver.specs.Waivers.{none_asked}
+use Rattle.mpw_core.specs.PolicyRows.{row_of}
+use Rattle.mpw_core.specs.declared.event.Call.{Call}
+use Rattle.mpw_core.specs.declared.event.Event.{Event}
+use Rattle.mpw_core.specs.declared.event.Event.TheVariants as event
+use Rattle.mpw_core.specs.History.{state_after}
+use Rattle.mpw_core.specs.Step.{State, Outcome, new_state, left, changed, asked, audited, identity_lines, of_run, outcome_of, over_run, wanted, unkept, settled, step, after}
+
+module _
+    (R : Phase → List (Option Waiver) → Type 0)
+    (idle : R Idle [])
+    (begun : (planned : Planned) → R (Cutting planned) [])
+    (cut : (planned : Planned) (c : Checks) (waivers : List (Option Waiver))
+    → R (Cutting planned) waivers → R (Checking c) waivers)
+    (on : (c c' : Checks) (waivers : List (Option Waiver)) → R (Checking c) waivers
+    → R (Checking c') waivers)
+    (finished : (f : Checked) → R (Finished f) (none_asked (length f.book)))
+    (again : (phase : Phase) (waivers : List (Option Waiver)) → R phase waivers
+    → R (restarted_phase phase) waivers)
+    (signed_off : (s : State) (conn : ℕ) (request : SignOffRequest) → R s.run.phase s.waivers
+    → R s.run.phase (signing.outcome_of s.policy s.wafer s.run s.waivers conn request).waivers)
+  where
+    abbrev Fit : State → Type 0
+    Fit s = R s.run.phase s.waivers
+
+    waived-changed : (s : State) (row : Result Policy Refusal) → Fit s → Fit (changed s row).state
+    waived-changed s (Ok q) fit = fit
+    waived-changed s (Err r) fit = fit
+
+    waived-asked : (s : State) (row : Result Identity Refusal) → Fit s
+        → Fit (asked s identity_lines row).state
+    waived-asked s (Ok who) fit = fit
+    waived-asked s (Err r) fit = fit
+
+    waived-audited : (s : State) (row : Result (Unit {0}) Ending) → Fit s → Fit (audited s row).state
+    waived-audited s (Ok allowed) fit = fit
+    waived-audited s (Err ending) fit = fit
+
+    -- ---- requests over the run
+
+    waived-begun : (s : State) (row : Result Planned Ending) → Fit s
+        → Fit (over_run s (checking.begun_outcome s.run row)).state
+    waived-begun s (Ok planned) fit = begun planned
+    waived-begun s (Err ending) fit = fit
+
+    waived-left : (s : State) (row : Result (Unit {0}) Ending) → Fit s
+        → Fit (over_run s (checking.left_off_outcome s.run row)).state
+    waived-left s (Ok x) fit = idle
+    waived-left s (Err ending) fit = fit
+
+    waived-listed : (s : State) (row : Result (List Listed) Ending) → Fit s
+        → Fit (over_run s (checking.listed s.run row)).state
+    waived-listed s (Ok lines) fit = fit
+    waived-listed s (Err ending) fit = fit
+
+    waived-run : (s : State) (conn : ℕ) (request : RunRequest) → Fit s
+        → Fit (over_run s (checking.outcome_of s.policy s.shelf s.wafer s.run conn request)).state
+    waived-run s conn run_ask.Run fit =
+        waived-begun s (checking.run_row s.policy s.shelf s.wafer s.run conn) fit
+    waived-run s conn run_ask.Cancel fit = waived-left s (checking.cancel_row s.policy s.run conn) fit
+    waived-run s conn run_ask.Status fit = waived-listed s (checking.status s.policy s.run conn) fit
+    waived-run s conn run_ask.Markers fit = waived-listed s (checking.markers s.policy s.run conn) fit
+
+    -- ---- the run's own events
+
+    abbrev FitRun : State → RunOutcome → Type 0
+    FitRun s o = Fit (of_run s o).state
+
+    one_of : (s : State) (b : Bool) (x y : RunOutcome) → FitRun s x → FitRun s y
+        → FitRun s (if b then x else y)
+    one_of s true x y f g = f
+    one_of s false x y f g = g
+
+    waived-handed : (s : State) (c : Checks) (o : Option Offer) → Fit s → R (Checking c) s.waivers
+        → FitRun s (handed s.run c o)
+    waived-handed s c None fit none = fit
+    waived-handed s c (Some offer) fit none = on c _ s.waivers none
+
+    waived-taken : (s : State) (phase : Phase) → Fit s → R phase s.waivers
+        → FitRun s (taken_in s.run phase)
+    waived-taken s Idle fit none = fit
+    waived-taken s (Cutting planned) fit none = fit
+    waived-taken s (Checking c) fit none = waived-handed s c (next_from 0 c.tiles) fit none
+    waived-taken s (Finished f) fit same = fit
+
+    waived-cut : (s : State) (answer : CutWindows) (phase : Phase) → Fit s
+        → R phase s.waivers → FitRun s (cut_in s.run answer phase)
+    waived-cut s answer Idle fit none = fit
+    waived-cut s answer (Cutting planned) fit none =
+        one_of s (same_snapshot answer.job.snapshot planned.snapshot) _ _
+        (cut planned _ s.waivers none) fit
+    waived-cut s answer (Checking c) fit none = fit
+    waived-cut s answer (Finished f) fit same = fit
+
+    waived-kept : (s : State) (c : Checks) (now : List Tile) → R (Checking c) s.waivers
+        → FitRun s (kept s.run c now)
+    waived-kept s c now none =
+        one_of s (answered now == tiles c.planned.plan) _ _ (finished _) (on c _ s.waivers none)
+
+    waived-compared : (s : State) (c : Checks) (answer : FoundMarkers) (tile : Tile)
+        (a : Option (List Marker)) → Fit s → R (Checking c) s.waivers
+        → FitRun s (tile_compared s.run c answer tile a)
+    waived-compared s c answer tile (Some m) fit none = fit
+    waived-compared s c answer tile None fit none =
+        one_of s (same_task answer.job (tile_task s.run.number c answer.job.tile)) _ _
+        (waived-kept s c (slice_set c.tiles answer.job.tile (answered_by answer.markers tile)) none)
+        fit
+
+    waived-checked : (s : State) (c : Checks) (answer : FoundMarkers) (tile : Option Tile) → Fit s
+        → R (Checking c) s.waivers → FitRun s (tile_checked s.run c answer tile)
+    waived-checked s c answer None fit none = fit
+    waived-checked s c answer (Some tile) fit none = waived-compared s c answer tile tile.answer fit none
+
+    waived-tile : (s : State) (answer : FoundMarkers) (phase : Phase) → Fit s
+        → R phase s.waivers → FitRun s (tile_in s.run answer phase)
+    waived-tile s answer Idle fit none = fit
+    waived-tile s answer (Cutting planned) fit none = fit
+    waived-tile s answer (Checking c) fit none =
+        waived-checked s c answer (slice_get c.tiles answer.job.tile) fit none
+    waived-tile s answer (Finished f) fit same =
+        one_of s (nat_lt answer.job.tile (tiles f.planned.plan)) _ _ fit fit
+
+    -- ---- every state
+
+    waived-request : (s : State) (conn : ℕ) (request : Request) → Fit s
+        → Fit (outcome_of s conn request).state
+    waived-request s conn (ask.Policy request) fit = waived-changed s (row_of s.policy conn request) fit
+    waived-request s conn ask.Whoami fit = waived-asked s (rows.whoami s.policy conn) fit
+    waived-request s conn (ask.Layout request) fit = fit
+    waived-request s conn (ask.Wafer request) fit = fit
+    waived-request s conn (ask.Run request) fit = waived-run s conn request fit
+    waived-request s conn (ask.SignOff request) fit = signed_off s conn request fit
+    waived-request s conn ask.Trail fit = waived-audited s
+        (permitted s.policy conn operation.Audit object.Desk) fit
+
+    waived-wanted : (s : State) (event : Event) → Fit s → Fit (wanted s event).state
+    unfolding wanted
+    waived-wanted s (event.Ask conn request) fit = waived-request s conn request fit
+    waived-wanted s (event.Gone conn) fit = fit
+    waived-wanted s (event.Take worker) fit = waived-taken s s.run.phase fit fit
+    waived-wanted s (event.Cut answer) fit = one_of s (s.run.number == answer.job.run) _ _
+        (waived-cut s answer s.run.phase fit fit) fit
+    waived-wanted s (event.Tile answer) fit = one_of s (s.run.number == answer.job.run) _ _
+        (waived-tile s answer s.run.phase fit fit) fit
+    waived-wanted s event.Restart fit = again s.run.phase s.waivers fit
+
+    waived-settled : (s : State) (event : Event) (was : Bool) (outcome : Outcome) → Fit s
+        → Fit outcome.state → Fit (settled s event was outcome).state
+    waived-settled s event was outcome before now =
+        elim (outcome.changes && not was) as
+        (λ b. Fit (cond b (left (unkept event) (record s { closed = true })) outcome).state)
+        [ true ↦ before | false ↦ now ]
+
+    waived-step : (s : State) (event : Event) (was : Bool) → Fit s → Fit (after s event was)
+    unfolding step
+    waived-step s event was fit = waived-settled s event was (wanted s event) fit (waived-wanted s event fit)
+
+    waived-calls : (s : State) (calls : List Call) → Fit s → Fit (state_after s calls)
+    waived-calls s [] fit = fit
+    waived-calls s (call ∷ calls) fit = waived-calls (after s call.event call.kept) calls
+        (waived-step s call.event call.kept fit)
+
+    pub waived-history : (officer digest : List ℕ) (calls : List Call)
+        → Fit (state_after (new_state officer digest) calls)
+    unfolding new_state
+    waived-history officer digest calls = waived-calls (new_state officer digest) calls idle
