@@ -243,10 +243,11 @@ Collects-met common done b numbers r h s = record { exact = λ origin. (to origi
           (Contains-push numbers r.origin)
     ]
 
-pub Collects-apart : (common : List ℕ) (done : List Rectangle) (b : Box2) (numbers : List ℕ)
-    (r : Rectangle) → Collects common done b numbers → (SharePoint r.area b → ⊥)
-    → Collects common (done ++ r ∷ []) b numbers
-Collects-apart common done b numbers r h apart =
+-- a rectangle whose origin is there already, if it meets the box
+Collects-kept : (common : List ℕ) (done : List Rectangle) (b : Box2) (numbers : List ℕ)
+    (r : Rectangle) → Collects common done b numbers
+    → (SharePoint r.area b → Contains numbers r.origin) → Collects common (done ++ r ∷ []) b numbers
+Collects-kept common done b numbers r h told =
     record { exact = λ origin. (λ c. to origin ((h.exact origin).0 c), from origin) }
   where
     to : (origin : ℕ) → IsAnswer common done b origin → IsAnswer common (done ++ r ∷ []) b origin
@@ -257,25 +258,20 @@ Collects-apart common done b numbers r h apart =
     from origin (inl c) = (h.exact origin).1 (inl c)
     from origin (inr m) = elim (met_cases done r b origin m) [
       | inl l ↦ (h.exact origin).1 (inr l)
-      | inr n ↦ absurd (apart n.1)
+      | inr n ↦ subst (λ (k : ℕ). Contains numbers k) n.0 (told n.1)
     ]
+
+pub Collects-apart : (common : List ℕ) (done : List Rectangle) (b : Box2) (numbers : List ℕ)
+    (r : Rectangle) → Collects common done b numbers → (SharePoint r.area b → ⊥)
+    → Collects common (done ++ r ∷ []) b numbers
+Collects-apart common done b numbers r h apart =
+    Collects-kept common done b numbers r h (λ s. absurd (apart s))
 
 pub Collects-told : (common : List ℕ) (done : List Rectangle) (b : Box2) (numbers : List ℕ)
     (r : Rectangle) → Collects common done b numbers → Contains numbers r.origin
     → Collects common (done ++ r ∷ []) b numbers
 Collects-told common done b numbers r h told =
-    record { exact = λ origin. (λ c. to origin ((h.exact origin).0 c), from origin) }
-  where
-    to : (origin : ℕ) → IsAnswer common done b origin → IsAnswer common (done ++ r ∷ []) b origin
-    to origin (inl c) = inl c
-    to origin (inr m) = inr (met_left done r b origin m)
-
-    from : (origin : ℕ) → IsAnswer common (done ++ r ∷ []) b origin → Contains numbers origin
-    from origin (inl c) = (h.exact origin).1 (inl c)
-    from origin (inr m) = elim (met_cases done r b origin m) [
-      | inl l ↦ (h.exact origin).1 (inr l)
-      | inr n ↦ subst (λ (k : ℕ). Contains numbers k) n.0 told
-    ]
+    Collects-kept common done b numbers r h (λ s. told)
 
 -- ---- along the code's list
 
