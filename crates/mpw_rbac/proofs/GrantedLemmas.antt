@@ -19,7 +19,7 @@ use Rattle.mpw_rbac.specs.declared.permission.Grant.{Grant}
 use Rattle.mpw_rbac.specs.declared.permission.Object.{Object}
 use Rattle.mpw_rbac.specs.declared.permission.Operation.{Operation}
 use Rattle.mpw_rbac.proofs.SeparationLemmas.{refuted, both, parts}
-use Rattle.mpw_rbac.proofs.HeldLemmas.{and_false, and_true, put-more, put-less, held-same, contains-at, strange, place-is, put_in, held-place, place_of, any-found, held-less, there}
+use Rattle.mpw_rbac.proofs.HeldLemmas.{and_false, and_true, put-more, put-less, held-same, contains-at, strange, place-is, put_in, held-place, place_of, any-found, held-less}
 
 pub held-none : (roles : List Name) (operation : ℕ) (table : Buckets)
     → ((object : Object) (place : ℕ) → holds table object place ≡ false)

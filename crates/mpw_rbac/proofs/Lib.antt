@@ -25,5 +25,6 @@ pub mod Denying
 pub mod HeldLemmas
 pub mod KeepTrimmed
 pub mod KeptSessions
+pub mod RosterLemmas
 pub mod RowFacts
 pub mod Shown

@@ -1,17 +1,21 @@
 -- The masks beside users and sessions stay theirs.
-use Rattle.std.proofs.Common.{◌≡◌, ℕ, zero, suc, ◌+◌, ◌<◌, Bool, true, false, cond, not, ◌&&◌, ◌||◌, ◌==◌, inl, inr, List, [], ◌∷◌, ◌++◌, length, map, filter, Option, Some, is_some, option_map, refl, sym, ap, subst, ◌∙◌, true≢false, arith}
-use Rattle.std.specs.Prelude.{nat_lt, slice_get, slice_index_or}
+use Rattle.std.proofs.Common.{◌≡◌, ℕ, zero, suc, ◌+◌, ◌<◌, Bool, true, false, cond, ◌&&◌, ◌||◌, ◌==◌, inl, inr, List, [], ◌∷◌, ◌++◌, length, map, filter, Option, None, Some, option_map, refl, sym, ap, subst, ◌∙◌, arith}
+use Rattle.std.specs.Prelude.{nat_lt, position, slice_get, slice_index_or, slice_set}
 use Rattle.std.specs.Map.{lookup}
 use Rattle.std.specs.Map.Calls.{RetainsPairs}
 use Rattle.std.specs.Option.{option_map_or}
-use Rattle.std.proofs.lemmas.Bool.{cases_eq}
+use Rattle.std.proofs.lemmas.Bool.{cases_eq, lt-ltb}
 use Rattle.indexmap.specs.IndexMap.{insert_entry}
 use Rattle.mpw_geom.specs.Names.{name_eq}
-use Rattle.mpw_roles.specs.Hierarchy.{Name, Hierarchy, role_names}
+use Rattle.mpw_roles.specs.Hierarchy.{Name, Hierarchy, role_names, is_role, immediate_juniors, with_pair}
 use Rattle.mpw_roles.specs.Mask.{has}
 use Rattle.mpw_roles.specs.Order.{at_least, is_below}
 use Rattle.mpw_roles.specs.Places.{name_at, is_place_below, is_place_under, mask_at}
 use Rattle.mpw_roles.specs.declared.mask.Mask.{Mask}
+use Rattle.mpw_roles.proofs.BitLemmas.{name-found}
+use Rattle.mpw_roles.proofs.HierarchyLemmas.{length-with_juniors, names-with_juniors}
+use Rattle.mpw_roles.proofs.PlacesLemmas.{order-with_pair}
+use Rattle.mpw_roles.proofs.PositionLemmas.{position-cons}
 use Rattle.mpw_rbac.specs.Masked.{IsBelow, AreBelow, sessions_in, masks_in}
 use Rattle.mpw_rbac.specs.Policy.{assigned_lists, assigned_roles, active_lists}
 use Rattle.mpw_rbac.specs.Internal.Policy.{users_and_roles}
@@ -65,6 +69,13 @@ masks-more h lists ms m i long before here k inside place = elim (cases_eq k i) 
   | inr other ↦ ap (λ x. has x place) (at-kept ms m k (omega arith)) ∙ before k (omega arith) place
 ]
 
+pub user-roles : (us : List (Name × User)) (i : ℕ) (u : User)
+    → slice_get (map (λ (e : Name × User). e.1) us) i ≡ Some u
+    → slice_index_or (assigned_lists us) i [] ≡ u.roles
+user-roles [] i u at = cc
+user-roles (x ∷ xs) zero u at = let same : x.1 ≡ u = cc in ap (λ (v : User). v.roles) same
+user-roles (x ∷ xs) (suc i) u at = user-roles xs i u at
+
 pub roles-at : (us : List (Name × User)) (i : ℕ) (e : Name × User) → slice_get us i ≡ Some e
     → slice_index_or (assigned_lists us) i [] ≡ e.1.roles
 roles-at [] i e at = cc
@@ -86,17 +97,6 @@ roles-first h (e ∷ es) user (suc i) inside here before =
     ∙ ap (λ b. option_map_or (λ (u : User). u.roles) (cond b (Some e.1) (value_at name_eq es user))
     []) (sym (before 0 (omega arith)))
 
-pub none-assigned : (h : Hierarchy) (us : List (Name × User)) (user : Name)
-    → is_some (lookup (name_eq user) us) ≡ false → [] ≡ assigned_roles (users_and_roles us h) user
-none-assigned h [] user none = refl
-none-assigned h (e ∷ es) user none =
-    elim (name_eq user e.0) as (λ b. is_some (cond b (Some e.1) (lookup (name_eq user) es)) ≡ false
-    → [] ≡ option_map_or (λ (u : User). u.roles) (cond b (Some e.1) (value_at name_eq es user))
-    []) [
-      | true ↦ λ is. absurd (true≢false is)
-      | false ↦ λ later. none-assigned h es user later
-    ] none
-
 pub assigned-length : (us : List (Name × User)) → length (assigned_lists us) ≡ length us
 assigned-length [] = refl
 assigned-length (u ∷ us) = ap suc (assigned-length us)
@@ -105,6 +105,39 @@ pub names-length : (us : List (Name × User))
     → length (map (λ (e : Name × User). e.0) us) ≡ length us
 names-length [] = refl
 names-length (u ∷ us) = ap suc (names-length us)
+
+-- the mask of a user among those of all
+pub masks-put : (h : Hierarchy) (us : List (Name × User)) (ms : List Mask) (n : Name) (v : User)
+    (m : Mask) → AreBelow h (assigned_lists us) ms → IsBelow h v.roles m
+    → AreBelow h (assigned_lists (insert_entry name_eq us n v))
+    (option_map_or (λ k. slice_set ms k m)
+    (position (name_eq n) (map (λ (e : Name × User). e.0) us)) (ms ++ m ∷ []))
+masks-put h [] [] n v m is here = below-cons h v.roles [] m [] here (below-nil h)
+masks-put h [] (x ∷ xs) n v m is here = let long = is.long in absurd (omega arith)
+masks-put h (e ∷ es) [] n v m is here = let long = is.long in absurd (omega arith)
+masks-put h (e ∷ es) (x ∷ xs) n v m is here =
+    let names = map (λ (y : Name × User). y.0) es in
+    subst (λ o. AreBelow h (assigned_lists (insert_entry name_eq (e ∷ es) n v))
+    (option_map_or (λ k. slice_set (x ∷ xs) k m) o (x ∷ (xs ++ m ∷ []))))
+    (sym (position-cons (name_eq n) e.0 names))
+    (elim (name_eq n e.0) as (λ b. AreBelow h
+    (assigned_lists (cond b ((e.0, v) ∷ es) (e ∷ insert_entry name_eq es n v)))
+    (option_map_or (λ k. slice_set (x ∷ xs) k m)
+    (cond b (Some 0) (option_map suc (position (name_eq n) names))) (x ∷ (xs ++ m ∷ [])))) [
+      | true ↦ below-cons h v.roles (assigned_lists es) m xs here
+          (below-tail h e.1.roles (assigned_lists es) x xs is)
+      | false ↦ later (position (name_eq n) names) (masks-put h es xs n v m
+          (below-tail h e.1.roles (assigned_lists es) x xs is) here)
+    ])
+  where
+    later : (o : Option ℕ) → AreBelow h (assigned_lists (insert_entry name_eq es n v))
+        (option_map_or (λ k. slice_set xs k m) o (xs ++ m ∷ []))
+        → AreBelow h (e.1.roles ∷ assigned_lists (insert_entry name_eq es n v))
+        (option_map_or (λ k. slice_set (x ∷ xs) k m) (option_map suc o) (x ∷ (xs ++ m ∷ [])))
+    later None rest = below-cons h e.1.roles (assigned_lists (insert_entry name_eq es n v)) x
+        (xs ++ m ∷ []) (below-head h e.1.roles (assigned_lists es) x xs is) rest
+    later (Some j) rest = below-cons h e.1.roles (assigned_lists (insert_entry name_eq es n v)) x
+        (slice_set xs j m) (below-head h e.1.roles (assigned_lists es) x xs is) rest
 
 -- nobody's roles, and one senior more
 pub none-below : (h : Hierarchy) (place : ℕ) → false ≡ is_place_below h [] place
@@ -139,6 +172,58 @@ senior-more h seniors role place = shared (nat_lt place (length h))
     last (s ∷ ss) = or_assoc (at_least h s (name_at h place)) (is_below h ss (name_at h place))
         (at_least h role (name_at h place)) ∙ ap (λ b. at_least h s (name_at h place) || b)
         (last ss)
+
+-- a pair more: who is authorized for its senior is authorized for the junior's roles too
+below-with_pair : (h : Hierarchy) (s j : Name) → is_role h s ≡ true → (l : List Name) (b : Name)
+    → is_below (with_pair h s j) l b ≡ (is_below h l b || (is_below h l s && at_least h j b))
+below-with_pair h s j there [] b = refl
+below-with_pair h s j there (x ∷ xs) b =
+    (λ t. order-with_pair h s j there x b t || below-with_pair h s j there xs b t)
+    ∙ gathered (at_least h x b) (at_least h x s) (is_below h xs b) (is_below h xs s)
+    (at_least h j b)
+  where
+    gathered : (x y z w v : Bool)
+        → ((x || (y && v)) || (z || (w && v))) ≡ ((x || z) || ((y || w) && v))
+    gathered true y z w v = refl
+    gathered false true true w true = refl
+    gathered false true false w true = refl
+    gathered false true true true false = refl
+    gathered false true true false false = refl
+    gathered false true false true false = refl
+    gathered false true false false false = refl
+    gathered false false z w v = refl
+
+joined-bits : (f x y z : Bool) → ((f && x) || (y && (f && z))) ≡ (f && (x || (y && z)))
+joined-bits true x y z = refl
+joined-bits false x true z = refl
+joined-bits false x false z = refl
+
+pub are-joined : (h : Hierarchy) (s j : Name) (i : ℕ) (lists : List (List Name))
+    (old new : List Mask) (m : Mask) → is_role h s ≡ true
+    → Some i ≡ position (name_eq s) (role_names h)
+    → ((q : ℕ) → has m q ≡ is_place_under h j q) → AreBelow h lists old → length new ≡ length old
+    → ((p : ℕ) → p < length old → (q : ℕ) → has (mask_at new p) q
+    ≡ (has (mask_at old p) q || (has (mask_at old p) i && has m q)))
+    → AreBelow (with_pair h s j) lists new
+are-joined h s j i lists old new m there at under are long joined =
+    let size : length (with_pair h s j) ≡ length h = length-with_juniors h s _ in
+    let names = names-with_juniors h s (immediate_juniors h s ++ j ∷ []) in
+    let above = name-found h s i at in
+    record {
+      long = long ∙ are.long;
+      exact = λ p inside q.
+          let l = slice_index_or lists p [] in
+          let senior : has (mask_at old p) i ≡ is_below h l s = are.exact p inside i
+          ∙ ap (λ t. t && is_below h l (name_at h i)) (lt-ltb i (length h) above.0)
+          ∙ ap (is_below h l) above.1 in
+          joined p (subst (λ n. p < n) (sym are.long) inside) q
+          ∙ (λ t. are.exact p inside q t || (senior t && under q t))
+          ∙ joined-bits (nat_lt q (length h)) (is_below h l (name_at h q)) (is_below h l s)
+          (at_least h j (name_at h q))
+          ∙ ap (λ t. nat_lt q (length h) && t) (sym (below-with_pair h s j there l (name_at h q)))
+          ∙ (λ t. nat_lt q (sym size t)
+          && is_below (with_pair h s j) l (slice_index_or (sym names t) q []));
+    }
 
 -- the active roles of each session
 abbrev pub active_in : ℕ × Active → List Name

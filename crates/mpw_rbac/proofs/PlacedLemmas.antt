@@ -1,17 +1,13 @@
 -- The masks beside the sets stay theirs, and say which sets are broken.
 use Rattle.std.proofs.Common.{◌≡◌, ℕ, zero, suc, ◌+◌, ◌<◌, Bool, true, false, ◌||◌, List, [], ◌∷◌, ◌++◌, length, take, get_or, Some, Ok, refl, sym, ap, subst, ◌∙◌, arith}
-use Rattle.std.specs.Prelude.{slice_get, slice_index_or}
+use Rattle.std.specs.Prelude.{slice_get}
 use Rattle.std.proofs.lemmas.List.{take_more}
-use Rattle.mpw_roles.specs.Hierarchy.{Name, Hierarchy, role_names, immediate_juniors}
-use Rattle.mpw_roles.specs.Places.{mask_at}
+use Rattle.mpw_roles.specs.Hierarchy.{Name, Hierarchy, role_names}
 use Rattle.mpw_roles.specs.Rows as hierarchy
-use Rattle.mpw_roles.specs.declared.mask.Mask.{Mask}
 use Rattle.mpw_roles.proofs.CallerLemmas.{names-with_juniors, or_right}
 use Rattle.mpw_separation.specs.Placed.{KeptSets, AreSetsPlaced, IsBelow}
 use Rattle.mpw_separation.specs.Separation.{breaks, is_broken}
 use Rattle.mpw_separation.specs.Set.{SeparationSet}
-use Rattle.mpw_rbac.specs.Masked.{AreBelow, sessions_in, masks_in}
-use Rattle.mpw_rbac.specs.Policy.{active_lists}
 use Rattle.mpw_rbac.specs.declared.active.Active.{Active}
 use Rattle.mpw_rbac.proofs.MaskedLemmas.{AreActive, active-head, active-tail}
 use Rattle.mpw_rbac.proofs.RowFacts.{inherited-pair, uninherited-pair}

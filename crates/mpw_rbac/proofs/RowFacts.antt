@@ -14,7 +14,7 @@ use Rattle.indexmap.specs.IndexMap.{insert_entry}
 use Rattle.mpw_rbac.specs.declared.permission.Operation.TheVariants.{Admin}
 use Rattle.mpw_rbac.specs.declared.permission.Object.TheVariants.{Desk}
 use Rattle.mpw_rbac.specs.declared.refusal.Refusal.{Refusal}
-use Rattle.mpw_rbac.specs.declared.refusal.Refusal.TheVariants.{NoSession, NotPermitted, Full, Ssd, Dsd}
+use Rattle.mpw_rbac.specs.declared.refusal.Refusal.TheVariants.{NoSession, NotPermitted, Ssd, Dsd}
 use Rattle.mpw_rbac.specs.Policy.{Policy, is_user, assigned_roles, assigned_lists, active_lists, session_of, permits, trim}
 use Rattle.mpw_rbac.specs.declared.session.User.{User}
 use Rattle.mpw_rbac.specs.declared.session.Session.{Session}

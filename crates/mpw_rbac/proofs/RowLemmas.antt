@@ -12,7 +12,7 @@ use Rattle.mpw_geom.specs.Names.{name_eq, contains_name, without_name}
 use Rattle.indexmap.specs.IndexMap.{insert_entry}
 use Rattle.mpw_rbac.specs.declared.refusal.Refusal.{Refusal}
 use Rattle.mpw_rbac.specs.declared.refusal.Refusal.TheVariants.{Full, Known, Unknown, Dsd}
-use Rattle.mpw_rbac.specs.Policy.{Policy, authorized, is_user, assigned_lists, active_lists, session_of}
+use Rattle.mpw_rbac.specs.Policy.{Policy, authorized, is_user, active_lists, session_of}
 use Rattle.mpw_rbac.specs.declared.session.User.{User}
 use Rattle.mpw_rbac.specs.declared.session.Session.{Session}
 use Rattle.mpw_rbac.specs.Rows as rows

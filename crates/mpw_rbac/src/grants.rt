@@ -7,6 +7,7 @@ ghost use Rattle.std.specs.List.{list_any, flat_map};
 ghost use Rattle.mpw_geom.specs.Names.{name_eq};
 ghost use Rattle.mpw_rbac.specs.Grant.{grant_eq};
 ghost use Rattle.mpw_rbac.specs.Internal.Grants.{IsCovered, without_grant};
+ghost use Rattle.mpw_rbac.specs.Internal.Holders.{slot};
 ghost use Rattle.mpw_rbac.specs.Rows.{ungranted};
 ghost use Rattle.mpw_rbac.specs.declared.permission.Grant.{Grant as GrantState};
 
@@ -133,11 +134,12 @@ impl Block {
         })
     }
 
-    /// Whether that is one of its grants: its slot, and where that is there a comparison for each grant.
-    fn contains(&self, grant: &Grant) -> bool
+    /// Whether that is one of its grants, by the slot of its object, and where that is there by a comparison for each grant.
+    fn contains(&self, at: usize, grant: &Grant) -> bool
+        requires { at ≡ slot grant.now.object }
         ensures { result ≡ list_any (grant_eq grant.now) self.now }
     {
-        if !self.slots.contains(slot(&grant.object)) {
+        if !self.slots.contains(at) {
             return false;
         }
         has(self.as_slice(), grant)
@@ -154,11 +156,12 @@ impl Block {
         Block::of(alloc, grants, slots)
     }
 
-    /// The block without a grant: the same one where it isn't there.
-    fn without(&self, alloc: Global, grant: &Grant) -> Result<Block, AllocError>
+    /// The block without a grant, by the slot of its object: the same one where it isn't there.
+    fn without(&self, alloc: Global, at: usize, grant: &Grant) -> Result<Block, AllocError>
+        requires { at ≡ slot grant.now.object }
         ensures { IfOk result (λ block. block ≡ without_grant self.now grant.now) }
     {
-        if !self.contains(grant) {
+        if !self.contains(at, grant) {
             let same = self.copy()?;
             return Ok(same);
         }
@@ -248,8 +251,9 @@ fn is_shorter(blocks: &[Block], limit: usize) -> bool
 fn is_among(blocks: &[Block], grant: &Grant) -> bool
     ensures { result ≡ list_any (grant_eq grant.now) (flat_map (λ block. block) blocks.now) }
 {
+    let at = slot(&grant.object);
     for block in blocks {
-        if block.contains(grant) {
+        if block.contains(at, grant) {
             return true;
         }
     }
@@ -294,9 +298,10 @@ fn blocks_copied(alloc: Global, blocks: &[Block]) -> Result<Vec<Block>, AllocErr
 fn blocks_without(alloc: Global, blocks: &[Block], grant: &Grant) -> Result<Vec<Block>, AllocError>
     ensures { IfOk result (λ left. flat_map (λ block. block) left.items ≡ without_grant (flat_map (λ block. block) blocks.now) grant.now) }
 {
+    let at = slot(&grant.object);
     let mut left = Vec::with_capacity(alloc, blocks.len())?;
     for block in blocks {
-        keep(&mut left, block.without(alloc, grant)?)?;
+        keep(&mut left, block.without(alloc, at, grant)?)?;
     }
     Ok(left)
 }

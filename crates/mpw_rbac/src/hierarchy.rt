@@ -5,12 +5,14 @@ ghost use Rattle.mpw_separation.specs.Separation.{least_broken};
 ghost use Rattle.mpw_roles.specs.Hierarchy.{role_names};
 ghost use Rattle.mpw_roles.specs.Rows as hierarchy;
 ghost use Rattle.mpw_rbac.specs.Internal.Fault.{IsHierarchyFault};
+ghost use Rattle.mpw_rbac.specs.Masked.{AreUsers};
 ghost use Rattle.mpw_rbac.specs.Policy.{assigned_lists, active_lists};
 ghost use Rattle.mpw_rbac.specs.Rows.{IsFaultOf, ungranted};
 ghost use Rattle.mpw_rbac.specs.Rows as rows;
 
 use crate::permissions::Permissions;
 use crate::separation::{least_dynamic, least_static};
+use crate::users::Users;
 use crate::{Policy, PolicyFault, Refusal};
 use mpw_geom::Name;
 use mpw_roles::Roles;
@@ -84,13 +86,13 @@ impl Policy {
         self.administers(conn)?;
         let next = with_pair(&self.permissions, senior, junior)?;
         let roles = next.roles();
-        if let Some(name) = self.broken_static(roles) {
+        let users = self.users.joined(self.permissions.roles(), senior, junior)?;
+        if let Some(name) = self.broken_static(roles, &users) {
             return Err(PolicyFault::Refused(Refusal::Ssd(name.copy()?)));
         }
         if let Some(name) = self.broken_dynamic(roles) {
             return Err(PolicyFault::Refused(Refusal::Dsd(name.copy()?)));
         }
-        let users = self.users.among(roles)?;
         self.sessions.remask(roles);
         self.users = users;
         self.permissions = next;
@@ -118,11 +120,12 @@ impl Policy {
     }
 
     /// The least name of the static sets that some user would break in another hierarchy of the same roles.
-    fn broken_static(&self, roles: &Roles) -> Option<&Name>
-        requires { role_names roles.now ≡ role_names self.now.roles }
+    fn broken_static(&self, roles: &Roles, users: &Users) -> Option<&Name>
+        requires roles { role_names roles.now ≡ role_names self.now.roles }
+        requires users { AreUsers roles.now self.now.users users.now }
         ensures { option_copied result ≡ least_broken roles.now self.now.ssd (assigned_lists self.now.users) }
     {
-        least_static(&self.sets, roles, self.users.table())
+        least_static(&self.sets, roles, users)
     }
 
     /// The least name of the dynamic sets that some session would break in another hierarchy of the same roles.

@@ -18,6 +18,7 @@ mod permission;
 mod permissions;
 mod policy;
 mod refusal;
+mod roster;
 mod separation;
 mod session;
 mod sessions;

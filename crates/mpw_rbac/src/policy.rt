@@ -16,7 +16,6 @@ use crate::active::Sessions;
 use crate::permissions::Permissions;
 use crate::users::Users;
 use crate::{Digest, Grant, Identity, Object, Operation, PolicyFault, Refusal, Session, User};
-use indexmap::IndexMap;
 use mpw_geom::{Name, Names};
 use mpw_roles::Roles;
 use mpw_separation::PlacedSets;
@@ -75,14 +74,14 @@ impl Policy {
     pub(crate) fn user(&self, user: &Name) -> Option<&User>
         ensures { option_copied result ≡ value_at name_eq self.now.users user.now }
     {
-        self.users.table().get(user)
+        self.users.get(user)
     }
 
     /// Whether that is a user.
     pub(crate) fn is_user(&self, user: &Name) -> bool
         ensures { result ≡ is_user self.now user.now }
     {
-        self.users.table().contains_key(user)
+        self.users.contains(user)
     }
 
     /// Whether that is a role.
@@ -113,7 +112,7 @@ impl Policy {
     pub(crate) fn has_room_for_user(&self) -> bool
         ensures { result ≡ nat_lt (length self.now.users) max_users }
     {
-        self.users.table().len() < MAX_USERS
+        self.users.len() < MAX_USERS
     }
 
     /// Whether one more grant fits.
@@ -216,15 +215,11 @@ fn first_users(
 {
     let mut assigned = Names::new(roles.allocator());
     assigned.push(role)?;
-    let mut table = IndexMap::new(roles.allocator());
-    table.insert(
-        officer,
-        User {
-            digest,
-            roles: assigned,
-        },
-    )?;
-    Users::new(roles, table)
+    let value = User {
+        digest,
+        roles: assigned,
+    };
+    Users::new(roles)?.with(roles, officer, value)
 }
 
 /// The grant of a new desk: that the officer may administer it.

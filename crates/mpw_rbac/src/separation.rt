@@ -12,7 +12,7 @@ ghost use Rattle.mpw_rbac.specs.Rows as rows;
 
 use crate::active::Active;
 use crate::users::Users;
-use crate::{Policy, PolicyFault, Refusal, User};
+use crate::{Policy, PolicyFault, Refusal};
 use indexmap::IndexMap;
 use mpw_geom::Name;
 use mpw_roles::Roles;
@@ -34,22 +34,21 @@ pub(crate) fn first_broken<'a>(
     sets.first_broken(kind, &below)
 }
 
-/// The least name of the static sets that some user breaks. It takes no memory, and costs a look-up for each assigned role, and
-/// an `and` of eight words for each user and set.
+/// The least name of the static sets that some user breaks. It takes no memory, and costs an `and` of eight words for
+/// each user and set.
 pub(crate) fn least_static<'a>(
     sets: &'a PlacedSets,
     roles: &Roles,
-    users: &IndexMap<Name, User>,
+    users: &Users,
 ) -> Option<&'a Name>
-    requires { AreSetsPlaced (role_names roles.now) sets.now }
-    ensures { option_copied result ≡ least_broken roles.now sets.now.sets.ssd (assigned_lists users.now.entries) }
+    requires placed { AreSetsPlaced (role_names roles.now) sets.now }
+    requires authorized { AreAuthorized roles.now users.now }
+    ensures { option_copied result ≡ least_broken roles.now sets.now.sets.ssd (assigned_lists users.now.users) }
 {
+    roles.is_hierarchy();
     let mut least = None;
-    for index in 0..users.len() {
-        let Some((_, user)) = users.get_index(index) else {
-            return least;
-        };
-        let broken = first_broken(sets, Kind::Static, roles, user.roles.as_slice());
+    for authorized in users.masks() {
+        let broken = sets.first_broken(Kind::Static, authorized);
         least = lesser(least, broken);
     }
     least

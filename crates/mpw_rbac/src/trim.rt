@@ -32,5 +32,5 @@ pub(crate) fn keep(users: &Users, roles: &Roles, session: &mut Session) -> bool
 {
     let below = roles.at_places(&users.authorized(&session.user));
     keep_below(&below, &mut session.active, Names::new(roles.allocator()));
-    users.table().contains_key(&session.user)
+    users.contains(&session.user)
 }

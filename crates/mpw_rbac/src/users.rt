@@ -1,37 +1,40 @@
-//! The table of users, which copies of the policy share, and beside it for each user the places of the roles that the user is
-//! authorized for, as a mask.
+//! The roster of users, which copies of the policy share, and beside it for each user the places of the roles that the
+//! user is authorized for, as a mask.
 //!
-//! The masks are made for the policy's roles, and an invariant of the policy says so. A change of users or roles makes them
+//! The masks are made for the policy's roles, and an invariant of the policy says so. A change of one user makes that
+//! user's mask, and a pair more joins the junior's mask into those that need it; any other change of roles makes them
 //! anew, a look-up for each assigned role.
-ghost use Rattle.std.specs.Prelude.{◌≡◌, length, IfOk};
+ghost use Rattle.std.specs.Prelude.{◌≡◌, ◌||◌, ◌&&◌, ◌<◌, ◌++◌, ◌∷◌, [], ℕ, List, length, slice_set, true, IfOk, IfSome};
+ghost use Rattle.std.specs.Option.{option_copied, option_map_or};
 ghost use Rattle.indexmap.specs.IndexMap.{insert_entry};
-ghost use Rattle.mpw_geom.specs.Names.{name_eq, without_name};
-ghost use Rattle.std.specs.Prelude.{not, true};
-ghost use Rattle.mpw_roles.specs.Hierarchy.{Hierarchy};
+ghost use Rattle.mpw_geom.specs.Names.{name_eq};
+ghost use Rattle.mpw_roles.specs.Hierarchy.{Hierarchy, is_role, with_pair};
+ghost use Rattle.mpw_roles.specs.Mask.{has};
+ghost use Rattle.mpw_roles.specs.Places.{mask_at};
 ghost use Rattle.mpw_rbac.specs.Masked.{AreAuthorized, AreBelow, AreUsers, IsBelow};
 ghost use Rattle.mpw_rbac.specs.Policy.{assigned_lists, assigned_roles};
 ghost use Rattle.mpw_rbac.specs.Internal.Policy.{users_and_roles};
 ghost use Rattle.mpw_rbac.specs.Rows.{unassigned};
-ghost use Rattle.mpw_rbac.specs.Table.{without_key};
+ghost use Rattle.mpw_rbac.specs.Table.{has_key, value_at, without_key};
 
 use crate::User;
-use indexmap::IndexMap;
+use crate::roster::Roster;
 use mpw_geom::Name;
 use mpw_roles::{Mask, Roles};
-use std::alloc::AllocError;
+use std::alloc::{AllocError, Global};
 use std::marker::Model;
 use std::sync::Arc;
 
-/// Users in the order in which they were added. A copy is two counts; a change is a table of its own.
+/// Users in the order in which they were added. A copy is two counts; a change is a roster of its own.
 pub(crate) struct Users {
-    table: Arc<IndexMap<Name, User>>,
+    roster: Arc<Roster>,
     masks: Arc<Vec<Mask>>,
 }
 
 impl Drop for Users {
     fn drop(self) {
-        let Users { table, masks } = self;
-        drop(table);
+        let Users { roster, masks } = self;
+        drop(roster);
         drop(masks);
     }
 }
@@ -42,96 +45,133 @@ impl Model for Users {
 
     ghost Value = { KeptUsers };
 
-    ghost view = { λ kept. record { users = kept.table.value.entries; masks = kept.masks.value.items } };
+    ghost view = { λ kept. record { users = kept.roster.value; masks = kept.masks.value.items } };
 
-    ghost invariant = { λ kept. length kept.masks.value.items ≡ length kept.table.value.entries };
-}
-
-/// The same users in a table of their own.
-fn copied(users: &IndexMap<Name, User>) -> Result<IndexMap<Name, User>, AllocError>
-    ensures { IfOk result (λ copy. copy.entries ≡ users.now.entries) }
-{
-    users.clone()
-}
-
-/// The users but one.
-fn without_user(users: &mut IndexMap<Name, User>, user: &Name)
-    ensures { users.new.entries ≡ without_key name_eq users.old.entries user.now }
-{
-    users.retain(
-        |other: &Name, value: &mut User| -> bool
-            ensures { (result ≡ not (name_eq user.entry.now other.now)) × (value.new ≡ value.old) }
-        {
-            let _value = value;
-            *user != *other
-        },
-    );
-}
-
-/// Nobody is assigned the role.
-fn unassign(users: &mut IndexMap<Name, User>, role: &Name)
-    ensures { users.new.entries ≡ unassigned users.old.entries role.now }
-{
-    users.retain(
-        |_user: &Name, value: &mut User| -> bool
-            ensures { (result ≡ true) × (value.new ≡ record value.old { roles = without_name value.old.roles role.entry.now }) }
-        {
-            value.roles.remove(role);
-            true
-        },
-    );
+    ghost invariant = { λ kept. length kept.masks.value.items ≡ length kept.roster.value };
 }
 
 /// The masks of the roles that each user is authorized for: a look-up for each assigned role.
-fn masks_of(roles: &Roles, users: &IndexMap<Name, User>) -> Result<Vec<Mask>, AllocError>
-    ensures masks { IfOk result (λ masks. AreBelow roles.now (assigned_lists users.now.entries) masks.items) }
-    ensures long { IfOk result (λ masks. length masks.items ≡ length users.now.entries) }
+fn masks_of(roles: &Roles, roster: &Roster) -> Result<Vec<Mask>, AllocError>
+    ensures masks { IfOk result (λ masks. AreBelow roles.now (assigned_lists roster.now) masks.items) }
+    ensures long { IfOk result (λ masks. length masks.items ≡ length roster.now) }
 {
-    let mut masks = Vec::with_capacity(roles.allocator(), users.len())?;
-    for index in 0..users.len() {
-        let Some((_, user)) = users.get_index(index) else {
-            return Err(AllocError);
-        };
-        masks.push(roles.mask_below(user.roles.as_slice()))?;
+    let mut masks = Vec::with_capacity(roles.allocator(), roster.len())?;
+    for place in 0..roster.len() {
+        if let Some(user) = roster.at(place) {
+            masks.push(roles.mask_below(user.roles.as_slice()))?;
+        }
     }
     Ok(masks)
 }
 
-/// The mask at the place of a user among some; none where there is no such user.
-fn mask_of(users: &IndexMap<Name, User>, masks: &Vec<Mask>, user: &Name) -> Mask
-    requires { length masks.now.items ≡ length users.now.entries }
-    ensures { (h : Hierarchy) → AreBelow h (assigned_lists users.now.entries) masks.now.items → IsBelow h (assigned_roles (users_and_roles users.now.entries h) user.now) result }
+/// The masks with another one at a place, or with one more at the end.
+fn masks_with(
+    alloc: Global,
+    masks: &[Mask],
+    place: Option<usize>,
+    mask: Mask,
+) -> Result<Vec<Mask>, AllocError>
+    requires { IfSome place (λ place. place < length masks.now) }
+    ensures { IfOk result (λ next. next.items ≡ option_map_or (λ place. slice_set masks.now place mask) place (masks.now ++ mask ∷ [])) }
 {
-    match users.get_index_of(user) {
+    let mut next = Vec::with_capacity(alloc, masks.len().saturating_add(1))?;
+    next.extend_from_slice(masks)?;
+    match place {
+        Some(place) => next[place] = mask,
+        None => next.push(mask)?,
+    }
+    Ok(next)
+}
+
+/// Each mask that has the place of the senior gets the junior's places.
+fn join(masks: &mut Vec<Mask>, senior: usize, junior: &Mask)
+    ensures joined { (k : ℕ) → k < length masks.old.items → (place : ℕ) → has (mask_at masks.new.items k) place ≡ (has (mask_at masks.old.items k) place || (has (mask_at masks.old.items k) senior && has junior.now place)) }
+    ensures long { length masks.new.items ≡ length masks.old.items }
+{
+    for k in 0..masks.len() {
+        if masks[k].contains(senior) {
+            masks[k].add(junior);
+        }
+    }
+}
+
+/// The masks of users after one more pair of these roles: a copy of the masks.
+fn masks_joined(
+    roles: &Roles,
+    masks: &[Mask],
+    senior: &Name,
+    junior: &Name,
+) -> Result<Vec<Mask>, AllocError>
+    requires { is_role roles.now senior.now ≡ true }
+    ensures { IfOk result (λ next. (lists : List (List (List ℕ))) → AreBelow roles.now lists masks.now → AreBelow (with_pair roles.now senior.now junior.now) lists next.items) }
+{
+    let mut next = Vec::with_capacity(roles.allocator(), masks.len())?;
+    next.extend_from_slice(masks)?;
+    let Some(place) = roles.place(senior) else {
+        return Ok(next);
+    };
+    join(&mut next, place, &roles.mask(junior));
+    Ok(next)
+}
+
+/// The mask at the place of a user among some; none where there is no such user.
+fn mask_of(roster: &Roster, masks: &Vec<Mask>, user: &Name) -> Mask
+    requires { length masks.now.items ≡ length roster.now }
+    ensures { (h : Hierarchy) → AreBelow h (assigned_lists roster.now) masks.now.items → IsBelow h (assigned_roles (users_and_roles roster.now h) user.now) result }
+{
+    match roster.place(user) {
         Some(place) => masks[place],
         None => Mask::new(),
     }
 }
 
 impl Users {
-    /// The users of a table, with their masks.
-    fn of(roles: &Roles, table: Arc<IndexMap<Name, User>>) -> Result<Users, AllocError>
-        ensures { IfOk result (AreUsers roles.now table.value.entries) }
+    /// The users of a roster, with these masks of theirs.
+    fn with_masks(roles: &Roles, roster: Arc<Roster>, masks: Vec<Mask>) -> Result<Users, AllocError>
+        requires { AreBelow roles.now (assigned_lists roster.value) masks.items }
+        ensures { IfOk result (AreUsers roles.now roster.value) }
     {
-        let masks = masks_of(roles, &table)?;
         Ok(Users {
-            table,
+            roster,
             masks: Arc::new(roles.allocator(), masks)?,
         })
     }
 
-    /// These users.
-    pub(crate) fn new(roles: &Roles, table: IndexMap<Name, User>) -> Result<Users, AllocError>
-        ensures { IfOk result (AreUsers roles.now table.entries) }
+    /// The users of a roster, with their masks.
+    fn of(roles: &Roles, roster: Arc<Roster>) -> Result<Users, AllocError>
+        ensures { IfOk result (AreUsers roles.now roster.value) }
     {
-        Users::of(roles, Arc::new(roles.allocator(), table)?)
+        let masks = masks_of(roles, &roster)?;
+        Users::with_masks(roles, roster, masks)
     }
 
-    /// The users by name.
-    pub(crate) fn table(&self) -> &IndexMap<Name, User>
-        ensures { result.now.entries ≡ self.now.users }
+    /// No users.
+    pub(crate) fn new(roles: &Roles) -> Result<Users, AllocError>
+        ensures { IfOk result (AreUsers roles.now []) }
     {
-        &self.table
+        let alloc = roles.allocator();
+        Users::of(roles, Arc::new(alloc, Roster::new(alloc))?)
+    }
+
+    /// The number of users.
+    pub(crate) fn len(&self) -> usize
+        ensures { result ≡ length self.now.users }
+    {
+        self.roster.len()
+    }
+
+    /// What is known of a user: a look-up.
+    pub(crate) fn get(&self, user: &Name) -> Option<&User>
+        ensures { option_copied result ≡ value_at name_eq self.now.users user.now }
+    {
+        self.roster.get(user)
+    }
+
+    /// Whether that is a user: a look-up.
+    pub(crate) fn contains(&self, user: &Name) -> bool
+        ensures { result ≡ has_key name_eq self.now.users user.now }
+    {
+        self.roster.contains(user)
     }
 
     /// The masks of the users, each at its user's place.
@@ -145,41 +185,65 @@ impl Users {
     pub(crate) fn authorized(&self, user: &Name) -> Mask
         ensures { (h : Hierarchy) → AreAuthorized h self.now → IsBelow h (assigned_roles (users_and_roles self.now.users h) user.now) result }
     {
-        mask_of(&self.table, &self.masks, user)
+        mask_of(&self.roster, &self.masks, user)
     }
 
-    /// The users with one more, or with another value of one.
+    /// The users with one more, or with another value of one: a count for each user, and a copy of the masks.
     pub(crate) fn with(&self, roles: &Roles, user: Name, value: User) -> Result<Users, AllocError>
+        requires { AreAuthorized roles.now self.now }
         ensures { IfOk result (AreUsers roles.now (insert_entry name_eq self.now.users user value)) }
     {
-        let mut table = copied(&self.table)?;
-        table.insert(user, value)?;
-        Users::new(roles, table)
+        let alloc = roles.allocator();
+        let mask = roles.mask_below(value.roles.as_slice());
+        let masks = masks_with(alloc, &self.masks, self.roster.place(&user), mask)?;
+        let roster = Arc::new(alloc, self.roster.with(alloc, user, value)?)?;
+        Users::with_masks(roles, roster, masks)
     }
 
     /// The users but one.
     pub(crate) fn without(&self, roles: &Roles, user: &Name) -> Result<Users, AllocError>
         ensures { IfOk result (AreUsers roles.now (without_key name_eq self.now.users user.now)) }
     {
-        let mut table = copied(&self.table)?;
-        without_user(&mut table, user);
-        Users::new(roles, table)
+        let alloc = roles.allocator();
+        Users::of(roles, Arc::new(alloc, self.roster.without(alloc, user)?)?)
     }
 
     /// The users without the assignments of a role.
     pub(crate) fn unassigned(&self, roles: &Roles, role: &Name) -> Result<Users, AllocError>
         ensures { IfOk result (AreUsers roles.now (unassigned self.now.users role.now)) }
     {
-        let mut table = copied(&self.table)?;
-        unassign(&mut table, role);
-        Users::new(roles, table)
+        let alloc = roles.allocator();
+        Users::of(
+            roles,
+            Arc::new(alloc, self.roster.unassigned(alloc, role)?)?,
+        )
     }
 
     /// The same users among other roles: other masks.
     pub(crate) fn among(&self, roles: &Roles) -> Result<Users, AllocError>
         ensures { IfOk result (AreUsers roles.now self.now.users) }
     {
-        Users::of(roles, self.table.clone()?)
+        Users::of(roles, self.roster.clone()?)
+    }
+
+    /// The same users after one more pair of these roles: whoever is authorized for the senior is for the junior's roles
+    /// too. A copy of the masks.
+    pub(crate) fn joined(
+        &self,
+        roles: &Roles,
+        senior: &Name,
+        junior: &Name,
+    ) -> Result<Users, AllocError>
+        requires authorized { AreAuthorized roles.now self.now }
+        requires senior { is_role roles.now senior.now ≡ true }
+        ensures { IfOk result (AreUsers (with_pair roles.now senior.now junior.now) self.now.users) }
+    {
+        let masks = masks_joined(roles, &self.masks, senior, junior)?;
+        let roster = self.roster.clone()?;
+        Ok(Users {
+            roster,
+            masks: Arc::new(roles.allocator(), masks)?,
+        })
     }
 
     /// The same users with the same masks: two counts.
@@ -187,7 +251,7 @@ impl Users {
         ensures { IfOk result (λ users. users ≡ self.now) }
     {
         Ok(Users {
-            table: self.table.clone()?,
+            roster: self.roster.clone()?,
             masks: self.masks.clone()?,
         })
     }

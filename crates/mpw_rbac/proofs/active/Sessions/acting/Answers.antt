@@ -1,5 +1,5 @@
 -- The mask, beside the session that it is of.
-use Rattle.std.proofs.Common.{◌≡◌, ◌∙◌, sym, ap, subst, option_map, Option, [], ◌==◌}
+use Rattle.std.proofs.Common.{◌∙◌, sym, ap, subst, option_map, Option, [], ◌==◌}
 use Rattle.std.specs.Option.{option_map_or}
 use Rattle.mpw_roles.specs.Places.{is_place_below}
 use Rattle.mpw_rbac.specs.Masked.{AreActing, KeptSessions}

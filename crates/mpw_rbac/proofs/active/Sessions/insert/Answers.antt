@@ -1,8 +1,7 @@
 -- One session changes, or comes last.
-use Rattle.std.proofs.Common.{◌≡◌, ◌∙◌, ℕ, sym, ap, subst, List, ◌==◌}
+use Rattle.std.proofs.Common.{◌∙◌, sym, ap, subst, ◌==◌}
 use Rattle.indexmap.specs.IndexMap.{insert_entry}
 use Rattle.mpw_rbac.specs.Masked.{AreActing, KeptSessions, sessions_in}
-use Rattle.mpw_rbac.specs.declared.active.Active.{Active}
 use Rattle.mpw_rbac.proofs.MaskedLemmas.{AreActive, sessions-insert, acting-insert}
 use Rattle.mpw_rbac.proofs.active.Sessions.insert.Goals as goal
 

@@ -1,5 +1,5 @@
 -- One session goes, and the others stay.
-use Rattle.std.proofs.Common.{rules, ◌≡◌, ◌∙◌, ℕ, sym, ap, subst, not, filter, ◌==◌}
+use Rattle.std.proofs.Common.{rules, ◌∙◌, ℕ, sym, ap, subst, not, ◌==◌}
 use Rattle.indexmap.proofs.CallerLemmas.{filter-RetainsPairs}
 use Rattle.mpw_rbac.specs.Masked.{AreActing, KeptSessions, sessions_in}
 use Rattle.mpw_rbac.specs.Table.{without_key}

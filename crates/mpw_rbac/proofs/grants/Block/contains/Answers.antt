@@ -12,7 +12,7 @@ returns-then-not-contains c =
     let in' = c.self.inside in
     let grant = c.args.grant.now in
     let none : has in'.slots (slot grant.object) ≡ false =
-    ap (has in'.slots) (sym c.slot.ensures.slot) ∙ sym c.contains.ensures
+    ap (has in'.slots) (sym c.requires) ∙ sym c.contains.ensures
     ∙ c.if-not-contains.true in
     sym (not-covered in'.slots in'.grants.value.items grant c.self.invariant none)
     ∙ ap (list_any (grant_eq grant)) c.self.view_is

@@ -53,3 +53,7 @@ returns-clause-ok c =
     (record { digest = c.args.digest; roles = rs })) c.new-roles.ensures in
     rw (← c.self.view_is) (adduser-ok p c.args.conn ok user c.args.digest c.in_ok-users.users.users
     new room is)
+
+pub with-requires : goal.with-requires
+with-requires c = subst (λ h. AreAuthorized h c.self.inside.users) (sym c.roles.ensures)
+    c.self.invariant.authorized

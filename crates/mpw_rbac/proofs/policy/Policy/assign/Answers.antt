@@ -1,5 +1,5 @@
 -- A user is assigned one more role, where no set is broken.
-use Rattle.std.proofs.Common.{◌≡◌, ◌∙◌, sym, ap, subst, true, false, Ok, Err, Some, [], ◌∷◌, ◌++◌}
+use Rattle.std.proofs.Common.{◌≡◌, ◌∙◌, sym, ap, subst, true, false, Ok, Err, [], ◌∷◌, ◌++◌}
 use Rattle.indexmap.specs.IndexMap.{insert_entry}
 use Rattle.mpw_geom.specs.Names.{name_eq, contains_name}
 use Rattle.mpw_roles.specs.Hierarchy.{is_role}
@@ -76,3 +76,7 @@ invariant_of-self c = record {
 
 pub returns-clause-ok : goal.returns-clause-ok
 returns-clause-ok c = (accepted (goal.at.returns-clause-ok c).In_ok-users).1
+
+pub with-requires : goal.with-requires
+with-requires c = subst (λ h. AreAuthorized h c.self.inside.users) (sym c.roles.ensures)
+    c.self.invariant.authorized

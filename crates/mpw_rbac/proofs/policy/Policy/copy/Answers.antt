@@ -1,5 +1,5 @@
 -- Each part is copied.
-use Rattle.std.proofs.Common.{◌≡◌, ◌∙◌, sym, subst}
+use Rattle.std.proofs.Common.{◌∙◌, sym, subst}
 use Rattle.mpw_separation.specs.Placed.{KeptSets}
 use Rattle.mpw_rbac.specs.Internal.Holders.{Permissions}
 use Rattle.mpw_rbac.specs.Masked.{IsPolicy, KeptSessions, KeptUsers}

@@ -2,7 +2,7 @@
 use Rattle.std.proofs.Common.{◌≡◌, ◌∙◌, sym, ap, subst, true, Ok}
 use Rattle.indexmap.specs.IndexMap.{insert_entry}
 use Rattle.mpw_geom.specs.Names.{name_eq, contains_name, without_name}
-use Rattle.mpw_rbac.specs.Policy.{Policy, policy_of, assigned_roles, trim, kept_sessions}
+use Rattle.mpw_rbac.specs.Policy.{Policy, assigned_roles, trim, kept_sessions}
 use Rattle.mpw_rbac.specs.Internal.Policy.{users_and_roles}
 use Rattle.mpw_rbac.specs.Rows as rows
 use Rattle.mpw_rbac.specs.Sound.{Sound}
@@ -58,3 +58,7 @@ returns-clause-ok c =
     let is = left (goal.at.returns-clause-ok c).After-trim in
     deassign-ok c.args.self.now c.args.conn c.in_ok-administers.ensures.ok c.args.user.now
     c.args.role.now is.0 ∙ ap Ok (sym is.1)
+
+pub with-requires : goal.with-requires
+with-requires c = subst (λ h. AreAuthorized h c.self.inside.users) (sym c.roles-roles.ensures)
+    c.self.invariant.authorized

@@ -1,6 +1,6 @@
 -- The role goes everywhere, and then the sessions are trimmed.
 use Rattle.std.proofs.Common.{◌≡◌, ◌∙◌, sym, ap, subst, true, false, ◌||◌, Ok}
-use Rattle.mpw_roles.specs.Hierarchy.{is_role, role_names, without_role}
+use Rattle.mpw_roles.specs.Hierarchy.{is_role, role_names}
 use Rattle.mpw_separation.specs.Separation.{uses_role}
 use Rattle.mpw_rbac.specs.Policy.{Policy, policy_of, trim, kept_sessions}
 use Rattle.mpw_rbac.specs.Internal.Policy.{users_and_roles}

@@ -1,5 +1,5 @@
 -- The connection's session goes, and the others stay.
-use Rattle.std.proofs.Common.{◌≡◌, sym, ap, subst}
+use Rattle.std.proofs.Common.{sym, ap, subst}
 use Rattle.mpw_rbac.specs.Policy.{policy_of}
 use Rattle.mpw_rbac.specs.Sound.{Sound}
 use Rattle.mpw_rbac.proofs.KeepLemmas.{keep-end}

@@ -1,5 +1,5 @@
 -- No session is left.
-use Rattle.std.proofs.Common.{◌≡◌, sym, ap, subst}
+use Rattle.std.proofs.Common.{sym, ap, subst}
 use Rattle.mpw_rbac.specs.Masked.{AreActing, KeptSessions}
 use Rattle.mpw_rbac.specs.Policy.{policy_of}
 use Rattle.mpw_rbac.specs.Sound.{Sound}

@@ -1,6 +1,6 @@
 -- A pair that breaks no set.
 use Rattle.std.proofs.Common.{◌≡◌, ◌∙◌, sym, ap, subst, Ok, None, Some}
-use Rattle.mpw_roles.specs.Hierarchy.{role_names, with_pair}
+use Rattle.mpw_roles.specs.Hierarchy.{is_role, role_names, with_pair}
 use Rattle.mpw_separation.specs.Separation.{least_broken}
 use Rattle.mpw_rbac.specs.Policy.{Policy, policy_of, assigned_lists, active_lists}
 use Rattle.mpw_rbac.specs.Sound.{Sound}
@@ -11,7 +11,7 @@ use Rattle.mpw_rbac.proofs.SeparationLemmas.{holds-of_none}
 use Rattle.mpw_rbac.proofs.RowFacts.{inherit-static, inherit-dynamic}
 use Rattle.mpw_rbac.proofs.RowFacts.{inherited-pair}
 use Rattle.mpw_roles.specs.Rows as hierarchy
-use Rattle.mpw_rbac.specs.Masked.{AreActing, AreAuthorized}
+use Rattle.mpw_rbac.specs.Masked.{AreActing, AreAuthorized, AreUsers}
 use Rattle.mpw_separation.specs.Placed.{AreSetsPlaced}
 use Rattle.mpw_rbac.proofs.PlacedLemmas.{names-inherited}
 use Rattle.mpw_rbac.proofs.Shown.{shown}
@@ -58,8 +58,9 @@ invariant_of-self c =
           (holds-of_none (with_pair p.roles senior junior) p.ssd (assigned_lists p.users) is.0)
           (holds-of_none (with_pair p.roles senior junior) p.dsd (active_lists p.sessions) is.1)
           c.self.invariant.sound);
-      authorized = subst (λ h. AreAuthorized h c.in_ok-users.users) c.roles-roles.ensures
-          c.in_ok-users.ensures.masks;
+      authorized = subst (λ h. AreAuthorized h c.in_ok-users.users)
+          (ap (λ h. with_pair h senior junior) c.roles.ensures
+          ∙ sym (inherited-pair p.roles senior junior after made).1) c.in_ok-users.ensures.masks;
       acting =
           subst (λ h. AreActing h c.remask.new.self) c.roles-roles.ensures c.remask.ensures.acting;
       placed = subst (λ names. AreSetsPlaced names c.self.inside.sets)
@@ -111,8 +112,30 @@ returns-in-Some-broken_dynamic-clause-refused c =
     inherit-dynamic p c.args.conn c.in_ok-administers.ensures.ok senior junior
     c.in_ok-copy-2.field-0 next.roles made kept broken
 
-pub broken_static-requires : goal.broken_static-requires
-broken_static-requires c =
+pub broken_static-requires-clause-users : goal.broken_static-requires-clause-users
+broken_static-requires-clause-users c =
+    let senior = c.args.senior.now in
+    let junior = c.args.junior.now in
+    let pair = inherited-pair c.self.inside.permissions.roles senior junior
+    c.in_ok-next.next.roles c.in_ok-next.ensures.ok in
+    subst (λ (q : Policy). AreUsers c.roles-roles.result.now q.users c.in_ok-users.users)
+    c.self.view_is
+    (subst (λ h. AreUsers h c.self.inside.users.users c.in_ok-users.users)
+    (ap (λ h. with_pair h senior junior) c.roles.ensures ∙ sym pair.1 ∙ sym c.roles-roles.ensures)
+    c.in_ok-users.ensures)
+
+pub joined-requires-clause-authorized : goal.joined-requires-clause-authorized
+joined-requires-clause-authorized c = subst (λ h. AreAuthorized h c.self.inside.users)
+    (sym c.roles.ensures) c.self.invariant.authorized
+
+pub joined-requires-clause-senior : goal.joined-requires-clause-senior
+joined-requires-clause-senior c =
+    ap (λ h. is_role h c.args.senior.now) c.roles.ensures
+    ∙ (inherited-pair c.self.inside.permissions.roles c.args.senior.now c.args.junior.now
+    c.in_ok-next.next.roles c.in_ok-next.ensures.ok).0
+
+pub broken_static-requires-clause-roles : goal.broken_static-requires-clause-roles
+broken_static-requires-clause-roles c =
     ap role_names c.roles-roles.ensures
     ∙ names-inherited c.self.inside.permissions.roles c.args.senior.now c.args.junior.now
     c.in_ok-next.next.roles c.in_ok-next.ensures.ok

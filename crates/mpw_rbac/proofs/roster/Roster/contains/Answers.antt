@@ -1,0 +1,7 @@
+use Rattle.std.proofs.Common.{◌∙◌, ap, is_some}
+use Rattle.mpw_rbac.proofs.RosterLemmas.{key-place}
+use Rattle.mpw_rbac.proofs.roster.Roster.contains.Goals as goal
+
+pub returns : goal.returns
+returns c = c.is_some.ensures ∙ ap is_some c.place.ensures.place
+    ∙ key-place c.args.self.now c.args.user.now

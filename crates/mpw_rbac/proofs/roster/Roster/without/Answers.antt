@@ -1,0 +1,52 @@
+-- The user goes from both lists.
+use Rattle.std.proofs.Common.{◌≡◌, ◌∙◌, sym, ap, subst, is_some, List, length}
+use Rattle.std.specs.Prelude.{IfOk, remove, zip}
+use Rattle.mpw_geom.specs.Names.{name_eq, without_name}
+use Rattle.mpw_roles.specs.Hierarchy.{Name}
+use Rattle.mpw_roles.specs.Order.{are_distinct}
+use Rattle.mpw_roles.proofs.PositionLemmas.{position-any}
+use Rattle.mpw_rbac.specs.Table.{without_key}
+use Rattle.mpw_rbac.specs.declared.session.User.{User}
+use Rattle.mpw_rbac.proofs.RosterLemmas.{absent-users, users-fewer, distinct-left}
+use Rattle.mpw_rbac.proofs.roster.Roster.without.Goals as goal
+
+pub returns-in_default : goal.returns-in_default
+returns-in_default c =
+    let ns = c.self.inside.names in
+    let user = c.args.user.now in
+    let none = sym (ap is_some c.in_default.ensures.number ∙ position-any (name_eq user) ns) in
+    let same = subst (λ (es : List (Name × User)). es ≡ without_key name_eq es user)
+    c.self.view_is (sym (absent-users ns c.self.inside.values.items user none)) in
+    subst (λ (es : List (Name × User)). IfOk c.copy.result (λ roster. roster ≡ es)) same
+    c.copy.ensures
+
+pub of_names-requires : goal.of_names-requires
+of_names-requires c =
+    let user = c.args.user.now in
+    ap are_distinct (c.as_slice.ensures ∙ c.remove-2.ensures
+    ∙ ap (λ (l : List Name). without_name l user) c.in_ok-names.ensures)
+    ∙ distinct-left c.self.inside.names user c.number.ensures.once
+
+pub invariant_of-result : goal.invariant_of-result
+invariant_of-result c =
+    let user = c.args.user.now in
+    let i = c.in-Some.place in
+    let names = c.in_ok-names-2.ensures ∙ c.as_slice.ensures ∙ c.remove-2.ensures
+    ∙ ap (λ (l : List Name). without_name l user) c.in_ok-names.ensures in
+    let values = c.remove.ensures.items ∙ ap (λ (l : List User). remove l i)
+    (c.in_ok-values.ensures ∙ c.deref.ensures.value) in
+    let fewer = users-fewer c.self.inside.names c.self.inside.values.items user i c.self.invariant
+    c.number.ensures.once c.in-Some.ensures.number in
+    ap length names ∙ fewer.1 ∙ sym (ap length values)
+
+pub returns : goal.returns
+returns c =
+    let user = c.args.user.now in
+    let i = c.in-Some.place in
+    let names = c.in_ok-names-2.ensures ∙ c.as_slice.ensures ∙ c.remove-2.ensures
+    ∙ ap (λ (l : List Name). without_name l user) c.in_ok-names.ensures in
+    let values = c.remove.ensures.items ∙ ap (λ (l : List User). remove l i)
+    (c.in_ok-values.ensures ∙ c.deref.ensures.value) in
+    let fewer = users-fewer c.self.inside.names c.self.inside.values.items user i c.self.invariant
+    c.number.ensures.once c.in-Some.ensures.number in
+    rw (← c.self.view_is) ((λ t. zip (names t) (values t)) ∙ fewer.0)

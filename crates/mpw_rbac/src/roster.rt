@@ -1,0 +1,259 @@
+//! The users, each with a digest and the assigned roles, in the order in which they were added.
+//!
+//! Names stand in a [`Register`], and what is known of a user behind a shared pointer. So a copy is a count for each
+//! user and for each of the latest names, and to look one up is a hash. A user less numbers the names anew: a hash for
+//! each.
+ghost use Rattle.std.specs.Prelude.{◌≡◌, ◌<◌, ◌++◌, ◌∷◌, [], ℕ, List, length, map, position, take, drop, slice_get, zip, is_some, IfOk, IfSome, OnOk};
+ghost use Rattle.std.specs.Option.{option_copied};
+ghost use Rattle.indexmap.specs.IndexMap.{insert_entry};
+ghost use Rattle.mpw_geom.specs.Names.{name_eq, without_name};
+ghost use Rattle.mpw_rbac.specs.Rows.{unassigned};
+ghost use Rattle.mpw_rbac.specs.Table.{has_key, value_at, without_key};
+ghost use Rattle.mpw_rbac.specs.declared.session.User.{User as UserState};
+
+use crate::User;
+use mpw_geom::{Name, Names};
+use mpw_roles::Register;
+use std::alloc::{AllocError, Global};
+use std::marker::Model;
+use std::sync::Arc;
+
+/// What is known of a user, which copies share.
+pub(crate) struct SharedUser {
+    user: Arc<User>,
+}
+
+impl Drop for SharedUser {
+    fn drop(self) {
+        let SharedUser { user } = self;
+        drop(user);
+    }
+}
+
+impl Model for SharedUser {
+    ghost use Rattle.mpw_rbac.specs.declared.session.User.{User};
+
+    ghost Value = { User };
+
+    ghost view = { λ shared. shared.user.value };
+}
+
+impl SharedUser {
+    /// That user.
+    fn new(alloc: Global, user: User) -> Result<SharedUser, AllocError>
+        ensures { IfOk result (λ shared. shared ≡ user) }
+    {
+        Ok(SharedUser {
+            user: Arc::new(alloc, user)?,
+        })
+    }
+
+    /// The user.
+    fn get(&self) -> &User
+        ensures { result.now ≡ self.now }
+    {
+        &self.user
+    }
+
+    /// The same user: one count.
+    fn copy(&self) -> Result<SharedUser, AllocError>
+        ensures { IfOk result (λ shared. shared ≡ self.now) }
+    {
+        Ok(SharedUser {
+            user: self.user.clone()?,
+        })
+    }
+
+    /// The user without an assignment.
+    fn unassigned(&self, alloc: Global, role: &Name) -> Result<SharedUser, AllocError>
+        ensures { IfOk result (λ shared. shared ≡ record self.now { roles = without_name self.now.roles role.now }) }
+    {
+        let mut roles = self.user.roles.copy()?;
+        roles.remove(role);
+        let digest = self.user.digest;
+        SharedUser::new(alloc, User { digest, roles })
+    }
+}
+
+/// Users in the order in which they were added.
+pub(crate) struct Roster {
+    names: Register,
+    values: Vec<SharedUser>,
+}
+
+impl Drop for Roster {
+    fn drop(self) {
+        let Roster { names, values } = self;
+        drop(names);
+        drop(values);
+    }
+}
+
+impl Model for Roster {
+    ghost use Rattle.std.specs.Prelude.{◌≡◌, ℕ, List, length, zip};
+    ghost use Rattle.mpw_rbac.specs.declared.session.User.{User};
+
+    ghost Value = { List (List ℕ × User) };
+
+    ghost view = { λ roster. zip roster.names roster.values.items };
+
+    ghost invariant = { λ roster. length roster.names ≡ length roster.values.items };
+}
+
+/// The same users, with room for one more.
+fn values_copied(alloc: Global, values: &[SharedUser]) -> Result<Vec<SharedUser>, AllocError>
+    ensures { IfOk result (λ copy. copy.items ≡ values.now) }
+{
+    let mut copy = Vec::with_capacity(alloc, values.len().saturating_add(1))?;
+    for value in values {
+        copy.push(value.copy()?)?;
+    }
+    Ok(copy)
+}
+
+/// The users without the assignments of a role.
+fn values_unassigned(
+    alloc: Global,
+    values: &[SharedUser],
+    role: &Name,
+) -> Result<Vec<SharedUser>, AllocError>
+    ensures { IfOk result (λ copy. copy.items ≡ map (λ (user : UserState). record user { roles = without_name user.roles role.now }) values.now) }
+{
+    let mut copy = Vec::with_capacity(alloc, values.len())?;
+    for value in values {
+        copy.push(value.unassigned(alloc, role)?)?;
+    }
+    Ok(copy)
+}
+
+/// The names of a register.
+fn names_of(alloc: Global, register: &Register) -> Result<Names, AllocError>
+    ensures { IfOk result (λ names. names ≡ register.now) }
+{
+    let mut names = Names::new(alloc);
+    for number in 0..register.len() {
+        if let Some(name) = register.name(number) {
+            names.push(name.copy()?)?;
+        }
+    }
+    Ok(names)
+}
+
+/// Writes what is known of a user, who goes last where there is none with that name.
+fn put(
+    alloc: Global,
+    names: &mut Register,
+    values: &mut Vec<SharedUser>,
+    user: Name,
+    value: SharedUser,
+) -> Result<(), AllocError>
+    requires { length names.old ≡ length values.old.items }
+    ensures put { OnOk result (zip names.new values.new.items ≡ insert_entry name_eq (zip names.old values.old.items) user value) }
+    ensures long { OnOk result (length names.new ≡ length values.new.items) }
+{
+    if let Some(number) = names.number(&user) {
+        values[number] = value;
+        return Ok(());
+    }
+    names.push(alloc, user)?;
+    values.push(value)?;
+    Ok(())
+}
+
+impl Roster {
+    /// No users. It takes no memory.
+    pub(crate) fn new(alloc: Global) -> Roster
+        ensures { result ≡ [] }
+    {
+        Roster {
+            names: Register::new(alloc),
+            values: Vec::new(alloc),
+        }
+    }
+
+    /// The number of users.
+    pub(crate) fn len(&self) -> usize
+        ensures { result ≡ length self.now }
+    {
+        self.names.len()
+    }
+
+    /// The place of a user: a hash.
+    pub(crate) fn place(&self, user: &Name) -> Option<usize>
+        ensures place { result ≡ position (name_eq user.now) (map (λ entry. entry.0) self.now) }
+        ensures within { IfSome result (λ place. place < length self.now) }
+    {
+        self.names.number(user)
+    }
+
+    /// The user at a place.
+    pub(crate) fn at(&self, place: usize) -> Option<&User>
+        ensures { option_copied result ≡ slice_get (map (λ entry. entry.1) self.now) place }
+    {
+        match self.values.get(place) {
+            Some(value) => Some(value.get()),
+            None => None,
+        }
+    }
+
+    /// What is known of a user: a hash.
+    pub(crate) fn get(&self, user: &Name) -> Option<&User>
+        ensures { option_copied result ≡ value_at name_eq self.now user.now }
+    {
+        match self.place(user) {
+            Some(place) => self.at(place),
+            None => None,
+        }
+    }
+
+    /// Whether that is a user: a hash.
+    pub(crate) fn contains(&self, user: &Name) -> bool
+        ensures { result ≡ has_key name_eq self.now user.now }
+    {
+        self.place(user).is_some()
+    }
+
+    /// The same users: a count for each.
+    fn copy(&self, alloc: Global) -> Result<Roster, AllocError>
+        ensures { IfOk result (λ roster. roster ≡ self.now) }
+    {
+        let names = self.names.copy()?;
+        let values = values_copied(alloc, &self.values)?;
+        Ok(Roster { names, values })
+    }
+
+    /// The users with one more, or with another value of one: a count for each.
+    pub(crate) fn with(&self, alloc: Global, user: Name, value: User) -> Result<Roster, AllocError>
+        ensures { IfOk result (λ roster. roster ≡ insert_entry name_eq self.now user value) }
+    {
+        let value = SharedUser::new(alloc, value)?;
+        let mut names = self.names.copy()?;
+        let mut values = values_copied(alloc, &self.values)?;
+        put(alloc, &mut names, &mut values, user, value)?;
+        Ok(Roster { names, values })
+    }
+
+    /// The users but one: a hash for each other one.
+    pub(crate) fn without(&self, alloc: Global, user: &Name) -> Result<Roster, AllocError>
+        ensures { IfOk result (λ roster. roster ≡ without_key name_eq self.now user.now) }
+    {
+        let Some(place) = self.names.number(user) else {
+            return self.copy(alloc);
+        };
+        let mut values = values_copied(alloc, &self.values)?;
+        drop(values.remove(place));
+        let mut names = names_of(alloc, &self.names)?;
+        names.remove(user);
+        let names = Register::of_names(alloc, names.as_slice())?;
+        Ok(Roster { names, values })
+    }
+
+    /// The users without the assignments of a role.
+    pub(crate) fn unassigned(&self, alloc: Global, role: &Name) -> Result<Roster, AllocError>
+        ensures { IfOk result (λ roster. roster ≡ unassigned self.now role.now) }
+    {
+        let names = self.names.copy()?;
+        let values = values_unassigned(alloc, &self.values, role)?;
+        Ok(Roster { names, values })
+    }
+}
