@@ -1,11 +1,16 @@
 -- Which marker a key names.
-use Rattle.std.specs.Prelude.{ℕ, Bool, false, List, Option, Some, None, slice_get}
+use Rattle.std.specs.Prelude.{◌≡◌, ◌⊎◌, ◌++◌, codes, ℕ, Bool, false, List, Option, Some, None, slice_get}
 use Rattle.std.specs.List.{find}
 use Rattle.mpw_deck.specs.declared.rule.Rule.{Rule}
 use Rattle.mpw_geom.specs.Names.{name_eq}
+use Rattle.mpw_geom.specs.declared.plane.Box2.{Box2}
 use Rattle.mpw_markers.specs.declared.marker.Marker.{Marker}
 use Rattle.mpw_markers.specs.Markers.{key_of}
+use Rattle.mpw_picture.specs.Windows.{marker_window}
 use Rattle.mpw_wire.specs.Keys.{key_text, spot_of}
+use Rattle.mpw_firm.specs.declared.fault.FirmFault.{FirmFault}
+use Rattle.mpw_firm.specs.declared.fault.FirmFault.TheVariants.{Memory}
+use Rattle.mpw_firm.specs.Told.{Misuses}
 
 -- Whether a marker of that rule has the key, as the listing prints it.
 abbrev pub is_keyed : List ℕ → Marker → Option Rule → Bool
@@ -18,3 +23,21 @@ has_key rules word m = is_keyed word m (slice_get rules m.rule)
 -- The first marker of that key, where there is one.
 abbrev pub marker_named : List Rule → List ℕ → List Marker → Option Marker
 marker_named rules word markers = find (has_key rules word) markers
+
+-- ---- the window of a picture round a marker
+
+-- It is that round the first marker of the key.
+abbrev pub IsRound : List Rule → List ℕ → List Marker → Box2 → Type 0
+IsRound rules word markers window =
+    (m : Marker) × (marker_named rules word markers ≡ Some m) × (window ≡ marker_window rules m)
+
+unfoldable pub unknown_text : List ℕ → List ℕ
+unknown_text key =
+    codes "error: --marker "
+    ++ (key ++ codes ": no marker has this key: take a line of the listing up to the blank")
+
+-- No marker has the key, which is told; or there is no room.
+abbrev pub IsUnknown : List Rule → List ℕ → List Marker → FirmFault → Type 0
+IsUnknown rules word markers fault =
+    (fault ≡ Memory)
+    ⊎ ((marker_named rules word markers ≡ None) × Misuses (unknown_text word) fault)

@@ -1,4 +1,5 @@
 pub mod Causes
+pub mod Drawings
 pub mod Keys
 pub mod Listed
 pub mod Status

@@ -1,5 +1,6 @@
 -- The exit status of a check.
-use Rattle.std.specs.Prelude.{ℕ, ◌<◌, Result, Ok, Err, nat_lt, if◌then◌else◌}
+use Rattle.std.specs.Prelude.{ℕ, ◌<◌, Bool, List, length, Result, Ok, Err, nat_lt, if◌then◌else◌}
+use Rattle.mpw_markers.specs.declared.marker.Marker.{Marker}
 use Rattle.mpw_firm.specs.declared.fault.FirmFault.{FirmFault}
 use Rattle.mpw_firm.specs.declared.fault.FirmFault.TheVariants.{Usage, Device, Refused, Memory}
 
@@ -15,3 +16,7 @@ status_of Memory = 5
 abbrev pub exit_of : Result ℕ FirmFault → ℕ
 exit_of (Ok markers) = if nat_lt 0 markers then 1 else 0
 exit_of (Err fault) = status_of fault
+
+-- Some tile's list has a marker: status 1.
+abbrev pub has_some : List Marker → Bool
+has_some list = nat_lt 0 (length list)

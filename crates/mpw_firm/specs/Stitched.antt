@@ -1,14 +1,24 @@
 -- What comes of parts that are stitched, and what is refused.
-use Rattle.std.specs.Prelude.{◌≡◌, ◌==◌, ◌&&◌, ◌⊎◌, ℕ, Bool, false, nat_lt, List, [], ◌∷◌, None}
+use Rattle.std.specs.Prelude.{◌≡◌, ◌==◌, ◌&&◌, ◌⊎◌, ℕ, Bool, true, false, nat_lt, List, [], ◌∷◌, length, slice_get, All, None, Some, Ok}
+use Rattle.std.specs.List.{list_all}
+use Rattle.mpw_check.specs.Drawn.{IsDrawnFrom}
+use Rattle.mpw_deck.specs.Reading.{deck_of}
+use Rattle.mpw_job.specs.Layout.{AreLayoutMarkers}
 use Rattle.mpw_markers.specs.declared.marker.Marker.{Marker}
 use Rattle.mpw_parts.specs.Parts.{Found}
 use Rattle.mpw_parts.specs.Reading.{part_of}
-use Rattle.mpw_parts.specs.Stitching.{IsFaultOf}
+use Rattle.mpw_parts.specs.Stitching.{IsBookOf, IsFaultOf}
 use Rattle.mpw_parts.specs.declared.fault.PartsFault.{PartsFault}
+use Rattle.mpw_spread.specs.Spread.{Texts, IsPartOf, IsPartBeside}
+use Rattle.mpw_tiles.specs.Snapshots.{Snapshot}
 use Rattle.mpw_firm.specs.declared.fault.FirmFault.{FirmFault}
 use Rattle.mpw_firm.specs.declared.fault.FirmFault.TheVariants.{Memory}
+use Rattle.mpw_firm.specs.declared.whole.Subject.{Subject}
+use Rattle.mpw_firm.specs.declared.whole.Whole.{Whole}
+use Rattle.mpw_firm.specs.Drawings.{IsOfDeck}
+use Rattle.mpw_firm.specs.Listed.{listed_text}
 use Rattle.mpw_firm.specs.Told.{Refuses, Tells}
-use Rattle.mpw_firm.specs.ToldParts.{Holder, no_part_text, fault_text}
+use Rattle.mpw_firm.specs.ToldParts.{Holder, no_markers_text, no_part_text, fault_text}
 
 -- A file is refused whose text is no part; or there is no room.
 abbrev pub IsOfFile : List ℕ → List ℕ → FirmFault → Type 0
@@ -27,9 +37,70 @@ meets_only (n ∷ m ∷ rest) = false
 abbrev pub is_alone : ℕ → Marker → Bool
 is_alone rules m = meets_only m.met && nat_lt m.rule rules
 
+-- Each marker of a book is one of a check under so many rules.
+abbrev pub are_alone : ℕ → List Marker → Bool
+are_alone rules book = list_all (is_alone rules) book
+
+-- A book is refused that has other markers.
+abbrev pub IsOfMarkers : ℕ → List Marker → FirmFault → Type 0
+IsOfMarkers rules book fault = (are_alone rules book ≡ false) × Refuses no_markers_text fault
+
 -- ---- parts of these files, of a plan with so many tiles
 
 -- The parts aren't stitched, and why is told.
 abbrev pub IsOfParts : List Holder → ℕ → List Found → FirmFault → Type 0
 IsOfParts holders tiles parts fault =
     (why : PartsFault) × IsFaultOf parts why × Tells (fault_text holders tiles why) fault
+
+-- Or their book has markers that no check under so many rules finds.
+abbrev pub IsOfBook : List Holder → ℕ → ℕ → List Found → FirmFault → Type 0
+IsOfBook holders tiles rules parts fault =
+    IsOfParts holders tiles parts fault
+    ⊎ ((book : List Marker) × IsBookOf parts book × IsOfMarkers rules book fault)
+
+-- ---- the whole
+
+-- The deck, the structure's name and the number of tiles are those that the first of the parts tells.
+pub record IsSubjectOf (parts : List Found) (subject : Subject) : Type 0 where
+  pub first : Found
+  pub at : slice_get parts 0 ≡ Some first
+  pub deck : deck_of first.subject.deck ≡ Ok subject.deck
+  pub top : subject.top ≡ first.subject.top
+  pub tiles : subject.tiles ≡ first.subject.tiles
+
+-- There is no part, or the first one's deck has a fault.
+abbrev pub IsOfFirst : List Found → FirmFault → Type 0
+IsOfFirst parts fault =
+    ((parts ≡ []) × Refuses no_markers_text fault)
+    ⊎ ((first : Found) × (slice_get parts 0 ≡ Some first) × IsOfDeck first.subject.deck fault)
+
+-- The layout is drawn of some library's structure of that name.
+abbrev pub IsNamed : List ℕ → Snapshot → Type 0
+IsNamed top layout = (text : List ℕ) × IsDrawnFrom layout.deck top text layout
+
+-- The book is that of the parts, with markers that a check finds; beside it stand the structure's name that the first of them tells, and
+-- a layout of that name under its deck.
+pub record IsWholeOf (parts : List Found) (whole : Whole) : Type 0 where
+  pub first : Found
+  pub at : slice_get parts 0 ≡ Some first
+  pub deck : deck_of first.subject.deck ≡ Ok whole.layout.deck
+  pub top : whole.top ≡ first.subject.top
+  pub tiles : whole.tiles ≡ first.subject.tiles
+  pub named : IsNamed whole.top whole.layout
+  pub book : IsBookOf parts whole.book
+  pub alone : are_alone (length whole.layout.deck.rules) whole.book ≡ true
+
+-- ---- law
+
+-- Of parts, each made of files anywhere, what is listed of the whole is what a check lists of the files that the first was made of, where
+-- no other library has the SHA-256 of theirs.
+abbrev pub IsListedAsCheck : List Found → Whole → Type 0
+IsListedAsCheck parts whole =
+    (texts : Texts) (first : Found) (book : List Marker) → slice_get parts 0 ≡ Some first
+    → (made : IsPartOf texts first) → All (IsPartBeside texts) parts
+    → AreLayoutMarkers made.snapshot book
+    → listed_text whole.layout whole.book ≡ listed_text made.snapshot book
+
+abbrev pub WholesAreListedAsChecks : Type 0
+WholesAreListedAsChecks =
+    (parts : List Found) (whole : Whole) → IsWholeOf parts whole → IsListedAsCheck parts whole

@@ -1,8 +1,33 @@
 -- What a fault tells.
-use Rattle.std.specs.Prelude.{◌≡◌, ℕ, List, Option, None, Some}
+use Rattle.std.specs.Prelude.{◌≡◌, ℕ, List, ◌++◌, codes, Option, None, Some}
 use Rattle.std.specs.String.{string_bytes}
 use Rattle.mpw_firm.specs.declared.fault.FirmFault.{FirmFault}
 use Rattle.mpw_firm.specs.declared.fault.FirmFault.TheVariants.{Usage, Device, Refused, Memory}
+
+-- ---- by its kind: each may be want of memory in its place
+
+-- A library, a deck or parts are refused.
+abbrev pub IsRefusal : FirmFault → Type 0
+IsRefusal (Refused told) = Unit {0}
+IsRefusal (Usage told) = ⊥
+IsRefusal (Device told) = ⊥
+IsRefusal Memory = Unit {0}
+
+-- A file or a device failed.
+abbrev pub IsFailure : FirmFault → Type 0
+IsFailure (Device told) = Unit {0}
+IsFailure (Usage told) = ⊥
+IsFailure (Refused told) = ⊥
+IsFailure Memory = Unit {0}
+
+-- A command line isn't one.
+abbrev pub IsMisuse : FirmFault → Type 0
+IsMisuse (Usage told) = Unit {0}
+IsMisuse (Device told) = ⊥
+IsMisuse (Refused told) = ⊥
+IsMisuse Memory = Unit {0}
+
+-- ---- by its text
 
 -- A library, a deck or parts are refused with that text; or there is no room for it.
 abbrev pub Refuses : List ℕ → FirmFault → Type 0
@@ -16,9 +41,27 @@ abbrev pub Tells : Option (List ℕ) → FirmFault → Type 0
 Tells None fault = fault ≡ Memory
 Tells (Some text) fault = Refuses text fault
 
+-- A file or a device failed, with that text; or there is no room for it.
+abbrev pub Fails : List ℕ → FirmFault → Type 0
+Fails text (Device told) = string_bytes told ≡ text
+Fails text (Usage told) = ⊥
+Fails text (Refused told) = ⊥
+Fails text Memory = Unit {0}
+
 -- A command line isn't one, with that text; or there is no room for it.
 abbrev pub Misuses : List ℕ → FirmFault → Type 0
 Misuses text (Usage told) = string_bytes told ≡ text
 Misuses text (Refused told) = ⊥
 Misuses text (Device told) = ⊥
 Misuses text Memory = Unit {0}
+
+-- ---- of files and devices
+
+unfoldable pub unread_text : List ℕ → List ℕ
+unread_text file = file ++ codes ": can't be read"
+
+unfoldable pub unwritten_text : List ℕ → List ℕ
+unwritten_text file = file ++ codes ": can't be written"
+
+unfoldable pub output_text : List ℕ
+output_text = codes "the standard output failed"

@@ -1,7 +1,12 @@
 //! A check of a whole layout, done.
-ghost use Rattle.std.specs.Prelude.{IfOk, IfErr};
+ghost use Rattle.std.specs.Prelude.{◌≡◌, IfOk, IfErr};
+ghost use Rattle.mpw_check.specs.declared.fault.CheckFault.TheVariants as kinds;
+ghost use Rattle.mpw_check.specs.Drawn.{IsDrawnFrom};
 ghost use Rattle.mpw_check.specs.Tiled.{IsOfPlan};
 ghost use Rattle.mpw_job.specs.Layout.{AreLayoutMarkers};
+ghost use Rattle.mpw_firm.specs.declared.fault.FirmFault.TheVariants.{Memory};
+ghost use Rattle.mpw_firm.specs.Drawings.{IsOfLibrary, IsOfTexts, IsReadFrom};
+ghost use Rattle.mpw_firm.specs.Told.{IsFailure, IsRefusal};
 
 use crate::fault::FirmFault;
 use crate::line::Line;
@@ -11,8 +16,9 @@ use crate::picture::{picture, window_of};
 use crate::progress::tell_summary;
 use crate::reading::{deck_of, read_file};
 use crate::report::report;
-use crate::told::{check_fault, device_fault};
+use crate::told::{check_fault, device_fault, output_fault};
 use mpw_check::{CheckFault, check_layout, read_layout};
+use mpw_deck::Deck;
 use mpw_markers::Book;
 use mpw_tiles::Snapshot;
 use mpw_wire::{Counted, WireFault};
@@ -20,19 +26,50 @@ use std::io::BufWriter;
 use std::thread::Threads;
 use std::time::Instant;
 
-/// What is checked.
-fn snapshot_of(rt: &HostRuntime, options: &Options) -> Result<Snapshot, FirmFault> {
-    let deck = read_file(rt, options.deck.as_str())?;
-    let deck = deck_of(rt.alloc(), options.deck.as_str(), &deck)?;
-    let text = read_file(rt, options.file.as_str())?;
-    match read_layout(rt.alloc(), deck, &options.top, &text) {
-        Ok(snapshot) => Ok(snapshot),
-        Err(fault) => Err(refused(rt, options, &fault, &text)),
+/// What is checked, of the texts of a deck and a library.
+pub fn drawn_of(
+    rt: &HostRuntime,
+    options: &Options,
+    deck: &[u8],
+    text: &[u8],
+) -> Result<Snapshot, FirmFault>
+    ensures drawn { IfOk result (IsReadFrom deck.now options.now.top text.now) }
+    ensures refused { IfErr result (IsOfTexts deck.now options.now.top text.now) }
+{
+    match deck_of(rt.alloc(), options.deck.as_str(), deck) {
+        Ok(deck) => drawn_under(rt, options, deck, text),
+        Err(fault) => Err(fault),
     }
 }
 
+/// What is checked, of a deck and the text of a library.
+fn drawn_under(
+    rt: &HostRuntime,
+    options: &Options,
+    deck: Deck,
+    text: &[u8],
+) -> Result<Snapshot, FirmFault>
+    ensures drawn { IfOk result (IsDrawnFrom deck options.now.top text.now) }
+    ensures refused { IfErr result (IsOfLibrary options.now.top text.now) }
+{
+    match read_layout(rt.alloc(), deck, &options.top, text) {
+        Ok(snapshot) => Ok(snapshot),
+        Err(fault) => Err(refused(rt, options, &fault, text)),
+    }
+}
+
+/// What is checked, of the files that the command line names.
+fn snapshot_of(rt: &HostRuntime, options: &Options) -> Result<Snapshot, FirmFault> {
+    let deck = read_file(rt, options.deck.as_str())?;
+    let text = read_file(rt, options.file.as_str())?;
+    drawn_of(rt, options, &deck, &text)
+}
+
 /// What is told of a library of that text that isn't checked.
-pub fn refused(rt: &HostRuntime, options: &Options, fault: &CheckFault, text: &[u8]) -> FirmFault {
+pub fn refused(rt: &HostRuntime, options: &Options, fault: &CheckFault, text: &[u8]) -> FirmFault
+    ensures refused { IsRefusal result }
+    ensures memory { fault.now ≡ kinds.Memory → result ≡ Memory }
+{
     let (file, top) = (options.file.as_str(), options.top.as_str());
     check_fault(rt.alloc(), file, top, fault, text)
 }
@@ -41,18 +78,25 @@ pub fn refused(rt: &HostRuntime, options: &Options, fault: &CheckFault, text: &[
 ///
 /// # Errors
 /// `Device` where there is no clock.
-pub fn now(rt: &HostRuntime) -> Result<Instant, FirmFault> {
+pub fn now(rt: &HostRuntime) -> Result<Instant, FirmFault>
+    ensures { IfErr result IsFailure }
+{
     match Instant::now(rt) {
         Ok(now) => Ok(now),
         Err(_) => Err(device_fault(rt.alloc(), "the clock")),
     }
 }
 
-/// What is told where the standard output fails.
-pub fn output_fault(rt: &HostRuntime) -> FirmFault {
-    match String::from_str(rt.alloc(), "the standard output failed") {
-        Ok(text) => FirmFault::Device(text),
-        Err(_) => FirmFault::Memory,
+/// What came of writing to the standard output.
+pub fn printed(rt: &HostRuntime, written: Result<(), WireFault>) -> Result<(), FirmFault>
+    ensures ok { IfOk written (λ _. IfErr result (λ _. ⊥)) }
+    ensures failed { IfErr written (λ _. IfOk result (λ _. ⊥)) }
+    ensures failure { IfErr result IsFailure }
+{
+    match written {
+        Ok(()) => Ok(()),
+        Err(WireFault::Memory) => Err(FirmFault::Memory),
+        Err(_) => Err(output_fault(rt.alloc())),
     }
 }
 
@@ -60,15 +104,14 @@ pub fn output_fault(rt: &HostRuntime) -> FirmFault {
 ///
 /// # Errors
 /// `Device` where that failed, and `Memory`.
-pub fn print(rt: &HostRuntime, snapshot: &Snapshot, book: Book) -> Result<(), FirmFault> {
+pub fn print(rt: &HostRuntime, snapshot: &Snapshot, book: Book) -> Result<(), FirmFault>
+    ensures { IfErr result IsFailure }
+{
     let Ok(output) = BufWriter::new(rt.alloc(), rt.stdout()) else {
         return Err(FirmFault::Memory);
     };
-    match write_markers(rt.alloc(), snapshot, book, &mut Counted::new(output)) {
-        Ok(()) => Ok(()),
-        Err(WireFault::Memory) => Err(FirmFault::Memory),
-        Err(_) => Err(output_fault(rt)),
-    }
+    let written = write_markers(rt.alloc(), snapshot, book, &mut Counted::new(output));
+    printed(rt, written)
 }
 
 /// Prints the markers, and writes the report.
@@ -77,7 +120,9 @@ fn write_listed(
     options: &Options,
     snapshot: &Snapshot,
     book: &Book,
-) -> Result<(), FirmFault> {
+) -> Result<(), FirmFault>
+    ensures { IfErr result IsFailure }
+{
     print(rt, snapshot, book.copy()?)?;
     report(rt, &options.report, &options.top, snapshot, book)
 }

@@ -9,6 +9,7 @@ mod blank;
 mod cause;
 mod fault;
 mod key;
+mod laws;
 mod line;
 mod listing;
 mod options;
@@ -25,6 +26,7 @@ mod stitch;
 mod stitch_options;
 mod told;
 mod told_parts;
+mod whole;
 
 use asked::check;
 use fault::{FirmFault, exit_status};
@@ -34,6 +36,7 @@ use std::process::ExitCode;
 use std::thread::Threads;
 use std::{env, io};
 use stitch::stitch;
+use told::output_fault;
 
 /// The words of the command line.
 fn words(rt: &HostRuntime) -> Result<Vec<String>, FirmFault> {
@@ -51,10 +54,7 @@ fn words(rt: &HostRuntime) -> Result<Vec<String>, FirmFault> {
 fn print_told(rt: &HostRuntime, text: &str) -> Result<usize, FirmFault> {
     match print!(rt; "{text}") {
         Ok(()) => Ok(0),
-        Err(_) => Err(FirmFault::Device(String::from_str(
-            rt.alloc(),
-            "the standard output failed",
-        )?)),
+        Err(_) => Err(output_fault(rt.alloc())),
     }
 }
 

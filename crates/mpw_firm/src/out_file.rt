@@ -1,4 +1,9 @@
 //! Options that may be given, and the files that they name to be written.
+ghost use Rattle.std.specs.Prelude.{◌≡◌, false, option_map, IfOk, IfErr, IfSome};
+ghost use Rattle.std.specs.String.{string_bytes};
+ghost use Rattle.std.specs.List.{list_any};
+ghost use Rattle.mpw_geom.specs.Names.{name_eq};
+ghost use Rattle.mpw_firm.specs.Told.{IsMisuse};
 
 use crate::fault::FirmFault;
 use clap::{Arg, ArgAction};
@@ -14,8 +19,15 @@ pub fn free_option<'a>(alloc: Global, name: &'a str, value: &'a str, help: &'a s
 }
 
 /// Whether a text is one of these.
-fn is_among(text: &str, words: &[&str]) -> bool {
-    words.iter().any(|word| *word == text)
+fn is_among(text: &str, words: &[&str]) -> bool
+    ensures { result ≡ list_any (λ word. name_eq word.now text.now) words.now }
+{
+    for word in words {
+        if word.as_bytes() == text.as_bytes() {
+            return true;
+        }
+    }
+    false
 }
 
 /// The file that an option names, which none of the files that are read may be.
@@ -28,7 +40,11 @@ pub fn out_file(
     file: Option<&str>,
     others: &[&str],
     over: &str,
-) -> Result<Option<String>, FirmFault> {
+) -> Result<Option<String>, FirmFault>
+    ensures given { IfOk result (λ out. option_map string_bytes out ≡ option_map (λ text. text.now) file.entry) }
+    ensures apart { IfOk result (λ out. IfSome out (λ text. list_any (λ word. name_eq word.now (string_bytes text)) others.now ≡ false)) }
+    ensures refused { IfErr result IsMisuse }
+{
     let Some(file) = file else {
         return Ok(None);
     };

@@ -1,13 +1,18 @@
 //! The check of some tiles, whose part is printed.
+ghost use Rattle.std.specs.Prelude.{IfOk, IfErr};
+ghost use Rattle.mpw_spread.specs.Spread.{IsPartOf};
+ghost use Rattle.mpw_firm.specs.Drawings.{IsReadFrom};
+ghost use Rattle.mpw_firm.specs.Told.{IsFailure};
 
-use crate::asked::{now, output_fault, refused};
+use crate::asked::{drawn_of, now, refused};
 use crate::fault::FirmFault;
 use crate::line::Line;
 use crate::options::Options;
 use crate::progress::{count_of, tell_part};
-use crate::reading::{deck_of, read_file};
+use crate::reading::read_file;
+use crate::told::output_fault;
 use crate::told_parts::beyond_plan;
-use mpw_check::{CheckFault, read_layout, tile_count};
+use mpw_check::{CheckFault, tile_count};
 use mpw_parts::{Part, write_part};
 use mpw_spread::{TileRange, check_part, subject_of};
 use mpw_tiles::Snapshot;
@@ -21,11 +26,13 @@ fn write_out(rt: &HostRuntime, part: &Part) -> io::Result<()> {
 }
 
 /// Prints a part on the standard output.
-fn print_part(rt: &HostRuntime, part: &Part) -> Result<(), FirmFault> {
+fn print_part(rt: &HostRuntime, part: &Part) -> Result<(), FirmFault>
+    ensures { IfErr result IsFailure }
+{
     match write_out(rt, part) {
         Ok(()) => Ok(()),
         Err(error) if error.kind() == io::ErrorKind::OutOfMemory => Err(FirmFault::Memory),
-        Err(_) => Err(output_fault(rt)),
+        Err(_) => Err(output_fault(rt.alloc())),
     }
 }
 
@@ -34,10 +41,14 @@ fn part_of(
     rt: &HostRuntime,
     threads: &(impl Threads + Sync),
     options: &Options,
-    texts: (Vec<u8>, &[u8]),
+    deck: Vec<u8>,
+    text: &[u8],
     snapshot: &Snapshot,
     range: TileRange,
-) -> Result<Part, FirmFault> {
+) -> Result<Part, FirmFault>
+    requires { IsReadFrom deck.items options.now.top text.now snapshot.now }
+    ensures { IfOk result (IsPartOf (record { deck = deck.items; top = options.now.top; library = text.now })) }
+{
     let start = now(rt)?;
     let Some(tiles) = tile_count(snapshot) else {
         return Err(refused(rt, options, &CheckFault::Tiles, &[]));
@@ -45,7 +56,7 @@ fn part_of(
     let Some(span) = range.span(tiles) else {
         return Err(beyond_plan(rt.alloc(), tiles));
     };
-    let subject = subject_of(texts.1, texts.0, options.top.copy()?, tiles);
+    let subject = subject_of(text, deck, options.top.copy()?, tiles);
     let mut line = Line::new(rt);
     line.tell_read(snapshot);
     let part = check_part(threads, rt.alloc(), subject, snapshot, span, &mut line);
@@ -65,14 +76,10 @@ pub fn check_range(
     options: &Options,
     range: TileRange,
 ) -> Result<usize, FirmFault> {
-    let deck_text = read_file(rt, options.deck.as_str())?;
-    let deck = deck_of(rt.alloc(), options.deck.as_str(), &deck_text)?;
+    let deck = read_file(rt, options.deck.as_str())?;
     let text = read_file(rt, options.file.as_str())?;
-    let snapshot = match read_layout(rt.alloc(), deck, &options.top, &text) {
-        Ok(snapshot) => snapshot,
-        Err(fault) => return Err(refused(rt, options, &fault, &text)),
-    };
-    let part = part_of(rt, threads, options, (deck_text, &text), &snapshot, range)?;
+    let snapshot = drawn_of(rt, options, &deck, &text)?;
+    let part = part_of(rt, threads, options, deck, &text, &snapshot, range)?;
     print_part(rt, &part)?;
     Ok(count_of(part.lists()))
 }

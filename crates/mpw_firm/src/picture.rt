@@ -1,13 +1,15 @@
 //! The picture of a check.
-ghost use Rattle.std.specs.Prelude.{IfOk};
+ghost use Rattle.std.specs.Prelude.{IfOk, IfErr};
 ghost use Rattle.mpw_geom.specs.Plane.{IsBoxInPlane};
 ghost use Rattle.mpw_picture.specs.Text.{picture_text};
+ghost use Rattle.mpw_firm.specs.Keys.{IsRound, IsUnknown, unknown_text};
+ghost use Rattle.mpw_firm.specs.Told.{IsFailure, IsMisuse, Misuses};
 ghost use Rattle.mpw_writing.specs.Writing.{Adds};
 
 use crate::fault::FirmFault;
 use crate::key::find_marker;
 use crate::picture_options::Wanted;
-use crate::told::unwritten;
+use crate::told::{misused, unwritten};
 use mpw_geom::{Box2, Name};
 use mpw_markers::Book;
 use mpw_picture::{Picture, draw, marker_window, whole_window, write_picture};
@@ -17,13 +19,13 @@ use std::fs::File;
 use std::io::{self, BufWriter, Write};
 
 /// What is told of a key that no marker has.
-fn unknown(alloc: Global, key: &str) -> FirmFault {
-    match format!(in alloc;
+#[tactic(auto, unfolding(crate::specs::Keys::unknown_text))]
+fn unknown(alloc: Global, key: &str) -> FirmFault
+    ensures { Misuses (unknown_text key.now) result }
+{
+    misused(format!(in alloc;
         "error: --marker {key}: no marker has this key: take a line of the listing up to the blank"
-    ) {
-        Ok(text) => FirmFault::Usage(text),
-        Err(_) => FirmFault::Memory,
-    }
+    ))
 }
 
 /// The window round the marker of that key.
@@ -33,12 +35,15 @@ fn window_round(
     book: &Book,
     key: &str,
 ) -> Result<Box2, FirmFault>
-    ensures { IfOk result IsBoxInPlane }
+    ensures plane { IfOk result IsBoxInPlane }
+    ensures round { IfOk result (IsRound snapshot.now.deck.rules key.now book.now) }
+    ensures refused { IfErr result (IsUnknown snapshot.now.deck.rules key.now book.now) }
 {
     let rules = snapshot.deck().rules().as_slice();
-    match find_marker(alloc, rules, book.as_slice(), key)? {
-        Some(marker) => Ok(marker_window(rules, marker)),
-        None => Err(unknown(alloc, key)),
+    match find_marker(alloc, rules, book.as_slice(), key) {
+        Ok(Some(marker)) => Ok(marker_window(rules, marker)),
+        Ok(None) => Err(unknown(alloc, key)),
+        Err(_) => Err(FirmFault::Memory),
     }
 }
 
@@ -52,7 +57,8 @@ pub fn window_of(
     snapshot: &Snapshot,
     book: &Book,
 ) -> Result<Box2, FirmFault>
-    ensures { IfOk result IsBoxInPlane }
+    ensures plane { IfOk result IsBoxInPlane }
+    ensures refused { IfErr result IsMisuse }
 {
     match &wanted.key {
         Some(key) => window_round(alloc, snapshot, book, key.as_str()),
@@ -98,6 +104,7 @@ pub fn picture(
     book: &Book,
 ) -> Result<(), FirmFault>
     requires { IsBoxInPlane window }
+    ensures { IfErr result IsFailure }
 {
     let picture = draw(rt.alloc(), snapshot, book.as_slice(), window)?;
     match write_file(rt, file, snapshot, top, &picture) {

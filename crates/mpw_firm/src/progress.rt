@@ -1,4 +1,7 @@
 //! What is told on the standard error of a check that has ended.
+ghost use Rattle.std.specs.Prelude.{◌≡◌, nat_lt};
+ghost use Rattle.std.specs.List.{list_any};
+ghost use Rattle.mpw_firm.specs.Status.{has_some};
 
 use mpw_check::tile_count;
 use mpw_deck::Rules;
@@ -54,7 +57,9 @@ pub fn tell_summary(
 }
 
 /// How many markers the lists have together.
-pub fn count_of(lists: &[TileMarkers]) -> usize {
+pub fn count_of(lists: &[TileMarkers]) -> usize
+    ensures { nat_lt 0 result ≡ list_any has_some lists.now }
+{
     let mut count = 0usize;
     for list in lists {
         count = count.saturating_add(list.len());

@@ -1,4 +1,8 @@
 //! Files, read to their ends.
+ghost use Rattle.std.specs.Prelude.{◌≡◌, Ok, IfOk, IfErr};
+ghost use Rattle.mpw_deck.specs.Reading.{deck_of};
+ghost use Rattle.mpw_firm.specs.Drawings.{IsOfDeck};
+ghost use Rattle.mpw_firm.specs.Told.{IsFailure};
 
 use crate::fault::FirmFault;
 use crate::told::{deck_fault, device_fault};
@@ -19,7 +23,9 @@ fn read_input(rt: &HostRuntime) -> io::Result<Vec<u8>> {
 ///
 /// # Errors
 /// `Device` where it can't be read, and `Memory`.
-pub fn read_file(rt: &HostRuntime, file: &str) -> Result<Vec<u8>, FirmFault> {
+pub fn read_file(rt: &HostRuntime, file: &str) -> Result<Vec<u8>, FirmFault>
+    ensures { IfErr result IsFailure }
+{
     let read = if file == "-" {
         read_input(rt)
     } else {
@@ -36,7 +42,10 @@ pub fn read_file(rt: &HostRuntime, file: &str) -> Result<Vec<u8>, FirmFault> {
 ///
 /// # Errors
 /// `Refused` at a faulty line, and `Memory`.
-pub fn deck_of(alloc: Global, file: &str, text: &[u8]) -> Result<Deck, FirmFault> {
+pub fn deck_of(alloc: Global, file: &str, text: &[u8]) -> Result<Deck, FirmFault>
+    ensures deck { IfOk result (λ deck. deck_of text.now ≡ Ok deck) }
+    ensures refused { IfErr result (IsOfDeck text.now) }
+{
     match read_deck(alloc, text) {
         Ok(deck) => Ok(deck),
         Err(fault) => Err(deck_fault(alloc, file, fault)),

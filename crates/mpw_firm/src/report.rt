@@ -1,4 +1,6 @@
 //! The report of a check, which KLayout's marker browser opens.
+ghost use Rattle.std.specs.Prelude.{IfErr};
+ghost use Rattle.mpw_firm.specs.Told.{IsFailure};
 ghost use Rattle.mpw_report.specs.Report.{report_text};
 ghost use Rattle.mpw_writing.specs.Writing.{Adds};
 
@@ -47,7 +49,9 @@ pub fn report(
     top: &Name,
     snapshot: &Snapshot,
     book: &Book,
-) -> Result<(), FirmFault> {
+) -> Result<(), FirmFault>
+    ensures { IfErr result IsFailure }
+{
     let Some(file) = file else {
         return Ok(());
     };

@@ -17,7 +17,7 @@ fn of_record(code: Code) -> &'static str {
         Code::BadSize =>
             "a record has too much or too little data: polygons of more than 8191 points have to be split",
         Code::BadName => {
-            "a name is empty, longer than 255 bytes, or has a blank or another byte outside 21 to 7E hex: rename the structure"
+            "a name is empty, longer than 255 bytes, or has a blank or another byte outside 21 to 7E hex: rename the structure (KLayout: 'Rename cell'; gdspy: rename_cell())"
         }
         Code::DoubleName => "two structures have one name: rename one of them",
         _ => of_shape(code),
@@ -28,17 +28,17 @@ fn of_record(code: Code) -> &'static str {
 fn of_shape(code: Code) -> &'static str {
     match code {
         Code::Unit =>
-            "the database unit isn't a whole number of nm from 1 to 1000, as 0.5 isn't: export with a unit of 1 nm (KLayout: 'Database unit' 0.001)",
+            "the database unit isn't a whole number of nm from 1 to 1000, as 0.5 isn't: export with a unit of 1 nm (KLayout: 'Database unit' 0.001; gdspy: precision=1e-9)",
         Code::Magnification =>
-            "a reference is magnified: resolve it before the export (KLayout: 'Flatten' that instance)",
+            "a reference is magnified: resolve it before the export (KLayout: 'Flatten' that instance; gdspy: flatten() the cell that has it)",
         Code::Angle =>
-            "an angle isn't a multiple of 90 degrees, or is beyond -360 to 360: resolve the reference before the export (KLayout: 'Flatten' that instance)",
+            "an angle isn't a multiple of 90 degrees, or is beyond -360 to 360: resolve the reference before the export (KLayout: 'Flatten' that instance; gdspy: flatten() the cell that has it)",
         Code::NotManhattan =>
             "an edge is neither horizontal nor vertical, as one at 45 degrees: only such edges are checked; draw it in steps, or export without that shape",
         Code::RoundPath =>
-            "a path has round ends (type 1): export it with ends of type 0, 2 or 4, or as a polygon",
+            "a path has round ends (type 1): export it with ends of type 0, 2 or 4, or as a polygon (KLayout: 'Convert to polygon'; gdspy: ends='flush', or gdsii_path=False)",
         Code::OddWidth =>
-            "a path's width is odd: make it even, or export the path as a polygon (KLayout: 'Convert to polygon')",
+            "a path's width is odd: make it even, or export the path as a polygon (KLayout: 'Convert to polygon'; gdspy: gdsii_path=False)",
         Code::PointPath => "all points of a path are one: remove it",
         Code::Columns =>
             "an array has fewer than one column or row: remove it, or export its elements",
@@ -55,7 +55,7 @@ pub fn of_library(fault: ReadFault, text: &[u8]) -> &'static str {
         Cause::Split =>
             "an element's points stand in several XY records: export polygons and paths of at most 8191 points, each in one XY record (KLayout: switch off 'Multi-XY record mode for boundaries'; gdspy: max_points=8190)",
         Cause::Property =>
-            "a property of the library stands behind UNITS or between structures: export without it (KLayout: switch off 'Write file properties')",
+            "a property of the library stands behind UNITS or between structures: export without it (KLayout: switch off 'Write file properties'; gdspy writes none)",
         Cause::Foreign =>
             "the file doesn't begin as GDSII does: where it is compressed or another format (OASIS), export it as GDSII",
     }

@@ -5,6 +5,7 @@ ghost use Rattle.mpw_firm.specs.Told.{Refuses, Tells, Misuses};
 ghost use Rattle.mpw_firm.specs.ToldParts.{holder_of, has_tile, names_with, other_of, other_text, unnamed_text, no_part_text, no_markers_text, nothing_text, missing_text, doubled_text, fault_text, range_text};
 
 use crate::fault::FirmFault;
+use crate::told::{misused, told};
 use mpw_parts::{Difference, Part, PartsFault};
 use std::alloc::{AllocError, Global};
 use std::marker::Model;
@@ -38,31 +39,18 @@ impl<'a> PartFile<'a> {
         }
     }
 
+    /// The file's name.
+    pub fn name(&self) -> &'a str
+        ensures { result.now ≡ self.now.name }
+    {
+        self.name
+    }
+
     /// Whether the part has the tile.
     fn has(&self, tile: usize) -> bool
         ensures { result ≡ has_tile tile self.now }
     {
         (self.first <= tile) & (tile < self.end)
-    }
-}
-
-/// A fault that was told, or want of memory.
-fn told(text: Result<String, AllocError>) -> FirmFault
-    ensures { (bytes : List ℕ) → IfOk text (λ t. string_bytes t ≡ bytes) → Refuses bytes result }
-{
-    match text {
-        Ok(text) => FirmFault::Refused(text),
-        Err(_) => FirmFault::Memory,
-    }
-}
-
-/// A fault of the command line that was told, or want of memory.
-fn misused(text: Result<String, AllocError>) -> FirmFault
-    ensures { (bytes : List ℕ) → IfOk text (λ t. string_bytes t ≡ bytes) → Misuses bytes result }
-{
-    match text {
-        Ok(text) => FirmFault::Usage(text),
-        Err(_) => FirmFault::Memory,
     }
 }
 

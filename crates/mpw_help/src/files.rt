@@ -55,7 +55,7 @@ static LIBRARY: [Entry; 17] = [
         meaning: "a name is empty, longer than 255 bytes, or has a blank or another byte outside 21 to 7E hex",
         detail: Detail::Refusal {
             number: "6",
-            remedy: "rename the structure",
+            remedy: "rename the structure (KLayout: 'Rename cell'; gdspy: rename_cell())",
         },
     },
     Entry {
@@ -64,7 +64,7 @@ static LIBRARY: [Entry; 17] = [
         meaning: "the database unit isn't a whole number of nm from 1 to 1000, as 0.5 isn't",
         detail: Detail::Refusal {
             number: "7",
-            remedy: "export with a unit of 1 nm (KLayout: 'Database unit' 0.001)",
+            remedy: "export with a unit of 1 nm (KLayout: 'Database unit' 0.001; gdspy: precision=1e-9)",
         },
     },
     Entry {
@@ -73,7 +73,7 @@ static LIBRARY: [Entry; 17] = [
         meaning: "a reference is magnified",
         detail: Detail::Refusal {
             number: "8",
-            remedy: "resolve it before the export (KLayout: 'Flatten' that instance)",
+            remedy: "resolve it before the export (KLayout: 'Flatten' that instance; gdspy: flatten() the cell that has it)",
         },
     },
     Entry {
@@ -82,7 +82,7 @@ static LIBRARY: [Entry; 17] = [
         meaning: "an angle isn't a multiple of 90 degrees, or is beyond -360 to 360",
         detail: Detail::Refusal {
             number: "9",
-            remedy: "resolve the reference before the export (KLayout: 'Flatten' that instance)",
+            remedy: "resolve the reference before the export (KLayout: 'Flatten' that instance; gdspy: flatten() the cell that has it)",
         },
     },
     Entry {
@@ -100,7 +100,7 @@ static LIBRARY: [Entry; 17] = [
         meaning: "a path has round ends (type 1)",
         detail: Detail::Refusal {
             number: "11",
-            remedy: "export it with ends of type 0, 2 or 4, or as a polygon",
+            remedy: "export it with ends of type 0, 2 or 4, or as a polygon (KLayout: 'Convert to polygon'; gdspy: ends='flush', or gdsii_path=False)",
         },
     },
     Entry {
@@ -109,7 +109,7 @@ static LIBRARY: [Entry; 17] = [
         meaning: "a path's width is odd",
         detail: Detail::Refusal {
             number: "12",
-            remedy: "make it even, or export the path as a polygon (KLayout: 'Convert to polygon')",
+            remedy: "make it even, or export the path as a polygon (KLayout: 'Convert to polygon'; gdspy: gdsii_path=False)",
         },
     },
     Entry {

@@ -1,0 +1,188 @@
+//! The whole that parts make.
+ghost use Rattle.std.specs.Prelude.{◌≡◌, true, IfOk, IfErr};
+ghost use Rattle.mpw_parts.specs.Stitching.{IsBookOf};
+ghost use Rattle.mpw_firm.specs.Listed.{ListsAsEach};
+ghost use Rattle.mpw_firm.specs.Stitched.{is_alone, are_alone, IsListedAsCheck, IsNamed, IsSubjectOf, IsWholeOf, IsOfBook, IsOfFirst, IsOfMarkers, IsOfParts};
+ghost use Rattle.mpw_firm.specs.Told.{IsRefusal};
+
+use crate::blank::blank_layout;
+use crate::fault::FirmFault;
+use crate::laws::wholes_are_listed_as_checks;
+use crate::listing::write_markers;
+use crate::reading::deck_of;
+use crate::told::check_fault;
+use crate::told_parts::{PartFile, no_markers, parts_fault};
+use mpw_deck::Deck;
+use mpw_geom::Name;
+use mpw_markers::{Book, Marker};
+use mpw_parts::{Part, stitch_parts};
+use mpw_tiles::Snapshot;
+use mpw_wire::{Sink, WireFault};
+use std::alloc::Global;
+
+/// What was checked: the deck, the structure's name, and the number of tiles.
+#[derive(Drop)]
+pub struct Subject {
+    pub deck: Deck,
+    pub top: Name,
+    pub tiles: u32,
+}
+
+/// The markers of a whole, with the structure's name, the number of tiles, and a layout of that name under the deck, which stands
+/// for the one that was checked where the markers are listed.
+#[derive(Drop)]
+pub struct Whole {
+    pub top: Name,
+    pub tiles: u32,
+    pub layout: Snapshot,
+    pub book: Book,
+}
+
+/// What the first of the parts tells of it.
+fn subject_of(alloc: Global, files: &[PartFile<'_>], parts: &[Part]) -> Result<Subject, FirmFault>
+    ensures subject { IfOk result (IsSubjectOf parts.now) }
+    ensures refused { IfErr result (IsOfFirst parts.now) }
+{
+    let Some(part) = parts.first() else {
+        return Err(no_markers(alloc));
+    };
+    let subject = part.subject();
+    let deck = deck_of(alloc, first_name(files), subject.deck())?;
+    Ok(Subject {
+        deck,
+        top: subject.top().copy()?,
+        tiles: subject.tiles(),
+    })
+}
+
+/// The name of the first file.
+fn first_name<'a>(files: &[PartFile<'a>]) -> &'a str {
+    match files.first() {
+        Some(file) => file.name(),
+        None => "mpw stitch",
+    }
+}
+
+/// Whether a marker is one of a check by itself under so many rules: it meets the only submission.
+fn is_alone(marker: &Marker, rules: usize) -> bool
+    ensures { result ≡ is_alone rules marker.now }
+{
+    let meets_it = match marker.met.as_slice() {
+        [origin] => *origin == 0,
+        _ => false,
+    };
+    meets_it & ((marker.rule as usize) < rules)
+}
+
+/// Whether all of these are.
+fn are_alone(markers: &[Marker], rules: usize) -> bool
+    ensures { result ≡ are_alone rules markers.now }
+{
+    for marker in markers {
+        if !is_alone(marker, rules) {
+            return false;
+        }
+    }
+    true
+}
+
+/// The book of parts of these files, of a plan with so many tiles.
+fn stitched(
+    alloc: Global,
+    files: &[PartFile<'_>],
+    tiles: u32,
+    parts: Vec<Part>,
+) -> Result<Book, FirmFault>
+    ensures book { IfOk result (IsBookOf parts.items) }
+    ensures refused { IfErr result (IsOfParts files.now tiles parts.items) }
+{
+    match stitch_parts(alloc, parts) {
+        Ok(book) => Ok(book),
+        Err(fault) => Err(parts_fault(alloc, files, tiles, fault)),
+    }
+}
+
+/// A book, where its markers are those of a check by itself under so many rules.
+fn alone(alloc: Global, rules: usize, book: Book) -> Result<Book, FirmFault>
+    ensures book { IfOk result (λ kept. kept ≡ book) }
+    ensures alone { IfOk result (λ kept. are_alone rules kept ≡ true) }
+    ensures refused { IfErr result (IsOfMarkers rules book) }
+{
+    if are_alone(book.as_slice(), rules) {
+        Ok(book)
+    } else {
+        Err(no_markers(alloc))
+    }
+}
+
+/// The book of parts of these files, under a deck with so many rules and a plan with so many tiles.
+fn book_of(
+    alloc: Global,
+    files: &[PartFile<'_>],
+    tiles: u32,
+    rules: usize,
+    parts: Vec<Part>,
+) -> Result<Book, FirmFault>
+    ensures book { IfOk result (IsBookOf parts.items) }
+    ensures alone { IfOk result (λ book. are_alone rules book ≡ true) }
+    ensures refused { IfErr result (IsOfBook files.now tiles rules parts.items) }
+{
+    match stitched(alloc, files, tiles, parts) {
+        Ok(book) => alone(alloc, rules, book),
+        Err(fault) => Err(fault),
+    }
+}
+
+/// A layout of a structure of that name under that deck.
+fn layout_of(alloc: Global, deck: Deck, top: &Name) -> Result<Snapshot, FirmFault>
+    ensures deck { IfOk result (λ layout. layout.deck ≡ deck) }
+    ensures named { IfOk result (IsNamed top.now) }
+    ensures refused { IfErr result IsRefusal }
+{
+    match blank_layout(alloc, deck, top) {
+        Ok(layout) => Ok(layout),
+        Err(fault) => Err(check_fault(alloc, "mpw stitch", top.as_str(), &fault, &[])),
+    }
+}
+
+/// The same, without what the law tells of it.
+fn made(alloc: Global, files: &[PartFile<'_>], parts: Vec<Part>) -> Result<Whole, FirmFault>
+    ensures whole { IfOk result (IsWholeOf parts.items) }
+    ensures refused { IfErr result IsRefusal }
+{
+    let Subject { deck, top, tiles } = subject_of(alloc, files, parts.as_slice())?;
+    let rules = deck.rules().as_slice().len();
+    let book = book_of(alloc, files, tiles, rules, parts)?;
+    let layout = layout_of(alloc, deck, &top)?;
+    Ok(Whole {
+        top,
+        tiles,
+        layout,
+        book,
+    })
+}
+
+/// The whole that parts of these files make. What is listed of it is what a check lists of the files that the first part was made of.
+///
+/// # Errors
+/// `Refused` where the parts don't fit, and `Memory`.
+pub fn whole_of(alloc: Global, files: &[PartFile<'_>], parts: Vec<Part>) -> Result<Whole, FirmFault>
+    ensures whole { IfOk result (IsWholeOf parts.items) }
+    ensures listed { IfOk result (IsListedAsCheck parts.items) }
+    ensures refused { IfErr result IsRefusal }
+{
+    wholes_are_listed_as_checks();
+    made(alloc, files, parts)
+}
+
+/// Writes the markers of a whole, just as a check lists them of any layout of a structure of that name under that deck.
+///
+/// # Errors
+/// `Write` where the sink failed, and `Memory`.
+pub fn write_whole<W: Sink>(alloc: Global, whole: &Whole, writer: &mut W) -> Result<(), WireFault>
+    requires { IsNamed whole.now.top whole.now.layout }
+    ensures { ListsAsEach W.contents W.failures writer.old writer.new result whole.now.layout.deck whole.now.top whole.now.book }
+{
+    let book = whole.book.copy()?;
+    write_markers(alloc, &whole.layout, book, writer)
+}
