@@ -26,7 +26,6 @@ use Rattle.mpw_rbac.specs.Rows.{user_of}
 use Rattle.mpw_replies.specs.Rows.{◌>>=◌, ended_by, permitted}
 use Rattle.mpw_replies.specs.Sight.{seen_by, is_full}
 use Rattle.mpw_replies.specs.declared.reply.Code.TheVariants as code
-use Rattle.mpw_replies.specs.declared.reply.Reply.TheVariants as reply
 use Rattle.mpw_replies.specs.declared.row.Ending.{Ending}
 use Rattle.mpw_replies.specs.declared.row.Ending.TheVariants as ending
 use Rattle.mpw_run.specs.declared.phase.Checked.{Checked}
