@@ -1,9 +1,8 @@
 //! The calls that are timed.
 
-use crate::desk::{grant_of, is_accepted};
+use crate::desk::is_accepted;
 use mpw_geom::Name;
 use mpw_rbac::{Identity, Object, Operation, Policy, PolicyFault};
-use std::alloc::{AllocError, Global};
 
 /// Asks for so many permissions, of the objects in turn; how many there are.
 pub fn permitted(policy: &Policy, objects: &[Object], calls: u32) -> u32 {
@@ -71,40 +70,4 @@ pub fn activated(policy: &mut Policy, role: &Name, calls: u32) -> u32 {
         }
     }
     accepted
-}
-
-/// The cell of the grants that are made.
-const NEW_CELL: u32 = 1_000_000;
-
-/// Grants reading a new cell; whether that was accepted.
-fn grant(alloc: Global, policy: &mut Policy) -> Result<bool, AllocError> {
-    let grant = grant_of(alloc, NEW_CELL, 0)?;
-    Ok(is_accepted(policy.grant(1, grant)))
-}
-
-/// Takes the first grant back; whether that was accepted.
-fn revoke(alloc: Global, policy: &mut Policy) -> Result<bool, AllocError> {
-    let grant = grant_of(alloc, 0, 0)?;
-    Ok(is_accepted(policy.revoke(1, &grant)))
-}
-
-/// Makes a grant in a copy of the policy, or takes one back; whether that was accepted.
-fn change(alloc: Global, policy: &Policy, more: bool) -> Result<bool, AllocError> {
-    let mut next = policy.copy()?;
-    if more {
-        grant(alloc, &mut next)
-    } else {
-        revoke(alloc, &mut next)
-    }
-}
-
-/// So many of these changes, each in a copy of the policy; how many were accepted.
-pub fn changed(alloc: Global, policy: &Policy, more: bool, calls: u32) -> Result<u32, AllocError> {
-    let mut accepted: u32 = 0;
-    for _ in 0..calls {
-        if change(alloc, policy, more)? {
-            accepted = accepted.saturating_add(1);
-        }
-    }
-    Ok(accepted)
 }

@@ -5,7 +5,7 @@ use mpw_rbac::{Digest, Grant, Object, Operation, Policy, PolicyFault};
 use std::alloc::{AllocError, Global};
 
 /// The digest of each user here.
-const DIGEST: Digest = [7; 32];
+pub const DIGEST: Digest = [7; 32];
 
 /// A name that is known to be one.
 pub fn name(alloc: Global, text: &str) -> Result<Name, AllocError> {
@@ -111,24 +111,48 @@ fn add_user(alloc: Global, policy: &mut Policy) -> Result<bool, AllocError> {
     Ok(!(added && assigned))
 }
 
+/// Adds users from `u0` on, each with a role in turn; how many were refused.
+fn add_users(
+    alloc: Global,
+    policy: &mut Policy,
+    users: u32,
+    roles: u32,
+) -> Result<u32, AllocError> {
+    let mut refused: u32 = 0;
+    let count = roles.saturating_sub(1);
+    for number in 0..users {
+        let user = numbered(alloc, "u", number)?;
+        let role = numbered(alloc, "r", if count == 0 { 0 } else { number % count })?;
+        let assigned = user.copy()?;
+        let added = is_accepted(policy.adduser(1, user, DIGEST));
+        if !added || !is_accepted(policy.assign(1, &assigned, &role)) {
+            refused = refused.saturating_add(1);
+        }
+    }
+    Ok(refused)
+}
+
 /// Fills a new desk, and opens a session on connection 2 whose active role is at least every other; how much was refused.
 pub fn fill(
     alloc: Global,
     policy: &mut Policy,
     roles: u32,
     grants: u32,
+    users: u32,
 ) -> Result<u32, AllocError> {
     let officer = log_in(alloc, policy, 1, "root", "officer")?;
     let refused_roles = add_roles(alloc, policy, roles)?;
     let refused_pairs = add_pairs(alloc, policy, roles)?;
     let refused_grants = add_grants(alloc, policy, roles, grants)?;
     let refused_user = add_user(alloc, policy)?;
+    let refused_users = add_users(alloc, policy, users, roles)?;
     let session = log_in(alloc, policy, 2, "ann", "r0")?;
     let others = u32::from(!officer) + u32::from(refused_user) + u32::from(!session);
     Ok(
         refused_roles
             .saturating_add(refused_pairs)
             .saturating_add(refused_grants)
+            .saturating_add(refused_users)
             .saturating_add(others),
     )
 }

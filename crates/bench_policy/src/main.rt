@@ -4,8 +4,10 @@
 #![tactic(auto)]
 
 mod calls;
+mod changes;
 mod desk;
 
+use changes::Change;
 use desk::{name, new_desk};
 use mpw_rbac::{Object, Policy};
 use std::alloc::{AllocError, Global};
@@ -18,8 +20,18 @@ const CALLS: u32 = 1_000_000;
 /// How often a session is told of itself, and a role made active and dropped.
 const TURNS: u32 = 1_000;
 
-/// How often a grant is made, and how often one is taken back.
+/// How often a change is made.
 const CHANGES: u32 = 100;
+
+/// The changes that are timed.
+const KINDS: [Change; 6] = [
+    Change::Grant,
+    Change::Revoke,
+    Change::AddUser,
+    Change::Assign,
+    Change::AddRole,
+    Change::Inherit,
+];
 
 /// The cells `c0`, `c1` and so on.
 fn cells(alloc: Global, count: u32) -> Result<Vec<Object>, AllocError> {
@@ -39,6 +51,10 @@ fn rate(calls: u32, nanoseconds: u128) -> u128 {
     }
     u128::from(calls).saturating_mul(1_000_000_000) / nanoseconds
 }
+
+/// The size of a policy: the roles with the officer's, the grants without the officer's, and the users without the officer
+/// and the one at the top.
+type Size = (u32, u32, u32);
 
 /// Tells how many permissions a second are answered.
 fn time_permits(
@@ -89,22 +105,27 @@ fn time_sessions(rt: &HostRuntime, policy: &mut Policy, still: bool) -> io::Resu
     )
 }
 
-/// Tells how many grants a second are made, and how many taken back, each in a copy of the policy.
-fn time_changes(rt: &HostRuntime, policy: &Policy, still: bool) -> io::Result<()> {
+/// Tells how many changes of a kind a second are made, each in a copy of the policy.
+fn time_change(rt: &HostRuntime, policy: &Policy, kind: Change, still: bool) -> io::Result<()> {
+    let text = kind.text();
     let start = Instant::now(rt)?;
-    let granted = calls::changed(rt.alloc(), policy, true, CHANGES)?;
-    let grant = start.elapsed(rt)?.as_nanos();
-    let start = Instant::now(rt)?;
-    let revoked = calls::changed(rt.alloc(), policy, false, CHANGES)?;
-    let revoke = start.elapsed(rt)?.as_nanos();
+    let accepted = changes::changed(rt.alloc(), policy, kind, CHANGES)?;
+    let taken = start.elapsed(rt)?.as_nanos();
     if still {
-        return println!(rt; "  {granted} granted, {revoked} revoked");
+        return println!(rt; "  {text}: {accepted} of {CHANGES} accepted");
     }
     println!(rt;
-        "  copy and grant {} a second, copy and revoke {} a second",
-        rate(CHANGES, grant),
-        rate(CHANGES, revoke)
+        "  copy and {text} {} a second, {accepted} of {CHANGES} accepted",
+        rate(CHANGES, taken)
     )
+}
+
+/// Tells how many changes of each kind a second are made.
+fn time_changes(rt: &HostRuntime, policy: &Policy, still: bool) -> io::Result<()> {
+    for kind in KINDS {
+        time_change(rt, policy, kind, still)?;
+    }
+    Ok(())
 }
 
 /// Times the calls of a policy.
@@ -121,38 +142,33 @@ fn time_calls(
 }
 
 /// Fills a policy, and times its calls.
-fn time(
-    rt: &HostRuntime,
-    policy: &mut Policy,
-    roles: u32,
-    grants: u32,
-    still: bool,
-) -> io::Result<()> {
-    let filled = desk::fill(rt.alloc(), policy, roles, grants)?;
-    println!(rt; "{roles} roles, {grants} grants: {filled} refused")?;
+fn time(rt: &HostRuntime, policy: &mut Policy, size: Size, still: bool) -> io::Result<()> {
+    let (roles, grants, users) = size;
+    let filled = desk::fill(rt.alloc(), policy, roles, grants, users)?;
+    println!(rt; "{roles} roles, {grants} grants, {users} users more: {filled} refused")?;
     let cells = cells(rt.alloc(), grants.saturating_mul(2))?;
     time_calls(rt, policy, cells.as_slice(), still)
 }
 
-/// Times a policy of so many roles and grants.
-fn show(rt: &HostRuntime, roles: u32, grants: u32, still: bool) -> io::Result<()> {
+/// Times a policy of a size.
+fn show(rt: &HostRuntime, size: Size, still: bool) -> io::Result<()> {
     let mut policy = new_desk(rt.alloc())?;
-    time(rt, &mut policy, roles, grants, still)
+    time(rt, &mut policy, size, still)
 }
 
-/// The sizes of the policies: the roles with the officer's, and the grants without the officer's. One more
-/// grant fits.
-const SIZES: [(u32, u32); 6] = [
-    (10, 10),
-    (10, 4094),
-    (100, 100),
-    (100, 4094),
-    (512, 512),
-    (512, 4094),
+/// The sizes of the policies. One more role, grant and user fit, but the role where there are 512.
+const SIZES: [Size; 7] = [
+    (10, 10, 0),
+    (10, 4094, 0),
+    (100, 100, 0),
+    (100, 4094, 0),
+    (512, 512, 0),
+    (512, 4094, 0),
+    (511, 4094, 509),
 ];
 
 /// The sizes where no times are told.
-const STILL_SIZES: [(u32, u32); 2] = [(10, 10), (100, 100)];
+const STILL_SIZES: [Size; 2] = [(10, 10, 10), (100, 100, 0)];
 
 fn main(rt: HostRuntime) -> io::Result<()> {
     let still = env::args(&rt)?.count() > 1;
@@ -161,8 +177,8 @@ fn main(rt: HostRuntime) -> io::Result<()> {
     } else {
         SIZES.as_slice()
     };
-    for (roles, grants) in sizes {
-        show(&rt, *roles, *grants, still)?;
+    for size in sizes {
+        show(&rt, *size, still)?;
     }
     Ok(())
 }
