@@ -4,6 +4,9 @@
 //! With `--picture OUT` it draws what was checked, or with `--marker KEY` what lies round a marker, as SVG.
 #![tactic(auto)]
 
+ghost use Rattle.std.specs.Prelude.{◌≡◌, IfOk, IfErr};
+ghost use Rattle.mpw_firm.specs.Told.{IsFailure, IsMisuse};
+
 mod asked;
 mod blank;
 mod cause;
@@ -39,7 +42,9 @@ use stitch::stitch;
 use told::output_fault;
 
 /// The words of the command line.
-fn words(rt: &HostRuntime) -> Result<Vec<String>, FirmFault> {
+fn words(rt: &HostRuntime) -> Result<Vec<String>, FirmFault>
+    ensures { IfErr result IsMisuse }
+{
     match env::args(rt) {
         Ok(arguments) => Ok(arguments.collect(rt.alloc())?),
         Err(error) if error.kind() == io::ErrorKind::OutOfMemory => Err(FirmFault::Memory),
@@ -51,7 +56,10 @@ fn words(rt: &HostRuntime) -> Result<Vec<String>, FirmFault> {
 }
 
 /// Prints the help or the version.
-fn print_told(rt: &HostRuntime, text: &str) -> Result<usize, FirmFault> {
+fn print_told(rt: &HostRuntime, text: &str) -> Result<usize, FirmFault>
+    ensures none { IfOk result (λ markers. markers ≡ 0) }
+    ensures failed { IfErr result IsFailure }
+{
     match print!(rt; "{text}") {
         Ok(()) => Ok(0),
         Err(_) => Err(output_fault(rt.alloc())),

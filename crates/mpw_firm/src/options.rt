@@ -1,9 +1,12 @@
 //! The command line.
+ghost use Rattle.std.specs.Prelude.{◌≡◌, IfOk, IfErr};
+ghost use Rattle.mpw_firm.specs.Told.{IsMisuse, Misuses};
 
 use crate::fault::FirmFault;
 use crate::out_file::{free_option, out_file};
 use crate::picture_options::{Wanted, read_wanted, with_picture};
 use crate::stitch_options::{StitchOptions, read_stitch};
+use crate::told::misused;
 use clap::error::ErrorKind;
 use clap::{Arg, ArgAction, ArgMatches, Command, Error};
 use mpw_geom::{Name, NameFault};
@@ -87,15 +90,17 @@ fn command<'a>(alloc: Global) -> Result<Command<'a>, AllocError> {
 }
 
 /// A fault of the command line, with its text.
-pub fn usage(alloc: Global, text: &str) -> FirmFault {
-    match String::from_str(alloc, text) {
-        Ok(text) => FirmFault::Usage(text),
-        Err(_) => FirmFault::Memory,
-    }
+pub fn usage(alloc: Global, text: &str) -> FirmFault
+    ensures { Misuses text.now result }
+{
+    misused(String::from_str(alloc, text))
 }
 
 /// The name of a structure that a text is.
-fn read_top(alloc: Global, text: &str) -> Result<Name, FirmFault> {
+fn read_top(alloc: Global, text: &str) -> Result<Name, FirmFault>
+    ensures top { IfOk result (λ top. top ≡ text.now) }
+    ensures refused { IfErr result IsMisuse }
+{
     match Name::read(alloc, text.as_bytes()) {
         Ok(top) => Ok(top),
         Err(NameFault::BadName) => Err(usage(
@@ -112,7 +117,9 @@ fn read_tiles(
     tiles: Option<&str>,
     report: Option<&str>,
     picture: Option<&str>,
-) -> Result<Option<TileRange>, FirmFault> {
+) -> Result<Option<TileRange>, FirmFault>
+    ensures { IfErr result IsMisuse }
+{
     let Some(tiles) = tiles else {
         return Ok(None);
     };
@@ -138,7 +145,9 @@ fn read_tiles(
 }
 
 /// What the command line's words give.
-fn given(alloc: Global, matches: &ArgMatches<'_>) -> Result<Options, FirmFault> {
+fn given(alloc: Global, matches: &ArgMatches<'_>) -> Result<Options, FirmFault>
+    ensures { IfErr result IsMisuse }
+{
     let words = (
         matches.get_str("deck"),
         matches.get_str("top"),
@@ -172,7 +181,9 @@ fn given(alloc: Global, matches: &ArgMatches<'_>) -> Result<Options, FirmFault> 
 }
 
 /// What an error of `clap` asks for: the help or the version, or it is a fault.
-pub fn asked_by(alloc: Global, error: Error) -> Result<Asked, FirmFault> {
+pub fn asked_by(alloc: Global, error: Error) -> Result<Asked, FirmFault>
+    ensures { IfErr result IsMisuse }
+{
     if error.kind() == ErrorKind::OutOfMemory {
         return Err(FirmFault::Memory);
     }
@@ -185,7 +196,9 @@ pub fn asked_by(alloc: Global, error: Error) -> Result<Asked, FirmFault> {
 }
 
 /// What the words of a check's command line ask for, the program's name first.
-fn read_check<'a>(alloc: Global, words: &'a [&'a str]) -> Result<Asked, FirmFault> {
+fn read_check<'a>(alloc: Global, words: &'a [&'a str]) -> Result<Asked, FirmFault>
+    ensures { IfErr result IsMisuse }
+{
     match command(alloc)?.try_get_matches_from(words) {
         Ok(matches) => Ok(Asked::Check(given(alloc, &matches)?)),
         Err(error) => asked_by(alloc, error),
@@ -197,7 +210,9 @@ fn read_check<'a>(alloc: Global, words: &'a [&'a str]) -> Result<Asked, FirmFaul
 ///
 /// # Errors
 /// `Usage`, with a text that says what is wrong and what is accepted; and `Memory`.
-pub fn read_options<'a>(alloc: Global, words: &'a [&'a str]) -> Result<Asked, FirmFault> {
+pub fn read_options<'a>(alloc: Global, words: &'a [&'a str]) -> Result<Asked, FirmFault>
+    ensures { IfErr result IsMisuse }
+{
     match words {
         [_, first, rest @ ..] if *first == "stitch" => read_stitch(alloc, rest),
         _ => read_check(alloc, words),

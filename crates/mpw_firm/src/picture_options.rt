@@ -1,4 +1,6 @@
 //! The picture that a command line asks for.
+ghost use Rattle.std.specs.Prelude.{IfErr};
+ghost use Rattle.mpw_firm.specs.Told.{IsMisuse};
 
 use crate::fault::FirmFault;
 use crate::options::usage;
@@ -49,7 +51,9 @@ pub fn read_wanted(
     file: Option<&str>,
     key: Option<&str>,
     others: &[&str],
-) -> Result<Option<Wanted>, FirmFault> {
+) -> Result<Option<Wanted>, FirmFault>
+    ensures { IfErr result IsMisuse }
+{
     match out_file(
         alloc,
         "picture",

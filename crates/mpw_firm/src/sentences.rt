@@ -78,8 +78,9 @@ pub fn of_structure(fault: HierFault) -> &'static str {
 pub fn of_deck(kind: DeckKind) -> &'static str {
     match kind {
         DeckKind::Word =>
-            "a line is 'tile SIDE', or 'CHECK NAME LAYER.. DISTANCE' with width, space, separation or enclosing",
-        DeckKind::Number => "a distance is 1 to 65535 nm",
+            "a line is 'tile SIDE', or 'CHECK NAME LAYER.. DISTANCE' with width, space, separation or enclosing; no line is empty or a comment",
+        DeckKind::Number =>
+            "a distance is 1 to 65535 nm, and a tile's side 256 to 2^30 nm; lines end with a line feed alone",
         DeckKind::Layer => "a layer is two numbers to 65535 with a slash between them, as 1/0",
         DeckKind::SameLayer => "separation and enclosing take two different layers",
         DeckKind::DoubleRule => "each rule has a name of its own",

@@ -1,4 +1,6 @@
 //! The command line of `mpw stitch`.
+ghost use Rattle.std.specs.Prelude.{IfErr};
+ghost use Rattle.mpw_firm.specs.Told.{IsMisuse};
 
 use crate::fault::FirmFault;
 use crate::options::{Asked, VERSION, asked_by, usage};
@@ -53,7 +55,9 @@ fn copied(alloc: Global, words: &[&str]) -> Result<Vec<String>, AllocError> {
 }
 
 /// What the command line's words give.
-fn given(alloc: Global, matches: &ArgMatches<'_>) -> Result<StitchOptions, FirmFault> {
+fn given(alloc: Global, matches: &ArgMatches<'_>) -> Result<StitchOptions, FirmFault>
+    ensures { IfErr result IsMisuse }
+{
     let Some(files) = matches.get_strs("part") else {
         return Err(usage(alloc, "error: a part has to be given"));
     };
@@ -80,7 +84,9 @@ fn named<'a>(alloc: Global, words: &[&'a str]) -> Result<Vec<&'a str>, AllocErro
 ///
 /// # Errors
 /// `Usage`, with a text that says what is wrong and what is accepted; and `Memory`.
-pub fn read_stitch(alloc: Global, words: &[&str]) -> Result<Asked, FirmFault> {
+pub fn read_stitch(alloc: Global, words: &[&str]) -> Result<Asked, FirmFault>
+    ensures { IfErr result IsMisuse }
+{
     let words = named(alloc, words)?;
     match command(alloc)?.try_get_matches_from(words.as_slice()) {
         Ok(matches) => Ok(Asked::Stitch(given(alloc, &matches)?)),

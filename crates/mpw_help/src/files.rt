@@ -172,7 +172,7 @@ static DECK: [Entry; 7] = [
         meaning: "a line of the deck isn't one",
         detail: Detail::Refusal {
             number: "51",
-            remedy: "a line is 'tile SIDE', or 'CHECK NAME LAYER.. DISTANCE' with width, space, separation or enclosing",
+            remedy: "a line is 'tile SIDE', or 'CHECK NAME LAYER.. DISTANCE' with width, space, separation or enclosing; no line is empty or a comment",
         },
     },
     Entry {
@@ -181,7 +181,7 @@ static DECK: [Entry; 7] = [
         meaning: "a number of the deck isn't one",
         detail: Detail::Refusal {
             number: "52",
-            remedy: "a distance is 1 to 65535 nm, and a tile's side 256 to 2^30 nm",
+            remedy: "a distance is 1 to 65535 nm, and a tile's side 256 to 2^30 nm; lines end with a line feed alone",
         },
     },
     Entry {
