@@ -22,7 +22,7 @@ use std::thread::Threads;
 const ONLY_RUN: u32 = 1;
 
 /// The greatest number of tiles of a batch.
-const BATCH: u32 = 128;
+const MAX_BATCH: u32 = 128;
 
 /// A snapshot with its plan, and the windows into which it is cut for it.
 #[derive(Clone, Copy)]
@@ -130,7 +130,7 @@ fn tile_lists<P: Progress>(
     let mut lists = Vec::new(alloc);
     let mut reached = first;
     while reached < end {
-        let next = reached.saturating_add(BATCH).min(end);
+        let next = reached.saturating_add(MAX_BATCH).min(end);
         let mut batch = batch_lists(rt, alloc, layout, reached, next)?;
         lists.append(&mut batch)?;
         progress.tell(lists.len(), total);

@@ -26,7 +26,7 @@ use mpw_region::{exchange, row_bands};
 use std::alloc::{AllocError, Global};
 
 /// Halvings of a core.
-const DEPTH: u32 = 60;
+const MAX_DEPTH: u32 = 60;
 
 /// Adds a strip with the bands of the layers.
 fn add_strip(
@@ -92,7 +92,7 @@ fn along_rows(
 {
     let layers = in_window(alloc, distance, first, second, &core)?;
     let mut strips = Vec::new(alloc);
-    add_core(alloc, &mut strips, &layers, core, distance, DEPTH)?;
+    add_core(alloc, &mut strips, &layers, core, distance, MAX_DEPTH)?;
     Ok(strips)
 }
 

@@ -6,7 +6,7 @@ ghost use Rattle.mpw_hier.specs.Boxes.{joined, hull, has_area, is_near, is_box_n
 use mpw_geom::Box2;
 
 /// How far from 0 a coordinate of an extent may lie, in nm.
-const REACH: i128 = 1 << 30;
+const MAX_COORDINATE: i128 = 1 << 30;
 
 /// The least box that holds two.
 pub fn joined(a: Box2, b: Box2) -> Box2
@@ -42,7 +42,7 @@ pub fn has_area(b: Box2) -> bool
 pub fn is_near(z: i128) -> bool
     ensures { result ≡ is_near z }
 {
-    -REACH <= z && z <= REACH
+    -MAX_COORDINATE <= z && z <= MAX_COORDINATE
 }
 
 /// Whether both corners lie from -2^30 to 2^30 nm, as those of each extent on a shelf do.

@@ -17,7 +17,7 @@ use mpw_markers::Met;
 use std::alloc::{AllocError, Global};
 
 /// Halvings at most.
-const DEPTH: u32 = 40;
+const MAX_DEPTH: u32 = 40;
 
 /// So few boxes, or rectangles, are not divided further.
 const FEW: usize = 16;
@@ -156,6 +156,6 @@ pub fn met_origins(
 {
     let items = items(alloc, boxes)?;
     let mut mets = none(alloc, boxes.len())?;
-    fill(alloc, &mut mets, items, &[], rectangles, DEPTH)?;
+    fill(alloc, &mut mets, items, &[], rectangles, MAX_DEPTH)?;
     Ok(mets)
 }

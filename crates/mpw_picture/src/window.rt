@@ -12,7 +12,7 @@ use mpw_markers::Marker;
 use mpw_tiles::Snapshot;
 
 /// The farthest coordinate of the plane, in nm.
-const FAR: i64 = 1 << 48;
+const MAX_COORDINATE: i64 = 1 << 48;
 
 /// The greatest distance of the rules, in nm; 0 without rules.
 fn greatest_distance(rules: &[Rule]) -> u32
@@ -29,14 +29,18 @@ fn greatest_distance(rules: &[Rule]) -> u32
 fn below(z: i64, by: u64) -> i64
     ensures { result ≡ nearest (z -ℤ pos by) }
 {
-    z.saturating_sub_unsigned(by).max(-FAR).min(FAR)
+    z.saturating_sub_unsigned(by)
+        .max(-MAX_COORDINATE)
+        .min(MAX_COORDINATE)
 }
 
 /// A coordinate so many nm above another, or the nearest of the plane.
 fn above(z: i64, by: u64) -> i64
     ensures { result ≡ nearest (z +ℤ pos by) }
 {
-    z.saturating_add_unsigned(by).max(-FAR).min(FAR)
+    z.saturating_add_unsigned(by)
+        .max(-MAX_COORDINATE)
+        .min(MAX_COORDINATE)
 }
 
 /// A box that is wider by so many nm on each side, as far as the plane goes.

@@ -6,7 +6,7 @@ use mpw_text::{parts, read_number};
 use std::alloc::{AllocError, Global};
 
 /// The greatest number that is read.
-const GREATEST: u32 = 4096;
+const MAX_NUMBER: u32 = 4096;
 
 /// Tiles of a plan, asked for.
 #[derive(Clone, Copy)]
@@ -91,7 +91,7 @@ fn read_share(words: &[&[u8]]) -> Option<TileRange>
     let [number, count] = words else {
         return None;
     };
-    let count = read_number(count, 1, GREATEST)?;
+    let count = read_number(count, 1, MAX_NUMBER)?;
     let number = read_number(number, 1, count)?;
     Some(TileRange::Share(number, count))
 }
@@ -104,7 +104,7 @@ fn read_tiles(words: &[&[u8]]) -> Option<TileRange>
     let [first, last] = words else {
         return None;
     };
-    let last = read_number(last, 0, GREATEST)?;
+    let last = read_number(last, 0, MAX_NUMBER)?;
     let first = read_number(first, 0, last)?;
     Some(TileRange::Tiles(first, last))
 }

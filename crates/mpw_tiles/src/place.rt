@@ -10,20 +10,24 @@ ghost use Rattle.mpw_tiles.specs.Internal.Placed.{nearest, nearest_point};
 use mpw_geom::{Box2, Orient, Placing, Point};
 
 /// The farthest coordinate of the plane, in nm.
-const FAR: i64 = 1 << 48;
+const MAX_COORDINATE: i64 = 1 << 48;
 
 /// The sum, or the nearest coordinate of the plane.
 fn plus(z: i64, by: i64) -> i64
     ensures { result ≡ nearest (z +ℤ by) }
 {
-    z.saturating_add(by).max(-FAR).min(FAR)
+    z.saturating_add(by)
+        .max(-MAX_COORDINATE)
+        .min(MAX_COORDINATE)
 }
 
 /// The difference `by - z`, or the nearest coordinate of the plane.
 fn minus(z: i64, by: i64) -> i64
     ensures { result ≡ nearest (neg_ℤ z +ℤ by) }
 {
-    by.saturating_sub(z).max(-FAR).min(FAR)
+    by.saturating_sub(z)
+        .max(-MAX_COORDINATE)
+        .min(MAX_COORDINATE)
 }
 
 /// Where the placing takes the point, or the nearest point of the plane.
