@@ -1,5 +1,5 @@
 -- A listing tells of a layout nothing but its deck's rules and its structure's name.
-use Rattle.std.proofs.Common.{◌≡◌, ◌∙◌, ℕ, zero, suc, Bool, true, cond, ◌||◌, List, [], ◌∷◌, ◌++◌, filter, refl, sym, ap, subst, slice_get, Option, None, Some, Result, Ok, Err}
+use Rattle.std.proofs.Common.{◌≡◌, ◌∙◌, ℕ, zero, suc, Bool, true, cond, List, [], ◌∷◌, ◌++◌, filter, refl, sym, ap, subst, slice_get, Option, None, Some, Result, Ok, Err}
 use Rattle.std.specs.Prelude.{IfOk}
 use Rattle.std.specs.List.{flat_map, list_any}
 use Rattle.mpw_deck.specs.Decks.{Deck}
@@ -11,7 +11,7 @@ use Rattle.mpw_markers.specs.Markers.{key_of}
 use Rattle.mpw_check.specs.Drawn.{drawn, drawn_shelf, IsDrawnFrom}
 use Rattle.mpw_job.specs.Laws.{LayoutDeterminesMarkers}
 use Rattle.mpw_parts.specs.Parts.{Checked, Found}
-use Rattle.mpw_replies.specs.Listing.{Listed, marker}
+use Rattle.mpw_replies.specs.Listing.{marker}
 use Rattle.mpw_replies.specs.Sight.{is_full, is_of, cells_on, met_cells, line_for, full_line, full_lines, masked_lines}
 use Rattle.mpw_replies.specs.declared.reply.Reply.TheVariants as reply
 use Rattle.mpw_spread.specs.Spread.{PartsMakeTheLayout}

@@ -1,5 +1,5 @@
 -- What led to a library's fault, by the record that has it and the one behind it.
-use Rattle.std.specs.Prelude.{ℕ, ◌+◌, ◌*◌, ◌==◌, ◌&&◌, ◌||◌, Bool, false, List, [], ◌∷◌, drop, slice_get, Option, None, Some, if◌then◌else◌}
+use Rattle.std.specs.Prelude.{ℕ, ◌+◌, ◌*◌, ◌==◌, ◌||◌, Bool, false, List, ◌∷◌, drop, slice_get, Option, None, Some, if◌then◌else◌}
 use Rattle.mpw_records.specs.declared.fault.Code.{Code}
 use Rattle.mpw_records.specs.declared.fault.Code.TheVariants.{NotManhattan, PointPath, Unexpected}
 use Rattle.mpw_records.specs.declared.fault.ReadFault.{ReadFault}

@@ -1,5 +1,5 @@
 -- The exit status of a check.
-use Rattle.std.specs.Prelude.{ℕ, ◌<◌, Bool, List, length, Result, Ok, Err, nat_lt, if◌then◌else◌}
+use Rattle.std.specs.Prelude.{ℕ, Bool, List, length, Result, Ok, Err, nat_lt, if◌then◌else◌}
 use Rattle.mpw_markers.specs.declared.marker.Marker.{Marker}
 use Rattle.mpw_firm.specs.declared.fault.FirmFault.{FirmFault}
 use Rattle.mpw_firm.specs.declared.fault.FirmFault.TheVariants.{Usage, Device, Refused, Memory}

@@ -1,5 +1,5 @@
 -- What is told of parts, and of tiles that a plan hasn't.
-use Rattle.std.specs.Prelude.{◌≡◌, ◌+◌, ◌&&◌, ℕ, Bool, nat_le, nat_lt, List, [], ◌++◌, codes, length, slice_get, Option, None, Some, if◌then◌else◌}
+use Rattle.std.specs.Prelude.{◌+◌, ◌&&◌, ℕ, Bool, nat_le, nat_lt, List, [], ◌++◌, codes, length, slice_get, Option, None, Some, if◌then◌else◌}
 use Rattle.std.specs.List.{flat_map}
 use Rattle.std.specs.Fmt.{decimal}
 use Rattle.mpw_parts.specs.Parts.{Found}
