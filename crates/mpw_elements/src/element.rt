@@ -4,6 +4,7 @@ ghost use Rattle.std.specs.Prelude.{◌≡◌, ◌↔◌, IfOk, IsTrue};
 
 use crate::points::Points;
 use mpw_geom::{Layer, Name, Orient, Point};
+use mpw_lists::Same;
 use std::alloc::AllocError;
 
 /// A polygon by its corners in file order, without the closing point (GDSII Stream, BOUNDARY and
@@ -183,11 +184,11 @@ impl Element {
             Element::Reference(reference) => Ok(Element::Reference(reference.copy()?)),
         }
     }
+}
 
+impl Same for Element {
     /// Whether the elements are the same. Linear in the points, up to the first difference; it takes no memory.
-    pub fn is_same(&self, other: &Element) -> bool
-        ensures { IsTrue result ↔ (self.now ≡ other.now) }
-    {
+    fn is_same(&self, other: &Element) -> bool {
         match (self, other) {
             (Element::Boundary(a), Element::Boundary(b)) => a.is_same(b),
             (Element::Path(a), Element::Path(b)) => a.is_same(b),

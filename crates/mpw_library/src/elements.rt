@@ -3,6 +3,7 @@
 ghost use Rattle.std.specs.Prelude.{◌≡◌, ◌↔◌, IsTrue};
 
 use mpw_elements::Element;
+use mpw_lists::are_same;
 use std::marker::Model;
 
 /// The elements of a structure in file order.
@@ -55,19 +56,4 @@ impl Elements {
     {
         are_same(&self.items, &other.items)
     }
-}
-
-/// Whether the elements are the same, in order.
-fn are_same(first: &[Element], second: &[Element]) -> bool
-    ensures { IsTrue result ↔ (first.now ≡ second.now) }
-{
-    if first.len() != second.len() {
-        return false;
-    }
-    for i in 0..first.len() {
-        if !first[i].is_same(&second[i]) {
-            return false;
-        }
-    }
-    true
 }

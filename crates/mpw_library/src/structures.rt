@@ -5,6 +5,7 @@ ghost use Rattle.mpw_library.specs.Places.{place_of};
 
 use crate::elements::Elements;
 use mpw_geom::Name;
+use mpw_lists::{Same, are_same};
 use std::alloc::{AllocError, Global};
 use std::collections::BTreeMap;
 use std::marker::Model;
@@ -23,12 +24,10 @@ impl Drop for Structure {
     }
 }
 
-impl Structure {
+impl Same for Structure {
     /// Whether the structures have the same name and the same elements, in order. Linear in the elements' points, up to the
     /// first difference; it takes no memory.
-    pub fn is_same(&self, other: &Structure) -> bool
-        ensures { IsTrue result ↔ (self.now ≡ other.now) }
-    {
+    fn is_same(&self, other: &Structure) -> bool {
         self.name == other.name && self.elements.is_same(&other.elements)
     }
 }
@@ -108,19 +107,4 @@ impl Structures {
     {
         are_same(&self.items, &other.items)
     }
-}
-
-/// Whether the structures are the same, in order.
-fn are_same(first: &[Structure], second: &[Structure]) -> bool
-    ensures { IsTrue result ↔ (first.now ≡ second.now) }
-{
-    if first.len() != second.len() {
-        return false;
-    }
-    for i in 0..first.len() {
-        if !first[i].is_same(&second[i]) {
-            return false;
-        }
-    }
-    true
 }
