@@ -10,6 +10,7 @@ pub mod InheritLemmas
 pub mod KeepLemmas
 pub mod LawLemmas
 pub mod MaskedLemmas
+pub mod NamedLemmas
 pub mod ObjectLemmas
 pub mod PlacedLemmas
 pub mod RowLemmas

@@ -1,7 +1,8 @@
 //! The grants in their order, in blocks that copies share.
 //!
-//! A block never changes. A grant more copies the last block, or begins one; a grant less copies the block that it stands
-//! in, which its slot tells apart from most others; every other block costs a count.
+//! A block never changes. The last one stands beside the others, which copies share as a whole: a grant more copies the last
+//! block, and where that is full begins another, which costs a count for each. A grant less copies the block that it stands
+//! in, which its slot tells apart from most others, and costs a count for each other one, unless it stands in the last.
 ghost use Rattle.std.specs.Prelude.{◌≡◌, ◌∷◌, ◌++◌, [], true, not, filter, length, nat_lt, IfOk, OnOk};
 ghost use Rattle.std.specs.List.{list_any, flat_map};
 ghost use Rattle.mpw_geom.specs.Names.{name_eq};
@@ -9,7 +10,6 @@ ghost use Rattle.mpw_rbac.specs.Grant.{grant_eq};
 ghost use Rattle.mpw_rbac.specs.Internal.Grants.{IsCovered, without_grant};
 ghost use Rattle.mpw_rbac.specs.Internal.Holders.{slot};
 ghost use Rattle.mpw_rbac.specs.Rows.{ungranted};
-ghost use Rattle.mpw_rbac.specs.declared.permission.Grant.{Grant as GrantState};
 
 use crate::Grant;
 use crate::bucket::slot;
@@ -20,7 +20,7 @@ use std::marker::Model;
 use std::sync::Arc;
 
 /// How many grants a block has at most.
-const BLOCK: usize = 64;
+const BLOCK: usize = 32;
 
 /// Some grants in their order, and the slots of their objects: there may be more slots.
 pub(crate) struct Block {
@@ -182,23 +182,6 @@ impl Block {
     }
 }
 
-/// Adds a grant at the end: to the last block, where it has room, and else to a new one.
-#[tactic(auto, using(crate::proofs::BlockLemmas::flat_last))]
-fn append(alloc: Global, blocks: &mut Vec<Block>, grant: &Grant) -> Result<(), AllocError>
-    ensures { OnOk result (flat_map (λ block. block) blocks.new.items ≡ flat_map (λ block. block) blocks.old.items ++ grant.now ∷ []) }
-{
-    let last = match blocks.pop() {
-        Some(last) if last.as_slice().len() < BLOCK => last,
-        Some(last) => {
-            blocks.push(last)?;
-            Block::new(alloc)?
-        }
-        None => Block::new(alloc)?,
-    };
-    blocks.push(last.with(alloc, grant)?)?;
-    Ok(())
-}
-
 /// Adds a block that isn't empty.
 #[tactic(auto, using(crate::proofs::BlockLemmas::flat_last))]
 fn keep(blocks: &mut Vec<Block>, block: Block) -> Result<(), AllocError>
@@ -210,31 +193,33 @@ fn keep(blocks: &mut Vec<Block>, block: Block) -> Result<(), AllocError>
     Ok(())
 }
 
-/// Grants in the order in which they were added, which copies share.
+/// Grants in the order in which they were added, which copies share: blocks, and the last one behind them.
 pub(crate) struct Grants {
     blocks: Arc<Vec<Block>>,
+    last: Block,
 }
 
 impl Drop for Grants {
     fn drop(self) {
-        let Grants { blocks } = self;
+        let Grants { blocks, last } = self;
         drop(blocks);
+        drop(last);
     }
 }
 
 impl Model for Grants {
-    ghost use Rattle.std.specs.Prelude.{List};
+    ghost use Rattle.std.specs.Prelude.{List, ◌++◌};
     ghost use Rattle.std.specs.List.{flat_map};
     ghost use Rattle.mpw_rbac.specs.declared.permission.Grant.{Grant};
 
     ghost Value = { List Grant };
 
-    ghost view = { λ grants. flat_map (λ block. block) grants.blocks.value.items };
+    ghost view = { λ grants. flat_map (λ block. block) grants.blocks.value.items ++ grants.last };
 }
 
-/// Whether there are fewer grants than so many.
-fn is_shorter(blocks: &[Block], limit: usize) -> bool
-    ensures { result ≡ nat_lt (length (flat_map (λ block. block) blocks.now)) limit }
+/// Whether there are fewer grants than so many in blocks and the last one.
+fn is_shorter(blocks: &[Block], last: &[Grant], limit: usize) -> bool
+    ensures { result ≡ nat_lt (length (flat_map (λ block. block) blocks.now ++ last.now)) limit }
 {
     let mut room = limit;
     for block in blocks {
@@ -244,39 +229,16 @@ fn is_shorter(blocks: &[Block], limit: usize) -> bool
         }
         room -= count;
     }
-    room > 0
+    room > last.len()
 }
 
 /// Whether that is a grant of one of the blocks.
-fn is_among(blocks: &[Block], grant: &Grant) -> bool
+fn is_among(blocks: &[Block], at: usize, grant: &Grant) -> bool
+    requires { at ≡ slot grant.now.object }
     ensures { result ≡ list_any (grant_eq grant.now) (flat_map (λ block. block) blocks.now) }
 {
-    let at = slot(&grant.object);
     for block in blocks {
         if block.contains(at, grant) {
-            return true;
-        }
-    }
-    false
-}
-
-/// Whether one of the grants is to the role.
-fn is_named(grants: &[Grant], role: &Name) -> bool
-    ensures { result ≡ list_any (λ (grant : GrantState). name_eq role.now grant.role) grants.now }
-{
-    grants.iter().any(
-        |grant: &Grant| -> bool
-            ensures { result ≡ name_eq role.entry.now grant.now.role }
-        { *role == grant.role },
-    )
-}
-
-/// Whether a grant of one of the blocks is to the role.
-fn is_named_among(blocks: &[Block], role: &Name) -> bool
-    ensures { result ≡ list_any (λ (grant : GrantState). name_eq role.now grant.role) (flat_map (λ block. block) blocks.now) }
-{
-    for block in blocks {
-        if is_named(block.as_slice(), role) {
             return true;
         }
     }
@@ -295,10 +257,15 @@ fn blocks_copied(alloc: Global, blocks: &[Block]) -> Result<Vec<Block>, AllocErr
 }
 
 /// The blocks without a grant.
-fn blocks_without(alloc: Global, blocks: &[Block], grant: &Grant) -> Result<Vec<Block>, AllocError>
+fn blocks_without(
+    alloc: Global,
+    blocks: &[Block],
+    at: usize,
+    grant: &Grant,
+) -> Result<Vec<Block>, AllocError>
+    requires { at ≡ slot grant.now.object }
     ensures { IfOk result (λ left. flat_map (λ block. block) left.items ≡ without_grant (flat_map (λ block. block) blocks.now) grant.now) }
 {
-    let at = slot(&grant.object);
     let mut left = Vec::with_capacity(alloc, blocks.len())?;
     for block in blocks {
         keep(&mut left, block.without(alloc, at, grant)?)?;
@@ -317,82 +284,99 @@ fn blocks_ungranted(alloc: Global, blocks: &[Block], role: &Name) -> Result<Vec<
     Ok(left)
 }
 
+/// The blocks without a grant, which stay shared where it isn't there.
+fn shared_without(
+    alloc: Global,
+    blocks: &Arc<Vec<Block>>,
+    at: usize,
+    grant: &Grant,
+) -> Result<Arc<Vec<Block>>, AllocError>
+    requires { at ≡ slot grant.now.object }
+    ensures { IfOk result (λ left. flat_map (λ block. block) left.value.items ≡ without_grant (flat_map (λ block. block) blocks.now.value.items) grant.now) }
+{
+    if !is_among(blocks, at, grant) {
+        let same = blocks.clone()?;
+        return Ok(same);
+    }
+    let left = blocks_without(alloc, blocks, at, grant)?;
+    Ok(Arc::new(alloc, left)?)
+}
+
 impl Grants {
-    /// The grants of these blocks.
-    fn of_blocks(alloc: Global, blocks: Vec<Block>) -> Result<Grants, AllocError>
-        ensures { IfOk result (λ grants. grants ≡ flat_map (λ block. block) blocks.items) }
+    /// The grants of these blocks, and of the last one.
+    fn of(blocks: Arc<Vec<Block>>, last: Block) -> Grants
+        ensures { result ≡ flat_map (λ block. block) blocks.value.items ++ last }
     {
-        Ok(Grants {
-            blocks: Arc::new(alloc, blocks)?,
-        })
+        Grants { blocks, last }
     }
 
     /// One grant.
     pub(crate) fn one(alloc: Global, grant: &Grant) -> Result<Grants, AllocError>
         ensures { IfOk result (λ grants. grants ≡ grant.now ∷ []) }
     {
-        let mut blocks = Vec::new(alloc);
-        append(alloc, &mut blocks, grant)?;
-        Grants::of_blocks(alloc, blocks)
+        let blocks = Arc::new(alloc, Vec::new(alloc))?;
+        let last = Block::new(alloc)?.with(alloc, grant)?;
+        Ok(Grants::of(blocks, last))
     }
 
-    /// Its blocks.
-    pub(crate) fn blocks(&self) -> &[Block]
-        ensures { flat_map (λ block. block) result.now ≡ self.now }
+    /// Its blocks but the last, and the grants of that.
+    pub(crate) fn parts(&self) -> (&[Block], &[Grant])
+        ensures { flat_map (λ block. block) result.0.now ++ result.1.now ≡ self.now }
     {
-        self.blocks.as_slice()
+        (self.blocks.as_slice(), self.last.as_slice())
     }
 
-    /// The same grants: one count.
+    /// The same grants: two counts.
     pub(crate) fn copy(&self) -> Result<Grants, AllocError>
         ensures { IfOk result (λ grants. grants ≡ self.now) }
     {
-        Ok(Grants {
-            blocks: self.blocks.clone()?,
-        })
+        let blocks = self.blocks.clone()?;
+        let last = self.last.copy()?;
+        Ok(Grants { blocks, last })
     }
 
     /// Whether there are fewer than so many: a look at each block.
     pub(crate) fn is_shorter(&self, limit: usize) -> bool
         ensures { result ≡ nat_lt (length self.now) limit }
     {
-        is_shorter(&self.blocks, limit)
+        is_shorter(&self.blocks, self.last.as_slice(), limit)
     }
 
-    /// Whether that is one of the grants: a bit for each block, and comparisons in those with the slot of its object.
-    pub(crate) fn contains(&self, grant: &Grant) -> bool
-        ensures { result ≡ list_any (grant_eq grant.now) self.now }
-    {
-        is_among(&self.blocks, grant)
-    }
-
-    /// Whether one of the grants is to the role: a comparison for each grant.
-    pub(crate) fn names(&self, role: &Name) -> bool
-        ensures { result ≡ list_any (λ (grant : GrantState). name_eq role.now grant.role) self.now }
-    {
-        is_named_among(&self.blocks, role)
-    }
-
-    /// The grants with one more: a count for each block, and a copy of the last.
+    /// The grants with one more: a copy of the last block, and where that is full a count for each other one.
+    #[tactic(auto, using(crate::proofs::BlockLemmas::flat_last))]
     pub(crate) fn with(&self, alloc: Global, grant: &Grant) -> Result<Grants, AllocError>
         ensures { IfOk result (λ grants. grants ≡ self.now ++ grant.now ∷ []) }
     {
+        if self.last.as_slice().len() < BLOCK {
+            let blocks = self.blocks.clone()?;
+            let last = self.last.with(alloc, grant)?;
+            return Ok(Grants::of(blocks, last));
+        }
         let mut blocks = blocks_copied(alloc, &self.blocks)?;
-        append(alloc, &mut blocks, grant)?;
-        Grants::of_blocks(alloc, blocks)
+        blocks.push(self.last.copy()?)?;
+        let last = Block::new(alloc)?.with(alloc, grant)?;
+        Ok(Grants::of(Arc::new(alloc, blocks)?, last))
     }
 
-    /// The grants without one: a count for each block, and a copy of the one that it stands in.
+    /// The grants without one: a copy of the last block where it stands there, and else of its block, and a count for each
+    /// other one.
+    #[tactic(auto, using(crate::proofs::BlockLemmas::filter_append))]
     pub(crate) fn without(&self, alloc: Global, grant: &Grant) -> Result<Grants, AllocError>
         ensures { IfOk result (λ grants. grants ≡ without_grant self.now grant.now) }
     {
-        Grants::of_blocks(alloc, blocks_without(alloc, &self.blocks, grant)?)
+        let at = slot(&grant.object);
+        let blocks = shared_without(alloc, &self.blocks, at, grant)?;
+        let last = self.last.without(alloc, at, grant)?;
+        Ok(Grants::of(blocks, last))
     }
 
     /// The grants without those to a role: a copy of each block.
+    #[tactic(auto, using(crate::proofs::BlockLemmas::filter_append))]
     pub(crate) fn ungranted(&self, alloc: Global, role: &Name) -> Result<Grants, AllocError>
         ensures { IfOk result (λ grants. grants ≡ ungranted self.now role.now) }
     {
-        Grants::of_blocks(alloc, blocks_ungranted(alloc, &self.blocks, role)?)
+        let blocks = Arc::new(alloc, blocks_ungranted(alloc, &self.blocks, role)?)?;
+        let last = self.last.ungranted(alloc, role)?;
+        Ok(Grants::of(blocks, last))
     }
 }

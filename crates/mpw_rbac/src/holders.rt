@@ -12,7 +12,7 @@ ghost use Rattle.mpw_rbac.specs.declared.permission.Grant.{Grant as GrantState};
 ghost use Rattle.mpw_rbac.specs.declared.permission.Object.{Object as ObjectState};
 
 use crate::bucket::{BUCKETS, Bucket, bucket_of};
-use crate::grants::Block;
+use crate::grants::{Block, Grants};
 use crate::{Grant, Object, Operation};
 use mpw_roles::{Mask, Roles};
 use std::alloc::{AllocError, Global};
@@ -255,19 +255,34 @@ fn add_all(
     Ok(())
 }
 
+/// Adds the grants of blocks to the holders of the operation with that place among all.
+fn add_blocks(
+    holders: &mut Holders,
+    roles: &Roles,
+    operation: usize,
+    blocks: &[Block],
+) -> Result<(), AllocError>
+    ensures { OnOk result ((done : List GrantState) → IsHeld (role_names roles.now) done operation holders.old → IsHeld (role_names roles.now) (done ++ flat_map (λ block. block) blocks.now) operation holders.new) }
+{
+    for block in blocks {
+        add_all(holders, roles, operation, block.as_slice())?;
+    }
+    Ok(())
+}
+
 /// The holders of the operation with that place among all. One pass over the grants.
 fn holders_of(
     alloc: Global,
     roles: &Roles,
-    blocks: &[Block],
+    granted: &Grants,
     operation: usize,
 ) -> Result<Holders, AllocError>
-    ensures { IfOk result (λ holders. IsHeld (role_names roles.now) (flat_map (λ block. block) blocks.now) operation holders) }
+    ensures { IfOk result (λ holders. IsHeld (role_names roles.now) granted.now operation holders) }
 {
     let mut holders = Holders::new(alloc)?;
-    for block in blocks {
-        add_all(&mut holders, roles, operation, block.as_slice())?;
-    }
+    let (blocks, last) = granted.parts();
+    add_blocks(&mut holders, roles, operation, blocks)?;
+    add_all(&mut holders, roles, operation, last)?;
     Ok(holders)
 }
 
@@ -275,25 +290,25 @@ fn holders_of(
 fn shared_holders_of(
     alloc: Global,
     roles: &Roles,
-    blocks: &[Block],
+    granted: &Grants,
     operation: usize,
 ) -> Result<SharedHolders, AllocError>
-    ensures { IfOk result (λ holders. IsHeld (role_names roles.now) (flat_map (λ block. block) blocks.now) operation holders) }
+    ensures { IfOk result (λ holders. IsHeld (role_names roles.now) granted.now operation holders) }
 {
-    SharedHolders::new(alloc, holders_of(alloc, roles, blocks, operation)?)
+    SharedHolders::new(alloc, holders_of(alloc, roles, granted, operation)?)
 }
 
 /// The holders of each operation. A pass over the grants for each.
 pub(crate) fn all_holders(
     alloc: Global,
     roles: &Roles,
-    blocks: &[Block],
+    granted: &Grants,
 ) -> Result<Vec<SharedHolders>, AllocError>
-    ensures { IfOk result (λ all. AreHeld (role_names roles.now) (flat_map (λ block. block) blocks.now) all.items) }
+    ensures { IfOk result (λ all. AreHeld (role_names roles.now) granted.now all.items) }
 {
     let mut all = Vec::with_capacity(alloc, OPERATIONS)?;
     for operation in 0..OPERATIONS {
-        all.push(shared_holders_of(alloc, roles, blocks, operation)?)?;
+        all.push(shared_holders_of(alloc, roles, granted, operation)?)?;
     }
     Ok(all)
 }

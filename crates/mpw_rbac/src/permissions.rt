@@ -2,17 +2,18 @@
 //!
 //! Beside the grants stand the masks of their roles, by operation and object. So whether one of some roles was granted
 //! something is a look-up and an `and` of eight words. A grant more or less copies a block of the grants and a bucket of
-//! the masks of its operation. A change of pairs leaves both as they are, since masks hold places of roles. A change of
-//! roles makes the masks anew, in a pass over the grants for each operation.
-ghost use Rattle.std.specs.Prelude.{◌≡◌, ◌∷◌, ◌++◌, [], ℕ, List, false, length, map, nat_lt, IfOk, IfErr, Ok, Err};
+//! the masks of its operation. A change of pairs leaves both as they are, since masks hold places of roles, and so does a
+//! role more, since each grant is to a role. A role less makes the masks anew, in a pass over the grants for each operation.
+ghost use Rattle.std.specs.Prelude.{◌≡◌, ◌∷◌, ◌++◌, [], ℕ, List, true, false, length, map, nat_lt, IfOk, IfErr, Ok, Err};
 ghost use Rattle.std.specs.List.{list_any};
-ghost use Rattle.mpw_roles.specs.Hierarchy.{role_names};
+ghost use Rattle.mpw_geom.specs.Names.{without_name};
+ghost use Rattle.mpw_roles.specs.Hierarchy.{role_names, is_role};
 ghost use Rattle.mpw_roles.specs.Mask.{has};
 ghost use Rattle.mpw_roles.specs.Order.{roles_below};
 ghost use Rattle.mpw_roles.specs.Places.{is_place_below};
 ghost use Rattle.mpw_rbac.specs.Grant.{grant_eq};
 ghost use Rattle.mpw_rbac.specs.Internal.Grants.{without_grant};
-ghost use Rattle.mpw_rbac.specs.Internal.Holders.{AreHeld, AreHeldAfter};
+ghost use Rattle.mpw_rbac.specs.Internal.Holders.{are_to_roles, AreHeld, AreHeldAfter};
 ghost use Rattle.mpw_rbac.specs.Policy.{is_granted_to};
 ghost use Rattle.mpw_rbac.specs.Rows.{ungranted};
 
@@ -47,13 +48,13 @@ impl Drop for Permissions {
 
 impl Model for Permissions {
     ghost use Rattle.mpw_roles.specs.Hierarchy.{role_names};
-    ghost use Rattle.mpw_rbac.specs.Internal.Holders.{Permissions as PermissionsState, AreHeld};
+    ghost use Rattle.mpw_rbac.specs.Internal.Holders.{Permissions as PermissionsState, ArePermissions};
 
     ghost Value = { PermissionsState };
 
     ghost view = { λ p. record { roles = p.roles.value; granted = p.granted } };
 
-    ghost invariant = { λ p. AreHeld (role_names p.roles.value) p.granted p.holders.value.items };
+    ghost invariant = { λ p. ArePermissions (role_names p.roles.value) p.granted p.holders.value.items };
 }
 
 /// The masks of each operation, shared.
@@ -64,7 +65,7 @@ fn shared_holders(
 ) -> Result<Arc<Vec<SharedHolders>>, AllocError>
     ensures { IfOk result (λ all. AreHeld (role_names roles.now) granted.now all.value.items) }
 {
-    Ok(Arc::new(alloc, all_holders(alloc, roles, granted.blocks())?)?)
+    Ok(Arc::new(alloc, all_holders(alloc, roles, granted)?)?)
 }
 
 /// The masks of each operation after one grant more or less.
@@ -83,6 +84,7 @@ fn shared_holders_after(
 impl Permissions {
     /// These roles and grants.
     fn of(alloc: Global, roles: Arc<Roles>, granted: Grants) -> Result<Permissions, AllocError>
+        requires { are_to_roles (role_names roles.value) granted ≡ true }
         ensures { IfOk result (λ next. next ≡ record { roles = roles.value; granted = granted }) }
     {
         let holders = shared_holders(alloc, &roles, &granted)?;
@@ -93,8 +95,9 @@ impl Permissions {
         })
     }
 
-    /// These roles, and one grant.
+    /// These roles, and one grant to one of them.
     pub(crate) fn new(alloc: Global, roles: Roles, grant: &Grant) -> Result<Permissions, AllocError>
+        requires { is_role roles grant.now.role ≡ true }
         ensures { IfOk result (λ next. next ≡ record { roles = roles; granted = grant.now ∷ [] }) }
     {
         let roles = Arc::new(alloc, roles)?;
@@ -116,12 +119,12 @@ impl Permissions {
         self.granted.is_shorter(limit)
     }
 
-    /// Whether that was granted: a look-up and a bit, where its role is one.
+    /// Whether that was granted: a look-up and a bit.
     pub(crate) fn has_grant(&self, grant: &Grant) -> bool
         ensures { result ≡ list_any (grant_eq grant.now) self.now.granted }
     {
         let Some(place) = self.roles.place(&grant.role) else {
-            return self.granted.contains(grant);
+            return false;
         };
         let operation = index(grant.operation);
         self.holders[operation].of(&grant.object).contains(place)
@@ -136,18 +139,14 @@ impl Permissions {
         self.holders[place].of(object).meets(roles)
     }
 
-    /// The grants with one more role, which goes last: the masks stay, unless something was granted to its name.
+    /// The grants with one more role, which goes last: the masks stay, since nothing was granted to its name.
     pub(crate) fn with_role(&self, roles: Roles, role: &Name) -> Result<Permissions, AllocError>
         requires { role_names roles ≡ role_names self.now.roles ++ role.now ∷ [] }
         ensures { IfOk result (λ next. next ≡ record self.now { roles = roles }) }
     {
-        let alloc = roles.allocator();
-        let roles = Arc::new(alloc, roles)?;
+        roles.is_hierarchy();
+        let roles = Arc::new(roles.allocator(), roles)?;
         let granted = self.granted.copy()?;
-        if self.granted.names(role) {
-            let anew = Permissions::of(alloc, roles, granted)?;
-            return Ok(anew);
-        }
         let holders = self.holders.clone()?;
         Ok(Permissions {
             roles,
@@ -172,8 +171,9 @@ impl Permissions {
         })
     }
 
-    /// With one more grant: a copy of a block of the grants, and of a bucket of the masks of its operation.
+    /// With one more grant to a role: a copy of a block of the grants, and of a bucket of the masks of its operation.
     pub(crate) fn with(&self, grant: &Grant) -> Result<Permissions, AllocError>
+        requires { is_role self.now.roles grant.now.role ≡ true }
         ensures { IfOk result (λ next. next ≡ record self.now { granted = self.now.granted ++ grant.now ∷ [] }) }
     {
         let holders = shared_holders_after(&self.roles, &self.holders, grant, true)?;
@@ -202,6 +202,7 @@ impl Permissions {
 
     /// With other roles, and without the grants to a role.
     pub(crate) fn without_role(&self, roles: Roles, role: &Name) -> Result<Permissions, AllocError>
+        requires { role_names roles ≡ without_name (role_names self.now.roles) role.now }
         ensures { IfOk result (λ next. next ≡ record { roles = roles; granted = ungranted self.now.granted role.now }) }
     {
         let alloc = roles.allocator();

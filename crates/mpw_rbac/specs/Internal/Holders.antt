@@ -1,10 +1,10 @@
 -- The holders of a permission, by the places of their roles.
-use Rattle.std.specs.Prelude.{◌≡◌, ℕ, ◌<◌, ◌%◌, Bool, false, not, ◌&&◌, ◌==◌, List, [], ◌∷◌, ◌++◌, length, filter, fold, nat_lt, slice_index_or, if◌then◌else◌}
+use Rattle.std.specs.Prelude.{◌≡◌, ℕ, ◌<◌, ◌%◌, Bool, true, false, not, ◌&&◌, ◌==◌, List, [], ◌∷◌, ◌++◌, length, filter, fold, nat_lt, slice_index_or, if◌then◌else◌}
 use Rattle.std.specs.Hash as fed
 use Rattle.std.specs.Hash.FoldHasher as folding
-use Rattle.std.specs.List.{list_any}
+use Rattle.std.specs.List.{list_any, list_all}
 use Rattle.std.specs.Option.{option_map_or}
-use Rattle.mpw_geom.specs.Names.{name_eq}
+use Rattle.mpw_geom.specs.Names.{name_eq, contains_name}
 use Rattle.mpw_roles.specs.Hierarchy.{Name, Hierarchy}
 use Rattle.mpw_roles.specs.Mask.{has}
 use Rattle.mpw_roles.specs.declared.mask.Mask.{Mask}
@@ -78,6 +78,15 @@ pub record AreHeldAfter (more : Bool) (roles : List Name) (grant : Grant) (old n
   pub after : (operation : ℕ) → operation < 11
       → IsHeldAfter more roles grant operation (slice_index_or old operation [])
       (slice_index_or new operation [])
+
+-- whether each grant is to a role
+abbrev pub are_to_roles : List Name → List Grant → Bool
+are_to_roles roles granted = list_all (λ (grant : Grant). contains_name roles grant.role) granted
+
+-- each grant is to a role, and the masks are those of the grants
+abbrev pub ArePermissions : List Name → List Grant → List Buckets → Type 0
+ArePermissions roles granted tables =
+    AreHeld roles granted tables × (are_to_roles roles granted ≡ true)
 
 -- the roles, and the grants to them
 pub record Permissions : Type 0 where

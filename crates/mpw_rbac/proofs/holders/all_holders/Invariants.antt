@@ -1,11 +1,10 @@
 use Rattle.std.proofs.Common.{◌≡◌, ◌<◌, ℕ, [], length}
 use Rattle.std.specs.Prelude.{slice_index_or}
-use Rattle.std.specs.List.{flat_map}
 use Rattle.mpw_roles.specs.Hierarchy.{role_names}
 use Rattle.mpw_rbac.specs.Internal.Holders.{IsHeld}
 use Rattle.mpw_rbac.proofs.holders.all_holders.Given as goal
 
 abbrev pub invariant-loop-operation : goal.invariant-loop-operation
 invariant-loop-operation l = (length l.all.items ≡ l.operation)
-    × ((k : ℕ) → k < l.operation → IsHeld (role_names l.roles) (flat_map (λ b. b) l.blocks) k
+    × ((k : ℕ) → k < l.operation → IsHeld (role_names l.roles) l.granted k
     (slice_index_or l.all.items k []))

@@ -21,7 +21,7 @@ returns c = λ seniors acts.
     let k = c.index-place.result in
     let op = c.args.operation in
     let object = c.args.object.now in
-    let within : k < length tables = let all = c.self.invariant.all in let small =
+    let within : k < length tables = let all = c.self.invariant.0.all in let small =
     c.index-place.ensures.within in omega arith in
     let table : c.index.result.now ≡ get_or tables k [] = c.index.ensures
     ∙ ap (λ t. get_or t.items k c.index.result.now) c.deref.ensures
@@ -30,7 +30,7 @@ returns c = λ seniors acts.
     (operation_index op) object q = λ q.
     c.of.ensures q
     ∙ ap (λ t. holds t object q) table
-    ∙ (c.self.invariant.exact k c.index-place.ensures.within).exact object q
+    ∙ (c.self.invariant.0.exact k c.index-place.ensures.within).exact object q
     ∙ ap (λ i. is_place_granted (role_names h) granted i object q) c.index-place.ensures.index in
     meets-granted h granted seniors op object c.args.roles.now c.of.result c.meets.result
     (λ q. acts q ∙ ap (λ (p : Permissions). is_place_below p.roles seniors q) (sym c.self.view_is))

@@ -9,6 +9,10 @@ use Rattle.mpw_rbac.specs.Policy.{Policy}
 use Rattle.mpw_rbac.proofs.RowFacts.{grant-ok}
 use Rattle.mpw_rbac.proofs.policy.Policy.permissions_with.Goals as goal
 
+pub with-requires : goal.with-requires
+with-requires c = ap (λ (p : Policy). is_role p.roles c.args.grant.now.role) c.self.view_is
+    ∙ sym c.is_role.ensures ∙ c.if-not-is_role.false
+
 pub returns-clause-ok : goal.returns-clause-ok
 returns-clause-ok c =
     let p = c.args.self.now in
