@@ -1,7 +1,7 @@
 //! Where the masks of an object stand: objects by a hash of their names.
 //!
-//! A bucket never changes: a change of one object's mask makes a bucket anew, and every other one stays shared. The hash
-//! is no secret, so names can be chosen that share a bucket; a look-up among n such names costs n comparisons.
+//! A bucket that copies share never changes: a change of one object's mask makes it anew, and every other one stays shared.
+//! One that no copy shares yet, as while masks are made for all grants, is changed in place. The hash is no secret, so names can be chosen that share a bucket; a look-up among n such names costs n comparisons.
 ghost use Rattle.std.specs.Prelude.{◌≡◌, ℕ, ◌<◌, not, filter, List, length, IfOk, OnOk, true, false, [], if◌then◌else◌};
 ghost use Rattle.mpw_roles.specs.Mask.{has};
 ghost use Rattle.mpw_roles.specs.declared.mask.Mask.{Mask as MaskState};
@@ -116,6 +116,26 @@ fn keep(masks: &mut Vec<(Object, Mask)>, object: &Object, mask: &Mask) -> Result
     Ok(())
 }
 
+/// The mask of an object goes.
+fn take_out(masks: &mut Vec<(Object, Mask)>, object: &Object)
+    ensures { masks.new.items ≡ filter (λ (entry : ObjectState × MaskState). not (object_eq object.now entry.0)) masks.old.items }
+{
+    masks.retain(
+        |entry: &(Object, Mask)| -> bool
+            ensures { result ≡ not (object_eq object.entry.now entry.now.0) }
+        { *object != entry.0 },
+    );
+}
+
+/// Writes another mask of an object among some, which isn't kept where it is empty.
+fn write(masks: &mut Vec<(Object, Mask)>, object: &Object, mask: &Mask) -> Result<(), AllocError>
+    ensures { OnOk result ((other : ObjectState) (place : ℕ) → holds_in masks.new.items other place ≡ (if object_eq object.now other then has mask.now place else holds_in masks.old.items other place)) }
+{
+    take_out(masks, object);
+    keep(masks, object, mask)?;
+    Ok(())
+}
+
 impl Bucket {
     /// The masks in a bucket.
     fn of_masks(alloc: Global, masks: Vec<(Object, Mask)>) -> Result<Bucket, AllocError>
@@ -157,17 +177,30 @@ impl Bucket {
     }
 
     /// The bucket with another mask of an object, which isn't kept where it is empty: a copy of the bucket.
-    pub(crate) fn with(
-        &self,
-        alloc: Global,
-        object: &Object,
-        mask: &Mask,
-    ) -> Result<Bucket, AllocError>
+    fn with(&self, alloc: Global, object: &Object, mask: &Mask) -> Result<Bucket, AllocError>
         ensures { IfOk result (λ bucket. (other : ObjectState) (place : ℕ) → holds_in bucket other place ≡ (if object_eq object.now other then has mask.now place else holds_in self.now other place)) }
     {
         let mut masks = others(alloc, self.as_slice(), object)?;
         keep(&mut masks, object, mask)?;
         let bucket = Bucket::of_masks(alloc, masks)?;
         Ok(bucket)
+    }
+
+    /// Writes another mask of an object: in place where no copy shares the bucket, and else in a copy of it.
+    pub(crate) fn put(
+        &mut self,
+        alloc: Global,
+        object: &Object,
+        mask: &Mask,
+    ) -> Result<(), AllocError>
+        ensures { OnOk result ((other : ObjectState) (place : ℕ) → holds_in self.new other place ≡ (if object_eq object.now other then has mask.now place else holds_in self.old other place)) }
+    {
+        if let Some(masks) = Arc::get_mut(&mut self.masks) {
+            write(masks, object, mask)?;
+            return Ok(());
+        }
+        let next = self.with(alloc, object, mask)?;
+        *self = next;
+        Ok(())
     }
 }

@@ -122,14 +122,12 @@ impl Holders {
         self.buckets[bucket_of(object)].of(object)
     }
 
-    /// Another mask for an object.
+    /// Another mask for an object: its bucket is written in place, where no copy shares it.
     fn put(&mut self, object: &Object, mask: &Mask) -> Result<(), AllocError>
         ensures { OnOk result ((other : ObjectState) (place : ℕ) → holds self.new other place ≡ (if object_eq object.now other then has mask.now place else holds self.old other place)) }
     {
         let alloc = *self.buckets.allocator();
-        let at = bucket_of(object);
-        let bucket = self.buckets[at].with(alloc, object, mask)?;
-        self.buckets[at] = bucket;
+        self.buckets[bucket_of(object)].put(alloc, object, mask)?;
         Ok(())
     }
 
