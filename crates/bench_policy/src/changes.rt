@@ -13,6 +13,9 @@ pub enum Change {
     Assign,
     AddRole,
     Inherit,
+    DelUser,
+    DelRole,
+    Uninherit,
 }
 
 impl Change {
@@ -25,6 +28,9 @@ impl Change {
             Change::Assign => "assign",
             Change::AddRole => "addrole",
             Change::Inherit => "inherit",
+            Change::DelUser => "deluser",
+            Change::DelRole => "delrole",
+            Change::Uninherit => "uninherit",
         }
     }
 
@@ -37,6 +43,9 @@ impl Change {
             Change::Assign => assign(alloc, policy),
             Change::AddRole => add_role(alloc, policy),
             Change::Inherit => inherit(alloc, policy),
+            Change::DelUser => del_user(alloc, policy),
+            Change::DelRole => del_role(alloc, policy),
+            Change::Uninherit => uninherit(alloc, policy),
         }
     }
 }
@@ -80,6 +89,25 @@ fn inherit(alloc: Global, policy: &mut Policy) -> Result<bool, AllocError> {
     let senior = numbered(alloc, "r", 1)?;
     let junior = numbered(alloc, "r", 2)?;
     Ok(is_accepted(policy.inherit(1, &senior, &junior)))
+}
+
+/// Deletes the user at the top of the tree, whose session ends.
+fn del_user(alloc: Global, policy: &mut Policy) -> Result<bool, AllocError> {
+    let user = name(alloc, "ann")?;
+    Ok(is_accepted(policy.deluser(1, &user)))
+}
+
+/// Deletes a role of the tree's second row, with its grants.
+fn del_role(alloc: Global, policy: &mut Policy) -> Result<bool, AllocError> {
+    let role = numbered(alloc, "r", 1)?;
+    Ok(is_accepted(policy.delrole(1, &role)))
+}
+
+/// Takes back that the role at the top of the tree is an immediate senior of one of its second row.
+fn uninherit(alloc: Global, policy: &mut Policy) -> Result<bool, AllocError> {
+    let senior = numbered(alloc, "r", 0)?;
+    let junior = numbered(alloc, "r", 1)?;
+    Ok(is_accepted(policy.uninherit(1, &senior, &junior)))
 }
 
 /// Makes a change in a copy of the policy; whether that was accepted.

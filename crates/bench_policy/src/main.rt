@@ -24,13 +24,16 @@ const TURNS: u32 = 1_000;
 const CHANGES: u32 = 100;
 
 /// The changes that are timed.
-const KINDS: [Change; 6] = [
+const KINDS: [Change; 9] = [
     Change::Grant,
     Change::Revoke,
     Change::AddUser,
     Change::Assign,
     Change::AddRole,
     Change::Inherit,
+    Change::DelUser,
+    Change::DelRole,
+    Change::Uninherit,
 ];
 
 /// The cells `c0`, `c1` and so on.
