@@ -78,7 +78,7 @@ def run(command):
 def ours(path, side):
     """The tiles, the counts of the rules, the seconds of each part, and the megabytes."""
     output, megabytes = run([PROGRAM, path, str(side)])
-    parts = {what: int(taken) / 1000 for what, taken in re.findall(r'^(\w+(?: on \w+)?).*: (\d+) ms$', output, re.M)}
+    parts = {what: float(taken) / 1000 for what, taken in re.findall(r'^(\w+(?: on \w+)?).*: ([\d.]+) ms$', output, re.M)}
     tiles = int(re.search(r'^cut: (\d+) tiles', output, re.M).group(1))
     counts = [int(count) for count in re.findall(r'^  \w+: (\d+)$', output, re.M)]
     return tiles, counts, parts, megabytes

@@ -1,9 +1,10 @@
 //! Tells what a whole run takes: the cut, the jobs of all tiles on one thread and on as many as there are processors, and
 //! the stitching, each with its milliseconds, and how many markers each rule has.
 //!
-//! `bench_job FILE SIDE` reads the library of the file, places its structure `TOP` where it was drawn, and checks it by
-//! tiles of that side: layer 1/0 for width 56 and space 51, and layers 1/0 and 2/0 for separation 9 and enclosing 10. Without
-//! these words it takes a small library of its own and tells no times.
+//! `bench_job FILE SIDE [THREADS]` reads the library of the file, places its structure `TOP` where it was drawn, and checks
+//! it by tiles of that side: layer 1/0 for width 56 and space 51, and layers 1/0 and 2/0 for separation 9 and enclosing 10.
+//! The jobs are done on one thread and then again on all; with the word `one` or `all` once, so that neither finds the
+//! memory that the other touched. Without words it takes a small library of its own and tells no times.
 #![tactic(auto)]
 
 mod layout;
@@ -22,12 +23,12 @@ use std::{env, fs};
 fn run(
     rt: &(impl Print + AllocGlobal + Clock + Threads + Sync),
     snapshot: &Snapshot,
+    threads: &str,
     still: bool,
 ) -> Result<()> {
     let cut = told::cut(rt, snapshot, still)?;
     let jobs = parts::jobs(rt.alloc(), snapshot, cut.windows())?;
-    told::done_in_turn(rt, &jobs, still)?;
-    let answers = told::done_by_all(rt, &jobs, still)?;
+    let answers = told::done(rt, &jobs, threads, still)?;
     let book = told::stitched(rt, &answers, still)?;
     told::by_rule(rt, snapshot.deck().rules(), book.as_slice())
 }
@@ -36,20 +37,25 @@ fn run_text(
     rt: &(impl Print + AllocGlobal + Clock + Threads + Sync),
     text: &[u8],
     side: &str,
+    threads: &str,
     still: bool,
 ) -> Result<()> {
     let start = Instant::now(rt)?;
     let snapshot = snapshot(rt.alloc(), text, side)?;
     told::part(rt, "read", &start, still)?;
-    run(rt, &snapshot, still)
+    run(rt, &snapshot, threads, still)
 }
 
 fn main(rt: HostRuntime) -> Result<()> {
     let words: Vec<String> = env::args(&rt)?.collect(rt.alloc())?;
-    if let [_, path, side] = words.as_slice() {
-        let text = fs::read(&rt, path.as_str())?;
-        return run_text(&rt, &text, side.as_str(), false);
-    }
-    let text = text_of_library(rt.alloc(), SAMPLE)?;
-    run_text(&rt, &text, SAMPLE_SIDE, true)
+    let (path, side, threads) = match words.as_slice() {
+        [_, path, side] => (path, side, ""),
+        [_, path, side, threads] => (path, side, threads.as_str()),
+        _ => {
+            let text = text_of_library(rt.alloc(), SAMPLE)?;
+            return run_text(&rt, &text, SAMPLE_SIDE, "", true);
+        }
+    };
+    let text = fs::read(&rt, path.as_str())?;
+    run_text(&rt, &text, side.as_str(), threads, false)
 }

@@ -32,21 +32,24 @@ pub fn jobs(alloc: Global, snapshot: &Snapshot, windows: &Windows) -> Result<Vec
     Ok(jobs)
 }
 
-/// How many markers the answer of the job has.
-fn count_of(alloc: Global, job: &Job) -> Result<usize> {
-    match do_job(alloc, job)? {
-        Answer::Tile(answer) => Ok(answer.markers().len()),
-        Answer::Cut(_) => bail!("the answer of a tile"),
+/// Does the jobs one after another on this thread.
+pub fn done_in_turn(alloc: Global, jobs: &[Job]) -> Result<Vec<Answer>> {
+    let mut answers = Vec::new(alloc);
+    for job in jobs {
+        answers.push(do_job(alloc, job)?)?;
     }
+    Ok(answers)
 }
 
-/// Does the jobs one after another, and tells how many markers their answers have together.
-pub fn done_in_turn(alloc: Global, jobs: &[Job]) -> Result<usize> {
+/// How many markers the answers of tiles have together.
+pub fn found(answers: &[Answer]) -> usize {
     let mut count = 0usize;
-    for job in jobs {
-        count = count.saturating_add(count_of(alloc, job)?);
+    for answer in answers {
+        if let Answer::Tile(answer) = answer {
+            count = count.saturating_add(answer.markers().len());
+        }
     }
-    Ok(count)
+    count
 }
 
 fn markers_of(answer: &Answer) -> Result<TileMarkers> {

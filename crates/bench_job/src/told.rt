@@ -9,13 +9,14 @@ use mpw_tiles::Snapshot;
 use std::thread::Threads;
 use std::time::{Clock, Instant};
 
-/// Prints what was done, and the time since then where times are told.
+/// Prints what was done, and the milliseconds since then where times are told.
 pub fn part(rt: &(impl Print + Clock), what: &str, since: &Instant, still: bool) -> Result<()> {
-    let taken = since.elapsed(rt)?.as_millis();
+    let taken = since.elapsed(rt)?.as_micros();
     if still {
         return Ok(println!(rt; "{what}")?);
     }
-    Ok(println!(rt; "{what}: {taken} ms")?)
+    let (whole, rest) = (taken / 1000, taken % 1000);
+    Ok(println!(rt; "{what}: {whole}.{rest:03} ms")?)
 }
 
 /// Cuts the snapshot into windows.
@@ -33,16 +34,18 @@ pub fn cut(
     Ok(cut)
 }
 
-/// Does the jobs on one thread.
+/// Does the jobs on this thread alone, and keeps their answers as the other threads would.
 pub fn done_in_turn(
     rt: &(impl Print + AllocGlobal + Clock),
     jobs: &[Job],
     still: bool,
-) -> Result<()> {
+) -> Result<Vec<Answer>> {
     let start = Instant::now(rt)?;
-    let found = parts::done_in_turn(rt.alloc(), jobs)?;
+    let answers = parts::done_in_turn(rt.alloc(), jobs)?;
+    let found = parts::found(&answers);
     let what = format!(in rt.alloc(); "jobs on one thread: {found} markers of tiles")?;
-    part(rt, what.as_str(), &start, still)
+    part(rt, what.as_str(), &start, still)?;
+    Ok(answers)
 }
 
 /// Does the jobs on as many threads as there are processors.
@@ -55,6 +58,23 @@ pub fn done_by_all(
     let answers = work_all(rt, rt.alloc(), jobs)?;
     part(rt, "jobs on all threads", &start, still)?;
     Ok(answers)
+}
+
+/// Does the jobs on one thread, on all, or on one and then again on all, as the word tells.
+pub fn done(
+    rt: &(impl Print + AllocGlobal + Clock + Threads + Sync),
+    jobs: &[Job],
+    threads: &str,
+    still: bool,
+) -> Result<Vec<Answer>> {
+    match threads {
+        "one" => done_in_turn(rt, jobs, still),
+        "all" => done_by_all(rt, jobs, still),
+        _ => {
+            drop(done_in_turn(rt, jobs, still)?);
+            done_by_all(rt, jobs, still)
+        }
+    }
 }
 
 /// Stitches the answers.

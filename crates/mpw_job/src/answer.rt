@@ -140,10 +140,22 @@ pub enum Answer {
     Tile(TileAnswer),
 }
 
+/// The bytes of the block that [`keep_freed`] takes.
+const KEPT: usize = 4 << 20;
+
+/// Takes a block and gives it back untouched, since the C library's heap then keeps twice as much of what is freed. Until it
+/// was given back a large block it returns the end of the heap to the system wherever 128 KiB of it are free, as behind each
+/// tile, and a page that is taken again costs a fault. Where there is no memory nothing changes.
+fn keep_freed(alloc: Global) {
+    let block: Result<Vec<u8>, AllocError> = Vec::with_capacity(alloc, KEPT);
+    drop(block);
+}
+
 /// The answer of cutting a snapshot.
 fn cut_answer(alloc: Global, job: &CutJob) -> Result<CutAnswer, AllocError>
     ensures { IfOk result (λ a. a.job ≡ job.now) }
 {
+    keep_freed(alloc);
     let windows = cut(alloc, &job.snapshot)?;
     let job = job.copy(alloc)?;
     Ok(CutAnswer { job, windows })
@@ -206,5 +218,6 @@ pub fn work_all(
 ) -> Result<Vec<Answer>, AllocError>
     ensures { IfOk result (λ v. map job_of v.items ≡ jobs.now) }
 {
+    keep_freed(alloc);
     worked(rt, alloc, jobs)?
 }

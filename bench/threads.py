@@ -1,0 +1,79 @@
+#!/usr/bin/env python3
+"""Times the jobs of whole runs on one thread against all threads, each in a process of its own.
+
+  bench/threads.py [ROUNDS [KIND N SIDE]..]     7 rounds and the four layouts of runs.py where none are given
+
+Needs crates/bench_job/out/bench_job. In each round each layout is run twice, on one thread and on as many as there are
+processors, by turns which of them first. Milliseconds are medians and, in brackets, the best; behind them stand the
+seconds of processor in the system and the page faults of the whole process, which tell what memory costs. The last two
+columns are how many times as fast all threads are, by medians and by bests. Let nothing else run beside.
+"""
+import os
+import re
+import statistics
+import subprocess
+import sys
+import tempfile
+
+import runs
+
+HEADS = ['Layout', 'Tiles', 'Cut', 'Jobs, one thread', 'Jobs, all threads', 'Stitching', 'System, one', 'System, all',
+         'Faults, one', 'Faults, all', 'By medians', 'By bests']
+
+
+def timed(path, side, threads):
+    """The milliseconds of each part, the tiles, and the system's milliseconds and the page faults of the process."""
+    words = [runs.PROGRAM, path, str(side), threads]
+    process = subprocess.Popen(words, stdin=subprocess.DEVNULL, stdout=subprocess.PIPE, text=True)
+    output = process.stdout.read()
+    _, status, usage = os.wait4(process.pid, 0)
+    if status:
+        sys.exit(f'{" ".join(words)} ended with {status}')
+    parts = {what: float(taken) for what, taken in re.findall(r'^(\w+).*: ([\d.]+) ms$', output, re.M)}
+    tiles = int(re.search(r'^cut: (\d+) tiles', output, re.M).group(1))
+    return {**parts, 'tiles': tiles, 'system': usage.ru_stime * 1000, 'faults': usage.ru_minflt}
+
+
+def measured(paths, layouts, rounds):
+    """The figures of each round, by layout and by threads."""
+    found = {(layout, threads): [] for layout in layouts for threads in ('one', 'all')}
+    for turn in range(rounds):
+        for layout in layouts:
+            for threads in (('one', 'all') if turn % 2 == 0 else ('all', 'one')):
+                found[layout, threads].append(timed(paths[layout], layout[2], threads))
+    return found
+
+
+def row(layout, one, every):
+    def both(figures, part):
+        values = [it[part] for it in figures]
+        return f'{statistics.median(values):.1f} ({min(values):.1f})'
+
+    def middle(figures, part):
+        return f'{statistics.median(it[part] for it in figures):.0f}'
+
+    def times(of):
+        return f'{of(it["jobs"] for it in one) / of(it["jobs"] for it in every):.2f}'
+
+    kind, count, side = layout
+    return [f'{kind} {count}, side {side}', str(one[0]['tiles']), both(one + every, 'cut'), both(one, 'jobs'),
+            both(every, 'jobs'), both(one + every, 'stitch'), middle(one, 'system'), middle(every, 'system'),
+            middle(one, 'faults'), middle(every, 'faults'), times(statistics.median), times(min)]
+
+
+def main(words):
+    rounds = int(words[0]) if words else 7
+    asked = [(words[i], int(words[i + 1]), int(words[i + 2])) for i in range(1, len(words), 3)] or runs.RUNS
+    with tempfile.TemporaryDirectory() as folder:
+        paths = {layout: os.path.join(folder, '-'.join(map(str, layout))) for layout in asked}
+        for kind, count, side in asked:
+            runs.make(paths[kind, count, side], kind, count)
+        found = measured(paths, asked, rounds)
+    print('| ' + ' | '.join(HEADS) + ' |')
+    print('|' + '-|' * len(HEADS))
+    for layout in asked:
+        print('| ' + ' | '.join(row(layout, found[layout, 'one'], found[layout, 'all'])) + ' |')
+
+
+if __name__ == '__main__':
+    main(sys.argv[1:])
