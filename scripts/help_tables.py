@@ -28,8 +28,9 @@ answers; what comes before them is in `desk.md`, and the words of the forms are 
 
 
 def read(path):
+    """What a file has; texts that go on behind a backslash in the next line are joined."""
     with open(f"{TOP}/{path}", encoding="utf-8") as file:
-        return file.read()
+        return re.sub(r"\\\n\s*", "", file.read())
 
 
 def entries_of(module, name):

@@ -7,33 +7,48 @@ static COMMANDS: [Entry; 4] = [
     Entry {
         word: "script",
         form: "mpw script --officer NAME --digest HEX",
-        meaning: "serves the lines of the standard input on a new desk, and writes the replies to the standard output",
+        meaning: "serves the lines of the standard input on a new desk, and writes the replies to \
+            the standard output",
         detail: Detail::Command {
-            statuses: "0 the connection ended; 2 the command line isn't one, help too; 3 a device failed; 5 want of memory outside a request",
+            statuses: "0 the connection ended; 2 the command line isn't one, help too; 3 a device \
+                failed; 5 want of memory outside a request",
         },
     },
     Entry {
         word: "check",
         form: "mpw check --deck DECK --top STRUCTURE FILE",
-        meaning: "checks a structure of a GDSII library by itself under a deck, and prints its markers as the request markers does; --report OUT and --picture OUT write them to files for KLayout and as SVG, --marker KEY draws what lies round one, and --tiles TILES prints the part of some tiles for mpw stitch",
+        meaning: "checks a structure of a GDSII library by itself under a deck, and prints its \
+            markers as the request markers does; --report OUT and --picture OUT write them to \
+            files for KLayout and as SVG, --marker KEY draws what lies round one, and --tiles \
+            TILES prints the part of some tiles for mpw stitch",
         detail: Detail::Command {
-            statuses: "0 no markers; 1 markers; 2 the command line isn't one, or no marker has the key; 3 a file can't be read or written, or the output failed; 4 the library or the deck has a fault, or the structure shows a name outside the library; 5 want of memory",
+            statuses: "0 no markers; 1 markers; 2 the command line isn't one, or no marker has the \
+                key; 3 a file can't be read or written, or the output failed; 4 the library or the \
+                deck has a fault, or the structure shows a name outside the library; 5 want of \
+                memory",
         },
     },
     Entry {
         word: "stitch",
         form: "mpw stitch PART..",
-        meaning: "puts the parts of one check together that have each of its tiles once, and prints the markers that mpw check prints of the whole; --report OUT writes them to a file for KLayout",
+        meaning: "puts the parts of one check together that have each of its tiles once, and \
+            prints the markers that mpw check prints of the whole; --report OUT writes them to a \
+            file for KLayout",
         detail: Detail::Command {
-            statuses: "0 no markers; 1 markers; 2 the command line isn't one; 3 a file can't be read or written, or the output failed; 4 a file is no part or one that was cut off, a part is of another library, deck, structure or plan, or a tile is in no part or in two; 5 want of memory",
+            statuses: "0 no markers; 1 markers; 2 the command line isn't one; 3 a file can't be \
+                read or written, or the output failed; 4 a file is no part or one that was cut \
+                off, a part is of another library, deck, structure or plan, or a tile is in no \
+                part or in two; 5 want of memory",
         },
     },
     Entry {
         word: "help",
         form: "mpw help [CODE-OR-REQUEST]",
-        meaning: "tells what a request, a denial, a code or a command means; without a word it lists them",
+        meaning: "tells what a request, a denial, a code or a command means; without a word it \
+            lists them",
         detail: Detail::Command {
-            statuses: "0 it was told; 2 there is nothing of that word; 3 the output failed; 5 want of memory",
+            statuses: "0 it was told; 2 there is nothing of that word; 3 the output failed; 5 want \
+                of memory",
         },
     },
 ];

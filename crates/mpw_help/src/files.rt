@@ -52,7 +52,8 @@ static LIBRARY: [Entry; 17] = [
     Entry {
         word: "badname",
         form: "REFUSED 6 badname byte",
-        meaning: "a name is empty, longer than 255 bytes, or has a blank or another byte outside 21 to 7E hex",
+        meaning: "a name is empty, longer than 255 bytes, or has a blank or another byte outside \
+            21 to 7E hex",
         detail: Detail::Refusal {
             number: "6",
             remedy: "rename the structure (KLayout: 'Rename cell'; gdspy: rename_cell())",
@@ -64,7 +65,8 @@ static LIBRARY: [Entry; 17] = [
         meaning: "the database unit isn't a whole number of nm from 1 to 1000, as 0.5 isn't",
         detail: Detail::Refusal {
             number: "7",
-            remedy: "export with a unit of 1 nm (KLayout: 'Database unit' 0.001; gdspy: precision=1e-9)",
+            remedy: "export with a unit of 1 nm (KLayout: 'Database unit' 0.001; gdspy: \
+                precision=1e-9)",
         },
     },
     Entry {
@@ -73,7 +75,8 @@ static LIBRARY: [Entry; 17] = [
         meaning: "a reference is magnified",
         detail: Detail::Refusal {
             number: "8",
-            remedy: "resolve it before the export (KLayout: 'Flatten' that instance; gdspy: flatten() the cell that has it)",
+            remedy: "resolve it before the export (KLayout: 'Flatten' that instance; gdspy: \
+                flatten() the cell that has it)",
         },
     },
     Entry {
@@ -82,7 +85,8 @@ static LIBRARY: [Entry; 17] = [
         meaning: "an angle isn't a multiple of 90 degrees, or is beyond -360 to 360",
         detail: Detail::Refusal {
             number: "9",
-            remedy: "resolve the reference before the export (KLayout: 'Flatten' that instance; gdspy: flatten() the cell that has it)",
+            remedy: "resolve the reference before the export (KLayout: 'Flatten' that instance; \
+                gdspy: flatten() the cell that has it)",
         },
     },
     Entry {
@@ -100,7 +104,8 @@ static LIBRARY: [Entry; 17] = [
         meaning: "a path has round ends (type 1)",
         detail: Detail::Refusal {
             number: "11",
-            remedy: "export it with ends of type 0, 2 or 4, or as a polygon (KLayout: 'Convert to polygon'; gdspy: ends='flush', or gdsii_path=False)",
+            remedy: "export it with ends of type 0, 2 or 4, or as a polygon (KLayout: 'Convert to \
+                polygon'; gdspy: ends='flush', or gdsii_path=False)",
         },
     },
     Entry {
@@ -109,7 +114,8 @@ static LIBRARY: [Entry; 17] = [
         meaning: "a path's width is odd",
         detail: Detail::Refusal {
             number: "12",
-            remedy: "make it even, or export the path as a polygon (KLayout: 'Convert to polygon'; gdspy: gdsii_path=False)",
+            remedy: "make it even, or export the path as a polygon (KLayout: 'Convert to polygon'; \
+                gdspy: gdsii_path=False)",
         },
     },
     Entry {
@@ -172,7 +178,8 @@ static DECK: [Entry; 7] = [
         meaning: "a line of the deck isn't one",
         detail: Detail::Refusal {
             number: "51",
-            remedy: "a line is 'tile SIDE', or 'CHECK NAME LAYER.. DISTANCE' with width, space, separation or enclosing; no line is empty or a comment",
+            remedy: "a line is 'tile SIDE', or 'CHECK NAME LAYER.. DISTANCE' with width, space, \
+                separation or enclosing; no line is empty or a comment",
         },
     },
     Entry {
@@ -181,7 +188,8 @@ static DECK: [Entry; 7] = [
         meaning: "a number of the deck isn't one",
         detail: Detail::Refusal {
             number: "52",
-            remedy: "a distance is 1 to 65535 nm, and a tile's side 256 to 2^30 nm; lines end with a line feed alone",
+            remedy: "a distance is 1 to 65535 nm, and a tile's side 256 to 2^30 nm; lines end with \
+                a line feed alone",
         },
     },
     Entry {

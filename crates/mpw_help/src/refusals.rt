@@ -190,7 +190,8 @@ static LINES: [Entry; 9] = [
         meaning: "the line is no request's text",
         detail: Detail::Refusal {
             number: "40",
-            remedy: "look for two spaces, a tab, a carriage return or a wrong word; of submit and deck the payload is then read as lines",
+            remedy: "look for two spaces, a tab, a carriage return or a wrong word; of submit and \
+                deck the payload is then read as lines",
         },
     },
     Entry {

@@ -9,7 +9,8 @@ static SESSIONS: [Entry; 5] = [
         form: "open user token",
         meaning: "begins a session of the user, in which no role is active yet",
         detail: Detail::Request {
-            tests: "the connection has no session (30 opened); the user is known with that token (DENIED login, the same for an unknown user and for another token)",
+            tests: "the connection has no session (30 opened); the user is known with that token \
+                (DENIED login, the same for an unknown user and for another token)",
             reply: "OK 0",
         },
     },
@@ -27,7 +28,9 @@ static SESSIONS: [Entry; 5] = [
         form: "activate role",
         meaning: "makes a role of the user active in the session",
         detail: Detail::Request {
-            tests: "a session (DENIED session); the role is there, and the user is authorized for it (DENIED permission activate role); it isn't active yet (33 known); no dynamic set is broken (DENIED dsd set)",
+            tests: "a session (DENIED session); the role is there, and the user is authorized for \
+                it (DENIED permission activate role); it isn't active yet (33 known); no dynamic \
+                set is broken (DENIED dsd set)",
             reply: "OK 0",
         },
     },
@@ -46,7 +49,8 @@ static SESSIONS: [Entry; 5] = [
         meaning: "lists the session's user, its active roles and those that it is authorized for",
         detail: Detail::Request {
             tests: "a session (DENIED session)",
-            reply: "OK n, and a line each: user U, then active R by name, then authorized R by name",
+            reply: "OK n, and a line each: user U, then active R by name, then authorized R by \
+                name",
         },
     },
 ];
@@ -63,7 +67,9 @@ static ROLES: [Entry; 8] = [
         form: "adduser user token",
         meaning: "adds a user, without roles",
         detail: Detail::Request {
-            tests: "a session (DENIED session); the permission admin on the desk (DENIED permission admin desk); there is no such user (33 known); fewer than 512 users (27 full)",
+            tests: "a session (DENIED session); the permission admin on the desk (DENIED \
+                permission admin desk); there is no such user (33 known); fewer than 512 users (27 \
+                full)",
             reply: "OK 0",
         },
     },
@@ -72,7 +78,8 @@ static ROLES: [Entry; 8] = [
         form: "deluser user",
         meaning: "deletes a user with its assignments, and ends its sessions",
         detail: Detail::Request {
-            tests: "a session (DENIED session); the permission admin on the desk (DENIED permission admin desk); there is such a user (32 unknown)",
+            tests: "a session (DENIED session); the permission admin on the desk (DENIED \
+                permission admin desk); there is such a user (32 unknown)",
             reply: "OK 0",
         },
     },
@@ -81,7 +88,9 @@ static ROLES: [Entry; 8] = [
         form: "addrole role",
         meaning: "adds a role, without juniors or seniors",
         detail: Detail::Request {
-            tests: "a session (DENIED session); the permission admin on the desk (DENIED permission admin desk); there is no such role (33 known); fewer than 512 roles (27 full)",
+            tests: "a session (DENIED session); the permission admin on the desk (DENIED \
+                permission admin desk); there is no such role (33 known); fewer than 512 roles (27 \
+                full)",
             reply: "OK 0",
         },
     },
@@ -90,7 +99,9 @@ static ROLES: [Entry; 8] = [
         form: "delrole role",
         meaning: "deletes a role with its pairs, assignments and grants",
         detail: Detail::Request {
-            tests: "a session (DENIED session); the permission admin on the desk (DENIED permission admin desk); there is such a role (32 unknown); it is in no set of separation of duty (35 used)",
+            tests: "a session (DENIED session); the permission admin on the desk (DENIED \
+                permission admin desk); there is such a role (32 unknown); it is in no set of \
+                separation of duty (35 used)",
             reply: "OK 0",
         },
     },
@@ -99,7 +110,9 @@ static ROLES: [Entry; 8] = [
         form: "assign user role",
         meaning: "assigns a role to a user",
         detail: Detail::Request {
-            tests: "a session (DENIED session); the permission admin on the desk (DENIED permission admin desk); user and role are there (32 unknown); the role isn't assigned to the user (33 known); no static set is broken (DENIED ssd set)",
+            tests: "a session (DENIED session); the permission admin on the desk (DENIED \
+                permission admin desk); user and role are there (32 unknown); the role isn't \
+                assigned to the user (33 known); no static set is broken (DENIED ssd set)",
             reply: "OK 0",
         },
     },
@@ -108,16 +121,20 @@ static ROLES: [Entry; 8] = [
         form: "deassign user role",
         meaning: "takes an assignment back",
         detail: Detail::Request {
-            tests: "a session (DENIED session); the permission admin on the desk (DENIED permission admin desk); the role is assigned to the user (32 unknown)",
+            tests: "a session (DENIED session); the permission admin on the desk (DENIED \
+                permission admin desk); the role is assigned to the user (32 unknown)",
             reply: "OK 0",
         },
     },
     Entry {
         word: "grant",
         form: "grant operation object role",
-        meaning: "grants an operation on an object to a role: submit, use, read or place on a cell; admin, deck, run, waive, sign, verdict or audit on the object desk",
+        meaning: "grants an operation on an object to a role: submit, use, read or place on a \
+            cell; admin, deck, run, waive, sign, verdict or audit on the object desk",
         detail: Detail::Request {
-            tests: "a session (DENIED session); the permission admin on the desk (DENIED permission admin desk); there is such a role (32 unknown); it wasn't granted that (33 known); fewer than 4096 grants (27 full)",
+            tests: "a session (DENIED session); the permission admin on the desk (DENIED \
+                permission admin desk); there is such a role (32 unknown); it wasn't granted that \
+                (33 known); fewer than 4096 grants (27 full)",
             reply: "OK 0",
         },
     },
@@ -126,7 +143,8 @@ static ROLES: [Entry; 8] = [
         form: "revoke operation object role",
         meaning: "takes a grant back",
         detail: Detail::Request {
-            tests: "a session (DENIED session); the permission admin on the desk (DENIED permission admin desk); the role was granted that (32 unknown)",
+            tests: "a session (DENIED session); the permission admin on the desk (DENIED \
+                permission admin desk); the role was granted that (32 unknown)",
             reply: "OK 0",
         },
     },
@@ -142,9 +160,13 @@ static SETS: [Entry; 6] = [
     Entry {
         word: "inherit",
         form: "inherit senior junior",
-        meaning: "makes a role an immediate junior of another, which then acts with what the junior was granted",
+        meaning: "makes a role an immediate junior of another, which then acts with what the \
+            junior was granted",
         detail: Detail::Request {
-            tests: "a session (DENIED session); the permission admin on the desk (DENIED permission admin desk); both roles are there (32 unknown); they aren't such a pair (33 known); the junior isn't at or above the senior (36 loop); no static set is broken (DENIED ssd set); no dynamic set is broken (DENIED dsd set)",
+            tests: "a session (DENIED session); the permission admin on the desk (DENIED \
+                permission admin desk); both roles are there (32 unknown); they aren't such a pair \
+                (33 known); the junior isn't at or above the senior (36 loop); no static set is \
+                broken (DENIED ssd set); no dynamic set is broken (DENIED dsd set)",
             reply: "OK 0",
         },
     },
@@ -153,7 +175,8 @@ static SETS: [Entry; 6] = [
         form: "uninherit senior junior",
         meaning: "takes an immediate pair back",
         detail: Detail::Request {
-            tests: "a session (DENIED session); the permission admin on the desk (DENIED permission admin desk); they are an immediate pair (32 unknown)",
+            tests: "a session (DENIED session); the permission admin on the desk (DENIED \
+                permission admin desk); they are an immediate pair (32 unknown)",
             reply: "OK 0",
         },
     },
@@ -162,7 +185,10 @@ static SETS: [Entry; 6] = [
         form: "ssd name n role role ..",
         meaning: "makes a static set: nobody may be authorized for n of its roles",
         detail: Detail::Request {
-            tests: "a session (DENIED session); the permission admin on the desk (DENIED permission admin desk); no static set has that name (33 known); each role is there (32 unknown); no static set is broken, the new one with them (DENIED ssd set); fewer than 64 static sets (27 full)",
+            tests: "a session (DENIED session); the permission admin on the desk (DENIED \
+                permission admin desk); no static set has that name (33 known); each role is there \
+                (32 unknown); no static set is broken, the new one with them (DENIED ssd set); \
+                fewer than 64 static sets (27 full)",
             reply: "OK 0",
         },
     },
@@ -171,7 +197,10 @@ static SETS: [Entry; 6] = [
         form: "dsd name n role role ..",
         meaning: "makes a dynamic set: in no session may n of its roles act",
         detail: Detail::Request {
-            tests: "a session (DENIED session); the permission admin on the desk (DENIED permission admin desk); no dynamic set has that name (33 known); each role is there (32 unknown); no dynamic set is broken, the new one with them (DENIED dsd set); fewer than 64 dynamic sets (27 full)",
+            tests: "a session (DENIED session); the permission admin on the desk (DENIED \
+                permission admin desk); no dynamic set has that name (33 known); each role is \
+                there (32 unknown); no dynamic set is broken, the new one with them (DENIED dsd \
+                set); fewer than 64 dynamic sets (27 full)",
             reply: "OK 0",
         },
     },
@@ -180,7 +209,8 @@ static SETS: [Entry; 6] = [
         form: "unssd name",
         meaning: "deletes a static set",
         detail: Detail::Request {
-            tests: "a session (DENIED session); the permission admin on the desk (DENIED permission admin desk); there is such a set (32 unknown)",
+            tests: "a session (DENIED session); the permission admin on the desk (DENIED \
+                permission admin desk); there is such a set (32 unknown)",
             reply: "OK 0",
         },
     },
@@ -189,7 +219,8 @@ static SETS: [Entry; 6] = [
         form: "undsd name",
         meaning: "deletes a dynamic set",
         detail: Detail::Request {
-            tests: "a session (DENIED session); the permission admin on the desk (DENIED permission admin desk); there is such a set (32 unknown)",
+            tests: "a session (DENIED session); the permission admin on the desk (DENIED \
+                permission admin desk); there is such a set (32 unknown)",
             reply: "OK 0",
         },
     },
@@ -205,9 +236,16 @@ static CELLS: [Entry; 6] = [
     Entry {
         word: "submit",
         form: "submit cell top length",
-        meaning: "submits the GDSII library of so many bytes behind the line as the next version of the cell, which shows the structure top",
+        meaning: "submits the GDSII library of so many bytes behind the line as the next version \
+            of the cell, which shows the structure top",
         detail: Detail::Request {
-            tests: "a session (DENIED session); the permission submit on the cell (DENIED permission submit cell); the bytes are a library (the first fault, from 1 short to 18 absolute); it has the top (20 notop); nothing below the top reaches itself (21 cycle); the permission use on each name outside the library (DENIED permission use cell, the first by name); each of these has a submission (23 nocell); within -2^30 to 2^30 nm (24 extent); at most 2^20 shapes (25 shapes); at most 64 levels (26 deep); at most 1024 cells and 4096 submissions (27 full)",
+            tests: "a session (DENIED session); the permission submit on the cell (DENIED \
+                permission submit cell); the bytes are a library (the first fault, from 1 short to \
+                18 absolute); it has the top (20 notop); nothing below the top reaches itself (21 \
+                cycle); the permission use on each name outside the library (DENIED permission use \
+                cell, the first by name); each of these has a submission (23 nocell); within -2^30 \
+                to 2^30 nm (24 extent); at most 2^20 shapes (25 shapes); at most 64 levels (26 \
+                deep); at most 1024 cells and 4096 submissions (27 full)",
             reply: "OK 1, and version V",
         },
     },
@@ -223,18 +261,26 @@ static CELLS: [Entry; 6] = [
     Entry {
         word: "shapes",
         form: "shapes cell",
-        meaning: "lists the shapes of the cell's present submission that come from cells that the session may read",
+        meaning: "lists the shapes of the cell's present submission that come from cells that the \
+            session may read",
         detail: Detail::Request {
-            tests: "a session (DENIED session); the permission read on the cell (DENIED permission read cell); the cell has a submission (23 nocell)",
-            reply: "OK n, and a line each: cell V L/D boundary x y .., or cell V L/D path W B E x y ..",
+            tests: "a session (DENIED session); the permission read on the cell (DENIED permission \
+                read cell); the cell has a submission (23 nocell)",
+            reply: "OK n, and a line each: cell V L/D boundary x y .., or cell V L/D path W B E x \
+                y ..",
         },
     },
     Entry {
         word: "place",
         form: "place cell label orientation x y",
-        meaning: "places the cell's present submission on the wafer under a label; orientations are R0 R90 R180 R270 M0 M90 M180 M270, and x y is in nm",
+        meaning: "places the cell's present submission on the wafer under a label; orientations \
+            are R0 R90 R180 R270 M0 M90 M180 M270, and x y is in nm",
         detail: Detail::Request {
-            tests: "a session (DENIED session); the permission place on the cell (DENIED permission place cell); the cell has a submission (23 nocell); it has no placement of that label (33 known); it lies within -2^30 to 2^30 nm there (24 extent); all placements show at most 2^20 shapes (25 shapes); fewer than 4096 placements before it (27 full)",
+            tests: "a session (DENIED session); the permission place on the cell (DENIED \
+                permission place cell); the cell has a submission (23 nocell); it has no placement \
+                of that label (33 known); it lies within -2^30 to 2^30 nm there (24 extent); all \
+                placements show at most 2^20 shapes (25 shapes); fewer than 4096 placements before \
+                it (27 full)",
             reply: "OK 1, and version V",
         },
     },
@@ -243,7 +289,8 @@ static CELLS: [Entry; 6] = [
         form: "unplace cell label",
         meaning: "takes a placement away",
         detail: Detail::Request {
-            tests: "a session (DENIED session); the permission place on the cell (DENIED permission place cell); the cell has a placement of that label (32 unknown)",
+            tests: "a session (DENIED session); the permission place on the cell (DENIED \
+                permission place cell); the cell has a placement of that label (32 unknown)",
             reply: "OK 0",
         },
     },
@@ -252,7 +299,8 @@ static CELLS: [Entry; 6] = [
         form: "deck length",
         meaning: "brings the deck of so many bytes behind the line, in the place of the one before",
         detail: Detail::Request {
-            tests: "a session (DENIED session); the permission deck on the desk (DENIED permission deck desk); the bytes are a deck (the first fault, from 51 word to 57 rules)",
+            tests: "a session (DENIED session); the permission deck on the desk (DENIED permission \
+                deck desk); the bytes are a deck (the first fault, from 51 word to 57 rules)",
             reply: "OK 0",
         },
     },
@@ -268,9 +316,13 @@ static RUNS: [Entry; 9] = [
     Entry {
         word: "run",
         form: "run",
-        meaning: "begins to check what is placed by the deck; the run before it, with its markers and waivers, is dropped",
+        meaning: "begins to check what is placed by the deck; the run before it, with its markers \
+            and waivers, is dropped",
         detail: Detail::Request {
-            tests: "a session (DENIED session); the permission run on the desk (DENIED permission run desk); no run is cutting or checking (37 running); there is a deck (38 nodeck); what is placed shows a shape (39 empty); at most 4096 tiles cover it (28 tiles)",
+            tests: "a session (DENIED session); the permission run on the desk (DENIED permission \
+                run desk); no run is cutting or checking (37 running); there is a deck (38 \
+                nodeck); what is placed shows a shape (39 empty); at most 4096 tiles cover it (28 \
+                tiles)",
             reply: "OK 1, and run N",
         },
     },
@@ -279,7 +331,8 @@ static RUNS: [Entry; 9] = [
         form: "cancel",
         meaning: "leaves the run that goes on",
         detail: Detail::Request {
-            tests: "a session (DENIED session); the permission run on the desk (DENIED permission run desk); a run is cutting or checking (31 norun)",
+            tests: "a session (DENIED session); the permission run on the desk (DENIED permission \
+                run desk); a run is cutting or checking (31 norun)",
             reply: "OK 0",
         },
     },
@@ -295,7 +348,8 @@ static RUNS: [Entry; 9] = [
     Entry {
         word: "markers",
         form: "markers",
-        meaning: "lists the markers of the finished run: in full those whose cells the session may all read, and how many more it may read in part",
+        meaning: "lists the markers of the finished run: in full those whose cells the session may \
+            all read, and how many more it may read in part",
         detail: Detail::Request {
             tests: "a session (DENIED session); the run is finished (43 notfinished)",
             reply: "OK n, and a line each: rule:axis:side:x1:x2:y0:y1 cell .., then masked rule m",
@@ -306,7 +360,10 @@ static RUNS: [Entry; 9] = [
         form: "waive key",
         meaning: "asks for a waiver of a marker; the key is the first word of the marker's line",
         detail: Detail::Request {
-            tests: "a session (DENIED session); the permission waive on the desk (DENIED permission waive desk); the run is finished (43 notfinished); the book has a marker of that key, which the session sees in full (44 marker); no waiver of it was asked for (33 known)",
+            tests: "a session (DENIED session); the permission waive on the desk (DENIED \
+                permission waive desk); the run is finished (43 notfinished); the book has a \
+                marker of that key, which the session sees in full (44 marker); no waiver of it \
+                was asked for (33 known)",
             reply: "OK 0",
         },
     },
@@ -315,7 +372,11 @@ static RUNS: [Entry; 9] = [
         form: "sign key",
         meaning: "signs the waiver of a marker",
         detail: Detail::Request {
-            tests: "a session (DENIED session); the permission sign on the desk (DENIED permission sign desk); the run is finished (43 notfinished); the book has a marker of that key, which the session sees in full (44 marker); a waiver of it was asked for (45 nowaiver); it isn't signed (33 known); the user submitted nothing that the marker meets (DENIED submitter cell); the user didn't ask for the waiver (DENIED asker)",
+            tests: "a session (DENIED session); the permission sign on the desk (DENIED permission \
+                sign desk); the run is finished (43 notfinished); the book has a marker of that \
+                key, which the session sees in full (44 marker); a waiver of it was asked for (45 \
+                nowaiver); it isn't signed (33 known); the user submitted nothing that the marker \
+                meets (DENIED submitter cell); the user didn't ask for the waiver (DENIED asker)",
             reply: "OK 0",
         },
     },
@@ -331,9 +392,11 @@ static RUNS: [Entry; 9] = [
     Entry {
         word: "verdict",
         form: "verdict",
-        meaning: "tells whether each marker has a signed waiver, and deck and placements are still those of the run",
+        meaning: "tells whether each marker has a signed waiver, and deck and placements are still \
+            those of the run",
         detail: Detail::Request {
-            tests: "a session (DENIED session); the permission verdict on the desk (DENIED permission verdict desk); the run is finished (43 notfinished)",
+            tests: "a session (DENIED session); the permission verdict on the desk (DENIED \
+                permission verdict desk); the run is finished (43 notfinished)",
             reply: "OK 1, and clean, open N or stale",
         },
     },
@@ -342,7 +405,8 @@ static RUNS: [Entry; 9] = [
         form: "trail",
         meaning: "lists the requests so far",
         detail: Detail::Request {
-            tests: "a session (DENIED session); the permission audit on the desk (DENIED permission audit desk)",
+            tests: "a session (DENIED session); the permission audit on the desk (DENIED \
+                permission audit desk)",
             reply: "OK n, and a line each: k,user,verb,object,first line of the reply",
         },
     },
