@@ -90,7 +90,7 @@ fn reply_of(refusal: Refusal) -> Reply
 }
 
 /// A fault of the policy as an answer that changes nothing, or as want of memory.
-fn refused(fault: PolicyFault) -> Result<Answer, AllocError>
+fn refusal_of(fault: PolicyFault) -> Result<Answer, AllocError>
     ensures { IfOk result (λ answer. IsRefusal fault answer.response answer.next) }
 {
     match fault {
@@ -111,7 +111,7 @@ fn changed(next: Policy, made: Result<(), PolicyFault>) -> Result<Answer, AllocE
             response: Response::Told(Reply::Ok(Lines::none())),
             next: Next::NextPolicy(next),
         }),
-        Err(fault) => refused(fault),
+        Err(fault) => refusal_of(fault),
     }
 }
 
@@ -139,12 +139,12 @@ fn whoami(alloc: Global, policy: &Policy, conn: u32) -> Result<Answer, AllocErro
             response: Response::Told(Reply::Ok(identity_lines(alloc, identity)?)),
             next: Next::Nothing,
         }),
-        Err(fault) => refused(fault),
+        Err(fault) => refusal_of(fault),
     }
 }
 
 /// Answers a request of the policy on a copy of it.
-fn revised(policy: &Policy, conn: u32, request: &PolicyRequest) -> Result<Answer, AllocError>
+fn revision(policy: &Policy, conn: u32, request: &PolicyRequest) -> Result<Answer, AllocError>
     ensures { (state : State) → state.policy ≡ policy.now → IfOk result (λ answer. Gives state (changed state (row_of policy.now conn request.now)) answer.response answer.next) }
 {
     let mut next = policy.copy()?;
@@ -316,7 +316,7 @@ fn ask(alloc: Global, tables: &Tables, conn: u32, request: &Request) -> Result<A
     ensures { IfOk result (λ answer. Gives (open_state tables.now) (outcome_of (open_state tables.now) conn request.now) answer.response answer.next) }
 {
     match request {
-        Request::Policy(request) => revised(&tables.policy, conn, request),
+        Request::Policy(request) => revision(&tables.policy, conn, request),
         Request::Whoami => whoami(alloc, &tables.policy, conn),
         Request::Layout(request) => layout(alloc, tables, conn, request),
         Request::Wafer(request) => wafer(alloc, tables, conn, request),
@@ -327,7 +327,7 @@ fn ask(alloc: Global, tables: &Tables, conn: u32, request: &Request) -> Result<A
 }
 
 /// Answers a connection's end. Where the connection has no session there is nothing to change, and nothing is copied.
-fn gone(policy: &Policy, conn: u32) -> Result<Answer, AllocError>
+fn parting(policy: &Policy, conn: u32) -> Result<Answer, AllocError>
     ensures { (state : State) → state.policy ≡ policy.now → IfOk result (λ answer. Gives state (parted state conn) answer.response answer.next) }
 {
     if !policy.has_session(conn) {
@@ -357,7 +357,7 @@ pub(crate) fn prepare(alloc: Global, tables: &Tables, event: &Event) -> Result<A
 {
     match event {
         Event::Ask { conn, request } => ask(alloc, tables, *conn, request.get()),
-        Event::Gone { conn } => gone(&tables.policy, *conn),
+        Event::Gone { conn } => parting(&tables.policy, *conn),
         Event::Take { .. } => of_run(alloc, &tables.run, tables.run.prepare_take(alloc)?),
         Event::Cut(answer) => of_run(
             alloc,

@@ -16,7 +16,7 @@ use Rattle.mpw_core.specs.Step.{State, Outcome, after, left, outcome_of, over_ru
 use Rattle.mpw_secrecy.specs.Questions.{is_of_run, is_of_view}
 use Rattle.mpw_secrecy.specs.Secrecy.{EqualViewsGiveEqualAnswers, EqualViewsGiveEqualAnswersToLists, EqualViewsStayEqual, IsOrderly}
 use Rattle.mpw_secrecy.specs.Views.{SameView}
-use Rattle.mpw_secrecy.proofs.Listings.{SameOutcome, after_alike, asked_left, listing, run_left, step_alike}
+use Rattle.mpw_secrecy.proofs.Listings.{SameOutcome, after_alike, asked_left, listing, run_lists, step_alike}
 use Rattle.mpw_secrecy.proofs.Signing.{sign_alike_in, waive_alike}
 
 -- ---- orderly states
@@ -27,9 +27,9 @@ of_run_request : (s : State) (conn : ℕ) (request : RunRequest) → is_of_run r
 of_run_request s conn run.Run is orderly = absurd cc
 of_run_request s conn run.Cancel is orderly = absurd cc
 of_run_request s conn run.Status is orderly =
-    subst IsOrderly (sym (run_left s (checking.status s.policy s.run conn)).0) orderly
+    subst IsOrderly (sym (run_lists s (checking.status s.policy s.run conn)).1.0) orderly
 of_run_request s conn run.Markers is orderly =
-    subst IsOrderly (sym (run_left s (checking.markers s.policy s.run conn)).0) orderly
+    subst IsOrderly (sym (run_lists s (checking.markers s.policy s.run conn)).1.0) orderly
 
 module _ (places_left : PlacesAreLeft) where
   stays_orderly : (s : State) (conn : ℕ) (request : Request) → is_of_view request ≡ true

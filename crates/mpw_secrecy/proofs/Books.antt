@@ -107,18 +107,35 @@ full_by rules shelf seen user m waiver =
       | false ↦ refl
     ]
 
+-- lines that go down a book are those that are told of what is seen of each marker, if those of each marker are
+told_from : {X : Type 0} (told : MarkerSeen → List X) (shelf : List Submission) (seen : List Bool)
+    (user : Name) (waivers : List (Option Waiver)) (lines : ℕ → List Marker → List X)
+    (line : Marker → Option Waiver → List X)
+    → ((place : ℕ) → lines place [] ≡ [])
+    → ((place : ℕ) (m : Marker) (book : List Marker)
+    → lines place (m ∷ book) ≡ line m (waiver_at waivers place) ++ lines (place + 1) book)
+    → ((m : Marker) (o : Option Waiver)
+    → line m o ≡ flat_map told (marker_seen shelf seen user m o))
+    → (place : ℕ) (book : List Marker)
+    → lines place book ≡ flat_map told (markers_seen shelf seen user waivers place book)
+unfolding markers_seen
+told_from told shelf seen user waivers lines line none more each place [] = none place
+told_from told shelf seen user waivers lines line none more each place (m ∷ book) =
+    more place m book
+    ∙ (λ i. each m (waiver_at waivers place) i
+    ++ told_from told shelf seen user waivers lines line none more each (place + 1) book i)
+    ∙ sym (flat_map-append told (marker_seen shelf seen user m (waiver_at waivers place))
+    (markers_seen shelf seen user waivers (place + 1) book))
+
 full_from : (rules : List Rule) (shelf : List Submission) (seen : List Bool) (user : Name)
     (waivers : List (Option Waiver)) (place : ℕ) (book : List Marker)
     → full_lines rules shelf seen book ≡ flat_map (told_in (names_of rules))
     (markers_seen shelf seen user waivers place book)
-unfolding full_lines markers_seen
-full_from rules shelf seen user waivers place [] = refl
-full_from rules shelf seen user waivers place (m ∷ book) =
-    (λ i. full_by rules shelf seen user m (waiver_at waivers place) i
-    ++ full_from rules shelf seen user waivers (place + 1) book i)
-    ∙ sym (flat_map-append (told_in (names_of rules))
-    (marker_seen shelf seen user m (waiver_at waivers place))
-    (markers_seen shelf seen user waivers (place + 1) book))
+unfolding full_lines
+full_from rules shelf seen user waivers =
+    told_from (told_in (names_of rules)) shelf seen user waivers
+    (λ place book. full_lines rules shelf seen book) (λ m o. full_line rules shelf seen m)
+    (λ place. refl) (λ place m book. refl) (full_by rules shelf seen user)
 
 abbrev rule_told : RuleSeen → List Listed
 rule_told seen = masked_line seen.name seen.masked
@@ -239,14 +256,10 @@ waivers_from : (rules : List Rule) (shelf : List Submission) (seen : List Bool) 
     (waivers : List (Option Waiver)) (place : ℕ) (book : List Marker)
     → lines_from rules seen waivers place book ≡ flat_map (waiver_in (names_of rules))
     (markers_seen shelf seen user waivers place book)
-unfolding lines_from markers_seen
-waivers_from rules shelf seen user waivers place [] = refl
-waivers_from rules shelf seen user waivers place (m ∷ book) =
-    (λ i. shown_by rules shelf seen user m (waiver_at waivers place) i
-    ++ waivers_from rules shelf seen user waivers (place + 1) book i)
-    ∙ sym (flat_map-append (waiver_in (names_of rules))
-    (marker_seen shelf seen user m (waiver_at waivers place))
-    (markers_seen shelf seen user waivers (place + 1) book))
+unfolding lines_from
+waivers_from rules shelf seen user waivers =
+    told_from (waiver_in (names_of rules)) shelf seen user waivers (lines_from rules seen waivers)
+    (shown_line rules seen) (λ place. refl) (λ place m book. refl) (shown_by rules shelf seen user)
 
 abbrev waivers_of : BookSeen → List Line
 waivers_of book = flat_map (waiver_in (names_in book)) book.markers

@@ -65,69 +65,43 @@ of_listing conn a b first second same told leaves_a leaves_b = record {
 
 -- ---- rows that list
 
-abbrev reply_by : Result (List Listed) Ending → Reply
+abbrev pub reply_by : Result (List Listed) Ending → Reply
 reply_by (Ok lines) = reply.Ok lines
 reply_by (Err why) = ended_by why
 
-shelf_reply : (s : State) (row : Result (List Listed) Ending)
-    → (over_shelf s (layouts.listed s.shelf row)).response ≡ response.Told (reply_by row)
-shelf_reply s (Ok lines) = refl
-shelf_reply s (Err why) = refl
+-- an outcome that tells what a row lists, and leaves the state
+abbrev pub Lists : (State → Result (List Listed) Ending → Outcome) → Type 0
+Lists by = (s : State) (row : Result (List Listed) Ending)
+    → ((by s row).response ≡ response.Told (reply_by row)) × Leaves s (by s row)
 
-shelf_left : (s : State) (row : Result (List Listed) Ending)
-    → Leaves s (over_shelf s (layouts.listed s.shelf row))
-shelf_left s (Ok lines) = (refl, refl)
-shelf_left s (Err why) = (refl, refl)
+of_row : (by : State → Result (List Listed) Ending → Outcome) → Lists by
+    → (conn : ℕ) (a b : State) (first second : Result (List Listed) Ending)
+    → SameView conn a b → first ≡ second → SameOutcome conn (by a first) (by b second)
+of_row by lists conn a b first second same e =
+    of_listing conn a b (by a first) (by b second) same
+    ((lists a first).0 ∙ ap (λ row. response.Told (reply_by row)) e ∙ sym (lists b second).0)
+    (lists a first).1 (lists b second).1
 
-of_shelf : (conn : ℕ) (a b : State) (first second : Result (List Listed) Ending) → SameView conn a b
-    → first ≡ second
-    → SameOutcome conn (over_shelf a (layouts.listed a.shelf first))
-    (over_shelf b (layouts.listed b.shelf second))
-of_shelf conn a b first second same e =
-    of_listing conn a b (over_shelf a (layouts.listed a.shelf first))
-    (over_shelf b (layouts.listed b.shelf second)) same
-    (shelf_reply a first ∙ ap (λ row. response.Told (reply_by row)) e ∙ sym (shelf_reply b second))
-    (shelf_left a first) (shelf_left b second)
+abbrev shelf_listed : State → Result (List Listed) Ending → Outcome
+shelf_listed s row = over_shelf s (layouts.listed s.shelf row)
 
-run_reply : (s : State) (row : Result (List Listed) Ending)
-    → (over_run s (checking.listed s.run row)).response ≡ response.Told (reply_by row)
-run_reply s (Ok lines) = refl
-run_reply s (Err why) = refl
+shelf_lists : Lists shelf_listed
+shelf_lists s (Ok lines) = (refl, (refl, refl))
+shelf_lists s (Err why) = (refl, (refl, refl))
 
-pub run_left : (s : State) (row : Result (List Listed) Ending)
-    → Leaves s (over_run s (checking.listed s.run row))
-run_left s (Ok lines) = (refl, refl)
-run_left s (Err why) = (refl, refl)
+abbrev pub run_listed : State → Result (List Listed) Ending → Outcome
+run_listed s row = over_run s (checking.listed s.run row)
 
-of_run : (conn : ℕ) (a b : State) (first second : Result (List Listed) Ending) → SameView conn a b
-    → first ≡ second
-    → SameOutcome conn (over_run a (checking.listed a.run first))
-    (over_run b (checking.listed b.run second))
-of_run conn a b first second same e =
-    of_listing conn a b (over_run a (checking.listed a.run first))
-    (over_run b (checking.listed b.run second)) same
-    (run_reply a first ∙ ap (λ row. response.Told (reply_by row)) e ∙ sym (run_reply b second))
-    (run_left a first) (run_left b second)
+pub run_lists : Lists run_listed
+run_lists s (Ok lines) = (refl, (refl, refl))
+run_lists s (Err why) = (refl, (refl, refl))
 
-waivers_reply : (s : State) (row : Result (List Listed) Ending)
-    → (over_waivers s (signing.listed s.waivers row)).response ≡ response.Told (reply_by row)
-waivers_reply s (Ok lines) = refl
-waivers_reply s (Err why) = refl
+abbrev waivers_listed : State → Result (List Listed) Ending → Outcome
+waivers_listed s row = over_waivers s (signing.listed s.waivers row)
 
-waivers_left : (s : State) (row : Result (List Listed) Ending)
-    → Leaves s (over_waivers s (signing.listed s.waivers row))
-waivers_left s (Ok lines) = (refl, refl)
-waivers_left s (Err why) = (refl, refl)
-
-of_waivers : (conn : ℕ) (a b : State) (first second : Result (List Listed) Ending)
-    → SameView conn a b → first ≡ second
-    → SameOutcome conn (over_waivers a (signing.listed a.waivers first))
-    (over_waivers b (signing.listed b.waivers second))
-of_waivers conn a b first second same e =
-    of_listing conn a b (over_waivers a (signing.listed a.waivers first))
-    (over_waivers b (signing.listed b.waivers second)) same
-    (waivers_reply a first ∙ ap (λ row. response.Told (reply_by row)) e
-    ∙ sym (waivers_reply b second)) (waivers_left a first) (waivers_left b second)
+waivers_lists : Lists waivers_listed
+waivers_lists s (Ok lines) = (refl, (refl, refl))
+waivers_lists s (Err why) = (refl, (refl, refl))
 
 -- ---- whoami
 
@@ -175,24 +149,24 @@ listing presents conn a b (ask.Policy request) same is = absurd cc
 listing presents conn a b ask.Whoami same is = of_whoami conn a b same
 listing presents conn a b (ask.Layout (layout.Submit cell top text)) same is = absurd cc
 listing presents conn a b (ask.Layout layout.Cells) same is =
-    of_shelf conn a b (layouts.cells a.policy a.shelf conn) (layouts.cells b.policy b.shelf conn)
-    same (cells_alike presents conn a b same)
+    of_row shelf_listed shelf_lists conn a b (layouts.cells a.policy a.shelf conn)
+    (layouts.cells b.policy b.shelf conn) same (cells_alike presents conn a b same)
 listing presents conn a b (ask.Layout (layout.Shapes cell)) same is =
-    of_shelf conn a b (layouts.shapes a.policy a.shelf conn cell)
+    of_row shelf_listed shelf_lists conn a b (layouts.shapes a.policy a.shelf conn cell)
     (layouts.shapes b.policy b.shelf conn cell) same (shapes_alike presents conn a b same cell)
 listing presents conn a b (ask.Wafer request) same is = absurd cc
 listing presents conn a b (ask.Run run.Run) same is = absurd cc
 listing presents conn a b (ask.Run run.Cancel) same is = absurd cc
 listing presents conn a b (ask.Run run.Status) same is =
-    of_run conn a b (checking.status a.policy a.run conn) (checking.status b.policy b.run conn) same
-    (status_alike conn a b same)
+    of_row run_listed run_lists conn a b (checking.status a.policy a.run conn)
+    (checking.status b.policy b.run conn) same (status_alike conn a b same)
 listing presents conn a b (ask.Run run.Markers) same is =
-    of_run conn a b (checking.markers a.policy a.run conn) (checking.markers b.policy b.run conn)
-    same (markers_alike conn a b same)
+    of_row run_listed run_lists conn a b (checking.markers a.policy a.run conn)
+    (checking.markers b.policy b.run conn) same (markers_alike conn a b same)
 listing presents conn a b (ask.SignOff (sign.Waive marker)) same is = absurd cc
 listing presents conn a b (ask.SignOff (sign.Sign marker)) same is = absurd cc
 listing presents conn a b (ask.SignOff sign.Waivers) same is =
-    of_waivers conn a b (signing.waivers_row a.policy a.run a.waivers conn)
+    of_row waivers_listed waivers_lists conn a b (signing.waivers_row a.policy a.run a.waivers conn)
     (signing.waivers_row b.policy b.run b.waivers conn) same (waivers_alike conn a b same)
 listing presents conn a b (ask.SignOff sign.Verdict) same is = absurd cc
 listing presents conn a b ask.Trail same is = absurd cc

@@ -26,15 +26,19 @@ lists_waivers (Sign marker) = false
 lists_waivers Waivers = true
 lists_waivers Verdict = false
 
+-- `whoami`, `cells`, `shapes`, `status` and `markers`, and those over the waivers that are told.
+abbrev pub is_of : (SignOffRequest → Bool) → Request → Bool
+is_of of_waivers (ask.Policy request) = false
+is_of of_waivers ask.Whoami = true
+is_of of_waivers (ask.Layout request) = is_of_cells request
+is_of of_waivers (ask.Wafer request) = false
+is_of of_waivers (ask.Run request) = is_of_run request
+is_of of_waivers (ask.SignOff request) = of_waivers request
+is_of of_waivers ask.Trail = false
+
 -- `whoami`, `cells`, `shapes`, `status`, `markers` and `waivers`.
 abbrev pub is_listing : Request → Bool
-is_listing (ask.Policy request) = false
-is_listing ask.Whoami = true
-is_listing (ask.Layout request) = is_of_cells request
-is_listing (ask.Wafer request) = false
-is_listing (ask.Run request) = is_of_run request
-is_listing (ask.SignOff request) = lists_waivers request
-is_listing ask.Trail = false
+is_listing request = is_of lists_waivers request
 
 -- These, and `waive` and `sign`.
 abbrev pub is_of_waivers : SignOffRequest → Bool
@@ -44,10 +48,4 @@ is_of_waivers Waivers = true
 is_of_waivers Verdict = false
 
 abbrev pub is_of_view : Request → Bool
-is_of_view (ask.Policy request) = false
-is_of_view ask.Whoami = true
-is_of_view (ask.Layout request) = is_of_cells request
-is_of_view (ask.Wafer request) = false
-is_of_view (ask.Run request) = is_of_run request
-is_of_view (ask.SignOff request) = is_of_waivers request
-is_of_view ask.Trail = false
+is_of_view request = is_of is_of_waivers request

@@ -324,15 +324,25 @@ asker_cause fault.NoWaiver e = absurd cc
 asker_cause (fault.Submitter other) e = absurd cc
 asker_cause fault.Asker e = refl
 
-pub submitters_told : PlacesAreOfKeys → SubmitterIsLeast → SubmittersAreTold
+-- the waiver's own row ends in the fault that the denial tells of
+signed_fails : (policy : Policy) (run : Run) (waivers : List (Option Waiver)) (conn : ℕ)
+    (name : MarkerName) (why : Denial) (k : IsKeptApart policy run waivers conn name why)
+    (cause : WaiverFault) → k.cause ≡ cause
+    → signed k.f.planned.snapshot.shelf waivers k.n.place k.n.marker.met (user_of policy conn)
+    ≡ Err cause
 unfolding signed
+signed_fails policy run waivers conn name why k cause is =
+    ap (λ t. if_passed t (with_signer waivers k.n.place (user_of policy conn)))
+    (k.test ∙ ap (λ c. Err c) is)
+
+pub submitters_told : PlacesAreOfKeys → SubmitterIsLeast → SubmittersAreTold
 submitters_told keys least policy wafer run waivers conn request cell e =
     let o = by_separation policy wafer run waivers conn request (denial.Submitter cell) tt e in
     let k = o.kept in
-    let user = user_of policy conn in
-    let test = k.test ∙ ap (λ c. Err c) (submitter_cause k.cause cell k.tells) in
-    let own = least k.f.planned.snapshot.shelf waivers k.n.place k.n.marker.met user cell
-    (ap (λ t. if_passed t (with_signer waivers k.n.place user)) test) in (
+    let own = least k.f.planned.snapshot.shelf waivers k.n.place k.n.marker.met
+    (user_of policy conn) cell
+    (signed_fails policy run waivers conn o.name (denial.Submitter cell) k (fault.Submitter cell)
+    (submitter_cause k.cause cell k.tells)) in (
       o.name,
       o.is,
       record {
@@ -347,14 +357,12 @@ submitters_told keys least policy wafer run waivers conn request cell e =
     )
 
 pub askers_told : PlacesAreOfKeys → AskerAsked → AskersAreTold
-unfolding signed
 askers_told keys asked policy wafer run waivers conn request e =
     let o = by_separation policy wafer run waivers conn request denial.Asker tt e in
     let k = o.kept in
-    let user = user_of policy conn in
-    let test = k.test ∙ ap (λ c. Err c) (asker_cause k.cause k.tells) in
-    let w = asked k.f.planned.snapshot.shelf waivers k.n.place k.n.marker.met user
-    (ap (λ t. if_passed t (with_signer waivers k.n.place user)) test) in (
+    let w = asked k.f.planned.snapshot.shelf waivers k.n.place k.n.marker.met (user_of policy conn)
+    (signed_fails policy run waivers conn o.name denial.Asker k fault.Asker
+    (asker_cause k.cause k.tells)) in (
       o.name,
       o.is,
       record {

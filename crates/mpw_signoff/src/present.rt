@@ -1,58 +1,21 @@
 //! Whether the present deck and placings are those that a run looked at.
-ghost use Rattle.std.specs.Prelude.{◌≡◌, ◌↔◌, IfOk, IsTrue};
+ghost use Rattle.std.specs.Prelude.{◌≡◌, IfOk};
 ghost use Rattle.mpw_run.specs.Same.{same_snapshot};
 ghost use Rattle.mpw_signoff.specs.SigningOff.{is_present};
 
 use mpw_deck::Deck;
-use mpw_geom::{Placing, Point};
 use mpw_run::tests_are_exact;
 use mpw_tiles::Snapshot;
 use mpw_wafer::Wafer;
 use mpw_walk::Root;
 use std::alloc::{AllocError, Global};
 
-/// Whether the points have equal coordinates.
-fn is_same_point(first: &Point, second: &Point) -> bool
-    ensures { IsTrue result ↔ (first.now ≡ second.now) }
-{
-    first == second
-}
-
-/// Whether the placings have equal orientations and displacements.
-fn is_same_placing(first: &Placing, second: &Placing) -> bool
-    ensures { IsTrue result ↔ (first.now ≡ second.now) }
-{
-    (first.orient == second.orient) & is_same_point(&first.by, &second.by)
-}
-
-/// Whether the roots have equal submissions, by number, and placings.
-fn is_same_root(first: &Root, second: &Root) -> bool
-    ensures { IsTrue result ↔ (first.now ≡ second.now) }
-{
-    (first.submission == second.submission) & is_same_placing(&first.placing, &second.placing)
-}
-
-/// Whether the lists have equal roots, in order. It stops at the first difference.
-fn are_same_roots(first: &[Root], second: &[Root]) -> bool
-    ensures { IsTrue result ↔ (first.now ≡ second.now) }
-{
-    if first.len() != second.len() {
-        return false;
-    }
-    for i in 0..first.len() {
-        if !is_same_root(&first[i], &second[i]) {
-            return false;
-        }
-    }
-    true
-}
-
 /// Whether the deck and the roots are the snapshot's.
 fn is_of(snapshot: &Snapshot, deck: &Deck, roots: &[Root]) -> bool
     ensures { result ≡ same_snapshot (record { deck = deck.now; roots = roots.now; shelf = snapshot.now.shelf }) snapshot.now }
 {
     tests_are_exact();
-    deck.is_same(snapshot.deck()) & are_same_roots(roots, snapshot.roots())
+    deck.is_same(snapshot.deck()) & snapshot.has_roots(roots)
 }
 
 /// Whether the present deck and placings are the snapshot's, by value and in order; labels of placings count for nothing.

@@ -1,15 +1,16 @@
 -- A listing that is written item by item.
-use Rattle.std.proofs.Common.{◌≡◌, ◌∙◌, ℕ, List, [], ◌∷◌, ◌++◌, map, Option, Some, None, refl, sym, ap, subst, append_assoc, append-nil}
+use Rattle.std.proofs.Common.{◌≡◌, ◌∙◌, ℕ, List, [], ◌∷◌, ◌++◌, map, Option, Some, None, Result, refl, sym, ap, subst, append_assoc, append-nil}
 use Rattle.std.specs.List.{flat_map}
 use Rattle.std.specs.Io.KnownBytes.{Appends}
+use Rattle.std.specs.Result.{IsErrAnd}
 use Rattle.std.proofs.KnownBytes.{Appends-trans}
 use Rattle.std.proofs.lemmas.Grind.{flat_map-append}
 use Rattle.mpw_replies.specs.Listing.{stored}
 use Rattle.mpw_replies.specs.declared.reply.Line.{Line}
 use Rattle.mpw_wire.specs.declared.fault.WireFault.{WireFault}
 use Rattle.mpw_wire.specs.Reply.{line_text, listed_text}
-use Rattle.mpw_wire.specs.Writing.{WritesKnown}
-use Rattle.mpw_wire.proofs.WritingLemmas.{Writes-then, Writes-stop}
+use Rattle.mpw_wire.specs.Writing.{WritesKnown, fault_of}
+use Rattle.mpw_wire.proofs.WritingLemmas.{Writes-then, Writes-stop, handed_on}
 
 -- the texts of the items before those that are left are written
 pub record IsWritten {X : Type 0} (text_of : X → List ℕ) (old new : Option (List ℕ))
@@ -21,11 +22,13 @@ pub record IsWritten {X : Type 0} (text_of : X → List ℕ) (old new : Option (
 
 -- one item more
 pub written_more : {X : Type 0} (text_of : X → List ℕ) (old mid new : Option (List ℕ))
-    (failed mid' failed' : ℕ) (items left rest : List X) (item : X)
-    → IsWritten text_of old mid failed mid' items left → left ≡ item ∷ rest
-    → WritesKnown mid new mid' failed' None (text_of item)
+    (failed mid' failed' : ℕ) (items left rest : List X) (item : X) (told : Option WireFault)
+    → told ≡ None → IsWritten text_of old mid failed mid' items left → left ≡ item ∷ rest
+    → WritesKnown mid new mid' failed' told (text_of item)
     → IsWritten text_of old new failed failed' items rest
-written_more text_of old mid new failed mid' failed' items left rest item so_far is w =
+written_more text_of old mid new failed mid' failed' items left rest item told e so_far is w =
+    let whole : WritesKnown mid new mid' failed' None (text_of item) =
+    subst (λ x. WritesKnown mid new mid' failed' x (text_of item)) e w in
     record {
       written = so_far.written ++ item ∷ [];
       parts = so_far.parts ∙ ap (λ xs. so_far.written ++ xs) is
@@ -34,19 +37,19 @@ written_more text_of old mid new failed mid' failed' items left rest item so_far
           (sym (append-nil (text_of item)))
           ∙ sym (flat_map-append text_of so_far.written (item ∷ [])))
           (Appends-trans old mid new (flat_map text_of so_far.written) (text_of item) so_far.text
-          w.0);
-      failures = w.1 ∙ so_far.failures;
+          whole.0);
+      failures = whole.1 ∙ so_far.failures;
     }
 
 -- the writing stopped in an item
-pub written_stop : {X : Type 0} (text_of : X → List ℕ) (old mid new : Option (List ℕ))
+pub written_stop : {X A : Type 0} (text_of : X → List ℕ) (old mid new : Option (List ℕ))
     (failed mid' failed' : ℕ) (items left rest : List X) (item : X) (fault : WireFault)
-    (told told' : Option WireFault)
-    → told ≡ Some fault → told' ≡ Some fault
+    (told : Option WireFault) (result : Result A WireFault)
+    → told ≡ Some fault → IsErrAnd result (λ e. e ≡ fault)
     → IsWritten text_of old mid failed mid' items left → left ≡ item ∷ rest
     → WritesKnown mid new mid' failed' told (text_of item)
-    → WritesKnown old new failed failed' told' (flat_map text_of items)
-written_stop text_of old mid new failed mid' failed' items left rest item fault told told' e e'
+    → WritesKnown old new failed failed' (fault_of result) (flat_map text_of items)
+written_stop text_of old mid new failed mid' failed' items left rest item fault told result e h
     so_far is w =
     let here : WritesKnown mid new mid' failed' (Some fault) (text_of item) =
     subst (λ x. WritesKnown mid new mid' failed' x (text_of item)) e w in
@@ -59,7 +62,8 @@ written_stop text_of old mid new failed mid' failed' items left rest item fault 
     sym (flat_map-append text_of so_far.written (item ∷ rest))
     ∙ ap (λ xs. flat_map text_of (so_far.written ++ xs)) (sym is)
     ∙ ap (flat_map text_of) (sym so_far.parts) in
-    subst (λ x. WritesKnown old new failed failed' x (flat_map text_of items)) (sym e')
+    subst (λ x. WritesKnown old new failed failed' x (flat_map text_of items))
+    (sym (handed_on result fault h))
     (subst (WritesKnown old new failed failed' (Some fault)) parts all)
 
 -- lines that are kept are written as they are

@@ -7,7 +7,7 @@ use Rattle.std.specs.Result.{IsErrAnd}
 use Rattle.mpw_wire.specs.declared.fault.WireFault.{WireFault}
 use Rattle.mpw_wire.specs.declared.fault.WireFault.TheVariants.{Read, Write, Memory}
 use Rattle.mpw_wire.specs.declared.request.LineAsk.{LineAsk}
-use Rattle.mpw_wire.specs.Reading.{IsUnbroken, Breaks, TakesSome, TakesUpTo, TakesOffer, following}
+use Rattle.mpw_wire.specs.Reading.{IsUnbroken, Breaks, TakesSome, TakesTooFew, TakesUpTo, TakesOffer, TakesCut, TakesOfferFront, following}
 use Rattle.mpw_wire.specs.Internal.Reading.{BreaksLine, BreaksBytes}
 use Rattle.mpw_wire.specs.declared.operand.Origin.{Origin}
 use Rattle.mpw_wire.specs.Names.{name_of, ◌>>=◌}
@@ -92,23 +92,32 @@ offer_breaks (Ok answer) fault old mid new line asked most h offer counted broke
 offer_breaks (Err e) fault old mid new line asked most h offer counted broken =
     subst (Breaks old new) (sym h) (breaks fault broken)
   where
+    front_of : TakesUpTo mid new most → TakesOfferFront old new
+    front_of front = record {
+      line = line;
+      asked = asked;
+      length_asked = most;
+      mid = mid;
+      offer = offer;
+      counted = counted;
+      front = front;
+    }
+
     breaks : (fault : WireFault) → BreaksBytes mid new most fault → Breaks old new fault
-    breaks Read front = inr (record {
-      line = line;
-      asked = asked;
-      length_asked = most;
-      mid = mid;
-      offer = offer;
-      counted = counted;
-      front = front;
-    })
+    breaks Read front = inr (front_of front)
     breaks Write front = absurd front
-    breaks Memory front = inr (record {
-      line = line;
-      asked = asked;
-      length_asked = most;
-      mid = mid;
-      offer = offer;
-      counted = counted;
-      front = front;
-    })
+    breaks Memory front = inr (front_of front)
+
+-- fewer bytes than a line says stood behind it
+pub offer_cut : (old mid new : Option (List ℕ)) (line : List ℕ) (asked : LineAsk) (most : ℕ)
+    → TakesOffer old mid line asked → following asked ≡ Some most → TakesTooFew mid new most
+    → TakesCut old new
+offer_cut old mid new line asked most offer counted few = record {
+  line = line;
+  asked = asked;
+  length_asked = most;
+  mid = mid;
+  offer = offer;
+  counted = counted;
+  few = few;
+}

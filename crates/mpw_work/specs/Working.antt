@@ -53,6 +53,14 @@ ends response.Gone = false
 ends response.Restarted = false
 ends response.Ended = true
 
+-- What is made of the run's own reply, and what of any other response.
+abbrev pub by_run : {A : Type 0} → A → (RunReply → A) → Response → A
+by_run other of_reply (response.Told reply) = other
+by_run other of_reply (response.Run reply) = of_reply reply
+by_run other of_reply response.Gone = other
+by_run other of_reply response.Restarted = other
+by_run other of_reply response.Ended = other
+
 -- What came of an event that is handed to the desk: its response, or want of memory, which leaves the desk.
 abbrev pub CameOf : KeptDesk → Event → Option Response → KeptDesk → Type 0
 CameOf d event None d' = d' ≡ d
@@ -121,11 +129,7 @@ cut_handed told.Double = None
 cut_handed told.OldRun = None
 
 abbrev pub cut_told : Response → Option CutJob
-cut_told (response.Told reply) = None
-cut_told (response.Run reply) = cut_handed reply
-cut_told response.Gone = None
-cut_told response.Restarted = None
-cut_told response.Ended = None
+cut_told response = by_run None cut_handed response
 
 abbrev pub cut_called : Option Response → Option CutJob
 cut_called None = None
@@ -142,11 +146,7 @@ keeps told.Double = false
 keeps told.OldRun = false
 
 abbrev pub is_kept : Response → Bool
-is_kept (response.Told reply) = false
-is_kept (response.Run reply) = keeps reply
-is_kept response.Gone = false
-is_kept response.Restarted = false
-is_kept response.Ended = false
+is_kept response = by_run false keeps response
 
 abbrev pub was_kept : Option Response → Bool
 was_kept None = false

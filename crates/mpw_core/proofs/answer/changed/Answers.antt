@@ -4,5 +4,5 @@ use Rattle.mpw_core.proofs.AnswerLemmas.{refused-gives}
 use Rattle.mpw_core.proofs.answer.changed.Goals as goal
 
 pub returns-in-Err : goal.returns-in-Err
-returns-in-Err c = λ policy row ok err. refused-gives policy row c.in-Err.fault c.refused.result
-    (subst (λ made. IfErr made (IsFaultOf row)) c.in-Err.is err) c.refused.ensures
+returns-in-Err c = λ policy row ok err. refused-gives policy row c.in-Err.fault c.refusal_of.result
+    (subst (λ made. IfErr made (IsFaultOf row)) c.in-Err.is err) c.refusal_of.ensures

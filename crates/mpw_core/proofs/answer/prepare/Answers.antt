@@ -37,4 +37,4 @@ pub returns-in-Gone : goal.returns-in-Gone
 unfolding wanted
 returns-in-Gone c =
     let state : State = open_state c.args.tables.now in
-    rw c.in-Gone.is (c.gone.ensures state refl)
+    rw c.in-Gone.is (c.parting.ensures state refl)

@@ -3,7 +3,7 @@ use Rattle.std.specs.Prelude.{option_map}
 use Rattle.mpw_wire.specs.declared.request.LineAsk.TheVariants as ask
 use Rattle.mpw_wire.specs.Reading.{TakesOffer, IsText}
 use Rattle.mpw_wire.specs.Internal.Reading.{TakesBytes, TakesPayload}
-use Rattle.mpw_wire.proofs.ReadingLemmas.{offer_breaks}
+use Rattle.mpw_wire.proofs.ReadingLemmas.{offer_breaks, offer_cut}
 use Rattle.mpw_wire.proofs.read.read_deck.Goals as goal
 
 pub returns-in_ok-shared-in-Some-clause-asked : goal.returns-in_ok-shared-in-Some-clause-asked
@@ -23,20 +23,12 @@ pub returns-in-None-clause-asked : goal.returns-in-None-clause-asked
 returns-in-None-clause-asked g c = λ old line offer.
     let mid = g.R.Source.remaining c.args.reader.now in
     let new = g.R.Source.remaining c.take_bytes.new.reader in
-    record {
-      line = line;
-      asked = ask.Deck c.args.length;
-      length_asked = c.args.length;
-      mid = mid;
-      offer = offer;
-      counted = refl;
-      few = subst (λ o. TakesBytes mid new c.args.length (option_map (λ b. b.items) o)) c.in-None.is
-          c.in_ok-bytes.ensures.taken;
-    }
+    offer_cut old mid new line (ask.Deck c.args.length) c.args.length offer refl
+    (subst (λ o. TakesBytes mid new c.args.length (option_map (λ b. b.items) o)) c.in-None.is
+    c.in_ok-bytes.ensures.taken)
 
 pub returns-in_err-bytes-clause-fault : goal.returns-in_err-bytes-clause-fault
 returns-in_err-bytes-clause-fault g c = λ old line offer.
     offer_breaks c.from_residual.result c.in_err-bytes.field-0.0 old
-    (g.R.Source.remaining c.args.reader.now) (g.R.Source.remaining c.take_bytes.new.reader) line
-    _ c.args.length
+    (g.R.Source.remaining c.args.reader.now) (g.R.Source.remaining c.take_bytes.new.reader) line _ c.args.length
     c.from_residual.ensures.1 offer refl c.in_err-bytes.ensures.fault

@@ -3,7 +3,7 @@ use Rattle.std.proofs.Common.{◌≡◌, ◌∙◌, false, sym, ap, refl}
 use Rattle.std.specs.Prelude.{is_some}
 use Rattle.mpw_rbac.specs.Policy.{Policy, session_of}
 use Rattle.mpw_rbac.proofs.RowLemmas.{end-absent}
-use Rattle.mpw_core.proofs.answer.gone.Goals as goal
+use Rattle.mpw_core.proofs.answer.parting.Goals as goal
 
 pub returns-then-not-has_session : goal.returns-then-not-has_session
 returns-then-not-has_session c = λ state same.
