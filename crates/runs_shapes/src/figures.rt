@@ -1,148 +1,111 @@
 //! Boundaries of known forms.
+//!
+//! Each is added to a list that the caller holds, some corners at a time, so that no figure drops one.
 
 use anyhow::{Result, bail};
-use std::alloc::{AllocError, Global};
+use std::alloc::AllocError;
 
 type Corners = Vec<(i32, i32)>;
 
 /// 2,000 teeth of width 1 on a bar, each 4 corners.
-fn comb(alloc: Global) -> Result<Corners, AllocError> {
-    let mut points = Vec::new(alloc);
+fn add_comb(points: &mut Corners) -> Result<(), AllocError> {
     for tooth in 0..2000u16 {
         let x = 2 * i32::from(tooth);
-        points.push((x, 0))?;
-        points.push((x, 10))?;
-        points.push((x + 1, 10))?;
-        points.push((x + 1, 0))?;
+        points.extend_from_slice(&[(x, 0), (x, 10), (x + 1, 10), (x + 1, 0)])?;
     }
-    points.push((4000, 0))?;
-    points.push((4000, -5))?;
-    points.push((0, -5))?;
-    Ok(points)
+    points.extend_from_slice(&[(4000, 0), (4000, -5), (0, -5)])
 }
 
 /// Steps of 1, and the corner that closes them.
-fn staircase(alloc: Global, steps: u16) -> Result<Corners, AllocError> {
-    let mut points = Vec::new(alloc);
+fn add_staircase(points: &mut Corners, steps: u16) -> Result<(), AllocError> {
     for step in 0..steps {
         let at = i32::from(step);
-        points.push((at, at))?;
-        points.push((at + 1, at))?;
+        points.extend_from_slice(&[(at, at), (at + 1, at)])?;
     }
     let end = i32::from(steps);
-    points.push((end, end))?;
-    points.push((0, end))?;
-    Ok(points)
+    points.extend_from_slice(&[(end, end), (0, end)])
 }
 
 /// A corridor of width 1 that winds inward 250 times between walls of width 1.
-fn spiral(alloc: Global) -> Result<Corners, AllocError> {
-    let mut points = Vec::new(alloc);
+fn add_spiral(points: &mut Corners) -> Result<(), AllocError> {
     points.push((-1, 0))?;
     for turn in 0..250u16 {
         let low = 2 * i32::from(turn);
         let high = 1000 - low;
-        points.push((high, low))?;
-        points.push((high, high))?;
-        points.push((low, high))?;
-        points.push((low, low + 2))?;
+        points.extend_from_slice(&[(high, low), (high, high), (low, high), (low, low + 2)])?;
     }
     points.push((499, 500))?;
     for back in 0..250u16 {
         let low = 499 - 2 * i32::from(back);
         let high = 1000 - low;
-        points.push((low, high))?;
-        points.push((high, high))?;
-        points.push((high, low))?;
-        points.push((low - 2, low))?;
-    }
-    Ok(points)
-}
-
-/// 500 squares one in another, drawn by one line that comes back on its own steps.
-fn nested(alloc: Global) -> Result<Corners, AllocError> {
-    let mut points = Vec::new(alloc);
-    for step in 0..500u16 {
-        let low = i32::from(step);
-        let high = 1000 - low;
-        points.push((low, low))?;
-        points.push((high, low))?;
-        points.push((high, high))?;
-        points.push((low, high))?;
-        points.push((low, low))?;
-        points.push((low + 1, low))?;
-    }
-    for back in 0..500u16 {
-        let low = 500 - i32::from(back);
-        points.push((low, low))?;
-        points.push((low, low - 1))?;
-    }
-    Ok(points)
-}
-
-fn add_teeth(points: &mut Corners) -> Result<(), AllocError> {
-    for tooth in 0..1000u16 {
-        let y = 2 * i32::from(tooth);
-        let x = 10 + i32::from(tooth);
-        points.push((0, y))?;
-        points.push((x, y))?;
-        points.push((x, y + 1))?;
-        points.push((0, y + 1))?;
+        points.extend_from_slice(&[(low, high), (high, high), (high, low), (low - 2, low)])?;
     }
     Ok(())
 }
 
-fn add_rectangles(points: &mut Corners) -> Result<(), AllocError> {
-    for wide in 0..1000u16 {
-        let right = 2000 + i32::from(wide);
-        let left = -10 - i32::from(wide);
-        points.push((right, 0))?;
-        points.push((right, 2000))?;
-        points.push((left, 2000))?;
-        points.push((left, 0))?;
+/// 500 squares one in another, drawn by one line that comes back on its own steps.
+fn add_nested(points: &mut Corners) -> Result<(), AllocError> {
+    for step in 0..500u16 {
+        let low = i32::from(step);
+        let high = 1000 - low;
+        points.extend_from_slice(&[
+            (low, low),
+            (high, low),
+            (high, high),
+            (low, high),
+            (low, low),
+            (low + 1, low),
+        ])?;
+    }
+    for back in 0..500u16 {
+        let low = 500 - i32::from(back);
+        points.extend_from_slice(&[(low, low), (low, low - 1)])?;
     }
     Ok(())
 }
 
 /// 1,000 teeth of different lengths, and 1,000 rectangles round them all, drawn by one line.
-fn teeth_in_rectangles(alloc: Global) -> Result<Corners, AllocError> {
-    let mut points = Vec::new(alloc);
-    add_teeth(&mut points)?;
-    points.push((0, 2000))?;
-    points.push((-10, 2000))?;
-    points.push((-10, 0))?;
-    add_rectangles(&mut points)?;
-    Ok(points)
-}
-
-/// The figure of a name.
-pub fn named(alloc: Global, name: &str) -> Result<Corners> {
-    match name {
-        "comb" => Ok(comb(alloc)?),
-        "staircase" => Ok(staircase(alloc, 4000)?),
-        "largest" => Ok(staircase(alloc, 4094)?),
-        "spiral" => Ok(spiral(alloc)?),
-        "nested" => Ok(nested(alloc)?),
-        "teeth" => Ok(teeth_in_rectangles(alloc)?),
-        _ => bail!("a figure"),
+fn add_teeth(points: &mut Corners) -> Result<(), AllocError> {
+    for tooth in 0..1000u16 {
+        let y = 2 * i32::from(tooth);
+        let x = 10 + i32::from(tooth);
+        points.extend_from_slice(&[(0, y), (x, y), (x, y + 1), (0, y + 1)])?;
     }
+    points.extend_from_slice(&[(0, 2000), (-10, 2000), (-10, 0)])?;
+    for wide in 0..1000u16 {
+        let right = 2000 + i32::from(wide);
+        let left = -10 - i32::from(wide);
+        points.extend_from_slice(&[(right, 0), (right, 2000), (left, 2000), (left, 0)])?;
+    }
+    Ok(())
 }
 
-/// A closed chain of steps between the lines 0 to 7, from a seed.
-pub fn scribble(alloc: Global, seed: u64, steps: u8) -> Result<Corners, AllocError> {
+/// Adds the figure of a name.
+pub fn add_named(points: &mut Corners, name: &str) -> Result<()> {
+    let added = match name {
+        "comb" => add_comb(points),
+        "staircase" => add_staircase(points, 4000),
+        "largest" => add_staircase(points, 4094),
+        "spiral" => add_spiral(points),
+        "nested" => add_nested(points),
+        "teeth" => add_teeth(points),
+        _ => bail!("a figure"),
+    };
+    Ok(added?)
+}
+
+/// Adds a closed chain of steps between the lines 0 to 7, from a seed.
+pub fn add_scribble(points: &mut Corners, seed: u64, steps: u8) -> Result<(), AllocError> {
     let mut state = seed;
-    let mut points = Vec::new(alloc);
-    let mut y = 0i32;
-    points.push((0, 0))?;
+    let mut at = (0i32, 0i32);
     for _ in 0..steps {
         state = state
             .wrapping_mul(6364136223846793005)
             .wrapping_add(1442695040888963407);
         let x = ((state >> 40) % 8) as i32;
-        points.push((x, y))?;
-        y = ((state >> 50) % 8) as i32;
-        points.push((x, y))?;
+        let y = ((state >> 50) % 8) as i32;
+        points.extend_from_slice(&[at, (x, at.1)])?;
+        at = (x, y);
     }
-    points.push((0, y))?;
-    Ok(points)
+    points.extend_from_slice(&[at, (0, at.1)])
 }

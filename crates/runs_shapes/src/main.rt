@@ -12,21 +12,19 @@
 mod figures;
 mod shapes;
 
-use anyhow::{Result, bail};
+use anyhow::Result;
 
 fn answer_words(rt: &(impl Print + AllocGlobal), words: &[&str], notation: &str) -> Result<()> {
     match words {
-        ["boxes"] => shapes::boxes(rt, notation),
-        ["total"] => shapes::total(rt, notation),
-        ["squares", rest @ ..] => shapes::squares(rt, rest, notation),
         ["figure", name, rest @ ..] => shapes::figure(rt, name, rest),
         ["scribbles", count] => shapes::scribbles(rt, count),
-        _ => bail!("a command"),
+        _ => shapes::answer(rt, words, &shapes::boxes_of_notation(rt.alloc(), notation)?),
     }
 }
 
-/// Answers a line.
+/// Prints a line, and answers it.
 fn answer(rt: &(impl Print + AllocGlobal), line: &str) -> Result<()> {
+    println!(rt; "{line}")?;
     if line.is_empty() || line.starts_with('#') {
         return Ok(());
     }
@@ -37,9 +35,7 @@ fn answer(rt: &(impl Print + AllocGlobal), line: &str) -> Result<()> {
 
 fn main(rt: HostRuntime) -> Result<()> {
     for line in rt.lines(rt.alloc()) {
-        let line = line?;
-        println!(rt; "{line}")?;
-        answer(&rt, line.as_str())?;
+        answer(&rt, line?.as_str())?;
     }
     Ok(())
 }

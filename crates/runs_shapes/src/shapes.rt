@@ -1,22 +1,31 @@
 //! Rectangles of elements, counted square by square.
 
 ghost use Rattle.mpw_elements.specs.Element.{IsElement};
+ghost use Rattle.mpw_library.specs.Library.{IsLibrary};
 
 use crate::figures;
 use anyhow::{Result, bail};
 use mpw_elements::Element;
 use mpw_geom::Box2;
-use mpw_library::read_library;
-use mpw_samples::{NANOMETRE, Sample, text_of_library};
+use mpw_library::{Library, read_library};
+use mpw_samples::{NANOMETRE, Sample, SampleError, text_of_library};
 use mpw_shapes::rectangles;
 use std::alloc::{AllocError, Global};
 
-/// Adds the rectangles of a copy of the element.
-fn add_boxes(alloc: Global, boxes: &mut Vec<Box2>, element: &Element) -> Result<(), AllocError>
+/// The rectangles of a copy of the element.
+fn rectangles_of_copy(alloc: Global, element: &Element) -> Result<Vec<Box2>, AllocError>
     requires { IsElement element.now }
 {
-    for found in rectangles(alloc, &element.copy()?)? {
-        boxes.push(found)?;
+    rectangles(alloc, &element.copy()?)
+}
+
+fn add_boxes(alloc: Global, boxes: &mut Vec<Box2>, library: &Library) -> Result<(), AllocError>
+    requires { IsLibrary library.now }
+{
+    for structure in library.structures() {
+        for element in structure.elements.as_slice() {
+            boxes.extend_from_slice(&rectangles_of_copy(alloc, element)?)?;
+        }
     }
     Ok(())
 }
@@ -25,18 +34,18 @@ fn add_boxes(alloc: Global, boxes: &mut Vec<Box2>, element: &Element) -> Result<
 fn boxes_of(alloc: Global, bytes: &[u8]) -> Result<Vec<Box2>> {
     let library = read_library(alloc, bytes)?;
     let mut boxes = Vec::new(alloc);
-    for structure in library.structures() {
-        for element in structure.elements.as_slice() {
-            add_boxes(alloc, &mut boxes, element)?;
-        }
-    }
+    add_boxes(alloc, &mut boxes, &library)?;
     Ok(boxes)
 }
 
+/// The rectangles of all elements of the library in the samples' notation.
+pub fn boxes_of_notation(alloc: Global, notation: &str) -> Result<Vec<Box2>> {
+    boxes_of(alloc, &text_of_library(alloc, notation)?)
+}
+
 /// Prints the rectangles.
-pub fn boxes(rt: &(impl Print + AllocGlobal), notation: &str) -> Result<()> {
-    let boxes = boxes_of(rt.alloc(), &text_of_library(rt.alloc(), notation)?)?;
-    for found in &boxes {
+fn print_boxes(rt: &impl Print, boxes: &[Box2]) -> Result<()> {
+    for found in boxes {
         let Box2 { x0, y0, x1, y1 } = *found;
         println!(rt; "    {x0} {y0} {x1} {y1}")?;
     }
@@ -75,30 +84,34 @@ fn square(rt: &impl Print, boxes: &[Box2], x: &str, y: &str) -> Result<()> {
 }
 
 /// Counts the squares, and looks at some.
-pub fn squares(rt: &(impl Print + AllocGlobal), words: &[&str], notation: &str) -> Result<()> {
-    let boxes = boxes_of(rt.alloc(), &text_of_library(rt.alloc(), notation)?)?;
-    let squares = count(&boxes);
+fn squares(rt: &impl Print, boxes: &[Box2], words: &[&str]) -> Result<()> {
+    let squares = count(boxes);
     println!(rt; "    {squares} squares")?;
     for pair in words.chunks(2) {
         let [x, y] = pair else {
             bail!("a square");
         };
-        square(rt, &boxes, x, y)?;
+        square(rt, boxes, x, y)?;
     }
     Ok(())
 }
 
-/// The text of a boundary, with the closing point that the standard asks for.
-fn text_of(alloc: Global, points: &[(i32, i32)]) -> Result<Vec<u8>> {
+/// Draws a boundary, with the closing point that the standard asks for.
+fn draw(alloc: Global, text: &mut Sample, points: &[(i32, i32)]) -> Result<(), SampleError> {
+    text.begin("TOP")?;
     let mut closed = Vec::from_slice(alloc, points)?;
     if let Some(first) = points.first() {
         closed.push(*first)?;
     }
+    text.boundary(1, 0, &closed)
+}
+
+/// The rectangles of a boundary.
+fn boxes_of_figure(alloc: Global, points: &[(i32, i32)]) -> Result<Vec<Box2>> {
     let mut text = Sample::new(alloc, NANOMETRE)?;
-    text.begin("TOP")?;
-    text.boundary(1, 0, &closed)?;
+    draw(alloc, &mut text, points)?;
     text.end()?;
-    Ok(text.finish()?)
+    boxes_of(alloc, &text.finish()?)
 }
 
 /// The sum of the boxes' areas: the area of their union, if no two overlap.
@@ -112,35 +125,47 @@ fn area(boxes: &[Box2]) -> i64 {
     sum
 }
 
-/// Prints how many rectangles the elements have, and the sum of their areas.
-pub fn total(rt: &(impl Print + AllocGlobal), notation: &str) -> Result<()> {
-    let boxes = boxes_of(rt.alloc(), &text_of_library(rt.alloc(), notation)?)?;
-    let (number, sum) = (boxes.len(), area(&boxes));
+/// Prints how many rectangles there are, and the sum of their areas.
+fn total(rt: &impl Print, boxes: &[Box2]) -> Result<()> {
+    let (number, sum) = (boxes.len(), area(boxes));
     Ok(println!(rt; "    {number} boxes, areas of {sum}")?)
 }
 
-/// Prints the number of boxes, or, where it is at most that of the words, that.
-fn number(rt: &impl Print, boxes: &[Box2], words: &[&str]) -> Result<()> {
-    let number = boxes.len();
+/// Answers a command on the rectangles of a library.
+pub fn answer(rt: &impl Print, words: &[&str], boxes: &[Box2]) -> Result<()> {
+    match words {
+        ["boxes"] => print_boxes(rt, boxes),
+        ["total"] => total(rt, boxes),
+        ["squares", rest @ ..] => squares(rt, boxes, rest),
+        _ => bail!("a command"),
+    }
+}
+
+/// The number of boxes, or, where it is at most that of a word, that.
+fn number(boxes: &[Box2], words: &[&str]) -> Result<(&'static str, usize)> {
     for word in words {
         let Ok(most) = word.parse::<usize>() else {
             bail!("a number");
         };
-        if number <= most {
-            return Ok(print!(rt; "at most {most} boxes")?);
+        if boxes.len() <= most {
+            return Ok(("at most ", most));
         }
     }
-    Ok(print!(rt; "{number} boxes")?)
+    Ok(("", boxes.len()))
+}
+
+fn print_figure(rt: &impl Print, corners: usize, boxes: &[Box2], words: &[&str]) -> Result<()> {
+    let (told, number) = number(boxes, words)?;
+    let sum = area(boxes);
+    Ok(println!(rt; "    {corners} corners, {told}{number} boxes, area {sum}")?)
 }
 
 /// Prints the numbers of a figure.
 pub fn figure(rt: &(impl Print + AllocGlobal), name: &str, words: &[&str]) -> Result<()> {
-    let points = figures::named(rt.alloc(), name)?;
-    let boxes = boxes_of(rt.alloc(), &text_of(rt.alloc(), &points)?)?;
-    let (corners, sum) = (points.len(), area(&boxes));
-    print!(rt; "    {corners} corners, ")?;
-    number(rt, &boxes, words)?;
-    Ok(println!(rt; ", area {sum}")?)
+    let mut points = Vec::new(rt.alloc());
+    figures::add_named(&mut points, name)?;
+    let boxes = boxes_of_figure(rt.alloc(), &points)?;
+    print_figure(rt, points.len(), &boxes, words)
 }
 
 /// The winding number by the horizontal edges above the square.
@@ -176,15 +201,21 @@ fn agree(boxes: &[Box2], points: &[(i32, i32)]) -> bool {
     true
 }
 
-/// Compares random boundaries, of 6 steps and of 60 in turn, with a grid.
+/// Whether the boxes of a random boundary, of 6 steps or of 60 in turn, are those of a grid.
+fn compare(alloc: Global, seed: u64) -> Result<bool> {
+    let mut points = Vec::new(alloc);
+    figures::add_scribble(&mut points, seed, if seed % 2 == 0 { 6 } else { 60 })?;
+    let boxes = boxes_of_figure(alloc, &points)?;
+    Ok(agree(&boxes, &points))
+}
+
+/// Compares random boundaries with a grid.
 pub fn scribbles(rt: &(impl Print + AllocGlobal), word: &str) -> Result<()> {
     let Ok(count) = word.parse::<u64>() else {
         bail!("a number");
     };
     for seed in 0..count {
-        let points = figures::scribble(rt.alloc(), seed, if seed % 2 == 0 { 6 } else { 60 })?;
-        let boxes = boxes_of(rt.alloc(), &text_of(rt.alloc(), &points)?)?;
-        if !agree(&boxes, &points) {
+        if !compare(rt.alloc(), seed)? {
             println!(rt; "    boundary {seed} differs")?;
         }
     }
