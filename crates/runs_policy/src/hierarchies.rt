@@ -1,5 +1,5 @@
 //! Random hierarchies: each mask beside a plain search over the pairs, in full after each change.
-use crate::name;
+use crate::role_name;
 use mpw_geom::Name;
 use mpw_roles::{Mask, Roles};
 use std::alloc::{AllocError, Global};
@@ -7,6 +7,9 @@ use std::io;
 
 /// The greatest number of roles.
 const MAX_ROLES: usize = 512;
+
+/// For each hierarchy its number of roles, of changes first, and of changes with all compared after each.
+const HIERARCHIES: [(usize, usize, usize); 3] = [(8, 0, 300), (64, 0, 300), (512, 300, 300)];
 
 /// A linear congruential generator.
 #[derive(Drop)]
@@ -131,10 +134,7 @@ fn make(
     junior: usize,
 ) -> Result<bool, AllocError> {
     let closes = is_marked(&search(plain.pairs.as_slice(), junior), senior);
-    let known = plain
-        .pairs
-        .iter()
-        .any(|pair| pair.0 == senior && pair.1 == junior);
+    let known = plain.pairs.contains(&(senior, junior));
     let (Some(above), Some(below)) = (plain.names.get(senior), plain.names.get(junior)) else {
         return Ok(false);
     };
@@ -171,84 +171,50 @@ fn add(
     plain: &mut Plain,
     number: usize,
 ) -> Result<bool, AllocError> {
-    let role = name(alloc, format!(in alloc; "r{number}")?.as_str())?;
-    let made = roles.add(role.copy()?).is_ok();
-    plain.names.push(role)?;
-    Ok(made)
+    let role = role_name(alloc, number)?;
+    plain.names.push(role.copy()?)?;
+    Ok(roles.add(role).is_ok())
 }
 
 /// One change, of four kinds; whether the two bodies agree on its answer.
-fn change(
-    alloc: Global,
-    roles: &mut Roles,
-    plain: &mut Plain,
-    random: &mut Random,
-    number: usize,
-) -> Result<bool, AllocError> {
+fn change(alloc: Global, bodies: &mut Bodies, number: usize) -> Result<bool, AllocError> {
+    let (roles, plain) = (&mut bodies.roles, &mut bodies.plain);
     let count = plain.names.len();
-    match random.below(16) {
+    match bodies.random.below(16) {
         0 => {
-            let same = remove(roles, plain, random.below(count));
+            let same = remove(roles, plain, bodies.random.below(count));
             Ok(same & add(alloc, roles, plain, number)?)
         }
         1..=4 => {
-            let at = random.below(plain.pairs.len());
+            let at = bodies.random.below(plain.pairs.len());
             Ok(take_back(roles, plain, at))
         }
         _ => {
-            let senior = random.below(count);
-            let junior = random.below(count);
+            let senior = bodies.random.below(count);
+            let junior = bodies.random.below(count);
             make(roles, plain, senior, junior)
         }
     }
 }
 
-/// So many changes: how many answers differ.
-fn change_all(alloc: Global, bodies: &mut Bodies, changes: usize) -> Result<usize, AllocError> {
+/// So many changes, perhaps with all compared after each: how many differences there were, in answers and in masks.
+fn change_all(
+    alloc: Global,
+    bodies: &mut Bodies,
+    first: usize,
+    changes: usize,
+    is_compared: bool,
+) -> Result<usize, AllocError> {
     let mut wrong: usize = 0;
     for number in 0..changes {
-        let same = change(
-            alloc,
-            &mut bodies.roles,
-            &mut bodies.plain,
-            &mut bodies.random,
-            number.saturating_add(MAX_ROLES),
-        )?;
-        if !same {
+        if !change(alloc, bodies, number.saturating_add(first))? {
             wrong = wrong.saturating_add(1);
+        }
+        if is_compared {
+            wrong = wrong.saturating_add(differences(alloc, &bodies.roles, &bodies.plain)?);
         }
     }
     Ok(wrong)
-}
-
-/// One change with all compared after it: how many differences there were, in its answer and in masks.
-fn compare(alloc: Global, bodies: &mut Bodies, number: usize) -> Result<usize, AllocError> {
-    let same = change(
-        alloc,
-        &mut bodies.roles,
-        &mut bodies.plain,
-        &mut bodies.random,
-        number,
-    )?;
-    let wrong = differences(alloc, &bodies.roles, &bodies.plain)?;
-    Ok(if same { wrong } else { wrong.saturating_add(1) })
-}
-
-/// So many changes, with all compared after each: how many differences there were.
-fn compare_all(alloc: Global, bodies: &mut Bodies, changes: usize) -> Result<usize, AllocError> {
-    let mut wrong: usize = 0;
-    for number in 0..changes {
-        wrong = wrong.saturating_add(compare(alloc, bodies, number.saturating_add(4096))?);
-    }
-    Ok(wrong)
-}
-
-/// Adds so many roles to both bodies.
-fn add_all(alloc: Global, bodies: &mut Bodies, count: usize) -> Result<(), AllocError> {
-    for number in 0..count {
-        add(alloc, &mut bodies.roles, &mut bodies.plain, number)?;
-    }
-    Ok(())
 }
 
 /// So many roles, some changes first, and then so many with all compared after each.
@@ -259,9 +225,11 @@ fn drive(
     first: usize,
     changes: usize,
 ) -> Result<usize, AllocError> {
-    add_all(alloc, bodies, count)?;
-    let before = change_all(alloc, bodies, first)?;
-    let after = compare_all(alloc, bodies, changes)?;
+    for number in 0..count {
+        add(alloc, &mut bodies.roles, &mut bodies.plain, number)?;
+    }
+    let before = change_all(alloc, bodies, MAX_ROLES, first, false)?;
+    let after = change_all(alloc, bodies, 4096, changes, true)?;
     Ok(before.saturating_add(after))
 }
 
@@ -286,8 +254,8 @@ fn run(alloc: Global, count: usize, first: usize, changes: usize) -> Result<usiz
 /// Prints the part on random hierarchies.
 pub fn show(rt: &HostRuntime) -> io::Result<()> {
     println!(rt; "# masks beside a plain search")?;
-    for (count, first, changes) in [(8, 0, 300), (64, 0, 300), (512, 300, 300)] {
-        let wrong = run(rt.alloc(), count, first, changes)?;
+    for (count, first, changes) in &HIERARCHIES {
+        let wrong = run(rt.alloc(), *count, *first, *changes)?;
         println!(rt;
             "{count} roles, {first} changes, and compared in full after each of {changes} more: {wrong} differences"
         )?;

@@ -17,6 +17,12 @@ fn name(alloc: Global, text: &str) -> Result<Name, AllocError> {
     }
 }
 
+/// The name of a role with a number.
+fn role_name(alloc: Global, number: usize) -> Result<Name, AllocError> {
+    let text = format!(in alloc; "r{number}")?;
+    name(alloc, text.as_str())
+}
+
 fn main(rt: HostRuntime) -> io::Result<()> {
     sets::show(&rt)?;
     sessions::show(&rt)?;

@@ -1,5 +1,5 @@
 //! Rows of requests: what a user is authorized for while the paths of a diamond go, and the limit of roles.
-use crate::name;
+use crate::{name, role_name};
 use mpw_geom::{Name, Names};
 use mpw_rbac::{Digest, Identity, Object, Operation, Policy, PolicyFault, Refusal};
 use std::alloc::{AllocError, Global};
@@ -7,6 +7,16 @@ use std::io;
 
 /// The digest of each user here.
 const DIGEST: Digest = [7; 32];
+
+/// The pairs of the diamond, and two that are refused.
+const PAIRS: [(&str, &str); 6] = [
+    ("a", "b"),
+    ("a", "c"),
+    ("b", "d"),
+    ("c", "d"),
+    ("d", "a"),
+    ("a", "b"),
+];
 
 /// A refusal's word.
 fn refusal_word(refusal: &Refusal) -> &'static str {
@@ -47,46 +57,71 @@ fn desk(alloc: Global) -> Result<Policy, AllocError> {
     }
 }
 
+/// A call over one name, on a connection.
+#[derive(Clone, Copy)]
+enum NameCall {
+    Open,
+    Activate,
+    DeleteRole,
+}
+
+/// What a call over one name is answered.
+fn call(
+    alloc: Global,
+    policy: &mut Policy,
+    conn: u32,
+    call: NameCall,
+    text: &str,
+) -> Result<&'static str, AllocError> {
+    let name = name(alloc, text)?;
+    match call {
+        NameCall::Open => Ok(told(policy.open(conn, &name, &DIGEST))),
+        NameCall::Activate => Ok(told(policy.activate(conn, &name))),
+        NameCall::DeleteRole => Ok(told(policy.delrole(conn, &name))),
+    }
+}
+
+/// The officer's call over two names.
+#[derive(Clone, Copy)]
+enum PairCall {
+    Inherit,
+    Uninherit,
+    Assign,
+}
+
+/// What the officer's call over two names is answered.
+fn call_pair(
+    alloc: Global,
+    policy: &mut Policy,
+    call: PairCall,
+    one: &str,
+    other: &str,
+) -> Result<&'static str, AllocError> {
+    let one = name(alloc, one)?;
+    let other = name(alloc, other)?;
+    match call {
+        PairCall::Inherit => Ok(told(policy.inherit(1, &one, &other))),
+        PairCall::Uninherit => Ok(told(policy.uninherit(1, &one, &other))),
+        PairCall::Assign => Ok(told(policy.assign(1, &one, &other))),
+    }
+}
+
 /// Opens the officer's session on connection 1, and says what that is answered.
 fn log_in_officer(alloc: Global, policy: &mut Policy) -> Result<&'static str, AllocError> {
-    let root = name(alloc, "root")?;
-    let opened = told(policy.open(1, &root, &DIGEST));
+    let opened = call(alloc, policy, 1, NameCall::Open, "root")?;
     if opened != "ok" {
         return Ok(opened);
     }
-    Ok(told(policy.activate(1, &name(alloc, "officer")?)))
-}
-
-fn inherit(
-    policy: &mut Policy,
-    alloc: Global,
-    senior: &str,
-    junior: &str,
-) -> Result<&'static str, AllocError> {
-    Ok(told(policy.inherit(1, &name(alloc, senior)?, &name(alloc, junior)?)))
-}
-
-fn uninherit(
-    policy: &mut Policy,
-    alloc: Global,
-    senior: &str,
-    junior: &str,
-) -> Result<&'static str, AllocError> {
-    Ok(told(policy.uninherit(1, &name(alloc, senior)?, &name(alloc, junior)?)))
-}
-
-/// Prints names on the rest of a line.
-fn print_names(rt: &HostRuntime, names: &Names) -> io::Result<()> {
-    for role in names.as_slice() {
-        print!(rt; " {}", role.as_str())?;
-    }
-    println!(rt; "")
+    call(alloc, policy, 1, NameCall::Activate, "officer")
 }
 
 /// Prints a user's roles on a line, behind what they are to the user.
 fn print_roles(rt: &HostRuntime, user: &Name, what: &str, roles: &Names) -> io::Result<()> {
     print!(rt; "{} {what}", user.as_str())?;
-    print_names(rt, roles)
+    for role in roles.as_slice() {
+        print!(rt; " {}", role.as_str())?;
+    }
+    println!(rt; "")
 }
 
 /// Prints what a session is told of itself.
@@ -103,25 +138,24 @@ fn print_identity(rt: &HostRuntime, policy: &Policy) -> io::Result<()> {
     }
 }
 
+/// Adds a role, and says what that is answered.
+fn add_role(policy: &mut Policy, role: Name) -> &'static str {
+    told(policy.addrole(1, role))
+}
+
 /// The roles a, b, c, d, and the user ann.
 fn people(policy: &mut Policy, alloc: Global) -> Result<&'static str, AllocError> {
-    for role in ["a", "b", "c", "d"] {
-        if told(policy.addrole(1, name(alloc, role)?)) != "ok" {
+    for role in &["a", "b", "c", "d"] {
+        if add_role(policy, name(alloc, role)?) != "ok" {
             return Ok("refused");
         }
     }
     Ok(told(policy.adduser(1, name(alloc, "ann")?, DIGEST)))
 }
 
-/// Prints what one pair more is answered.
-fn link(rt: &HostRuntime, policy: &mut Policy, senior: &str, junior: &str) -> io::Result<()> {
-    let made = inherit(policy, rt.alloc(), senior, junior)?;
-    println!(rt; "inherit {senior} {junior}: {made}")
-}
-
 /// Prints what one pair less is answered, and what `whoami` tells then.
 fn unlink(rt: &HostRuntime, policy: &mut Policy, senior: &str, junior: &str) -> io::Result<()> {
-    let made = uninherit(policy, rt.alloc(), senior, junior)?;
+    let made = call_pair(rt.alloc(), policy, PairCall::Uninherit, senior, junior)?;
     println!(rt; "uninherit {senior} {junior}: {made}")?;
     print_identity(rt, policy)
 }
@@ -129,40 +163,24 @@ fn unlink(rt: &HostRuntime, policy: &mut Policy, senior: &str, junior: &str) -> 
 /// Prints the pairs of the diamond, and a pair too many of each kind.
 fn link_all(rt: &HostRuntime, policy: &mut Policy) -> io::Result<()> {
     println!(rt; "roles a b c d, user ann: {}", people(policy, rt.alloc())?)?;
-    for (senior, junior) in [
-        ("a", "b"),
-        ("a", "c"),
-        ("b", "d"),
-        ("c", "d"),
-        ("d", "a"),
-        ("a", "b"),
-    ] {
-        link(rt, policy, senior, junior)?;
+    for (senior, junior) in &PAIRS {
+        let made = call_pair(rt.alloc(), policy, PairCall::Inherit, senior, junior)?;
+        println!(rt; "inherit {senior} {junior}: {made}")?;
     }
     Ok(())
 }
 
-/// Assigns ann the top of the diamond, and says what that is answered.
-fn assign(alloc: Global, policy: &mut Policy) -> Result<&'static str, AllocError> {
-    Ok(told(policy.assign(1, &name(alloc, "ann")?, &name(alloc, "a")?)))
-}
-
-/// Opens ann's session, and says what that is answered.
-fn open(alloc: Global, policy: &mut Policy) -> Result<&'static str, AllocError> {
-    Ok(told(policy.open(2, &name(alloc, "ann")?, &DIGEST)))
-}
-
 /// Assigns ann the top of the diamond, and opens her session.
 fn log_in(rt: &HostRuntime, policy: &mut Policy) -> io::Result<()> {
-    let assigned = assign(rt.alloc(), policy)?;
-    let opened = open(rt.alloc(), policy)?;
+    let assigned = call_pair(rt.alloc(), policy, PairCall::Assign, "ann", "a")?;
+    let opened = call(rt.alloc(), policy, 2, NameCall::Open, "ann")?;
     println!(rt; "assign ann a: {assigned}; open: {opened}")?;
     print_identity(rt, policy)
 }
 
 /// Prints what ann has while the paths of the diamond go.
 fn take_apart(rt: &HostRuntime, policy: &mut Policy) -> io::Result<()> {
-    let active = told(policy.activate(2, &name(rt.alloc(), "d")?));
+    let active = call(rt.alloc(), policy, 2, NameCall::Activate, "d")?;
     println!(rt; "activate d: {active}")?;
     unlink(rt, policy, "a", "b")?;
     unlink(rt, policy, "a", "c")
@@ -176,57 +194,27 @@ fn diamond(rt: &HostRuntime, policy: &mut Policy) -> io::Result<()> {
     take_apart(rt, policy)
 }
 
-fn show_diamond(rt: &HostRuntime) -> io::Result<()> {
-    let mut policy = desk(rt.alloc())?;
-    diamond(rt, &mut policy)
-}
-
-/// Adds a role, and says what that is answered.
-fn add_role(alloc: Global, policy: &mut Policy, text: &str) -> Result<&'static str, AllocError> {
-    Ok(told(policy.addrole(1, name(alloc, text)?)))
-}
-
 /// Adds so many roles, and says how many of them were added.
-fn add_roles(alloc: Global, policy: &mut Policy, count: u32) -> Result<u32, AllocError> {
+fn add_roles(alloc: Global, policy: &mut Policy, count: usize) -> Result<u32, AllocError> {
     let mut added: u32 = 0;
     for index in 1..count {
-        let text = format!(in alloc; "r{index}")?;
-        if add_role(alloc, policy, text.as_str())? == "ok" {
+        if add_role(policy, role_name(alloc, index)?) == "ok" {
             added = added.saturating_add(1);
         }
     }
     Ok(added)
 }
 
-/// Deletes a role, and says what that is answered.
-fn delete_role(alloc: Global, policy: &mut Policy, text: &str) -> Result<&'static str, AllocError> {
-    Ok(told(policy.delrole(1, &name(alloc, text)?)))
-}
-
-/// Adds a role past the limit, deletes one, and adds the role again; what these are answered.
-fn pass_limit(
-    alloc: Global,
-    policy: &mut Policy,
-) -> Result<(&'static str, &'static str, &'static str), AllocError> {
-    let full = add_role(alloc, policy, "last")?;
-    let deleted = delete_role(alloc, policy, "r7")?;
-    let added = add_role(alloc, policy, "last")?;
-    Ok((full, deleted, added))
-}
-
-/// Fills the roles up to their limit and past it.
+/// Fills the roles up to their limit and past it: adds a role past the limit, deletes one, and adds the role again.
 fn limit(rt: &HostRuntime, policy: &mut Policy) -> io::Result<()> {
     let officer = log_in_officer(rt.alloc(), policy)?;
     let added = add_roles(rt.alloc(), policy, 512)?;
-    println!(rt; "officer: {officer}\nroles added: {added}")?;
-    let (full, deleted, again) = pass_limit(rt.alloc(), policy)?;
-    println!(rt; "one role more: {full}\ndelete r7: {deleted}\none role more: {again}")
-}
-
-/// 512 roles and no more, the officer's among them.
-fn show_limit(rt: &HostRuntime) -> io::Result<()> {
-    let mut policy = desk(rt.alloc())?;
-    limit(rt, &mut policy)
+    let full = add_role(policy, name(rt.alloc(), "last")?);
+    let deleted = call(rt.alloc(), policy, 1, NameCall::DeleteRole, "r7")?;
+    let again = add_role(policy, name(rt.alloc(), "last")?);
+    println!(rt;
+        "officer: {officer}\nroles added: {added}\none role more: {full}\ndelete r7: {deleted}\none role more: {again}"
+    )
 }
 
 /// Prints what is permitted on connection 1, and whether it has a session.
@@ -248,18 +236,33 @@ fn end_all(rt: &HostRuntime, policy: &mut Policy) -> io::Result<()> {
     print_access(rt, policy)
 }
 
-/// Where every session ended, nothing is permitted.
-fn show_end(rt: &HostRuntime) -> io::Result<()> {
-    let mut policy = desk(rt.alloc())?;
-    end_all(rt, &mut policy)
+/// The parts on sessions.
+#[derive(Clone, Copy)]
+enum Part {
+    /// A diamond keeps its foot while one path is left.
+    Diamond,
+    /// 512 roles and no more, the officer's among them.
+    Limit,
+    /// Where every session ended, nothing is permitted.
+    End,
 }
 
-/// Prints the part on sessions.
+/// Prints a part, on a desk of its own.
+fn show_part(rt: &HostRuntime, part: Part) -> io::Result<()> {
+    let mut policy = desk(rt.alloc())?;
+    match part {
+        Part::Diamond => diamond(rt, &mut policy),
+        Part::Limit => limit(rt, &mut policy),
+        Part::End => end_all(rt, &mut policy),
+    }
+}
+
+/// Prints the parts on sessions.
 pub fn show(rt: &HostRuntime) -> io::Result<()> {
     println!(rt; "# a diamond of roles")?;
-    show_diamond(rt)?;
+    show_part(rt, Part::Diamond)?;
     println!(rt; "# the limit of roles")?;
-    show_limit(rt)?;
+    show_part(rt, Part::Limit)?;
     println!(rt; "# the end of all sessions")?;
-    show_end(rt)
+    show_part(rt, Part::End)
 }

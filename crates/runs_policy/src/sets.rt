@@ -6,38 +6,6 @@ use mpw_separation::{Kind, SeparationSet, Sets};
 use std::alloc::{AllocError, Global};
 use std::io;
 
-/// The set of two roles that nobody may both have, or `None` where there is no such set.
-fn pair(
-    alloc: Global,
-    text: &str,
-    one: &str,
-    other: &str,
-) -> Result<Option<SeparationSet>, AllocError> {
-    let mut roles = Names::new(alloc);
-    roles.push(name(alloc, one)?)?;
-    roles.push(name(alloc, other)?)?;
-    SeparationSet::new(name(alloc, text)?, 2, roles)
-}
-
-/// Adds three roles, `boss` at least `chk`.
-fn add_roles(alloc: Global, roles: &mut Roles) -> Result<(), RolesFault> {
-    for text in ["pay", "chk", "boss"] {
-        roles.add(name(alloc, text)?)?;
-    }
-    roles.inherit(&name(alloc, "boss")?, &name(alloc, "chk")?)
-}
-
-/// Adds a set to the static or the dynamic ones.
-fn make(sets: &mut Sets, kind: Kind, set: Option<SeparationSet>) -> bool {
-    let Some(set) = set else {
-        return false;
-    };
-    match kind {
-        Kind::Static => sets.make_ssd(set).is_ok(),
-        Kind::Dynamic => sets.make_dsd(set).is_ok(),
-    }
-}
-
 /// The names of these texts.
 fn names(alloc: Global, texts: &[&str]) -> Result<Names, AllocError> {
     let mut names = Names::new(alloc);
@@ -47,15 +15,27 @@ fn names(alloc: Global, texts: &[&str]) -> Result<Names, AllocError> {
     Ok(names)
 }
 
-/// The name that is told, or `none`.
-fn told<'a>(sets: &'a Sets, kind: Kind, roles: &Roles, seniors: &Names) -> &'a str {
-    match sets.first_broken(kind, roles, seniors.as_slice()) {
-        Some(name) => name.as_str(),
-        None => "none",
-    }
+/// The set of two roles that nobody may both have, or `None` where there is no such set.
+fn pair(
+    alloc: Global,
+    text: &str,
+    one: &str,
+    other: &str,
+) -> Result<Option<SeparationSet>, AllocError> {
+    let roles = names(alloc, &[one, other])?;
+    SeparationSet::new(name(alloc, text)?, 2, roles)
 }
 
-/// Makes the set of two roles, and says whether it was made.
+/// Adds three roles, `boss` at least `chk`.
+fn add_roles(alloc: Global, roles: &mut Roles) -> Result<(), RolesFault> {
+    for text in &["pay", "chk", "boss"] {
+        roles.add(name(alloc, text)?)?;
+    }
+    let boss = name(alloc, "boss")?;
+    roles.inherit(&boss, &name(alloc, "chk")?)
+}
+
+/// Makes the set of two roles, static or dynamic, and says whether it was made.
 fn make_pair(
     alloc: Global,
     sets: &mut Sets,
@@ -64,8 +44,13 @@ fn make_pair(
     one: &str,
     other: &str,
 ) -> Result<bool, AllocError> {
-    let set = pair(alloc, text, one, other)?;
-    Ok(make(sets, kind, set))
+    let Some(set) = pair(alloc, text, one, other)? else {
+        return Ok(false);
+    };
+    match kind {
+        Kind::Static => Ok(sets.make_ssd(set).is_ok()),
+        Kind::Dynamic => Ok(sets.make_dsd(set).is_ok()),
+    }
 }
 
 /// The name that is told of seniors, or `none`.
@@ -77,16 +62,18 @@ fn least_of<'a>(
     seniors: &[&str],
 ) -> Result<&'a str, AllocError> {
     let seniors = names(alloc, seniors)?;
-    Ok(told(sets, kind, roles, &seniors))
+    match sets.first_broken(kind, roles, seniors.as_slice()) {
+        Some(name) => Ok(name.as_str()),
+        None => Ok("none"),
+    }
 }
 
 /// A senior of one role of a pair, with the other, breaks both static pairs; the least name is told.
 fn print_told(rt: &HostRuntime, roles: &Roles, sets: &Sets) -> io::Result<()> {
     let fixed = least_of(rt.alloc(), sets, Kind::Static, roles, &["pay", "boss"])?;
     let varying = least_of(rt.alloc(), sets, Kind::Dynamic, roles, &["pay", "boss"])?;
-    println!(rt; "pay, boss: static {fixed}, dynamic {varying}")?;
     let alone = least_of(rt.alloc(), sets, Kind::Static, roles, &["boss"])?;
-    println!(rt; "boss: static {alone}")
+    println!(rt; "pay, boss: static {fixed}, dynamic {varying}\nboss: static {alone}")
 }
 
 /// Two static pairs of the same roles, and what is told of seniors.
@@ -111,11 +98,10 @@ fn print_copy(rt: &HostRuntime, sets: &mut Sets, copy: &Sets) -> io::Result<()> 
     let s1 = name(rt.alloc(), "s1")?;
     let static_gone = sets.remove_ssd(&s1).is_ok();
     let dynamic_gone = sets.remove_dsd(&s1).is_ok();
-    println!(rt; "static s1 removed {static_gone}, dynamic s1 removed {dynamic_gone}")?;
+    let is_there = sets.contains(Kind::Dynamic, &s1);
+    let is_in_copy = copy.contains(Kind::Dynamic, &s1);
     println!(rt;
-        "still there {}, in the copy {}",
-        sets.contains(Kind::Dynamic, &s1),
-        copy.contains(Kind::Dynamic, &s1)
+        "static s1 removed {static_gone}, dynamic s1 removed {dynamic_gone}\nstill there {is_there}, in the copy {is_in_copy}"
     )
 }
 
