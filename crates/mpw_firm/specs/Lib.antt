@@ -1,7 +1,11 @@
+pub mod Blanks
 pub mod Causes
+pub mod Commands
 pub mod Drawings
 pub mod Keys
 pub mod Listed
+pub mod Places
+pub mod Sentences
 pub mod Status
 pub mod Stitched
 pub mod Told

@@ -1,6 +1,7 @@
 //! A layout without shapes: what a listing needs of a structure of which only the name is at hand.
-ghost use Rattle.std.specs.Prelude.{ℕ, List, IfOk};
+ghost use Rattle.std.specs.Prelude.{◌≡◌, IfOk};
 ghost use Rattle.mpw_check.specs.Drawn.{IsDrawnFrom};
+ghost use Rattle.mpw_firm.specs.Blanks.{blank_text};
 
 use mpw_check::{CheckFault, read_layout};
 use mpw_deck::Deck;
@@ -20,7 +21,10 @@ const HEAD: [u8; 90] = [
 const TAIL: [u8; 8] = [0, 4, 7, 0, 0, 4, 4, 0];
 
 /// The text of a library with an empty structure of that name.
-fn blank_text(alloc: Global, top: &Name) -> Result<Vec<u8>, AllocError> {
+#[tactic(auto, unfolding(crate::specs::Blanks::head_text, crate::specs::Blanks::blank_text))]
+fn blank_text(alloc: Global, top: &Name) -> Result<Vec<u8>, AllocError>
+    ensures { IfOk result (λ text. text.items ≡ blank_text top.now) }
+{
     let name = top.as_bytes();
     let is_odd = name.len() % 2 == 1;
     let length = if is_odd {
@@ -45,7 +49,7 @@ fn blank_text(alloc: Global, top: &Name) -> Result<Vec<u8>, AllocError> {
 /// # Errors
 /// Want of memory.
 pub fn blank_layout(alloc: Global, deck: Deck, top: &Name) -> Result<Snapshot, CheckFault>
-    ensures { IfOk result (λ s. (text : List ℕ) × IsDrawnFrom deck top.now text s) }
+    ensures { IfOk result (IsDrawnFrom deck top.now (blank_text top.now)) }
 {
     let text = blank_text(alloc, top)?;
     read_layout(alloc, deck, top, &text)

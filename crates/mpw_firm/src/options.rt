@@ -1,5 +1,6 @@
 //! The command line.
-ghost use Rattle.std.specs.Prelude.{◌≡◌, IfOk, IfErr};
+ghost use Rattle.std.specs.Prelude.{◌≡◌, option_map, slice_get, IfOk, IfErr};
+ghost use Rattle.mpw_firm.specs.Commands.{IsOfCheck, IsOfWord};
 ghost use Rattle.mpw_firm.specs.Told.{IsMisuse, Misuses};
 
 use crate::fault::FirmFault;
@@ -78,7 +79,8 @@ fn command<'a>(alloc: Global) -> Result<Command<'a>, AllocError> {
         alloc,
         "tiles",
         "TILES",
-        "Checks some tiles, and prints their part for 'mpw stitch': A-B, from tile A to tile B, both included and counted from 0; or K/N, the K-th of N shares",
+        "Checks some tiles, and prints their part for 'mpw stitch': A-B, from tile A to tile B, \
+        both included and counted from 0; or K/N, the K-th of N shares",
     );
     let command = Command::new(alloc, "mpw check")
         .version(VERSION)
@@ -139,7 +141,8 @@ fn read_tiles(
         Some(range) => Ok(Some(range)),
         None => Err(usage(
             alloc,
-            "error: --tiles takes A-B, from tile A to tile B, both included and counted from 0; or K/N, the K-th of N shares",
+            "error: --tiles takes A-B, from tile A to tile B, both included and counted from 0; or \
+            K/N, the K-th of N shares",
         )),
     }
 }
@@ -180,8 +183,8 @@ fn given(alloc: Global, matches: &ArgMatches<'_>) -> Result<Options, FirmFault>
     })
 }
 
-/// What an error of `clap` asks for: the help or the version, or it is a fault.
-pub fn asked_by(alloc: Global, error: Error) -> Result<Asked, FirmFault>
+/// The text of an error of `clap` by which the help or the version is asked for; else it is a fault.
+pub fn told_by(alloc: Global, error: Error) -> Result<String, FirmFault>
     ensures { IfErr result IsMisuse }
 {
     if error.kind() == ErrorKind::OutOfMemory {
@@ -191,30 +194,48 @@ pub fn asked_by(alloc: Global, error: Error) -> Result<Asked, FirmFault>
     if error.use_stderr() {
         Err(FirmFault::Usage(text))
     } else {
-        Ok(Asked::Told(text))
+        Ok(text)
     }
 }
 
-/// What the words of a check's command line ask for, the program's name first.
-fn read_check<'a>(alloc: Global, words: &'a [&'a str]) -> Result<Asked, FirmFault>
-    ensures { IfErr result IsMisuse }
+/// The words of a command, with its name first.
+pub fn named<'a>(
+    alloc: Global,
+    name: &'a str,
+    words: &[&'a str],
+) -> Result<Vec<&'a str>, AllocError> {
+    let mut named = Vec::new(alloc);
+    named.push(name)?;
+    for word in words {
+        named.push(*word)?;
+    }
+    Ok(named)
+}
+
+/// What the words behind `check` ask for.
+fn read_check(alloc: Global, words: &[&str]) -> Result<Asked, FirmFault>
+    ensures asked { IfOk result IsOfCheck }
+    ensures refused { IfErr result IsMisuse }
 {
-    match command(alloc)?.try_get_matches_from(words) {
+    let words = named(alloc, "mpw check", words)?;
+    match command(alloc)?.try_get_matches_from(words.as_slice()) {
         Ok(matches) => Ok(Asked::Check(given(alloc, &matches)?)),
-        Err(error) => asked_by(alloc, error),
+        Err(error) => Ok(Asked::Told(told_by(alloc, error)?)),
     }
 }
 
-/// What the words of a command line ask for, the program's name first, and behind it `stitch` where parts are to be stitched. One
-/// pass over the words.
+/// What the words of a command line ask for: the program's name, `check` or `stitch`, and the words of that command. One pass over the
+/// words.
 ///
 /// # Errors
 /// `Usage`, with a text that says what is wrong and what is accepted; and `Memory`.
-pub fn read_options<'a>(alloc: Global, words: &'a [&'a str]) -> Result<Asked, FirmFault>
-    ensures { IfErr result IsMisuse }
+pub fn read_options(alloc: Global, words: &[&str]) -> Result<Asked, FirmFault>
+    ensures asked { IfOk result (IsOfWord (option_map (λ word. word.now) (slice_get words.now 1))) }
+    ensures refused { IfErr result IsMisuse }
 {
     match words {
+        [_, first, rest @ ..] if *first == "check" => read_check(alloc, rest),
         [_, first, rest @ ..] if *first == "stitch" => read_stitch(alloc, rest),
-        _ => read_check(alloc, words),
+        _ => Err(usage(alloc, "error: the first word is check or stitch")),
     }
 }

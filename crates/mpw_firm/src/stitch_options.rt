@@ -1,9 +1,10 @@
 //! The command line of `mpw stitch`.
-ghost use Rattle.std.specs.Prelude.{IfErr};
+ghost use Rattle.std.specs.Prelude.{IfOk, IfErr};
+ghost use Rattle.mpw_firm.specs.Commands.{IsOfStitch};
 ghost use Rattle.mpw_firm.specs.Told.{IsMisuse};
 
 use crate::fault::FirmFault;
-use crate::options::{Asked, VERSION, asked_by, usage};
+use crate::options::{Asked, VERSION, named, told_by, usage};
 use crate::out_file::{free_option, out_file};
 use clap::{Arg, ArgAction, ArgMatches, Command};
 use std::alloc::{AllocError, Global};
@@ -34,7 +35,8 @@ fn command<'a>(alloc: Global) -> Result<Command<'a>, AllocError> {
     Command::new(alloc, "mpw stitch")
         .version(VERSION)
         .about(
-            "Stitches the parts of a check that have each tile once, and lists the markers of the whole",
+            "Stitches the parts of a check that have each tile once, and lists the markers of the \
+            whole",
         )
         .arg(report)?
         .arg(files)
@@ -70,26 +72,17 @@ fn given(alloc: Global, matches: &ArgMatches<'_>) -> Result<StitchOptions, FirmF
     })
 }
 
-/// The words of the command line, with the command's name first.
-fn named<'a>(alloc: Global, words: &[&'a str]) -> Result<Vec<&'a str>, AllocError> {
-    let mut named = Vec::new(alloc);
-    named.push("mpw stitch")?;
-    for word in words {
-        named.push(*word)?;
-    }
-    Ok(named)
-}
-
 /// What the words behind `stitch` ask for. One pass over the words.
 ///
 /// # Errors
 /// `Usage`, with a text that says what is wrong and what is accepted; and `Memory`.
 pub fn read_stitch(alloc: Global, words: &[&str]) -> Result<Asked, FirmFault>
-    ensures { IfErr result IsMisuse }
+    ensures asked { IfOk result IsOfStitch }
+    ensures refused { IfErr result IsMisuse }
 {
-    let words = named(alloc, words)?;
+    let words = named(alloc, "mpw stitch", words)?;
     match command(alloc)?.try_get_matches_from(words.as_slice()) {
         Ok(matches) => Ok(Asked::Stitch(given(alloc, &matches)?)),
-        Err(error) => asked_by(alloc, error),
+        Err(error) => Ok(Asked::Told(told_by(alloc, error)?)),
     }
 }

@@ -78,7 +78,8 @@ fn outside(alloc: Global, file: &str, names: &Names) -> Result<String, FirmFault
 {
     let names = listed(alloc, names)?;
     Ok(format!(in alloc;
-        "{file}: structures that the library doesn't have:{names}: a check by itself needs them in the file"
+        "{file}: structures that the library doesn't have:{names}: a check by itself needs them in \
+        the file"
     )?)
 }
 
@@ -92,7 +93,7 @@ fn library_fault(
     ensures { IfErr result (λ fault. fault ≡ Memory) }
 {
     let sentence = of_library(fault, text);
-    match structure_at(alloc, text, fault.offset) {
+    match structure_at(alloc, text, fault.offset)? {
         Some(name) => Ok(format!(in alloc; "{file}: {fault} in {name}: {sentence}")?),
         None => Ok(format!(in alloc; "{file}: {fault}: {sentence}")?),
     }

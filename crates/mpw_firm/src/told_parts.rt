@@ -64,7 +64,8 @@ pub fn beyond_plan(alloc: Global, tiles: u32) -> FirmFault
     } else {
         misused(String::from_str(
             alloc,
-            "error: --tiles: the structure shows no shape, so its plan has no tiles: --tiles 1/1 prints its part",
+            "error: --tiles: the structure shows no shape, so its plan has no tiles: --tiles 1/1 \
+            prints its part",
         ))
     }
 }
