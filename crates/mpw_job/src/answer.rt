@@ -145,7 +145,8 @@ const KEPT: usize = 4 << 20;
 
 /// Takes a block and gives it back untouched, since the C library's heap then keeps twice as much of what is freed. Until it
 /// was given back a large block it returns the end of the heap to the system wherever 128 KiB of it are free, as behind each
-/// tile, and a page that is taken again costs a fault. Where there is no memory nothing changes.
+/// tile, and a page that is taken again costs a fault. The blocks after the first come from the thread's own heap, which so
+/// grows by one call of the system, where it would else grow page by page. Where there is no memory nothing changes.
 fn keep_freed(alloc: Global) {
     let block: Result<Vec<u8>, AllocError> = Vec::with_capacity(alloc, KEPT);
     drop(block);
@@ -188,7 +189,8 @@ pub fn do_job(alloc: Global, job: &Job) -> Result<Answer, AllocError>
     }
 }
 
-/// The answers of the jobs, in order, from as many threads as there are processors. An error is want of memory.
+/// The answers of the jobs, in order, from as many threads as there are processors, each with a heap that grew at once. An
+/// error is want of memory.
 fn worked(
     rt: &(impl Threads + Sync),
     alloc: Global,
@@ -198,8 +200,9 @@ fn worked(
 {
     jobs.par_iter()
         .with_min_len(1)
-        .map(
-            |job: &Job| -> Result<Answer, AllocError>
+        .map_init(
+            || keep_freed(alloc),
+            |_grown: &mut (), job: &Job| -> Result<Answer, AllocError>
                 ensures { IfOk result (λ a. job_of a ≡ job.now) }
             { do_job(alloc, job) },
         )
