@@ -141,16 +141,14 @@ above_in edges n e h c = All-contains (λ (x : Edge). (get_or edges 0 no_edge).y
     (drop n edges) e (h.above no_edge) c
 
 -- the band of the first list that ends first has no pairs above the other band
-pub past_from : (old mid new : List Run) (P : Line → ℤ → Type 0) (side : ℕ) (limits : Limits)
-    (froms tos : List Edge) (m n : ℕ) → IsBand froms m → IsBand tos n
-    → (get_or froms 0 no_edge).y1 ≤ℤ (get_or tos 0 no_edge).y1
-    → Moves old P mid (IsPairOf side limits froms tos)
-    → Adds mid new (IsPairOf side limits (take m froms) (take n tos))
-    → Moves old P new (IsPairOf side limits (drop m froms) tos)
-past_from old mid new P side limits froms tos m n f t first h g =
-    Moves-more old mid new P (IsPairOf side limits froms tos)
-    (IsPairOf side limits (take m froms) (take n tos)) (IsPairOf side limits (drop m froms) tos)
-    h g parts whole
+pub past_from : (old new : List Run) (side : ℕ) (limits : Limits) (froms tos : List Edge) (m n : ℕ)
+    → IsBand froms m → IsBand tos n → (get_or froms 0 no_edge).y1 ≤ℤ (get_or tos 0 no_edge).y1
+    → Adds old new (IsPairOf side limits (take m froms) (take n tos))
+    → Moves old (IsPairOf side limits froms tos) new (IsPairOf side limits (drop m froms) tos)
+past_from old new side limits froms tos m n f t first g =
+    let pairs = IsPairOf side limits froms tos in
+    Moves-more old old new pairs pairs (IsPairOf side limits (take m froms) (take n tos))
+    (IsPairOf side limits (drop m froms) tos) (Moves-start old pairs) g parts whole
   where
     parts : (line : Line) (j : ℤ) → IsPairOf side limits froms tos line j
         → IsPairOf side limits (take m froms) (take n tos) line j
@@ -171,16 +169,14 @@ past_from old mid new P side limits froms tos m n f t first h g =
     whole line j (inr p) = held_drop (λ from. IsPairFrom side limits tos from line j) froms m p
 
 -- the same for the second list
-pub past_to : (old mid new : List Run) (P : Line → ℤ → Type 0) (side : ℕ) (limits : Limits)
-    (froms tos : List Edge) (m n : ℕ) → IsBand froms m → IsBand tos n
-    → (get_or tos 0 no_edge).y1 ≤ℤ (get_or froms 0 no_edge).y1
-    → Moves old P mid (IsPairOf side limits froms tos)
-    → Adds mid new (IsPairOf side limits (take m froms) (take n tos))
-    → Moves old P new (IsPairOf side limits froms (drop n tos))
-past_to old mid new P side limits froms tos m n f t first h g =
-    Moves-more old mid new P (IsPairOf side limits froms tos)
-    (IsPairOf side limits (take m froms) (take n tos)) (IsPairOf side limits froms (drop n tos))
-    h g parts whole
+pub past_to : (old new : List Run) (side : ℕ) (limits : Limits) (froms tos : List Edge) (m n : ℕ)
+    → IsBand froms m → IsBand tos n → (get_or tos 0 no_edge).y1 ≤ℤ (get_or froms 0 no_edge).y1
+    → Adds old new (IsPairOf side limits (take m froms) (take n tos))
+    → Moves old (IsPairOf side limits froms tos) new (IsPairOf side limits froms (drop n tos))
+past_to old new side limits froms tos m n f t first g =
+    let pairs = IsPairOf side limits froms tos in
+    Moves-more old old new pairs pairs (IsPairOf side limits (take m froms) (take n tos))
+    (IsPairOf side limits froms (drop n tos)) (Moves-start old pairs) g parts whole
   where
     parts : (line : Line) (j : ℤ) → IsPairOf side limits froms tos line j
         → IsPairOf side limits (take m froms) (take n tos) line j
@@ -295,19 +291,18 @@ past_low_to runs side limits froms tos n h low =
     (Moves-start runs (IsPairOf side limits froms tos))
 
 -- bands that end together have no further pairs
-pub past_both : (old mid new : List Run) (P : Line → ℤ → Type 0) (side : ℕ) (limits : Limits)
-    (froms tos : List Edge) (m n : ℕ) → IsBand froms m → IsBand tos n
-    → (get_or froms 0 no_edge).y1 ≡ (get_or tos 0 no_edge).y1
-    → Moves old P mid (IsPairOf side limits froms tos)
-    → Adds mid new (IsPairOf side limits (take m froms) (take n tos))
-    → Moves old P new (IsPairOf side limits (drop m froms) (drop n tos))
-past_both old mid new P side limits froms tos m n f t same h g =
-    past_under old new P side limits (drop m froms) tos n
+pub past_both : (old new : List Run) (side : ℕ) (limits : Limits) (froms tos : List Edge) (m n : ℕ)
+    → IsBand froms m → IsBand tos n → (get_or froms 0 no_edge).y1 ≡ (get_or tos 0 no_edge).y1
+    → Adds old new (IsPairOf side limits (take m froms) (take n tos))
+    → Moves old (IsPairOf side limits froms tos) new
+    (IsPairOf side limits (drop m froms) (drop n tos))
+past_both old new side limits froms tos m n f t same g =
+    past_under old new (IsPairOf side limits froms tos) side limits (drop m froms) tos n
     (λ from to c d.
     let above = above_in froms m from f c in
     let rows = (rows_in tos n to t d).1 in
     omega (arith, ints, above, rows, same))
-    (past_from old mid new P side limits froms tos m n f t (omega (arith, ints, same)) h g)
+    (past_from old new side limits froms tos m n f t (omega (arith, ints, same)) g)
 
 pub Moves-on : (old mid new : List Run) (P : Line → ℤ → Type 0) (side : ℕ) (limits : Limits)
     (froms tos F T : List Edge) (i j m n : ℕ) → F ≡ drop i froms → T ≡ drop j tos

@@ -1,5 +1,5 @@
 use Rattle.std.proofs.Common.{◌≡◌, ℕ, ◌+◌, ◌≤◌, ℤ, pos, ◌-ℤ◌, ◌≤ℤ◌, ◌<ℤ◌, inl, inr, refl, sym, ap, ◌∙◌, arith}
-use Rattle.std.specs.Prelude.{◌↔◌}
+use Rattle.std.specs.Prelude.{◌↔◌, ◌⊎◌}
 use Rattle.std.proofs.lemmas.Int.{ints}
 use Rattle.mpw_geom.specs.declared.plane.Box2.{Box2}
 use Rattle.mpw_deck.specs.declared.rule.Rule.{Rule}
@@ -69,6 +69,12 @@ at_first x1 x2 = omega (arith, ints)
 weak : (x1 x2 : ℤ) → x1 <ℤ x2 → x1 ≤ℤ x2
 weak x1 x2 h = omega (arith, ints, h)
 
+-- either side of two layers, where each of its steps stays
+either_same : {S T A B C D A' B' C' D' : Type 0} → (A → A') → (B → B') → (C → C') → (D → D')
+    → ((S × A × B) ⊎ (T × C × D)) → ((S × A' × B') ⊎ (T × C' × D'))
+either_same a b c d (inl p) = inl (p.0, a p.1, b p.2)
+either_same a b c d (inr p) = inr (p.0, c p.1, d p.2)
+
 pair_same : (check : Check) (a b a' b' : Squares) (side : ℕ) (x1 x2 j : ℤ) → SameAlong a a' x1 x2 j
     → SameAlong b b' x1 x2 j → IsPair check a b side x1 x2 j → IsPair check a' b' side x1 x2 j
 pair_same (Width l) a b a' b' side x1 x2 j f g w = (
@@ -86,33 +92,17 @@ pair_same (Space l) a b a' b' side x1 x2 j f g w = (
 )
 pair_same (Separation l m) a b a' b' side x1 x2 j f g w = (
   w.0,
-  elim w.1 [
-    | inl p ↦ inl (
-      p.0,
-      fall_same a a' x1 x2 j x1 f (at_first x1 x2) w.0 p.1,
-      rise_same b b' x1 x2 j x2 g w.0 (at_first x2 x1) p.2,
-    )
-    | inr p ↦ inr (
-      p.0,
-      fall_same b b' x1 x2 j x1 g (at_first x1 x2) w.0 p.1,
-      rise_same a a' x1 x2 j x2 f w.0 (at_first x2 x1) p.2,
-    )
-  ],
+  either_same (fall_same a a' x1 x2 j x1 f (at_first x1 x2) w.0)
+      (rise_same b b' x1 x2 j x2 g w.0 (at_first x2 x1))
+      (fall_same b b' x1 x2 j x1 g (at_first x1 x2) w.0)
+      (rise_same a a' x1 x2 j x2 f w.0 (at_first x2 x1)) w.1,
 )
 pair_same (Enclosing l m) a b a' b' side x1 x2 j f g w = (
   w.0,
-  elim w.1 [
-    | inl p ↦ inl (
-      p.0,
-      rise_same a a' x1 x2 j x1 f (at_first x1 x2) w.0 p.1,
-      rise_same b b' x1 x2 j x2 g w.0 (at_first x2 x1) p.2,
-    )
-    | inr p ↦ inr (
-      p.0,
-      fall_same b b' x1 x2 j x1 g (at_first x1 x2) w.0 p.1,
-      fall_same a a' x1 x2 j x2 f w.0 (at_first x2 x1) p.2,
-    )
-  ],
+  either_same (rise_same a a' x1 x2 j x1 f (at_first x1 x2) w.0)
+      (rise_same b b' x1 x2 j x2 g w.0 (at_first x2 x1))
+      (fall_same b b' x1 x2 j x1 g (at_first x1 x2) w.0)
+      (fall_same a a' x1 x2 j x2 f w.0 (at_first x2 x1)) w.1,
 )
 
 along : (a a' : Squares) (core : Box2) (distance greatest : ℕ) (x1 x2 j : ℤ) → distance ≤ greatest

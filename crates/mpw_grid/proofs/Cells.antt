@@ -79,6 +79,20 @@ pub found_rows : (g : Cells) (p : Point) → 1 ≤ g.side → has_point g.extent
     → sides_between g.side g.extent.y0 p.y < rows g
 found_rows g p h i = found_row g p h (PointIn-from_test g.extent p i)
 
+-- the sides that are counted of a grid as it is kept, up to a point of the grid that is seen: fewer than that one's columns or rows, and
+-- than its cells
+pub counted_below : (count : Cells → ℕ) (sides : Cells → Point → ℕ)
+    → ((g : Cells) (p : Point) → 1 ≤ g.side → has_point g.extent p ≡ true → sides g p < count g)
+    → ((g : Cells) → count g ≤ cells g) → (kept seen : Cells) (p : Point) (n : ℕ) → kept ≡ seen
+    → 1 ≤ kept.side → has_point seen.extent p ≡ true → n ≡ sides kept p
+    → (n < count seen) × (n < cells kept)
+counted_below count sides found few kept seen p n is side inside e =
+    let below : sides kept p < count kept = found kept p side
+    (subst (λ (g : Cells). has_point g.extent p ≡ true) (sym is) inside) in
+    let q : count kept ≤ cells kept = few kept in
+    let here : n < count kept = subst (λ (m : ℕ). m < count kept) (sym e) below in
+    (subst (λ (g : Cells). n < count g) is here, omega (arith, here, q))
+
 in_found : (g : Cells) (p : Point) → 1 ≤ g.side → PointIn g.extent p
     → SquareIn (core_at g (sides_between g.side g.extent.x0 p.x)
     (sides_between g.side g.extent.y0 p.y)) (square_at p)

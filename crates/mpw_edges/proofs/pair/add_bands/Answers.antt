@@ -1,5 +1,4 @@
-use Rattle.mpw_edges.specs.Internal.Pairs.{IsPairOf}
-use Rattle.mpw_edges.proofs.Pairing.{Moves-start, past_low_from, past_low_to, past_from, past_to, past_both}
+use Rattle.mpw_edges.proofs.Pairing.{past_low_from, past_low_to, past_from, past_to, past_both}
 use Rattle.mpw_edges.proofs.pair.add_bands.Goals as goal
 
 pub returns-then-low-gt0-clause-moves : goal.returns-then-low-gt0-clause-moves
@@ -14,27 +13,21 @@ returns-then-lower-gt0-clause-moves c =
 
 pub returns-then-end_together-clause-moves : goal.returns-then-end_together-clause-moves
 returns-then-end_together-clause-moves c =
-    let old = c.args.runs.now.items in
-    let pairs = IsPairOf c.args.side c.args.limits.now c.args.froms.now c.args.tos.now in
-    past_both old old c.add_band_pairs.new.runs.items pairs c.args.side c.args.limits.now
+    past_both c.args.runs.now.items c.add_band_pairs.new.runs.items c.args.side c.args.limits.now
     c.args.froms.now c.args.tos.now c.band_length-band.result c.band_length-other.result
     c.band_length-band.ensures c.band_length-other.ensures c.if-end_together.ensures
-    (Moves-start old pairs) c.in_ok-add_band_pairs.ensures
+    c.in_ok-add_band_pairs.ensures
 
 pub returns-then-ends_first-clause-moves : goal.returns-then-ends_first-clause-moves
 returns-then-ends_first-clause-moves c =
-    let old = c.args.runs.now.items in
-    let pairs = IsPairOf c.args.side c.args.limits.now c.args.froms.now c.args.tos.now in
-    past_from old old c.add_band_pairs.new.runs.items pairs c.args.side c.args.limits.now
+    past_from c.args.runs.now.items c.add_band_pairs.new.runs.items c.args.side c.args.limits.now
     c.args.froms.now c.args.tos.now c.band_length-band.result c.band_length-other.result
     c.band_length-band.ensures c.band_length-other.ensures c.if-ends_first.ensures
-    (Moves-start old pairs) c.in_ok-add_band_pairs.ensures
+    c.in_ok-add_band_pairs.ensures
 
 pub returns-else-ends_first-clause-moves : goal.returns-else-ends_first-clause-moves
 returns-else-ends_first-clause-moves c =
-    let old = c.args.runs.now.items in
-    let pairs = IsPairOf c.args.side c.args.limits.now c.args.froms.now c.args.tos.now in
-    past_to old old c.add_band_pairs.new.runs.items pairs c.args.side c.args.limits.now
+    past_to c.args.runs.now.items c.add_band_pairs.new.runs.items c.args.side c.args.limits.now
     c.args.froms.now c.args.tos.now c.band_length-band.result c.band_length-other.result
     c.band_length-band.ensures c.band_length-other.ensures c.if-ends_first.ensures
-    (Moves-start old pairs) c.in_ok-add_band_pairs.ensures
+    c.in_ok-add_band_pairs.ensures
