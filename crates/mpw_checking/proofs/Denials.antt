@@ -25,115 +25,111 @@ use Rattle.mpw_run.specs.Run.{Planned}
 use Rattle.mpw_run.specs.Step.{Run}
 use Rattle.mpw_wafer.specs.declared.wafer.Wafer.{Wafer}
 use Rattle.mpw_checking.specs.Laws.{RunsDenyWhatIsLacked}
-use Rattle.mpw_checking.specs.Checking.{entered, at_rest, going_on, finished, decked, covered, planned_over, planned, snapshot_of, run_row, cancel_row, status, markers, checked_lines, phase_line, begun_outcome, left_off_outcome, listed}
+use Rattle.mpw_checking.specs.Checking.{session_test, at_rest, going_on, finished_run, present_deck, cover_test, planning_over, planning, snapshot_of, run_row, cancel_row, status, markers, checked_lines, phase_line, begun_outcome, left_off_outcome, listing_outcome}
 use Rattle.mpw_checking.proofs.Parts.{permission_ended}
 
 -- ---- parts that deny no permission
 
-rest_denies : (phase : Phase) (operation : Operation) (object : Object)
-    → at_rest phase ≡ Err (denied operation object) → ⊥
-rest_denies Idle operation object e = cc
-rest_denies (Cutting planned) operation object e = cc
-rest_denies (Checking c) operation object e = cc
-rest_denies (Finished f) operation object e = cc
+-- the three tests of a run's phase
+phase_denies : (phase : Phase) (operation : Operation) (object : Object)
+    → (at_rest phase ≡ Err (denied operation object) → ⊥)
+    × (going_on phase ≡ Err (denied operation object) → ⊥)
+    × (finished_run phase ≡ Err (denied operation object) → ⊥)
+phase_denies Idle operation object = ((λ e. cc), (λ e. cc), (λ e. cc))
+phase_denies (Cutting planned) operation object = ((λ e. cc), (λ e. cc), (λ e. cc))
+phase_denies (Checking c) operation object = ((λ e. cc), (λ e. cc), (λ e. cc))
+phase_denies (Finished f) operation object = ((λ e. cc), (λ e. cc), (λ e. cc))
 
-going_denies : (phase : Phase) (operation : Operation) (object : Object)
-    → going_on phase ≡ Err (denied operation object) → ⊥
-going_denies Idle operation object e = cc
-going_denies (Cutting planned) operation object e = cc
-going_denies (Checking c) operation object e = cc
-going_denies (Finished f) operation object e = cc
+deck_denies : (deck : Option Deck) (operation : Operation) (object : Object)
+    → present_deck deck ≡ Err (denied operation object) → ⊥
+deck_denies None operation object e = cc
+deck_denies (Some deck) operation object e = cc
 
-finished_denies : (phase : Phase) (operation : Operation) (object : Object)
-    → finished phase ≡ Err (denied operation object) → ⊥
-finished_denies Idle operation object e = cc
-finished_denies (Cutting planned) operation object e = cc
-finished_denies (Checking c) operation object e = cc
-finished_denies (Finished f) operation object e = cc
-
-decked_denies : (deck : Option Deck) (operation : Operation) (object : Object)
-    → decked deck ≡ Err (denied operation object) → ⊥
-decked_denies None operation object e = cc
-decked_denies (Some deck) operation object e = cc
-
-covered_denies : (snapshot : Snapshot) (plan : Option Tiling) (operation : Operation)
+cover_denies : (snapshot : Snapshot) (plan : Option Tiling) (operation : Operation)
     (object : Object)
-    → covered snapshot plan ≡ Err (denied operation object) → ⊥
-covered_denies snapshot None operation object e = cc
-covered_denies snapshot (Some plan) operation object e = cc
+    → cover_test snapshot plan ≡ Err (denied operation object) → ⊥
+cover_denies snapshot None operation object e = cc
+cover_denies snapshot (Some plan) operation object e = cc
 
-planned_denies : (snapshot : Snapshot) (items : List Item) (operation : Operation) (object : Object)
-    → planned_over snapshot items ≡ Err (denied operation object) → ⊥
-planned_denies snapshot [] operation object e = cc
-planned_denies snapshot (item ∷ items) operation object e =
-    covered_denies snapshot (plan_for snapshot) operation object e
+planning_denies : (snapshot : Snapshot) (items : List Item) (operation : Operation)
+    (object : Object)
+    → planning_over snapshot items ≡ Err (denied operation object) → ⊥
+planning_denies snapshot [] operation object e = cc
+planning_denies snapshot (item ∷ items) operation object e =
+    cover_denies snapshot (plan_for snapshot) operation object e
 
 -- ---- rows
 
 begun_denies : EnteringDeniesWhatIsLacked
-    → (policy : Policy) (shelf : List Submission) (wafer : Wafer) (run : Run) (conn : ℕ)
+    → (policy : Policy) (shelf : List Submission) (wafer : Wafer) (run : Run) (connection : ℕ)
     (operation : Operation) (object : Object)
-    → run_row policy shelf wafer run conn ≡ Err (denied operation object)
-    → permits policy conn operation object ≡ false
+    → run_row policy shelf wafer run connection ≡ Err (denied operation object)
+    → permits policy connection operation object ≡ false
 unfolding run_row
-begun_denies lacks policy shelf wafer run conn operation object e =
-    elim (parts (permitted policy conn operations.Run objects.Desk) _ _ e) [
-      | inl first ↦ lacks policy conn operations.Run operation objects.Desk object first
+begun_denies lacks policy shelf wafer run connection operation object e =
+    elim (parts (permitted policy connection operations.Run objects.Desk) _ _ e) [
+      | inl first ↦ lacks policy connection operations.Run operation objects.Desk object first
       | inr allowed ↦ elim (parts (at_rest run.phase) _ _ allowed.2) [
-        | inl phase ↦ absurd (rest_denies run.phase operation object phase)
-        | inr free ↦ elim (parts (decked wafer.deck) _ _ free.2) [
-          | inl deck ↦ absurd (decked_denies wafer.deck operation object deck)
+        | inl phase ↦ absurd ((phase_denies run.phase operation object).0 phase)
+        | inr free ↦ elim (parts (present_deck wafer.deck) _ _ free.2) [
+          | inl deck ↦ absurd (deck_denies wafer.deck operation object deck)
           | inr rest ↦ absurd (
               let snapshot = snapshot_of rest.0 wafer.placings shelf in
-              planned_denies snapshot (shown snapshot) operation object rest.2)
+              planning_denies snapshot (shown snapshot) operation object rest.2)
         ]
       ]
     ]
 
 left_off_denies : EnteringDeniesWhatIsLacked
-    → (policy : Policy) (run : Run) (conn : ℕ) (operation : Operation) (object : Object)
-    → cancel_row policy run conn ≡ Err (denied operation object)
-    → permits policy conn operation object ≡ false
+    → (policy : Policy) (run : Run) (connection : ℕ) (operation : Operation) (object : Object)
+    → cancel_row policy run connection ≡ Err (denied operation object)
+    → permits policy connection operation object ≡ false
 unfolding cancel_row
-left_off_denies lacks policy run conn operation object e =
-    elim (parts (permitted policy conn operations.Run objects.Desk) _ _ e) [
-      | inl first ↦ lacks policy conn operations.Run operation objects.Desk object first
-      | inr rest ↦ absurd (going_denies run.phase operation object rest.2)
+left_off_denies lacks policy run connection operation object e =
+    elim (parts (permitted policy connection operations.Run objects.Desk) _ _ e) [
+      | inl first ↦ lacks policy connection operations.Run operation objects.Desk object first
+      | inr rest ↦ absurd ((phase_denies run.phase operation object).1 rest.2)
     ]
 
 -- no session: that is no lack of a permission
 session_denies : {A : Type 0} (value : A) (test : Bool) (operation : Operation) (object : Object)
-    → cond test (Ok value) (Err (ending.Denied denial.Session)) ≡ Err (denied operation object) → ⊥
+    → cond test (Ok value) (Err (ending.Denied denial.Session))
+    ≡ Err (denied operation object) → ⊥
 session_denies value true operation object e = cc
 session_denies value false operation object e = cc
 
-entered_denies : (policy : Policy) (conn : ℕ) (operation : Operation) (object : Object)
-    → entered policy conn ≡ Err (denied operation object) → ⊥
-entered_denies policy conn operation object e =
-    session_denies (tt {0}) (is_some (session_of policy conn)) operation object e
+entered_denies : (policy : Policy) (connection : ℕ) (operation : Operation) (object : Object)
+    → session_test policy connection ≡ Err (denied operation object) → ⊥
+entered_denies policy connection operation object e =
+    session_denies (tt {0}) (is_some (session_of policy connection)) operation object e
 
 lines_deny : (lines : List Listed) (why : Ending) → Ok lines ≡ Err why → ⊥
 lines_deny lines why e = cc
 
-status_denies : (policy : Policy) (run : Run) (conn : ℕ) (operation : Operation) (object : Object)
-    → status policy run conn ≡ Err (denied operation object) → ⊥
+status_denies : (policy : Policy) (run : Run) (connection : ℕ) (operation : Operation)
+    (object : Object)
+    → status policy run connection ≡ Err (denied operation object) → ⊥
 unfolding status
-status_denies policy run conn operation object e = elim (parts (entered policy conn) _ _ e) [
-  | inl first ↦ entered_denies policy conn operation object first
-  | inr inside ↦ lines_deny (stored (phase_line run.number run.phase) ∷ [])
-      (denied operation object) inside.2
-]
+status_denies policy run connection operation object e =
+    elim (parts (session_test policy connection) _ _ e) [
+      | inl first ↦ entered_denies policy connection operation object first
+      | inr inside ↦ lines_deny (stored (phase_line run.number run.phase) ∷ [])
+          (denied operation object) inside.2
+    ]
 
-markers_deny : (policy : Policy) (run : Run) (conn : ℕ) (operation : Operation) (object : Object)
-    → markers policy run conn ≡ Err (denied operation object) → ⊥
+markers_deny : (policy : Policy) (run : Run) (connection : ℕ) (operation : Operation)
+    (object : Object)
+    → markers policy run connection ≡ Err (denied operation object) → ⊥
 unfolding markers
-markers_deny policy run conn operation object e = elim (parts (entered policy conn) _ _ e) [
-  | inl first ↦ entered_denies policy conn operation object first
-  | inr inside ↦ elim (parts (finished run.phase) _ _ inside.2) [
-    | inl phase ↦ finished_denies run.phase operation object phase
-    | inr rest ↦ lines_deny (checked_lines policy conn rest.0) (denied operation object) rest.2
-  ]
-]
+markers_deny policy run connection operation object e =
+    elim (parts (session_test policy connection) _ _ e) [
+      | inl first ↦ entered_denies policy connection operation object first
+      | inr inside ↦ elim (parts (finished_run run.phase) _ _ inside.2) [
+        | inl phase ↦ (phase_denies run.phase operation object).2 phase
+        | inr rest ↦ lines_deny (checked_lines policy connection rest.0)
+            (denied operation object) rest.2
+      ]
+    ]
 
 -- ---- outcomes
 
@@ -151,24 +147,24 @@ left_ended run (Ok x) operation object e = absurd cc
 left_ended run (Err why) operation object e =
     ap (λ x. Err x) (permission_ended why operation object e)
 
-listed_ended : (run : Run) (row : Result (List Listed) Ending) (operation : Operation)
+listing_ended : (run : Run) (row : Result (List Listed) Ending) (operation : Operation)
     (object : Object)
-    → (listed run row).reply ≡ reply.Denied (denial.Permission operation object)
+    → (listing_outcome run row).reply ≡ reply.Denied (denial.Permission operation object)
     → row ≡ Err (denied operation object)
-listed_ended run (Ok lines) operation object e = absurd cc
-listed_ended run (Err why) operation object e =
+listing_ended run (Ok lines) operation object e = absurd cc
+listing_ended run (Err why) operation object e =
     ap (λ x. Err x) (permission_ended why operation object e)
 
 pub run_denies : EnteringDeniesWhatIsLacked → RunsDenyWhatIsLacked
-run_denies lacks policy shelf wafer run conn ask.Run operation object e =
-    begun_denies lacks policy shelf wafer run conn operation object
-    (begun_ended run (run_row policy shelf wafer run conn) operation object e)
-run_denies lacks policy shelf wafer run conn ask.Cancel operation object e =
-    left_off_denies lacks policy run conn operation object
-    (left_ended run (cancel_row policy run conn) operation object e)
-run_denies lacks policy shelf wafer run conn ask.Status operation object e =
-    absurd (status_denies policy run conn operation object
-    (listed_ended run (status policy run conn) operation object e))
-run_denies lacks policy shelf wafer run conn ask.Markers operation object e =
-    absurd (markers_deny policy run conn operation object
-    (listed_ended run (markers policy run conn) operation object e))
+run_denies lacks policy shelf wafer run connection ask.Run operation object e =
+    begun_denies lacks policy shelf wafer run connection operation object
+    (begun_ended run (run_row policy shelf wafer run connection) operation object e)
+run_denies lacks policy shelf wafer run connection ask.Cancel operation object e =
+    left_off_denies lacks policy run connection operation object
+    (left_ended run (cancel_row policy run connection) operation object e)
+run_denies lacks policy shelf wafer run connection ask.Status operation object e =
+    absurd (status_denies policy run connection operation object
+    (listing_ended run (status policy run connection) operation object e))
+run_denies lacks policy shelf wafer run connection ask.Markers operation object e =
+    absurd (markers_deny policy run connection operation object
+    (listing_ended run (markers policy run connection) operation object e))

@@ -11,7 +11,7 @@ use Rattle.mpw_run.specs.Run.{Planned}
 use Rattle.mpw_run.specs.Step.{Run}
 use Rattle.mpw_wafer.specs.declared.wafer.Wafer.{Wafer}
 use Rattle.mpw_checking.specs.Laws.{NegativesAreNoChange, NegativesLeaveTheRun, NumbersAreCounted}
-use Rattle.mpw_checking.specs.Checking.{run_row, cancel_row, status, markers, begun_outcome, left_off_outcome, listed, Outcome, outcome_of}
+use Rattle.mpw_checking.specs.Checking.{run_row, cancel_row, status, markers, begun_outcome, left_off_outcome, listing_outcome, Outcome, outcome_of}
 
 -- ---- denials and refusals
 
@@ -29,30 +29,31 @@ cancel_same : (run : Run) (row : Result (Unit {0}) Ending)
 cancel_same run (Ok x) told = absurd told
 cancel_same run (Err why) told = (refl, refl)
 
-listed_same : (run : Run) (row : Result (List Listed) Ending) → IsUnchanged run (listed run row)
-listed_same run (Ok lines) = (refl, refl)
-listed_same run (Err why) = (refl, refl)
+listing_same : (run : Run) (row : Result (List Listed) Ending)
+    → IsUnchanged run (listing_outcome run row)
+listing_same run (Ok lines) = (refl, refl)
+listing_same run (Err why) = (refl, refl)
 
 negatives_same_run : (policy : Policy) (shelf : List Submission) (wafer : Wafer) (run : Run)
-    (conn : ℕ) (request : RunRequest)
-    → IsNegative (outcome_of policy shelf wafer run conn request).reply
-    → IsUnchanged run (outcome_of policy shelf wafer run conn request)
-negatives_same_run policy shelf wafer run conn ask.Run told =
-    begun_same run (run_row policy shelf wafer run conn) told
-negatives_same_run policy shelf wafer run conn ask.Cancel told =
-    cancel_same run (cancel_row policy run conn) told
-negatives_same_run policy shelf wafer run conn ask.Status told =
-    listed_same run (status policy run conn)
-negatives_same_run policy shelf wafer run conn ask.Markers told =
-    listed_same run (markers policy run conn)
+    (connection : ℕ) (request : RunRequest)
+    → IsNegative (outcome_of policy shelf wafer run connection request).reply
+    → IsUnchanged run (outcome_of policy shelf wafer run connection request)
+negatives_same_run policy shelf wafer run connection ask.Run told =
+    begun_same run (run_row policy shelf wafer run connection) told
+negatives_same_run policy shelf wafer run connection ask.Cancel told =
+    cancel_same run (cancel_row policy run connection) told
+negatives_same_run policy shelf wafer run connection ask.Status told =
+    listing_same run (status policy run connection)
+negatives_same_run policy shelf wafer run connection ask.Markers told =
+    listing_same run (markers policy run connection)
 
 pub negatives_leave : NegativesLeaveTheRun
-negatives_leave policy shelf wafer run conn request told =
-    (negatives_same_run policy shelf wafer run conn request told).0
+negatives_leave policy shelf wafer run connection request told =
+    (negatives_same_run policy shelf wafer run connection request told).0
 
 pub negatives_same : NegativesAreNoChange
-negatives_same policy shelf wafer run conn request told =
-    (negatives_same_run policy shelf wafer run conn request told).1
+negatives_same policy shelf wafer run connection request told =
+    (negatives_same_run policy shelf wafer run connection request told).1
 
 -- ---- numbers
 
@@ -69,16 +70,17 @@ cancel_counted : (run : Run) (row : Result (Unit {0}) Ending)
 cancel_counted run (Ok x) = more run.number
 cancel_counted run (Err why) = more run.number
 
-listed_counted : (run : Run) (row : Result (List Listed) Ending)
-    → (listed run row).run.number ≤ run.number + 1
-listed_counted run (Ok lines) = more run.number
-listed_counted run (Err why) = more run.number
+listing_counted : (run : Run) (row : Result (List Listed) Ending)
+    → (listing_outcome run row).run.number ≤ run.number + 1
+listing_counted run (Ok lines) = more run.number
+listing_counted run (Err why) = more run.number
 
 pub numbers_counted : NumbersAreCounted
-numbers_counted policy shelf wafer run conn ask.Run =
-    begun_counted run (run_row policy shelf wafer run conn)
-numbers_counted policy shelf wafer run conn ask.Cancel =
-    cancel_counted run (cancel_row policy run conn)
-numbers_counted policy shelf wafer run conn ask.Status = listed_counted run (status policy run conn)
-numbers_counted policy shelf wafer run conn ask.Markers =
-    listed_counted run (markers policy run conn)
+numbers_counted policy shelf wafer run connection ask.Run =
+    begun_counted run (run_row policy shelf wafer run connection)
+numbers_counted policy shelf wafer run connection ask.Cancel =
+    cancel_counted run (cancel_row policy run connection)
+numbers_counted policy shelf wafer run connection ask.Status =
+    listing_counted run (status policy run connection)
+numbers_counted policy shelf wafer run connection ask.Markers =
+    listing_counted run (markers policy run connection)

@@ -18,22 +18,22 @@ use Rattle.mpw_run.specs.declared.phase.Phase.TheVariants.{Idle, Cutting, Checki
 use Rattle.mpw_run.specs.Run.{Planned}
 use Rattle.mpw_run.specs.Step.{Run}
 use Rattle.mpw_checking.specs.Laws.{MarkersAreOfReadable}
-use Rattle.mpw_checking.specs.Checking.{entered, run_row, cancel_row, status, markers, finished, checked_lines, phase_line, begun_outcome, left_off_outcome, listed}
+use Rattle.mpw_checking.specs.Checking.{session_test, run_row, cancel_row, status, markers, finished_run, checked_lines, phase_line, begun_outcome, left_off_outcome, listing_outcome}
 
 -- a reply that denies or refuses has no lines
 no_reply : (e : Ending) (lines : List Listed) → ended_by e ≡ reply.Ok lines → ⊥
 no_reply (ending.Denied why) lines told = cc
 no_reply (ending.Refused why) lines told = cc
 
-module _ (policy : Policy) (conn : ℕ) where
+module _ (policy : Policy) (connection : ℕ) where
   abbrev Readable : List Listed → Type 0
-  Readable lines = All (IsOfReadable policy conn) lines
+  Readable lines = All (IsOfReadable policy connection) lines
 
   none : Readable []
   none = λ k d lt. absurd (omega (arith, lt))
 
-  one : (l : Listed) → IsOfReadable policy conn l → Readable (l ∷ [])
-  one l may = All-cons (IsOfReadable policy conn) l [] may none
+  one : (l : Listed) → IsOfReadable policy connection l → Readable (l ∷ [])
+  one l may = All-cons (IsOfReadable policy connection) l [] may none
 
   of_phase : (number : ℕ) (phase : Phase) → Readable (stored (phase_line number phase) ∷ [])
   of_phase number Idle = one (stored line.Idle) tt
@@ -56,34 +56,37 @@ module _ (policy : Policy) (conn : ℕ) where
   -- what is listed is the row's
   of_listed : (run : Run) (row : Result (List Listed) Ending) (lines : List Listed)
       → ((told : List Listed) → row ≡ Ok told → Readable told)
-      → (listed run row).reply ≡ reply.Ok lines → Readable lines
+      → (listing_outcome run row).reply ≡ reply.Ok lines → Readable lines
   of_listed run (Ok told) lines may e = let same : told ≡ lines = cc in
       subst Readable same (may told refl)
   of_listed run (Err why) lines may e = absurd (no_reply why lines e)
 
-  of_status : (run : Run) (told : List Listed) → status policy run conn ≡ Ok told → Readable told
+  of_status : (run : Run) (told : List Listed) → status policy run connection ≡ Ok told
+      → Readable told
   unfolding status
   of_status run told e =
-      let inside = passed (entered policy conn) _ told e in
+      let inside = passed (session_test policy connection) _ told e in
       let same : stored (phase_line run.number run.phase) ∷ [] ≡ told = cc in
       subst Readable same (of_phase run.number run.phase)
 
   of_markers : BooksAreOfReadable → (run : Run) (told : List Listed)
-      → markers policy run conn ≡ Ok told → Readable told
+      → markers policy run connection ≡ Ok told → Readable told
   unfolding markers
   of_markers books run told e =
-      let inside = passed (entered policy conn) _ told e in
-      let f = passed (finished run.phase) _ told inside.2 in
+      let inside = passed (session_test policy connection) _ told e in
+      let f = passed (finished_run run.phase) _ told inside.2 in
       let shelf = f.0.planned.snapshot.shelf in
-      let same : checked_lines policy conn f.0 ≡ told = cc in
-      subst Readable same (books policy conn f.0.planned.snapshot.deck.rules shelf f.0.book)
+      let same : checked_lines policy connection f.0 ≡ told = cc in
+      subst Readable same (books policy connection f.0.planned.snapshot.deck.rules shelf f.0.book)
 
 pub lines_may : BooksAreOfReadable → MarkersAreOfReadable
-lines_may books policy shelf wafer run conn ask.Run lines e =
-    of_begun policy conn run (run_row policy shelf wafer run conn) lines e
-lines_may books policy shelf wafer run conn ask.Cancel lines e =
-    of_left policy conn run (cancel_row policy run conn) lines e
-lines_may books policy shelf wafer run conn ask.Status lines e =
-    of_listed policy conn run (status policy run conn) lines (of_status policy conn run) e
-lines_may books policy shelf wafer run conn ask.Markers lines e =
-    of_listed policy conn run (markers policy run conn) lines (of_markers policy conn books run) e
+lines_may books policy shelf wafer run connection ask.Run lines e =
+    of_begun policy connection run (run_row policy shelf wafer run connection) lines e
+lines_may books policy shelf wafer run connection ask.Cancel lines e =
+    of_left policy connection run (cancel_row policy run connection) lines e
+lines_may books policy shelf wafer run connection ask.Status lines e =
+    of_listed policy connection run (status policy run connection) lines
+    (of_status policy connection run) e
+lines_may books policy shelf wafer run connection ask.Markers lines e =
+    of_listed policy connection run (markers policy run connection) lines
+    (of_markers policy connection books run) e

@@ -33,8 +33,8 @@ use Rattle.mpw_wafer.specs.declared.wafer.Wafer.{Wafer}
 -- ---- tests
 
 -- The connection has a session.
-abbrev pub entered : Policy → ℕ → Result (Unit {0}) Ending
-entered policy conn = decided (in_session policy conn ∷ []) tt
+abbrev pub session_test : Policy → ℕ → Result (Unit {0}) Ending
+session_test policy connection = decided (in_session policy connection ∷ []) tt
 
 -- No run goes on.
 abbrev pub at_rest : Phase → Result (Unit {0}) Ending
@@ -51,25 +51,25 @@ going_on (Checking c) = Ok tt
 going_on (Finished f) = Err (ending.Refused code.NoRun)
 
 -- A run is finished.
-abbrev pub finished : Phase → Result Checked Ending
-finished Idle = Err (ending.Refused code.NotFinished)
-finished (Cutting planned) = Err (ending.Refused code.NotFinished)
-finished (Checking c) = Err (ending.Refused code.NotFinished)
-finished (Finished f) = Ok f
+abbrev pub finished_run : Phase → Result Checked Ending
+finished_run Idle = Err (ending.Refused code.NotFinished)
+finished_run (Cutting planned) = Err (ending.Refused code.NotFinished)
+finished_run (Checking c) = Err (ending.Refused code.NotFinished)
+finished_run (Finished f) = Ok f
 
 -- There is a deck.
-abbrev pub decked : Option Deck → Result Deck Ending
-decked None = Err (ending.Refused code.NoDeck)
-decked (Some deck) = Ok deck
+abbrev pub present_deck : Option Deck → Result Deck Ending
+present_deck None = Err (ending.Refused code.NoDeck)
+present_deck (Some deck) = Ok deck
 
 -- What is placed shows a shape, and at most 4096 tiles cover it.
-abbrev pub covered : Snapshot → Option Tiling → Result Planned Ending
-covered snapshot None = Err (ending.Refused code.Tiles)
-covered snapshot (Some plan) = Ok (record { snapshot = snapshot; plan = plan })
+abbrev pub cover_test : Snapshot → Option Tiling → Result Planned Ending
+cover_test snapshot None = Err (ending.Refused code.Tiles)
+cover_test snapshot (Some plan) = Ok (record { snapshot = snapshot; plan = plan })
 
-abbrev pub planned_over : Snapshot → List Item → Result Planned Ending
-planned_over snapshot [] = Err (ending.Refused code.Empty)
-planned_over snapshot (item ∷ items) = covered snapshot (plan_for snapshot)
+abbrev pub planning_over : Snapshot → List Item → Result Planned Ending
+planning_over snapshot [] = Err (ending.Refused code.Empty)
+planning_over snapshot (item ∷ items) = cover_test snapshot (plan_for snapshot)
 
 -- ---- rows
 
@@ -77,21 +77,21 @@ planned_over snapshot (item ∷ items) = covered snapshot (plan_for snapshot)
 abbrev pub snapshot_of : Deck → List Placement → List Submission → Snapshot
 snapshot_of deck placings shelf = record { deck = deck; roots = roots_of placings; shelf = shelf }
 
-abbrev pub planned : Snapshot → Result Planned Ending
-planned snapshot = planned_over snapshot (shown snapshot)
+abbrev pub planning : Snapshot → Result Planned Ending
+planning snapshot = planning_over snapshot (shown snapshot)
 
 -- The row of `run`: what a new run looks at, with the plan of its tiles.
 unfoldable pub run_row : Policy → List Submission → Wafer → Run → ℕ → Result Planned Ending
-run_row policy shelf wafer run conn = do
-  allowed ← permitted policy conn operation.Run object.Desk
+run_row policy shelf wafer run connection = do
+  allowed ← permitted policy connection operation.Run object.Desk
   free ← at_rest run.phase
-  deck ← decked wafer.deck
-  planned (snapshot_of deck wafer.placings shelf)
+  deck ← present_deck wafer.deck
+  planning (snapshot_of deck wafer.placings shelf)
 
 -- The row of `cancel`.
 unfoldable pub cancel_row : Policy → Run → ℕ → Result (Unit {0}) Ending
-cancel_row policy run conn = do
-  allowed ← permitted policy conn operation.Run object.Desk
+cancel_row policy run connection = do
+  allowed ← permitted policy connection operation.Run object.Desk
   going_on run.phase
 
 -- How far the run is.
@@ -103,22 +103,22 @@ phase_line number (Finished f) = line.Finished number
 
 -- The row of `status`.
 unfoldable pub status : Policy → Run → ℕ → Result (List Listed) Ending
-status policy run conn = do
-  inside ← entered policy conn
+status policy run connection = do
+  inside ← session_test policy connection
   Ok (stored (phase_line run.number run.phase) ∷ [])
 
 -- The markers of a finished run, as far as the session may read the cells that they meet.
 abbrev pub checked_lines : Policy → ℕ → Checked → List Listed
-checked_lines policy conn f =
+checked_lines policy connection f =
     let shelf = f.planned.snapshot.shelf in
-    book_lines f.planned.snapshot.deck.rules shelf (seen_by policy conn shelf) f.book
+    book_lines f.planned.snapshot.deck.rules shelf (seen_by policy connection shelf) f.book
 
 -- The row of `markers`.
 unfoldable pub markers : Policy → Run → ℕ → Result (List Listed) Ending
-markers policy run conn = do
-  inside ← entered policy conn
-  f ← finished run.phase
-  Ok (checked_lines policy conn f)
+markers policy run connection = do
+  inside ← session_test policy connection
+  f ← finished_run run.phase
+  Ok (checked_lines policy connection f)
 
 -- ---- what comes of a request
 
@@ -128,30 +128,32 @@ pub record Outcome : Type 0 where
   pub run : Run
   pub changes : Bool
 
-abbrev pub left : Reply → Run → Outcome
-left told run = record { reply = told; run = run; changes = false }
+abbrev pub no_change : Reply → Run → Outcome
+no_change told run = record { reply = told; run = run; changes = false }
 
-abbrev pub changed : List Line → Run → Outcome
-changed lines run = record { reply = reply.Ok (map stored lines); run = run; changes = true }
+abbrev pub acceptance : List Line → Run → Outcome
+acceptance lines run = record { reply = reply.Ok (map stored lines); run = run; changes = true }
 
 -- A new run is told its number.
 abbrev pub begun_outcome : Run → Result Planned Ending → Outcome
-begun_outcome run (Ok planned) = changed (line.Run (run.number + 1) ∷ []) (started run planned)
-begun_outcome run (Err ending) = left (ended_by ending) run
+begun_outcome run (Ok planned) = acceptance (line.Run (run.number + 1) ∷ []) (started run planned)
+begun_outcome run (Err ending) = no_change (ended_by ending) run
 
 abbrev pub left_off_outcome : Run → Result (Unit {0}) Ending → Outcome
-left_off_outcome run (Ok x) = changed [] (cancelled run)
-left_off_outcome run (Err ending) = left (ended_by ending) run
+left_off_outcome run (Ok x) = acceptance [] (cancelled run)
+left_off_outcome run (Err ending) = no_change (ended_by ending) run
 
-abbrev pub listed : Run → Result (List Listed) Ending → Outcome
-listed run (Ok lines) = left (reply.Ok lines) run
-listed run (Err ending) = left (ended_by ending) run
+abbrev pub listing_outcome : Run → Result (List Listed) Ending → Outcome
+listing_outcome run (Ok lines) = no_change (reply.Ok lines) run
+listing_outcome run (Err ending) = no_change (ended_by ending) run
 
 -- Each request by its row.
 abbrev pub outcome_of : Policy → List Submission → Wafer → Run → ℕ → RunRequest → Outcome
-outcome_of policy shelf wafer run conn ask.Run =
-    begun_outcome run (run_row policy shelf wafer run conn)
-outcome_of policy shelf wafer run conn ask.Cancel =
-    left_off_outcome run (cancel_row policy run conn)
-outcome_of policy shelf wafer run conn ask.Status = listed run (status policy run conn)
-outcome_of policy shelf wafer run conn ask.Markers = listed run (markers policy run conn)
+outcome_of policy shelf wafer run connection ask.Run =
+    begun_outcome run (run_row policy shelf wafer run connection)
+outcome_of policy shelf wafer run connection ask.Cancel =
+    left_off_outcome run (cancel_row policy run connection)
+outcome_of policy shelf wafer run connection ask.Status =
+    listing_outcome run (status policy run connection)
+outcome_of policy shelf wafer run connection ask.Markers =
+    listing_outcome run (markers policy run connection)

@@ -12,45 +12,39 @@ use Rattle.mpw_replies.specs.declared.reply.Denial.TheVariants as denial
 use Rattle.mpw_replies.specs.declared.reply.Reply.TheVariants as reply
 use Rattle.mpw_run.specs.Step.{Run}
 use Rattle.mpw_wafer.specs.declared.wafer.Wafer.{Wafer}
-use Rattle.mpw_checking.specs.Checking.{outcome_of}
+use Rattle.mpw_checking.specs.Checking.{Outcome, outcome_of}
+
+-- What holds of the outcome of each request, over each policy, shelf, wafer and run.
+abbrev pub EachOutcome : (Policy → Run → ℕ → Outcome → Type 0) → Type 0
+EachOutcome holds =
+    (policy : Policy) (shelf : List Submission) (wafer : Wafer) (run : Run) (connection : ℕ)
+    (request : RunRequest)
+    → holds policy run connection (outcome_of policy shelf wafer run connection request)
 
 -- A permission that is denied is lacked.
 abbrev pub RunsDenyWhatIsLacked : Type 0
-RunsDenyWhatIsLacked =
-    (policy : Policy) (shelf : List Submission) (wafer : Wafer) (run : Run) (conn : ℕ)
-    (request : RunRequest)
+RunsDenyWhatIsLacked = EachOutcome (λ policy run connection outcome.
     (operation : Operation) (object : Object)
-    → (outcome_of policy shelf wafer run conn request).reply ≡ reply.Denied
-    (denial.Permission operation object)
-    → permits policy conn operation object ≡ false
+    → outcome.reply ≡ reply.Denied (denial.Permission operation object)
+    → permits policy connection operation object ≡ false)
 
 -- What is denied or refused leaves the run.
 abbrev pub NegativesLeaveTheRun : Type 0
-NegativesLeaveTheRun =
-    (policy : Policy) (shelf : List Submission) (wafer : Wafer) (run : Run) (conn : ℕ)
-    (request : RunRequest)
-    → IsNegative (outcome_of policy shelf wafer run conn request).reply
-    → (outcome_of policy shelf wafer run conn request).run ≡ run
+NegativesLeaveTheRun = EachOutcome (λ policy run connection outcome.
+    IsNegative outcome.reply → outcome.run ≡ run)
 
 -- It is no change that has to be kept.
 abbrev pub NegativesAreNoChange : Type 0
-NegativesAreNoChange =
-    (policy : Policy) (shelf : List Submission) (wafer : Wafer) (run : Run) (conn : ℕ)
-    (request : RunRequest)
-    → IsNegative (outcome_of policy shelf wafer run conn request).reply
-    → (outcome_of policy shelf wafer run conn request).changes ≡ false
+NegativesAreNoChange = EachOutcome (λ policy run connection outcome.
+    IsNegative outcome.reply → outcome.changes ≡ false)
 
 -- What is listed of markers names only cells that the session may read.
 abbrev pub MarkersAreOfReadable : Type 0
-MarkersAreOfReadable =
-    (policy : Policy) (shelf : List Submission) (wafer : Wafer) (run : Run) (conn : ℕ)
-    (request : RunRequest) (lines : List Listed)
-    → (outcome_of policy shelf wafer run conn request).reply ≡ reply.Ok lines
-    → All (IsOfReadable policy conn) lines
+MarkersAreOfReadable = EachOutcome (λ policy run connection outcome.
+    (lines : List Listed) → outcome.reply ≡ reply.Ok lines
+    → All (IsOfReadable policy connection) lines)
 
 -- A request raises the number of runs by one at most.
 abbrev pub NumbersAreCounted : Type 0
-NumbersAreCounted =
-    (policy : Policy) (shelf : List Submission) (wafer : Wafer) (run : Run) (conn : ℕ)
-    (request : RunRequest)
-    → (outcome_of policy shelf wafer run conn request).run.number ≤ run.number + 1
+NumbersAreCounted = EachOutcome (λ policy run connection outcome.
+    outcome.run.number ≤ run.number + 1)

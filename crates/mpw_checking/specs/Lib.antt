@@ -1,4 +1,3 @@
 pub mod Answers
 pub mod Checking
 pub mod Laws
-pub mod Internal

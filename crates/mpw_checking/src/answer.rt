@@ -1,8 +1,7 @@
 //! The answers to requests over the checking run.
-ghost use Rattle.std.specs.Prelude.{◌+◌, ◌<◌, ◌^◌, List, Result, IfOk};
+ghost use Rattle.std.specs.Prelude.{◌≡◌, ◌+◌, ◌<◌, ◌^◌, List, Result, IfOk};
 ghost use Rattle.mpw_checking.specs.Answers.{Gives};
-ghost use Rattle.mpw_checking.specs.Internal.Answers.{IsEnd};
-ghost use Rattle.mpw_checking.specs.Checking.{outcome_of, begun_outcome, left_off_outcome, listed};
+ghost use Rattle.mpw_checking.specs.Checking.{outcome_of, begun_outcome, left_off_outcome, listing_outcome};
 ghost use Rattle.mpw_placings.specs.Placements.{ArePlacings};
 ghost use Rattle.mpw_replies.specs.Listing.{Listed};
 ghost use Rattle.mpw_replies.specs.Rows.{Answers};
@@ -13,7 +12,7 @@ use crate::begin::begin;
 use crate::rows::{leave, markers, one_line, status};
 use mpw_hier::Shelf;
 use mpw_rbac::Policy;
-use mpw_replies::{Fault, Line, Lines, Reply};
+use mpw_replies::{Fault, Line, Lines, Reply, listing_reply};
 use mpw_requests::RunRequest;
 use mpw_run::{Planned, Prepared, Run};
 use mpw_wafer::Wafer;
@@ -37,17 +36,13 @@ pub struct RunAnswer {
     pub next: NextRun,
 }
 
-/// What ends a row is told, and leaves the run; want of memory gives no answer.
-fn told(fault: Fault) -> Result<RunAnswer, AllocError>
-    ensures { IfOk result (IsEnd fault) }
+/// The answer to what lists.
+fn listing(run: &Run, made: Result<Lines, Fault>) -> Result<RunAnswer, AllocError>
+    ensures { (row : Result (List Listed) AnyEnding) → Answers (λ lines. lines) made row
+        → IfOk result (λ answer. Gives run.now (listing_outcome run.now row) answer) }
 {
-    match fault {
-        Fault::Told(ending) => Ok(RunAnswer {
-            reply: ending.reply(),
-            next: NextRun::Same,
-        }),
-        Fault::Memory => Err(AllocError),
-    }
+    let _number = run.number();
+    Ok(no_change(listing_reply(made)?))
 }
 
 /// The answer to what begins a run.
@@ -68,7 +63,7 @@ fn beginning(
                 next: NextRun::Start(run.prepare_start(planned)),
             })
         }
-        Err(fault) => told(fault),
+        Err(fault) => Ok(no_change(fault.reply()?)),
     }
 }
 
@@ -83,22 +78,17 @@ fn leaving(run: &Run, made: Result<(), Fault>) -> Result<RunAnswer, AllocError>
             reply: Reply::Ok(Lines::none()),
             next: NextRun::Cancel,
         }),
-        Err(fault) => told(fault),
+        Err(fault) => Ok(no_change(fault.reply()?)),
     }
 }
 
-/// The answer to what lists.
-fn listing(run: &Run, made: Result<Lines, Fault>) -> Result<RunAnswer, AllocError>
-    ensures { (row : Result (List Listed) AnyEnding) → Answers (λ lines. lines) made row
-        → IfOk result (λ answer. Gives run.now (listed run.now row) answer) }
+/// A reply that leaves the run.
+fn no_change(reply: Reply) -> RunAnswer
+    ensures { (result.reply ≡ reply) × (result.next ≡ NextRun.Same) }
 {
-    let _number = run.number();
-    match made {
-        Ok(lines) => Ok(RunAnswer {
-            reply: Reply::Ok(lines),
-            next: NextRun::Same,
-        }),
-        Err(fault) => told(fault),
+    RunAnswer {
+        reply,
+        next: NextRun::Same,
     }
 }
 
@@ -113,17 +103,21 @@ pub fn answer_request(
     shelf: &Shelf,
     wafer: &Wafer,
     run: &Run,
-    conn: u32,
+    connection: u32,
     request: &RunRequest,
 ) -> Result<RunAnswer, AllocError>
     requires placings { ArePlacings shelf.now wafer.now.placings }
     requires counted { run.now.number + 1 < 2 ^ 32 }
-    ensures { IfOk result (λ answer. Gives run.now (outcome_of policy.now shelf.now wafer.now run.now conn request.now) answer) }
+    ensures { IfOk result (λ answer. Gives run.now (outcome_of policy.now shelf.now wafer.now run.now connection request.now) answer) }
 {
     match request {
-        RunRequest::Run => beginning(alloc, run, begin(alloc, policy, shelf, wafer, run, conn)),
-        RunRequest::Cancel => leaving(run, leave(policy, run, conn)),
-        RunRequest::Status => listing(run, status(alloc, policy, run, conn)),
-        RunRequest::Markers => listing(run, markers(alloc, policy, run, conn)),
+        RunRequest::Run => beginning(
+            alloc,
+            run,
+            begin(alloc, policy, shelf, wafer, run, connection),
+        ),
+        RunRequest::Cancel => leaving(run, leave(policy, run, connection)),
+        RunRequest::Status => listing(run, status(alloc, policy, run, connection)),
+        RunRequest::Markers => listing(run, markers(alloc, policy, run, connection)),
     }
 }

@@ -32,7 +32,7 @@ fn rest(phase: &Phase) -> Result<(), Fault>
 
 /// The deck, if there is one.
 fn deck(deck: &Option<Deck>) -> Result<Deck, Fault>
-    ensures { Answers (λ deck. deck) result (row.decked deck.now) }
+    ensures { Answers (λ deck. deck) result (row.present_deck deck.now) }
 {
     match deck {
         Some(deck) => Ok(deck.copy()?),
@@ -70,7 +70,7 @@ fn shape_count(snapshot: &Snapshot) -> u64
 
 /// The snapshot with the plan of its tiles. Linear in its roots and rules.
 fn plan(snapshot: Snapshot) -> Result<Planned, Fault>
-    ensures { Answers (λ planned. planned) result (row.planned snapshot) }
+    ensures { Answers (λ planned. planned) result (row.planning snapshot) }
 {
     if shape_count(&snapshot) == 0 {
         return Err(Fault::refused(Code::Empty));
@@ -92,12 +92,12 @@ pub(crate) fn begin(
     shelf: &Shelf,
     wafer: &Wafer,
     run: &Run,
-    conn: u32,
+    connection: u32,
 ) -> Result<Planned, Fault>
     requires { ArePlacings shelf.now wafer.now.placings }
-    ensures { Answers (λ planned. planned) result (row.run_row policy.now shelf.now wafer.now run.now conn) }
+    ensures { Answers (λ planned. planned) result (row.run_row policy.now shelf.now wafer.now run.now connection) }
 {
-    enter(policy, conn, Operation::Run, Object::Desk)?;
+    enter(policy, connection, Operation::Run, Object::Desk)?;
     rest(run.phase())?;
     let deck = deck(&wafer.deck)?;
     let snapshot = snapshot(alloc, deck, &wafer.placings, shelf)?;

@@ -12,10 +12,10 @@ use mpw_run::{Checked, Phase, Run};
 use std::alloc::{AllocError, Global};
 
 /// The connection has a session.
-fn session(policy: &Policy, conn: u32) -> Result<(), Fault>
-    ensures { Answers (λ x. x) result (row.entered policy.now conn) }
+fn session(policy: &Policy, connection: u32) -> Result<(), Fault>
+    ensures { Answers (λ x. x) result (row.session_test policy.now connection) }
 {
-    if !policy.has_session(conn) {
+    if !policy.has_session(connection) {
         return Err(Fault::Told(Ending::Denied(Denial::Session)));
     }
     Ok(())
@@ -35,10 +35,10 @@ fn goes_on(phase: &Phase) -> Result<(), Fault>
 
 /// Whether the run may be left: it goes on, and the session may do so.
 #[tactic(auto, unfolding(crate::specs::Checking::cancel_row))]
-pub(crate) fn leave(policy: &Policy, run: &Run, conn: u32) -> Result<(), Fault>
-    ensures { Answers (λ x. x) result (row.cancel_row policy.now run.now conn) }
+pub(crate) fn leave(policy: &Policy, run: &Run, connection: u32) -> Result<(), Fault>
+    ensures { Answers (λ x. x) result (row.cancel_row policy.now run.now connection) }
 {
-    enter(policy, conn, Operation::Run, Object::Desk)?;
+    enter(policy, connection, Operation::Run, Object::Desk)?;
     goes_on(run.phase())
 }
 
@@ -70,16 +70,21 @@ pub(crate) fn one_line(alloc: Global, line: Line) -> Result<Lines, AllocError>
 
 /// The line of `status`. Linear in the run's tiles.
 #[tactic(auto, unfolding(crate::specs::Checking::status))]
-pub(crate) fn status(alloc: Global, policy: &Policy, run: &Run, conn: u32) -> Result<Lines, Fault>
-    ensures { Answers (λ lines. lines) result (row.status policy.now run.now conn) }
+pub(crate) fn status(
+    alloc: Global,
+    policy: &Policy,
+    run: &Run,
+    connection: u32,
+) -> Result<Lines, Fault>
+    ensures { Answers (λ lines. lines) result (row.status policy.now run.now connection) }
 {
-    session(policy, conn)?;
+    session(policy, connection)?;
     Ok(one_line(alloc, phase_line(run))?)
 }
 
 /// What a finished run found.
 fn findings(phase: &Phase) -> Result<&Checked, Fault>
-    ensures { Answers (λ f. f.now) result (row.finished phase.now) }
+    ensures { Answers (λ f. f.now) result (row.finished_run phase.now) }
 {
     match phase {
         Phase::Idle => Err(Fault::refused(Code::NotFinished)),
@@ -93,14 +98,14 @@ fn findings(phase: &Phase) -> Result<&Checked, Fault>
 fn checked_lines(
     alloc: Global,
     policy: &Policy,
-    conn: u32,
+    connection: u32,
     checked: &Checked,
 ) -> Result<Lines, AllocError>
-    ensures { IfOk result (λ lines. lines ≡ row.checked_lines policy.now conn checked.now) }
+    ensures { IfOk result (λ lines. lines ≡ row.checked_lines policy.now connection checked.now) }
 {
     let snapshot = checked.planned.snapshot();
     let shelf = snapshot.shelf();
-    let seen = seen_by(alloc, policy, conn, shelf.submissions())?;
+    let seen = seen_by(alloc, policy, connection, shelf.submissions())?;
     let book = checked.book.copy()?;
     let rules = snapshot.deck().rules().copy()?;
     let listing = MarkerListing::new(alloc, book, rules, shelf, seen)?;
@@ -109,10 +114,15 @@ fn checked_lines(
 
 /// The lines of `markers`: a look-up for each submission on the run's shelf, and what the listing takes.
 #[tactic(auto, unfolding(crate::specs::Checking::markers))]
-pub(crate) fn markers(alloc: Global, policy: &Policy, run: &Run, conn: u32) -> Result<Lines, Fault>
-    ensures { Answers (λ lines. lines) result (row.markers policy.now run.now conn) }
+pub(crate) fn markers(
+    alloc: Global,
+    policy: &Policy,
+    run: &Run,
+    connection: u32,
+) -> Result<Lines, Fault>
+    ensures { Answers (λ lines. lines) result (row.markers policy.now run.now connection) }
 {
-    session(policy, conn)?;
+    session(policy, connection)?;
     let checked = findings(run.phase())?;
-    Ok(checked_lines(alloc, policy, conn, checked)?)
+    Ok(checked_lines(alloc, policy, connection, checked)?)
 }

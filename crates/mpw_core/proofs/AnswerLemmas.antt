@@ -8,12 +8,12 @@ use Rattle.mpw_rbac.specs.Policy.{Policy}
 use Rattle.mpw_rbac.specs.Rows.{IsFaultOf}
 use Rattle.mpw_core.specs.declared.answer.Answer.{Answer}
 use Rattle.mpw_core.specs.Internal.Answer.{IsRefusal, Fits, Gives, state_with, is_change}
-use Rattle.mpw_core.specs.Step.{State, changed}
+use Rattle.mpw_core.specs.Step.{State, policy_outcome}
 
 pub refused-gives : (state : State) (row : Result Policy Refusal) (fault : PolicyFault)
     (result : Result Answer AllocError) → IsFaultOf row fault
     → IfOk result (λ a. IsRefusal fault a.response a.next)
-    → IfOk result (λ a. Gives state (changed state row) a.response a.next)
+    → IfOk result (λ a. Gives state (policy_outcome state row) a.response a.next)
 refused-gives state row fault (Err e) is answer = tt
 refused-gives state row Memory (Ok a) is answer = absurd answer
 refused-gives state row (Refused refusal) (Ok a) is answer =

@@ -12,25 +12,26 @@ use Rattle.mpw_core.specs.Step.{new_state}
 use Rattle.mpw_core.proofs.KeptLemmas.{kept-history}
 
 -- every active role is authorized
-keeps-row : (conn : ℕ) (request : PolicyRequest) → KeepsAuthorization (λ p. row_of p conn request)
-keeps-row conn (Open user digest) = law.keeps-open_session conn user digest
-keeps-row conn Close = law.keeps-close_session conn
-keeps-row conn (Activate role) = law.keeps-activate conn role
-keeps-row conn (AddUser user digest) = law.keeps-adduser conn user digest
-keeps-row conn (AddRole role) = law.keeps-addrole conn role
-keeps-row conn (Assign user role) = law.keeps-assign conn user role
-keeps-row conn (Grant grant) = law.keeps-grant conn grant
-keeps-row conn (Revoke grant) = law.keeps-revoke conn grant
-keeps-row conn (DropRole role) = law.keeps-drop_role conn role
-keeps-row conn (DelUser user) = law.keeps-deluser conn user
-keeps-row conn (DelRole role) = law.keeps-delrole conn role
-keeps-row conn (Deassign user role) = law.keeps-deassign conn user role
-keeps-row conn (Inherit senior junior) = law.keeps-inherit conn senior junior
-keeps-row conn (Uninherit senior junior) = law.keeps-uninherit conn senior junior
-keeps-row conn (Ssd set) = law.keeps-ssd conn set
-keeps-row conn (Dsd set) = law.keeps-dsd conn set
-keeps-row conn (UnSsd name) = law.keeps-unssd conn name
-keeps-row conn (UnDsd name) = law.keeps-undsd conn name
+keeps-row : (connection : ℕ) (request : PolicyRequest)
+    → KeepsAuthorization (λ p. row_of p connection request)
+keeps-row connection (Open user digest) = law.keeps-open_session connection user digest
+keeps-row connection Close = law.keeps-close_session connection
+keeps-row connection (Activate role) = law.keeps-activate connection role
+keeps-row connection (AddUser user digest) = law.keeps-adduser connection user digest
+keeps-row connection (AddRole role) = law.keeps-addrole connection role
+keeps-row connection (Assign user role) = law.keeps-assign connection user role
+keeps-row connection (Grant grant) = law.keeps-grant connection grant
+keeps-row connection (Revoke grant) = law.keeps-revoke connection grant
+keeps-row connection (DropRole role) = law.keeps-drop_role connection role
+keeps-row connection (DelUser user) = law.keeps-deluser connection user
+keeps-row connection (DelRole role) = law.keeps-delrole connection role
+keeps-row connection (Deassign user role) = law.keeps-deassign connection user role
+keeps-row connection (Inherit senior junior) = law.keeps-inherit connection senior junior
+keeps-row connection (Uninherit senior junior) = law.keeps-uninherit connection senior junior
+keeps-row connection (Ssd set) = law.keeps-ssd connection set
+keeps-row connection (Dsd set) = law.keeps-dsd connection set
+keeps-row connection (UnSsd name) = law.keeps-unssd connection name
+keeps-row connection (UnDsd name) = law.keeps-undsd connection name
 
 pub keeps-history : (officer digest : List ℕ) (calls : List Call)
     → active_authorized (state_after (new_state officer digest) calls).policy ≡ true
@@ -39,25 +40,26 @@ keeps-history officer digest calls =
     law.keeps-end_sessions officer digest calls (law.keeps-new_desk officer digest)
 
 -- and the sets of separation hold
-sound-row : (conn : ℕ) (request : PolicyRequest) → KeepsSound (λ p. row_of p conn request)
-sound-row conn (Open user digest) = law.sound-open_session conn user digest
-sound-row conn Close = law.sound-close_session conn
-sound-row conn (Activate role) = law.sound-activate_row conn role
-sound-row conn (AddUser user digest) = law.sound-adduser_row conn user digest
-sound-row conn (AddRole role) = law.sound-addrole_row conn role
-sound-row conn (Assign user role) = law.sound-assign_row conn user role
-sound-row conn (Grant grant) = law.sound-grant conn grant
-sound-row conn (Revoke grant) = law.sound-revoke conn grant
-sound-row conn (DropRole role) = law.sound-drop_role conn role
-sound-row conn (DelUser user) = law.sound-deluser conn user
-sound-row conn (DelRole role) = law.sound-delrole conn role
-sound-row conn (Deassign user role) = law.sound-deassign conn user role
-sound-row conn (Inherit senior junior) = law.sound-inherit conn senior junior
-sound-row conn (Uninherit senior junior) = law.sound-uninherit conn senior junior
-sound-row conn (Ssd set) = law.sound-ssd conn set
-sound-row conn (Dsd set) = law.sound-dsd conn set
-sound-row conn (UnSsd name) = law.sound-unssd conn name
-sound-row conn (UnDsd name) = law.sound-undsd conn name
+sound-row : (connection : ℕ) (request : PolicyRequest)
+    → KeepsSound (λ p. row_of p connection request)
+sound-row connection (Open user digest) = law.sound-open_session connection user digest
+sound-row connection Close = law.sound-close_session connection
+sound-row connection (Activate role) = law.sound-activate_row connection role
+sound-row connection (AddUser user digest) = law.sound-adduser_row connection user digest
+sound-row connection (AddRole role) = law.sound-addrole_row connection role
+sound-row connection (Assign user role) = law.sound-assign_row connection user role
+sound-row connection (Grant grant) = law.sound-grant connection grant
+sound-row connection (Revoke grant) = law.sound-revoke connection grant
+sound-row connection (DropRole role) = law.sound-drop_role connection role
+sound-row connection (DelUser user) = law.sound-deluser connection user
+sound-row connection (DelRole role) = law.sound-delrole connection role
+sound-row connection (Deassign user role) = law.sound-deassign connection user role
+sound-row connection (Inherit senior junior) = law.sound-inherit connection senior junior
+sound-row connection (Uninherit senior junior) = law.sound-uninherit connection senior junior
+sound-row connection (Ssd set) = law.sound-ssd connection set
+sound-row connection (Dsd set) = law.sound-dsd connection set
+sound-row connection (UnSsd name) = law.sound-unssd connection name
+sound-row connection (UnDsd name) = law.sound-undsd connection name
 
 pub sound-history : (officer digest : List ℕ) (calls : List Call)
     → Sound (state_after (new_state officer digest) calls).policy

@@ -31,8 +31,8 @@ use Rattle.mpw_replies.specs.declared.row.Ending.{Ending}
 use Rattle.mpw_replies.specs.declared.row.Ending.TheVariants as ending
 use Rattle.mpw_rbac.specs.declared.permission.Object.TheVariants as objects
 use Rattle.mpw_rbac.specs.declared.permission.Operation.TheVariants as operations
-use Rattle.mpw_core.specs.Step.{State, Outcome, reply_of, changed, asked, audited, identity_lines, outcome_of, wanted, step, response_of}
-use Rattle.mpw_core.proofs.RefusalLemmas.{settled-denied}
+use Rattle.mpw_core.specs.Step.{State, Outcome, reply_of, policy_outcome, query_outcome, trail_outcome, identity_lines, outcome_of, event_outcome, step, response_of}
+use Rattle.mpw_core.proofs.RefusalLemmas.{settlement-denied}
 
 -- what is told alike is alike
 pub inside : {a b : Reply} → response.Told a ≡ response.Told b → a ≡ b
@@ -73,120 +73,140 @@ told_by r x d is e =
       | inr p ↦ absurd (none-some x (sym p ∙ ap told_of e ∙ is))
     ]
 
-denied-changed : (s : State) (row : Result Policy Refusal) (d : Reply) (x : Refusal)
-    → told_of d ≡ Some x → (changed s row).response ≡ response.Told d → row ≡ Err x
-denied-changed s (Ok q) d x is e = absurd (none-some x (ap told_of (inside e) ∙ is))
-denied-changed s (Err r) d x is e = ap (λ x. Err x) (told_by r x d is (inside e))
+denied-policy_outcome : (s : State) (row : Result Policy Refusal) (d : Reply) (x : Refusal)
+    → told_of d ≡ Some x → (policy_outcome s row).response ≡ response.Told d → row ≡ Err x
+denied-policy_outcome s (Ok q) d x is e = absurd (none-some x (ap told_of (inside e) ∙ is))
+denied-policy_outcome s (Err r) d x is e = ap (λ x. Err x) (told_by r x d is (inside e))
 
-denied-asked : (s : State) (row : Result Identity Refusal) (d : Reply) (x : Refusal)
-    → told_of d ≡ Some x → (asked s identity_lines row).response ≡ response.Told d → row ≡ Err x
-denied-asked s (Ok q) d x is e = absurd (none-some x (ap told_of (inside e) ∙ is))
-denied-asked s (Err r) d x is e = ap (λ x. Err x) (told_by r x d is (inside e))
+denied-query_outcome : (s : State) (row : Result Identity Refusal) (d : Reply) (x : Refusal)
+    → told_of d ≡ Some x → (query_outcome s identity_lines row).response ≡ response.Told d
+    → row ≡ Err x
+denied-query_outcome s (Ok q) d x is e = absurd (none-some x (ap told_of (inside e) ∙ is))
+denied-query_outcome s (Err r) d x is e = ap (λ x. Err x) (told_by r x d is (inside e))
 
 -- what a request of the policy is denied is what its row tells
-pub denied-row : (s : State) (conn : ℕ) (request : PolicyRequest) (kept : Bool) (w : Denial)
+pub denied-row : (s : State) (connection : ℕ) (request : PolicyRequest) (kept : Bool) (w : Denial)
     (x : Refusal) → told_of (reply.Denied w) ≡ Some x
-    → response_of s (event.Ask conn (ask.Policy request)) kept ≡ response.Told (reply.Denied w)
-    → row_of s.policy conn request ≡ Err x
-unfolding step wanted
-denied-row s conn request kept w x is e =
-    let same = settled-denied s (event.Ask conn (ask.Policy request)) kept
-    (outcome_of s conn (ask.Policy request)) w e in
-    denied-changed s (row_of s.policy conn request) (reply.Denied w) x is
+    → response_of s (event.Ask connection (ask.Policy request)) kept ≡ response.Told
+    (reply.Denied w)
+    → row_of s.policy connection request ≡ Err x
+unfolding step event_outcome
+denied-row s connection request kept w x is e =
+    let same = settlement-denied s (event.Ask connection (ask.Policy request)) kept
+    (outcome_of s connection (ask.Policy request)) w e in
+    denied-policy_outcome s (row_of s.policy connection request) (reply.Denied w) x is
     (ap (λ (o : Outcome). o.response) (sym same) ∙ e)
 
-lacks-row : (p : Policy) (conn : ℕ) (request : PolicyRequest) (operation : Operation)
-    (object : Object) → row_of p conn request ≡ Err (refusal.NotPermitted operation object)
-    → permits p conn operation object ≡ false
-lacks-row p conn (Open user digest) operation object e =
-    law.denies-open_session conn user digest p operation object e
-lacks-row p conn Close operation object e = law.denies-close_session conn p operation object e
-lacks-row p conn (Activate role) operation object e =
-    law.denies-activation conn role p operation object e
-lacks-row p conn (DropRole role) operation object e =
-    law.denies-drop_role conn role p operation object e
-lacks-row p conn (AddUser user digest) operation object e =
-    law.denies-adduser conn user digest p operation object e
-lacks-row p conn (AddRole role) operation object e =
-    law.denies-addrole conn role p operation object e
-lacks-row p conn (Assign user role) operation object e =
-    law.denies-assign conn user role p operation object e
-lacks-row p conn (Grant grant) operation object e = law.denies-grant conn grant p operation object e
-lacks-row p conn (Revoke grant) operation object e =
-    law.denies-revoke conn grant p operation object e
-lacks-row p conn (DelUser user) operation object e =
-    law.denies-deluser conn user p operation object e
-lacks-row p conn (DelRole role) operation object e =
-    law.denies-delrole conn role p operation object e
-lacks-row p conn (Deassign user role) operation object e =
-    law.denies-deassign conn user role p operation object e
-lacks-row p conn (Inherit senior junior) operation object e =
-    law.denies-inherit conn senior junior p operation object e
-lacks-row p conn (Uninherit senior junior) operation object e =
-    law.denies-uninherit conn senior junior p operation object e
-lacks-row p conn (Ssd set) operation object e = law.denies-ssd conn set p operation object e
-lacks-row p conn (Dsd set) operation object e = law.denies-dsd conn set p operation object e
-lacks-row p conn (UnSsd name) operation object e = law.denies-unssd conn name p operation object e
-lacks-row p conn (UnDsd name) operation object e = law.denies-undsd conn name p operation object e
+lacks-row : (p : Policy) (connection : ℕ) (request : PolicyRequest) (operation : Operation)
+    (object : Object) → row_of p connection request ≡ Err (refusal.NotPermitted operation object)
+    → permits p connection operation object ≡ false
+lacks-row p connection (Open user digest) operation object e =
+    law.denies-open_session connection user digest p operation object e
+lacks-row p connection Close operation object e =
+    law.denies-close_session connection p operation object e
+lacks-row p connection (Activate role) operation object e =
+    law.denies-activation connection role p operation object e
+lacks-row p connection (DropRole role) operation object e =
+    law.denies-drop_role connection role p operation object e
+lacks-row p connection (AddUser user digest) operation object e =
+    law.denies-adduser connection user digest p operation object e
+lacks-row p connection (AddRole role) operation object e =
+    law.denies-addrole connection role p operation object e
+lacks-row p connection (Assign user role) operation object e =
+    law.denies-assign connection user role p operation object e
+lacks-row p connection (Grant grant) operation object e =
+    law.denies-grant connection grant p operation object e
+lacks-row p connection (Revoke grant) operation object e =
+    law.denies-revoke connection grant p operation object e
+lacks-row p connection (DelUser user) operation object e =
+    law.denies-deluser connection user p operation object e
+lacks-row p connection (DelRole role) operation object e =
+    law.denies-delrole connection role p operation object e
+lacks-row p connection (Deassign user role) operation object e =
+    law.denies-deassign connection user role p operation object e
+lacks-row p connection (Inherit senior junior) operation object e =
+    law.denies-inherit connection senior junior p operation object e
+lacks-row p connection (Uninherit senior junior) operation object e =
+    law.denies-uninherit connection senior junior p operation object e
+lacks-row p connection (Ssd set) operation object e =
+    law.denies-ssd connection set p operation object e
+lacks-row p connection (Dsd set) operation object e =
+    law.denies-dsd connection set p operation object e
+lacks-row p connection (UnSsd name) operation object e =
+    law.denies-unssd connection name p operation object e
+lacks-row p connection (UnDsd name) operation object e =
+    law.denies-undsd connection name p operation object e
 
 permission-ended : (e : Ending) (operation : Operation) (object : Object)
-    → ended_by e ≡ reply.Denied (denial.Permission operation object) → e ≡ denied operation object
+    → ended_by e ≡ reply.Denied (denial.Permission operation object)
+    → e ≡ denied operation object
 permission-ended (ending.Denied why) operation object e = cc
 permission-ended (ending.Refused why) operation object e = absurd cc
 
-permission-audited : (s : State) (row : Result (Unit {0}) Ending) (operation : Operation)
-    (object : Object) → (audited s row).response ≡ response.Told
-    (reply.Denied (denial.Permission operation object)) → row ≡ Err (denied operation object)
-permission-audited s (Ok allowed) operation object e = absurd cc
-permission-audited s (Err ending) operation object e =
+permission-trail_outcome : (s : State) (row : Result (Unit {0}) Ending) (operation : Operation)
+    (object : Object) → (trail_outcome s row).response ≡ response.Told
+    (reply.Denied (denial.Permission operation object))
+    → row ≡ Err (denied operation object)
+permission-trail_outcome s (Ok allowed) operation object e = absurd cc
+permission-trail_outcome s (Err ending) operation object e =
     ap (λ x. Err x) (permission-ended ending operation object (inside e))
 
 module _ (shelves : LayoutsDenyWhatIsLacked) (wafers : WafersDenyWhatIsLacked)
     (runs : RunsDenyWhatIsLacked) (waivers : SignOffsDenyWhatIsLacked)
     (entering : EnteringDeniesWhatIsLacked) where
-  lacks-request : (s : State) (conn : ℕ) (request : Request) (operation : Operation)
-      (object : Object) → (outcome_of s conn request).response ≡ response.Told
+  lacks-request : (s : State) (connection : ℕ) (request : Request) (operation : Operation)
+      (object : Object) → (outcome_of s connection request).response ≡ response.Told
       (reply.Denied (denial.Permission operation object))
-      → permits s.policy conn operation object ≡ false
-  lacks-request s conn (ask.Policy request) operation object e = lacks-row s.policy conn request
-      operation object (denied-changed s
-      (row_of s.policy conn request) (reply.Denied (denial.Permission operation object)) (refusal.NotPermitted operation object)
+      → permits s.policy connection operation object ≡ false
+  lacks-request s connection (ask.Policy request) operation object e = lacks-row s.policy connection
+      request
+      operation object (denied-policy_outcome s
+      (row_of s.policy connection request) (reply.Denied (denial.Permission operation object))
+      (refusal.NotPermitted operation object)
       refl e)
-  lacks-request s conn ask.Whoami operation object e =
-      absurd (law.denies-whoami s.policy conn operation object
-      (denied-asked s (rows.whoami s.policy conn)
+  lacks-request s connection ask.Whoami operation object e =
+      absurd (law.denies-whoami s.policy connection operation object
+      (denied-query_outcome s (rows.whoami s.policy connection)
       (reply.Denied (denial.Permission operation object)) (refusal.NotPermitted operation object)
       refl e))
-  lacks-request s conn (ask.Layout request) operation object e = shelves s.policy s.shelf conn
+  lacks-request s connection (ask.Layout request) operation object e =
+      shelves s.policy s.shelf connection
       request operation object (inside e)
-  lacks-request s conn (ask.Wafer request) operation object e = wafers s.policy s.shelf s.wafer conn
+  lacks-request s connection (ask.Wafer request) operation object e =
+      wafers s.policy s.shelf s.wafer connection
       request operation object (inside e)
-  lacks-request s conn (ask.Run request) operation object e = runs s.policy s.shelf s.wafer s.run
-      conn request operation object (inside e)
-  lacks-request s conn (ask.SignOff request) operation object e = waivers s.policy s.wafer s.run
-      s.waivers conn request operation object (inside e)
-  lacks-request s conn ask.Trail operation object e = entering s.policy conn operations.Audit
-      operation objects.Desk object (permission-audited s
-      (permitted s.policy conn operations.Audit objects.Desk) operation object e)
+  lacks-request s connection (ask.Run request) operation object e = runs s.policy s.shelf s.wafer
+      s.run
+      connection request operation object (inside e)
+  lacks-request s connection (ask.SignOff request) operation object e =
+      waivers s.policy s.wafer s.run
+      s.waivers connection request operation object (inside e)
+  lacks-request s connection ask.Trail operation object e = entering s.policy connection
+      operations.Audit
+      operation objects.Desk object (permission-trail_outcome s
+      (permitted s.policy connection operations.Audit objects.Desk) operation object e)
 
-  pub lacks-permission : (s : State) (conn : ℕ) (request : Request) (kept : Bool)
+  pub lacks-permission : (s : State) (connection : ℕ) (request : Request) (kept : Bool)
       (operation : Operation) (object : Object)
-      → response_of s (event.Ask conn request) kept ≡ response.Told
+      → response_of s (event.Ask connection request) kept ≡ response.Told
       (reply.Denied (denial.Permission operation object))
-      → permits s.policy conn operation object ≡ false
-  unfolding step wanted
-  lacks-permission s conn request kept operation object e =
-      let same = settled-denied s (event.Ask conn request) kept (outcome_of s conn request)
+      → permits s.policy connection operation object ≡ false
+  unfolding step event_outcome
+  lacks-permission s connection request kept operation object e =
+      let same =
+      settlement-denied s (event.Ask connection request) kept (outcome_of s connection request)
       (denial.Permission operation object) e in
-      lacks-request s conn request operation object (ap (λ (o : Outcome). o.response) (sym same)
+      lacks-request s connection request operation object
+      (ap (λ (o : Outcome). o.response) (sym same)
       ∙ e)
 
-pub lacks-role : (s : State) (conn : ℕ) (role other : List ℕ) (kept : Bool)
-    → response_of s (event.Ask conn (ask.Policy (Activate role))) kept ≡ response.Told
+pub lacks-role : (s : State) (connection : ℕ) (role other : List ℕ) (kept : Bool)
+    → response_of s (event.Ask connection (ask.Policy (Activate role))) kept ≡ response.Told
     (reply.Denied (denial.Activation other))
-    → (other ≡ role) × (contains_name (authorized s.policy (rows.user_of s.policy conn)) role
+    → (other ≡ role) × (contains_name (authorized s.policy (rows.user_of s.policy connection)) role
     ≡ false)
-lacks-role s conn role other kept e =
-    law.denies-activate s.policy conn role other
-    (denied-row s conn (Activate role) kept (denial.Activation other) (refusal.NotAuthorized other)
+lacks-role s connection role other kept e =
+    law.denies-activate s.policy connection role other
+    (denied-row s connection (Activate role) kept (denial.Activation other)
+    (refusal.NotAuthorized other)
     refl e)

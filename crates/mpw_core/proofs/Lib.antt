@@ -11,6 +11,7 @@ mod KeptLemmas
 mod NeedLemmas
 mod PolicyReplies
 mod RunLemmas
+mod OutcomeLemmas
 mod PlacingLemmas
 mod ReadyLemmas
 mod SettlingLemmas

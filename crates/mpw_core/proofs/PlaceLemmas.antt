@@ -27,5 +27,6 @@ fit-history left officer digest calls =
     waived-history HasPlaces refl (λ planned. refl) (λ planned c waivers h. h)
     (λ c c' waivers h. h) (λ f. length-replicate _ None)
     (λ phase waivers h. h ∙ sym (restarted-size phase))
-    (λ s conn request h. left s.policy s.wafer s.run s.waivers conn request ∙ h) officer digest
+    (λ s connection request h. left s.policy s.wafer s.run s.waivers connection request ∙ h) officer
+    digest
     calls

@@ -1,9 +1,5 @@
 -- What is placed is sound on the shelf, in every state.
-use Rattle.std.proofs.Common.{ℕ, Bool, true, false, cond, List, [], ◌∷◌, Result, Ok, Err}
-use Rattle.std.specs.Prelude.{◌&&◌, not}
-use Rattle.mpw_rbac.specs.declared.refusal.Refusal.{Refusal}
-use Rattle.mpw_rbac.specs.declared.session.Identity.{Identity}
-use Rattle.mpw_rbac.specs.Policy.{Policy}
+use Rattle.std.proofs.Common.{ℕ, Bool, List, [], ◌∷◌, Result, Ok, Err}
 use Rattle.mpw_rbac.specs.Rows as rows
 use Rattle.mpw_hier.specs.declared.submission.Submission.{Submission}
 use Rattle.mpw_placings.specs.Laws.{NoneArePlacings, LaterShelvesKeep}
@@ -24,85 +20,67 @@ use Rattle.mpw_core.specs.declared.event.Call.{Call}
 use Rattle.mpw_core.specs.declared.event.Event.{Event}
 use Rattle.mpw_core.specs.declared.event.Event.TheVariants as event
 use Rattle.mpw_core.specs.History.{state_after}
-use Rattle.mpw_core.specs.Step.{State, Outcome, new_state, left, changed, asked, audited, identity_lines, outcome_of, wanted, unkept, settled, step, after}
+use Rattle.mpw_core.specs.Step.{State, new_state, outcome_of, event_outcome, after}
+use Rattle.mpw_core.proofs.OutcomeLemmas.{holds-policy, holds-query, holds-trail, holds-step, holds-calls}
 
 abbrev Placed : State → Type 0
 Placed s = ArePlacings s.shelf s.wafer.placings
 
-placed-changed : (s : State) (row : Result Policy Refusal) → Placed s → Placed (changed s row).state
-placed-changed s (Ok q) placed = placed
-placed-changed s (Err r) placed = placed
-
-placed-asked : (s : State) (row : Result Identity Refusal) → Placed s
-    → Placed (asked s identity_lines row).state
-placed-asked s (Ok q) placed = placed
-placed-asked s (Err r) placed = placed
-
-placed-audited : (s : State) (row : Result (Unit {0}) Ending) → Placed s
-    → Placed (audited s row).state
-placed-audited s (Ok allowed) placed = placed
-placed-audited s (Err ending) placed = placed
-
-placed-settled : (s : State) (event : Event) (was : Bool) (outcome : Outcome) → Placed s
-    → Placed outcome.state → Placed (settled s event was outcome).state
-placed-settled s event was outcome before now =
-    elim (outcome.changes && not was) as
-    (λ b. Placed (cond b (left (unkept event) (record s { closed = true })) outcome).state)
-    [ true ↦ before | false ↦ now ]
-
 module _ (none_are : NoneArePlacings) (later_keep : LaterShelvesKeep)
     (changes_keep : ChangesKeepPlacings) where
   placed-shelved : (s : State) (row : Result Submission Ending) → Placed s
-      → ArePlacings (layouts.shelved s.shelf row).shelf s.wafer.placings
+      → ArePlacings (layouts.submit_outcome s.shelf row).shelf s.wafer.placings
   placed-shelved s (Ok new) placed = later_keep s.shelf (new ∷ []) s.wafer.placings placed
   placed-shelved s (Err ending) placed = placed
 
   placed-listed : (s : State) (row : Result (List Listed) Ending) → Placed s
-      → ArePlacings (layouts.listed s.shelf row).shelf s.wafer.placings
+      → ArePlacings (layouts.listing_outcome s.shelf row).shelf s.wafer.placings
   placed-listed s (Ok lines) placed = placed
   placed-listed s (Err ending) placed = placed
 
-  placed-layout : (s : State) (conn : ℕ) (request : LayoutRequest) → Placed s
-      → ArePlacings (layouts.outcome_of s.policy s.shelf conn request).shelf s.wafer.placings
-  placed-layout s conn (Submit cell top text) placed =
-      placed-shelved s (layouts.submitted s.policy s.shelf conn cell top text) placed
-  placed-layout s conn Cells placed = placed-listed s (layouts.cells s.policy s.shelf conn) placed
-  placed-layout s conn (Shapes cell) placed =
-      placed-listed s (layouts.shapes s.policy s.shelf conn cell) placed
+  placed-layout : (s : State) (connection : ℕ) (request : LayoutRequest) → Placed s
+      → ArePlacings (layouts.outcome_of s.policy s.shelf connection request).shelf s.wafer.placings
+  placed-layout s connection (Submit cell top text) placed =
+      placed-shelved s (layouts.submit_row s.policy s.shelf connection cell top text) placed
+  placed-layout s connection Cells placed =
+      placed-listed s (layouts.cells s.policy s.shelf connection) placed
+  placed-layout s connection (Shapes cell) placed =
+      placed-listed s (layouts.shapes s.policy s.shelf connection cell) placed
 
-  placed-request : (s : State) (conn : ℕ) (request : Request) → Placed s
-      → Placed (outcome_of s conn request).state
-  placed-request s conn (ask.Policy request) placed =
-      placed-changed s (row_of s.policy conn request) placed
-  placed-request s conn ask.Whoami placed = placed-asked s (rows.whoami s.policy conn) placed
-  placed-request s conn (ask.Layout request) placed = placed-layout s conn request placed
-  placed-request s conn (ask.Wafer request) placed = changes_keep s.policy s.shelf s.wafer conn
+  placed-request : (s : State) (connection : ℕ) (request : Request) → Placed s
+      → Placed (outcome_of s connection request).state
+  placed-request s connection (ask.Policy request) placed =
+      holds-policy Placed (λ t policy held. held) s (row_of s.policy connection request) placed
+  placed-request s connection ask.Whoami placed =
+      holds-query Placed s (rows.whoami s.policy connection) placed
+  placed-request s connection (ask.Layout request) placed = placed-layout s connection request
+      placed
+  placed-request s connection (ask.Wafer request) placed = changes_keep s.policy s.shelf s.wafer
+      connection
       request placed
-  placed-request s conn (ask.Run request) placed = placed
-  placed-request s conn (ask.SignOff request) placed = placed
-  placed-request s conn ask.Trail placed =
-      placed-audited s (permitted s.policy conn operation.Audit object.Desk) placed
+  placed-request s connection (ask.Run request) placed = placed
+  placed-request s connection (ask.SignOff request) placed = placed
+  placed-request s connection ask.Trail placed =
+      holds-trail Placed s (permitted s.policy connection operation.Audit object.Desk) placed
 
-  placed-wanted : (s : State) (event : Event) → Placed s → Placed (wanted s event).state
-  unfolding wanted
-  placed-wanted s (event.Ask conn request) placed = placed-request s conn request placed
-  placed-wanted s (event.Gone conn) placed = placed
-  placed-wanted s (event.Take worker) placed = placed
-  placed-wanted s (event.Cut answer) placed = placed
-  placed-wanted s (event.Tile answer) placed = placed
-  placed-wanted s event.Restart placed = placed
+  placed-event_outcome : (s : State) (event : Event) → Placed s
+      → Placed (event_outcome s event).state
+  unfolding event_outcome
+  placed-event_outcome s (event.Ask connection request) placed = placed-request s connection request
+      placed
+  placed-event_outcome s (event.Gone connection) placed = placed
+  placed-event_outcome s (event.Take worker) placed = placed
+  placed-event_outcome s (event.Cut answer) placed = placed
+  placed-event_outcome s (event.Tile answer) placed = placed
+  placed-event_outcome s event.Restart placed = placed
 
   placed-step : (s : State) (event : Event) (was : Bool) → Placed s → Placed (after s event was)
-  unfolding step
-  placed-step s event was placed = placed-settled s event was (wanted s event) placed
-      (placed-wanted s event placed)
-
-  placed-calls : (s : State) (calls : List Call) → Placed s → Placed (state_after s calls)
-  placed-calls s [] placed = placed
-  placed-calls s (call ∷ calls) placed = placed-calls (after s call.event call.kept) calls
-      (placed-step s call.event call.kept placed)
+  placed-step s event was placed =
+      holds-step Placed (λ t held. held) (λ t entries held. held) s event was placed
+      (placed-event_outcome s event placed)
 
   pub placed-history : (officer digest : List ℕ) (calls : List Call)
       → Placed (state_after (new_state officer digest) calls)
   unfolding new_state
-  placed-history officer digest calls = placed-calls (new_state officer digest) calls (none_are [])
+  placed-history officer digest calls =
+      holds-calls Placed placed-step (new_state officer digest) calls (none_are [])

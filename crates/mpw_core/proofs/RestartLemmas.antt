@@ -4,20 +4,20 @@ use Rattle.mpw_rbac.specs.Policy.{session_of}
 use Rattle.mpw_core.specs.declared.event.Event.TheVariants as event
 use Rattle.mpw_core.specs.declared.event.Response.TheVariants as response
 use Rattle.mpw_run.specs.Step as run
-use Rattle.mpw_core.specs.Step.{State, wanted, step, response_of, after}
+use Rattle.mpw_core.specs.Step.{State, event_outcome, step, response_of, after}
 
 pub restart-told : (s : State) (kept : Bool) → response_of s event.Restart kept ≡ response.Restarted
-unfolding step wanted
+unfolding step event_outcome
 restart-told s kept = refl
 
-pub restart-ends : (s : State) (kept : Bool) (conn : ℕ)
-    → session_of (after s event.Restart kept).policy conn ≡ None
-unfolding step wanted
-restart-ends s kept conn = refl
+pub restart-ends : (s : State) (kept : Bool) (connection : ℕ)
+    → session_of (after s event.Restart kept).policy connection ≡ None
+unfolding step event_outcome
+restart-ends s kept connection = refl
 
 pub restart-cuts : (s : State) (kept : Bool)
     → (after s event.Restart kept).run ≡ run.restarted s.run
-unfolding step wanted
+unfolding step event_outcome
 restart-cuts s kept = refl
 
 pub restart-rest : (s : State) (kept : Bool)
@@ -25,5 +25,5 @@ pub restart-rest : (s : State) (kept : Bool)
       policy = record (after s event.Restart kept).policy { sessions = s.policy.sessions };
       run = s.run;
     } ≡ s
-unfolding step wanted
+unfolding step event_outcome
 restart-rest s kept = refl

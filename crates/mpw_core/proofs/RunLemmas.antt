@@ -31,8 +31,8 @@ use Rattle.mpw_core.specs.declared.event.Event.{Event}
 use Rattle.mpw_core.specs.declared.event.Event.TheVariants as event
 use Rattle.mpw_core.specs.declared.event.Response.TheVariants as response
 use Rattle.mpw_core.specs.History.{state_after}
-use Rattle.mpw_core.specs.Step.{State, Outcome, new_state, left, changed, asked, audited, identity_lines, outcome_of, wanted, unkept, settled, finishes, of_run, step, response_of, after}
-use Rattle.mpw_core.proofs.RefusalLemmas.{settled-run}
+use Rattle.mpw_core.specs.Step.{State, Outcome, new_state, no_change, policy_outcome, query_outcome, trail_outcome, identity_lines, outcome_of, event_outcome, not_kept_response, settlement, finishes, of_run, step, response_of, after}
+use Rattle.mpw_core.proofs.RefusalLemmas.{settlement-run}
 
 -- ---- what is not kept leaves the state
 
@@ -40,31 +40,32 @@ same-reply : {a b : RunReply} → run_response a ≡ run_response b → a ≡ b
 same-reply e = cc
 
 changed-told : (s : State) (row : Result Policy Refusal) (r : RunReply)
-    → (changed s row).response ≡ run_response r → ⊥
+    → (policy_outcome s row).response ≡ run_response r → ⊥
 changed-told s (Ok q) r e = cc
 changed-told s (Err why) r e = cc
 
 asked-told : (s : State) (row : Result Identity Refusal) (r : RunReply)
-    → (asked s identity_lines row).response ≡ run_response r → ⊥
+    → (query_outcome s identity_lines row).response ≡ run_response r → ⊥
 asked-told s (Ok who) r e = cc
 asked-told s (Err why) r e = cc
 
 audited-told : (s : State) (row : Result (Unit {0}) Ending) (r : RunReply)
-    → (audited s row).response ≡ run_response r → ⊥
+    → (trail_outcome s row).response ≡ run_response r → ⊥
 audited-told s (Ok allowed) r e = cc
 audited-told s (Err ending) r e = cc
 
 -- a request is told a reply of its own
-request-told : (s : State) (conn : ℕ) (request : Request) (r : RunReply)
-    → (outcome_of s conn request).response ≡ run_response r → ⊥
-request-told s conn (ask.Policy request) r e = changed-told s (row_of s.policy conn request) r e
-request-told s conn ask.Whoami r e = asked-told s (rows.whoami s.policy conn) r e
-request-told s conn (ask.Layout request) r e = cc
-request-told s conn (ask.Wafer request) r e = cc
-request-told s conn (ask.Run request) r e = cc
-request-told s conn (ask.SignOff request) r e = cc
-request-told s conn ask.Trail r e =
-    audited-told s (permitted s.policy conn operation.Audit object.Desk) r e
+request-told : (s : State) (connection : ℕ) (request : Request) (r : RunReply)
+    → (outcome_of s connection request).response ≡ run_response r → ⊥
+request-told s connection (ask.Policy request) r e =
+    changed-told s (row_of s.policy connection request) r e
+request-told s connection ask.Whoami r e = asked-told s (rows.whoami s.policy connection) r e
+request-told s connection (ask.Layout request) r e = cc
+request-told s connection (ask.Wafer request) r e = cc
+request-told s connection (ask.Run request) r e = cc
+request-told s connection (ask.SignOff request) r e = cc
+request-told s connection ask.Trail r e =
+    audited-told s (permitted s.policy connection operation.Audit object.Desk) r e
 
 -- what is not kept finishes no run
 leaving-goes-on : (r : RunReply) → leaves r ≡ true → finishes r ≡ false
@@ -93,25 +94,27 @@ module _ (unkept_leaves : UnkeptLeavesTheRun) where
       rw unfinished (ap (λ (run : Run). record s { run = run }) (ap (λ (o : RunOutcome). o.run) same
       ∙ unkept_leaves s.run e leaving))
 
-  leaves-wanted : (s : State) (event : Event) (r : RunReply) → leaves r ≡ true
-      → (wanted s event).response ≡ run_response r → (wanted s event).state ≡ s
-  unfolding wanted
-  leaves-wanted s (event.Ask conn request) r is e = absurd (request-told s conn request r e)
-  leaves-wanted s (event.Gone conn) r is e = absurd (gone-told r e)
-  leaves-wanted s (event.Take worker) r is e = leaves-run s RunEvent.take r is (taken s.run) refl e
-  leaves-wanted s (event.Cut answer) r is e = leaves-run s (RunEvent.cut answer) r is
+  leaves-event_outcome : (s : State) (event : Event) (r : RunReply) → leaves r ≡ true
+      → (event_outcome s event).response ≡ run_response r → (event_outcome s event).state ≡ s
+  unfolding event_outcome
+  leaves-event_outcome s (event.Ask connection request) r is e =
+      absurd (request-told s connection request r e)
+  leaves-event_outcome s (event.Gone connection) r is e = absurd (gone-told r e)
+  leaves-event_outcome s (event.Take worker) r is e = leaves-run s RunEvent.take r is (taken s.run)
+      refl e
+  leaves-event_outcome s (event.Cut answer) r is e = leaves-run s (RunEvent.cut answer) r is
       (cut_answered s.run answer) refl e
-  leaves-wanted s (event.Tile answer) r is e = leaves-run s (RunEvent.tile answer) r is
+  leaves-event_outcome s (event.Tile answer) r is e = leaves-run s (RunEvent.tile answer) r is
       (tile_answered s.run answer) refl e
-  leaves-wanted s event.Restart r is e = absurd (restart-told r e)
+  leaves-event_outcome s event.Restart r is e = absurd (restart-told r e)
 
   pub unkept-leaves : (s : State) (event : Event) (kept : Bool) (r : RunReply) → leaves r ≡ true
       → response_of s event kept ≡ run_response r → (step s event kept).state ≡ s
   unfolding step
   unkept-leaves s event kept r is e =
-      let same = settled-run s event kept (wanted s event) r e in
+      let same = settlement-run s event kept (event_outcome s event) r e in
       ap (λ (o : Outcome). o.state) same
-      ∙ leaves-wanted s event r is (ap (λ (o : Outcome). o.response) (sym same) ∙ e)
+      ∙ leaves-event_outcome s event r is (ap (λ (o : Outcome). o.response) (sym same) ∙ e)
 
 -- ---- the run's own events leave its number
 
@@ -170,57 +173,63 @@ same-counts : (n m : ℕ) → n ≡ m → n ≤ m + 1
 same-counts n m e = omega (arith, e)
 
 module _ (counted : NumbersAreCounted) where
-  count-changed : (s : State) (row : Result Policy Refusal)
-      → (changed s row).state.run.number ≤ s.run.number + 1
-  count-changed s (Ok q) = same-counts s.run.number s.run.number refl
-  count-changed s (Err r) = same-counts s.run.number s.run.number refl
+  count-policy_outcome : (s : State) (row : Result Policy Refusal)
+      → (policy_outcome s row).state.run.number ≤ s.run.number + 1
+  count-policy_outcome s (Ok q) = same-counts s.run.number s.run.number refl
+  count-policy_outcome s (Err r) = same-counts s.run.number s.run.number refl
 
-  count-asked : (s : State) (row : Result Identity Refusal)
-      → (asked s identity_lines row).state.run.number ≤ s.run.number + 1
-  count-asked s (Ok q) = same-counts s.run.number s.run.number refl
-  count-asked s (Err r) = same-counts s.run.number s.run.number refl
+  count-query_outcome : (s : State) (row : Result Identity Refusal)
+      → (query_outcome s identity_lines row).state.run.number ≤ s.run.number + 1
+  count-query_outcome s (Ok q) = same-counts s.run.number s.run.number refl
+  count-query_outcome s (Err r) = same-counts s.run.number s.run.number refl
 
-  count-audited : (s : State) (row : Result (Unit {0}) Ending)
-      → (audited s row).state.run.number ≤ s.run.number + 1
-  count-audited s (Ok allowed) = same-counts s.run.number s.run.number refl
-  count-audited s (Err ending) = same-counts s.run.number s.run.number refl
+  count-trail_outcome : (s : State) (row : Result (Unit {0}) Ending)
+      → (trail_outcome s row).state.run.number ≤ s.run.number + 1
+  count-trail_outcome s (Ok allowed) = same-counts s.run.number s.run.number refl
+  count-trail_outcome s (Err ending) = same-counts s.run.number s.run.number refl
 
-  count-request : (s : State) (conn : ℕ) (request : Request)
-      → (outcome_of s conn request).state.run.number ≤ s.run.number + 1
-  count-request s conn (ask.Policy request) = count-changed s (row_of s.policy conn request)
-  count-request s conn ask.Whoami = count-asked s (rows.whoami s.policy conn)
-  count-request s conn (ask.Layout request) = same-counts s.run.number s.run.number refl
-  count-request s conn (ask.Wafer request) = same-counts s.run.number s.run.number refl
-  count-request s conn (ask.Run request) = counted s.policy s.shelf s.wafer s.run conn request
-  count-request s conn (ask.SignOff request) = same-counts s.run.number s.run.number refl
-  count-request s conn ask.Trail = count-audited s
-      (permitted s.policy conn operation.Audit object.Desk)
+  count-request : (s : State) (connection : ℕ) (request : Request)
+      → (outcome_of s connection request).state.run.number ≤ s.run.number + 1
+  count-request s connection (ask.Policy request) =
+      count-policy_outcome s (row_of s.policy connection request)
+  count-request s connection ask.Whoami = count-query_outcome s (rows.whoami s.policy connection)
+  count-request s connection (ask.Layout request) = same-counts s.run.number s.run.number refl
+  count-request s connection (ask.Wafer request) = same-counts s.run.number s.run.number refl
+  count-request s connection (ask.Run request) = counted s.policy s.shelf s.wafer s.run connection
+      request
+  count-request s connection (ask.SignOff request) = same-counts s.run.number s.run.number refl
+  count-request s connection ask.Trail = count-trail_outcome s
+      (permitted s.policy connection operation.Audit object.Desk)
 
-  count-wanted : (s : State) (event : Event) → (wanted s event).state.run.number ≤ s.run.number + 1
-  unfolding wanted
-  count-wanted s (event.Ask conn request) = count-request s conn request
-  count-wanted s (event.Gone conn) = same-counts s.run.number s.run.number refl
-  count-wanted s (event.Take worker) = same-counts _ s.run.number (take_stays s.run s.run.phase)
-  count-wanted s (event.Cut answer) =
+  count-event_outcome : (s : State) (event : Event)
+      → (event_outcome s event).state.run.number ≤ s.run.number + 1
+  unfolding event_outcome
+  count-event_outcome s (event.Ask connection request) = count-request s connection request
+  count-event_outcome s (event.Gone connection) = same-counts s.run.number s.run.number refl
+  count-event_outcome s (event.Take worker) =
+      same-counts _ s.run.number (take_stays s.run s.run.phase)
+  count-event_outcome s (event.Cut answer) =
       same-counts _ s.run.number (one_of s.run (s.run.number == answer.job.run) _ _
       (cut_stays s.run answer s.run.phase) refl)
-  count-wanted s (event.Tile answer) =
+  count-event_outcome s (event.Tile answer) =
       same-counts _ s.run.number (one_of s.run (s.run.number == answer.job.run) _ _
       (tile_stays s.run answer s.run.phase) refl)
-  count-wanted s event.Restart = same-counts s.run.number s.run.number refl
+  count-event_outcome s event.Restart = same-counts s.run.number s.run.number refl
 
-  count-settled : (s : State) (event : Event) (was : Bool) (outcome : Outcome)
+  count-settlement : (s : State) (event : Event) (was : Bool) (outcome : Outcome)
       → outcome.state.run.number ≤ s.run.number + 1
-      → (settled s event was outcome).state.run.number ≤ s.run.number + 1
-  count-settled s event was outcome now =
+      → (settlement s event was outcome).state.run.number ≤ s.run.number + 1
+  count-settlement s event was outcome now =
       elim (outcome.changes && not was) as
-      (λ b. (cond b (left (unkept event) (record s { closed = true })) outcome).state.run.number
+      (λ b. (cond b (no_change (not_kept_response event) (record s { closed = true }))
+      outcome).state.run.number
       ≤ s.run.number + 1) [ true ↦ same-counts s.run.number s.run.number refl | false ↦ now ]
 
   count-step : (s : State) (event : Event) (was : Bool)
       → (after s event was).run.number ≤ s.run.number + 1
   unfolding step
-  count-step s event was = count-settled s event was (wanted s event) (count-wanted s event)
+  count-step s event was = count-settlement s event was (event_outcome s event)
+      (count-event_outcome s event)
 
   count-calls : (s : State) (calls : List Call)
       → (state_after s calls).run.number ≤ s.run.number + length calls

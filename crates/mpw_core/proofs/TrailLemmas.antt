@@ -1,67 +1,57 @@
 -- The step leaves the trail, and each request stands behind those before it.
-use Rattle.std.proofs.Common.{◌≡◌, ℕ, Bool, true, false, cond, List, ◌++◌, Result, Ok, Err, refl, ap, ◌∙◌}
+use Rattle.std.proofs.Common.{◌≡◌, ℕ, Bool, true, false, cond, List, ◌++◌, refl, ap, ◌∙◌}
 use Rattle.std.specs.Prelude.{◌&&◌, not}
 use Rattle.mpw_rbac.specs.declared.permission.Object.TheVariants as object
 use Rattle.mpw_rbac.specs.declared.permission.Operation.TheVariants as operation
-use Rattle.mpw_rbac.specs.declared.refusal.Refusal.{Refusal}
-use Rattle.mpw_rbac.specs.declared.session.Identity.{Identity}
-use Rattle.mpw_rbac.specs.Policy.{Policy}
 use Rattle.mpw_rbac.specs.Rows as rows
 use Rattle.mpw_requests.specs.declared.request.Request.{Request}
 use Rattle.mpw_requests.specs.declared.request.Request.TheVariants as ask
 use Rattle.mpw_replies.specs.Rows.{permitted}
 use Rattle.mpw_replies.specs.declared.entry.Entry.{Entry}
-use Rattle.mpw_replies.specs.declared.row.Ending.{Ending}
 use Rattle.mpw_core.specs.PolicyRows.{row_of}
 use Rattle.mpw_core.specs.declared.event.Event.{Event}
 use Rattle.mpw_core.specs.declared.event.Event.TheVariants as event
-use Rattle.mpw_core.specs.Step.{State, Outcome, left, changed, asked, audited, identity_lines, outcome_of, wanted, unkept, settled, step, response_of, entries_of, after}
+use Rattle.mpw_core.specs.Step.{State, Outcome, no_change, outcome_of, event_outcome, not_kept_response, settlement, step, response_of, entries_of, after}
 use Rattle.mpw_core.proofs.SettlingLemmas.{trail-grows}
+use Rattle.mpw_core.proofs.OutcomeLemmas.{holds-policy, holds-query, holds-trail}
 
-trail-changed : (s : State) (row : Result Policy Refusal) → (changed s row).state.trail ≡ s.trail
-trail-changed s (Ok q) = refl
-trail-changed s (Err r) = refl
+trail-request : (s : State) (connection : ℕ) (request : Request)
+    → (outcome_of s connection request).state.trail ≡ s.trail
+trail-request s connection (ask.Policy request) =
+    holds-policy (λ t. t.trail ≡ s.trail) (λ t policy same. same) s
+    (row_of s.policy connection request) refl
+trail-request s connection ask.Whoami =
+    holds-query (λ t. t.trail ≡ s.trail) s (rows.whoami s.policy connection) refl
+trail-request s connection (ask.Layout request) = refl
+trail-request s connection (ask.Wafer request) = refl
+trail-request s connection (ask.Run request) = refl
+trail-request s connection (ask.SignOff request) = refl
+trail-request s connection ask.Trail =
+    holds-trail (λ t. t.trail ≡ s.trail) s
+    (permitted s.policy connection operation.Audit object.Desk) refl
 
-trail-asked : (s : State) (row : Result Identity Refusal)
-    → (asked s identity_lines row).state.trail ≡ s.trail
-trail-asked s (Ok who) = refl
-trail-asked s (Err r) = refl
+trail-event_outcome : (s : State) (event : Event) → (event_outcome s event).state.trail ≡ s.trail
+unfolding event_outcome
+trail-event_outcome s (event.Ask connection request) = trail-request s connection request
+trail-event_outcome s (event.Gone connection) = refl
+trail-event_outcome s (event.Take worker) = refl
+trail-event_outcome s (event.Cut answer) = refl
+trail-event_outcome s (event.Tile answer) = refl
+trail-event_outcome s event.Restart = refl
 
-trail-audited : (s : State) (row : Result (Unit {0}) Ending) → (audited s row).state.trail ≡ s.trail
-trail-audited s (Ok allowed) = refl
-trail-audited s (Err ending) = refl
-
-trail-request : (s : State) (conn : ℕ) (request : Request)
-    → (outcome_of s conn request).state.trail ≡ s.trail
-trail-request s conn (ask.Policy request) = trail-changed s (row_of s.policy conn request)
-trail-request s conn ask.Whoami = trail-asked s (rows.whoami s.policy conn)
-trail-request s conn (ask.Layout request) = refl
-trail-request s conn (ask.Wafer request) = refl
-trail-request s conn (ask.Run request) = refl
-trail-request s conn (ask.SignOff request) = refl
-trail-request s conn ask.Trail =
-    trail-audited s (permitted s.policy conn operation.Audit object.Desk)
-
-trail-wanted : (s : State) (event : Event) → (wanted s event).state.trail ≡ s.trail
-unfolding wanted
-trail-wanted s (event.Ask conn request) = trail-request s conn request
-trail-wanted s (event.Gone conn) = refl
-trail-wanted s (event.Take worker) = refl
-trail-wanted s (event.Cut answer) = refl
-trail-wanted s (event.Tile answer) = refl
-trail-wanted s event.Restart = refl
-
-trail-settled : (s : State) (event : Event) (kept : Bool) (outcome : Outcome)
-    → outcome.state.trail ≡ s.trail → (settled s event kept outcome).state.trail ≡ s.trail
-trail-settled s event kept outcome now =
+trail-settlement : (s : State) (event : Event) (kept : Bool) (outcome : Outcome)
+    → outcome.state.trail ≡ s.trail → (settlement s event kept outcome).state.trail ≡ s.trail
+trail-settlement s event kept outcome now =
     elim (outcome.changes && not kept) as
-    (λ b. (cond b (left (unkept event) (record s { closed = true })) outcome).state.trail
+    (λ b. (cond b (no_change (not_kept_response event) (record s { closed = true }))
+    outcome).state.trail
     ≡ s.trail) [ true ↦ refl | false ↦ now ]
 
 pub trail-step : (s : State) (event : Event) (kept : Bool)
     → (step s event kept).state.trail ≡ s.trail
 unfolding step
-trail-step s event kept = trail-settled s event kept (wanted s event) (trail-wanted s event)
+trail-step s event kept =
+    trail-settlement s event kept (event_outcome s event) (trail-event_outcome s event)
 
 pub trail-after : (s : State) (event : Event) (kept : Bool)
     → (after s event kept).trail ≡ s.trail ++ entries_of s.policy (after s event kept).policy event

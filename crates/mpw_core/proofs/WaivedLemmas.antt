@@ -1,15 +1,12 @@
 -- What holds of a run's phase with its waivers, where each way in which a request or an event leaves them keeps it,
 -- holds in every state.
-use Rattle.std.proofs.Common.{ℕ, Bool, true, false, cond, List, [], ◌∷◌, length, Option, None, Some, Result, Ok, Err}
-use Rattle.std.specs.Prelude.{◌==◌, ◌&&◌, not, slice_get, slice_set, nat_lt, if◌then◌else◌}
+use Rattle.std.proofs.Common.{ℕ, Bool, true, false, List, [], ◌∷◌, length, Option, None, Some, Result, Ok, Err}
+use Rattle.std.specs.Prelude.{◌==◌, slice_get, slice_set, nat_lt, if◌then◌else◌}
 use Rattle.mpw_tiles.specs.Plan.{tiles}
 use Rattle.mpw_markers.specs.declared.marker.Marker.{Marker}
 use Rattle.mpw_job.specs.Jobs.{CutWindows, FoundMarkers}
 use Rattle.mpw_rbac.specs.declared.permission.Object.TheVariants as object
 use Rattle.mpw_rbac.specs.declared.permission.Operation.TheVariants as operation
-use Rattle.mpw_rbac.specs.declared.refusal.Refusal.{Refusal}
-use Rattle.mpw_rbac.specs.declared.session.Identity.{Identity}
-use Rattle.mpw_rbac.specs.Policy.{Policy}
 use Rattle.mpw_rbac.specs.Rows as rows
 use Rattle.mpw_requests.specs.declared.request.Request.{Request}
 use Rattle.mpw_requests.specs.declared.request.Request.TheVariants as ask
@@ -34,7 +31,8 @@ use Rattle.mpw_core.specs.declared.event.Call.{Call}
 use Rattle.mpw_core.specs.declared.event.Event.{Event}
 use Rattle.mpw_core.specs.declared.event.Event.TheVariants as event
 use Rattle.mpw_core.specs.History.{state_after}
-use Rattle.mpw_core.specs.Step.{State, Outcome, new_state, left, changed, asked, audited, identity_lines, of_run, outcome_of, over_run, wanted, unkept, settled, step, after}
+use Rattle.mpw_core.specs.Step.{State, new_state, of_run, outcome_of, over_run, event_outcome, after}
+use Rattle.mpw_core.proofs.OutcomeLemmas.{holds-policy, holds-query, holds-trail, holds-step, holds-calls}
 
 module _
     (R : Phase → List (Option Waiver) → Type 0)
@@ -47,24 +45,12 @@ module _
     (finished : (f : Checked) → R (Finished f) (none_asked (length f.book)))
     (again : (phase : Phase) (waivers : List (Option Waiver)) → R phase waivers
     → R (restarted_phase phase) waivers)
-    (signed_off : (s : State) (conn : ℕ) (request : SignOffRequest) → R s.run.phase s.waivers
-    → R s.run.phase (signing.outcome_of s.policy s.wafer s.run s.waivers conn request).waivers)
+    (signed_off : (s : State) (connection : ℕ) (request : SignOffRequest) → R s.run.phase s.waivers
+    → R s.run.phase (signing.outcome_of s.policy s.wafer s.run s.waivers connection
+    request).waivers)
   where
     abbrev Fit : State → Type 0
     Fit s = R s.run.phase s.waivers
-
-    waived-changed : (s : State) (row : Result Policy Refusal) → Fit s → Fit (changed s row).state
-    waived-changed s (Ok q) fit = fit
-    waived-changed s (Err r) fit = fit
-
-    waived-asked : (s : State) (row : Result Identity Refusal) → Fit s
-        → Fit (asked s identity_lines row).state
-    waived-asked s (Ok who) fit = fit
-    waived-asked s (Err r) fit = fit
-
-    waived-audited : (s : State) (row : Result (Unit {0}) Ending) → Fit s → Fit (audited s row).state
-    waived-audited s (Ok allowed) fit = fit
-    waived-audited s (Err ending) fit = fit
 
     -- ---- requests over the run
 
@@ -79,17 +65,21 @@ module _
     waived-left s (Err ending) fit = fit
 
     waived-listed : (s : State) (row : Result (List Listed) Ending) → Fit s
-        → Fit (over_run s (checking.listed s.run row)).state
+        → Fit (over_run s (checking.listing_outcome s.run row)).state
     waived-listed s (Ok lines) fit = fit
     waived-listed s (Err ending) fit = fit
 
-    waived-run : (s : State) (conn : ℕ) (request : RunRequest) → Fit s
-        → Fit (over_run s (checking.outcome_of s.policy s.shelf s.wafer s.run conn request)).state
-    waived-run s conn run_ask.Run fit =
-        waived-begun s (checking.run_row s.policy s.shelf s.wafer s.run conn) fit
-    waived-run s conn run_ask.Cancel fit = waived-left s (checking.cancel_row s.policy s.run conn) fit
-    waived-run s conn run_ask.Status fit = waived-listed s (checking.status s.policy s.run conn) fit
-    waived-run s conn run_ask.Markers fit = waived-listed s (checking.markers s.policy s.run conn) fit
+    waived-run : (s : State) (connection : ℕ) (request : RunRequest) → Fit s
+        → Fit (over_run s (checking.outcome_of s.policy s.shelf s.wafer s.run connection
+        request)).state
+    waived-run s connection run_ask.Run fit =
+        waived-begun s (checking.run_row s.policy s.shelf s.wafer s.run connection) fit
+    waived-run s connection run_ask.Cancel fit =
+        waived-left s (checking.cancel_row s.policy s.run connection) fit
+    waived-run s connection run_ask.Status fit =
+        waived-listed s (checking.status s.policy s.run connection) fit
+    waived-run s connection run_ask.Markers fit =
+        waived-listed s (checking.markers s.policy s.run connection) fit
 
     -- ---- the run's own events
 
@@ -139,7 +129,8 @@ module _
     waived-checked : (s : State) (c : Checks) (answer : FoundMarkers) (tile : Option Tile) → Fit s
         → R (Checking c) s.waivers → FitRun s (tile_checked s.run c answer tile)
     waived-checked s c answer None fit none = fit
-    waived-checked s c answer (Some tile) fit none = waived-compared s c answer tile tile.answer fit none
+    waived-checked s c answer (Some tile) fit none = waived-compared s c answer tile tile.answer fit
+        none
 
     waived-tile : (s : State) (answer : FoundMarkers) (phase : Phase) → Fit s
         → R phase s.waivers → FitRun s (tile_in s.run answer phase)
@@ -152,45 +143,38 @@ module _
 
     -- ---- every state
 
-    waived-request : (s : State) (conn : ℕ) (request : Request) → Fit s
-        → Fit (outcome_of s conn request).state
-    waived-request s conn (ask.Policy request) fit = waived-changed s (row_of s.policy conn request) fit
-    waived-request s conn ask.Whoami fit = waived-asked s (rows.whoami s.policy conn) fit
-    waived-request s conn (ask.Layout request) fit = fit
-    waived-request s conn (ask.Wafer request) fit = fit
-    waived-request s conn (ask.Run request) fit = waived-run s conn request fit
-    waived-request s conn (ask.SignOff request) fit = signed_off s conn request fit
-    waived-request s conn ask.Trail fit = waived-audited s
-        (permitted s.policy conn operation.Audit object.Desk) fit
+    waived-request : (s : State) (connection : ℕ) (request : Request) → Fit s
+        → Fit (outcome_of s connection request).state
+    waived-request s connection (ask.Policy request) fit =
+        holds-policy Fit (λ t policy held. held) s (row_of s.policy connection request) fit
+    waived-request s connection ask.Whoami fit =
+        holds-query Fit s (rows.whoami s.policy connection) fit
+    waived-request s connection (ask.Layout request) fit = fit
+    waived-request s connection (ask.Wafer request) fit = fit
+    waived-request s connection (ask.Run request) fit = waived-run s connection request fit
+    waived-request s connection (ask.SignOff request) fit = signed_off s connection request fit
+    waived-request s connection ask.Trail fit = holds-trail Fit s
+        (permitted s.policy connection operation.Audit object.Desk) fit
 
-    waived-wanted : (s : State) (event : Event) → Fit s → Fit (wanted s event).state
-    unfolding wanted
-    waived-wanted s (event.Ask conn request) fit = waived-request s conn request fit
-    waived-wanted s (event.Gone conn) fit = fit
-    waived-wanted s (event.Take worker) fit = waived-taken s s.run.phase fit fit
-    waived-wanted s (event.Cut answer) fit = one_of s (s.run.number == answer.job.run) _ _
+    waived-event_outcome : (s : State) (event : Event) → Fit s → Fit (event_outcome s event).state
+    unfolding event_outcome
+    waived-event_outcome s (event.Ask connection request) fit = waived-request s connection request
+        fit
+    waived-event_outcome s (event.Gone connection) fit = fit
+    waived-event_outcome s (event.Take worker) fit = waived-taken s s.run.phase fit fit
+    waived-event_outcome s (event.Cut answer) fit = one_of s (s.run.number == answer.job.run) _ _
         (waived-cut s answer s.run.phase fit fit) fit
-    waived-wanted s (event.Tile answer) fit = one_of s (s.run.number == answer.job.run) _ _
+    waived-event_outcome s (event.Tile answer) fit = one_of s (s.run.number == answer.job.run) _ _
         (waived-tile s answer s.run.phase fit fit) fit
-    waived-wanted s event.Restart fit = again s.run.phase s.waivers fit
-
-    waived-settled : (s : State) (event : Event) (was : Bool) (outcome : Outcome) → Fit s
-        → Fit outcome.state → Fit (settled s event was outcome).state
-    waived-settled s event was outcome before now =
-        elim (outcome.changes && not was) as
-        (λ b. Fit (cond b (left (unkept event) (record s { closed = true })) outcome).state)
-        [ true ↦ before | false ↦ now ]
+    waived-event_outcome s event.Restart fit = again s.run.phase s.waivers fit
 
     waived-step : (s : State) (event : Event) (was : Bool) → Fit s → Fit (after s event was)
-    unfolding step
-    waived-step s event was fit = waived-settled s event was (wanted s event) fit (waived-wanted s event fit)
-
-    waived-calls : (s : State) (calls : List Call) → Fit s → Fit (state_after s calls)
-    waived-calls s [] fit = fit
-    waived-calls s (call ∷ calls) fit = waived-calls (after s call.event call.kept) calls
-        (waived-step s call.event call.kept fit)
+    waived-step s event was fit =
+        holds-step Fit (λ t held. held) (λ t entries held. held) s event was fit
+        (waived-event_outcome s event fit)
 
     pub waived-history : (officer digest : List ℕ) (calls : List Call)
         → Fit (state_after (new_state officer digest) calls)
     unfolding new_state
-    waived-history officer digest calls = waived-calls (new_state officer digest) calls idle
+    waived-history officer digest calls =
+        holds-calls Fit waived-step (new_state officer digest) calls idle

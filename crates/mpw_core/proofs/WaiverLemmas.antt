@@ -24,10 +24,10 @@ use Rattle.mpw_waiver.specs.Waivers.{none_asked}
 use Rattle.mpw_core.specs.Answer.{run_response}
 use Rattle.mpw_core.specs.declared.event.Event.TheVariants as event
 use Rattle.mpw_core.specs.declared.event.Response.TheVariants as response
-use Rattle.mpw_core.specs.Step.{State, Outcome, finishes, of_run, outcome_of, over_run, wanted, step, response_of, after}
+use Rattle.mpw_core.specs.Step.{State, Outcome, finishes, of_run, outcome_of, over_run, event_outcome, step, response_of, after}
 use Rattle.mpw_core.proofs.DenialLemmas.{inside}
 use Rattle.mpw_core.proofs.ReadableLemmas.{never_ok, ended_negative}
-use Rattle.mpw_core.proofs.RefusalLemmas.{settled-denied, settled-ok, settled-run}
+use Rattle.mpw_core.proofs.RefusalLemmas.{settlement-denied, settlement-ok, settlement-run}
 
 -- ---- with their run
 
@@ -38,15 +38,16 @@ begun-drops s (Ok planned) lines e = refl
 begun-drops s (Err ending) lines e =
     absurd (never_ok (ended_by ending) (ended_negative ending) lines e)
 
-pub runs-drop : (s : State) (conn : ℕ) (kept : Bool) (lines : List Listed)
-    → response_of s (event.Ask conn (ask.Run run_ask.Run)) kept ≡ response.Told (reply.Ok lines)
-    → (after s (event.Ask conn (ask.Run run_ask.Run)) kept).waivers ≡ []
-unfolding step wanted
-runs-drop s conn kept lines e =
-    let same = settled-ok s (event.Ask conn (ask.Run run_ask.Run)) kept
-    (outcome_of s conn (ask.Run run_ask.Run)) lines e in
+pub runs-drop : (s : State) (connection : ℕ) (kept : Bool) (lines : List Listed)
+    → response_of s (event.Ask connection (ask.Run run_ask.Run)) kept ≡ response.Told
+    (reply.Ok lines)
+    → (after s (event.Ask connection (ask.Run run_ask.Run)) kept).waivers ≡ []
+unfolding step event_outcome
+runs-drop s connection kept lines e =
+    let same = settlement-ok s (event.Ask connection (ask.Run run_ask.Run)) kept
+    (outcome_of s connection (ask.Run run_ask.Run)) lines e in
     ap (λ (o : Outcome). o.state.waivers) same
-    ∙ begun-drops s (checking.run_row s.policy s.shelf s.wafer s.run conn) lines
+    ∙ begun-drops s (checking.run_row s.policy s.shelf s.wafer s.run connection) lines
     (inside (ap (λ (o : Outcome). o.response) (sym same) ∙ e))
 
 same-reply : {a b : RunReply} → run_response a ≡ run_response b → a ≡ b
@@ -60,9 +61,9 @@ pub finishing-places : (s : State) (answer : FoundMarkers) (kept : Bool)
     → response_of s (event.Tile answer) kept ≡ run_response told.Finished
     → (after s (event.Tile answer) kept).waivers
     ≡ none_asked (book_size (after s (event.Tile answer) kept).run.phase)
-unfolding step wanted
+unfolding step event_outcome
 finishing-places s answer kept e =
-    let same = settled-run s (event.Tile answer) kept (of_run s (tile_answered s.run answer))
+    let same = settlement-run s (event.Tile answer) kept (of_run s (tile_answered s.run answer))
     told.Finished e in
     let finished : (tile_answered s.run answer).reply ≡ told.Finished =
     same-reply (ap (λ (o : Outcome). o.response) (sym same) ∙ e) in
@@ -72,71 +73,84 @@ finishing-places s answer kept e =
 
 -- ---- who asks and who signs
 
-told-as : (s : State) (conn : ℕ) (request : SignOffRequest) (kept : Bool) (lines : List Listed)
-    → response_of s (event.Ask conn (ask.SignOff request)) kept ≡ response.Told (reply.Ok lines)
-    → step s (event.Ask conn (ask.SignOff request)) kept ≡ outcome_of s conn (ask.SignOff request)
-unfolding step wanted
-told-as s conn request kept lines e = settled-ok s (event.Ask conn (ask.SignOff request)) kept
-    (outcome_of s conn (ask.SignOff request)) lines e
+told-as : (s : State) (connection : ℕ) (request : SignOffRequest) (kept : Bool)
+    (lines : List Listed)
+    → response_of s (event.Ask connection (ask.SignOff request)) kept ≡ response.Told
+    (reply.Ok lines)
+    → step s (event.Ask connection (ask.SignOff request)) kept ≡ outcome_of s connection
+    (ask.SignOff request)
+unfolding step event_outcome
+told-as s connection request kept lines e =
+    settlement-ok s (event.Ask connection (ask.SignOff request)) kept
+    (outcome_of s connection (ask.SignOff request)) lines e
 
-denied-as : (s : State) (conn : ℕ) (request : SignOffRequest) (kept : Bool) (why : Denial)
-    → response_of s (event.Ask conn (ask.SignOff request)) kept ≡ response.Told (reply.Denied why)
-    → (signing.outcome_of s.policy s.wafer s.run s.waivers conn request).reply ≡ reply.Denied why
-unfolding step wanted
-denied-as s conn request kept why e =
-    let same = settled-denied s (event.Ask conn (ask.SignOff request)) kept
-    (outcome_of s conn (ask.SignOff request)) why e in
+denied-as : (s : State) (connection : ℕ) (request : SignOffRequest) (kept : Bool) (why : Denial)
+    → response_of s (event.Ask connection (ask.SignOff request)) kept ≡ response.Told
+    (reply.Denied why)
+    → (signing.outcome_of s.policy s.wafer s.run s.waivers connection request).reply ≡ reply.Denied
+    why
+unfolding step event_outcome
+denied-as s connection request kept why e =
+    let same = settlement-denied s (event.Ask connection (ask.SignOff request)) kept
+    (outcome_of s connection (ask.SignOff request)) why e in
     inside (ap (λ (o : Outcome). o.response) (sym same) ∙ e)
 
-ok-as : (s : State) (conn : ℕ) (request : SignOffRequest) (kept : Bool) (lines : List Listed)
-    → response_of s (event.Ask conn (ask.SignOff request)) kept ≡ response.Told (reply.Ok lines)
-    → (signing.outcome_of s.policy s.wafer s.run s.waivers conn request).reply ≡ reply.Ok lines
-ok-as s conn request kept lines e =
-    inside (ap (λ (o : Outcome). o.response) (sym (told-as s conn request kept lines e)) ∙ e)
+ok-as : (s : State) (connection : ℕ) (request : SignOffRequest) (kept : Bool) (lines : List Listed)
+    → response_of s (event.Ask connection (ask.SignOff request)) kept ≡ response.Told
+    (reply.Ok lines)
+    → (signing.outcome_of s.policy s.wafer s.run s.waivers connection request).reply
+    ≡ reply.Ok lines
+ok-as s connection request kept lines e =
+    inside (ap (λ (o : Outcome). o.response) (sym (told-as s connection request kept lines e)) ∙ e)
 
-pub asked-shown : AskedAreShown → (s : State) (conn : ℕ) (name : MarkerName) (kept : Bool)
-    (lines : List Listed) → response_of s (event.Ask conn (ask.SignOff (sign_ask.Waive name))) kept
+pub asked-shown : AskedAreShown → (s : State) (connection : ℕ) (name : MarkerName) (kept : Bool)
+    (lines : List Listed) → response_of s (event.Ask connection (ask.SignOff (sign_ask.Waive name)))
+    kept
     ≡ response.Told (reply.Ok lines)
-    → IsRightlyAsked s.policy s.run s.waivers conn name
-    (after s (event.Ask conn (ask.SignOff (sign_ask.Waive name))) kept).waivers
-asked-shown law s conn name kept lines e =
-    subst (λ (o : Outcome). IsRightlyAsked s.policy s.run s.waivers conn name o.state.waivers)
-    (sym (told-as s conn (sign_ask.Waive name) kept lines e))
-    (law s.policy s.wafer s.run s.waivers conn name lines
-    (ok-as s conn (sign_ask.Waive name) kept lines e))
+    → IsRightlyAsked s.policy s.run s.waivers connection name
+    (after s (event.Ask connection (ask.SignOff (sign_ask.Waive name))) kept).waivers
+asked-shown law s connection name kept lines e =
+    subst (λ (o : Outcome). IsRightlyAsked s.policy s.run s.waivers connection name o.state.waivers)
+    (sym (told-as s connection (sign_ask.Waive name) kept lines e))
+    (law s.policy s.wafer s.run s.waivers connection name lines
+    (ok-as s connection (sign_ask.Waive name) kept lines e))
 
 pub signed-apart : SignersStandApart
-    → (s : State) (conn : ℕ) (name : MarkerName) (kept : Bool) (lines : List Listed)
-    → response_of s (event.Ask conn (ask.SignOff (sign_ask.Sign name))) kept ≡ response.Told
+    → (s : State) (connection : ℕ) (name : MarkerName) (kept : Bool) (lines : List Listed)
+    → response_of s (event.Ask connection (ask.SignOff (sign_ask.Sign name))) kept ≡ response.Told
     (reply.Ok lines)
-    → IsRightlySigned s.policy s.run s.waivers conn name
-    (after s (event.Ask conn (ask.SignOff (sign_ask.Sign name))) kept).waivers
-signed-apart law s conn name kept lines e =
-    subst (λ (o : Outcome). IsRightlySigned s.policy s.run s.waivers conn name o.state.waivers)
-    (sym (told-as s conn (sign_ask.Sign name) kept lines e))
-    (law s.policy s.wafer s.run s.waivers conn name lines
-    (ok-as s conn (sign_ask.Sign name) kept lines e))
+    → IsRightlySigned s.policy s.run s.waivers connection name
+    (after s (event.Ask connection (ask.SignOff (sign_ask.Sign name))) kept).waivers
+signed-apart law s connection name kept lines e =
+    subst (λ (o : Outcome). IsRightlySigned s.policy s.run s.waivers connection name
+    o.state.waivers)
+    (sym (told-as s connection (sign_ask.Sign name) kept lines e))
+    (law s.policy s.wafer s.run s.waivers connection name lines
+    (ok-as s connection (sign_ask.Sign name) kept lines e))
 
 pub submitter-told : SubmittersAreTold
-    → (s : State) (conn : ℕ) (request : SignOffRequest) (kept : Bool) (cell : List ℕ)
-    → response_of s (event.Ask conn (ask.SignOff request)) kept ≡ response.Told
+    → (s : State) (connection : ℕ) (request : SignOffRequest) (kept : Bool) (cell : List ℕ)
+    → response_of s (event.Ask connection (ask.SignOff request)) kept ≡ response.Told
     (reply.Denied (denial.Submitter cell))
     → (name : MarkerName) × (request ≡ sign_ask.Sign name)
-    × IsSubmitter s.policy s.run conn name cell
-submitter-told law s conn request kept cell e = law s.policy s.wafer s.run s.waivers conn request
-    cell (denied-as s conn request kept (denial.Submitter cell) e)
+    × IsSubmitter s.policy s.run connection name cell
+submitter-told law s connection request kept cell e =
+    law s.policy s.wafer s.run s.waivers connection request
+    cell (denied-as s connection request kept (denial.Submitter cell) e)
 
-pub asker-told : AskersAreTold → (s : State) (conn : ℕ) (request : SignOffRequest) (kept : Bool)
-    → response_of s (event.Ask conn (ask.SignOff request)) kept ≡ response.Told
+pub asker-told : AskersAreTold → (s : State) (connection : ℕ) (request : SignOffRequest)
+    (kept : Bool)
+    → response_of s (event.Ask connection (ask.SignOff request)) kept ≡ response.Told
     (reply.Denied denial.Asker)
     → (name : MarkerName) × (request ≡ sign_ask.Sign name)
-    × IsAsker s.policy s.run s.waivers conn name
-asker-told law s conn request kept e =
-    law s.policy s.wafer s.run s.waivers conn request (denied-as s conn request kept denial.Asker e)
+    × IsAsker s.policy s.run s.waivers connection name
+asker-told law s connection request kept e =
+    law s.policy s.wafer s.run s.waivers connection request
+    (denied-as s connection request kept denial.Asker e)
 
-pub clean-told : CleanIsSignedOff → (s : State) (conn : ℕ) (kept : Bool)
-    → response_of s (event.Ask conn (ask.SignOff sign_ask.Verdict)) kept ≡ response.Told
+pub clean-told : CleanIsSignedOff → (s : State) (connection : ℕ) (kept : Bool)
+    → response_of s (event.Ask connection (ask.SignOff sign_ask.Verdict)) kept ≡ response.Told
     (reply.Ok (stored line.Clean ∷ []))
     → IsSignedOff s.wafer s.run s.waivers
-clean-told law s conn kept e = law s.policy s.wafer s.run s.waivers conn
-    (ok-as s conn sign_ask.Verdict kept (stored line.Clean ∷ []) e)
+clean-told law s connection kept e = law s.policy s.wafer s.run s.waivers connection
+    (ok-as s connection sign_ask.Verdict kept (stored line.Clean ∷ []) e)

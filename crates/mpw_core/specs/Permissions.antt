@@ -26,9 +26,10 @@ pub data Need : Type 0 where
 
 -- The connection has what is needed.
 abbrev pub Has : Policy → ℕ → Need → Type 0
-Has policy conn nothing = Unit {0}
-Has policy conn session = is_some (session_of policy conn) ≡ true
-Has policy conn (permission operation object) = permits policy conn operation object ≡ true
+Has policy connection nothing = Unit {0}
+Has policy connection session = is_some (session_of policy connection) ≡ true
+Has policy connection (permission operation object) =
+    permits policy connection operation object ≡ true
 
 -- Who administers the desk needs the permission for that; `open` needs nothing, and what is asked of one's own session that session.
 abbrev pub policy_need : PolicyRequest → Need

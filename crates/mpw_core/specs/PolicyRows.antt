@@ -8,21 +8,21 @@ use Rattle.mpw_requests.specs.declared.policy.PolicyRequest.TheVariants.{Open, C
 
 -- the row of a request that changes the policy: the policy that it leaves, or the refusal of its first failing test
 abbrev pub row_of : Policy → ℕ → PolicyRequest → Result Policy Refusal
-row_of policy conn (Open user digest) = rows.open_session policy conn user digest
-row_of policy conn Close = rows.close_session policy conn
-row_of policy conn (Activate role) = rows.activate policy conn role
-row_of policy conn (AddUser user digest) = rows.adduser policy conn user digest
-row_of policy conn (AddRole role) = rows.addrole policy conn role
-row_of policy conn (Assign user role) = rows.assign policy conn user role
-row_of policy conn (Grant grant) = rows.grant policy conn grant
-row_of policy conn (Revoke grant) = rows.revoke policy conn grant
-row_of policy conn (DropRole role) = rows.drop_role policy conn role
-row_of policy conn (DelUser user) = rows.deluser policy conn user
-row_of policy conn (DelRole role) = rows.delrole policy conn role
-row_of policy conn (Deassign user role) = rows.deassign policy conn user role
-row_of policy conn (Inherit senior junior) = rows.inherit policy conn senior junior
-row_of policy conn (Uninherit senior junior) = rows.uninherit policy conn senior junior
-row_of policy conn (Ssd set) = rows.ssd policy conn set
-row_of policy conn (Dsd set) = rows.dsd policy conn set
-row_of policy conn (UnSsd name) = rows.unssd policy conn name
-row_of policy conn (UnDsd name) = rows.undsd policy conn name
+row_of policy connection (Open user digest) = rows.open_session policy connection user digest
+row_of policy connection Close = rows.close_session policy connection
+row_of policy connection (Activate role) = rows.activate policy connection role
+row_of policy connection (AddUser user digest) = rows.adduser policy connection user digest
+row_of policy connection (AddRole role) = rows.addrole policy connection role
+row_of policy connection (Assign user role) = rows.assign policy connection user role
+row_of policy connection (Grant grant) = rows.grant policy connection grant
+row_of policy connection (Revoke grant) = rows.revoke policy connection grant
+row_of policy connection (DropRole role) = rows.drop_role policy connection role
+row_of policy connection (DelUser user) = rows.deluser policy connection user
+row_of policy connection (DelRole role) = rows.delrole policy connection role
+row_of policy connection (Deassign user role) = rows.deassign policy connection user role
+row_of policy connection (Inherit senior junior) = rows.inherit policy connection senior junior
+row_of policy connection (Uninherit senior junior) = rows.uninherit policy connection senior junior
+row_of policy connection (Ssd set) = rows.ssd policy connection set
+row_of policy connection (Dsd set) = rows.dsd policy connection set
+row_of policy connection (UnSsd name) = rows.unssd policy connection name
+row_of policy connection (UnDsd name) = rows.undsd policy connection name

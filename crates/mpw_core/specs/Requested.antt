@@ -28,25 +28,25 @@ is_administration (UnSsd name) = true
 is_administration (UnDsd name) = true
 
 -- The policy that a request asks for, where its row tests the sets of separation of duty. No other row tells a set.
-abbrev pub requested : Policy → ℕ → PolicyRequest → Policy
-requested policy conn (Open user digest) = policy
-requested policy conn Close = policy
-requested policy conn (Activate role) =
-    rows.with_active policy conn (rows.active_roles policy conn ++ role ∷ [])
-requested policy conn (DropRole role) = policy
-requested policy conn (AddUser user digest) = policy
-requested policy conn (DelUser user) = policy
-requested policy conn (AddRole role) = policy
-requested policy conn (DelRole role) = policy
-requested policy conn (Assign user role) =
+abbrev pub requested_policy : Policy → ℕ → PolicyRequest → Policy
+requested_policy policy connection (Open user digest) = policy
+requested_policy policy connection Close = policy
+requested_policy policy connection (Activate role) =
+    rows.with_active policy connection (rows.active_roles policy connection ++ role ∷ [])
+requested_policy policy connection (DropRole role) = policy
+requested_policy policy connection (AddUser user digest) = policy
+requested_policy policy connection (DelUser user) = policy
+requested_policy policy connection (AddRole role) = policy
+requested_policy policy connection (DelRole role) = policy
+requested_policy policy connection (Assign user role) =
     rows.with_assigned policy user (assigned_roles policy user ++ role ∷ [])
-requested policy conn (Deassign user role) = policy
-requested policy conn (Grant grant) = policy
-requested policy conn (Revoke grant) = policy
-requested policy conn (Inherit senior junior) =
+requested_policy policy connection (Deassign user role) = policy
+requested_policy policy connection (Grant grant) = policy
+requested_policy policy connection (Revoke grant) = policy
+requested_policy policy connection (Inherit senior junior) =
     record policy { roles = with_pair policy.roles senior junior }
-requested policy conn (Uninherit senior junior) = policy
-requested policy conn (Ssd set) = record policy { ssd = policy.ssd ++ set ∷ [] }
-requested policy conn (Dsd set) = record policy { dsd = policy.dsd ++ set ∷ [] }
-requested policy conn (UnSsd name) = policy
-requested policy conn (UnDsd name) = policy
+requested_policy policy connection (Uninherit senior junior) = policy
+requested_policy policy connection (Ssd set) = record policy { ssd = policy.ssd ++ set ∷ [] }
+requested_policy policy connection (Dsd set) = record policy { dsd = policy.dsd ++ set ∷ [] }
+requested_policy policy connection (UnSsd name) = policy
+requested_policy policy connection (UnDsd name) = policy

@@ -16,7 +16,7 @@ ghost use Rattle.mpw_signoff.specs.SigningOff as signing;
 ghost use Rattle.mpw_core.specs.Internal.Answer.{IsRefusal, IsReady, Gives, open_state};
 ghost use Rattle.mpw_core.specs.History.{restarts};
 ghost use Rattle.mpw_core.specs.PolicyRows.{row_of};
-ghost use Rattle.mpw_core.specs.Step.{State, reply_of, changed, asked, audited, over_run, over_shelf, over_wafer, over_waivers, wanted, parted, outcome_of, identity_lines};
+ghost use Rattle.mpw_core.specs.Step.{State, reply_of, policy_outcome, query_outcome, trail_outcome, over_run, over_shelf, over_wafer, over_waivers, event_outcome, parting_outcome, outcome_of, identity_lines};
 
 use crate::policy::make;
 use crate::run_answer::of_run;
@@ -103,8 +103,8 @@ fn refusal_of(fault: PolicyFault) -> Result<Answer, AllocError>
 }
 
 /// The answer of a changed copy of the policy.
-fn changed(next: Policy, made: Result<(), PolicyFault>) -> Result<Answer, AllocError>
-    ensures { (state : State) (row : Result PolicyState PolicyRefusal) → OnOk made (row ≡ Ok next) → IfErr made (IsFaultOf row) → IfOk result (λ answer. Gives state (changed state row) answer.response answer.next) }
+fn policy_answer(next: Policy, made: Result<(), PolicyFault>) -> Result<Answer, AllocError>
+    ensures { (state : State) (row : Result PolicyState PolicyRefusal) → OnOk made (row ≡ Ok next) → IfErr made (IsFaultOf row) → IfOk result (λ answer. Gives state (policy_outcome state row) answer.response answer.next) }
 {
     match made {
         Ok(()) => Ok(Answer {
@@ -131,10 +131,10 @@ fn identity_lines(alloc: Global, identity: Identity) -> Result<Lines, AllocError
 }
 
 /// Answers `whoami`.
-fn whoami(alloc: Global, policy: &Policy, conn: u32) -> Result<Answer, AllocError>
-    ensures { (state : State) → state.policy ≡ policy.now → IfOk result (λ answer. Gives state (asked state identity_lines (rows.whoami policy.now conn)) answer.response answer.next) }
+fn whoami(alloc: Global, policy: &Policy, connection: u32) -> Result<Answer, AllocError>
+    ensures { (state : State) → state.policy ≡ policy.now → IfOk result (λ answer. Gives state (query_outcome state identity_lines (rows.whoami policy.now connection)) answer.response answer.next) }
 {
-    match policy.whoami(conn) {
+    match policy.whoami(connection) {
         Ok(identity) => Ok(Answer {
             response: Response::Told(Reply::Ok(identity_lines(alloc, identity)?)),
             next: Next::Nothing,
@@ -144,28 +144,28 @@ fn whoami(alloc: Global, policy: &Policy, conn: u32) -> Result<Answer, AllocErro
 }
 
 /// Answers a request of the policy on a copy of it.
-fn revision(policy: &Policy, conn: u32, request: &PolicyRequest) -> Result<Answer, AllocError>
-    ensures { (state : State) → state.policy ≡ policy.now → IfOk result (λ answer. Gives state (changed state (row_of policy.now conn request.now)) answer.response answer.next) }
+fn revision(policy: &Policy, connection: u32, request: &PolicyRequest) -> Result<Answer, AllocError>
+    ensures { (state : State) → state.policy ≡ policy.now → IfOk result (λ answer. Gives state (policy_outcome state (row_of policy.now connection request.now)) answer.response answer.next) }
 {
     let mut next = policy.copy()?;
-    let made = make(&mut next, conn, request);
-    changed(next, made)
+    let made = make(&mut next, connection, request);
+    policy_answer(next, made)
 }
 
 /// Answers a request over the shelf.
 fn layout(
     alloc: Global,
     tables: &Tables,
-    conn: u32,
+    connection: u32,
     request: &LayoutRequest,
 ) -> Result<Answer, AllocError>
-    ensures { IfOk result (λ answer. Gives (open_state tables.now) (over_shelf (open_state tables.now) (layouts.outcome_of tables.now.policy tables.now.shelf conn request.now)) answer.response answer.next) }
+    ensures { IfOk result (λ answer. Gives (open_state tables.now) (over_shelf (open_state tables.now) (layouts.outcome_of tables.now.policy tables.now.shelf connection request.now)) answer.response answer.next) }
 {
     let LayoutAnswer { reply, next } = mpw_layouts::answer_request(
         alloc,
         &tables.policy,
         &tables.shelf,
-        conn,
+        connection,
         request,
     )?;
     let response = Response::Told(reply);
@@ -185,10 +185,10 @@ fn layout(
 fn wafer(
     alloc: Global,
     tables: &Tables,
-    conn: u32,
+    connection: u32,
     request: &WaferRequest,
 ) -> Result<Answer, AllocError>
-    ensures { IfOk result (λ answer. Gives (open_state tables.now) (over_wafer (open_state tables.now) (wafers.outcome_of tables.now.policy tables.now.shelf tables.now.wafer conn request.now)) answer.response answer.next) }
+    ensures { IfOk result (λ answer. Gives (open_state tables.now) (over_wafer (open_state tables.now) (wafers.outcome_of tables.now.policy tables.now.shelf tables.now.wafer connection request.now)) answer.response answer.next) }
 {
     let Tables {
         policy,
@@ -197,7 +197,7 @@ fn wafer(
         ..
     } = tables;
     let WaferAnswer { reply, next } = mpw_wafer::answer_request(
-        alloc, policy, shelf, wafer, conn, request,
+        alloc, policy, shelf, wafer, connection, request,
     )?;
     let response = Response::Told(reply);
     match next {
@@ -216,11 +216,11 @@ fn wafer(
 fn checking(
     alloc: Global,
     tables: &Tables,
-    conn: u32,
+    connection: u32,
     request: &RunRequest,
 ) -> Result<Answer, AllocError>
     requires { IsReady tables.now }
-    ensures { IfOk result (λ answer. Gives (open_state tables.now) (over_run (open_state tables.now) (checking.outcome_of tables.now.policy tables.now.shelf tables.now.wafer tables.now.run conn request.now)) answer.response answer.next) }
+    ensures { IfOk result (λ answer. Gives (open_state tables.now) (over_run (open_state tables.now) (checking.outcome_of tables.now.policy tables.now.shelf tables.now.wafer tables.now.run connection request.now)) answer.response answer.next) }
 {
     let Tables {
         policy,
@@ -230,7 +230,7 @@ fn checking(
         ..
     } = tables;
     let RunAnswer { reply, next } = mpw_checking::answer_request(
-        alloc, policy, shelf, wafer, run, conn, request,
+        alloc, policy, shelf, wafer, run, connection, request,
     )?;
     let response = Response::Told(reply);
     match next {
@@ -253,10 +253,10 @@ fn checking(
 fn sign_off(
     alloc: Global,
     tables: &Tables,
-    conn: u32,
+    connection: u32,
     request: &SignOffRequest,
 ) -> Result<Answer, AllocError>
-    ensures { IfOk result (λ answer. Gives (open_state tables.now) (over_waivers (open_state tables.now) (signing.outcome_of tables.now.policy tables.now.wafer tables.now.run tables.now.waivers conn request.now)) answer.response answer.next) }
+    ensures { IfOk result (λ answer. Gives (open_state tables.now) (over_waivers (open_state tables.now) (signing.outcome_of tables.now.policy tables.now.wafer tables.now.run tables.now.waivers connection request.now)) answer.response answer.next) }
 {
     let Tables {
         policy,
@@ -266,7 +266,7 @@ fn sign_off(
         ..
     } = tables;
     let SignOffAnswer { reply, next } = mpw_signoff::answer_request(
-        alloc, policy, wafer, run, waivers, conn, request,
+        alloc, policy, wafer, run, waivers, connection, request,
     )?;
     let response = Response::Told(reply);
     match next {
@@ -294,10 +294,10 @@ fn trail_lines(alloc: Global, trail: &Trail) -> Result<Lines, AllocError>
 }
 
 /// Answers `trail`: a count for each 1024 requests so far, and for each of the last ones.
-fn trail(alloc: Global, tables: &Tables, conn: u32) -> Result<Answer, AllocError>
-    ensures { IfOk result (λ answer. Gives (open_state tables.now) (audited (open_state tables.now) (permitted tables.now.policy conn Audit Desk)) answer.response answer.next) }
+fn trail(alloc: Global, tables: &Tables, connection: u32) -> Result<Answer, AllocError>
+    ensures { IfOk result (λ answer. Gives (open_state tables.now) (trail_outcome (open_state tables.now) (permitted tables.now.policy connection Audit Desk)) answer.response answer.next) }
 {
-    match enter(&tables.policy, conn, Operation::Audit, Object::Desk) {
+    match enter(&tables.policy, connection, Operation::Audit, Object::Desk) {
         Ok(_user) => Ok(Answer {
             response: Response::Told(Reply::Ok(trail_lines(alloc, &tables.trail)?)),
             next: Next::Nothing,
@@ -311,33 +311,38 @@ fn trail(alloc: Global, tables: &Tables, conn: u32) -> Result<Answer, AllocError
 }
 
 /// Answers a request.
-fn ask(alloc: Global, tables: &Tables, conn: u32, request: &Request) -> Result<Answer, AllocError>
+fn ask(
+    alloc: Global,
+    tables: &Tables,
+    connection: u32,
+    request: &Request,
+) -> Result<Answer, AllocError>
     requires { IsReady tables.now }
-    ensures { IfOk result (λ answer. Gives (open_state tables.now) (outcome_of (open_state tables.now) conn request.now) answer.response answer.next) }
+    ensures { IfOk result (λ answer. Gives (open_state tables.now) (outcome_of (open_state tables.now) connection request.now) answer.response answer.next) }
 {
     match request {
-        Request::Policy(request) => revision(&tables.policy, conn, request),
-        Request::Whoami => whoami(alloc, &tables.policy, conn),
-        Request::Layout(request) => layout(alloc, tables, conn, request),
-        Request::Wafer(request) => wafer(alloc, tables, conn, request),
-        Request::Run(request) => checking(alloc, tables, conn, request),
-        Request::SignOff(request) => sign_off(alloc, tables, conn, request),
-        Request::Trail => trail(alloc, tables, conn),
+        Request::Policy(request) => revision(&tables.policy, connection, request),
+        Request::Whoami => whoami(alloc, &tables.policy, connection),
+        Request::Layout(request) => layout(alloc, tables, connection, request),
+        Request::Wafer(request) => wafer(alloc, tables, connection, request),
+        Request::Run(request) => checking(alloc, tables, connection, request),
+        Request::SignOff(request) => sign_off(alloc, tables, connection, request),
+        Request::Trail => trail(alloc, tables, connection),
     }
 }
 
 /// Answers a connection's end. Where the connection has no session there is nothing to change, and nothing is copied.
-fn parting(policy: &Policy, conn: u32) -> Result<Answer, AllocError>
-    ensures { (state : State) → state.policy ≡ policy.now → IfOk result (λ answer. Gives state (parted state conn) answer.response answer.next) }
+fn parting(policy: &Policy, connection: u32) -> Result<Answer, AllocError>
+    ensures { (state : State) → state.policy ≡ policy.now → IfOk result (λ answer. Gives state (parting_outcome state connection) answer.response answer.next) }
 {
-    if !policy.has_session(conn) {
+    if !policy.has_session(connection) {
         return Ok(Answer {
             response: Response::Gone,
             next: Next::Nothing,
         });
     }
     let mut next = policy.copy()?;
-    next.end(conn);
+    next.end(connection);
     Ok(Answer {
         response: Response::Gone,
         next: Next::NextPolicy(next),
@@ -350,10 +355,10 @@ fn parting(policy: &Policy, conn: u32) -> Result<Answer, AllocError>
 ///
 /// # Errors
 /// Where there is no room for it.
-#[tactic(auto, unfolding(crate::specs::Step::wanted))]
+#[tactic(auto, unfolding(crate::specs::Step::event_outcome))]
 pub(crate) fn prepare(alloc: Global, tables: &Tables, event: &Event) -> Result<Answer, AllocError>
     requires { restarts event.now ≡ false → IsReady tables.now }
-    ensures { IfOk result (λ answer. Gives (open_state tables.now) (wanted (open_state tables.now) event.now) answer.response answer.next) }
+    ensures { IfOk result (λ answer. Gives (open_state tables.now) (event_outcome (open_state tables.now) event.now) answer.response answer.next) }
 {
     match event {
         Event::Ask { conn, request } => ask(alloc, tables, *conn, request.get()),

@@ -8,7 +8,7 @@ ghost use Rattle.mpw_rbac.specs.Laws.{IsLeastDynamic, IsLeastStatic};
 ghost use Rattle.mpw_rbac.specs.Sound.{active_authorized, Sound};
 ghost use Rattle.mpw_requests.specs.declared.policy.PolicyRequest.{PolicyRequest as AnyPolicyRequest};
 ghost use Rattle.mpw_core.specs.Permissions.{Has, need_of};
-ghost use Rattle.mpw_core.specs.Requested.{is_administration, requested};
+ghost use Rattle.mpw_core.specs.Requested.{is_administration, requested_policy};
 ghost use Rattle.mpw_core.specs.History.{state_after, KeptDesk, IsHandled, GoesOnTo};
 ghost use Rattle.mpw_placings.specs.Placements.{ArePlacings};
 ghost use Rattle.mpw_replies.specs.Listing.{Listed, stored};
@@ -23,7 +23,7 @@ ghost use Rattle.mpw_requests.specs.declared.sign_off.SignOffRequest.TheVariants
 ghost use Rattle.mpw_signoff.specs.Laws.{IsRightlyAsked, IsAsker, IsRightlySigned, IsSignedOff, IsSubmitter};
 ghost use Rattle.mpw_waiver.specs.Waivers.{none_asked};
 ghost use Rattle.mpw_replies.specs.Readable.{IsOfReadable};
-ghost use Rattle.mpw_core.specs.Step.{State, new_state, outcome_of, wanted, unkept, left, step, response_of, entries_of, after};
+ghost use Rattle.mpw_core.specs.Step.{State, new_state, outcome_of, event_outcome, not_kept_response, no_change, step, response_of, entries_of, after};
 ghost use Rattle.mpw_core.specs.declared.event.Event.{Event};
 ghost use Rattle.mpw_core.specs.declared.event.Event.TheVariants as event;
 ghost use Rattle.mpw_core.specs.declared.event.Response.{Response};
@@ -83,8 +83,8 @@ pub fn every_state_keeps_separation()
 
 /// A login is denied alike where the user is unknown and where the token is another.
 pub fn unknown_users_are_denied_like_wrong_tokens()
-    ensures unknown { (state : State) (conn : ℕ) (user digest : List ℕ) → session_of state.policy conn ≡ None → is_user state.policy user ≡ false → (outcome_of state conn (ask.Policy (Request.Open user digest))).response ≡ response.Told (Reply.Denied denial.Login) }
-    ensures wrong { (state : State) (conn : ℕ) (user digest : List ℕ) → session_of state.policy conn ≡ None → is_login state.policy user digest ≡ false → (outcome_of state conn (ask.Policy (Request.Open user digest))).response ≡ response.Told (Reply.Denied denial.Login) }
+    ensures unknown { (state : State) (connection : ℕ) (user digest : List ℕ) → session_of state.policy connection ≡ None → is_user state.policy user ≡ false → (outcome_of state connection (ask.Policy (Request.Open user digest))).response ≡ response.Told (Reply.Denied denial.Login) }
+    ensures wrong { (state : State) (connection : ℕ) (user digest : List ℕ) → session_of state.policy connection ≡ None → is_login state.policy user digest ≡ false → (outcome_of state connection (ask.Policy (Request.Open user digest))).response ≡ response.Told (Reply.Denied denial.Login) }
 {}
 
 /// The step of a denial leaves the state as it was, and so does that of a refusal unless it tells that the change could not be
@@ -109,15 +109,15 @@ pub fn what_is_not_kept_leaves_the_run()
 
 /// A change that is kept counts as it was wanted; one that could not be kept closes the desk and changes nothing else.
 pub fn changes_count_once_they_are_kept()
-    ensures kept { (state : State) (event : Event) → step state event true ≡ wanted state event }
-    ensures unkept { (state : State) (event : Event) → (wanted state event).changes ≡ true → step state event false ≡ left (unkept event) (record state { closed = true }) }
+    ensures kept { (state : State) (event : Event) → step state event true ≡ event_outcome state event }
+    ensures unkept { (state : State) (event : Event) → (event_outcome state event).changes ≡ true → step state event false ≡ no_change (not_kept_response event) (record state { closed = true }) }
 {}
 
 /// A restart ends every session and takes a run that is checked back to where it is cut, and changes nothing else: with the
 /// sessions and the run of before put back all is as before.
 pub fn a_restart_ends_every_session()
     ensures told { (state : State) (kept : Bool) → response_of state event.Restart kept ≡ response.Restarted }
-    ensures ended { (state : State) (kept : Bool) (conn : ℕ) → session_of (after state event.Restart kept).policy conn ≡ None }
+    ensures ended { (state : State) (kept : Bool) (connection : ℕ) → session_of (after state event.Restart kept).policy connection ≡ None }
     ensures cut { (state : State) (kept : Bool) → (after state event.Restart kept).run ≡ restarted state.run }
     ensures rest { (state : State) (kept : Bool) → record (after state event.Restart kept) { policy = record (after state event.Restart kept).policy { sessions = state.policy.sessions }; run = state.run } ≡ state }
 {}
@@ -133,7 +133,7 @@ pub fn keepers_have_the_changes_in_order()
 /// Whatever the request, a line of its reply that tells of a cell, or shows a shape of one, is of a cell that the connection's
 /// session may read. Rows of the trail and lines of waivers are no part of this.
 pub fn lines_are_of_readable_cells()
-    ensures { (state : State) (conn : ℕ) (request : AnyRequest) (kept : Bool) (lines : List Listed) → response_of state (event.Ask conn request) kept ≡ response.Told (Reply.Ok lines) → All (IsOfReadable state.policy conn) lines }
+    ensures { (state : State) (connection : ℕ) (request : AnyRequest) (kept : Bool) (lines : List Listed) → response_of state (event.Ask connection request) kept ≡ response.Told (Reply.Ok lines) → All (IsOfReadable state.policy connection) lines }
 {
     lines_of_layouts_are_of_readable_cells();
     lines_of_markers_are_of_readable_cells();
@@ -143,9 +143,9 @@ pub fn lines_are_of_readable_cells()
 /// A denial of a permission, whatever the request, names one that the connection's session lacks. A denial of an
 /// activation names the role that was asked for, and the session's user is not authorized for it.
 pub fn denials_name_what_the_session_lacks()
-    ensures permission { (state : State) (conn : ℕ) (request : AnyRequest) (kept : Bool) (operation : Operation) (object : Object) → response_of state (event.Ask conn request) kept ≡ response.Told (Reply.Denied (denial.Permission operation object)) → permits state.policy conn operation object ≡ false }
-    ensures activation { (state : State) (conn : ℕ) (role other : List ℕ) (kept : Bool) → response_of state (event.Ask conn (ask.Policy (Request.Activate role))) kept ≡ response.Told (Reply.Denied (denial.Activation other)) →
-        (other ≡ role) × (contains_name (authorized state.policy (user_of state.policy conn)) role ≡ false) }
+    ensures permission { (state : State) (connection : ℕ) (request : AnyRequest) (kept : Bool) (operation : Operation) (object : Object) → response_of state (event.Ask connection request) kept ≡ response.Told (Reply.Denied (denial.Permission operation object)) → permits state.policy connection operation object ≡ false }
+    ensures activation { (state : State) (connection : ℕ) (role other : List ℕ) (kept : Bool) → response_of state (event.Ask connection (ask.Policy (Request.Activate role))) kept ≡ response.Told (Reply.Denied (denial.Activation other)) →
+        (other ≡ role) × (contains_name (authorized state.policy (user_of state.policy connection)) role ≡ false) }
 {
     denials_of_layouts_name_what_is_lacked();
     denials_over_the_wafer_name_what_is_lacked();
@@ -182,13 +182,13 @@ pub fn every_state_counts_its_runs()
 /// Whatever the request, it is accepted only of a connection that has what the request needs: nothing for `open`, a session for what
 /// is asked of one's own, and else the permission that the table `need_of` names.
 pub fn accepted_requests_had_what_they_need()
-    ensures { (state : State) (conn : ℕ) (request : AnyRequest) (kept : Bool) (lines : List Listed) → response_of state (event.Ask conn request) kept ≡ response.Told (Reply.Ok lines) → Has state.policy conn (need_of request) }
+    ensures { (state : State) (connection : ℕ) (request : AnyRequest) (kept : Bool) (lines : List Listed) → response_of state (event.Ask connection request) kept ≡ response.Told (Reply.Ok lines) → Has state.policy connection (need_of request) }
 {}
 
 /// A denial for a set of separation of duty names the least set of its kind that the policy that was asked for would break.
 pub fn sets_are_denied_for_what_was_asked()
-    ensures ssd { (state : State) (conn : ℕ) (request : AnyPolicyRequest) (kept : Bool) (name : List ℕ) → response_of state (event.Ask conn (ask.Policy request)) kept ≡ response.Told (Reply.Denied (denial.Ssd name)) → IsLeastStatic (requested state.policy conn request) name }
-    ensures dsd { (state : State) (conn : ℕ) (request : AnyPolicyRequest) (kept : Bool) (name : List ℕ) → response_of state (event.Ask conn (ask.Policy request)) kept ≡ response.Told (Reply.Denied (denial.Dsd name)) → IsLeastDynamic (requested state.policy conn request) name }
+    ensures ssd { (state : State) (connection : ℕ) (request : AnyPolicyRequest) (kept : Bool) (name : List ℕ) → response_of state (event.Ask connection (ask.Policy request)) kept ≡ response.Told (Reply.Denied (denial.Ssd name)) → IsLeastStatic (requested_policy state.policy connection request) name }
+    ensures dsd { (state : State) (connection : ℕ) (request : AnyPolicyRequest) (kept : Bool) (name : List ℕ) → response_of state (event.Ask connection (ask.Policy request)) kept ≡ response.Told (Reply.Denied (denial.Dsd name)) → IsLeastDynamic (requested_policy state.policy connection request) name }
 {
     denied_only_for_the_least_broken_set();
     sets_are_told_where_they_are_tested();
@@ -196,7 +196,7 @@ pub fn sets_are_denied_for_what_was_asked()
 
 /// `open`, `close`, `activate` and `drop` are never denied for want of a permission.
 pub fn own_requests_are_never_denied_a_permission()
-    ensures { (state : State) (conn : ℕ) (request : AnyPolicyRequest) (kept : Bool) (operation : Operation) (object : Object) → is_administration request ≡ false → response_of state (event.Ask conn (ask.Policy request)) kept ≡ response.Told (Reply.Denied (denial.Permission operation object)) → ⊥ }
+    ensures { (state : State) (connection : ℕ) (request : AnyPolicyRequest) (kept : Bool) (operation : Operation) (object : Object) → is_administration request ≡ false → response_of state (event.Ask connection (ask.Policy request)) kept ≡ response.Told (Reply.Denied (denial.Permission operation object)) → ⊥ }
 {
     own_requests_need_no_permission();
 }
@@ -210,7 +210,7 @@ pub fn the_trail_has_each_request()
 /// With a run that begins the waivers of the one before are gone, and a run that is finished begins with a place for each of
 /// its markers, and no waiver.
 pub fn waivers_go_with_their_run()
-    ensures begun { (state : State) (conn : ℕ) (kept : Bool) (lines : List Listed) → response_of state (event.Ask conn (ask.Run run.Run)) kept ≡ response.Told (Reply.Ok lines) → (after state (event.Ask conn (ask.Run run.Run)) kept).waivers ≡ [] }
+    ensures begun { (state : State) (connection : ℕ) (kept : Bool) (lines : List Listed) → response_of state (event.Ask connection (ask.Run run.Run)) kept ≡ response.Told (Reply.Ok lines) → (after state (event.Ask connection (ask.Run run.Run)) kept).waivers ≡ [] }
     ensures finished { (state : State) (answer : FoundMarkers) (kept : Bool) → response_of state (event.Tile answer) kept ≡ run_response told.Finished → (after state (event.Tile answer) kept).waivers ≡ none_asked (book_size (after state (event.Tile answer) kept).run.phase) }
 {}
 
@@ -224,10 +224,10 @@ pub fn every_state_has_a_place_for_each_marker()
 /// A waiver that is asked for or signed is of a marker that is shown in full to the session, and who signs neither asked for it
 /// nor submitted what the marker meets.
 pub fn waivers_are_signed_apart()
-    ensures asked { (state : State) (conn : ℕ) (name : MarkerName) (kept : Bool) (lines : List Listed) → response_of state (event.Ask conn (ask.SignOff (sign.Waive name))) kept ≡ response.Told (Reply.Ok lines) →
-        IsRightlyAsked state.policy state.run state.waivers conn name (after state (event.Ask conn (ask.SignOff (sign.Waive name))) kept).waivers }
-    ensures signed { (state : State) (conn : ℕ) (name : MarkerName) (kept : Bool) (lines : List Listed) → response_of state (event.Ask conn (ask.SignOff (sign.Sign name))) kept ≡ response.Told (Reply.Ok lines) →
-        IsRightlySigned state.policy state.run state.waivers conn name (after state (event.Ask conn (ask.SignOff (sign.Sign name))) kept).waivers }
+    ensures asked { (state : State) (connection : ℕ) (name : MarkerName) (kept : Bool) (lines : List Listed) → response_of state (event.Ask connection (ask.SignOff (sign.Waive name))) kept ≡ response.Told (Reply.Ok lines) →
+        IsRightlyAsked state.policy state.run state.waivers connection name (after state (event.Ask connection (ask.SignOff (sign.Waive name))) kept).waivers }
+    ensures signed { (state : State) (connection : ℕ) (name : MarkerName) (kept : Bool) (lines : List Listed) → response_of state (event.Ask connection (ask.SignOff (sign.Sign name))) kept ≡ response.Told (Reply.Ok lines) →
+        IsRightlySigned state.policy state.run state.waivers connection name (after state (event.Ask connection (ask.SignOff (sign.Sign name))) kept).waivers }
 {
     signers_stand_apart();
     waivers_are_of_shown_markers();
@@ -236,16 +236,16 @@ pub fn waivers_are_signed_apart()
 /// A user who is denied to sign as a submitter submitted what the marker meets, of the cell that is told and of none lesser; one
 /// who is denied as the asker asked for the waiver.
 pub fn denials_to_sign_are_true()
-    ensures submitter { (state : State) (conn : ℕ) (request : AnySignOffRequest) (kept : Bool) (cell : List ℕ) → response_of state (event.Ask conn (ask.SignOff request)) kept ≡ response.Told (Reply.Denied (denial.Submitter cell)) →
-        (name : MarkerName) × (request ≡ sign.Sign name) × IsSubmitter state.policy state.run conn name cell }
-    ensures asker { (state : State) (conn : ℕ) (request : AnySignOffRequest) (kept : Bool) → response_of state (event.Ask conn (ask.SignOff request)) kept ≡ response.Told (Reply.Denied denial.Asker) → (name : MarkerName) × (request ≡ sign.Sign name) × IsAsker state.policy state.run state.waivers conn name }
+    ensures submitter { (state : State) (connection : ℕ) (request : AnySignOffRequest) (kept : Bool) (cell : List ℕ) → response_of state (event.Ask connection (ask.SignOff request)) kept ≡ response.Told (Reply.Denied (denial.Submitter cell)) →
+        (name : MarkerName) × (request ≡ sign.Sign name) × IsSubmitter state.policy state.run connection name cell }
+    ensures asker { (state : State) (connection : ℕ) (request : AnySignOffRequest) (kept : Bool) → response_of state (event.Ask connection (ask.SignOff request)) kept ≡ response.Told (Reply.Denied denial.Asker) → (name : MarkerName) × (request ≡ sign.Sign name) × IsAsker state.policy state.run state.waivers connection name }
 {
     denials_of_separation_are_true();
 }
 
 /// A run is told to be clean only where deck and placings are those that it looked at, and each of its markers is signed.
 pub fn clean_runs_are_signed_off()
-    ensures { (state : State) (conn : ℕ) (kept : Bool) → response_of state (event.Ask conn (ask.SignOff sign.Verdict)) kept ≡ response.Told (Reply.Ok (stored line.Clean ∷ [])) → IsSignedOff state.wafer state.run state.waivers }
+    ensures { (state : State) (connection : ℕ) (kept : Bool) → response_of state (event.Ask connection (ask.SignOff sign.Verdict)) kept ≡ response.Told (Reply.Ok (stored line.Clean ∷ [])) → IsSignedOff state.wafer state.run state.waivers }
 {
     clean_is_signed_off();
 }

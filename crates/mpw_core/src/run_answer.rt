@@ -4,7 +4,7 @@ ghost use Rattle.std.specs.Prelude.{◌≡◌, IfOk};
 ghost use Rattle.mpw_run.specs.Prepared.{IsPrepared};
 ghost use Rattle.mpw_run.specs.Step.{Outcome as RunOutcome};
 ghost use Rattle.mpw_core.specs.Answer.{run_response};
-ghost use Rattle.mpw_core.specs.Internal.Answer.{Gives, moved, places_for};
+ghost use Rattle.mpw_core.specs.Internal.Answer.{Gives, move_or_finish, places_for};
 ghost use Rattle.mpw_core.specs.Step.{State, finishes, of_run};
 
 use crate::answer::{Answer, Next};
@@ -46,8 +46,8 @@ fn places_for(alloc: Global, run: &Run, prepared: &Prepared) -> Result<Option<Wa
 }
 
 /// What moves in of what was prepared for the run: what finishes the run has to be kept, and has places for waivers.
-fn moved(prepared: Prepared, places: Option<Waivers>) -> Next
-    ensures { result ≡ moved prepared places }
+fn move_or_finish(prepared: Prepared, places: Option<Waivers>) -> Next
+    ensures { result ≡ move_or_finish prepared places }
 {
     match places {
         Some(waivers) => Next::Finish(prepared, waivers),
@@ -85,7 +85,7 @@ pub(crate) fn of_run(alloc: Global, run: &Run, prepared: Prepared) -> Result<Ans
     match prepared_answer(alloc, run, &prepared) {
         Ok(made) => Ok(Answer {
             response: made.response,
-            next: moved(prepared, made.places),
+            next: move_or_finish(prepared, made.places),
         }),
         Err(error) => Err(error),
     }

@@ -28,7 +28,7 @@ use Rattle.mpw_replies.specs.declared.reply.Code.TheVariants as code
 use Rattle.mpw_replies.specs.declared.reply.Reply.TheVariants as reply
 use Rattle.mpw_replies.specs.declared.row.Ending.{Ending}
 use Rattle.mpw_replies.specs.declared.row.Ending.TheVariants as ending
-use Rattle.mpw_layouts.specs.Layouts.{read, outside, usable, bound, kept, unnumbered, submitted_library, submitted, cells, cells_of, readable_line, shown, readable_shape, shapes, shelved, listed, outcome_of}
+use Rattle.mpw_layouts.specs.Layouts.{read, outside, usable, all_bindings, within_limits, unnumbered_submission, submitted_library, submit_row, cells, cells_of, readable_line, present_number, readable_shape, shapes, submit_outcome, listing_outcome, outcome_of}
 
 -- a row ends in its first part, or behind it
 parts : {A B : Type 0} (x : Result A Ending) (f : A → Result B Ending) (r : Ending)
@@ -36,7 +36,8 @@ parts : {A B : Type 0} (x : Result A Ending) (f : A → Result B Ending) (r : En
 parts (Ok a) f r e = inr (a, refl, e)
 parts (Err s) f r e = inl (let same : s ≡ r = cc in ap (λ t. Err t) same)
 
-module _ (lacks : EnteringDeniesWhatIsLacked) (policy : Policy) (conn : ℕ) (operation : Operation)
+module _ (lacks : EnteringDeniesWhatIsLacked) (policy : Policy) (connection : ℕ)
+    (operation : Operation)
     (object : Object) where
   denies-read : (outcome : Result (List Structure) ReadFault)
       → read outcome ≡ Err (denied operation object) → ⊥
@@ -55,38 +56,45 @@ module _ (lacks : EnteringDeniesWhatIsLacked) (policy : Policy) (conn : ℕ) (op
       go value true false e = cc
       go value false b e = cc
 
-  one_denial : (o : Operation) (cell : List ℕ) → permits policy conn o (objects.Cell cell) ≡ false
+  one_denial : (o : Operation) (cell : List ℕ) → permits policy connection o (objects.Cell cell)
+      ≡ false
       → denied o (objects.Cell cell) ≡ denied operation object
-      → permits policy conn operation object ≡ false
+      → permits policy connection operation object ≡ false
   one_denial o cell lacking e =
       let op : o ≡ operation = cc in
       let ob : objects.Cell cell ≡ object = cc in
       rw (← op, ← ob) lacking
 
-  denies-usable : (names : List (List ℕ)) → usable policy conn names ≡ Err (denied operation object)
-      → permits policy conn operation object ≡ false
+  denies-usable : (names : List (List ℕ))
+      → usable policy connection names ≡ Err (denied operation object)
+      → permits policy connection operation object ≡ false
   denies-usable [] e = absurd cc
   denies-usable (name ∷ names) e = go (λ h. denies-usable names h)
-      (permits policy conn Use (objects.Cell name)) refl e
+      (permits policy connection Use (objects.Cell name)) refl e
     where
-      go : (usable policy conn names ≡ Err (denied operation object)
-          → permits policy conn operation object ≡ false) → (b : Bool)
-          → permits policy conn Use (objects.Cell name) ≡ b
-          → cond b (usable policy conn names) (Err (denied Use (objects.Cell name)))
-          ≡ Err (denied operation object) → permits policy conn operation object ≡ false
+      go : (usable policy connection names ≡ Err (denied operation object)
+          → permits policy connection operation object ≡ false) → (b : Bool)
+          → permits policy connection Use (objects.Cell name) ≡ b
+          → cond b (usable policy connection names)
+          (Err (denied Use (objects.Cell name)))
+          ≡ Err (denied operation object) → permits policy connection operation object
+          ≡ false
       go later true is e = later e
       go later false is e = one_denial Use name is
-          (let h : denied Use (objects.Cell name) ≡ denied operation object = cc in h)
+          (let h : denied Use (objects.Cell name) ≡ denied operation
+          object = cc in h)
 
-  denies-bound : (bindings : Option (List Binding)) → bound bindings ≡ Err (denied operation object)
+  denies-bound : (bindings : Option (List Binding))
+      → all_bindings bindings ≡ Err (denied operation object)
       → ⊥
   denies-bound None e = cc
   denies-bound (Some bindings) e = cc
 
-  denies-kept : (shelf : List Submission) (s : Submission)
-      → kept shelf s ≡ Err (denied operation object) → ⊥
-  unfolding kept
-  denies-kept shelf s e = go (numbered shelf s) (not (is_far shelf s)) (not (is_too_large shelf s))
+  denies-within_limits : (shelf : List Submission) (s : Submission)
+      → within_limits shelf s ≡ Err (denied operation object) → ⊥
+  unfolding within_limits
+  denies-within_limits shelf s e = go (numbered shelf s) (not (is_far shelf s))
+      (not (is_too_large shelf s))
       (not (is_too_deep shelf s)) (has_room_for shelf s.cell) e
     where
       go : {A : Type 0} (value : A) (a b c d : Bool)
@@ -100,68 +108,74 @@ module _ (lacks : EnteringDeniesWhatIsLacked) (policy : Policy) (conn : ℕ) (op
       go value false b c d e = cc
 
   denies-library : (shelf : List Submission) (cell top : List ℕ) (library : List Structure)
-      → submitted_library policy shelf conn cell top library ≡ Err (denied operation object)
-      → permits policy conn operation object ≡ false
+      → submitted_library policy shelf connection cell top library
+      ≡ Err (denied operation object)
+      → permits policy connection operation object ≡ false
   unfolding submitted_library
   denies-library shelf cell top library e = elim (parts (outside library top) _ _ e) [
     | inl first ↦ absurd (denies-outside library top first)
-    | inr rest ↦ elim (parts (usable policy conn rest.0) _ _ rest.2) [
+    | inr rest ↦ elim (parts (usable policy connection rest.0) _ _ rest.2) [
       | inl second ↦ denies-usable rest.0 second
-      | inr more ↦ elim (parts (bound (bound_to shelf rest.0)) _ _ more.2) [
+      | inr more ↦ elim (parts (all_bindings (bound_to shelf rest.0)) _ _ more.2) [
         | inl third ↦ absurd (denies-bound (bound_to shelf rest.0) third)
-        | inr last ↦ absurd (denies-kept shelf
-            (unnumbered cell (user_of policy conn) library top last.0) last.2)
+        | inr last ↦ absurd (denies-within_limits shelf
+            (unnumbered_submission cell (user_of policy connection) library top last.0) last.2)
       ]
     ]
   ]
 
-denies-submitted : EnteringDeniesWhatIsLacked
-    → (policy : Policy) (shelf : List Submission) (conn : ℕ) (cell top text : List ℕ)
+denies-submit_row : EnteringDeniesWhatIsLacked
+    → (policy : Policy) (shelf : List Submission) (connection : ℕ) (cell top text : List ℕ)
     (operation : Operation) (object : Object)
-    → submitted policy shelf conn cell top text ≡ Err (denied operation object)
-    → permits policy conn operation object ≡ false
-unfolding submitted
-denies-submitted lacks policy shelf conn cell top text operation object e =
-    elim (parts (permitted policy conn Submit (objects.Cell cell)) _ _ e) [
-      | inl first ↦ lacks policy conn Submit operation (objects.Cell cell) object first
+    → submit_row policy shelf connection cell top text ≡ Err (denied operation object)
+    → permits policy connection operation object ≡ false
+unfolding submit_row
+denies-submit_row lacks policy shelf connection cell top text operation object e =
+    elim (parts (permitted policy connection Submit (objects.Cell cell)) _ _ e) [
+      | inl first ↦ lacks policy connection Submit operation (objects.Cell cell) object first
       | inr rest ↦ elim (parts (read (library_of text)) _ _ rest.2) [
-        | inl second ↦ absurd (denies-read lacks policy conn operation object (library_of text)
+        | inl second ↦ absurd (denies-read lacks policy connection operation object
+            (library_of text)
             second)
-        | inr more ↦ denies-library lacks policy conn operation object shelf cell top more.0 more.2
+        | inr more ↦ denies-library lacks policy connection operation object shelf cell top more.0
+            more.2
       ]
     ]
 
-denies-cells : (policy : Policy) (shelf : List Submission) (conn : ℕ) (operation : Operation)
-    (object : Object) → cells policy shelf conn ≡ Err (denied operation object) → ⊥
-denies-cells policy shelf conn operation object e =
-    go (map stored (flat_map (readable_line policy shelf conn) (cells_of shelf)))
-    (is_some (session_of policy conn)) e
+denies-cells : (policy : Policy) (shelf : List Submission) (connection : ℕ) (operation : Operation)
+    (object : Object) → cells policy shelf connection ≡ Err (denied operation object) → ⊥
+denies-cells policy shelf connection operation object e =
+    go (map stored (flat_map (readable_line policy shelf connection) (cells_of shelf)))
+    (is_some (session_of policy connection)) e
   where
     go : {A : Type 0} (value : A) (a : Bool)
-        → cond a (Ok value) (Err (ending.Denied denial.Session)) ≡ Err (denied operation object) → ⊥
+        → cond a (Ok value) (Err (ending.Denied denial.Session))
+        ≡ Err (denied operation object) → ⊥
     go value true e = cc
     go value false e = cc
 
-denies-shown : (found : Option ℕ) (operation : Operation) (object : Object)
-    → shown found ≡ Err (denied operation object) → ⊥
-denies-shown None operation object e = cc
-denies-shown (Some number) operation object e = cc
+denies-present_number : (found : Option ℕ) (operation : Operation) (object : Object)
+    → present_number found ≡ Err (denied operation object) → ⊥
+denies-present_number None operation object e = cc
+denies-present_number (Some number) operation object e = cc
 
-denies-listed : (lines : List Listed) (told : Ending) → Ok lines ≡ Err told → ⊥
-denies-listed lines told e = cc
+denies-listing_outcome : (lines : List Listed) (told : Ending) → Ok lines ≡ Err told → ⊥
+denies-listing_outcome lines told e = cc
 
 denies-shapes : EnteringDeniesWhatIsLacked
-    → (policy : Policy) (shelf : List Submission) (conn : ℕ) (cell : List ℕ) (operation : Operation)
-    (object : Object) → shapes policy shelf conn cell ≡ Err (denied operation object)
-    → permits policy conn operation object ≡ false
+    → (policy : Policy) (shelf : List Submission) (connection : ℕ) (cell : List ℕ)
+    (operation : Operation)
+    (object : Object) → shapes policy shelf connection cell
+    ≡ Err (denied operation object)
+    → permits policy connection operation object ≡ false
 unfolding shapes
-denies-shapes lacks policy shelf conn cell operation object e =
-    elim (parts (permitted policy conn Read (objects.Cell cell)) _ _ e) [
-      | inl first ↦ lacks policy conn Read operation (objects.Cell cell) object first
-      | inr rest ↦ elim (parts (shown (present shelf cell)) _ _ rest.2) [
-        | inl second ↦ absurd (denies-shown (present shelf cell) operation object second)
-        | inr more ↦ absurd (denies-listed
-            (flat_map (readable_shape policy shelf conn) (flat shelf more.0))
+denies-shapes lacks policy shelf connection cell operation object e =
+    elim (parts (permitted policy connection Read (objects.Cell cell)) _ _ e) [
+      | inl first ↦ lacks policy connection Read operation (objects.Cell cell) object first
+      | inr rest ↦ elim (parts (present_number (present shelf cell)) _ _ rest.2) [
+        | inl second ↦ absurd (denies-present_number (present shelf cell) operation object second)
+        | inr more ↦ absurd (denies-listing_outcome
+            (flat_map (readable_shape policy shelf connection) (flat shelf more.0))
             (denied operation object)
             more.2)
       ]
@@ -170,38 +184,40 @@ denies-shapes lacks policy shelf conn cell operation object e =
 -- ---- outcomes
 
 permission-ended : (e : Ending) (operation : Operation) (object : Object)
-    → ended_by e ≡ reply.Denied (denial.Permission operation object) → e ≡ denied operation object
+    → ended_by e ≡ reply.Denied (denial.Permission operation object)
+    → e ≡ denied operation object
 permission-ended (ending.Denied why) operation object told =
     let same : why ≡ denial.Permission operation object = cc in ap (λ d. ending.Denied d) same
 permission-ended (ending.Refused why) operation object told = absurd cc
 
-permission-shelved : (shelf : List Submission) (row : Result Submission Ending)
+permission-submit_outcome : (shelf : List Submission) (row : Result Submission Ending)
     (operation : Operation) (object : Object)
-    → (shelved shelf row).reply ≡ reply.Denied (denial.Permission operation object)
+    → (submit_outcome shelf row).reply ≡ reply.Denied (denial.Permission operation object)
     → row ≡ Err (denied operation object)
-permission-shelved shelf (Ok s) operation object e = absurd cc
-permission-shelved shelf (Err ending) operation object e =
+permission-submit_outcome shelf (Ok s) operation object e = absurd cc
+permission-submit_outcome shelf (Err ending) operation object e =
     ap (λ x. Err x) (permission-ended ending operation object e)
 
-permission-listed : (shelf : List Submission) (row : Result (List Listed) Ending)
+permission-listing_outcome : (shelf : List Submission) (row : Result (List Listed) Ending)
     (operation : Operation) (object : Object)
-    → (listed shelf row).reply ≡ reply.Denied (denial.Permission operation object)
+    → (listing_outcome shelf row).reply ≡ reply.Denied (denial.Permission operation object)
     → row ≡ Err (denied operation object)
-permission-listed shelf (Ok lines) operation object e = absurd cc
-permission-listed shelf (Err ending) operation object e =
+permission-listing_outcome shelf (Ok lines) operation object e = absurd cc
+permission-listing_outcome shelf (Err ending) operation object e =
     ap (λ x. Err x) (permission-ended ending operation object e)
 
 pub lacks-layout : EnteringDeniesWhatIsLacked
-    → (policy : Policy) (shelf : List Submission) (conn : ℕ) (request : LayoutRequest)
+    → (policy : Policy) (shelf : List Submission) (connection : ℕ) (request : LayoutRequest)
     (operation : Operation) (object : Object)
-    → (outcome_of policy shelf conn request).reply ≡ reply.Denied
-    (denial.Permission operation object) → permits policy conn operation object ≡ false
-lacks-layout lacks policy shelf conn (ask.Submit cell top text) operation object e =
-    denies-submitted lacks policy shelf conn cell top text operation object
-    (permission-shelved shelf (submitted policy shelf conn cell top text) operation object e)
-lacks-layout lacks policy shelf conn ask.Cells operation object e =
-    absurd (denies-cells policy shelf conn operation object
-    (permission-listed shelf (cells policy shelf conn) operation object e))
-lacks-layout lacks policy shelf conn (ask.Shapes cell) operation object e =
-    denies-shapes lacks policy shelf conn cell operation object
-    (permission-listed shelf (shapes policy shelf conn cell) operation object e)
+    → (outcome_of policy shelf connection request).reply ≡ reply.Denied
+    (denial.Permission operation object) → permits policy connection operation object ≡ false
+lacks-layout lacks policy shelf connection (ask.Submit cell top text) operation object e =
+    denies-submit_row lacks policy shelf connection cell top text operation object
+    (permission-submit_outcome shelf (submit_row policy shelf connection cell top text) operation
+    object e)
+lacks-layout lacks policy shelf connection ask.Cells operation object e =
+    absurd (denies-cells policy shelf connection operation object
+    (permission-listing_outcome shelf (cells policy shelf connection) operation object e))
+lacks-layout lacks policy shelf connection (ask.Shapes cell) operation object e =
+    denies-shapes lacks policy shelf connection cell operation object
+    (permission-listing_outcome shelf (shapes policy shelf connection cell) operation object e)

@@ -11,11 +11,11 @@ use Rattle.mpw_hier.specs.Limits.{IsFar, KeepsLimits, IsRefused, numbered}
 use Rattle.mpw_hier.specs.Reach.{is_cyclic, is_far, CyclesAreFound, ExternalsAreOne, FarExtentsAreFound}
 use Rattle.mpw_replies.specs.Rows.{Told}
 use Rattle.mpw_layouts.specs.Internal.Answers.{fault_of}
-use Rattle.mpw_layouts.specs.Layouts.{outside, kept}
+use Rattle.mpw_layouts.specs.Layouts.{outside, within_limits}
 
-refuted : (b : Bool) → (b ≡ true → ⊥) → b ≡ false
-refuted true never = absurd (never refl)
-refuted false never = refl
+never_true : (b : Bool) → (b ≡ true → ⊥) → b ≡ false
+never_true true never = absurd (never refl)
+never_true false never = refl
 
 -- ---- names outside
 
@@ -23,7 +23,7 @@ pub outside-ok : CyclesAreFound → ExternalsAreOne
     → (library : List Structure) (top : List ℕ) (names : List (List ℕ))
     → AreExternals library top names → outside library top ≡ Ok names
 outside-ok cycles_found externals_one library top names x =
-    let free : is_cyclic library top ≡ false = refuted (is_cyclic library top)
+    let free : is_cyclic library top ≡ false = never_true (is_cyclic library top)
     (λ t. x.acyclic ((cycles_found library top).0 t)) in
     rw (x.found, free) (ap (λ n. Ok n) (sym (externals_one library top names x)))
 
@@ -50,16 +50,16 @@ outside-err cycles_found library top result hier.Full is no_top why = absurd why
 
 not_far : FarExtentsAreFound → (ss : List Submission) (s : Submission) → (IsFar ss s → ⊥)
     → is_far ss s ≡ false
-not_far far_found ss s near = refuted (is_far ss s) (λ t. near ((far_found ss s).0 t))
+not_far far_found ss s near = never_true (is_far ss s) (λ t. near ((far_found ss s).0 t))
 
 pub kept-ok : FarExtentsAreFound → (ss : List Submission) (s : Submission) → KeepsLimits ss s
-    → kept ss s ≡ Ok (numbered ss s)
-unfolding kept
+    → within_limits ss s ≡ Ok (numbered ss s)
+unfolding within_limits
 kept-ok far_found ss s k = rw (not_far far_found ss s k.near, k.small, k.low, k.room) refl
 
 pub kept-err : FarExtentsAreFound → (ss : List Submission) (s : Submission) (fault : HierFault)
-    → IsRefused ss s fault → Told (fault_of fault) (kept ss s)
-unfolding kept
+    → IsRefused ss s fault → Told (fault_of fault) (within_limits ss s)
+unfolding within_limits
 kept-err far_found ss s hier.Memory why = tt
 kept-err far_found ss s hier.Extent why = rw ((far_found ss s).1 why) refl
 kept-err far_found ss s hier.Shapes why = rw (not_far far_found ss s why.0, why.1) refl

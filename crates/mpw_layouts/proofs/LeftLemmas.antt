@@ -5,15 +5,15 @@ use Rattle.mpw_requests.specs.declared.layouts.LayoutRequest.TheVariants as ask
 use Rattle.mpw_replies.specs.declared.row.Ending.{Ending}
 use Rattle.mpw_replies.specs.Rows.{IsNegative}
 use Rattle.mpw_layouts.specs.Laws.{NegativesLeaveTheShelf}
-use Rattle.mpw_layouts.specs.Layouts.{submitted, shelved}
+use Rattle.mpw_layouts.specs.Layouts.{submit_row, submit_outcome}
 
-left-shelved : (shelf : List Submission) (row : Result Submission Ending)
-    → IsNegative (shelved shelf row).reply → (shelved shelf row).shelf ≡ shelf
-left-shelved shelf (Ok s) told = absurd told
-left-shelved shelf (Err ending) told = refl
+left-submit_outcome : (shelf : List Submission) (row : Result Submission Ending)
+    → IsNegative (submit_outcome shelf row).reply → (submit_outcome shelf row).shelf ≡ shelf
+left-submit_outcome shelf (Ok s) told = absurd told
+left-submit_outcome shelf (Err ending) told = refl
 
 pub negatives-leave : NegativesLeaveTheShelf
-negatives-leave policy shelf conn (ask.Submit cell top text) told =
-    left-shelved shelf (submitted policy shelf conn cell top text) told
-negatives-leave policy shelf conn ask.Cells told = refl
-negatives-leave policy shelf conn (ask.Shapes cell) told = refl
+negatives-leave policy shelf connection (ask.Submit cell top text) told =
+    left-submit_outcome shelf (submit_row policy shelf connection cell top text) told
+negatives-leave policy shelf connection ask.Cells told = refl
+negatives-leave policy shelf connection (ask.Shapes cell) told = refl

@@ -18,7 +18,7 @@ use Rattle.mpw_replies.specs.declared.reply.Reply.TheVariants as reply
 use Rattle.mpw_replies.specs.declared.row.Ending.{Ending}
 use Rattle.mpw_replies.specs.declared.row.Ending.TheVariants as ending
 use Rattle.mpw_layouts.specs.Laws.{IsShapeLine, ShapesAreNoReferences}
-use Rattle.mpw_layouts.specs.Layouts.{readable_shape, shown, shapes, listed}
+use Rattle.mpw_layouts.specs.Layouts.{readable_shape, present_number, shapes, listing_outcome}
 
 abbrev IsOfShape : Item → Type 0
 IsOfShape item = is_shape item.element ≡ true
@@ -26,38 +26,39 @@ IsOfShape item = is_shape item.element ≡ true
 no_lines : All IsShapeLine []
 no_lines = λ k d lt. absurd (omega (arith, lt))
 
-module _ (policy : Policy) (conn : ℕ) where
+module _ (policy : Policy) (connection : ℕ) where
   line_alone : (o : Option Submission) (item : Item) → IsOfShape item
-      → All IsShapeLine (line_if (may_read policy conn) o item)
+      → All IsShapeLine (line_if (may_read policy connection) o item)
   line_alone None item h = no_lines
-  line_alone (Some s) item h = go (may_read policy conn s)
+  line_alone (Some s) item h = go (may_read policy connection s)
     where
       go : (b : Bool) → All IsShapeLine (cond b (shape_line s item ∷ []) [])
       go true = All-cons IsShapeLine (shape_line s item) [] h no_lines
       go false = no_lines
 
   lines_alone : (shelf : List Submission) (items : List Item) → All IsOfShape items
-      → All IsShapeLine (flat_map (readable_shape policy shelf conn) items)
+      → All IsShapeLine (flat_map (readable_shape policy shelf connection) items)
   lines_alone shelf [] h = no_lines
   lines_alone shelf (item ∷ items) h =
-      All-append IsShapeLine (readable_shape policy shelf conn item) _
+      All-append IsShapeLine (readable_shape policy shelf connection item) _
       (line_alone (slice_get shelf item.origin) item (All-head IsOfShape item items h))
       (lines_alone shelf items (All-tail IsOfShape item items h))
 
   row_alone : ((ss : List Submission) (number : ℕ) → All IsOfShape (flat ss number))
       → (shelf : List Submission) (cell : List ℕ) (lines : List Listed)
-      → shapes policy shelf conn cell ≡ Ok lines → All IsShapeLine lines
+      → shapes policy shelf connection cell ≡ Ok lines → All IsShapeLine lines
   unfolding shapes
-  row_alone law shelf cell lines e = go (permitted policy conn Read (objects.Cell cell))
-      (shown (present shelf cell)) e
+  row_alone law shelf cell lines e = go (permitted policy connection Read (objects.Cell cell))
+      (present_number (present shelf cell)) e
     where
       go : (first : Result (Unit {0}) Ending) (second : Result ℕ Ending)
           → ◌>>=◌ first (λ entered. ◌>>=◌ second
-          (λ number. Ok (flat_map (readable_shape policy shelf conn) (flat shelf number))))
+          (λ number. Ok (flat_map (readable_shape policy shelf connection) (flat shelf number))))
           ≡ Ok lines
           → All IsShapeLine lines
       go (Ok entered) (Ok number) is =
-          let same : flat_map (readable_shape policy shelf conn) (flat shelf number) ≡ lines = cc in
+          let same : flat_map (readable_shape policy shelf connection) (flat shelf number) ≡ lines =
+          cc in
           subst (All IsShapeLine) same (lines_alone shelf (flat shelf number) (law shelf number))
       go (Ok entered) (Err told) is = absurd cc
       go (Err told) second is = absurd cc
@@ -68,13 +69,13 @@ never (ending.Refused why) lines e = cc
 
 of_row : (shelf : List Submission) (row : Result (List Listed) Ending) (lines : List Listed)
     → ((found : List Listed) → row ≡ Ok found → All IsShapeLine found)
-    → (listed shelf row).reply ≡ reply.Ok lines → All IsShapeLine lines
+    → (listing_outcome shelf row).reply ≡ reply.Ok lines → All IsShapeLine lines
 of_row shelf (Ok found) lines all e =
     let same : found ≡ lines = cc in subst (All IsShapeLine) same (all found refl)
 of_row shelf (Err told) lines all e = absurd (never told lines e)
 
 pub shapes_alone : ((ss : List Submission) (number : ℕ) → All IsOfShape (flat ss number))
     → ShapesAreNoReferences
-shapes_alone law policy shelf conn cell lines e =
-    of_row shelf (shapes policy shelf conn cell) lines
-    (λ found is. row_alone policy conn law shelf cell found is) e
+shapes_alone law policy shelf connection cell lines e =
+    of_row shelf (shapes policy shelf connection cell) lines
+    (λ found is. row_alone policy connection law shelf cell found is) e

@@ -15,17 +15,18 @@ same_test : (p : Submission → Bool) (o : Option Submission) (item : Item)
 same_test p None item = refl
 same_test p (Some s) item = refl
 
-pub all_readable : (policy : Policy) (shelf : List Submission) (conn : ℕ) (seen : List Bool)
-    (items : List Item) → seen ≡ map (may_read policy conn) shelf
-    → seen_lines shelf seen items ≡ flat_map (readable_shape policy shelf conn) items
+pub all_readable : (policy : Policy) (shelf : List Submission) (connection : ℕ) (seen : List Bool)
+    (items : List Item) → seen ≡ map (may_read policy connection) shelf
+    → seen_lines shelf seen items ≡ flat_map (readable_shape policy shelf connection) items
 unfolding seen_lines
-all_readable policy shelf conn seen [] is = refl
-all_readable policy shelf conn seen (item ∷ items) is =
-    let at = ap (λ xs. slice_get xs item.origin) is ∙ slice_get-map (may_read policy conn) shelf
+all_readable policy shelf connection seen [] is = refl
+all_readable policy shelf connection seen (item ∷ items) is =
+    let at =
+    ap (λ xs. slice_get xs item.origin) is ∙ slice_get-map (may_read policy connection) shelf
     item.origin in
-    let first : seen_line shelf seen item ≡ readable_shape policy shelf conn item =
+    let first : seen_line shelf seen item ≡ readable_shape policy shelf connection item =
     ap (λ o. line_if (λ s. is_seen o) (slice_get shelf item.origin) item) at
-    ∙ same_test (may_read policy conn) (slice_get shelf item.origin) item in
-    let rest = all_readable policy shelf conn seen items is in
+    ∙ same_test (may_read policy connection) (slice_get shelf item.origin) item in
+    let rest = all_readable policy shelf connection seen items is in
     ap (λ ls. ls ++ flat_map (seen_line shelf seen) items) first
-    ∙ ap (λ ls. readable_shape policy shelf conn item ++ ls) rest
+    ∙ ap (λ ls. readable_shape policy shelf connection item ++ ls) rest

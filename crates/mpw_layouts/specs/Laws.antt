@@ -16,24 +16,24 @@ use Rattle.mpw_layouts.specs.Layouts.{outcome_of}
 
 -- A permission that is denied is lacked.
 abbrev pub LayoutsDenyWhatIsLacked : Type 0
-LayoutsDenyWhatIsLacked = (policy : Policy) (shelf : List Submission) (conn : ℕ)
+LayoutsDenyWhatIsLacked = (policy : Policy) (shelf : List Submission) (connection : ℕ)
     (request : LayoutRequest) (operation : Operation) (object : Object)
-    → (outcome_of policy shelf conn request).reply ≡ reply.Denied
-    (denial.Permission operation object) → permits policy conn operation object ≡ false
+    → (outcome_of policy shelf connection request).reply ≡ reply.Denied
+    (denial.Permission operation object) → permits policy connection operation object ≡ false
 
 -- Each line that tells of a cell, or shows a shape of one, is of a cell that the session may read.
 abbrev pub LayoutsAreOfReadable : Type 0
-LayoutsAreOfReadable = (policy : Policy) (shelf : List Submission) (conn : ℕ)
+LayoutsAreOfReadable = (policy : Policy) (shelf : List Submission) (connection : ℕ)
     (request : LayoutRequest) (lines : List Listed)
-    → (outcome_of policy shelf conn request).reply ≡ reply.Ok lines
-    → All (IsOfReadable policy conn) lines
+    → (outcome_of policy shelf connection request).reply ≡ reply.Ok lines
+    → All (IsOfReadable policy connection) lines
 
 -- What is denied or refused leaves the shelf.
 abbrev pub NegativesLeaveTheShelf : Type 0
 NegativesLeaveTheShelf =
-    (policy : Policy) (shelf : List Submission) (conn : ℕ) (request : LayoutRequest)
-    → IsNegative (outcome_of policy shelf conn request).reply
-    → (outcome_of policy shelf conn request).shelf ≡ shelf
+    (policy : Policy) (shelf : List Submission) (connection : ℕ) (request : LayoutRequest)
+    → IsNegative (outcome_of policy shelf connection request).reply
+    → (outcome_of policy shelf connection request).shelf ≡ shelf
 
 -- A line of a shape, which is a boundary or a path.
 abbrev pub IsShapeLine : Listed → Type 0
@@ -46,6 +46,7 @@ IsShapeLine (entry number e) = ⊥
 -- Each line of a reply to `shapes` is of a boundary or of a path.
 abbrev pub ShapesAreNoReferences : Type 0
 ShapesAreNoReferences =
-    (policy : Policy) (shelf : List Submission) (conn : ℕ) (cell : List ℕ) (lines : List Listed)
-    → (outcome_of policy shelf conn (ask.Shapes cell)).reply ≡ reply.Ok lines
+    (policy : Policy) (shelf : List Submission) (connection : ℕ) (cell : List ℕ)
+    (lines : List Listed)
+    → (outcome_of policy shelf connection (ask.Shapes cell)).reply ≡ reply.Ok lines
     → All IsShapeLine lines

@@ -49,19 +49,19 @@ outside library top =
 
 -- each cell may be used
 abbrev pub usable : Policy → ℕ → List Name → Result (Unit {0}) Ending
-usable policy conn [] = Ok tt
-usable policy conn (cell ∷ cells) =
-    if permits policy conn Use (object.Cell cell) then usable policy conn cells
+usable policy connection [] = Ok tt
+usable policy connection (cell ∷ cells) =
+    if permits policy connection Use (object.Cell cell) then usable policy connection cells
     else Err (denied Use (object.Cell cell))
 
 -- each name has a present submission
-abbrev pub bound : Option (List Binding) → Result (List Binding) Ending
-bound None = Err (ending.Refused code.NoCell)
-bound (Some bindings) = Ok bindings
+abbrev pub all_bindings : Option (List Binding) → Result (List Binding) Ending
+all_bindings None = Err (ending.Refused code.NoCell)
+all_bindings (Some bindings) = Ok bindings
 
 -- the limits, and then the submission with its version
-unfoldable pub kept : List Submission → Submission → Result Submission Ending
-kept shelf s =
+unfoldable pub within_limits : List Submission → Submission → Result Submission Ending
+within_limits shelf s =
     decided
     ((not (is_far shelf s), ending.Refused code.Extent)
     ∷ (not (is_too_large shelf s), ending.Refused code.Shapes)
@@ -73,8 +73,8 @@ kept shelf s =
 -- ---- submit
 
 -- a submission that has no version yet
-abbrev pub unnumbered : Name → Name → List Structure → Name → List Binding → Submission
-unnumbered cell submitter library top bindings =
+abbrev pub unnumbered_submission : Name → Name → List Structure → Name → List Binding → Submission
+unnumbered_submission cell submitter library top bindings =
     record {
       cell = cell;
       version = 0;
@@ -87,19 +87,19 @@ unnumbered cell submitter library top bindings =
 -- the submission of a library that was read
 unfoldable pub submitted_library : Policy → List Submission → ℕ → Name → Name → List Structure
     → Result Submission Ending
-submitted_library policy shelf conn cell top library = do
+submitted_library policy shelf connection cell top library = do
   names ← outside library top
-  used ← usable policy conn names
-  bindings ← bound (bound_to shelf names)
-  kept shelf (unnumbered cell (user_of policy conn) library top bindings)
+  used ← usable policy connection names
+  bindings ← all_bindings (bound_to shelf names)
+  within_limits shelf (unnumbered_submission cell (user_of policy connection) library top bindings)
 
 -- the row of `submit`: the submission that a text makes
-unfoldable pub submitted : Policy → List Submission → ℕ → Name → Name → List ℕ
+unfoldable pub submit_row : Policy → List Submission → ℕ → Name → Name → List ℕ
     → Result Submission Ending
-submitted policy shelf conn cell top text = do
-  entered ← permitted policy conn Submit (object.Cell cell)
+submit_row policy shelf connection cell top text = do
+  entered ← permitted policy connection Submit (object.Cell cell)
   library ← read (library_of text)
-  submitted_library policy shelf conn cell top library
+  submitted_library policy shelf connection cell top library
 
 -- ---- cells
 
@@ -121,33 +121,34 @@ present_submission shelf cell = numbered_at shelf (present shelf cell)
 
 -- the line of a cell that the session may read
 abbrev pub readable_line : Policy → List Submission → ℕ → Name → List Line
-readable_line policy shelf conn cell =
-    if permits policy conn Read (object.Cell cell) then cell_line (present_submission shelf cell)
+readable_line policy shelf connection cell =
+    if permits policy connection Read (object.Cell cell)
+    then cell_line (present_submission shelf cell)
     else []
 
 -- the row of `cells`
 abbrev pub cells : Policy → List Submission → ℕ → Result (List Listed) Ending
-cells policy shelf conn = decided (in_session policy conn ∷ [])
-    (map stored (flat_map (readable_line policy shelf conn) (cells_of shelf)))
+cells policy shelf connection = decided (in_session policy connection ∷ [])
+    (map stored (flat_map (readable_line policy shelf connection) (cells_of shelf)))
 
 -- ---- shapes
 
 -- the number of a cell's present submission
-abbrev pub shown : Option ℕ → Result ℕ Ending
-shown None = Err (ending.Refused code.NoCell)
-shown (Some number) = Ok number
+abbrev pub present_number : Option ℕ → Result ℕ Ending
+present_number None = Err (ending.Refused code.NoCell)
+present_number (Some number) = Ok number
 
 -- the line of a shape, if the session may read the cell that the shape comes from
 abbrev pub readable_shape : Policy → List Submission → ℕ → Item → List Listed
-readable_shape policy shelf conn item =
-    line_if (may_read policy conn) (slice_get shelf item.origin) item
+readable_shape policy shelf connection item =
+    line_if (may_read policy connection) (slice_get shelf item.origin) item
 
 -- the row of `shapes`: the shapes of the cell's present submission that come from cells that the session may read
 unfoldable pub shapes : Policy → List Submission → ℕ → Name → Result (List Listed) Ending
-shapes policy shelf conn cell = do
-  entered ← permitted policy conn Read (object.Cell cell)
-  number ← shown (present shelf cell)
-  Ok (flat_map (readable_shape policy shelf conn) (flat shelf number))
+shapes policy shelf connection cell = do
+  entered ← permitted policy connection Read (object.Cell cell)
+  number ← present_number (present shelf cell)
+  Ok (flat_map (readable_shape policy shelf connection) (flat shelf number))
 
 -- ---- what comes of a request
 
@@ -157,24 +158,25 @@ pub record Outcome : Type 0 where
   pub shelf : List Submission
   pub changes : Bool
 
-abbrev pub left : Reply → List Submission → Outcome
-left told shelf = record { reply = told; shelf = shelf; changes = false }
+abbrev pub no_change : Reply → List Submission → Outcome
+no_change told shelf = record { reply = told; shelf = shelf; changes = false }
 
 -- What is submitted goes last on the shelf, and its version is told.
-abbrev pub shelved : List Submission → Result Submission Ending → Outcome
-shelved shelf (Ok s) = record {
+abbrev pub submit_outcome : List Submission → Result Submission Ending → Outcome
+submit_outcome shelf (Ok s) = record {
   reply = reply.Ok (stored (line.Version s.version) ∷ []);
   shelf = shelf ++ s ∷ [];
   changes = true;
 }
-shelved shelf (Err ending) = left (ended_by ending) shelf
+submit_outcome shelf (Err ending) = no_change (ended_by ending) shelf
 
-abbrev pub listed : List Submission → Result (List Listed) Ending → Outcome
-listed shelf row = left (listing_reply row) shelf
+abbrev pub listing_outcome : List Submission → Result (List Listed) Ending → Outcome
+listing_outcome shelf row = no_change (listing_reply row) shelf
 
 -- Each request by its row.
 abbrev pub outcome_of : Policy → List Submission → ℕ → LayoutRequest → Outcome
-outcome_of policy shelf conn (ask.Submit cell top text) =
-    shelved shelf (submitted policy shelf conn cell top text)
-outcome_of policy shelf conn ask.Cells = listed shelf (cells policy shelf conn)
-outcome_of policy shelf conn (ask.Shapes cell) = listed shelf (shapes policy shelf conn cell)
+outcome_of policy shelf connection (ask.Submit cell top text) =
+    submit_outcome shelf (submit_row policy shelf connection cell top text)
+outcome_of policy shelf connection ask.Cells = listing_outcome shelf (cells policy shelf connection)
+outcome_of policy shelf connection (ask.Shapes cell) =
+    listing_outcome shelf (shapes policy shelf connection cell)

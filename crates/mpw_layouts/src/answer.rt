@@ -3,7 +3,7 @@ ghost use Rattle.std.specs.Prelude.{◌≡◌, ◌∷◌, [], List, Result, IfOk
 ghost use Rattle.mpw_hier.specs.declared.submission.Submission.{Submission};
 ghost use Rattle.mpw_layouts.specs.Answers.{Gives};
 ghost use Rattle.mpw_layouts.specs.Internal.Answers.{IsShelved};
-ghost use Rattle.mpw_layouts.specs.Layouts.{outcome_of, shelved};
+ghost use Rattle.mpw_layouts.specs.Layouts.{outcome_of, submit_outcome};
 ghost use Rattle.mpw_replies.specs.Listing.{Listed, stored};
 ghost use Rattle.mpw_replies.specs.Rows.{Answers, Told};
 ghost use Rattle.mpw_replies.specs.declared.row.Ending.{Ending as AnyEnding};
@@ -33,7 +33,7 @@ fn version_line(alloc: Global, version: u32) -> Result<Lines, AllocError>
 
 /// The answer to what submits.
 fn submission(alloc: Global, made: Result<Shelved, Fault>) -> Result<LayoutAnswer, AllocError>
-    ensures { (shelf : List Submission) (row : Result Submission AnyEnding) → IfOk made (λ next. IsShelved shelf row next.shelf next.version) → IfErr made (λ fault. Told fault row) → IfOk result (λ answer. Gives shelf (shelved shelf row) answer) }
+    ensures { (shelf : List Submission) (row : Result Submission AnyEnding) → IfOk made (λ next. IsShelved shelf row next.shelf next.version) → IfErr made (λ fault. Told fault row) → IfOk result (λ answer. Gives shelf (submit_outcome shelf row) answer) }
 {
     match made {
         Ok(next) => {
@@ -58,21 +58,24 @@ pub fn answer_request(
     alloc: Global,
     policy: &Policy,
     shelf: &Shelf,
-    conn: u32,
+    connection: u32,
     request: &LayoutRequest,
 ) -> Result<LayoutAnswer, AllocError>
-    ensures { IfOk result (λ answer. Gives shelf.now (outcome_of policy.now shelf.now conn request.now) answer) }
+    ensures { IfOk result (λ answer. Gives shelf.now (outcome_of policy.now shelf.now connection request.now) answer) }
 {
     match request {
         LayoutRequest::Submit { cell, top, text } => {
-            submission(alloc, submit(alloc, policy, shelf, conn, cell, top, text))
+            submission(
+                alloc,
+                submit(alloc, policy, shelf, connection, cell, top, text),
+            )
         }
         LayoutRequest::Cells => Ok(LayoutAnswer {
-            reply: listing_reply(cells(alloc, policy, shelf, conn))?,
+            reply: listing_reply(cells(alloc, policy, shelf, connection))?,
             next: None,
         }),
         LayoutRequest::Shapes { cell } => Ok(LayoutAnswer {
-            reply: listing_reply(shapes(alloc, policy, shelf, conn, cell))?,
+            reply: listing_reply(shapes(alloc, policy, shelf, connection, cell))?,
             next: None,
         }),
     }

@@ -69,10 +69,10 @@ fn outside(alloc: Global, library: &Library, top: &Name) -> Result<Outline, Faul
 }
 
 /// Whether each cell may be used, the first that may not told.
-fn usable(policy: &Policy, conn: u32, cells: &[Name]) -> Result<(), Fault>
-    ensures { Answers (λ x. x) result (row.usable policy.now conn cells.now) }
+fn usable(policy: &Policy, connection: u32, cells: &[Name]) -> Result<(), Fault>
+    ensures { Answers (λ x. x) result (row.usable policy.now connection cells.now) }
 {
-    let access = policy.access(conn, Operation::Use);
+    let access = policy.access(connection, Operation::Use);
     for cell in cells {
         let object = Object::Cell(cell.copy()?);
         if !access.permits(&object) {
@@ -84,7 +84,7 @@ fn usable(policy: &Policy, conn: u32, cells: &[Name]) -> Result<(), Fault>
 
 /// The present submission of each name.
 fn bind(alloc: Global, shelf: &Shelf, names: &[Name]) -> Result<Bindings, Fault>
-    ensures bound { Answers (λ bindings. bindings) result (row.bound (bound_to shelf.now names.now)) }
+    ensures bound { Answers (λ bindings. bindings) result (row.all_bindings (bound_to shelf.now names.now)) }
     ensures is { IfOk result (λ bindings. bound_to shelf.now names.now ≡ Some bindings) }
 {
     match shelf.bind(alloc, names) {
@@ -101,7 +101,7 @@ pub(crate) struct Shelved {
 }
 
 /// The shelf with one more submission, if that keeps the limits.
-#[tactic(auto, unfolding(crate::specs::Layouts::kept))]
+#[tactic(auto, unfolding(crate::specs::Layouts::within_limits))]
 fn keep(
     alloc: Global,
     shelf: &Shelf,
@@ -111,8 +111,8 @@ fn keep(
     requires library { IsLibrary submission.library }
     requires outline { IsOutline submission.library submission.top outline.now }
     requires bound { bound_to shelf.now outline.now.names ≡ Some submission.bound }
-    ensures ok { IfOk result (λ next. IsShelved shelf.now (row.kept shelf.now submission) next.shelf next.version) }
-    ensures err { IfErr result (λ fault. Told fault (row.kept shelf.now submission)) }
+    ensures ok { IfOk result (λ next. IsShelved shelf.now (row.within_limits shelf.now submission) next.shelf next.version) }
+    ensures err { IfErr result (λ fault. Told fault (row.within_limits shelf.now submission)) }
 {
     reaching_is_decided();
     let mut shelf = shelf.copy(alloc)?;
@@ -150,16 +150,16 @@ fn submit_library(
     alloc: Global,
     policy: &Policy,
     shelf: &Shelf,
-    conn: u32,
+    connection: u32,
     offer: Offer,
 ) -> Result<Shelved, Fault>
     requires library { IsLibrary offer.library }
-    requires submitter { offer.submitter ≡ user_of policy.now conn }
-    ensures ok { IfOk result (λ next. IsShelved shelf.now (row.submitted_library policy.now shelf.now conn offer.cell offer.top offer.library) next.shelf next.version) }
-    ensures err { IfErr result (λ fault. Told fault (row.submitted_library policy.now shelf.now conn offer.cell offer.top offer.library)) }
+    requires submitter { offer.submitter ≡ user_of policy.now connection }
+    ensures ok { IfOk result (λ next. IsShelved shelf.now (row.submitted_library policy.now shelf.now connection offer.cell offer.top offer.library) next.shelf next.version) }
+    ensures err { IfErr result (λ fault. Told fault (row.submitted_library policy.now shelf.now connection offer.cell offer.top offer.library)) }
 {
     let outline = outside(alloc, &offer.library, &offer.top)?;
-    usable(policy, conn, outline.names.as_slice())?;
+    usable(policy, connection, outline.names.as_slice())?;
     let bound = bind(alloc, shelf, outline.names.as_slice())?;
     let Offer {
         cell,
@@ -180,20 +180,25 @@ fn submit_library(
 
 /// The shelf with the submission that a text makes. It takes the library's size, with a search for each name, and
 /// the number of submissions, which are shared.
-#[tactic(auto, unfolding(crate::specs::Layouts::submitted))]
+#[tactic(auto, unfolding(crate::specs::Layouts::submit_row))]
 pub(crate) fn submit(
     alloc: Global,
     policy: &Policy,
     shelf: &Shelf,
-    conn: u32,
+    connection: u32,
     cell: &Name,
     top: &Name,
     text: &LibraryText,
 ) -> Result<Shelved, Fault>
-    ensures ok { IfOk result (λ next. IsShelved shelf.now (row.submitted policy.now shelf.now conn cell.now top.now text.now) next.shelf next.version) }
-    ensures err { IfErr result (λ fault. Told fault (row.submitted policy.now shelf.now conn cell.now top.now text.now)) }
+    ensures ok { IfOk result (λ next. IsShelved shelf.now (row.submit_row policy.now shelf.now connection cell.now top.now text.now) next.shelf next.version) }
+    ensures err { IfErr result (λ fault. Told fault (row.submit_row policy.now shelf.now connection cell.now top.now text.now)) }
 {
-    let submitter = enter(policy, conn, Operation::Submit, Object::Cell(cell.copy()?))?;
+    let submitter = enter(
+        policy,
+        connection,
+        Operation::Submit,
+        Object::Cell(cell.copy()?),
+    )?;
     let library = read(alloc, text)?;
     let cell = cell.copy()?;
     let top = top.copy()?;
@@ -201,7 +206,7 @@ pub(crate) fn submit(
         alloc,
         policy,
         shelf,
-        conn,
+        connection,
         Offer {
             cell,
             submitter,
@@ -243,13 +248,13 @@ fn cell_lines(
     alloc: Global,
     policy: &Policy,
     shelf: &Shelf,
-    conn: u32,
+    connection: u32,
     cells: &[Name],
 ) -> Result<Lines, AllocError>
-    ensures { IfOk result (λ lines. lines ≡ map stored (flat_map (row.readable_line policy.now shelf.now conn) cells.now)) }
+    ensures { IfOk result (λ lines. lines ≡ map stored (flat_map (row.readable_line policy.now shelf.now connection) cells.now)) }
 {
     let mut lines = Vec::new(alloc);
-    let access = policy.access(conn, Operation::Read);
+    let access = policy.access(connection, Operation::Read);
     for cell in cells {
         push_cell(&mut lines, &access, shelf, cell)?;
     }
@@ -261,20 +266,20 @@ pub(crate) fn cells(
     alloc: Global,
     policy: &Policy,
     shelf: &Shelf,
-    conn: u32,
+    connection: u32,
 ) -> Result<Lines, Fault>
-    ensures { Answers (λ lines. lines) result (row.cells policy.now shelf.now conn) }
+    ensures { Answers (λ lines. lines) result (row.cells policy.now shelf.now connection) }
 {
-    if !policy.has_session(conn) {
+    if !policy.has_session(connection) {
         return Err(Fault::Told(Ending::Denied(Denial::Session)));
     }
     let cells = shelf.cells(alloc)?;
-    Ok(cell_lines(alloc, policy, shelf, conn, cells.as_slice())?)
+    Ok(cell_lines(alloc, policy, shelf, connection, cells.as_slice())?)
 }
 
 /// The number of the present submission of a cell.
-fn shown(shelf: &Shelf, cell: &Name) -> Result<u32, Fault>
-    ensures shown { Answers (λ number. number) result (row.shown (present shelf.now cell.now)) }
+fn present_number(shelf: &Shelf, cell: &Name) -> Result<u32, Fault>
+    ensures shown { Answers (λ number. number) result (row.present_number (present shelf.now cell.now)) }
     ensures within { IfOk result (λ number. number < length shelf.now) }
 {
     shelves_have_their_numbers();
@@ -290,13 +295,18 @@ pub(crate) fn shapes(
     alloc: Global,
     policy: &Policy,
     shelf: &Shelf,
-    conn: u32,
+    connection: u32,
     cell: &Name,
 ) -> Result<Lines, Fault>
-    ensures { Answers (λ lines. lines) result (row.shapes policy.now shelf.now conn cell.now) }
+    ensures { Answers (λ lines. lines) result (row.shapes policy.now shelf.now connection cell.now) }
 {
-    enter(policy, conn, Operation::Read, Object::Cell(cell.copy()?))?;
-    let number = shown(shelf, cell)?;
-    let listing = shapes_of(alloc, policy, shelf, conn, number)?;
+    enter(
+        policy,
+        connection,
+        Operation::Read,
+        Object::Cell(cell.copy()?),
+    )?;
+    let number = present_number(shelf, cell)?;
+    let listing = shapes_of(alloc, policy, shelf, connection, number)?;
     Ok(Lines::of_shapes(alloc, listing)?)
 }

@@ -18,12 +18,12 @@ pub(crate) fn shapes_of(
     alloc: Global,
     policy: &Policy,
     shelf: &Shelf,
-    conn: u32,
+    connection: u32,
     number: u32,
 ) -> Result<ShapeListing, AllocError>
     requires { number < length shelf.now }
-    ensures { IfOk result (λ listing. listing ≡ flat_map (readable_shape policy.now shelf.now conn) (flat shelf.now number)) }
+    ensures { IfOk result (λ listing. listing ≡ flat_map (readable_shape policy.now shelf.now connection) (flat shelf.now number)) }
 {
-    let seen = seen_by(alloc, policy, conn, shelf.submissions())?;
+    let seen = seen_by(alloc, policy, connection, shelf.submissions())?;
     Ok(ShapeListing::new(shelf.copy(alloc)?, number, seen))
 }

@@ -11,7 +11,7 @@ use Rattle.mpw_placings.specs.declared.fault.PlacingFault.{PlacingFault}
 use Rattle.mpw_placings.specs.declared.fault.PlacingFault.TheVariants.{Known, Extent, Shapes, Full, Unknown}
 use Rattle.mpw_placings.specs.declared.placement.Placement.{Placement}
 use Rattle.mpw_placings.specs.Placements.{is_at, is_taken, is_far, shape_count}
-use Rattle.mpw_placings.specs.Rows.{refusal, behind, placed_root, placed_number, placed, unplaced}
+use Rattle.mpw_placings.specs.Rows.{refusal, behind, placed_root, placed_number, placings_with, placings_without}
 
 abbrev pub placement_of : List ℕ → List ℕ → Placing → ℕ → Placement
 placement_of cell label placing number =
@@ -61,9 +61,9 @@ root_is ss ps after cell label placing number is e =
     }
 
 pub placed_is : (ss : List Submission) (ps after : List Placement) (cell label : List ℕ)
-    (placing : Placing) → placed ss ps cell label placing ≡ Ok after
+    (placing : Placing) → placings_with ss ps cell label placing ≡ Ok after
     → IsPlaced ss ps after cell label placing
-unfolding placed
+unfolding placings_with
 placed_is ss ps after cell label placing e = go (present ss cell) refl e
   where
     go : (o : Option ℕ) → present ss cell ≡ o → placed_number ss ps cell label placing o ≡ Ok after
@@ -73,8 +73,8 @@ placed_is ss ps after cell label placing e = go (present ss cell) refl e
 
 -- and so of what was taken away
 pub unplaced_is : (ps after : List Placement) (cell label : List ℕ)
-    → unplaced ps cell label ≡ Ok after → after ≡ filter (λ p. not (is_at cell label p)) ps
-unfolding unplaced
+    → placings_without ps cell label ≡ Ok after → after ≡ filter (λ p. not (is_at cell label p)) ps
+unfolding placings_without
 unplaced_is ps after cell label e = go (is_taken ps cell label) e
   where
     go : (t : Bool) → (if t then Ok (filter (λ p. not (is_at cell label p)) ps) else Err Unknown)

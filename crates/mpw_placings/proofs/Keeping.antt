@@ -20,7 +20,7 @@ use Rattle.mpw_walk.specs.Walk.{IsRoot}
 use Rattle.mpw_tiles.specs.Snapshots.{AreRoots}
 use Rattle.mpw_placings.specs.declared.placement.Placement.{Placement}
 use Rattle.mpw_placings.specs.Placements.{is_at, roots_of, shape_count, DifferInName, IsOfItsCell, ArePlacings}
-use Rattle.mpw_placings.specs.Rows.{placed, unplaced}
+use Rattle.mpw_placings.specs.Rows.{placings_with, placings_without}
 use Rattle.mpw_placings.proofs.Inverted.{placement_of, IsPlaced, placed_is, unplaced_is}
 use Rattle.mpw_placings.proofs.Tests.{root_from_test, apart_from_all}
 
@@ -91,7 +91,7 @@ place_more ss ps after cell label placing present_are kept is =
 
 pub place_kept : PresentAreOfTheirCell
     → (ss : List Submission) (ps after : List Placement) (cell label : List ℕ) (placing : Placing)
-    → ArePlacings ss ps → placed ss ps cell label placing ≡ Ok after → ArePlacings ss after
+    → ArePlacings ss ps → placings_with ss ps cell label placing ≡ Ok after → ArePlacings ss after
 place_kept present_are ss ps after cell label placing kept e =
     let is = placed_is ss ps after cell label placing e in
     subst (ArePlacings ss) (sym is.all)
@@ -124,7 +124,7 @@ filter_kept ss ps keep kept =
     }
 
 pub unplace_kept : (ss : List Submission) (ps after : List Placement) (cell label : List ℕ)
-    → ArePlacings ss ps → unplaced ps cell label ≡ Ok after → ArePlacings ss after
+    → ArePlacings ss ps → placings_without ps cell label ≡ Ok after → ArePlacings ss after
 unplace_kept ss ps after cell label kept e =
     subst (ArePlacings ss) (sym (unplaced_is ps after cell label e))
     (filter_kept ss ps (λ p. not (is_at cell label p)) kept)

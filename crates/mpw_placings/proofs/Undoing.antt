@@ -10,7 +10,7 @@ use Rattle.mpw_hier.specs.Shelved.{PresentAreOfTheirCell}
 use Rattle.mpw_placings.specs.declared.placement.Placement.{Placement}
 use Rattle.mpw_placings.specs.Placements.{is_at, is_taken, version_of, version_placed, version_at}
 use Rattle.mpw_placings.specs.Laws.{HasVersion}
-use Rattle.mpw_placings.specs.Rows.{placed, unplaced}
+use Rattle.mpw_placings.specs.Rows.{placings_with, placings_without}
 use Rattle.mpw_placings.proofs.Inverted.{placement_of, placed_is}
 use Rattle.mpw_placings.proofs.Tests.{is_at_itself}
 
@@ -63,18 +63,18 @@ last_found p xs x none is =
 
 last_taken : (ps : List Placement) (p : Placement) (cell label : List ℕ)
     → is_taken ps cell label ≡ false → is_at cell label p ≡ true
-    → unplaced (ps ++ p ∷ []) cell label ≡ Ok ps
-unfolding unplaced
+    → placings_without (ps ++ p ∷ []) cell label ≡ Ok ps
+unfolding placings_without
 last_taken ps p cell label new at =
     rw (any_last (is_at cell label) ps p at, others_left (is_at cell label) ps p new at) refl
 
 pub undone : (ss : List Submission) (ps after : List Placement) (cell label : List ℕ)
-    (placing : Placing) → placed ss ps cell label placing ≡ Ok after
-    → unplaced after cell label ≡ Ok ps
+    (placing : Placing) → placings_with ss ps cell label placing ≡ Ok after
+    → placings_without after cell label ≡ Ok ps
 undone ss ps after cell label placing e =
     let is = placed_is ss ps after cell label placing e in
     let p : Placement = placement_of cell label placing is.number in
-    subst (λ (all : List Placement). unplaced all cell label ≡ Ok ps) (sym is.all)
+    subst (λ (all : List Placement). placings_without all cell label ≡ Ok ps) (sym is.all)
     (last_taken ps p cell label is.new (is_at_itself cell label p refl refl))
 
 version_is : (ss : List Submission) (ps : List Placement) (p : Placement) (s : Submission)
@@ -83,10 +83,10 @@ version_is : (ss : List Submission) (ps : List Placement) (p : Placement) (s : S
 unfolding version_at
 version_is ss ps p s cell label found at = ap (version_placed ss) found ∙ ap version_of at
 
-pub versioned : PresentAreOfTheirCell
+pub place_gives_version : PresentAreOfTheirCell
     → (ss : List Submission) (ps after : List Placement) (cell label : List ℕ) (placing : Placing)
-    → placed ss ps cell label placing ≡ Ok after → HasVersion ss after cell label
-versioned present_are ss ps after cell label placing e =
+    → placings_with ss ps cell label placing ≡ Ok after → HasVersion ss after cell label
+place_gives_version present_are ss ps after cell label placing e =
     let is = placed_is ss ps after cell label placing e in
     let p : Placement = placement_of cell label placing is.number in
     let of = present_are ss cell is.number is.is in

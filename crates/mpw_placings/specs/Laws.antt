@@ -6,7 +6,7 @@ use Rattle.mpw_hier.specs.Shelf.{present}
 use Rattle.mpw_walk.specs.Turns.{flat_roots}
 use Rattle.mpw_placings.specs.declared.placement.Placement.{Placement}
 use Rattle.mpw_placings.specs.Placements.{roots_of, version_at, ArePlacings}
-use Rattle.mpw_placings.specs.Rows.{placed, unplaced}
+use Rattle.mpw_placings.specs.Rows.{placings_with, placings_without}
 
 -- ---- what is true of placings stays so
 
@@ -16,12 +16,12 @@ NoneArePlacings = (ss : List Submission) → ArePlacings ss []
 abbrev pub PlacingKeeps : Type 0
 PlacingKeeps =
     (ss : List Submission) (ps after : List Placement) (cell label : List ℕ) (placing : Placing)
-    → ArePlacings ss ps → placed ss ps cell label placing ≡ Ok after → ArePlacings ss after
+    → ArePlacings ss ps → placings_with ss ps cell label placing ≡ Ok after → ArePlacings ss after
 
 abbrev pub UnplacingKeeps : Type 0
 UnplacingKeeps =
     (ss : List Submission) (ps after : List Placement) (cell label : List ℕ)
-    → ArePlacings ss ps → unplaced ps cell label ≡ Ok after → ArePlacings ss after
+    → ArePlacings ss ps → placings_without ps cell label ≡ Ok after → ArePlacings ss after
 
 abbrev pub LaterShelvesKeep : Type 0
 LaterShelvesKeep =
@@ -40,7 +40,7 @@ PlacedAreShownAgain =
 abbrev pub UnplacingUndoes : Type 0
 UnplacingUndoes =
     (ss : List Submission) (ps after : List Placement) (cell label : List ℕ) (placing : Placing)
-    → placed ss ps cell label placing ≡ Ok after → unplaced after cell label ≡ Ok ps
+    → placings_with ss ps cell label placing ≡ Ok after → placings_without after cell label ≡ Ok ps
 
 -- The version of what was placed is that of the cell's present submission, which is there.
 pub record HasVersion (ss : List Submission) (ps : List Placement) (cell label : List ℕ) :
@@ -54,4 +54,4 @@ pub record HasVersion (ss : List Submission) (ps : List Placement) (cell label :
 abbrev pub VersionIsTold : Type 0
 VersionIsTold =
     (ss : List Submission) (ps after : List Placement) (cell label : List ℕ) (placing : Placing)
-    → placed ss ps cell label placing ≡ Ok after → HasVersion ss after cell label
+    → placings_with ss ps cell label placing ≡ Ok after → HasVersion ss after cell label

@@ -39,13 +39,14 @@ placed_number ss ps cell label placing (Some number) =
     placed_root ss ps cell label (record { submission = number; placing = placing })
 
 -- The placings with the present submission of the cell placed under that label.
-unfoldable pub placed : List Submission → List Placement → List ℕ → List ℕ → Placing
+unfoldable pub placings_with : List Submission → List Placement → List ℕ → List ℕ → Placing
     → Result (List Placement) PlacingFault
-placed ss ps cell label placing = placed_number ss ps cell label placing (present ss cell)
+placings_with ss ps cell label placing = placed_number ss ps cell label placing (present ss cell)
 
 -- The placings without the one of that cell and label.
-unfoldable pub unplaced : List Placement → List ℕ → List ℕ → Result (List Placement) PlacingFault
-unplaced ps cell label =
+unfoldable pub placings_without : List Placement → List ℕ → List ℕ
+    → Result (List Placement) PlacingFault
+placings_without ps cell label =
     if is_taken ps cell label then Ok (filter (λ p. not (is_at cell label p)) ps) else Err Unknown
 
 -- What a change gives is what its row tells, unless memory ran out.

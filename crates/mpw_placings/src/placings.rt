@@ -3,7 +3,7 @@
 ghost use Rattle.std.specs.Prelude.{◌≡◌, ◌<◌, ◌≤◌, ◌++◌, ◌∷◌, [], length, filter, not, IfOk, option_copied};
 ghost use Rattle.std.specs.List.{find};
 ghost use Rattle.mpw_placings.specs.Placements.{is_at, roots_of, version_at};
-ghost use Rattle.mpw_placings.specs.Rows.{refusal, placed, unplaced, GivesPlacements};
+ghost use Rattle.mpw_placings.specs.Rows.{refusal, placings_with, placings_without, GivesPlacements};
 
 use crate::fault::PlacingFault;
 use crate::limits::{is_far, is_taken, shape_count};
@@ -146,7 +146,7 @@ impl Placings {
     /// label, `Extent` where what it shows would reach beyond -2^30 to 2^30 nm, `Shapes` where all placings
     /// together would show more than 2^20 flat shapes, `Full` where there are 4096 placings; or want of
     /// memory.
-    #[tactic(auto, unfolding(crate::specs::Rows::placed))]
+    #[tactic(auto, unfolding(crate::specs::Rows::placings_with))]
     pub fn place(
         &self,
         alloc: Global,
@@ -155,7 +155,7 @@ impl Placings {
         label: &Name,
         placing: Placing,
     ) -> Result<Placings, PlacingFault>
-        ensures { GivesPlacements result (placed shelf.now self.now cell.now label.now placing) }
+        ensures { GivesPlacements result (placings_with shelf.now self.now cell.now label.now placing) }
     {
         shelves_have_their_numbers();
         let Some(submission) = shelf.present(cell) else {
@@ -182,14 +182,14 @@ impl Placings {
     ///
     /// # Errors
     /// `Unknown` where there is no such placing, or want of memory.
-    #[tactic(auto, unfolding(crate::specs::Rows::unplaced))]
+    #[tactic(auto, unfolding(crate::specs::Rows::placings_without))]
     pub fn unplace(
         &self,
         alloc: Global,
         cell: &Name,
         label: &Name,
     ) -> Result<Placings, PlacingFault>
-        ensures { GivesPlacements result (unplaced self.now cell.now label.now) }
+        ensures { GivesPlacements result (placings_without self.now cell.now label.now) }
     {
         let placements = self.as_slice();
         if !is_taken(placements, cell, label) {

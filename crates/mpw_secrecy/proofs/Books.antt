@@ -1,9 +1,10 @@
 -- `status`, `markers` and `waivers` are told by the view.
-use Rattle.std.proofs.Common.{◌≡◌, ◌∙◌, ℕ, ◌+◌, Bool, true, false, cond, List, [], ◌∷◌, ◌++◌, map, slice_get, Option, None, Some, Result, Ok, Err, is_some, refl, sym, ap}
+use Rattle.std.proofs.Common.{◌≡◌, ◌∙◌, ℕ, suc, ◌+◌, Bool, true, false, cond, nat_lt, not, length, List, [], ◌∷◌, ◌++◌, map, slice_get, Option, None, Some, Result, Ok, Err, is_some, refl, sym, ap}
 use Rattle.std.specs.Prelude.{option_map}
-use Rattle.std.specs.List.{flat_map}
+use Rattle.std.specs.List.{flat_map, position, position_or_len}
 use Rattle.std.proofs.lemmas.Grind.{flat_map-append}
 use Rattle.std.proofs.lemmas.Option.{slice_get-map}
+use Rattle.mpw_geom.specs.Names.{name_eq}
 use Rattle.mpw_deck.specs.declared.rule.Rule.{Rule}
 use Rattle.mpw_hier.specs.declared.submission.Submission.{Submission}
 use Rattle.mpw_markers.specs.declared.marker.Key.{Key}
@@ -27,6 +28,7 @@ use Rattle.mpw_run.specs.declared.phase.Phase.TheVariants.{Idle, Cutting, Checki
 use Rattle.mpw_checking.specs.Checking as checking
 use Rattle.mpw_waiver.specs.declared.waiver.Waiver.{Waiver}
 use Rattle.mpw_waiver.specs.Waivers.{waiver_at}
+use Rattle.mpw_signoff.specs.Named.{rule_place}
 use Rattle.mpw_signoff.specs.SigningOff as signing
 use Rattle.mpw_signoff.specs.WaiverLines.{waiver_line, rule_line, marker_line, shown_line, lines_from}
 use Rattle.mpw_core.specs.Step.{State}
@@ -48,23 +50,24 @@ phase_by number (Cutting planned) = refl
 phase_by number (Checking c) = refl
 phase_by number (Finished f) = refl
 
-same_inside : (conn : ℕ) (a b : State) → SameView conn a b
-    → inside (is_some (session_of a.policy conn)) ≡ inside (is_some (session_of b.policy conn))
-same_inside conn a b same = ap inside (same_session conn a b same)
+same_inside : (connection : ℕ) (a b : State) → SameView connection a b
+    → inside (is_some (session_of a.policy connection))
+    ≡ inside (is_some (session_of b.policy connection))
+same_inside connection a b same = ap inside (same_session connection a b same)
 
-pub status_alike : (conn : ℕ) (a b : State) → SameView conn a b
-    → checking.status a.policy a.run conn ≡ checking.status b.policy b.run conn
+pub status_alike : (connection : ℕ) (a b : State) → SameView connection a b
+    → checking.status a.policy a.run connection ≡ checking.status b.policy b.run connection
 unfolding checking.status
-status_alike conn a b same =
-    same_behind (inside (is_some (session_of a.policy conn)))
-    (inside (is_some (session_of b.policy conn)))
+status_alike connection a b same =
+    same_behind (inside (is_some (session_of a.policy connection)))
+    (inside (is_some (session_of b.policy connection)))
     (λ entered. Ok (stored (checking.phase_line a.run.number a.run.phase) ∷ []))
     (λ entered. Ok (stored (checking.phase_line b.run.number b.run.phase) ∷ []))
-    (same_inside conn a b same)
+    (same_inside connection a b same)
     (λ entered is.
     let told = phase_by a.run.number a.run.phase
     ∙ ap (λ (r : RunSeen). stage_line r.number r.stage)
-    ((same.sight (inside_tells (is_some (session_of a.policy conn)) entered is)).run)
+    ((same.sight (inside_tells (is_some (session_of a.policy connection)) entered is)).run)
     ∙ sym (phase_by b.run.number b.run.phase) in
     ap (λ l. Ok (stored l ∷ [])) told)
 
@@ -162,14 +165,15 @@ names_in book = map (λ (rule : RuleSeen). rule.name) book.rules
 abbrev book_told : BookSeen → List Listed
 book_told book = flat_map (told_in (names_in book)) book.markers ++ flat_map rule_told book.rules
 
-checked_by : (policy : Policy) (conn : ℕ) (waivers : List (Option Waiver)) (f : Checked)
-    → checking.checked_lines policy conn f ≡ book_told (checked_view policy conn waivers f)
-checked_by policy conn waivers f =
+checked_by : (policy : Policy) (connection : ℕ) (waivers : List (Option Waiver)) (f : Checked)
+    → checking.checked_lines policy connection f
+    ≡ book_told (checked_view policy connection waivers f)
+checked_by policy connection waivers f =
     let rules = f.planned.snapshot.deck.rules in
     let shelf = f.planned.snapshot.shelf in
-    let seen = seen_by policy conn shelf in
-    let markers = markers_seen shelf seen (user_of policy conn) waivers 0 f.book in
-    (λ i. full_from rules shelf seen (user_of policy conn) waivers 0 f.book i
+    let seen = seen_by policy connection shelf in
+    let markers = markers_seen shelf seen (user_of policy connection) waivers 0 f.book in
+    (λ i. full_from rules shelf seen (user_of policy connection) waivers 0 f.book i
     ++ masked_from seen f.book 0 rules i)
     ∙ ap (λ names. flat_map (told_in names) markers
     ++ flat_map rule_told (rules_seen seen f.book 0 rules)) (names_from seen f.book 0 rules)
@@ -179,29 +183,31 @@ abbrev book_row : Option BookSeen → Result (List Listed) Ending
 book_row None = Err (ending.Refused code.NotFinished)
 book_row (Some book) = Ok (book_told book)
 
-markers_by : (policy : Policy) (conn : ℕ) (waivers : List (Option Waiver)) (phase : Phase)
-    → (checking.finished phase >>= (λ f. Ok (checking.checked_lines policy conn f)))
-    ≡ book_row (book_view policy conn waivers phase)
-markers_by policy conn waivers Idle = refl
-markers_by policy conn waivers (Cutting planned) = refl
-markers_by policy conn waivers (Checking c) = refl
-markers_by policy conn waivers (Finished f) = ap (λ l. Ok l) (checked_by policy conn waivers f)
+markers_by : (policy : Policy) (connection : ℕ) (waivers : List (Option Waiver)) (phase : Phase)
+    → (checking.finished_run phase >>= (λ f. Ok (checking.checked_lines policy connection f)))
+    ≡ book_row (book_view policy connection waivers phase)
+markers_by policy connection waivers Idle = refl
+markers_by policy connection waivers (Cutting planned) = refl
+markers_by policy connection waivers (Checking c) = refl
+markers_by policy connection waivers (Finished f) =
+    ap (λ l. Ok l) (checked_by policy connection waivers f)
 
-pub markers_alike : (conn : ℕ) (a b : State) → SameView conn a b
-    → checking.markers a.policy a.run conn ≡ checking.markers b.policy b.run conn
+pub markers_alike : (connection : ℕ) (a b : State) → SameView connection a b
+    → checking.markers a.policy a.run connection ≡ checking.markers b.policy b.run connection
 unfolding checking.markers
-markers_alike conn a b same =
-    same_behind (inside (is_some (session_of a.policy conn)))
-    (inside (is_some (session_of b.policy conn)))
-    (λ entered. checking.finished a.run.phase
-    >>= (λ f. Ok (checking.checked_lines a.policy conn f)))
-    (λ entered. checking.finished b.run.phase
-    >>= (λ f. Ok (checking.checked_lines b.policy conn f)))
-    (same_inside conn a b same)
+markers_alike connection a b same =
+    same_behind (inside (is_some (session_of a.policy connection)))
+    (inside (is_some (session_of b.policy connection)))
+    (λ entered. checking.finished_run a.run.phase
+    >>= (λ f. Ok (checking.checked_lines a.policy connection f)))
+    (λ entered. checking.finished_run b.run.phase
+    >>= (λ f. Ok (checking.checked_lines b.policy connection f)))
+    (same_inside connection a b same)
     (λ entered is.
-    markers_by a.policy conn a.waivers a.run.phase
-    ∙ ap book_row ((same.sight (inside_tells (is_some (session_of a.policy conn)) entered is)).book)
-    ∙ sym (markers_by b.policy conn b.waivers b.run.phase))
+    markers_by a.policy connection a.waivers a.run.phase
+    ∙ ap book_row ((same.sight (inside_tells (is_some (session_of a.policy connection)) entered
+    is)).book)
+    ∙ sym (markers_by b.policy connection b.waivers b.run.phase))
 
 -- ---- waivers
 
@@ -268,37 +274,54 @@ abbrev waivers_row : Option BookSeen → Result (List Listed) Ending
 waivers_row None = Err (ending.Refused code.NotFinished)
 waivers_row (Some book) = Ok (map stored (waivers_of book))
 
-waivers_by : (policy : Policy) (conn : ℕ) (waivers : List (Option Waiver)) (phase : Phase)
-    → (signing.finished phase >>= (λ f. Ok
-    (map stored (signing.waiver_lines policy conn f waivers)))) ≡ waivers_row
-    (book_view policy conn waivers phase)
-waivers_by policy conn waivers Idle = refl
-waivers_by policy conn waivers (Cutting planned) = refl
-waivers_by policy conn waivers (Checking c) = refl
-waivers_by policy conn waivers (Finished f) =
+waivers_by : (policy : Policy) (connection : ℕ) (waivers : List (Option Waiver)) (phase : Phase)
+    → (signing.finished_run phase >>= (λ f. Ok
+    (map stored (signing.waiver_lines policy connection f waivers)))) ≡ waivers_row
+    (book_view policy connection waivers phase)
+waivers_by policy connection waivers Idle = refl
+waivers_by policy connection waivers (Cutting planned) = refl
+waivers_by policy connection waivers (Checking c) = refl
+waivers_by policy connection waivers (Finished f) =
     let rules = f.planned.snapshot.deck.rules in
     let shelf = f.planned.snapshot.shelf in
-    let seen = seen_by policy conn shelf in
+    let seen = seen_by policy connection shelf in
     ap (λ l. Ok (map stored l))
-    (waivers_from rules shelf seen (user_of policy conn) waivers 0 f.book
+    (waivers_from rules shelf seen (user_of policy connection) waivers 0 f.book
     ∙ ap (λ names. flat_map (waiver_in names)
-    (markers_seen shelf seen (user_of policy conn) waivers 0 f.book))
+    (markers_seen shelf seen (user_of policy connection) waivers 0 f.book))
     (names_from seen f.book 0 rules))
 
-pub waivers_alike : (conn : ℕ) (a b : State) → SameView conn a b
-    → signing.waivers_row a.policy a.run a.waivers conn ≡ signing.waivers_row b.policy b.run
-    b.waivers conn
+pub waivers_alike : (connection : ℕ) (a b : State) → SameView connection a b
+    → signing.waivers_row a.policy a.run a.waivers connection ≡ signing.waivers_row b.policy b.run
+    b.waivers connection
 unfolding signing.waivers_row
-waivers_alike conn a b same =
-    same_behind (inside (is_some (session_of a.policy conn)))
-    (inside (is_some (session_of b.policy conn)))
-    (λ entered. signing.finished a.run.phase
-    >>= (λ f. Ok (map stored (signing.waiver_lines a.policy conn f a.waivers))))
-    (λ entered. signing.finished b.run.phase
-    >>= (λ f. Ok (map stored (signing.waiver_lines b.policy conn f b.waivers))))
-    (same_inside conn a b same)
+waivers_alike connection a b same =
+    same_behind (inside (is_some (session_of a.policy connection)))
+    (inside (is_some (session_of b.policy connection)))
+    (λ entered. signing.finished_run a.run.phase
+    >>= (λ f. Ok (map stored (signing.waiver_lines a.policy connection f a.waivers))))
+    (λ entered. signing.finished_run b.run.phase
+    >>= (λ f. Ok (map stored (signing.waiver_lines b.policy connection f b.waivers))))
+    (same_inside connection a b same)
     (λ entered is.
-    waivers_by a.policy conn a.waivers a.run.phase
-    ∙ ap waivers_row ((same.sight (inside_tells (is_some (session_of a.policy conn)) entered
+    waivers_by a.policy connection a.waivers a.run.phase
+    ∙ ap waivers_row ((same.sight (inside_tells (is_some (session_of a.policy connection)) entered
     is)).book)
-    ∙ sym (waivers_by b.policy conn b.waivers b.run.phase))
+    ∙ sym (waivers_by b.policy connection b.waivers b.run.phase))
+
+-- ---- the rule of a name
+
+before_of : (rules : List Rule) (nm : Name) → position_or_len (λ n. name_eq n nm) (names_of rules)
+    ≡ position_or_len (λ (rule : Rule). name_eq rule.name nm) rules
+before_of [] nm = refl
+before_of (rule ∷ rules) nm =
+    ap (λ n. cond (not (name_eq rule.name nm)) (1 + n) 0) (before_of rules nm)
+
+many_of : (rules : List Rule) → length (names_of rules) ≡ length rules
+many_of [] = refl
+many_of (rule ∷ rules) = ap suc (many_of rules)
+
+pub rule_by_name : (rules : List Rule) (nm : Name)
+    → position (λ n. name_eq n nm) (names_of rules) ≡ rule_place rules nm
+rule_by_name rules nm =
+    λ i. cond (nat_lt (before_of rules nm i) (many_of rules i)) (Some (before_of rules nm i)) None

@@ -23,7 +23,7 @@ use Rattle.mpw_replies.specs.declared.reply.Line.{Line}
 use Rattle.mpw_replies.specs.declared.reply.Line.TheVariants as line
 use Rattle.mpw_replies.specs.declared.row.Ending.{Ending}
 use Rattle.mpw_replies.specs.declared.row.Ending.TheVariants as ending
-use Rattle.mpw_layouts.specs.Layouts.{cell_line, cells, cells_of, numbered_at, present_submission, readable_line, readable_shape, shapes, shown}
+use Rattle.mpw_layouts.specs.Layouts.{cell_line, cells, cells_of, numbered_at, present_submission, readable_line, readable_shape, shapes, present_number}
 use Rattle.mpw_core.specs.Step.{State}
 use Rattle.mpw_secrecy.specs.Views.{CellSeen, ShapeSeen, SameView, shape_of, shape_seen, seen_at, cell_at, cell_view}
 use Rattle.mpw_secrecy.proofs.Names.{apart_both, told_alike}
@@ -50,13 +50,14 @@ not_present : (shelf : List Submission) (cell : Name)
 unfolding present
 not_present shelf cell none = present_none 0 shelf cell none
 
-nothing_told : (policy : Policy) (shelf : List Submission) (conn : ℕ) (cell : Name)
+nothing_told : (policy : Policy) (shelf : List Submission) (connection : ℕ) (cell : Name)
     → contains_name (map (λ s. s.cell) shelf) cell ≡ false
-    → readable_line policy shelf conn cell ≡ []
-nothing_told policy shelf conn cell none =
-    ap (λ o. cond (permits policy conn Read (object.Cell cell)) (cell_line (numbered_at shelf o))
+    → readable_line policy shelf connection cell ≡ []
+nothing_told policy shelf connection cell none =
+    ap (λ o. cond (permits policy connection Read (object.Cell cell))
+    (cell_line (numbered_at shelf o))
     []) (not_present shelf cell none)
-    ∙ (elim (permits policy conn Read (object.Cell cell)) as
+    ∙ (elim (permits policy connection Read (object.Cell cell)) as
     (λ b. cond b (let l : List Line = [] in l) [] ≡ []) [ true ↦ refl | false ↦ refl ])
 
 -- the line of a cell by what is seen of it
@@ -64,77 +65,80 @@ abbrev seen_line : Name → Option CellSeen → List Line
 seen_line cell None = []
 seen_line cell (Some seen) = line.Cell cell seen.version seen.submitter ∷ []
 
-line_at : (policy : Policy) (conn : ℕ) (shelf : List Submission) (cell : Name) (number : ℕ)
+line_at : (policy : Policy) (connection : ℕ) (shelf : List Submission) (cell : Name) (number : ℕ)
     (o : Option Submission) → ((s : Submission) → o ≡ Some s → s.cell ≡ cell)
-    → cell_line o ≡ seen_line cell (seen_at policy conn shelf number o)
-line_at policy conn shelf cell number None own = refl
-line_at policy conn shelf cell number (Some s) own =
+    → cell_line o ≡ seen_line cell (seen_at policy connection shelf number o)
+line_at policy connection shelf cell number None own = refl
+line_at policy connection shelf cell number (Some s) own =
     ap (λ name. line.Cell name s.version s.submitter ∷ []) (own s refl)
 
 module _ (presents : PresentAreOfTheirCell) where
-  line_of : (policy : Policy) (conn : ℕ) (shelf : List Submission) (cell : Name)
+  line_of : (policy : Policy) (connection : ℕ) (shelf : List Submission) (cell : Name)
       → cell_line (present_submission shelf cell) ≡ seen_line cell
-      (cell_view policy conn shelf cell)
+      (cell_view policy connection shelf cell)
   unfolding cell_view
-  line_of policy conn shelf cell = go (present shelf cell) refl
+  line_of policy connection shelf cell = go (present shelf cell) refl
     where
       go : (o : Option ℕ) → present shelf cell ≡ o
-          → cell_line (numbered_at shelf o) ≡ seen_line cell (cell_at policy conn shelf o)
+          → cell_line (numbered_at shelf o) ≡ seen_line cell (cell_at policy connection shelf o)
       go None is = refl
       go (Some number) is =
           let p = presents shelf cell number is in
-          line_at policy conn shelf cell number (slice_get shelf number)
+          line_at policy connection shelf cell number (slice_get shelf number)
           (λ s e. subst (λ (q : Submission). q.cell ≡ cell)
           (same_Some p.submission s (sym p.is ∙ e)) p.same)
 
-  line_alike : (conn : ℕ) (a b : State) → SameView conn a b
-      → is_some (session_of a.policy conn) ≡ true → (cell : Name)
-      → readable_line a.policy a.shelf conn cell ≡ readable_line b.policy b.shelf conn cell
-  line_alike conn a b same is cell =
+  line_alike : (connection : ℕ) (a b : State) → SameView connection a b
+      → is_some (session_of a.policy connection) ≡ true → (cell : Name)
+      → readable_line a.policy a.shelf connection cell ≡ readable_line b.policy b.shelf connection
+      cell
+  line_alike connection a b same is cell =
       let told = cell_line (present_submission b.shelf cell) in
-      cond_alike (permits a.policy conn Read (object.Cell cell))
+      cond_alike (permits a.policy connection Read (object.Cell cell))
       (cell_line (present_submission a.shelf cell)) told []
-      (λ may. line_of a.policy conn a.shelf cell
+      (λ may. line_of a.policy connection a.shelf cell
       ∙ ap (seen_line cell) ((same.sight is).cells cell may)
-      ∙ sym (line_of b.policy conn b.shelf cell))
-      ∙ ap (λ t. cond t told []) (same_grants conn a b same Read (object.Cell cell))
+      ∙ sym (line_of b.policy connection b.shelf cell))
+      ∙ ap (λ t. cond t told []) (same_grants connection a b same Read (object.Cell cell))
 
-  pub cells_alike : (conn : ℕ) (a b : State) → SameView conn a b
-      → cells a.policy a.shelf conn ≡ cells b.policy b.shelf conn
-  cells_alike conn a b same =
+  pub cells_alike : (connection : ℕ) (a b : State) → SameView connection a b
+      → cells a.policy a.shelf connection ≡ cells b.policy b.shelf connection
+  cells_alike connection a b same =
       let lines_b : List Listed = map stored
-      (flat_map (readable_line b.policy b.shelf conn) (cells_of b.shelf)) in
-      one_alike (is_some (session_of a.policy conn)) (ending.Denied denial.Session) _ lines_b
-      (λ is. ap (map stored) (told_alike (readable_line a.policy a.shelf conn)
-      (readable_line b.policy b.shelf conn) (map (λ s. s.cell) a.shelf)
+      (flat_map (readable_line b.policy b.shelf connection) (cells_of b.shelf)) in
+      one_alike (is_some (session_of a.policy connection)) (ending.Denied denial.Session) _ lines_b
+      (λ is. ap (map stored) (told_alike (readable_line a.policy a.shelf connection)
+      (readable_line b.policy b.shelf connection) (map (λ s. s.cell) a.shelf)
       (map (λ s. s.cell) b.shelf)
-      (line_alike conn a b same is) (nothing_told a.policy a.shelf conn)
-      (nothing_told b.policy b.shelf conn)))
+      (line_alike connection a b same is) (nothing_told a.policy a.shelf connection)
+      (nothing_told b.policy b.shelf connection)))
       ∙ ap (λ s. decided ((s, ending.Denied denial.Session) ∷ []) lines_b)
-      (same_session conn a b same)
+      (same_session connection a b same)
 
   -- ---- shapes
 
   abbrev shape_told : ShapeSeen → Listed
   shape_told s = shape s.cell s.version s.placing s.element
 
-  shape_at : (policy : Policy) (conn : ℕ) (item : Item) (o : Option Submission)
-      → line_if (may_read policy conn) o item ≡ map shape_told (shape_seen policy conn item o)
-  shape_at policy conn item None = refl
-  shape_at policy conn item (Some s) =
-      elim (may_read policy conn s) as (λ b. cond b (shape_line s item ∷ []) [] ≡ map shape_told
+  shape_at : (policy : Policy) (connection : ℕ) (item : Item) (o : Option Submission)
+      → line_if (may_read policy connection) o item ≡ map shape_told
+      (shape_seen policy connection item o)
+  shape_at policy connection item None = refl
+  shape_at policy connection item (Some s) =
+      elim (may_read policy connection s) as
+      (λ b. cond b (shape_line s item ∷ []) [] ≡ map shape_told
       (cond b (shape_of s item ∷ []) [])) [ true ↦ refl | false ↦ refl ]
 
-  shapes_at : (policy : Policy) (conn : ℕ) (shelf : List Submission) (items : List Item)
-      → flat_map (readable_shape policy shelf conn) items ≡ map shape_told
-      (flat_map (λ item. shape_seen policy conn item (slice_get shelf item.origin)) items)
-  shapes_at policy conn shelf [] = refl
-  shapes_at policy conn shelf (item ∷ items) =
-      let seen = shape_seen policy conn item (slice_get shelf item.origin) in
+  shapes_at : (policy : Policy) (connection : ℕ) (shelf : List Submission) (items : List Item)
+      → flat_map (readable_shape policy shelf connection) items ≡ map shape_told
+      (flat_map (λ item. shape_seen policy connection item (slice_get shelf item.origin)) items)
+  shapes_at policy connection shelf [] = refl
+  shapes_at policy connection shelf (item ∷ items) =
+      let seen = shape_seen policy connection item (slice_get shelf item.origin) in
       let rest =
-      flat_map (λ (i : Item). shape_seen policy conn i (slice_get shelf i.origin)) items in
-      (λ i. shape_at policy conn item (slice_get shelf item.origin) i
-      ++ shapes_at policy conn shelf items i) ∙ sym (map-append shape_told seen rest)
+      flat_map (λ (i : Item). shape_seen policy connection i (slice_get shelf i.origin)) items in
+      (λ i. shape_at policy connection item (slice_get shelf item.origin) i
+      ++ shapes_at policy connection shelf items i) ∙ sym (map-append shape_told seen rest)
 
   -- the shapes of a cell by what is seen of it
   abbrev shapes_told : Option CellSeen → Result (List Listed) Ending
@@ -142,38 +146,40 @@ module _ (presents : PresentAreOfTheirCell) where
   shapes_told (Some seen) = Ok (map shape_told seen.shapes)
 
   abbrev rest_of : Policy → ℕ → List Submission → Option ℕ → Result (List Listed) Ending
-  rest_of policy conn shelf o = shown o
-      >>= (λ number. Ok (flat_map (readable_shape policy shelf conn) (flat shelf number)))
+  rest_of policy connection shelf o = present_number o
+      >>= (λ number. Ok (flat_map (readable_shape policy shelf connection) (flat shelf number)))
 
-  shapes_by : (policy : Policy) (conn : ℕ) (shelf : List Submission) (cell : Name)
-      → rest_of policy conn shelf (present shelf cell) ≡ shapes_told
-      (cell_view policy conn shelf cell)
+  shapes_by : (policy : Policy) (connection : ℕ) (shelf : List Submission) (cell : Name)
+      → rest_of policy connection shelf (present shelf cell) ≡ shapes_told
+      (cell_view policy connection shelf cell)
   unfolding cell_view
-  shapes_by policy conn shelf cell = go (present shelf cell) refl
+  shapes_by policy connection shelf cell = go (present shelf cell) refl
     where
       there : (number : ℕ) (o : Option Submission) (s : Submission) → o ≡ Some s
-          → rest_of policy conn shelf (Some number) ≡ shapes_told
-          (seen_at policy conn shelf number o)
+          → rest_of policy connection shelf (Some number) ≡ shapes_told
+          (seen_at policy connection shelf number o)
       there number None s e = absurd (none-some s e)
-      there number (Some q) s e = ap (λ l. Ok l) (shapes_at policy conn shelf (flat shelf number))
+      there number (Some q) s e = ap (λ l. Ok l)
+          (shapes_at policy connection shelf (flat shelf number))
 
       go : (o : Option ℕ) → present shelf cell ≡ o
-          → rest_of policy conn shelf o ≡ shapes_told (cell_at policy conn shelf o)
+          → rest_of policy connection shelf o ≡ shapes_told (cell_at policy connection shelf o)
       go None is = refl
       go (Some number) is = let p = presents shelf cell number is in
           there number (slice_get shelf number) p.submission p.is
 
-  pub shapes_alike : (conn : ℕ) (a b : State) → SameView conn a b → (cell : Name)
-      → shapes a.policy a.shelf conn cell ≡ shapes b.policy b.shelf conn cell
+  pub shapes_alike : (connection : ℕ) (a b : State) → SameView connection a b → (cell : Name)
+      → shapes a.policy a.shelf connection cell ≡ shapes b.policy b.shelf connection cell
   unfolding shapes
-  shapes_alike conn a b same cell =
-      same_behind (permitted a.policy conn Read (object.Cell cell))
-      (permitted b.policy conn Read (object.Cell cell))
-      (λ entered. rest_of a.policy conn a.shelf (present a.shelf cell))
-      (λ entered. rest_of b.policy conn b.shelf (present b.shelf cell))
-      (same_permitted conn a b same Read (object.Cell cell))
+  shapes_alike connection a b same cell =
+      same_behind (permitted a.policy connection Read (object.Cell cell))
+      (permitted b.policy connection Read (object.Cell cell))
+      (λ entered. rest_of a.policy connection a.shelf (present a.shelf cell))
+      (λ entered. rest_of b.policy connection b.shelf (present b.shelf cell))
+      (same_permitted connection a b same Read (object.Cell cell))
       (λ entered is.
-      let may = allowed_tells Read (object.Cell cell) (is_some (session_of a.policy conn))
-      (permits a.policy conn Read (object.Cell cell)) entered is in
-      shapes_by a.policy conn a.shelf cell ∙ ap shapes_told ((same.sight may.0).cells cell may.1)
-      ∙ sym (shapes_by b.policy conn b.shelf cell))
+      let may = allowed_tells Read (object.Cell cell) (is_some (session_of a.policy connection))
+      (permits a.policy connection Read (object.Cell cell)) entered is in
+      shapes_by a.policy connection a.shelf cell
+      ∙ ap shapes_told ((same.sight may.0).cells cell may.1)
+      ∙ sym (shapes_by b.policy connection b.shelf cell))

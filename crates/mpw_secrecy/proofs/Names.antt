@@ -69,8 +69,9 @@ more_names {A} f (y ∷ ys) xs none = go (contains_name (ys ++ xs) y) refl ∙ m
         (sym (list_any-append (name_eq y) ys xs) ∙ is) in
         put_nothing f y (placed_by_name (ys ++ xs)) (none y apart.1)
 
-swapped : (xs ys : List Name) (q : Name) → contains_name (xs ++ ys) q ≡ contains_name (ys ++ xs) q
-swapped xs ys q = list_any-append (name_eq q) xs ys
+swap_contains : (xs ys : List Name) (q : Name)
+    → contains_name (xs ++ ys) q ≡ contains_name (ys ++ xs) q
+swap_contains xs ys q = list_any-append (name_eq q) xs ys
     ∙ or_swap (contains_name xs q) (contains_name ys q) ∙ sym (list_any-append (name_eq q) ys xs)
 
 -- what two lists tell alike of each name, and nothing of names that they don't have, they tell alike in order
@@ -81,6 +82,6 @@ pub told_alike : {A : Type 0} (f g : Name → List A) (xs ys : List Name)
     → flat_map f (by_name xs) ≡ flat_map g (by_name ys)
 told_alike {A} f g xs ys alike none_f none_g =
     sym (more_names f ys xs none_f)
-    ∙ ap (flat_map f) (by_name-same (ys ++ xs) (xs ++ ys) (swapped ys xs))
+    ∙ ap (flat_map f) (by_name-same (ys ++ xs) (xs ++ ys) (swap_contains ys xs))
     ∙ ap (λ (h : Name → List A). flat_map h (by_name (xs ++ ys))) (λ i name. alike name i)
     ∙ more_names g xs ys none_g

@@ -43,10 +43,10 @@ some_seen : (policy : Policy) (o : Option Session)
 some_seen policy None = refl
 some_seen policy (Some s) = refl
 
-pub same_session : (conn : ℕ) (a b : State) → SameView conn a b
-    → is_some (session_of a.policy conn) ≡ is_some (session_of b.policy conn)
-same_session conn a b same = some_seen a.policy (session_of a.policy conn)
-    ∙ ap is_some same.identity ∙ sym (some_seen b.policy (session_of b.policy conn))
+pub same_session : (connection : ℕ) (a b : State) → SameView connection a b
+    → is_some (session_of a.policy connection) ≡ is_some (session_of b.policy connection)
+same_session connection a b same = some_seen a.policy (session_of a.policy connection)
+    ∙ ap is_some same.identity ∙ sym (some_seen b.policy (session_of b.policy connection))
 
 -- without a session nothing is granted
 no_grant : (policy : Policy) (operation : Operation) (object : Object) (o : Option Session)
@@ -56,18 +56,20 @@ no_grant : (policy : Policy) (operation : Operation) (object : Object) (o : Opti
 no_grant policy operation object None e = refl
 no_grant policy operation object (Some s) e = absurd cc
 
-pub same_grants : (conn : ℕ) (a b : State) → SameView conn a b
+pub same_grants : (connection : ℕ) (a b : State) → SameView connection a b
     → (operation : Operation) (object : Object)
-    → permits a.policy conn operation object ≡ permits b.policy conn operation object
-same_grants conn a b same operation object = go (is_some (session_of a.policy conn)) refl
+    → permits a.policy connection operation object ≡ permits b.policy connection operation object
+same_grants connection a b same operation object =
+    go (is_some (session_of a.policy connection)) refl
   where
-    go : (s : Bool) → is_some (session_of a.policy conn) ≡ s
-        → permits a.policy conn operation object ≡ permits b.policy conn operation object
+    go : (s : Bool) → is_some (session_of a.policy connection) ≡ s
+        → permits a.policy connection operation object ≡ permits b.policy connection operation
+        object
     go true is = (same.sight is).grants operation object
     go false is =
-        no_grant a.policy operation object (session_of a.policy conn) is
-        ∙ sym (no_grant b.policy operation object (session_of b.policy conn)
-        (sym (same_session conn a b same) ∙ is))
+        no_grant a.policy operation object (session_of a.policy connection) is
+        ∙ sym (no_grant b.policy operation object (session_of b.policy connection)
+        (sym (same_session connection a b same) ∙ is))
 
 -- ---- tests
 
@@ -75,24 +77,26 @@ same_grants conn a b same operation object = go (is_some (session_of a.policy co
 abbrev pub inside : Bool → Result (Unit {0}) Ending
 inside session = decided ((session, ending.Denied denial.Session) ∷ []) tt
 
-abbrev pub allowed : Operation → Object → Bool → Bool → Result (Unit {0}) Ending
-allowed operation object session granted =
-    decided ((session, ending.Denied denial.Session) ∷ (granted, denied operation object) ∷ []) tt
+abbrev pub permission_of : Operation → Object → Bool → Bool → Result (Unit {0}) Ending
+permission_of operation object session granted =
+    decided ((session, ending.Denied denial.Session) ∷ (granted, denied operation object)
+    ∷ []) tt
 
 pub inside_tells : (session : Bool) (x : Unit {0}) → inside session ≡ Ok x → session ≡ true
 inside_tells true x e = refl
 inside_tells false x e = absurd cc
 
 pub allowed_tells : (operation : Operation) (object : Object) (session granted : Bool)
-    (x : Unit {0}) → allowed operation object session granted ≡ Ok x
+    (x : Unit {0}) → permission_of operation object session granted ≡ Ok x
     → (session ≡ true) × (granted ≡ true)
 allowed_tells operation object true true x e = (refl, refl)
 allowed_tells operation object true false x e = absurd cc
 allowed_tells operation object false granted x e = absurd cc
 
-pub same_permitted : (conn : ℕ) (a b : State) → SameView conn a b
+pub same_permitted : (connection : ℕ) (a b : State) → SameView connection a b
     → (operation : Operation) (object : Object)
-    → permitted a.policy conn operation object ≡ permitted b.policy conn operation object
-same_permitted conn a b same operation object =
-    λ i. allowed operation object (same_session conn a b same i)
-    (same_grants conn a b same operation object i)
+    → permitted a.policy connection operation object ≡ permitted b.policy connection
+    operation object
+same_permitted connection a b same operation object =
+    λ i. permission_of operation object (same_session connection a b same i)
+    (same_grants connection a b same operation object i)

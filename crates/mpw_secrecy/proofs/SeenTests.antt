@@ -31,14 +31,14 @@ Test = MarkerSeen → Result (Unit {0}) Ending
 abbrev pub Change : Type 0
 Change = Option Waiver → Option Waiver
 
-abbrev pub tested : Test → Key → Option MarkerSeen → Result Key Ending
-tested test key None = Err (ending.Refused code.NoMarker)
-tested test key (Some seen) = test seen >>= (λ passed. Ok key)
+abbrev pub test_row : Test → Key → Option MarkerSeen → Result Key Ending
+test_row test key None = Err (ending.Refused code.NoMarker)
+test_row test key (Some seen) = test seen >>= (λ passed. Ok key)
 
 abbrev pub of_rule : Test → MarkerName → List MarkerSeen → Option ℕ → Result Key Ending
 of_rule test name markers None = Err (ending.Refused code.NoMarker)
 of_rule test name markers (Some rule) =
-    tested test (key_by name rule) (marker_with (key_by name rule) markers)
+    test_row test (key_by name rule) (marker_with (key_by name rule) markers)
 
 abbrev pub of_book : Test → MarkerName → BookSeen → Result Key Ending
 of_book test name book =
@@ -67,12 +67,12 @@ view_left change (Err why) book = book
 -- the outcome of a waiver that is put at a place
 abbrev pub put_at : (Name → Change) → List (Option Waiver) → ℕ → Name → signing.Outcome
 put_at change waivers place user =
-    signing.changed (slice_set waivers place (change user (waiver_at waivers place)))
+    signing.acceptance (slice_set waivers place (change user (waiver_at waivers place)))
 
 -- an outcome is what is told of the view, and leaves what is told of it
-pub record IsTold (policy : Policy) (conn : ℕ) (change : Change) (phase : Phase)
+pub record IsTold (policy : Policy) (connection : ℕ) (change : Change) (phase : Phase)
     (old : List (Option Waiver)) (o : signing.Outcome) (told : Result Key Ending) : Type 0 where
   pub reply : o.reply ≡ key_reply told
   pub changes : o.changes ≡ is_ok told
-  pub view : book_view policy conn o.waivers phase ≡ view_left change told
-      (book_view policy conn old phase)
+  pub view : book_view policy connection o.waivers phase ≡ view_left change told
+      (book_view policy connection old phase)

@@ -100,12 +100,12 @@ of_asked phase waivers at asker fit place waiver signer is by =
 abbrev signed_waiver : Waiver → Name → Waiver
 signed_waiver before user = record { asker = before.asker; signer = Some user }
 
-of_signed : (policy : Policy) (run : Run) (waivers : List (Option Waiver)) (conn : ℕ)
+of_signed : (policy : Policy) (run : Run) (waivers : List (Option Waiver)) (connection : ℕ)
     (name : MarkerName) (now : List (Option Waiver))
-    → (s : IsRightlySigned policy run waivers conn name now) → SignedIn run.phase waivers
-    → SignedIn run.phase (with_signer waivers s.place (user_of policy conn))
-of_signed policy run waivers conn name now s fit place waiver signer is by =
-    let user = user_of policy conn in
+    → (s : IsRightlySigned policy run waivers connection name now) → SignedIn run.phase waivers
+    → SignedIn run.phase (with_signer waivers s.place (user_of policy connection))
+of_signed policy run waivers connection name now s fit place waiver signer is by =
+    let user = user_of policy connection in
     elim (put_or_before waivers s.place place (signed_by user (waiver_at waivers s.place)) waiver
     is) [
       | inl here ↦
@@ -131,60 +131,69 @@ of_signed policy run waivers conn name now s fit place waiver signer is by =
 -- ---- requests over the waivers
 
 fit-told : (phase : Phase) (waivers : List (Option Waiver)) (row : Result (List Listed) Ending)
-    → SignedIn phase waivers → SignedIn phase (signing.listed waivers row).waivers
+    → SignedIn phase waivers → SignedIn phase (signing.listing_outcome waivers row).waivers
 fit-told phase waivers (Ok lines) fit = fit
 fit-told phase waivers (Err ending) fit = fit
 
 abbrev SignedBehind : State → ℕ → SignOffRequest → Type 0
-SignedBehind s conn request =
-    SignedIn s.run.phase (signing.outcome_of s.policy s.wafer s.run s.waivers conn request).waivers
+SignedBehind s connection request =
+    SignedIn s.run.phase (signing.outcome_of s.policy s.wafer s.run s.waivers connection
+    request).waivers
 
 abbrev reply_to : State → ℕ → SignOffRequest → Reply
-reply_to s conn request = (signing.outcome_of s.policy s.wafer s.run s.waivers conn request).reply
+reply_to s connection request =
+    (signing.outcome_of s.policy s.wafer s.run s.waivers connection request).reply
 
 -- ---- every state
 
 module _ (shown : AskedAreShown) (apart : SignersStandApart)
     (leave : NegativesLeaveTheWaivers) where
-  fit-negative : (s : State) (conn : ℕ) (request : SignOffRequest) (r : Reply) → IsNegative r
-      → reply_to s conn request ≡ r → Fit s → SignedBehind s conn request
-  fit-negative s conn request r negative e fit =
+  fit-negative : (s : State) (connection : ℕ) (request : SignOffRequest) (r : Reply) → IsNegative r
+      → reply_to s connection request ≡ r → Fit s → SignedBehind s connection request
+  fit-negative s connection request r negative e fit =
       subst (SignedIn s.run.phase) (sym
-      (leave s.policy s.wafer s.run s.waivers conn request (subst IsNegative (sym e) negative)))
+      (leave s.policy s.wafer s.run s.waivers connection request
+      (subst IsNegative (sym e) negative)))
       fit
 
-  fit-waive : (s : State) (conn : ℕ) (name : MarkerName) (r : Reply)
-      → reply_to s conn (sign_ask.Waive name) ≡ r → Fit s
-      → SignedBehind s conn (sign_ask.Waive name)
-  fit-waive s conn name (reply.Ok lines) e fit =
-      let is = shown s.policy s.wafer s.run s.waivers conn name lines e in
+  fit-waive : (s : State) (connection : ℕ) (name : MarkerName) (r : Reply)
+      → reply_to s connection (sign_ask.Waive name) ≡ r → Fit s
+      → SignedBehind s connection (sign_ask.Waive name)
+  fit-waive s connection name (reply.Ok lines) e fit =
+      let is = shown s.policy s.wafer s.run s.waivers connection name lines e in
       subst (SignedIn s.run.phase) (sym is.left)
-      (of_asked s.run.phase s.waivers is.place (user_of s.policy conn) fit)
-  fit-waive s conn name (reply.Denied why) e fit = fit-negative s conn (sign_ask.Waive name)
+      (of_asked s.run.phase s.waivers is.place (user_of s.policy connection) fit)
+  fit-waive s connection name (reply.Denied why) e fit =
+      fit-negative s connection (sign_ask.Waive name)
       (reply.Denied why) tt e fit
-  fit-waive s conn name (reply.Refused why) e fit = fit-negative s conn (sign_ask.Waive name)
+  fit-waive s connection name (reply.Refused why) e fit =
+      fit-negative s connection (sign_ask.Waive name)
       (reply.Refused why) tt e fit
 
-  fit-signing : (s : State) (conn : ℕ) (name : MarkerName) (r : Reply)
-      → reply_to s conn (sign_ask.Sign name) ≡ r → Fit s → SignedBehind s conn (sign_ask.Sign name)
-  fit-signing s conn name (reply.Ok lines) e fit =
-      let is = apart s.policy s.wafer s.run s.waivers conn name lines e in
+  fit-signing : (s : State) (connection : ℕ) (name : MarkerName) (r : Reply)
+      → reply_to s connection (sign_ask.Sign name) ≡ r → Fit s
+      → SignedBehind s connection (sign_ask.Sign name)
+  fit-signing s connection name (reply.Ok lines) e fit =
+      let is = apart s.policy s.wafer s.run s.waivers connection name lines e in
       subst (SignedIn s.run.phase) (sym is.left)
-      (of_signed s.policy s.run s.waivers conn name _ is fit)
-  fit-signing s conn name (reply.Denied why) e fit = fit-negative s conn (sign_ask.Sign name)
+      (of_signed s.policy s.run s.waivers connection name _ is fit)
+  fit-signing s connection name (reply.Denied why) e fit =
+      fit-negative s connection (sign_ask.Sign name)
       (reply.Denied why) tt e fit
-  fit-signing s conn name (reply.Refused why) e fit = fit-negative s conn (sign_ask.Sign name)
+  fit-signing s connection name (reply.Refused why) e fit =
+      fit-negative s connection (sign_ask.Sign name)
       (reply.Refused why) tt e fit
 
-  fit-sign : (s : State) (conn : ℕ) (request : SignOffRequest) → Fit s → SignedBehind s conn request
-  fit-sign s conn (sign_ask.Waive name) fit =
-      fit-waive s conn name (reply_to s conn (sign_ask.Waive name)) refl fit
-  fit-sign s conn (sign_ask.Sign name) fit =
-      fit-signing s conn name (reply_to s conn (sign_ask.Sign name)) refl fit
-  fit-sign s conn sign_ask.Waivers fit = fit-told s.run.phase s.waivers
-      (signing.waivers_row s.policy s.run s.waivers conn) fit
-  fit-sign s conn sign_ask.Verdict fit = fit-told s.run.phase s.waivers
-      (signing.verdict_row s.policy s.wafer s.run s.waivers conn) fit
+  fit-sign : (s : State) (connection : ℕ) (request : SignOffRequest) → Fit s
+      → SignedBehind s connection request
+  fit-sign s connection (sign_ask.Waive name) fit =
+      fit-waive s connection name (reply_to s connection (sign_ask.Waive name)) refl fit
+  fit-sign s connection (sign_ask.Sign name) fit =
+      fit-signing s connection name (reply_to s connection (sign_ask.Sign name)) refl fit
+  fit-sign s connection sign_ask.Waivers fit = fit-told s.run.phase s.waivers
+      (signing.waivers_row s.policy s.run s.waivers connection) fit
+  fit-sign s connection sign_ask.Verdict fit = fit-told s.run.phase s.waivers
+      (signing.verdict_row s.policy s.wafer s.run s.waivers connection) fit
 
   pub signers_apart : EveryStateIsSignedApart
   signers_apart officer digest calls =

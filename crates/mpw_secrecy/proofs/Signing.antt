@@ -1,12 +1,11 @@
 -- `waive` and `sign` are told by the view, and so is what they leave of it.
-use Rattle.std.proofs.Common.{◌≡◌, ◌∙◌, ℕ, suc, ◌+◌, ◌<◌, Bool, true, false, cond, nat_lt, not, List, [], ◌∷◌, length, map, slice_get, slice_set, Option, None, Some, Result, Ok, Err, is_some, refl, sym, ap, subst, arith}
+use Rattle.std.proofs.Common.{◌≡◌, ◌∙◌, ℕ, ◌+◌, ◌<◌, Bool, true, false, cond, List, [], ◌∷◌, length, map, slice_get, slice_set, Option, None, Some, Result, Ok, Err, is_some, refl, sym, ap, subst, arith}
 use Rattle.std.specs.Prelude.{is_ok, option_map}
-use Rattle.std.specs.List.{position, position_or_len}
+use Rattle.std.specs.List.{position}
 use Rattle.std.specs.Option.{option_map_or}
 use Rattle.std.proofs.lemmas.Option.{slice_get_within}
 use Rattle.mpw_geom.specs.Least.{first_name}
 use Rattle.mpw_geom.specs.Names.{name_eq}
-use Rattle.mpw_deck.specs.declared.rule.Rule.{Rule}
 use Rattle.mpw_hier.specs.declared.submission.Submission.{Submission}
 use Rattle.mpw_markers.specs.Book.{IsBook, place_in}
 use Rattle.mpw_markers.specs.declared.marker.Key.{Key}
@@ -43,55 +42,38 @@ use Rattle.mpw_core.specs.declared.event.Response.TheVariants as response
 use Rattle.mpw_core.specs.Step.{State, over_waivers}
 use Rattle.mpw_secrecy.specs.Secrecy.{IsOrderly}
 use Rattle.mpw_secrecy.specs.Views.{BookSeen, MarkerSeen, SameView, book_view, checked_view, marker_of, markers_seen, rules_seen}
-use Rattle.mpw_secrecy.proofs.Books.{names_from, names_of}
+use Rattle.mpw_secrecy.proofs.Books.{names_from, rule_by_name}
 use Rattle.mpw_secrecy.proofs.Listings.{SameOutcome}
 use Rattle.mpw_secrecy.proofs.Parts.{allowed_tells, same_behind, same_permitted}
 use Rattle.mpw_secrecy.proofs.Places.{found_key, nowhere, only_at, put_here, put_there}
 use Rattle.mpw_secrecy.proofs.Waived.{changed_at, marker_with, seen_at_place, seen_nowhere, with_waiver}
-use Rattle.mpw_secrecy.proofs.SeenTests.{Test, Change, tested, of_rule, of_book, row_seen, key_reply, view_left, put_at, IsTold}
-
--- ---- the marker of a name in a book
-
-before_of : (rules : List Rule) (nm : Name) → position_or_len (λ n. name_eq n nm) (names_of rules)
-    ≡ position_or_len (λ (rule : Rule). name_eq rule.name nm) rules
-before_of [] nm = refl
-before_of (rule ∷ rules) nm =
-    ap (λ n. cond (not (name_eq rule.name nm)) (1 + n) 0) (before_of rules nm)
-
-many_of : (rules : List Rule) → length (names_of rules) ≡ length rules
-many_of [] = refl
-many_of (rule ∷ rules) = ap suc (many_of rules)
-
-rule_by_name : (rules : List Rule) (nm : Name)
-    → position (λ n. name_eq n nm) (names_of rules) ≡ rule_place rules nm
-rule_by_name rules nm =
-    λ i. cond (nat_lt (before_of rules nm i) (many_of rules i)) (Some (before_of rules nm i)) None
+use Rattle.mpw_secrecy.proofs.SeenTests.{Test, Change, test_row, of_rule, of_book, row_seen, key_reply, view_left, put_at, IsTold}
 
 -- a row gives the user and the place of the marker, by `end`, and `outcome` makes of it what is put there
-module _ {B : Type 0} (keys : PlacesAreOfKeys) (policy : Policy) (conn : ℕ) (f : Checked)
+module _ {B : Type 0} (keys : PlacesAreOfKeys) (policy : Policy) (connection : ℕ) (f : Checked)
     (waivers : List (Option Waiver)) (change : Name → Change)
     (outcome : Result B Ending → signing.Outcome) (end : Named → B)
-    (errs : (why : Ending) → outcome (Err why) ≡ signing.left (ended_by why) waivers)
+    (errs : (why : Ending) → outcome (Err why) ≡ signing.no_change (ended_by why) waivers)
     (puts : (n : Named) → outcome (Ok (end n)) ≡ put_at change waivers n.place
-    (user_of policy conn))
+    (user_of policy connection))
     (test : Named → Result (Unit {0}) Ending) (seen_test : Test)
-    (alike : (n : Named) → seen_test (marker_of f.planned.snapshot.shelf (user_of policy conn)
+    (alike : (n : Named) → seen_test (marker_of f.planned.snapshot.shelf (user_of policy connection)
     n.marker (waiver_at waivers n.place)) ≡ test n)
     (is : IsBook f.book) (places : length waivers ≡ length f.book) where
   abbrev shelf : List Submission
   shelf = f.planned.snapshot.shelf
 
   abbrev user : Name
-  user = user_of policy conn
+  user = user_of policy connection
 
   abbrev seen : List Bool
-  seen = seen_by policy conn f.planned.snapshot.shelf
+  seen = seen_by policy connection f.planned.snapshot.shelf
 
   abbrev markers : List MarkerSeen
   markers = markers_seen shelf seen user waivers 0 f.book
 
   abbrev Gives : signing.Outcome → Result Key Ending → Type 0
-  Gives o told = IsTold policy conn (change user) (Finished f) waivers o told
+  Gives o told = IsTold policy connection (change user) (Finished f) waivers o told
 
   abbrev tail : Named → Result B Ending
   tail n = test n >>= (λ free. Ok (end n))
@@ -143,7 +125,7 @@ module _ {B : Type 0} (keys : PlacesAreOfKeys) (policy : Policy) (conn : ℕ) (f
   by_full : (key : Key) (n : Named) → slice_get f.book n.place ≡ Some n.marker
       → place_in f.book key ≡ Some n.place → key_of n.marker ≡ key → (b : Bool)
       → Gives (outcome (cond b (Ok n) (Err (ending.Refused code.NoMarker)) >>= tail))
-      (tested seen_test key (cond b (Some
+      (test_row seen_test key (cond b (Some
       (marker_of shelf user n.marker (waiver_at waivers n.place))) None))
   by_full key n at e has false = ended (ending.Refused code.NoMarker)
   by_full key n at e has true =
@@ -152,9 +134,9 @@ module _ {B : Type 0} (keys : PlacesAreOfKeys) (policy : Policy) (conn : ℕ) (f
 
   by_key : (key : Key) (o : Option ℕ) → place_in f.book key ≡ o
       → Gives (outcome (signing.if_shown seen (found_at f.book o) >>= tail))
-      (tested seen_test key (marker_with key markers))
+      (test_row seen_test key (marker_with key markers))
   by_key key None e =
-      subst (λ o. Gives (outcome (Err (ending.Refused code.NoMarker))) (tested seen_test key o))
+      subst (λ o. Gives (outcome (Err (ending.Refused code.NoMarker))) (test_row seen_test key o))
       (sym (seen_nowhere shelf seen user key waivers 0 f.book (nowhere f.book key e)))
       (ended (ending.Refused code.NoMarker))
   by_key key (Some i) e =
@@ -167,8 +149,8 @@ module _ {B : Type 0} (keys : PlacesAreOfKeys) (policy : Policy) (conn : ℕ) (f
       let told = at ∙ ap (λ k. cond (is_full seen found.0)
       (Some (marker_of shelf user found.0 (waiver_at waivers k))) None) here in
       subst (λ o. Gives (outcome (signing.if_shown seen (with_place i o) >>= tail))
-      (tested seen_test key (marker_with key markers))) (sym found.1)
-      (subst (λ o. Gives (outcome (signing.if_full seen n >>= tail)) (tested seen_test key o))
+      (test_row seen_test key (marker_with key markers))) (sym found.1)
+      (subst (λ o. Gives (outcome (signing.if_full seen n >>= tail)) (test_row seen_test key o))
       (sym told) (by_full key n found.1 e found.2 (is_full seen found.0)))
 
   by_rule : (name : MarkerName) (o : Option ℕ)
@@ -177,9 +159,10 @@ module _ {B : Type 0} (keys : PlacesAreOfKeys) (policy : Policy) (conn : ℕ) (f
   by_rule name None = ended (ending.Refused code.NoMarker)
   by_rule name (Some rule) = by_key (key_by name rule) (place_in f.book (key_by name rule)) refl
 
-  by_name_of : (name : MarkerName) → Gives (outcome (signing.shown policy conn f name >>= tail))
-      (of_book seen_test name (checked_view policy conn waivers f))
-  unfolding signing.shown named_in
+  by_name_of : (name : MarkerName) → Gives
+      (outcome (signing.full_marker policy connection f name >>= tail))
+      (of_book seen_test name (checked_view policy connection waivers f))
+  unfolding signing.full_marker named_in
   by_name_of name =
       let rules = f.planned.snapshot.deck.rules in
       subst (λ o. Gives (outcome (signing.if_shown seen
@@ -211,109 +194,118 @@ unfolding least_own_cell
 sign_alike stock m who None = refl
 sign_alike stock m who (Some waiver) = refl
 
-early : (policy : Policy) (conn : ℕ) (change : Change) (waivers : List (Option Waiver))
+early : (policy : Policy) (connection : ℕ) (change : Change) (waivers : List (Option Waiver))
     (phase : Phase) (why : Ending)
-    → IsTold policy conn change phase waivers (signing.left (ended_by why) waivers) (Err why)
-early policy conn change waivers phase why = record { reply = refl; changes = refl; view = refl }
+    → IsTold policy connection change phase waivers (signing.no_change (ended_by why) waivers)
+    (Err why)
+early policy connection change waivers phase why =
+    record { reply = refl; changes = refl; view = refl }
 
-behind : {B : Type 0} (policy : Policy) (conn : ℕ) (change : Change)
+behind : {B : Type 0} (policy : Policy) (connection : ℕ) (change : Change)
     (waivers : List (Option Waiver)) (phase : Phase)
     → (outcome : Result B Ending → signing.Outcome)
-    → ((why : Ending) → outcome (Err why) ≡ signing.left (ended_by why) waivers)
+    → ((why : Ending) → outcome (Err why) ≡ signing.no_change (ended_by why) waivers)
     → (p : Result (Unit {0}) Ending) (row : Result B Ending) (told : Result Key Ending)
-    → IsTold policy conn change phase waivers (outcome row) told
-    → IsTold policy conn change phase waivers (outcome (p >>= (λ allowed. row)))
+    → IsTold policy connection change phase waivers (outcome row) told
+    → IsTold policy connection change phase waivers (outcome (p >>= (λ allowed. row)))
     (p >>= (λ allowed. told))
-behind policy conn change waivers phase outcome errs (Ok x) row told is = is
-behind policy conn change waivers phase outcome errs (Err why) row told is =
-    subst (λ o. IsTold policy conn change phase waivers o (Err why)) (sym (errs why))
-    (early policy conn change waivers phase why)
+behind policy connection change waivers phase outcome errs (Ok x) row told is = is
+behind policy connection change waivers phase outcome errs (Err why) row told is =
+    subst (λ o. IsTold policy connection change phase waivers o (Err why)) (sym (errs why))
+    (early policy connection change waivers phase why)
 
-module _ (keys : PlacesAreOfKeys) (number : ℕ) (policy : Policy) (conn : ℕ)
+module _ (keys : PlacesAreOfKeys) (number : ℕ) (policy : Policy) (connection : ℕ)
     (waivers : List (Option Waiver)) (name : MarkerName) where
-  waive_phase : (phase : Phase) → IsPhase number phase → length waivers ≡ book_size phase
-      → IsTold policy conn (asked_by (user_of policy conn)) phase waivers
-      (signing.waived_outcome waivers
-      (signing.finished phase >>= (λ f. signing.shown policy conn f name
-      >>= (λ n. signing.passes (ask_test (waiver_at waivers n.place))
-      >>= (λ free. Ok (signing.by_user policy conn n))))))
-      (row_seen ask_seen name (book_view policy conn waivers phase))
-  waive_phase Idle is places = early policy conn (asked_by (user_of policy conn)) waivers Idle
+  unfinished : (change : Name → Change) (phase : Phase)
+      → IsTold policy connection (change (user_of policy connection)) phase waivers
+      (signing.no_change (ended_by (ending.Refused code.NotFinished)) waivers)
+      (Err (ending.Refused code.NotFinished))
+  unfinished change phase =
+      early policy connection (change (user_of policy connection)) waivers phase
       (ending.Refused code.NotFinished)
-  waive_phase (Cutting planned) is places = early policy conn (asked_by (user_of policy conn))
-      waivers (Cutting planned) (ending.Refused code.NotFinished)
-  waive_phase (Checking c) is places = early policy conn (asked_by (user_of policy conn)) waivers
-      (Checking c) (ending.Refused code.NotFinished)
+
+  waive_phase : (phase : Phase) → IsPhase number phase → length waivers ≡ book_size phase
+      → IsTold policy connection (asked_by (user_of policy connection)) phase waivers
+      (signing.waived_outcome waivers
+      (signing.finished_run phase >>= (λ f. signing.full_marker policy connection f name
+      >>= (λ n. signing.passes (ask_test (waiver_at waivers n.place))
+      >>= (λ free. Ok (signing.by_user policy connection n))))))
+      (row_seen ask_seen name (book_view policy connection waivers phase))
+  waive_phase Idle is places = unfinished asked_by Idle
+  waive_phase (Cutting planned) is places = unfinished asked_by (Cutting planned)
+  waive_phase (Checking c) is places = unfinished asked_by (Checking c)
   waive_phase (Finished f) is places =
-      by_name_of keys policy conn f waivers asked_by (signing.waived_outcome waivers)
-      (signing.by_user policy conn) (λ why. refl) (λ n. refl)
+      by_name_of keys policy connection f waivers asked_by (signing.waived_outcome waivers)
+      (signing.by_user policy connection) (λ why. refl) (λ n. refl)
       (λ n. signing.passes (ask_test (waiver_at waivers n.place))) ask_seen (λ n. refl) is.1.0
       places name
 
   sign_phase : (phase : Phase) → IsPhase number phase → length waivers ≡ book_size phase
-      → IsTold policy conn (signed_by (user_of policy conn)) phase waivers
+      → IsTold policy connection (signed_by (user_of policy connection)) phase waivers
       (signing.signed_outcome waivers
-      (signing.finished phase >>= (λ f. signing.shown policy conn f name
-      >>= (λ n. signing.apart f waivers n (user_of policy conn)
-      >>= (λ free. Ok (signing.by_user policy conn n))))))
-      (row_seen (sign_seen (user_of policy conn)) name (book_view policy conn waivers phase))
-  sign_phase Idle is places = early policy conn (signed_by (user_of policy conn)) waivers Idle
-      (ending.Refused code.NotFinished)
-  sign_phase (Cutting planned) is places = early policy conn (signed_by (user_of policy conn))
-      waivers (Cutting planned) (ending.Refused code.NotFinished)
-  sign_phase (Checking c) is places = early policy conn (signed_by (user_of policy conn)) waivers
-      (Checking c) (ending.Refused code.NotFinished)
+      (signing.finished_run phase >>= (λ f. signing.full_marker policy connection f name
+      >>= (λ n. signing.apart f waivers n (user_of policy connection)
+      >>= (λ free. Ok (signing.by_user policy connection n))))))
+      (row_seen (sign_seen (user_of policy connection)) name
+      (book_view policy connection waivers phase))
+  sign_phase Idle is places = unfinished signed_by Idle
+  sign_phase (Cutting planned) is places = unfinished signed_by (Cutting planned)
+  sign_phase (Checking c) is places = unfinished signed_by (Checking c)
   sign_phase (Finished f) is places =
-      by_name_of keys policy conn f waivers signed_by (signing.signed_outcome waivers)
-      (signing.by_user policy conn) (λ why. refl) (λ n. refl)
-      (λ n. signing.apart f waivers n (user_of policy conn)) (sign_seen (user_of policy conn))
-      (λ n. sign_alike f.planned.snapshot.shelf n.marker (user_of policy conn)
+      by_name_of keys policy connection f waivers signed_by (signing.signed_outcome waivers)
+      (signing.by_user policy connection) (λ why. refl) (λ n. refl)
+      (λ n. signing.apart f waivers n (user_of policy connection))
+      (sign_seen (user_of policy connection))
+      (λ n. sign_alike f.planned.snapshot.shelf n.marker (user_of policy connection)
       (waiver_at waivers n.place)) is.1.0 places name
 
 -- ---- of a state
 
 abbrev told_of : Operation → Test → MarkerName → State → ℕ → Result Key Ending
-told_of op test name s conn = permitted s.policy conn op object.Desk
-    >>= (λ allowed. row_seen test name (book_view s.policy conn s.waivers s.run.phase))
+told_of op test name s connection = permitted s.policy connection op object.Desk
+    >>= (λ allowed. row_seen test name (book_view s.policy connection s.waivers s.run.phase))
 
 abbrev IsToldOf : State → ℕ → (Name → Change) → signing.Outcome → Result Key Ending → Type 0
-IsToldOf s conn change o told =
-    IsTold s.policy conn (change (user_of s.policy conn)) s.run.phase s.waivers o told
+IsToldOf s connection change o told =
+    IsTold s.policy connection (change (user_of s.policy connection)) s.run.phase s.waivers o told
 
 abbrev waive_of : State → ℕ → MarkerName → signing.Outcome
-waive_of s conn name = signing.outcome_of s.policy s.wafer s.run s.waivers conn (sign.Waive name)
+waive_of s connection name =
+    signing.outcome_of s.policy s.wafer s.run s.waivers connection (sign.Waive name)
 
 abbrev sign_of : State → ℕ → MarkerName → signing.Outcome
-sign_of s conn name = signing.outcome_of s.policy s.wafer s.run s.waivers conn (sign.Sign name)
+sign_of s connection name =
+    signing.outcome_of s.policy s.wafer s.run s.waivers connection (sign.Sign name)
 
-waive_told : PlacesAreOfKeys → (s : State) (conn : ℕ) (name : MarkerName) → IsOrderly s
-    → IsToldOf s conn asked_by (waive_of s conn name) (told_of operation.Waive ask_seen name s conn)
+waive_told : PlacesAreOfKeys → (s : State) (connection : ℕ) (name : MarkerName) → IsOrderly s
+    → IsToldOf s connection asked_by (waive_of s connection name)
+    (told_of operation.Waive ask_seen name s connection)
 unfolding signing.waive_row
-waive_told keys s conn name orderly =
-    behind s.policy conn (asked_by (user_of s.policy conn)) s.waivers s.run.phase
+waive_told keys s connection name orderly =
+    behind s.policy connection (asked_by (user_of s.policy connection)) s.waivers s.run.phase
     (signing.waived_outcome s.waivers) (λ why. refl)
-    (permitted s.policy conn operation.Waive object.Desk)
-    (signing.finished s.run.phase >>= (λ f. signing.shown s.policy conn f name
+    (permitted s.policy connection operation.Waive object.Desk)
+    (signing.finished_run s.run.phase >>= (λ f. signing.full_marker s.policy connection f name
     >>= (λ n. signing.passes (ask_test (waiver_at s.waivers n.place))
-    >>= (λ free. Ok (signing.by_user s.policy conn n)))))
-    (row_seen ask_seen name (book_view s.policy conn s.waivers s.run.phase))
-    (waive_phase keys s.run.number s.policy conn s.waivers name s.run.phase orderly.run
+    >>= (λ free. Ok (signing.by_user s.policy connection n)))))
+    (row_seen ask_seen name (book_view s.policy connection s.waivers s.run.phase))
+    (waive_phase keys s.run.number s.policy connection s.waivers name s.run.phase orderly.run
     orderly.places)
 
-sign_told : PlacesAreOfKeys → (s : State) (conn : ℕ) (name : MarkerName) → IsOrderly s
-    → IsToldOf s conn signed_by (sign_of s conn name)
-    (told_of operation.Sign (sign_seen (user_of s.policy conn)) name s conn)
+sign_told : PlacesAreOfKeys → (s : State) (connection : ℕ) (name : MarkerName) → IsOrderly s
+    → IsToldOf s connection signed_by (sign_of s connection name)
+    (told_of operation.Sign (sign_seen (user_of s.policy connection)) name s connection)
 unfolding signing.sign_row
-sign_told keys s conn name orderly =
-    behind s.policy conn (signed_by (user_of s.policy conn)) s.waivers s.run.phase
+sign_told keys s connection name orderly =
+    behind s.policy connection (signed_by (user_of s.policy connection)) s.waivers s.run.phase
     (signing.signed_outcome s.waivers) (λ why. refl)
-    (permitted s.policy conn operation.Sign object.Desk)
-    (signing.finished s.run.phase >>= (λ f. signing.shown s.policy conn f name
-    >>= (λ n. signing.apart f s.waivers n (user_of s.policy conn)
-    >>= (λ free. Ok (signing.by_user s.policy conn n)))))
-    (row_seen (sign_seen (user_of s.policy conn)) name
-    (book_view s.policy conn s.waivers s.run.phase))
-    (sign_phase keys s.run.number s.policy conn s.waivers name s.run.phase orderly.run
+    (permitted s.policy connection operation.Sign object.Desk)
+    (signing.finished_run s.run.phase >>= (λ f. signing.full_marker s.policy connection f name
+    >>= (λ n. signing.apart f s.waivers n (user_of s.policy connection)
+    >>= (λ free. Ok (signing.by_user s.policy connection n)))))
+    (row_seen (sign_seen (user_of s.policy connection)) name
+    (book_view s.policy connection s.waivers s.run.phase))
+    (sign_phase keys s.run.number s.policy connection s.waivers name s.run.phase orderly.run
     orderly.places)
 
 -- ---- of two states
@@ -324,34 +316,36 @@ user_seen : (policy : Policy) (o : Option Session)
 user_seen policy None = refl
 user_seen policy (Some s) = refl
 
-same_user : (conn : ℕ) (a b : State) → SameView conn a b
-    → user_of a.policy conn ≡ user_of b.policy conn
-same_user conn a b same =
-    user_seen a.policy (session_of a.policy conn)
+same_user : (connection : ℕ) (a b : State) → SameView connection a b
+    → user_of a.policy connection ≡ user_of b.policy connection
+same_user connection a b same =
+    user_seen a.policy (session_of a.policy connection)
     ∙ ap (λ o. option_map_or (λ (i : Identity). i.user) o []) same.identity
-    ∙ sym (user_seen b.policy (session_of b.policy conn))
+    ∙ sym (user_seen b.policy (session_of b.policy connection))
 
-told_alike : (conn : ℕ) (a b : State) → SameView conn a b
+told_alike : (connection : ℕ) (a b : State) → SameView connection a b
     → (op : Operation) (test : Name → Test) (name : MarkerName)
-    → told_of op (test (user_of a.policy conn)) name a conn
-    ≡ told_of op (test (user_of b.policy conn)) name b conn
-told_alike conn a b same op test name =
-    same_behind (permitted a.policy conn op object.Desk) (permitted b.policy conn op object.Desk)
-    (λ allowed. row_seen (test (user_of a.policy conn)) name
-    (book_view a.policy conn a.waivers a.run.phase))
-    (λ allowed. row_seen (test (user_of b.policy conn)) name
-    (book_view b.policy conn b.waivers b.run.phase))
-    (same_permitted conn a b same op object.Desk)
+    → told_of op (test (user_of a.policy connection)) name a connection
+    ≡ told_of op (test (user_of b.policy connection)) name b connection
+told_alike connection a b same op test name =
+    same_behind (permitted a.policy connection op object.Desk)
+    (permitted b.policy connection op object.Desk)
+    (λ allowed. row_seen (test (user_of a.policy connection)) name
+    (book_view a.policy connection a.waivers a.run.phase))
+    (λ allowed. row_seen (test (user_of b.policy connection)) name
+    (book_view b.policy connection b.waivers b.run.phase))
+    (same_permitted connection a b same op object.Desk)
     (λ allowed is.
-    let inside = (allowed_tells op object.Desk (is_some (session_of a.policy conn))
-    (permits a.policy conn op object.Desk) allowed is).0 in
-    λ i. row_seen (test (same_user conn a b same i)) name ((same.sight inside).book i))
+    let inside = (allowed_tells op object.Desk (is_some (session_of a.policy connection))
+    (permits a.policy connection op object.Desk) allowed is).0 in
+    λ i. row_seen (test (same_user connection a b same i)) name ((same.sight inside).book i))
 
-both_alike : (conn : ℕ) (a b : State) → SameView conn a b
+both_alike : (connection : ℕ) (a b : State) → SameView connection a b
     → (change : Name → Change) (first second : signing.Outcome) (told other : Result Key Ending)
-    → IsToldOf a conn change first told → IsToldOf b conn change second other → told ≡ other
-    → SameOutcome conn (over_waivers a first) (over_waivers b second)
-both_alike conn a b same change first second told other of_a of_b e = record {
+    → IsToldOf a connection change first told → IsToldOf b connection change second other
+    → told ≡ other
+    → SameOutcome connection (over_waivers a first) (over_waivers b second)
+both_alike connection a b same change first second told other of_a of_b e = record {
   told = ap (λ r. response.Told r) (of_a.reply ∙ ap key_reply e ∙ sym of_b.reply);
   changes = of_a.changes ∙ ap is_ok e ∙ sym of_b.changes;
   view = record {
@@ -362,29 +356,33 @@ both_alike conn a b same change first second told other of_a of_b e = record {
           grants = s.grants;
           cells = s.cells;
           run = s.run;
-          book = of_a.view ∙ (λ i. view_left (change (same_user conn a b same i)) (e i) (s.book i))
+          book =
+              of_a.view ∙ (λ i. view_left (change (same_user connection a b same i)) (e i)
+              (s.book i))
               ∙ sym of_b.view;
         };
   };
 }
 
-pub waive_alike : PlacesAreOfKeys → (conn : ℕ) (a b : State) → IsOrderly a → IsOrderly b
-    → SameView conn a b → (name : MarkerName)
-    → SameOutcome conn (over_waivers a (waive_of a conn name))
-    (over_waivers b (waive_of b conn name))
-waive_alike keys conn a b orderly ordered same name =
-    both_alike conn a b same asked_by (waive_of a conn name) (waive_of b conn name)
-    (told_of operation.Waive ask_seen name a conn)
-    (told_of operation.Waive ask_seen name b conn)
-    (waive_told keys a conn name orderly) (waive_told keys b conn name ordered)
-    (told_alike conn a b same operation.Waive (λ who. ask_seen) name)
+pub waive_alike : PlacesAreOfKeys → (connection : ℕ) (a b : State) → IsOrderly a → IsOrderly b
+    → SameView connection a b → (name : MarkerName)
+    → SameOutcome connection (over_waivers a (waive_of a connection name))
+    (over_waivers b (waive_of b connection name))
+waive_alike keys connection a b orderly ordered same name =
+    both_alike connection a b same asked_by (waive_of a connection name)
+    (waive_of b connection name)
+    (told_of operation.Waive ask_seen name a connection)
+    (told_of operation.Waive ask_seen name b connection)
+    (waive_told keys a connection name orderly) (waive_told keys b connection name ordered)
+    (told_alike connection a b same operation.Waive (λ who. ask_seen) name)
 
-pub sign_alike_in : PlacesAreOfKeys → (conn : ℕ) (a b : State) → IsOrderly a → IsOrderly b
-    → SameView conn a b → (name : MarkerName)
-    → SameOutcome conn (over_waivers a (sign_of a conn name)) (over_waivers b (sign_of b conn name))
-sign_alike_in keys conn a b orderly ordered same name =
-    both_alike conn a b same signed_by (sign_of a conn name) (sign_of b conn name)
-    (told_of operation.Sign (sign_seen (user_of a.policy conn)) name a conn)
-    (told_of operation.Sign (sign_seen (user_of b.policy conn)) name b conn)
-    (sign_told keys a conn name orderly) (sign_told keys b conn name ordered)
-    (told_alike conn a b same operation.Sign sign_seen name)
+pub sign_alike_in : PlacesAreOfKeys → (connection : ℕ) (a b : State) → IsOrderly a → IsOrderly b
+    → SameView connection a b → (name : MarkerName)
+    → SameOutcome connection (over_waivers a (sign_of a connection name))
+    (over_waivers b (sign_of b connection name))
+sign_alike_in keys connection a b orderly ordered same name =
+    both_alike connection a b same signed_by (sign_of a connection name) (sign_of b connection name)
+    (told_of operation.Sign (sign_seen (user_of a.policy connection)) name a connection)
+    (told_of operation.Sign (sign_seen (user_of b.policy connection)) name b connection)
+    (sign_told keys a connection name orderly) (sign_told keys b connection name ordered)
+    (told_alike connection a b same operation.Sign sign_seen name)

@@ -22,9 +22,9 @@ abbrev pub IsNowhere : List Marker → Key → Type 0
 IsNowhere book key =
     (j : ℕ) (m : Marker) → slice_get book j ≡ Some m → key_eq (key_of m) key ≡ false
 
-refused : (b : Bool) → (b ≡ true → ⊥) → b ≡ false
-refused true never = absurd (never refl)
-refused false never = refl
+never_true : (b : Bool) → (b ≡ true → ⊥) → b ≡ false
+never_true true never = absurd (never refl)
+never_true false never = refl
 
 -- what is seen with another waiver of the marker of the key
 abbrev pub with_waiver : Key → (Option Waiver → Option Waiver) → MarkerSeen → MarkerSeen
@@ -76,7 +76,7 @@ module _ (shelf : List Submission) (seen : List Bool) (user : Name) (key : Key) 
   seen_at_place waivers place i m [] at is only = absurd (none-some m at)
   seen_at_place waivers place zero m (n ∷ book) at is only =
       let same : n ≡ m = same_Some n m at in
-      let none : Nowhere book = λ j k there. refused (key_eq (key_of k) key)
+      let none : Nowhere book = λ j k there. never_true (key_eq (key_of k) key)
       (λ has. absurd (omega (arith, only (suc j) k there has))) in
       let rest = markers_seen shelf seen user waivers (place + 1) book in
       let here : place ≡ place + 0 = omega arith in
@@ -93,7 +93,7 @@ module _ (shelf : List Submission) (seen : List Bool) (user : Name) (key : Key) 
         | false ↦ seen_nowhere waivers (place + 1) book none
       ]))
   seen_at_place waivers place (suc i) m (n ∷ book) at is only =
-      let apart : key_eq (key_of n) key ≡ false = refused (key_eq (key_of n) key)
+      let apart : key_eq (key_of n) key ≡ false = never_true (key_eq (key_of n) key)
       (λ has. absurd (omega (arith, only 0 n refl has))) in
       let later : IsOnlyAt book key i = λ j k there has. omega (arith, only (suc j) k there has) in
       let rest = markers_seen shelf seen user waivers (place + 1) book in
@@ -170,7 +170,7 @@ module _ (shelf : List Submission) (seen : List Bool) (user : Name) (key : Key) 
   changed_at change old new place i m [] at is only changed alike = absurd (none-some m at)
   changed_at change old new place zero m (n ∷ book) at is only changed alike =
       let same : n ≡ m = same_Some n m at in
-      let none : Nowhere book = λ j k there. refused (key_eq (key_of k) key)
+      let none : Nowhere book = λ j k there. never_true (key_eq (key_of k) key)
       (λ has. absurd (omega (arith, only (suc j) k there has))) in
       let here : place + 0 ≡ place = omega arith in
       (λ i. changed_one change n (waiver_at old place) (waiver_at new place)
@@ -182,7 +182,7 @@ module _ (shelf : List Submission) (seen : List Bool) (user : Name) (key : Key) 
       (marker_seen shelf seen user n (waiver_at old place))
       (markers_seen shelf seen user old (place + 1) book))
   changed_at change old new place (suc i) m (n ∷ book) at is only changed alike =
-      let apart : key_eq (key_of n) key ≡ false = refused (key_eq (key_of n) key)
+      let apart : key_eq (key_of n) key ≡ false = never_true (key_eq (key_of n) key)
       (λ has. absurd (omega (arith, only 0 n refl has))) in
       let later : IsOnlyAt book key i = λ j k there has. omega (arith, only (suc j) k there has) in
       let e : place + suc i ≡ (place + 1) + i = omega arith in

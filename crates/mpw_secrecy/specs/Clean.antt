@@ -42,7 +42,7 @@ pub record MayStart (state : State) : Type 0 where
 -- Whoever asks: the verdict is `clean` only where that is so.
 abbrev pub CleanWafersMayStart : State → Type 0
 CleanWafersMayStart state =
-    (conn : ℕ) (kept : Bool)
-    → response_of state (event.Ask conn (ask.SignOff Verdict)) kept ≡ response.Told
+    (connection : ℕ) (kept : Bool)
+    → response_of state (event.Ask connection (ask.SignOff Verdict)) kept ≡ response.Told
     (reply.Ok (stored line.Clean ∷ []))
     → MayStart state

@@ -21,30 +21,34 @@ pub record IsOrderly (state : State) : Type 0 where
 -- What is listed of two desks with the same view is the same.
 abbrev pub EqualViewsGiveEqualListings : Type 0
 EqualViewsGiveEqualListings =
-    (conn : ℕ) (a b : State) (request : Request) (kept : Bool)
-    → SameView conn a b → is_listing request ≡ true
-    → response_of a (event.Ask conn request) kept ≡ response_of b (event.Ask conn request) kept
+    (connection : ℕ) (a b : State) (request : Request) (kept : Bool)
+    → SameView connection a b → is_listing request ≡ true
+    → response_of a (event.Ask connection request) kept ≡ response_of b
+    (event.Ask connection request) kept
 
 -- Behind it the views are the same again.
 abbrev pub ListingsLeaveTheViews : Type 0
 ListingsLeaveTheViews =
-    (conn : ℕ) (a b : State) (request : Request) (kept : Bool)
-    → SameView conn a b → is_listing request ≡ true
-    → SameView conn (after a (event.Ask conn request) kept) (after b (event.Ask conn request) kept)
+    (connection : ℕ) (a b : State) (request : Request) (kept : Bool)
+    → SameView connection a b → is_listing request ≡ true
+    → SameView connection (after a (event.Ask connection request) kept)
+    (after b (event.Ask connection request) kept)
 
 -- Requests that a view decides, `waive` and `sign` too, are answered alike of two desks with the same view.
 abbrev pub EqualViewsGiveEqualAnswers : Type 0
 EqualViewsGiveEqualAnswers =
-    (conn : ℕ) (a b : State) (request : Request) (kept : Bool)
-    → IsOrderly a → IsOrderly b → SameView conn a b → is_of_view request ≡ true
-    → response_of a (event.Ask conn request) kept ≡ response_of b (event.Ask conn request) kept
+    (connection : ℕ) (a b : State) (request : Request) (kept : Bool)
+    → IsOrderly a → IsOrderly b → SameView connection a b → is_of_view request ≡ true
+    → response_of a (event.Ask connection request) kept ≡ response_of b
+    (event.Ask connection request) kept
 
 -- Behind them the views are the same again, with the waiver that was asked for or signed.
 abbrev pub EqualViewsStayEqual : Type 0
 EqualViewsStayEqual =
-    (conn : ℕ) (a b : State) (request : Request) (kept : Bool)
-    → IsOrderly a → IsOrderly b → SameView conn a b → is_of_view request ≡ true
-    → SameView conn (after a (event.Ask conn request) kept) (after b (event.Ask conn request) kept)
+    (connection : ℕ) (a b : State) (request : Request) (kept : Bool)
+    → IsOrderly a → IsOrderly b → SameView connection a b → is_of_view request ≡ true
+    → SameView connection (after a (event.Ask connection request) kept)
+    (after b (event.Ask connection request) kept)
 
 -- ---- lists of requests
 
@@ -55,20 +59,21 @@ pub record Asked : Type 0 where
 
 -- What a connection's requests are answered, one behind the other.
 abbrev pub answers_to : ℕ → State → List Asked → List Response
-answers_to conn state [] = []
-answers_to conn state (asked ∷ rest) =
-    response_of state (event.Ask conn asked.request) asked.kept
-    ∷ answers_to conn (after state (event.Ask conn asked.request) asked.kept) rest
+answers_to connection state [] = []
+answers_to connection state (asked ∷ rest) =
+    response_of state (event.Ask connection asked.request) asked.kept
+    ∷ answers_to connection (after state (event.Ask connection asked.request) asked.kept) rest
 
 -- The state that they leave.
 abbrev pub state_behind : ℕ → State → List Asked → State
-state_behind conn state [] = state
-state_behind conn state (asked ∷ rest) =
-    state_behind conn (after state (event.Ask conn asked.request) asked.kept) rest
+state_behind connection state [] = state
+state_behind connection state (asked ∷ rest) =
+    state_behind connection (after state (event.Ask connection asked.request) asked.kept) rest
 
-pub record SameBehind (conn : ℕ) (a b : State) (requests : List Asked) : Type 0 where
-  pub answers : answers_to conn a requests ≡ answers_to conn b requests
-  pub view : SameView conn (state_behind conn a requests) (state_behind conn b requests)
+pub record SameBehind (connection : ℕ) (a b : State) (requests : List Asked) : Type 0 where
+  pub answers : answers_to connection a requests ≡ answers_to connection b requests
+  pub view : SameView connection (state_behind connection a requests)
+      (state_behind connection b requests)
 
 abbrev pub AreListings : List Asked → Type 0
 AreListings [] = Unit {0}
@@ -76,8 +81,9 @@ AreListings (asked ∷ rest) = (is_listing asked.request ≡ true) × AreListing
 
 abbrev pub EqualViewsGiveEqualLists : Type 0
 EqualViewsGiveEqualLists =
-    (conn : ℕ) (a b : State) (requests : List Asked) → SameView conn a b → AreListings requests
-    → SameBehind conn a b requests
+    (connection : ℕ) (a b : State) (requests : List Asked) → SameView connection a b
+    → AreListings requests
+    → SameBehind connection a b requests
 
 abbrev pub AreOfView : List Asked → Type 0
 AreOfView [] = Unit {0}
@@ -85,11 +91,11 @@ AreOfView (asked ∷ rest) = (is_of_view asked.request ≡ true) × AreOfView re
 
 abbrev pub EqualViewsGiveEqualAnswersToLists : Type 0
 EqualViewsGiveEqualAnswersToLists =
-    (conn : ℕ) (a b : State) (requests : List Asked)
-    → IsOrderly a → IsOrderly b → SameView conn a b → AreOfView requests
-    → SameBehind conn a b requests
+    (connection : ℕ) (a b : State) (requests : List Asked)
+    → IsOrderly a → IsOrderly b → SameView connection a b → AreOfView requests
+    → SameBehind connection a b requests
 
 -- Of two states: what every list of these requests is answered.
 abbrev pub EqualViewsAreAnsweredAlike : State → State → Type 0
-EqualViewsAreAnsweredAlike a b = (conn : ℕ) (requests : List Asked) → SameView conn a b
-    → AreOfView requests → SameBehind conn a b requests
+EqualViewsAreAnsweredAlike a b = (connection : ℕ) (requests : List Asked) → SameView connection a b
+    → AreOfView requests → SameBehind connection a b requests

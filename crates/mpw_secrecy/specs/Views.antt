@@ -36,7 +36,7 @@ use Rattle.mpw_core.specs.Step.{State}
 
 -- Its user, with the active and the authorized roles, by name.
 abbrev pub identity_view : Policy → ℕ → Option Identity
-identity_view policy conn = option_map (identity_of policy) (session_of policy conn)
+identity_view policy connection = option_map (identity_of policy) (session_of policy connection)
 
 -- ---- cells
 
@@ -58,31 +58,34 @@ shape_of s item =
     record { cell = s.cell; version = s.version; placing = item.placing; element = item.element }
 
 abbrev pub shape_seen : Policy → ℕ → Item → Option Submission → List ShapeSeen
-shape_seen policy conn item None = []
-shape_seen policy conn item (Some s) = if may_read policy conn s then shape_of s item ∷ [] else []
+shape_seen policy connection item None = []
+shape_seen policy connection item (Some s) =
+    if may_read policy connection s then shape_of s item ∷ [] else []
 
 -- The shapes of the submission of a number.
 abbrev pub shapes_seen : Policy → ℕ → List Submission → ℕ → List ShapeSeen
-shapes_seen policy conn shelf number =
-    flat_map (λ item. shape_seen policy conn item (slice_get shelf item.origin)) (flat shelf number)
+shapes_seen policy connection shelf number =
+    flat_map (λ item. shape_seen policy connection item (slice_get shelf item.origin))
+    (flat shelf number)
 
 abbrev pub seen_at : Policy → ℕ → List Submission → ℕ → Option Submission → Option CellSeen
-seen_at policy conn shelf number None = None
-seen_at policy conn shelf number (Some s) =
+seen_at policy connection shelf number None = None
+seen_at policy connection shelf number (Some s) =
     Some (record {
       version = s.version;
       submitter = s.submitter;
-      shapes = shapes_seen policy conn
+      shapes = shapes_seen policy connection
           shelf number;
     })
 
 abbrev pub cell_at : Policy → ℕ → List Submission → Option ℕ → Option CellSeen
-cell_at policy conn shelf None = None
-cell_at policy conn shelf (Some number) = seen_at policy conn shelf number (slice_get shelf number)
+cell_at policy connection shelf None = None
+cell_at policy connection shelf (Some number) =
+    seen_at policy connection shelf number (slice_get shelf number)
 
 -- Of a cell: nothing where it has no submission.
 unfoldable pub cell_view : Policy → ℕ → List Submission → Name → Option CellSeen
-cell_view policy conn shelf cell = cell_at policy conn shelf (present shelf cell)
+cell_view policy connection shelf cell = cell_at policy connection shelf (present shelf cell)
 
 -- ---- the run
 
@@ -168,33 +171,34 @@ book_seen shelf seen user waivers rules book =
 
 -- Of what a finished run found.
 abbrev pub checked_view : Policy → ℕ → List (Option Waiver) → Checked → BookSeen
-checked_view policy conn waivers f =
+checked_view policy connection waivers f =
     let shelf = f.planned.snapshot.shelf in
-    book_seen shelf (seen_by policy conn shelf) (user_of policy conn) waivers
+    book_seen shelf (seen_by policy connection shelf) (user_of policy connection) waivers
     f.planned.snapshot.deck.rules f.book
 
 -- Nothing where no run is finished.
 abbrev pub book_view : Policy → ℕ → List (Option Waiver) → Phase → Option BookSeen
-book_view policy conn waivers Idle = None
-book_view policy conn waivers (Cutting planned) = None
-book_view policy conn waivers (Checking c) = None
-book_view policy conn waivers (Finished f) = Some (checked_view policy conn waivers f)
+book_view policy connection waivers Idle = None
+book_view policy connection waivers (Cutting planned) = None
+book_view policy connection waivers (Checking c) = None
+book_view policy connection waivers (Finished f) = Some (checked_view policy connection waivers f)
 
 -- ---- the view
 
 -- Whatever an operation and an object are, they are granted to the acting roles of both sessions or of neither; of each cell that
 -- may be read, of the run and of its book both see the same.
-pub record SameSight (conn : ℕ) (a b : State) : Type 0 where
+pub record SameSight (connection : ℕ) (a b : State) : Type 0 where
   pub grants : (operation : Operation) (object : Object)
-      → permits a.policy conn operation object ≡ permits b.policy conn operation object
-  pub cells : (cell : Name) → permits a.policy conn Read (object.Cell cell) ≡ true
-      → cell_view a.policy conn a.shelf cell ≡ cell_view b.policy conn b.shelf cell
+      → permits a.policy connection operation object ≡ permits b.policy connection operation object
+  pub cells : (cell : Name) → permits a.policy connection Read (object.Cell cell) ≡ true
+      → cell_view a.policy connection a.shelf cell ≡ cell_view b.policy connection b.shelf cell
   pub run : run_view a.run ≡ run_view b.run
-  pub book : book_view a.policy conn a.waivers a.run.phase ≡ book_view b.policy conn b.waivers
+  pub book : book_view a.policy connection a.waivers a.run.phase ≡ book_view b.policy connection
+      b.waivers
       b.run.phase
 
 -- Two desks of which the sessions of a connection have the same view: both or neither have a session, of the same user with the same
 -- roles, and where there is one, it sees the same.
-pub record SameView (conn : ℕ) (a b : State) : Type 0 where
-  pub identity : identity_view a.policy conn ≡ identity_view b.policy conn
-  pub sight : is_some (session_of a.policy conn) ≡ true → SameSight conn a b
+pub record SameView (connection : ℕ) (a b : State) : Type 0 where
+  pub identity : identity_view a.policy connection ≡ identity_view b.policy connection
+  pub sight : is_some (session_of a.policy connection) ≡ true → SameSight connection a b

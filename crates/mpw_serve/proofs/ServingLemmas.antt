@@ -25,40 +25,48 @@ flat_map-push f (t ∷ turns) turn = ap (λ l. f t ++ l) (flat_map-push f turns 
     ∙ sym (append_assoc (f t) (flat_map f turns) (f turn))
 
 -- a line whose text was written, or at which the sink failed
-pub serves_turn : (conn : ℕ) (input input' output output' : Option (List ℕ)) (desk desk' : KeptDesk)
+pub serves_turn : (connection : ℕ) (input input' output output' : Option (List ℕ))
+    (desk desk' : KeptDesk)
     (failed failed' : ℕ) (t : AnsweredLine) (written : Result ⊤ WireFault)
     (result : Result (Option End) WireFault)
-    → result ≡ with_end None written → IsAnsweredLine conn input desk t input' desk'
+    → result ≡ with_end None written → IsAnsweredLine connection input desk t input' desk'
     → WritesKnown output output' failed failed' (fault_of written) (answered_text t)
-    → ServesLine conn input input' output output' desk desk' result
-serves_turn conn input input' output output' desk desk' failed failed' t (Ok u) result e h w =
-    subst (ServesLine conn input input' output output' desk desk') (sym e) (t, h, w.0)
-serves_turn conn input input' output output' desk desk' failed failed' t (Err Read) result e h w =
+    → ServesLine connection input input' output output' desk desk' result
+serves_turn connection input input' output output' desk desk' failed failed' t (Ok u) result e h w =
+    subst (ServesLine connection input input' output output' desk desk') (sym e) (t, h, w.0)
+serves_turn connection input input' output output' desk desk' failed failed' t (Err Read) result e h
+    w =
     absurd w
-serves_turn conn input input' output output' desk desk' failed failed' t (Err Write) result e h w =
-    subst (ServesLine conn input input' output output' desk desk') (sym e)
+serves_turn connection input input' output output' desk desk' failed failed' t (Err Write) result e
+    h w =
+    subst (ServesLine connection input input' output output' desk desk') (sym e)
     (record { stop = Stop.unwritten t; stopped = (omega arith, h); told = tt; written = w.0 })
-serves_turn conn input input' output output' desk desk' failed failed' t (Err Memory) result e h w =
+serves_turn connection input input' output output' desk desk' failed failed' t (Err Memory) result e
+    h w =
     absurd w
 
 -- the end of the connection whose text was written, or at which the sink failed
-pub serves_stop : (conn : ℕ) (input input' output output' : Option (List ℕ)) (desk : KeptDesk)
+pub serves_stop : (connection : ℕ) (input input' output output' : Option (List ℕ)) (desk : KeptDesk)
     (failed failed' : ℕ) (s : Stop) (end : End) (written : Result ⊤ WireFault)
     (result : Result (Option End) WireFault)
-    → result ≡ with_end (Some end) written → IsStop conn 0 input desk s input' desk
+    → result ≡ with_end (Some end) written → IsStop connection 0 input desk s input' desk
     → end_of s ≡ Some end → HasText s
     → WritesKnown output output' failed failed' (fault_of written) (stop_text s)
-    → ServesLine conn input input' output output' desk desk result
-serves_stop conn input input' output output' desk failed failed' s end (Ok u) result e h is has w =
-    subst (ServesLine conn input input' output output' desk desk) (sym e)
+    → ServesLine connection input input' output output' desk desk result
+serves_stop connection input input' output output' desk failed failed' s end (Ok u) result e h is
+    has w =
+    subst (ServesLine connection input input' output output' desk desk) (sym e)
     (record { stop = s; stopped = h; told = is; written = w.0 })
-serves_stop conn input input' output output' desk failed failed' s end (Err Read) result e h is has
+serves_stop connection input input' output output' desk failed failed' s end (Err Read) result e h
+    is has
     w = absurd w
-serves_stop conn input input' output output' desk failed failed' s end (Err Write) result e h is has
+serves_stop connection input input' output output' desk failed failed' s end (Err Write) result e h
+    is has
     w =
-    subst (ServesLine conn input input' output output' desk desk) (sym e)
+    subst (ServesLine connection input input' output output' desk desk) (sym e)
     (record { stop = s; stopped = h; told = has; written = w.0 })
-serves_stop conn input input' output output' desk failed failed' s end (Err Memory) result e h is
+serves_stop connection input input' output output' desk failed failed' s end (Err Memory) result e h
+    is
     has w = absurd w
 
 -- what the last line's result is told as
@@ -70,30 +78,30 @@ TellsLast (Err f) (Ok e) = ⊥
 TellsLast (Err f) (Err f') = f' ≡ f
 
 -- the connection so far, after some lines that were answered
-pub record Progress (conn : ℕ) (input input' output output' : Option (List ℕ))
+pub record Progress (connection : ℕ) (input input' output output' : Option (List ℕ))
     (desk desk' : KeptDesk) (count : ℕ) : Type 0 where
   pub turns : List AnsweredLine
-  pub answered : IsTrace conn input desk turns input' desk'
+  pub answered : IsTrace connection input desk turns input' desk'
   pub counted : length turns ≡ count
   pub written : Appends output output' (flat_map answered_text turns)
 
-pub start : (conn : ℕ) (input output : Option (List ℕ)) (desk : KeptDesk)
-    → Progress conn input input output output desk desk 0
-start conn input output desk =
+pub start : (connection : ℕ) (input output : Option (List ℕ)) (desk : KeptDesk)
+    → Progress connection input input output output desk desk 0
+start connection input output desk =
     record { turns = []; answered = IsTrace.none; counted = refl; written = Appends-nil output }
 
 -- a line was answered, and the connection goes on
-pub advance : (conn : ℕ) (input mid input' output between output' : Option (List ℕ))
+pub advance : (connection : ℕ) (input mid input' output between output' : Option (List ℕ))
     (desk middle desk' : KeptDesk) (count : ℕ)
-    → Progress conn input mid output between desk middle count
+    → Progress connection input mid output between desk middle count
     → (result : Result (Option End) WireFault) → result ≡ Ok None
-    → ServesLine conn mid input' between output' middle desk' result
-    → Progress conn input input' output output' desk desk' (count + 1)
-advance conn input mid input' output between output' desk middle desk' count p result e s =
-    go (subst (ServesLine conn mid input' between output' middle desk') e s)
+    → ServesLine connection mid input' between output' middle desk' result
+    → Progress connection input input' output output' desk desk' (count + 1)
+advance connection input mid input' output between output' desk middle desk' count p result e s =
+    go (subst (ServesLine connection mid input' between output' middle desk') e s)
   where
-    go : ServesLine conn mid input' between output' middle desk' (Ok None)
-        → Progress conn input input' output output' desk desk' (count + 1)
+    go : ServesLine connection mid input' between output' middle desk' (Ok None)
+        → Progress connection input input' output output' desk desk' (count + 1)
     go (t, h, w) = record {
       turns = p.turns ++ t ∷ [];
       answered = IsTrace.then p.turns t mid input' middle desk' p.answered h;
@@ -104,17 +112,17 @@ advance conn input mid input' output between output' desk middle desk' count p r
     }
 
 -- what ended the connection on its first line ends it on a later one
-stop_at : (conn lines : ℕ) (input input' : Option (List ℕ)) (desk desk' : KeptDesk) (s : Stop)
-    → lines < max_lines → IsStop conn 0 input desk s input' desk'
-    → IsStop conn lines input desk s input' desk'
-stop_at conn lines input input' desk desk' Stop.closed lt h = (lt, h.1, h.2)
-stop_at conn lines input input' desk desk' Stop.long lt h = (lt, h.1, h.2)
-stop_at conn lines input input' desk desk' Stop.cut lt h = (lt, h.1, h.2)
-stop_at conn lines input input' desk desk' Stop.starving lt h = (lt, h.1, h.2)
-stop_at conn lines input input' desk desk' Stop.unreadable lt h = (lt, h.1, h.2)
-stop_at conn lines input input' desk desk' Stop.spent lt h =
+stop_at : (connection lines : ℕ) (input input' : Option (List ℕ)) (desk desk' : KeptDesk) (s : Stop)
+    → lines < max_lines → IsStop connection 0 input desk s input' desk'
+    → IsStop connection lines input desk s input' desk'
+stop_at connection lines input input' desk desk' Stop.closed lt h = (lt, h.1, h.2)
+stop_at connection lines input input' desk desk' Stop.long lt h = (lt, h.1, h.2)
+stop_at connection lines input input' desk desk' Stop.cut lt h = (lt, h.1, h.2)
+stop_at connection lines input input' desk desk' Stop.starving lt h = (lt, h.1, h.2)
+stop_at connection lines input input' desk desk' Stop.unreadable lt h = (lt, h.1, h.2)
+stop_at connection lines input input' desk desk' Stop.spent lt h =
     let no : 0 ≡ 4096 = h.0 in absurd (omega (arith, no))
-stop_at conn lines input input' desk desk' (Stop.unwritten turn) lt h = (lt, h.1)
+stop_at connection lines input input' desk desk' (Stop.unwritten turn) lt h = (lt, h.1)
 
 -- what was written before a line, and then for it
 written_after : (output mid output' : Option (List ℕ)) (fault : Option WireFault)
@@ -129,42 +137,47 @@ written_after output mid output' (Some Write) before last p (front, rest, e, q) 
 written_after output mid output' (Some Memory) before last p w = absurd w
 
 -- the last line of the connection, or the one at which a device failed
-pub finish : (conn : ℕ) (input mid input' output between output' : Option (List ℕ))
+pub finish : (connection : ℕ) (input mid input' output between output' : Option (List ℕ))
     (desk middle desk' : KeptDesk) (count : ℕ)
-    → Progress conn input mid output between desk middle count → count < max_lines
+    → Progress connection input mid output between desk middle count → count < max_lines
     → (result : Result (Option End) WireFault) (with_end : Result End WireFault)
     → TellsLast result with_end
-    → ServesLine conn mid input' between output' middle desk' result
-    → ServesLines conn input input' output output' desk desk' with_end
-finish conn input mid input' output between output' desk middle desk' count p lt (Ok None) with_end
+    → ServesLine connection mid input' between output' middle desk' result
+    → ServesLines connection input input' output output' desk desk' with_end
+finish connection input mid input' output between output' desk middle desk' count p lt (Ok None)
+    with_end
     last s = absurd last
-finish conn input mid input' output between output' desk middle desk' count p lt (Ok (Some e))
-    (Ok e') last s = subst (λ x. ServesLines conn input input' output output' desk desk' (Ok x))
+finish connection input mid input' output between output' desk middle desk' count p lt (Ok (Some e))
+    (Ok e') last s = subst (λ x. ServesLines connection input input' output output' desk desk'
+    (Ok x))
     (sym last) (record {
       turns = p.turns;
       left = mid;
       reached = middle;
       stop = s.stop;
       answered = p.answered;
-      stopped = stop_at conn (length p.turns) mid input' middle desk' s.stop
+      stopped = stop_at connection (length p.turns) mid input' middle desk' s.stop
           (omega (arith, lt, p.counted)) s.stopped;
       told = s.told;
       written = written_after output between output' None (flat_map answered_text p.turns)
           (stop_text s.stop) p.written s.written;
     })
-finish conn input mid input' output between output' desk middle desk' count p lt (Ok (Some e))
+finish connection input mid input' output between output' desk middle desk' count p lt (Ok (Some e))
     (Err f) last s = absurd last
-finish conn input mid input' output between output' desk middle desk' count p lt (Err f) (Ok e) last
+finish connection input mid input' output between output' desk middle desk' count p lt (Err f)
+    (Ok e) last
     s = absurd last
-finish conn input mid input' output between output' desk middle desk' count p lt (Err f) (Err f')
-    last s = subst (λ x. ServesLines conn input input' output output' desk desk' (Err x)) (sym last)
+finish connection input mid input' output between output' desk middle desk' count p lt (Err f)
+    (Err f')
+    last s = subst (λ x. ServesLines connection input input' output output' desk desk' (Err x))
+    (sym last)
     (record {
       turns = p.turns;
       left = mid;
       reached = middle;
       stop = s.stop;
       answered = p.answered;
-      stopped = stop_at conn (length p.turns) mid input' middle desk' s.stop
+      stopped = stop_at connection (length p.turns) mid input' middle desk' s.stop
           (omega (arith, lt, p.counted)) s.stopped;
       told = s.told;
       written = written_after output between output' (Some f) (flat_map answered_text p.turns)
@@ -172,22 +185,24 @@ finish conn input mid input' output between output' desk middle desk' count p lt
     })
 
 -- the last line of the connection, where no device failed
-pub finish_at : (conn : ℕ) (input mid input' output between output' : Option (List ℕ))
+pub finish_at : (connection : ℕ) (input mid input' output between output' : Option (List ℕ))
     (desk middle desk' : KeptDesk) (count : ℕ)
-    → Progress conn input mid output between desk middle count → count < max_lines
+    → Progress connection input mid output between desk middle count → count < max_lines
     → (result : Result (Option End) WireFault) (e : End) → result ≡ Ok (Some e)
-    → ServesLine conn mid input' between output' middle desk' result
-    → ServesLines conn input input' output output' desk desk' (Ok e)
-finish_at conn input mid input' output between output' desk middle desk' count p lt result e is s =
-    finish conn input mid input' output between output' desk middle desk' count p lt (Ok (Some e))
-    (Ok e) refl (subst (ServesLine conn mid input' between output' middle desk') is s)
+    → ServesLine connection mid input' between output' middle desk' result
+    → ServesLines connection input input' output output' desk desk' (Ok e)
+finish_at connection input mid input' output between output' desk middle desk' count p lt result e
+    is s =
+    finish connection input mid input' output between output' desk middle desk' count p lt
+    (Ok (Some e))
+    (Ok e) refl (subst (ServesLine connection mid input' between output' middle desk') is s)
 
 -- as many lines as one connection may have were answered
-pub spent : (conn : ℕ) (input input' output output' : Option (List ℕ)) (desk desk' : KeptDesk)
+pub spent : (connection : ℕ) (input input' output output' : Option (List ℕ)) (desk desk' : KeptDesk)
     (count : ℕ)
-    → Progress conn input input' output output' desk desk' count → count ≡ max_lines
-    → ServesLines conn input input' output output' desk desk' (Ok end.Spent)
-spent conn input input' output output' desk desk' count p e = record {
+    → Progress connection input input' output output' desk desk' count → count ≡ max_lines
+    → ServesLines connection input input' output output' desk desk' (Ok end.Spent)
+spent connection input input' output output' desk desk' count p e = record {
   turns = p.turns;
   left = input';
   reached = desk';
@@ -200,13 +215,15 @@ spent conn input input' output output' desk desk' count p e = record {
 }
 
 -- the end of a connection was handled, or memory was wanting
-pub gone_cases : {E : Type 0} (conn : ℕ) (d d' : KeptDesk) (result : Result Response E)
+pub gone_cases : {E : Type 0} (connection : ℕ) (d d' : KeptDesk) (result : Result Response E)
     (is_gone : Bool) → is_gone ≡ is_ok result
-    → IfOk result (λ response. IsHandled d (event.Gone conn) response d') → OnErr result (d' ≡ d)
-    → IsGone conn d is_gone d'
-gone_cases conn d d' (Ok response) is_gone is ok err =
-    subst (λ gone. IsGone conn d gone d') (sym is) (response, ok)
-gone_cases conn d d' (Err e) is_gone is ok err = subst (λ gone. IsGone conn d gone d') (sym is) err
+    → IfOk result (λ response. IsHandled d (event.Gone connection) response d')
+    → OnErr result (d' ≡ d)
+    → IsGone connection d is_gone d'
+gone_cases connection d d' (Ok response) is_gone is ok err =
+    subst (λ gone. IsGone connection d gone d') (sym is) (response, ok)
+gone_cases connection d d' (Err e) is_gone is ok err =
+    subst (λ gone. IsGone connection d gone d') (sym is) err
 
 -- ---- what is pending
 
@@ -251,44 +268,48 @@ module _
     unmoved : (d d' : KeptDesk) → d' ≡ d → GoesOnTo d d'
     unmoved d d' same = subst (GoesOnTo d) (sym same) (stays d)
 
-    turn_on : (conn : ℕ) (input input' : Option (List ℕ)) (d d' : KeptDesk) (turn : AnsweredLine)
-        → IsAnsweredLine conn input d turn input' d' → GoesOnTo d d'
-    turn_on conn input input' d d' (AnsweredLine.asked line request (Answer.replied response))
+    turn_on : (connection : ℕ) (input input' : Option (List ℕ)) (d d' : KeptDesk)
+        (turn : AnsweredLine)
+        → IsAnsweredLine connection input d turn input' d' → GoesOnTo d d'
+    turn_on connection input input' d d' (AnsweredLine.asked line request (Answer.replied response))
         (text, (asked, handled, worked)) =
-        on d asked d' (goes d asked (event.Ask conn request) response handled)
+        on d asked d' (goes d asked (event.Ask connection request) response handled)
         (works request response asked d' worked)
-    turn_on conn input input' d d' (AnsweredLine.asked line request Answer.starved) is =
+    turn_on connection input input' d d' (AnsweredLine.asked line request Answer.starved) is =
         unmoved d d' is.1
-    turn_on conn input input' d d' (AnsweredLine.malformed line) is = unmoved d d' is.2
+    turn_on connection input input' d d' (AnsweredLine.malformed line) is = unmoved d d' is.2
 
-    trace_on : (conn : ℕ) (input : Option (List ℕ)) (d : KeptDesk) (turns : List AnsweredLine)
-        (input' : Option (List ℕ)) (d' : KeptDesk) → IsTrace conn input d turns input' d'
+    trace_on : (connection : ℕ) (input : Option (List ℕ)) (d : KeptDesk) (turns : List AnsweredLine)
+        (input' : Option (List ℕ)) (d' : KeptDesk) → IsTrace connection input d turns input' d'
         → GoesOnTo d d'
-    trace_on conn input d turns input' d' IsTrace.none = stays d
-    trace_on conn input d turns input' d' (IsTrace.then before turn middle last near far trace is) =
-        on d near far (trace_on conn input d before middle near trace)
-        (turn_on conn middle last near far turn is)
+    trace_on connection input d turns input' d' IsTrace.none = stays d
+    trace_on connection input d turns input' d'
+        (IsTrace.then before turn middle last near far trace is) =
+        on d near far (trace_on connection input d before middle near trace)
+        (turn_on connection middle last near far turn is)
 
-    stop_on : (conn lines : ℕ) (input input' : Option (List ℕ)) (d d' : KeptDesk) (s : Stop)
-        → IsStop conn lines input d s input' d' → GoesOnTo d d'
-    stop_on conn lines input input' d d' Stop.closed is = unmoved d d' is.2
-    stop_on conn lines input input' d d' Stop.long is = unmoved d d' is.2
-    stop_on conn lines input input' d d' Stop.cut is = unmoved d d' is.2
-    stop_on conn lines input input' d d' Stop.starving is = unmoved d d' is.2
-    stop_on conn lines input input' d d' Stop.unreadable is = unmoved d d' is.2
-    stop_on conn lines input input' d d' Stop.spent is = unmoved d d' is.2
-    stop_on conn lines input input' d d' (Stop.unwritten turn) is = turn_on conn input input' d d'
+    stop_on : (connection lines : ℕ) (input input' : Option (List ℕ)) (d d' : KeptDesk) (s : Stop)
+        → IsStop connection lines input d s input' d' → GoesOnTo d d'
+    stop_on connection lines input input' d d' Stop.closed is = unmoved d d' is.2
+    stop_on connection lines input input' d d' Stop.long is = unmoved d d' is.2
+    stop_on connection lines input input' d d' Stop.cut is = unmoved d d' is.2
+    stop_on connection lines input input' d d' Stop.starving is = unmoved d d' is.2
+    stop_on connection lines input input' d d' Stop.unreadable is = unmoved d d' is.2
+    stop_on connection lines input input' d d' Stop.spent is = unmoved d d' is.2
+    stop_on connection lines input input' d d' (Stop.unwritten turn) is =
+        turn_on connection input input' d d'
         turn is.1
 
-    gone_on : (conn : ℕ) (d : KeptDesk) (is_gone : Bool) (d' : KeptDesk) → IsGone conn d is_gone d'
+    gone_on : (connection : ℕ) (d : KeptDesk) (is_gone : Bool) (d' : KeptDesk)
+        → IsGone connection d is_gone d'
         → GoesOnTo d d'
-    gone_on conn d true d' is = goes d d' (event.Gone conn) is.0 is.1
-    gone_on conn d false d' same = unmoved d d' same
+    gone_on connection d true d' is = goes d d' (event.Gone connection) is.0 is.1
+    gone_on connection d false d' same = unmoved d d' same
 
-    pub served_on : (conn : ℕ) (input left output written : Option (List ℕ)) (d d' : KeptDesk)
-        (served : Served) → Serves conn input left output written d d' served → GoesOnTo d d'
-    served_on conn input left output written d d' served (reached, lines, gone) =
+    pub served_on : (connection : ℕ) (input left output written : Option (List ℕ)) (d d' : KeptDesk)
+        (served : Served) → Serves connection input left output written d d' served → GoesOnTo d d'
+    served_on connection input left output written d d' served (reached, lines, gone) =
         on d reached d' (on d lines.reached reached
-        (trace_on conn input d lines.turns lines.left lines.reached lines.answered)
-        (stop_on conn (length lines.turns) lines.left left lines.reached reached lines.stop
-        lines.stopped)) (gone_on conn reached served.is_gone d' gone)
+        (trace_on connection input d lines.turns lines.left lines.reached lines.answered)
+        (stop_on connection (length lines.turns) lines.left left lines.reached reached lines.stop
+        lines.stopped)) (gone_on connection reached served.is_gone d' gone)

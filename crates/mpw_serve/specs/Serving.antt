@@ -71,28 +71,28 @@ stop_text (unwritten turn) = answered_text turn
 -- the desk's response is its own, and the desk goes on with it, its keeper too; a run that is accepted is then worked off. Want of memory
 -- leaves both
 abbrev pub IsAnswer : ℕ → Request → KeptDesk → Answer → KeptDesk → Type 0
-IsAnswer conn request desk (replied response) desk' =
-    (asked : KeptDesk) × IsHandled desk (event.Ask conn request) response asked
+IsAnswer connection request desk (replied response) desk' =
+    (asked : KeptDesk) × IsHandled desk (event.Ask connection request) response asked
     × WorksBehind request response asked desk'
-IsAnswer conn request desk starved desk' = desk' ≡ desk
+IsAnswer connection request desk starved desk' = desk' ≡ desk
 
 -- the text is taken off the input, and it gets what it asks; a line that is no request's text leaves the desk
 abbrev pub IsAnsweredLine : ℕ → Option (List ℕ) → KeptDesk → AnsweredLine → Option (List ℕ)
     → KeptDesk → Type 0
-IsAnsweredLine conn input desk (asked line request answer) input' desk' =
-    IsText input input' line request × IsAnswer conn request desk answer desk'
-IsAnsweredLine conn input desk (malformed line) input' desk' =
+IsAnsweredLine connection input desk (asked line request answer) input' desk' =
+    IsText input input' line request × IsAnswer connection request desk answer desk'
+IsAnsweredLine connection input desk (malformed line) input' desk' =
     TakesLine input input' line × (ask_of line ≡ ask.Form) × (desk' ≡ desk)
 
 -- the lines were answered one after the other
-pub data IsTrace (conn : ℕ) (input : Option (List ℕ)) (desk : KeptDesk) : List AnsweredLine
+pub data IsTrace (connection : ℕ) (input : Option (List ℕ)) (desk : KeptDesk) : List AnsweredLine
     → Option (List ℕ) → KeptDesk → Type 0 where
-  none : IsTrace conn input desk [] input desk
+  none : IsTrace connection input desk [] input desk
   then : (turns : List AnsweredLine) (turn : AnsweredLine) (input' input'' : Option (List ℕ))
       (desk' desk'' : KeptDesk)
-      → IsTrace conn input desk turns input' desk'
-      → IsAnsweredLine conn input' desk' turn input'' desk''
-      → IsTrace conn input desk (turns ++ turn ∷ []) input'' desk''
+      → IsTrace connection input desk turns input' desk'
+      → IsAnsweredLine connection input' desk' turn input'' desk''
+      → IsTrace connection input desk (turns ++ turn ∷ []) input'' desk''
 
 -- the greatest number of lines of one connection
 abbrev pub max_lines : ℕ
@@ -100,20 +100,20 @@ max_lines = 4096
 
 -- what ended the connection did so, after that many lines
 abbrev pub IsStop : ℕ → ℕ → Option (List ℕ) → KeptDesk → Stop → Option (List ℕ) → KeptDesk → Type 0
-IsStop conn lines input desk closed input' desk' =
+IsStop connection lines input desk closed input' desk' =
     (lines < max_lines) × TakesNothing input input' × (desk' ≡ desk)
-IsStop conn lines input desk long input' desk' =
+IsStop connection lines input desk long input' desk' =
     (lines < max_lines) × TakesTooLong input input' × (desk' ≡ desk)
-IsStop conn lines input desk cut input' desk' =
+IsStop connection lines input desk cut input' desk' =
     (lines < max_lines) × TakesCut input input' × (desk' ≡ desk)
-IsStop conn lines input desk starving input' desk' =
+IsStop connection lines input desk starving input' desk' =
     (lines < max_lines) × BreaksMemory input input' × (desk' ≡ desk)
-IsStop conn lines input desk unreadable input' desk' =
+IsStop connection lines input desk unreadable input' desk' =
     (lines < max_lines) × BreaksRead input input' × (desk' ≡ desk)
-IsStop conn lines input desk spent input' desk' =
+IsStop connection lines input desk spent input' desk' =
     (lines ≡ max_lines) × (input' ≡ input) × (desk' ≡ desk)
-IsStop conn lines input desk (unwritten turn) input' desk' =
-    (lines < max_lines) × IsAnsweredLine conn input desk turn input' desk'
+IsStop connection lines input desk (unwritten turn) input' desk' =
+    (lines < max_lines) × IsAnsweredLine connection input desk turn input' desk'
 
 -- the end that is told where no device failed
 abbrev pub end_of : Stop → Option End
@@ -158,14 +158,14 @@ write_failures (Some Write) failures = u64_saturate (failures + 1)
 write_failures (Some Memory) failures = failures
 
 -- the lines of a connection: those that were answered, what ended it, and the text of all that
-pub record ServesLines (conn : ℕ) (input input' output output' : Option (List ℕ))
+pub record ServesLines (connection : ℕ) (input input' output output' : Option (List ℕ))
     (desk desk' : KeptDesk) (result : Result End WireFault) : Type 0 where
   pub turns : List AnsweredLine
   pub left : Option (List ℕ)
   pub reached : KeptDesk
   pub stop : Stop
-  pub answered : IsTrace conn input desk turns left reached
-  pub stopped : IsStop conn (length turns) left reached stop input' desk'
+  pub answered : IsTrace connection input desk turns left reached
+  pub stopped : IsStop connection (length turns) left reached stop input' desk'
   pub told : Tells stop result
   pub written : Written output output' (fault_of result) (flat_map answered_text turns)
       (stop_text stop)
@@ -173,16 +173,17 @@ pub record ServesLines (conn : ℕ) (input input' output output' : Option (List 
 -- whether the end of the connection was handed to the desk: it was, with the desk's response; or there was no memory, and
 -- the desk is left
 abbrev pub IsGone : ℕ → KeptDesk → Bool → KeptDesk → Type 0
-IsGone conn desk true desk' =
-    (response : Response) × IsHandled desk (event.Gone conn) response desk'
-IsGone conn desk false desk' = desk' ≡ desk
+IsGone connection desk true desk' =
+    (response : Response) × IsHandled desk (event.Gone connection) response desk'
+IsGone connection desk false desk' = desk' ≡ desk
 
 -- a connection: its lines, and then its end, however the lines ended
 abbrev pub Serves : ℕ → Option (List ℕ) → Option (List ℕ) → Option (List ℕ) → Option (List ℕ)
     → KeptDesk → KeptDesk → Served → Type 0
-Serves conn input input' output output' desk desk' served =
-    (reached : KeptDesk) × ServesLines conn input input' output output' desk reached served.ended
-    × IsGone conn reached served.is_gone desk'
+Serves connection input input' output output' desk desk' served =
+    (reached : KeptDesk) × ServesLines connection input input' output output' desk reached
+    served.ended
+    × IsGone connection reached served.is_gone desk'
 
 -- where nothing was pending in the sink, nothing is, unless the sink failed
 abbrev pub LeavesNothingPending : Option WireFault → Bool → Bool → Type 0

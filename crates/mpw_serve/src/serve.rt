@@ -59,14 +59,22 @@ fn handle<K: Keeper, P: Progress>(
     alloc: Global,
     core: &mut Core,
     keeper: &mut K,
-    conn: u32,
+    connection: u32,
     request: SharedRequest,
     progress: &mut P,
 ) -> Option<Response>
-    ensures { IsAnswer conn request (kept_desk core.old (K.kept keeper.old) (K.failures keeper.old)) (answer_of result) (kept_desk core.new (K.kept keeper.new) (K.failures keeper.new)) }
+    ensures { IsAnswer connection request (kept_desk core.old (K.kept keeper.old) (K.failures keeper.old)) (answer_of result) (kept_desk core.new (K.kept keeper.new) (K.failures keeper.new)) }
 {
     let asked = request.copy().ok()?;
-    let response = core.handle(keeper, Event::Ask { conn, request }).ok()?;
+    let response = core
+        .handle(
+            keeper,
+            Event::Ask {
+                conn: connection,
+                request,
+            },
+        )
+        .ok()?;
     work_behind(rt, alloc, core, keeper, asked.get(), &response, progress);
     Some(response)
 }
@@ -77,15 +85,15 @@ fn answer<K: Keeper, W: Sink, P: Progress>(
     alloc: Global,
     core: &mut Core,
     keeper: &mut K,
-    conn: u32,
+    connection: u32,
     request: SharedRequest,
     writer: &mut W,
     progress: &mut P,
 ) -> Result<(), WireFault>
-    ensures answer { (answer : Answer) × IsAnswer conn request (kept_desk core.old (K.kept keeper.old) (K.failures keeper.old)) answer (kept_desk core.new (K.kept keeper.new) (K.failures keeper.new)) × Writes W.contents W.failures writer.old writer.new result (answer_text answer) }
+    ensures answer { (answer : Answer) × IsAnswer connection request (kept_desk core.old (K.kept keeper.old) (K.failures keeper.old)) answer (kept_desk core.new (K.kept keeper.new) (K.failures keeper.new)) × Writes W.contents W.failures writer.old writer.new result (answer_text answer) }
     ensures handed { LeavesNothingPending (fault_of result) (W.pending writer.old) (W.pending writer.new) }
 {
-    match handle(rt, alloc, core, keeper, conn, request, progress) {
+    match handle(rt, alloc, core, keeper, connection, request, progress) {
         Some(response) => write_response(&response, writer),
         None => write_refusal(LineRefusal::Memory, writer),
     }
@@ -107,12 +115,12 @@ fn serve_line<K: Keeper, R: Source, W: Sink, P: Progress>(
     alloc: Global,
     core: &mut Core,
     keeper: &mut K,
-    conn: u32,
+    connection: u32,
     reader: &mut R,
     writer: &mut W,
     progress: &mut P,
 ) -> Result<Option<End>, WireFault>
-    ensures line { ServesLine conn (R.remaining reader.old) (R.remaining reader.new) (W.contents writer.old) (W.contents writer.new) (kept_desk core.old (K.kept keeper.old) (K.failures keeper.old)) (kept_desk core.new (K.kept keeper.new) (K.failures keeper.new)) result }
+    ensures line { ServesLine connection (R.remaining reader.old) (R.remaining reader.new) (W.contents writer.old) (W.contents writer.new) (kept_desk core.old (K.kept keeper.old) (K.failures keeper.old)) (kept_desk core.new (K.kept keeper.new) (K.failures keeper.new)) result }
     ensures reader { R.failures reader.new ≡ read_failures (fault_of result) (R.failures reader.old) }
     ensures writer { W.failures writer.new ≡ write_failures (fault_of result) (W.failures writer.old) }
     ensures handed { LeavesNothingPending (fault_of result) (W.pending writer.old) (W.pending writer.new) }
@@ -120,7 +128,9 @@ fn serve_line<K: Keeper, R: Source, W: Sink, P: Progress>(
     match read_request(alloc, reader) {
         Ok(Asked::Request(request)) => with_end(
             None,
-            answer(rt, alloc, core, keeper, conn, request, writer, progress),
+            answer(
+                rt, alloc, core, keeper, connection, request, writer, progress,
+            ),
         ),
         Ok(Asked::Form) => with_end(None, write_refusal(LineRefusal::Form, writer)),
         Ok(Asked::Long) => with_end(Some(End::Long), write_refusal(LineRefusal::Long, writer)),
@@ -143,18 +153,20 @@ fn serve_lines<K: Keeper, R: Source, W: Sink, P: Progress>(
     alloc: Global,
     core: &mut Core,
     keeper: &mut K,
-    conn: u32,
+    connection: u32,
     reader: &mut R,
     writer: &mut W,
     progress: &mut P,
 ) -> Result<End, WireFault>
-    ensures lines { ServesLines conn (R.remaining reader.old) (R.remaining reader.new) (W.contents writer.old) (W.contents writer.new) (kept_desk core.old (K.kept keeper.old) (K.failures keeper.old)) (kept_desk core.new (K.kept keeper.new) (K.failures keeper.new)) result }
+    ensures lines { ServesLines connection (R.remaining reader.old) (R.remaining reader.new) (W.contents writer.old) (W.contents writer.new) (kept_desk core.old (K.kept keeper.old) (K.failures keeper.old)) (kept_desk core.new (K.kept keeper.new) (K.failures keeper.new)) result }
     ensures reader { R.failures reader.new ≡ read_failures (fault_of result) (R.failures reader.old) }
     ensures writer { W.failures writer.new ≡ write_failures (fault_of result) (W.failures writer.old) }
     ensures handed { LeavesNothingPending (fault_of result) (W.pending writer.old) (W.pending writer.new) }
 {
     for _ in 0..MAX_LINES {
-        match serve_line(rt, alloc, core, keeper, conn, reader, writer, progress) {
+        match serve_line(
+            rt, alloc, core, keeper, connection, reader, writer, progress,
+        ) {
             Ok(None) => {}
             Ok(Some(end)) => return Ok(end),
             Err(fault) => return Err(fault),
@@ -164,10 +176,11 @@ fn serve_lines<K: Keeper, R: Source, W: Sink, P: Progress>(
 }
 
 /// Hands the desk the connection's end, and tells whether it was handed; it isn't where memory is wanting.
-fn hand_end<K: Keeper>(core: &mut Core, keeper: &mut K, conn: u32) -> bool
-    ensures { IsGone conn (kept_desk core.old (K.kept keeper.old) (K.failures keeper.old)) result (kept_desk core.new (K.kept keeper.new) (K.failures keeper.new)) }
+fn hand_end<K: Keeper>(core: &mut Core, keeper: &mut K, connection: u32) -> bool
+    ensures { IsGone connection (kept_desk core.old (K.kept keeper.old) (K.failures keeper.old)) result (kept_desk core.new (K.kept keeper.new) (K.failures keeper.new)) }
 {
-    core.handle(keeper, Event::Gone { conn }).is_ok()
+    core.handle(keeper, Event::Gone { conn: connection })
+        .is_ok()
 }
 
 /// Serves a connection: the lines of the reader get their replies on the writer, in order, until the input ends, a
@@ -181,25 +194,27 @@ pub fn serve_core<K: Keeper, R: Source, W: Sink, P: Progress>(
     alloc: Global,
     core: &mut Core,
     keeper: &mut K,
-    conn: u32,
+    connection: u32,
     reader: &mut R,
     writer: &mut W,
     progress: &mut P,
 ) -> Served
-    ensures served { Serves conn (R.remaining reader.old) (R.remaining reader.new) (W.contents writer.old) (W.contents writer.new) (kept_desk core.old (K.kept keeper.old) (K.failures keeper.old)) (kept_desk core.new (K.kept keeper.new) (K.failures keeper.new)) result }
+    ensures served { Serves connection (R.remaining reader.old) (R.remaining reader.new) (W.contents writer.old) (W.contents writer.new) (kept_desk core.old (K.kept keeper.old) (K.failures keeper.old)) (kept_desk core.new (K.kept keeper.new) (K.failures keeper.new)) result }
     ensures reader { R.failures reader.new ≡ read_failures (fault_of result.ended) (R.failures reader.old) }
     ensures writer { W.failures writer.new ≡ write_failures (fault_of result.ended) (W.failures writer.old) }
     ensures handed { LeavesNothingPending (fault_of result.ended) (W.pending writer.old) (W.pending writer.new) }
 {
-    let ended = serve_lines(rt, alloc, core, keeper, conn, reader, writer, progress);
-    let is_gone = hand_end(core, keeper, conn);
+    let ended = serve_lines(
+        rt, alloc, core, keeper, connection, reader, writer, progress,
+    );
+    let is_gone = hand_end(core, keeper, connection);
     Served { ended, is_gone }
 }
 
 /// A connection that was served leads the desk on by calls, and a keeper whose list is known has just their changes behind
 /// those before, in order.
 pub fn served_changes_are_kept_in_order()
-    ensures { (conn : ℕ) (input left output written : Option (List ℕ)) (desk reached : KeptDesk) (served : Served) → Serves conn input left output written desk reached served → GoesOnTo desk reached }
+    ensures { (connection : ℕ) (input left output written : Option (List ℕ)) (desk reached : KeptDesk) (served : Served) → Serves connection input left output written desk reached served → GoesOnTo desk reached }
 {
     keepers_have_the_changes_in_order();
     work_goes_on();

@@ -9,7 +9,7 @@ use Rattle.mpw_waiver.specs.Waivers.{signed_by, waiver_at}
 use Rattle.mpw_waiver.specs.declared.waiver.Waiver.{Waiver}
 use Rattle.mpw_signoff.specs.declared.rows.ByUser.{ByUser}
 use Rattle.mpw_signoff.specs.Laws.{NegativesLeaveTheWaivers, PlacesAreLeft}
-use Rattle.mpw_signoff.specs.SigningOff.{waive_row, sign_row, waivers_row, verdict_row, waived_outcome, signed_outcome, listed}
+use Rattle.mpw_signoff.specs.SigningOff.{waive_row, sign_row, waivers_row, verdict_row, waived_outcome, signed_outcome, listing_outcome}
 
 waived_left : (waivers : List (Option Waiver)) (row : Result ByUser Ending)
     → IsNegative (waived_outcome waivers row).reply → (waived_outcome waivers row).waivers ≡ waivers
@@ -21,20 +21,20 @@ signed_left : (waivers : List (Option Waiver)) (row : Result ByUser Ending)
 signed_left waivers (Ok by) told = absurd told
 signed_left waivers (Err why) told = refl
 
-listed_left : (waivers : List (Option Waiver)) (row : Result (List Listed) Ending)
-    → (listed waivers row).waivers ≡ waivers
-listed_left waivers (Ok lines) = refl
-listed_left waivers (Err why) = refl
+listing_left : (waivers : List (Option Waiver)) (row : Result (List Listed) Ending)
+    → (listing_outcome waivers row).waivers ≡ waivers
+listing_left waivers (Ok lines) = refl
+listing_left waivers (Err why) = refl
 
 pub negatives_leave : NegativesLeaveTheWaivers
-negatives_leave policy wafer run waivers conn (ask.Waive name) told =
-    waived_left waivers (waive_row policy run waivers conn name) told
-negatives_leave policy wafer run waivers conn (ask.Sign name) told =
-    signed_left waivers (sign_row policy run waivers conn name) told
-negatives_leave policy wafer run waivers conn ask.Waivers told =
-    listed_left waivers (waivers_row policy run waivers conn)
-negatives_leave policy wafer run waivers conn ask.Verdict told =
-    listed_left waivers (verdict_row policy wafer run waivers conn)
+negatives_leave policy wafer run waivers connection (ask.Waive name) told =
+    waived_left waivers (waive_row policy run waivers connection name) told
+negatives_leave policy wafer run waivers connection (ask.Sign name) told =
+    signed_left waivers (sign_row policy run waivers connection name) told
+negatives_leave policy wafer run waivers connection ask.Waivers told =
+    listing_left waivers (waivers_row policy run waivers connection)
+negatives_leave policy wafer run waivers connection ask.Verdict told =
+    listing_left waivers (verdict_row policy wafer run waivers connection)
 
 -- ---- places
 
@@ -51,16 +51,16 @@ signed_places waivers (Ok by) =
 signed_places waivers (Err why) = refl
 
 listed_places : (waivers : List (Option Waiver)) (row : Result (List Listed) Ending)
-    → length (listed waivers row).waivers ≡ length waivers
+    → length (listing_outcome waivers row).waivers ≡ length waivers
 listed_places waivers (Ok lines) = refl
 listed_places waivers (Err why) = refl
 
 pub places_left : PlacesAreLeft
-places_left policy wafer run waivers conn (ask.Waive name) =
-    waived_places waivers (waive_row policy run waivers conn name)
-places_left policy wafer run waivers conn (ask.Sign name) =
-    signed_places waivers (sign_row policy run waivers conn name)
-places_left policy wafer run waivers conn ask.Waivers =
-    listed_places waivers (waivers_row policy run waivers conn)
-places_left policy wafer run waivers conn ask.Verdict =
-    listed_places waivers (verdict_row policy wafer run waivers conn)
+places_left policy wafer run waivers connection (ask.Waive name) =
+    waived_places waivers (waive_row policy run waivers connection name)
+places_left policy wafer run waivers connection (ask.Sign name) =
+    signed_places waivers (sign_row policy run waivers connection name)
+places_left policy wafer run waivers connection ask.Waivers =
+    listed_places waivers (waivers_row policy run waivers connection)
+places_left policy wafer run waivers connection ask.Verdict =
+    listed_places waivers (verdict_row policy wafer run waivers connection)

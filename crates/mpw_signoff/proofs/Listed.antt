@@ -19,7 +19,7 @@ use Rattle.mpw_waiver.specs.declared.waiver.Waiver.{Waiver}
 use Rattle.mpw_waiver.specs.Waivers.{waiver_at}
 use Rattle.mpw_signoff.specs.Laws.{IsTold, ToldAreShown}
 use Rattle.mpw_signoff.specs.Named.{name_for}
-use Rattle.mpw_signoff.specs.SigningOff.{entered, finished, waiver_lines, waivers_row, listed}
+use Rattle.mpw_signoff.specs.SigningOff.{session_test, finished_run, waiver_lines, waivers_row, listing_outcome}
 use Rattle.mpw_signoff.specs.WaiverLines.{waiver_line, rule_line, marker_line, shown_line, lines_from}
 use Rattle.mpw_signoff.proofs.Shown.{finished_is}
 
@@ -108,28 +108,30 @@ at_end rules seen waivers book place lines past =
 
 pub listed_is : (waivers : List (Option Waiver)) (row : Result (List Listed) Ending)
     (lines : List Listed)
-    → (listed waivers row).reply ≡ reply.Ok lines → row ≡ Ok lines
+    → (listing_outcome waivers row).reply ≡ reply.Ok lines → row ≡ Ok lines
 listed_is waivers (Ok told) lines e = let same : told ≡ lines = cc in ap (λ l. Ok l) same
 listed_is waivers (Err (ending.Denied why)) lines e = absurd cc
 listed_is waivers (Err (ending.Refused why)) lines e = absurd cc
 
-pub told_is : (policy : Policy) (run : Run) (waivers : List (Option Waiver)) (conn : ℕ)
+pub told_is : (policy : Policy) (run : Run) (waivers : List (Option Waiver)) (connection : ℕ)
     (lines : List Listed)
-    → waivers_row policy run waivers conn ≡ Ok lines → (f : Checked) × (finished run.phase ≡ Ok f)
-    × (map stored (waiver_lines policy conn f waivers) ≡ lines)
+    → waivers_row policy run waivers connection ≡ Ok lines
+    → (f : Checked) × (finished_run run.phase ≡ Ok f)
+    × (map stored (waiver_lines policy connection f waivers) ≡ lines)
 unfolding waivers_row
-told_is policy run waivers conn lines e =
-    let inside = passed (entered policy conn) _ lines e in
-    let f = passed (finished run.phase) _ lines inside.2 in
+told_is policy run waivers connection lines e =
+    let inside = passed (session_test policy connection) _ lines e in
+    let f = passed (finished_run run.phase) _ lines inside.2 in
     (f.0, f.1, cc)
 
 pub told_are_shown : ToldAreShown
-told_are_shown policy wafer run waivers conn lines e =
-    let told = told_is policy run waivers conn lines
-    (listed_is waivers (waivers_row policy run waivers conn) lines e) in
+told_are_shown policy wafer run waivers connection lines e =
+    let told = told_is policy run waivers connection lines
+    (listed_is waivers (waivers_row policy run waivers connection) lines e) in
     let f = told.0 in
-    let seen = seen_by policy conn f.planned.snapshot.shelf in
-    let all = of_lines (λ l. IsTold policy conn f waivers (stored l)) f.planned.snapshot.deck.rules
+    let seen = seen_by policy connection f.planned.snapshot.shelf in
+    let all =
+    of_lines (λ l. IsTold policy connection f waivers (stored l)) f.planned.snapshot.deck.rules
     seen waivers f.book
     (λ place m waiver rule at full is of. record {
       place = place;
@@ -142,6 +144,7 @@ told_are_shown policy wafer run waivers conn lines e =
     }) in (
       f,
       finished_is run.phase f told.1,
-      subst (All (IsTold policy conn f waivers)) told.2
-          (All-map (IsTold policy conn f waivers) stored (waiver_lines policy conn f waivers) all),
+      subst (All (IsTold policy connection f waivers)) told.2
+          (All-map (IsTold policy connection f waivers) stored
+          (waiver_lines policy connection f waivers) all),
     )

@@ -23,7 +23,7 @@ use Rattle.mpw_waiver.specs.Waivers.{unsigned}
 use Rattle.mpw_signoff.specs.declared.rows.ByUser.{ByUser}
 use Rattle.mpw_signoff.specs.Laws.{SignOffLinesAreOfReadable}
 use Rattle.mpw_signoff.specs.Named.{name_for}
-use Rattle.mpw_signoff.specs.SigningOff.{finished, is_present, verdict_line, waive_row, sign_row, waiver_lines, waivers_row, verdict_row, waived_outcome, signed_outcome, listed}
+use Rattle.mpw_signoff.specs.SigningOff.{finished_run, is_present, verdict_line, waive_row, sign_row, waiver_lines, waivers_row, verdict_row, waived_outcome, signed_outcome, listing_outcome}
 use Rattle.mpw_signoff.specs.WaiverLines.{waiver_line}
 use Rattle.mpw_signoff.proofs.Listed.{of_lines, told_is}
 
@@ -32,15 +32,15 @@ no_reply : (e : Ending) (lines : List Listed) → ended_by e ≡ reply.Ok lines 
 no_reply (ending.Denied why) lines told = cc
 no_reply (ending.Refused why) lines told = cc
 
-module _ (policy : Policy) (conn : ℕ) where
+module _ (policy : Policy) (connection : ℕ) where
   abbrev Readable : List Listed → Type 0
-  Readable lines = All (IsOfReadable policy conn) lines
+  Readable lines = All (IsOfReadable policy connection) lines
 
   none : Readable []
-  none = All-nil (IsOfReadable policy conn)
+  none = All-nil (IsOfReadable policy connection)
 
-  one : (l : Listed) → IsOfReadable policy conn l → Readable (l ∷ [])
-  one l may = All-cons (IsOfReadable policy conn) l [] may none
+  one : (l : Listed) → IsOfReadable policy connection l → Readable (l ∷ [])
+  one l may = All-cons (IsOfReadable policy connection) l [] may none
 
   of_waived : (waivers : List (Option Waiver)) (row : Result ByUser Ending) (lines : List Listed)
       → (waived_outcome waivers row).reply ≡ reply.Ok lines → Readable lines
@@ -55,57 +55,59 @@ module _ (policy : Policy) (conn : ℕ) where
   -- what is listed is the row's
   of_listed : (waivers : List (Option Waiver)) (row : Result (List Listed) Ending)
       (lines : List Listed) → ((told : List Listed) → row ≡ Ok told → Readable told)
-      → (listed waivers row).reply ≡ reply.Ok lines → Readable lines
+      → (listing_outcome waivers row).reply ≡ reply.Ok lines → Readable lines
   of_listed waivers (Ok told) lines may e = let same : told ≡ lines = cc in
       subst Readable same (may told refl)
   of_listed waivers (Err why) lines may e = absurd (no_reply why lines e)
 
   of_waiver : (name : MarkerName) (asker : List ℕ) (signer : Option (List ℕ))
-      → IsOfReadable policy conn (stored (waiver_line name asker signer))
+      → IsOfReadable policy connection (stored (waiver_line name asker signer))
   of_waiver name asker None = tt
   of_waiver name asker (Some signer) = tt
 
   of_told : (run : Run) (waivers : List (Option Waiver)) (told : List Listed)
-      → waivers_row policy run waivers conn ≡ Ok told → Readable told
+      → waivers_row policy run waivers connection ≡ Ok told → Readable told
   of_told run waivers told e =
-      let row = told_is policy run waivers conn told e in
+      let row = told_is policy run waivers connection told e in
       let f = row.0 in
-      let all = of_lines (λ l. IsOfReadable policy conn (stored l)) f.planned.snapshot.deck.rules
-      (seen_by policy conn f.planned.snapshot.shelf) waivers f.book
+      let all =
+      of_lines (λ l. IsOfReadable policy connection (stored l)) f.planned.snapshot.deck.rules
+      (seen_by policy connection f.planned.snapshot.shelf) waivers f.book
       (λ place m waiver rule at full is of. of_waiver (name_for rule.name m) waiver.asker
       waiver.signer) in
-      subst Readable row.2 (All-map (IsOfReadable policy conn) stored
-      (waiver_lines policy conn f waivers) all)
+      subst Readable row.2 (All-map (IsOfReadable policy connection) stored
+      (waiver_lines policy connection f waivers) all)
 
   of_line : (present : Bool) (number : ℕ)
-      → IsOfReadable policy conn (stored (verdict_line present number))
+      → IsOfReadable policy connection (stored (verdict_line present number))
   of_line false number = tt
   of_line true number = go (number == 0)
     where
-      go : (b : Bool) → IsOfReadable policy conn
+      go : (b : Bool) → IsOfReadable policy connection
           (stored (if b then line.Clean else line.Open number))
       go true = tt
       go false = tt
 
   of_verdict : (wafer : Wafer) (run : Run) (waivers : List (Option Waiver)) (told : List Listed)
-      → verdict_row policy wafer run waivers conn ≡ Ok told → Readable told
+      → verdict_row policy wafer run waivers connection ≡ Ok told → Readable told
   unfolding verdict_row
   of_verdict wafer run waivers told e =
-      let allowed = passed (permitted policy conn operations.Verdict objects.Desk) _ told e in
-      let f = passed (finished run.phase) _ told allowed.2 in
+      let allowed =
+      passed (permitted policy connection operations.Verdict objects.Desk) _ told e in
+      let f = passed (finished_run run.phase) _ told allowed.2 in
       let present = is_present wafer f.0.planned.snapshot in
       let same : stored (verdict_line present (unsigned waivers)) ∷ [] ≡ told = cc in
       subst Readable same (one (stored (verdict_line present (unsigned waivers)))
       (of_line present (unsigned waivers)))
 
 pub lines_may : SignOffLinesAreOfReadable
-lines_may policy wafer run waivers conn (ask.Waive name) lines e =
-    of_waived policy conn waivers (waive_row policy run waivers conn name) lines e
-lines_may policy wafer run waivers conn (ask.Sign name) lines e =
-    of_signed policy conn waivers (sign_row policy run waivers conn name) lines e
-lines_may policy wafer run waivers conn ask.Waivers lines e =
-    of_listed policy conn waivers (waivers_row policy run waivers conn) lines
-    (of_told policy conn run waivers) e
-lines_may policy wafer run waivers conn ask.Verdict lines e =
-    of_listed policy conn waivers (verdict_row policy wafer run waivers conn) lines
-    (of_verdict policy conn wafer run waivers) e
+lines_may policy wafer run waivers connection (ask.Waive name) lines e =
+    of_waived policy connection waivers (waive_row policy run waivers connection name) lines e
+lines_may policy wafer run waivers connection (ask.Sign name) lines e =
+    of_signed policy connection waivers (sign_row policy run waivers connection name) lines e
+lines_may policy wafer run waivers connection ask.Waivers lines e =
+    of_listed policy connection waivers (waivers_row policy run waivers connection) lines
+    (of_told policy connection run waivers) e
+lines_may policy wafer run waivers connection ask.Verdict lines e =
+    of_listed policy connection waivers (verdict_row policy wafer run waivers connection) lines
+    (of_verdict policy connection wafer run waivers) e

@@ -26,10 +26,10 @@ use Rattle.mpw_waiver.specs.Waivers.{waiver_at, with_signer}
 use Rattle.mpw_signoff.specs.declared.rows.ByUser.{ByUser}
 use Rattle.mpw_signoff.specs.Laws.{IsShownInFull, AskedAreShown, SignersStandApart}
 use Rattle.mpw_signoff.specs.Named.{Named, named_in}
-use Rattle.mpw_signoff.specs.SigningOff.{finished, if_full, if_shown, shown, passes, apart, by_user, waive_row, sign_row, waived_outcome, signed_outcome}
+use Rattle.mpw_signoff.specs.SigningOff.{finished_run, if_full, if_shown, full_marker, passes, apart, by_user, waive_row, sign_row, waived_outcome, signed_outcome}
 use Rattle.mpw_signoff.proofs.Naming.{named_is}
 
-pub finished_is : (phase : Phase) (f : Checked) → finished phase ≡ Ok f → phase ≡ Finished f
+pub finished_is : (phase : Phase) (f : Checked) → finished_run phase ≡ Ok f → phase ≡ Finished f
 finished_is Idle f e = absurd cc
 finished_is (Cutting planned) f e = absurd cc
 finished_is (Checking c) f e = absurd cc
@@ -51,14 +51,16 @@ if_is seen (Some m) n e =
     let both = full_is seen m n e in
     (ap Some both.0, ap (λ (x : Named). is_full seen x.marker) (sym both.0) ∙ both.1)
 
-pub shown_is : PlacesAreOfKeys → (policy : Policy) (conn : ℕ) (f : Checked) (name : MarkerName)
+pub shown_is : PlacesAreOfKeys → (policy : Policy) (connection : ℕ) (f : Checked)
+    (name : MarkerName)
     (n : Named)
-    → shown policy conn f name ≡ Ok n → IsShownInFull policy conn f name n.place n.marker
-unfolding shown
-shown_is keys policy conn f name n e =
+    → full_marker policy connection f name ≡ Ok n
+    → IsShownInFull policy connection f name n.place n.marker
+unfolding full_marker
+shown_is keys policy connection f name n e =
     let rules = f.planned.snapshot.deck.rules in
     let both =
-    if_is (seen_by policy conn f.planned.snapshot.shelf) (named_in rules f.book name) n e in
+    if_is (seen_by policy connection f.planned.snapshot.shelf) (named_in rules f.book name) n e in
     let is = named_is keys rules f.book name n both.0 in
     record { rule = is.rule; at = is.at; of_rule = is.of_rule; named = is.named; full = both.1 }
 
@@ -79,36 +81,37 @@ asked_ok waivers (Ok by) lines e = (by, refl)
 asked_ok waivers (Err why) lines e = absurd (no_lines why lines e)
 
 -- what an accepted row passed
-record IsPassed (policy : Policy) (run : Run) (conn : ℕ) (name : MarkerName) (by : ByUser) :
+record IsPassed (policy : Policy) (run : Run) (connection : ℕ) (name : MarkerName) (by : ByUser) :
     Type 0 where
   f : Checked
   n : Named
   phase : run.phase ≡ Finished f
-  is_shown : shown policy conn f name ≡ Ok n
-  is : by ≡ by_user policy conn n
+  is_shown : full_marker policy connection f name ≡ Ok n
+  is : by ≡ by_user policy connection n
 
-waived_is : (policy : Policy) (run : Run) (waivers : List (Option Waiver)) (conn : ℕ)
+waived_is : (policy : Policy) (run : Run) (waivers : List (Option Waiver)) (connection : ℕ)
     (name : MarkerName) (by : ByUser)
-    → waive_row policy run waivers conn name ≡ Ok by → IsPassed policy run conn name by
+    → waive_row policy run waivers connection name ≡ Ok by → IsPassed policy run connection name by
 unfolding waive_row
-waived_is policy run waivers conn name by e =
-    let allowed = passed (permitted policy conn operations.Waive objects.Desk) _ by e in
-    let f = passed (finished run.phase) _ by allowed.2 in
-    let n = passed (shown policy conn f.0 name) _ by f.2 in
+waived_is policy run waivers connection name by e =
+    let allowed =
+    passed (permitted policy connection operations.Waive objects.Desk) _ by e in
+    let f = passed (finished_run run.phase) _ by allowed.2 in
+    let n = passed (full_marker policy connection f.0 name) _ by f.2 in
     let free = passed (passes (ask_test (waiver_at waivers n.0.place))) _ by n.2 in
     record { f = f.0; n = n.0; phase = finished_is run.phase f.0 f.1; is_shown = n.1; is = cc }
 
 pub asked_are_shown : PlacesAreOfKeys → AskedAreShown
-asked_are_shown keys policy wafer run waivers conn name lines e =
-    let row = waive_row policy run waivers conn name in
+asked_are_shown keys policy wafer run waivers connection name lines e =
+    let row = waive_row policy run waivers connection name in
     let by = asked_ok waivers row lines e in
-    let p = waived_is policy run waivers conn name by.0 by.1 in
+    let p = waived_is policy run waivers connection name by.0 by.1 in
     record {
       checked = p.f;
       place = p.n.place;
       marker = p.n.marker;
       finished = p.phase;
-      shown = shown_is keys policy conn p.f name p.n p.is_shown;
+      shown = shown_is keys policy connection p.f name p.n p.is_shown;
       left = ap (λ r. (waived_outcome waivers r).waivers) (by.1 ∙ ap (λ b. Ok b) p.is);
     }
 
@@ -119,21 +122,23 @@ signed_ok : (waivers : List (Option Waiver)) (row : Result ByUser Ending) (lines
 signed_ok waivers (Ok by) lines e = (by, refl)
 signed_ok waivers (Err why) lines e = absurd (no_lines why lines e)
 
-record IsPassedBy (policy : Policy) (run : Run) (waivers : List (Option Waiver)) (conn : ℕ)
+record IsPassedBy (policy : Policy) (run : Run) (waivers : List (Option Waiver)) (connection : ℕ)
     (name : MarkerName) (by : ByUser) : Type 0 where
-  row : IsPassed policy run conn name by
-  test : sign_test row.f.planned.snapshot.shelf row.n.marker.met (user_of policy conn)
+  row : IsPassed policy run connection name by
+  test : sign_test row.f.planned.snapshot.shelf row.n.marker.met (user_of policy connection)
       (waiver_at waivers row.n.place) ≡ Ok tt
 
-signed_is : (policy : Policy) (run : Run) (waivers : List (Option Waiver)) (conn : ℕ)
+signed_is : (policy : Policy) (run : Run) (waivers : List (Option Waiver)) (connection : ℕ)
     (name : MarkerName) (by : ByUser)
-    → sign_row policy run waivers conn name ≡ Ok by → IsPassedBy policy run waivers conn name by
+    → sign_row policy run waivers connection name ≡ Ok by
+    → IsPassedBy policy run waivers connection name by
 unfolding sign_row
-signed_is policy run waivers conn name by e =
-    let allowed = passed (permitted policy conn operations.Sign objects.Desk) _ by e in
-    let f = passed (finished run.phase) _ by allowed.2 in
-    let n = passed (shown policy conn f.0 name) _ by f.2 in
-    let free = passed (apart f.0 waivers n.0 (user_of policy conn)) _ by n.2 in
+signed_is policy run waivers connection name by e =
+    let allowed =
+    passed (permitted policy connection operations.Sign objects.Desk) _ by e in
+    let f = passed (finished_run run.phase) _ by allowed.2 in
+    let n = passed (full_marker policy connection f.0 name) _ by f.2 in
+    let free = passed (apart f.0 waivers n.0 (user_of policy connection)) _ by n.2 in
     record {
       row = record {
         f = f.0;
@@ -142,25 +147,26 @@ signed_is policy run waivers conn name by e =
         is_shown = n.1;
         is = cc;
       };
-      test = passes_is (sign_test f.0.planned.snapshot.shelf n.0.marker.met (user_of policy conn)
+      test =
+          passes_is (sign_test f.0.planned.snapshot.shelf n.0.marker.met (user_of policy connection)
           (waiver_at waivers n.0.place)) free.0 free.1;
     }
 
 pub signers_apart : PlacesAreOfKeys → SignersAreApart → SignersStandApart
 unfolding signed
-signers_apart keys apart policy wafer run waivers conn name lines e =
-    let row = sign_row policy run waivers conn name in
+signers_apart keys apart policy wafer run waivers connection name lines e =
+    let row = sign_row policy run waivers connection name in
     let by = signed_ok waivers row lines e in
-    let p = signed_is policy run waivers conn name by.0 by.1 in
+    let p = signed_is policy run waivers connection name by.0 by.1 in
     let n = p.row.n in
-    let user = user_of policy conn in
+    let user = user_of policy connection in
     let after = with_signer waivers n.place user in
     record {
       checked = p.row.f;
       place = n.place;
       marker = n.marker;
       finished = p.row.phase;
-      shown = shown_is keys policy conn p.row.f name n p.row.is_shown;
+      shown = shown_is keys policy connection p.row.f name n p.row.is_shown;
       may = (apart p.row.f.planned.snapshot.shelf waivers after n.place n.marker.met user
           (ap (λ t. if_passed t after) p.test)).0;
       left = ap (λ r. (signed_outcome waivers r).waivers) (by.1 ∙ ap (λ b. Ok b) p.row.is);

@@ -26,7 +26,7 @@ use Rattle.mpw_waiver.specs.Laws.{NoneIsUnsigned}
 use Rattle.mpw_waiver.specs.Waivers.{waiver_at, is_signed, unsigned}
 use Rattle.mpw_run.specs.declared.phase.Phase.TheVariants.{Finished}
 use Rattle.mpw_signoff.specs.Laws.{CleanIsSignedOff, SignedOffIsClean}
-use Rattle.mpw_signoff.specs.SigningOff.{finished, is_present_with, is_present, verdict_line, verdict_row}
+use Rattle.mpw_signoff.specs.SigningOff.{finished_run, is_present_with, is_present, verdict_line, verdict_row}
 use Rattle.mpw_signoff.proofs.Listed.{listed_is}
 use Rattle.mpw_signoff.proofs.Shown.{finished_is}
 
@@ -52,19 +52,20 @@ present_is exact (Some deck) placings s e =
 -- what a clean verdict passed
 record IsClean (wafer : Wafer) (run : Run) (waivers : List (Option Waiver)) : Type 0 where
   f : Checked
-  phase : finished run.phase ≡ Ok f
+  phase : finished_run run.phase ≡ Ok f
   present : is_present wafer f.planned.snapshot ≡ true
   none : unsigned waivers ≡ 0
 
 verdict_is : (policy : Policy) (wafer : Wafer) (run : Run) (waivers : List (Option Waiver))
-    (conn : ℕ)
-    → verdict_row policy wafer run waivers conn ≡ Ok (stored line.Clean ∷ [])
+    (connection : ℕ)
+    → verdict_row policy wafer run waivers connection ≡ Ok (stored line.Clean ∷ [])
     → IsClean wafer run waivers
 unfolding verdict_row
-verdict_is policy wafer run waivers conn e =
+verdict_is policy wafer run waivers connection e =
     let told = stored line.Clean ∷ [] in
-    let allowed = passed (permitted policy conn operations.Verdict objects.Desk) _ told e in
-    let f = passed (finished run.phase) _ told allowed.2 in
+    let allowed =
+    passed (permitted policy connection operations.Verdict objects.Desk) _ told e in
+    let f = passed (finished_run run.phase) _ told allowed.2 in
     let present = is_present wafer f.0.planned.snapshot in
     let same : verdict_line present (unsigned waivers) ≡ line.Clean =
     one (verdict_line present (unsigned waivers)) f.2 in
@@ -83,9 +84,9 @@ all_signed waivers all place within =
     ∙ all place None within
 
 pub clean_is_signed : TestsAreExact → NoneIsUnsigned → CleanIsSignedOff
-clean_is_signed exact none policy wafer run waivers conn e =
-    let c = verdict_is policy wafer run waivers conn
-    (listed_is waivers (verdict_row policy wafer run waivers conn) (stored line.Clean ∷ [])
+clean_is_signed exact none policy wafer run waivers connection e =
+    let c = verdict_is policy wafer run waivers connection
+    (listed_is waivers (verdict_row policy wafer run waivers connection) (stored line.Clean ∷ [])
     e) in
     let both = present_is exact wafer.deck wafer.placings c.f.planned.snapshot c.present in
     record {
@@ -112,24 +113,25 @@ present_from exact deck placings s same roots =
     whole = λ i. record { deck = s.deck; roots = roots i; shelf = s.shelf }
 
 verdict_told : (policy : Policy) (wafer : Wafer) (run : Run) (waivers : List (Option Waiver))
-    (conn : ℕ) (lines : List Listed)
-    → verdict_row policy wafer run waivers conn ≡ Ok lines
+    (connection : ℕ) (lines : List Listed)
+    → verdict_row policy wafer run waivers connection ≡ Ok lines
     → (f : Checked) × (run.phase ≡ Finished f)
     × (stored (verdict_line (is_present wafer f.planned.snapshot) (unsigned waivers))
     ∷ [] ≡ lines)
 unfolding verdict_row
-verdict_told policy wafer run waivers conn lines e =
-    let allowed = passed (permitted policy conn operations.Verdict objects.Desk) _ lines e in
-    let f = passed (finished run.phase) _ lines allowed.2 in
+verdict_told policy wafer run waivers connection lines e =
+    let allowed =
+    passed (permitted policy connection operations.Verdict objects.Desk) _ lines e in
+    let f = passed (finished_run run.phase) _ lines allowed.2 in
     (f.0, finished_is run.phase f.0 f.1, cc)
 
 same_finding : (f g : Checked) → Finished f ≡ Finished g → f ≡ g
 same_finding f g e = cc
 
 pub signed_is_clean : TestsAreExact → NoneIsUnsigned → SignedOffIsClean
-signed_is_clean exact none policy wafer run waivers conn f lines phase deck roots signed e =
-    let told = verdict_told policy wafer run waivers conn lines
-    (listed_is waivers (verdict_row policy wafer run waivers conn) lines e) in
+signed_is_clean exact none policy wafer run waivers connection f lines phase deck roots signed e =
+    let told = verdict_told policy wafer run waivers connection lines
+    (listed_is waivers (verdict_row policy wafer run waivers connection) lines e) in
     let same : told.0 ≡ f = same_finding told.0 f (sym told.1 ∙ phase) in
     let present : is_present wafer told.0.planned.snapshot ≡ true =
     ap (λ (x : Checked). is_present wafer x.planned.snapshot) same

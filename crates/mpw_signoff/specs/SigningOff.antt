@@ -41,15 +41,15 @@ use Rattle.mpw_signoff.specs.WaiverLines.{lines_from}
 -- ---- tests
 
 -- The connection has a session.
-abbrev pub entered : Policy → ℕ → Result (Unit {0}) Ending
-entered policy conn = decided (in_session policy conn ∷ []) tt
+abbrev pub session_test : Policy → ℕ → Result (Unit {0}) Ending
+session_test policy connection = decided (in_session policy connection ∷ []) tt
 
 -- A run is finished.
-abbrev pub finished : Phase → Result Checked Ending
-finished Idle = Err (ending.Refused code.NotFinished)
-finished (Cutting planned) = Err (ending.Refused code.NotFinished)
-finished (Checking c) = Err (ending.Refused code.NotFinished)
-finished (Finished f) = Ok f
+abbrev pub finished_run : Phase → Result Checked Ending
+finished_run Idle = Err (ending.Refused code.NotFinished)
+finished_run (Cutting planned) = Err (ending.Refused code.NotFinished)
+finished_run (Checking c) = Err (ending.Refused code.NotFinished)
+finished_run (Finished f) = Ok f
 
 -- The marker that is named is in the book, and shown in full.
 abbrev pub if_full : List Bool → Named → Result Named Ending
@@ -59,9 +59,9 @@ abbrev pub if_shown : List Bool → Option Named → Result Named Ending
 if_shown seen None = Err (ending.Refused code.NoMarker)
 if_shown seen (Some n) = if_full seen n
 
-unfoldable pub shown : Policy → ℕ → Checked → MarkerName → Result Named Ending
-shown policy conn f name =
-    if_shown (seen_by policy conn f.planned.snapshot.shelf)
+unfoldable pub full_marker : Policy → ℕ → Checked → MarkerName → Result Named Ending
+full_marker policy connection f name =
+    if_shown (seen_by policy connection f.planned.snapshot.shelf)
     (named_in f.planned.snapshot.deck.rules f.book name)
 
 -- What ends a row where the test of a waiver fails.
@@ -80,17 +80,17 @@ passes (Err fault) = Err (ending_of fault)
 
 -- The user, with the place of the marker.
 abbrev pub by_user : Policy → ℕ → Named → ByUser
-by_user policy conn n = record { place = n.place; user = user_of policy conn }
+by_user policy connection n = record { place = n.place; user = user_of policy connection }
 
 -- The row of `waive`: a waiver of the marker may be asked for.
 unfoldable pub waive_row : Policy → Run → List (Option Waiver) → ℕ → MarkerName
     → Result ByUser Ending
-waive_row policy run waivers conn name = do
-  allowed ← permitted policy conn operation.Waive object.Desk
-  f ← finished run.phase
-  n ← shown policy conn f name
+waive_row policy run waivers connection name = do
+  allowed ← permitted policy connection operation.Waive object.Desk
+  f ← finished_run run.phase
+  n ← full_marker policy connection f name
   free ← passes (ask_test (waiver_at waivers n.place))
-  Ok (by_user policy conn n)
+  Ok (by_user policy connection n)
 
 -- Nothing keeps the user apart from the waiver of the marker.
 abbrev pub apart : Checked → List (Option Waiver) → Named → List ℕ → Result (Unit {0}) Ending
@@ -100,25 +100,26 @@ apart f waivers n user =
 -- The row of `sign`: the marker's waiver may be signed. Who may sign it is `sign_test`.
 unfoldable pub sign_row : Policy → Run → List (Option Waiver) → ℕ → MarkerName
     → Result ByUser Ending
-sign_row policy run waivers conn name = do
-  allowed ← permitted policy conn operation.Sign object.Desk
-  f ← finished run.phase
-  n ← shown policy conn f name
-  free ← apart f waivers n (user_of policy conn)
-  Ok (by_user policy conn n)
+sign_row policy run waivers connection name = do
+  allowed ← permitted policy connection operation.Sign object.Desk
+  f ← finished_run run.phase
+  n ← full_marker policy connection f name
+  free ← apart f waivers n (user_of policy connection)
+  Ok (by_user policy connection n)
 
 -- The waivers of the markers that are shown in full.
 abbrev pub waiver_lines : Policy → ℕ → Checked → List (Option Waiver) → List Line
-waiver_lines policy conn f waivers =
-    lines_from f.planned.snapshot.deck.rules (seen_by policy conn f.planned.snapshot.shelf) waivers
+waiver_lines policy connection f waivers =
+    lines_from f.planned.snapshot.deck.rules (seen_by policy connection f.planned.snapshot.shelf)
+    waivers
     0 f.book
 
 -- The row of `waivers`.
 unfoldable pub waivers_row : Policy → Run → List (Option Waiver) → ℕ → Result (List Listed) Ending
-waivers_row policy run waivers conn = do
-  inside ← entered policy conn
-  f ← finished run.phase
-  Ok (map stored (waiver_lines policy conn f waivers))
+waivers_row policy run waivers connection = do
+  inside ← session_test policy connection
+  f ← finished_run run.phase
+  Ok (map stored (waiver_lines policy connection f waivers))
 
 -- The deck and the placed submissions are, by value, those that the run looked at. Labels of placings are no part of this, nor what
 -- was put on the shelf since.
@@ -141,9 +142,9 @@ verdict_line present number = if present then open_line number else line.Stale
 -- The row of `verdict`.
 unfoldable pub verdict_row : Policy → Wafer → Run → List (Option Waiver) → ℕ
     → Result (List Listed) Ending
-verdict_row policy wafer run waivers conn = do
-  allowed ← permitted policy conn operation.Verdict object.Desk
-  f ← finished run.phase
+verdict_row policy wafer run waivers connection = do
+  allowed ← permitted policy connection operation.Verdict object.Desk
+  f ← finished_run run.phase
   Ok (stored (verdict_line (is_present wafer f.planned.snapshot) (unsigned waivers)) ∷ [])
 
 -- ---- what comes of a request
@@ -154,31 +155,31 @@ pub record Outcome : Type 0 where
   pub waivers : List (Option Waiver)
   pub changes : Bool
 
-abbrev pub left : Reply → List (Option Waiver) → Outcome
-left told waivers = record { reply = told; waivers = waivers; changes = false }
+abbrev pub no_change : Reply → List (Option Waiver) → Outcome
+no_change told waivers = record { reply = told; waivers = waivers; changes = false }
 
-abbrev pub changed : List (Option Waiver) → Outcome
-changed waivers = record { reply = reply.Ok []; waivers = waivers; changes = true }
+abbrev pub acceptance : List (Option Waiver) → Outcome
+acceptance waivers = record { reply = reply.Ok []; waivers = waivers; changes = true }
 
 abbrev pub waived_outcome : List (Option Waiver) → Result ByUser Ending → Outcome
-waived_outcome waivers (Ok by) = changed (with_asker waivers by.place by.user)
-waived_outcome waivers (Err ending) = left (ended_by ending) waivers
+waived_outcome waivers (Ok by) = acceptance (with_asker waivers by.place by.user)
+waived_outcome waivers (Err ending) = no_change (ended_by ending) waivers
 
 abbrev pub signed_outcome : List (Option Waiver) → Result ByUser Ending → Outcome
-signed_outcome waivers (Ok by) = changed (with_signer waivers by.place by.user)
-signed_outcome waivers (Err ending) = left (ended_by ending) waivers
+signed_outcome waivers (Ok by) = acceptance (with_signer waivers by.place by.user)
+signed_outcome waivers (Err ending) = no_change (ended_by ending) waivers
 
-abbrev pub listed : List (Option Waiver) → Result (List Listed) Ending → Outcome
-listed waivers (Ok lines) = left (reply.Ok lines) waivers
-listed waivers (Err ending) = left (ended_by ending) waivers
+abbrev pub listing_outcome : List (Option Waiver) → Result (List Listed) Ending → Outcome
+listing_outcome waivers (Ok lines) = no_change (reply.Ok lines) waivers
+listing_outcome waivers (Err ending) = no_change (ended_by ending) waivers
 
 -- Each request by its row.
 abbrev pub outcome_of : Policy → Wafer → Run → List (Option Waiver) → ℕ → SignOffRequest → Outcome
-outcome_of policy wafer run waivers conn (ask.Waive marker) =
-    waived_outcome waivers (waive_row policy run waivers conn marker)
-outcome_of policy wafer run waivers conn (ask.Sign marker) =
-    signed_outcome waivers (sign_row policy run waivers conn marker)
-outcome_of policy wafer run waivers conn ask.Waivers =
-    listed waivers (waivers_row policy run waivers conn)
-outcome_of policy wafer run waivers conn ask.Verdict =
-    listed waivers (verdict_row policy wafer run waivers conn)
+outcome_of policy wafer run waivers connection (ask.Waive marker) =
+    waived_outcome waivers (waive_row policy run waivers connection marker)
+outcome_of policy wafer run waivers connection (ask.Sign marker) =
+    signed_outcome waivers (sign_row policy run waivers connection marker)
+outcome_of policy wafer run waivers connection ask.Waivers =
+    listing_outcome waivers (waivers_row policy run waivers connection)
+outcome_of policy wafer run waivers connection ask.Verdict =
+    listing_outcome waivers (verdict_row policy wafer run waivers connection)

@@ -1,17 +1,16 @@
 //! The answers to the requests that sign a run off.
-ghost use Rattle.std.specs.Prelude.{List, Result, IfOk};
+ghost use Rattle.std.specs.Prelude.{◌≡◌, List, Result, IfOk};
 ghost use Rattle.mpw_replies.specs.Listing.{Listed};
 ghost use Rattle.mpw_replies.specs.Rows.{Answers};
 ghost use Rattle.mpw_replies.specs.declared.row.Ending.{Ending as AnyEnding};
 ghost use Rattle.mpw_signoff.specs.Answers.{Gives};
-ghost use Rattle.mpw_signoff.specs.Internal.Answers.{IsEnd};
-ghost use Rattle.mpw_signoff.specs.SigningOff.{outcome_of, waived_outcome, signed_outcome, listed};
+ghost use Rattle.mpw_signoff.specs.SigningOff.{outcome_of, waived_outcome, signed_outcome, listing_outcome};
 ghost use Rattle.mpw_signoff.specs.declared.rows.ByUser.{ByUser as AnyUser};
 
 use crate::rows::{ByUser, sign, verdict, waive, waivers as waivers_row};
 use mpw_geom::Name;
 use mpw_rbac::Policy;
-use mpw_replies::{Fault, Lines, Reply};
+use mpw_replies::{Fault, Lines, Reply, listing_reply};
 use mpw_requests::SignOffRequest;
 use mpw_run::Run;
 use mpw_wafer::Wafer;
@@ -36,16 +35,13 @@ pub struct SignOffAnswer {
     pub next: NextWaivers,
 }
 
-/// What ends a row is told, and leaves the waivers; want of memory gives no answer.
-fn told(fault: Fault) -> Result<SignOffAnswer, AllocError>
-    ensures { IfOk result (IsEnd fault) }
+/// A reply that leaves the waivers.
+fn no_change(reply: Reply) -> SignOffAnswer
+    ensures { (result.reply ≡ reply) × (result.next ≡ NextWaivers.Same) }
 {
-    match fault {
-        Fault::Told(ending) => Ok(SignOffAnswer {
-            reply: ending.reply(),
-            next: NextWaivers::Same,
-        }),
-        Fault::Memory => Err(AllocError),
+    SignOffAnswer {
+        reply,
+        next: NextWaivers::Same,
     }
 }
 
@@ -63,7 +59,7 @@ fn waiving(waivers: &Waivers, made: Result<ByUser, Fault>) -> Result<SignOffAnsw
                 asker: by.user,
             },
         }),
-        Err(fault) => told(fault),
+        Err(fault) => Ok(no_change(fault.reply()?)),
     }
 }
 
@@ -81,23 +77,17 @@ fn signing(waivers: &Waivers, made: Result<ByUser, Fault>) -> Result<SignOffAnsw
                 signer: by.user,
             },
         }),
-        Err(fault) => told(fault),
+        Err(fault) => Ok(no_change(fault.reply()?)),
     }
 }
 
 /// The answer to what lists.
 fn listing(waivers: &Waivers, made: Result<Lines, Fault>) -> Result<SignOffAnswer, AllocError>
     ensures { (row : Result (List Listed) AnyEnding) → Answers (λ lines. lines) made row
-        → IfOk result (λ answer. Gives waivers.now (listed waivers.now row) answer) }
+        → IfOk result (λ answer. Gives waivers.now (listing_outcome waivers.now row) answer) }
 {
     let _many = waivers.len();
-    match made {
-        Ok(lines) => Ok(SignOffAnswer {
-            reply: Reply::Ok(lines),
-            next: NextWaivers::Same,
-        }),
-        Err(fault) => told(fault),
-    }
+    Ok(no_change(listing_reply(made)?))
 }
 
 /// The answer to a request over the waivers of a finished run's markers. A `waive` and a `sign` look at each of the deck's
@@ -112,23 +102,29 @@ pub fn answer_request(
     wafer: &Wafer,
     run: &Run,
     waivers: &Waivers,
-    conn: u32,
+    connection: u32,
     request: &SignOffRequest,
 ) -> Result<SignOffAnswer, AllocError>
-    ensures { IfOk result (λ answer. Gives waivers.now (outcome_of policy.now wafer.now run.now waivers.now conn request.now) answer) }
+    ensures { IfOk result (λ answer. Gives waivers.now (outcome_of policy.now wafer.now run.now waivers.now connection request.now) answer) }
 {
     match request {
         SignOffRequest::Waive { marker } => {
-            waiving(waivers, waive(policy, run, waivers, conn, marker))
+            waiving(waivers, waive(policy, run, waivers, connection, marker))
         }
         SignOffRequest::Sign { marker } => {
-            signing(waivers, sign(policy, run, waivers, conn, marker))
+            signing(waivers, sign(policy, run, waivers, connection, marker))
         }
         SignOffRequest::Waivers => {
-            listing(waivers, waivers_row(alloc, policy, run, waivers, conn))
+            listing(
+                waivers,
+                waivers_row(alloc, policy, run, waivers, connection),
+            )
         }
         SignOffRequest::Verdict => {
-            listing(waivers, verdict(alloc, policy, wafer, run, waivers, conn))
+            listing(
+                waivers,
+                verdict(alloc, policy, wafer, run, waivers, connection),
+            )
         }
     }
 }

@@ -29,10 +29,10 @@ pub(crate) struct ByUser {
 }
 
 /// The connection has a session.
-fn session(policy: &Policy, conn: u32) -> Result<(), Fault>
-    ensures { Answers (λ x. x) result (row.entered policy.now conn) }
+fn session(policy: &Policy, connection: u32) -> Result<(), Fault>
+    ensures { Answers (λ x. x) result (row.session_test policy.now connection) }
 {
-    if !policy.has_session(conn) {
+    if !policy.has_session(connection) {
         return Err(Fault::Told(Ending::Denied(Denial::Session)));
     }
     Ok(())
@@ -40,7 +40,7 @@ fn session(policy: &Policy, conn: u32) -> Result<(), Fault>
 
 /// What a finished run found.
 fn findings(phase: &Phase) -> Result<&Checked, Fault>
-    ensures { Answers (λ f. f.now) result (row.finished phase.now) }
+    ensures { Answers (λ f. f.now) result (row.finished_run phase.now) }
 {
     match phase {
         Phase::Idle => Err(Fault::refused(Code::NotFinished)),
@@ -51,20 +51,20 @@ fn findings(phase: &Phase) -> Result<&Checked, Fault>
 }
 
 /// The marker that is named, where it is shown in full: a look-up for each submission that it meets.
-#[tactic(auto, unfolding(crate::specs::SigningOff::shown))]
-fn shown<'a>(
+#[tactic(auto, unfolding(crate::specs::SigningOff::full_marker))]
+fn full_marker<'a>(
     policy: &Policy,
-    conn: u32,
+    connection: u32,
     checked: &'a Checked,
     name: &MarkerName,
 ) -> Result<Named<'a>, Fault>
-    ensures { Answers seen_named result (row.shown policy.now conn checked.now name.now) }
+    ensures { Answers seen_named result (row.full_marker policy.now connection checked.now name.now) }
 {
     let snapshot = checked.planned.snapshot();
     let Some(named) = named_in(snapshot.deck(), &checked.book, name) else {
         return Err(Fault::refused(Code::NoMarker));
     };
-    if !is_shown(policy, conn, snapshot.shelf(), named.marker)? {
+    if !is_shown(policy, connection, snapshot.shelf(), named.marker)? {
         return Err(Fault::refused(Code::NoMarker));
     }
     Ok(named)
@@ -92,20 +92,20 @@ fn passes(told: Result<(), WaiverFault>) -> Result<(), Fault>
     }
 }
 
-/// The user who asks for a waiver, with the marker's place. What [`shown`] takes.
+/// The user who asks for a waiver, with the marker's place. What [`full_marker`] takes.
 #[tactic(auto, unfolding(crate::specs::SigningOff::waive_row))]
 pub(crate) fn waive(
     policy: &Policy,
     run: &Run,
     waivers: &Waivers,
-    conn: u32,
+    connection: u32,
     marker: &MarkerName,
 ) -> Result<ByUser, Fault>
-    ensures { Answers (λ by. by) result (row.waive_row policy.now run.now waivers.now conn marker.now) }
+    ensures { Answers (λ by. by) result (row.waive_row policy.now run.now waivers.now connection marker.now) }
 {
-    let user = enter(policy, conn, Operation::Waive, Object::Desk)?;
+    let user = enter(policy, connection, Operation::Waive, Object::Desk)?;
     let checked = findings(run.phase())?;
-    let place = shown(policy, conn, checked, marker)?.place;
+    let place = full_marker(policy, connection, checked, marker)?.place;
     passes(waivers.may_ask(place))?;
     Ok(ByUser { place, user })
 }
@@ -124,20 +124,20 @@ fn is_apart(
     passes(waivers.may_sign(named.place, shelf, met, user)?)
 }
 
-/// The user who signs a waiver, with the marker's place. What [`shown`] takes, and a pass over the marker's met numbers.
+/// The user who signs a waiver, with the marker's place. What [`full_marker`] takes, and a pass over the marker's met numbers.
 #[tactic(auto, unfolding(crate::specs::SigningOff::sign_row))]
 pub(crate) fn sign(
     policy: &Policy,
     run: &Run,
     waivers: &Waivers,
-    conn: u32,
+    connection: u32,
     marker: &MarkerName,
 ) -> Result<ByUser, Fault>
-    ensures { Answers (λ by. by) result (row.sign_row policy.now run.now waivers.now conn marker.now) }
+    ensures { Answers (λ by. by) result (row.sign_row policy.now run.now waivers.now connection marker.now) }
 {
-    let user = enter(policy, conn, Operation::Sign, Object::Desk)?;
+    let user = enter(policy, connection, Operation::Sign, Object::Desk)?;
     let checked = findings(run.phase())?;
-    let named = shown(policy, conn, checked, marker)?;
+    let named = full_marker(policy, connection, checked, marker)?;
     is_apart(checked, waivers, &named, &user)?;
     Ok(ByUser {
         place: named.place,
@@ -146,17 +146,17 @@ pub(crate) fn sign(
 }
 
 /// The lines of the waivers of what a finished run found, as far as the session sees the markers in full.
-fn listed(
+fn session_lines(
     alloc: Global,
     policy: &Policy,
-    conn: u32,
+    connection: u32,
     checked: &Checked,
     waivers: &Waivers,
 ) -> Result<Lines, AllocError>
-    ensures { IfOk result (λ lines. lines ≡ map stored (row.waiver_lines policy.now conn checked.now waivers.now)) }
+    ensures { IfOk result (λ lines. lines ≡ map stored (row.waiver_lines policy.now connection checked.now waivers.now)) }
 {
     let snapshot = checked.planned.snapshot();
-    let seen = seen_by(alloc, policy, conn, snapshot.shelf().submissions())?;
+    let seen = seen_by(alloc, policy, connection, snapshot.shelf().submissions())?;
     let rules = snapshot.deck().rules().as_slice();
     let lines = waiver_lines(alloc, rules, &seen, checked.book.as_slice(), waivers)?;
     Lines::from_vec(alloc, lines)
@@ -169,13 +169,13 @@ pub(crate) fn waivers(
     policy: &Policy,
     run: &Run,
     waivers: &Waivers,
-    conn: u32,
+    connection: u32,
 ) -> Result<Lines, Fault>
-    ensures { Answers (λ lines. lines) result (row.waivers_row policy.now run.now waivers.now conn) }
+    ensures { Answers (λ lines. lines) result (row.waivers_row policy.now run.now waivers.now connection) }
 {
-    session(policy, conn)?;
+    session(policy, connection)?;
     let checked = findings(run.phase())?;
-    Ok(listed(alloc, policy, conn, checked, waivers)?)
+    Ok(session_lines(alloc, policy, connection, checked, waivers)?)
 }
 
 /// The line of a verdict.
@@ -191,15 +191,6 @@ fn verdict_line(present: bool, waivers: &Waivers) -> Line
     }
 }
 
-/// One line.
-fn one_line(alloc: Global, line: Line) -> Result<Lines, AllocError>
-    ensures { IfOk result (λ lines. lines ≡ stored line ∷ []) }
-{
-    let mut lines = Vec::new(alloc);
-    lines.push(line)?;
-    Lines::from_vec(alloc, lines)
-}
-
 /// The line of `verdict`. Linear in the placings, the rules and the markers.
 #[tactic(auto, unfolding(crate::specs::SigningOff::verdict_row))]
 pub(crate) fn verdict(
@@ -208,12 +199,21 @@ pub(crate) fn verdict(
     wafer: &Wafer,
     run: &Run,
     waivers: &Waivers,
-    conn: u32,
+    connection: u32,
 ) -> Result<Lines, Fault>
-    ensures { Answers (λ lines. lines) result (row.verdict_row policy.now wafer.now run.now waivers.now conn) }
+    ensures { Answers (λ lines. lines) result (row.verdict_row policy.now wafer.now run.now waivers.now connection) }
 {
-    enter(policy, conn, Operation::Verdict, Object::Desk)?;
+    enter(policy, connection, Operation::Verdict, Object::Desk)?;
     let checked = findings(run.phase())?;
     let present = is_present(alloc, wafer, checked.planned.snapshot())?;
     Ok(one_line(alloc, verdict_line(present, waivers))?)
+}
+
+/// One line.
+fn one_line(alloc: Global, line: Line) -> Result<Lines, AllocError>
+    ensures { IfOk result (λ lines. lines ≡ stored line ∷ []) }
+{
+    let mut lines = Vec::new(alloc);
+    lines.push(line)?;
+    Lines::from_vec(alloc, lines)
 }

@@ -30,13 +30,13 @@ fn may_see(access: &Access<'_>, shelf: &Shelf, number: u32) -> Result<bool, Allo
 /// Where no more copies of a cell's name can be counted.
 pub(crate) fn is_shown(
     policy: &Policy,
-    conn: u32,
+    connection: u32,
     shelf: &Shelf,
     marker: &Marker,
 ) -> Result<bool, AllocError>
-    ensures { IfOk result (λ shown. shown ≡ is_full (seen_by policy.now conn shelf.now) marker.now) }
+    ensures { IfOk result (λ shown. shown ≡ is_full (seen_by policy.now connection shelf.now) marker.now) }
 {
-    let access = policy.access(conn, Operation::Read);
+    let access = policy.access(connection, Operation::Read);
     for number in marker.met.as_slice() {
         if !may_see(&access, shelf, *number)? {
             return Ok(false);

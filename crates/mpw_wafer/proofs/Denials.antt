@@ -36,45 +36,51 @@ text_denies (Ok deck) operation object e = cc
 text_denies (Err fault) operation object e = cc
 
 placed_denies : EnteringDeniesWhatIsLacked
-    → (policy : Policy) (shelf : List Submission) (ps : List Placement) (conn : ℕ)
+    → (policy : Policy) (shelf : List Submission) (ps : List Placement) (connection : ℕ)
     (cell label : List ℕ) (placing : Placing) (operation : Operation) (object : Object)
-    → place_row policy shelf ps conn cell label placing ≡ Err (denied operation object)
-    → permits policy conn operation object ≡ false
+    → place_row policy shelf ps connection cell label placing
+    ≡ Err (denied operation object)
+    → permits policy connection operation object ≡ false
 unfolding place_row
-placed_denies lacks policy shelf ps conn cell label placing operation object e =
-    elim (parts (permitted policy conn operations.Place (objects.Cell cell)) _ _ e) [
-      | inl first ↦ lacks policy conn operations.Place operation (objects.Cell cell) object first
-      | inr rest ↦ absurd (table_denies (table.placed shelf ps cell label placing) operation object
+placed_denies lacks policy shelf ps connection cell label placing operation object e =
+    elim (parts (permitted policy connection operations.Place (objects.Cell cell)) _ _ e) [
+      | inl first ↦ lacks policy connection operations.Place operation (objects.Cell cell) object
+          first
+      | inr rest ↦ absurd (table_denies (table.placings_with shelf ps cell label placing) operation
+          object
           rest.2)
     ]
 
 unplaced_denies : EnteringDeniesWhatIsLacked
-    → (policy : Policy) (ps : List Placement) (conn : ℕ) (cell label : List ℕ)
+    → (policy : Policy) (ps : List Placement) (connection : ℕ) (cell label : List ℕ)
     (operation : Operation) (object : Object)
-    → unplace_row policy ps conn cell label ≡ Err (denied operation object)
-    → permits policy conn operation object ≡ false
+    → unplace_row policy ps connection cell label ≡ Err (denied operation object)
+    → permits policy connection operation object ≡ false
 unfolding unplace_row
-unplaced_denies lacks policy ps conn cell label operation object e =
-    elim (parts (permitted policy conn operations.Place (objects.Cell cell)) _ _ e) [
-      | inl first ↦ lacks policy conn operations.Place operation (objects.Cell cell) object first
-      | inr rest ↦ absurd (table_denies (table.unplaced ps cell label) operation object rest.2)
+unplaced_denies lacks policy ps connection cell label operation object e =
+    elim (parts (permitted policy connection operations.Place (objects.Cell cell)) _ _ e) [
+      | inl first ↦ lacks policy connection operations.Place operation (objects.Cell cell) object
+          first
+      | inr rest ↦ absurd (table_denies (table.placings_without ps cell label) operation object
+          rest.2)
     ]
 
 decked_denies : EnteringDeniesWhatIsLacked
-    → (policy : Policy) (conn : ℕ) (text : List ℕ) (operation : Operation) (object : Object)
-    → deck_row policy conn text ≡ Err (denied operation object)
-    → permits policy conn operation object ≡ false
+    → (policy : Policy) (connection : ℕ) (text : List ℕ) (operation : Operation) (object : Object)
+    → deck_row policy connection text ≡ Err (denied operation object)
+    → permits policy connection operation object ≡ false
 unfolding deck_row
-decked_denies lacks policy conn text operation object e =
-    elim (parts (permitted policy conn operations.Deck objects.Desk) _ _ e) [
-      | inl first ↦ lacks policy conn operations.Deck operation objects.Desk object first
+decked_denies lacks policy connection text operation object e =
+    elim (parts (permitted policy connection operations.Deck objects.Desk) _ _ e) [
+      | inl first ↦ lacks policy connection operations.Deck operation objects.Desk object first
       | inr rest ↦ absurd (text_denies (deck_of text) operation object rest.2)
     ]
 
 -- ---- outcomes
 
 permission_ended : (e : Ending) (operation : Operation) (object : Object)
-    → ended_by e ≡ reply.Denied (denial.Permission operation object) → e ≡ denied operation object
+    → ended_by e ≡ reply.Denied (denial.Permission operation object)
+    → e ≡ denied operation object
 permission_ended (ending.Denied why) operation object told =
     let same : why ≡ denial.Permission operation object = cc in ap (λ d. ending.Denied d) same
 permission_ended (ending.Refused why) operation object told = absurd cc
@@ -102,13 +108,14 @@ deck_ended wafer (Err ending) operation object e =
     ap (λ x. Err x) (permission_ended ending operation object e)
 
 pub wafer_denies : EnteringDeniesWhatIsLacked → WafersDenyWhatIsLacked
-wafer_denies lacks policy shelf wafer conn (ask.Place cell label placing) operation object e =
-    placed_denies lacks policy shelf wafer.placings conn cell label placing operation object
+wafer_denies lacks policy shelf wafer connection (ask.Place cell label placing) operation object e =
+    placed_denies lacks policy shelf wafer.placings connection cell label placing operation object
     (place_ended shelf wafer cell label
-    (place_row policy shelf wafer.placings conn cell label placing) operation object e)
-wafer_denies lacks policy shelf wafer conn (ask.Unplace cell label) operation object e =
-    unplaced_denies lacks policy wafer.placings conn cell label operation object
-    (unplace_ended wafer (unplace_row policy wafer.placings conn cell label) operation object e)
-wafer_denies lacks policy shelf wafer conn (ask.Deck text) operation object e =
-    decked_denies lacks policy conn text operation object
-    (deck_ended wafer (deck_row policy conn text) operation object e)
+    (place_row policy shelf wafer.placings connection cell label placing) operation object e)
+wafer_denies lacks policy shelf wafer connection (ask.Unplace cell label) operation object e =
+    unplaced_denies lacks policy wafer.placings connection cell label operation object
+    (unplace_ended wafer (unplace_row policy wafer.placings connection cell label) operation object
+    e)
+wafer_denies lacks policy shelf wafer connection (ask.Deck text) operation object e =
+    decked_denies lacks policy connection text operation object
+    (deck_ended wafer (deck_row policy connection text) operation object e)

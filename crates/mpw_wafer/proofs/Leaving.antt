@@ -38,36 +38,38 @@ deck_left wafer (Ok deck) told = absurd told
 deck_left wafer (Err ending) told = refl
 
 pub negatives_leave : NegativesLeaveTheWafer
-negatives_leave policy shelf wafer conn (ask.Place cell label placing) told =
-    place_left shelf wafer cell label (place_row policy shelf wafer.placings conn cell label
+negatives_leave policy shelf wafer connection (ask.Place cell label placing) told =
+    place_left shelf wafer cell label (place_row policy shelf wafer.placings connection cell label
     placing)
     told
-negatives_leave policy shelf wafer conn (ask.Unplace cell label) told =
-    unplace_left wafer (unplace_row policy wafer.placings conn cell label) told
-negatives_leave policy shelf wafer conn (ask.Deck text) told =
-    deck_left wafer (deck_row policy conn text) told
+negatives_leave policy shelf wafer connection (ask.Unplace cell label) told =
+    unplace_left wafer (unplace_row policy wafer.placings connection cell label) told
+negatives_leave policy shelf wafer connection (ask.Deck text) told =
+    deck_left wafer (deck_row policy connection text) told
 
 -- ---- placings
 
-place_kept : PlacingKeeps → (policy : Policy) (shelf : List Submission) (wafer : Wafer) (conn : ℕ)
+place_kept : PlacingKeeps → (policy : Policy) (shelf : List Submission) (wafer : Wafer)
+    (connection : ℕ)
     (cell label : List ℕ) (placing : Placing) → ArePlacings shelf wafer.placings
     → (row : Result (List Placement) Ending)
-    → place_row policy shelf wafer.placings conn cell label placing ≡ row
+    → place_row policy shelf wafer.placings connection cell label placing ≡ row
     → ArePlacings shelf (placed_outcome shelf wafer cell label row).wafer.placings
-place_kept keeps policy shelf wafer conn cell label placing kept (Ok ps) is =
+place_kept keeps policy shelf wafer connection cell label placing kept (Ok ps) is =
     keeps shelf wafer.placings ps cell label placing kept
-    (placed_ok policy shelf wafer.placings ps conn cell label placing is)
-place_kept keeps policy shelf wafer conn cell label placing kept (Err ending) is = kept
+    (placed_ok policy shelf wafer.placings ps connection cell label placing is)
+place_kept keeps policy shelf wafer connection cell label placing kept (Err ending) is = kept
 
 unplace_kept : UnplacingKeeps → (policy : Policy) (shelf : List Submission) (wafer : Wafer)
-    (conn : ℕ) (cell label : List ℕ) → ArePlacings shelf wafer.placings
-    → (row : Result (List Placement) Ending) → unplace_row policy wafer.placings conn cell label
+    (connection : ℕ) (cell label : List ℕ) → ArePlacings shelf wafer.placings
+    → (row : Result (List Placement) Ending)
+    → unplace_row policy wafer.placings connection cell label
     ≡ row
     → ArePlacings shelf (unplaced_outcome wafer row).wafer.placings
-unplace_kept keeps policy shelf wafer conn cell label kept (Ok ps) is =
+unplace_kept keeps policy shelf wafer connection cell label kept (Ok ps) is =
     keeps shelf wafer.placings ps cell label kept
-    (unplaced_ok policy wafer.placings ps conn cell label is)
-unplace_kept keeps policy shelf wafer conn cell label kept (Err ending) is = kept
+    (unplaced_ok policy wafer.placings ps connection cell label is)
+unplace_kept keeps policy shelf wafer connection cell label kept (Err ending) is = kept
 
 deck_kept : (shelf : List Submission) (wafer : Wafer) → ArePlacings shelf wafer.placings
     → (row : Result Deck Ending) → ArePlacings shelf (decked_outcome wafer row).wafer.placings
@@ -75,26 +77,26 @@ deck_kept shelf wafer kept (Ok deck) = kept
 deck_kept shelf wafer kept (Err ending) = kept
 
 pub changes_keep : PlacingKeeps → UnplacingKeeps → ChangesKeepPlacings
-changes_keep place unplace policy shelf wafer conn (ask.Place cell label placing) kept =
-    place_kept place policy shelf wafer conn cell label placing kept
-    (place_row policy shelf wafer.placings conn cell label placing) refl
-changes_keep place unplace policy shelf wafer conn (ask.Unplace cell label) kept =
-    unplace_kept unplace policy shelf wafer conn cell label kept
-    (unplace_row policy wafer.placings conn cell label) refl
-changes_keep place unplace policy shelf wafer conn (ask.Deck text) kept =
-    deck_kept shelf wafer kept (deck_row policy conn text)
+changes_keep place unplace policy shelf wafer connection (ask.Place cell label placing) kept =
+    place_kept place policy shelf wafer connection cell label placing kept
+    (place_row policy shelf wafer.placings connection cell label placing) refl
+changes_keep place unplace policy shelf wafer connection (ask.Unplace cell label) kept =
+    unplace_kept unplace policy shelf wafer connection cell label kept
+    (unplace_row policy wafer.placings connection cell label) refl
+changes_keep place unplace policy shelf wafer connection (ask.Deck text) kept =
+    deck_kept shelf wafer kept (deck_row policy connection text)
 
 -- ---- versions
 
 version_told : VersionIsTold → (policy : Policy) (shelf : List Submission) (wafer : Wafer)
-    (conn : ℕ) (cell label : List ℕ) (placing : Placing) (lines : List Listed)
+    (connection : ℕ) (cell label : List ℕ) (placing : Placing) (lines : List Listed)
     (row : Result (List Placement) Ending)
-    → place_row policy shelf wafer.placings conn cell label placing ≡ row
+    → place_row policy shelf wafer.placings connection cell label placing ≡ row
     → (placed_outcome shelf wafer cell label row).reply ≡ reply.Ok lines
     → TellsVersion shelf cell lines
-version_told tells policy shelf wafer conn cell label placing lines (Ok ps) is e =
+version_told tells policy shelf wafer connection cell label placing lines (Ok ps) is e =
     let has = tells shelf wafer.placings ps cell label placing
-    (placed_ok policy shelf wafer.placings ps conn cell label placing is) in
+    (placed_ok policy shelf wafer.placings ps connection cell label placing is) in
     let same : map stored (version_lines (version_at shelf ps cell label)) ≡ lines = cc in
     record {
       number = has.number;
@@ -103,7 +105,7 @@ version_told tells policy shelf wafer conn cell label placing lines (Ok ps) is e
       is = has.is;
       told = sym same ∙ ap (λ version. map stored (version_lines version)) has.told;
     }
-version_told tells policy shelf wafer conn cell label placing lines (Err ending) is e =
+version_told tells policy shelf wafer connection cell label placing lines (Err ending) is e =
     absurd (no_line ending e)
   where
     no_line : (r : Ending) → ended_by r ≡ reply.Ok lines → ⊥
@@ -111,6 +113,6 @@ version_told tells policy shelf wafer conn cell label placing lines (Err ending)
     no_line (ends.Refused why) told = cc
 
 pub versions_told : VersionIsTold → PlacingsTellTheirVersion
-versions_told tells policy shelf wafer conn cell label placing lines e =
-    version_told tells policy shelf wafer conn cell label placing lines
-    (place_row policy shelf wafer.placings conn cell label placing) refl e
+versions_told tells policy shelf wafer connection cell label placing lines e =
+    version_told tells policy shelf wafer connection cell label placing lines
+    (place_row policy shelf wafer.placings connection cell label placing) refl e

@@ -20,25 +20,28 @@ use Rattle.mpw_wafer.specs.Wafers.{outcome_of}
 -- A permission that is denied is lacked.
 abbrev pub WafersDenyWhatIsLacked : Type 0
 WafersDenyWhatIsLacked =
-    (policy : Policy) (shelf : List Submission) (wafer : Wafer) (conn : ℕ) (request : WaferRequest)
+    (policy : Policy) (shelf : List Submission) (wafer : Wafer) (connection : ℕ)
+    (request : WaferRequest)
     (operation : Operation) (object : Object)
-    → (outcome_of policy shelf wafer conn request).reply ≡ reply.Denied
+    → (outcome_of policy shelf wafer connection request).reply ≡ reply.Denied
     (denial.Permission operation object)
-    → permits policy conn operation object ≡ false
+    → permits policy connection operation object ≡ false
 
 -- What is denied or refused leaves the wafer.
 abbrev pub NegativesLeaveTheWafer : Type 0
 NegativesLeaveTheWafer =
-    (policy : Policy) (shelf : List Submission) (wafer : Wafer) (conn : ℕ) (request : WaferRequest)
-    → IsNegative (outcome_of policy shelf wafer conn request).reply
-    → (outcome_of policy shelf wafer conn request).wafer ≡ wafer
+    (policy : Policy) (shelf : List Submission) (wafer : Wafer) (connection : ℕ)
+    (request : WaferRequest)
+    → IsNegative (outcome_of policy shelf wafer connection request).reply
+    → (outcome_of policy shelf wafer connection request).wafer ≡ wafer
 
 -- What is true of placings on a shelf stays so.
 abbrev pub ChangesKeepPlacings : Type 0
 ChangesKeepPlacings =
-    (policy : Policy) (shelf : List Submission) (wafer : Wafer) (conn : ℕ) (request : WaferRequest)
+    (policy : Policy) (shelf : List Submission) (wafer : Wafer) (connection : ℕ)
+    (request : WaferRequest)
     → ArePlacings shelf wafer.placings
-    → ArePlacings shelf (outcome_of policy shelf wafer conn request).wafer.placings
+    → ArePlacings shelf (outcome_of policy shelf wafer connection request).wafer.placings
 
 -- The cell has a present submission, and its version is told.
 pub record TellsVersion (shelf : List Submission) (cell : List ℕ) (lines : List Listed) :
@@ -51,7 +54,9 @@ pub record TellsVersion (shelf : List Submission) (cell : List ℕ) (lines : Lis
 
 abbrev pub PlacingsTellTheirVersion : Type 0
 PlacingsTellTheirVersion =
-    (policy : Policy) (shelf : List Submission) (wafer : Wafer) (conn : ℕ) (cell label : List ℕ)
+    (policy : Policy) (shelf : List Submission) (wafer : Wafer) (connection : ℕ)
+    (cell label : List ℕ)
     (placing : Placing) (lines : List Listed)
-    → (outcome_of policy shelf wafer conn (ask.Place cell label placing)).reply ≡ reply.Ok lines
+    → (outcome_of policy shelf wafer connection (ask.Place cell label placing)).reply
+    ≡ reply.Ok lines
     → TellsVersion shelf cell lines

@@ -47,16 +47,16 @@ by_table (Err fault) = Err (ending.Refused (code_of fault))
 -- The row of `place`: the placings with the present submission of the cell under that label.
 unfoldable pub place_row : Policy → List Submission → List Placement → ℕ → Name → Name → Placing
     → Result (List Placement) Ending
-place_row policy shelf ps conn cell label placing = do
-  entered ← permitted policy conn operation.Place (object.Cell cell)
-  by_table (table.placed shelf ps cell label placing)
+place_row policy shelf ps connection cell label placing = do
+  entered ← permitted policy connection operation.Place (object.Cell cell)
+  by_table (table.placings_with shelf ps cell label placing)
 
 -- The row of `unplace`: the placings without the one of that cell and label.
 unfoldable pub unplace_row : Policy → List Placement → ℕ → Name → Name
     → Result (List Placement) Ending
-unplace_row policy ps conn cell label = do
-  entered ← permitted policy conn operation.Place (object.Cell cell)
-  by_table (table.unplaced ps cell label)
+unplace_row policy ps connection cell label = do
+  entered ← permitted policy connection operation.Place (object.Cell cell)
+  by_table (table.placings_without ps cell label)
 
 abbrev pub by_text : Result Deck DeckFault → Result Deck Ending
 by_text (Ok deck) = Ok deck
@@ -64,8 +64,8 @@ by_text (Err fault) = Err (ending.Refused (code.Deck fault))
 
 -- The row of `deck`: the deck that a text spells.
 unfoldable pub deck_row : Policy → ℕ → List ℕ → Result Deck Ending
-deck_row policy conn text = do
-  entered ← permitted policy conn operation.Deck object.Desk
+deck_row policy connection text = do
+  entered ← permitted policy connection operation.Deck object.Desk
   by_text (deck_of text)
 
 -- ---- what comes of a request
@@ -76,11 +76,12 @@ pub record Outcome : Type 0 where
   pub wafer : Wafer
   pub changes : Bool
 
-abbrev pub left : Ending → Wafer → Outcome
-left ending wafer = record { reply = ended_by ending; wafer = wafer; changes = false }
+abbrev pub no_change : Ending → Wafer → Outcome
+no_change ending wafer = record { reply = ended_by ending; wafer = wafer; changes = false }
 
-abbrev pub changed : List Line → Wafer → Outcome
-changed lines wafer = record { reply = reply.Ok (map stored lines); wafer = wafer; changes = true }
+abbrev pub acceptance : List Line → Wafer → Outcome
+acceptance lines wafer =
+    record { reply = reply.Ok (map stored lines); wafer = wafer; changes = true }
 
 abbrev pub version_lines : Option ℕ → List Line
 version_lines None = []
@@ -90,24 +91,24 @@ version_lines (Some version) = line.Version version ∷ []
 abbrev pub placed_outcome : List Submission → Wafer → Name → Name → Result (List Placement) Ending
     → Outcome
 placed_outcome shelf wafer cell label (Ok ps) =
-    changed (version_lines (version_at shelf ps cell label)) (record wafer { placings = ps })
-placed_outcome shelf wafer cell label (Err ending) = left ending wafer
+    acceptance (version_lines (version_at shelf ps cell label)) (record wafer { placings = ps })
+placed_outcome shelf wafer cell label (Err ending) = no_change ending wafer
 
 abbrev pub unplaced_outcome : Wafer → Result (List Placement) Ending → Outcome
-unplaced_outcome wafer (Ok ps) = changed [] (record wafer { placings = ps })
-unplaced_outcome wafer (Err ending) = left ending wafer
+unplaced_outcome wafer (Ok ps) = acceptance [] (record wafer { placings = ps })
+unplaced_outcome wafer (Err ending) = no_change ending wafer
 
 -- A deck comes in the place of the one before.
 abbrev pub decked_outcome : Wafer → Result Deck Ending → Outcome
-decked_outcome wafer (Ok deck) = changed [] (record wafer { deck = Some deck })
-decked_outcome wafer (Err ending) = left ending wafer
+decked_outcome wafer (Ok deck) = acceptance [] (record wafer { deck = Some deck })
+decked_outcome wafer (Err ending) = no_change ending wafer
 
 -- Each request by its row.
 abbrev pub outcome_of : Policy → List Submission → Wafer → ℕ → WaferRequest → Outcome
-outcome_of policy shelf wafer conn (ask.Place cell label placing) =
+outcome_of policy shelf wafer connection (ask.Place cell label placing) =
     placed_outcome shelf wafer cell label
-    (place_row policy shelf wafer.placings conn cell label placing)
-outcome_of policy shelf wafer conn (ask.Unplace cell label) =
-    unplaced_outcome wafer (unplace_row policy wafer.placings conn cell label)
-outcome_of policy shelf wafer conn (ask.Deck text) =
-    decked_outcome wafer (deck_row policy conn text)
+    (place_row policy shelf wafer.placings connection cell label placing)
+outcome_of policy shelf wafer connection (ask.Unplace cell label) =
+    unplaced_outcome wafer (unplace_row policy wafer.placings connection cell label)
+outcome_of policy shelf wafer connection (ask.Deck text) =
+    decked_outcome wafer (deck_row policy connection text)

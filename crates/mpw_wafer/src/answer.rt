@@ -3,7 +3,6 @@ ghost use Rattle.std.specs.Prelude.{◌≡◌, List, Result, Option, IfOk, map};
 ghost use Rattle.mpw_deck.specs.Decks.{Deck as DeckTold};
 ghost use Rattle.mpw_placings.specs.declared.placement.Placement.{Placement};
 ghost use Rattle.mpw_wafer.specs.Answers.{Gives};
-ghost use Rattle.mpw_wafer.specs.Internal.Answers.{IsEnd};
 ghost use Rattle.mpw_wafer.specs.Wafers.{outcome_of, placed_outcome, unplaced_outcome, decked_outcome, version_lines};
 ghost use Rattle.mpw_replies.specs.Listing.{stored};
 ghost use Rattle.mpw_replies.specs.Rows.{Answers};
@@ -39,19 +38,6 @@ fn version_line(alloc: Global, version: Option<u32>) -> Result<Lines, AllocError
     Lines::from_vec(alloc, lines)
 }
 
-/// What ends a row is told, and leaves the wafer; want of memory gives no answer.
-fn told(fault: Fault) -> Result<WaferAnswer, AllocError>
-    ensures { IfOk result (IsEnd fault) }
-{
-    match fault {
-        Fault::Told(ending) => Ok(WaferAnswer {
-            reply: ending.reply(),
-            next: None,
-        }),
-        Fault::Memory => Err(AllocError),
-    }
-}
-
 /// The answer to what places.
 fn placing(
     alloc: Global,
@@ -73,7 +59,10 @@ fn placing(
                 next: Some(Wafer { placings, deck }),
             })
         }
-        Err(fault) => told(fault),
+        Err(fault) => Ok(WaferAnswer {
+            reply: fault.reply()?,
+            next: None,
+        }),
     }
 }
 
@@ -89,7 +78,10 @@ fn removal(wafer: &Wafer, made: Result<Placings, Fault>) -> Result<WaferAnswer, 
                 next: Some(Wafer { placings, deck }),
             })
         }
-        Err(fault) => told(fault),
+        Err(fault) => Ok(WaferAnswer {
+            reply: fault.reply()?,
+            next: None,
+        }),
     }
 }
 
@@ -108,7 +100,10 @@ fn checking(wafer: &Wafer, made: Result<Deck, Fault>) -> Result<WaferAnswer, All
                 }),
             })
         }
-        Err(fault) => told(fault),
+        Err(fault) => Ok(WaferAnswer {
+            reply: fault.reply()?,
+            next: None,
+        }),
     }
 }
 
@@ -121,10 +116,10 @@ pub fn answer_request(
     policy: &Policy,
     shelf: &Shelf,
     wafer: &Wafer,
-    conn: u32,
+    connection: u32,
     request: &WaferRequest,
 ) -> Result<WaferAnswer, AllocError>
-    ensures { IfOk result (λ answer. Gives wafer.now (outcome_of policy.now shelf.now wafer.now conn request.now) answer) }
+    ensures { IfOk result (λ answer. Gives wafer.now (outcome_of policy.now shelf.now wafer.now connection request.now) answer) }
 {
     let placings = &wafer.placings;
     match request {
@@ -133,12 +128,15 @@ pub fn answer_request(
             label,
             placing: by,
         } => {
-            let made = place(alloc, policy, shelf, placings, conn, cell, label, *by);
+            let made = place(alloc, policy, shelf, placings, connection, cell, label, *by);
             placing(alloc, shelf, wafer, cell, label, made)
         }
         WaferRequest::Unplace { cell, label } => {
-            removal(wafer, unplace(alloc, policy, placings, conn, cell, label))
+            removal(
+                wafer,
+                unplace(alloc, policy, placings, connection, cell, label),
+            )
         }
-        WaferRequest::Deck { text } => checking(wafer, deck(alloc, policy, conn, text)),
+        WaferRequest::Deck { text } => checking(wafer, deck(alloc, policy, connection, text)),
     }
 }

@@ -36,14 +36,19 @@ pub(crate) fn place(
     policy: &Policy,
     shelf: &Shelf,
     placings: &Placings,
-    conn: u32,
+    connection: u32,
     cell: &Name,
     label: &Name,
     placing: Placing,
 ) -> Result<Placings, Fault>
-    ensures { Answers (λ placings. placings) result (row.place_row policy.now shelf.now placings.now conn cell.now label.now placing) }
+    ensures { Answers (λ placings. placings) result (row.place_row policy.now shelf.now placings.now connection cell.now label.now placing) }
 {
-    enter(policy, conn, Operation::Place, Object::Cell(cell.copy()?))?;
+    enter(
+        policy,
+        connection,
+        Operation::Place,
+        Object::Cell(cell.copy()?),
+    )?;
     match placings.place(alloc, shelf, cell, label, placing) {
         Ok(placings) => Ok(placings),
         Err(fault) => Err(fault_of(fault)),
@@ -56,13 +61,18 @@ pub(crate) fn unplace(
     alloc: Global,
     policy: &Policy,
     placings: &Placings,
-    conn: u32,
+    connection: u32,
     cell: &Name,
     label: &Name,
 ) -> Result<Placings, Fault>
-    ensures { Answers (λ placings. placings) result (row.unplace_row policy.now placings.now conn cell.now label.now) }
+    ensures { Answers (λ placings. placings) result (row.unplace_row policy.now placings.now connection cell.now label.now) }
 {
-    enter(policy, conn, Operation::Place, Object::Cell(cell.copy()?))?;
+    enter(
+        policy,
+        connection,
+        Operation::Place,
+        Object::Cell(cell.copy()?),
+    )?;
     match placings.unplace(alloc, cell, label) {
         Ok(placings) => Ok(placings),
         Err(fault) => Err(fault_of(fault)),
@@ -74,12 +84,12 @@ pub(crate) fn unplace(
 pub(crate) fn deck(
     alloc: Global,
     policy: &Policy,
-    conn: u32,
+    connection: u32,
     text: &DeckText,
 ) -> Result<Deck, Fault>
-    ensures { Answers (λ deck. deck) result (row.deck_row policy.now conn text.now) }
+    ensures { Answers (λ deck. deck) result (row.deck_row policy.now connection text.now) }
 {
-    enter(policy, conn, Operation::Deck, Object::Desk)?;
+    enter(policy, connection, Operation::Deck, Object::Desk)?;
     match text.deck(alloc) {
         Ok(deck) => Ok(deck),
         Err(DeckError::Fault(fault)) => Err(Fault::refused(Code::Deck(fault))),

@@ -23,7 +23,7 @@ use Rattle.mpw_tiles.specs.Plan.{tiles}
 use Rattle.mpw_tiles.specs.Snapshots.{plan_for}
 use Rattle.mpw_tiles.specs.declared.listing.Rectangle.{Rectangle}
 use Rattle.mpw_work.specs.Laws.{IsAnswered, IsOver}
-use Rattle.mpw_work.specs.Working.{CameOf, cut_called, cut_told, is_kept, own_worker, was_kept}
+use Rattle.mpw_work.specs.Working.{CameOf, cut_of_call, cut_of_response, is_kept, own_worker, was_kept}
 use Rattle.mpw_work.proofs.EventLemmas.{wanted_take, wanted_cut, Took, came_quiet}
 
 -- ---- a run that is to be cut
@@ -61,23 +61,23 @@ take_cutting d planned r d' is handled =
     is.phase) refl handled
 
 pub uncalled_ends : (d d' : KeptDesk) (planned : Planned) → Cuts d planned
-    → (call : Option Response) → CameOf d (event.Take own_worker) call d' → cut_called call ≡ None
+    → (call : Option Response) → CameOf d (event.Take own_worker) call d' → cut_of_call call ≡ None
     → IsAnswered call → IsOver d'
 uncalled_ends d d' planned is None handled without all = absurd all
 uncalled_ends d d' planned is (Some r) handled without all =
     elim (take_cutting d planned r d' is handled) [
       | inl over ↦ over.0
-      | inr took ↦ absurd (none-some _ (sym without ∙ ap cut_told took.told))
+      | inr took ↦ absurd (none-some _ (sym without ∙ ap cut_of_response took.told))
     ]
 
 pub called_cuts : (d near : KeptDesk) (planned : Planned) → Cuts d planned
     → (call : Option Response) (job : CutJob) → CameOf d (event.Take own_worker) call near
-    → cut_called call ≡ Some job → IsAnswered call
+    → cut_of_call call ≡ Some job → IsAnswered call
     → Cuts near planned × (job ≡ cut_job (state_of near.desk).run planned)
 called_cuts d near planned is None job handled taken all = absurd all
 called_cuts d near planned is (Some r) job handled taken all =
     elim (take_cutting d planned r near is handled) [
-      | inl over ↦ absurd (none-some _ (sym (ap cut_told over.1) ∙ taken))
+      | inl over ↦ absurd (none-some _ (sym (ap cut_of_response over.1) ∙ taken))
       | inr took ↦ (
         record {
           is_open = took.is_open;
@@ -85,7 +85,8 @@ called_cuts d near planned is (Some r) job handled taken all =
               ∙ is.phase;
           plan = is.plan;
         },
-        same_Some _ _ (sym taken ∙ ap cut_told took.told) ∙ ap (λ (x : run.Run). cut_job x planned)
+        same_Some _ _ (sym taken ∙ ap cut_of_response took.told)
+            ∙ ap (λ (x : run.Run). cut_job x planned)
             (sym took.run_is),
       )
     ]

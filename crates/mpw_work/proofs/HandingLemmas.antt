@@ -8,7 +8,7 @@ use Rattle.mpw_core.specs.declared.event.Event.{Event}
 use Rattle.mpw_core.specs.declared.event.Event.TheVariants as event
 use Rattle.mpw_job.specs.Jobs.{CutWindows}
 use Rattle.mpw_job.specs.declared.job.CutJob.{CutJob}
-use Rattle.mpw_work.specs.Working.{HandsCut, HandsOver, HandsTile, HandsTiles, WorksCut, WorksOff, WorksTiles, cut_called, own_worker}
+use Rattle.mpw_work.specs.Working.{HandsCut, HandsOver, HandsTile, HandsTiles, WorksCut, WorksOff, WorksTiles, cut_of_call, own_worker}
 use Rattle.mpw_work.specs.Internal.Working.{CallsFor}
 
 -- the item at a place stands first of what is left there
@@ -82,9 +82,9 @@ cut_unkept d a b kept d' same is goes =
 -- a call without a job of cutting, or without room for its copy
 pub off_called : (d : KeptDesk) (job : Option CutJob) (d' : KeptDesk) → CallsFor d job d'
     → WorksOff d d'
-off_called d job d' calls = go (cut_called calls.call) refl
+off_called d job d' calls = go (cut_of_call calls.call) refl
   where
-    go : (o : Option CutJob) → cut_called calls.call ≡ o → WorksOff d d'
+    go : (o : Option CutJob) → cut_of_call calls.call ≡ o → WorksOff d d'
     go None is = WorksOff.uncalled calls.call d' calls.handled is
     go (Some told) is = WorksOff.called calls.call told d' d' calls.handled is WorksCut.uncut
 

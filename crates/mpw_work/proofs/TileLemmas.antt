@@ -5,7 +5,7 @@ use Rattle.std.specs.List.{range_with_len}
 use Rattle.std.proofs.lemmas.Bool.{true≢false, cases_eq, cases_lt, eq-eqb}
 use Rattle.std.proofs.lemmas.Option.{slice_get_within}
 use Rattle.mpw_core.specs.History.{KeptDesk, IsHandled, state_of}
-use Rattle.mpw_core.specs.Step.{State, of_run, wanted}
+use Rattle.mpw_core.specs.Step.{State, of_run, event_outcome}
 use Rattle.mpw_core.specs.declared.event.Event.{Event}
 use Rattle.mpw_core.specs.declared.event.Event.TheVariants as event
 use Rattle.mpw_core.specs.declared.event.Response.{Response}
@@ -72,7 +72,7 @@ take_by d planned windows number k r d' is handled None next =
     c : Checks
     c = checks_of planned windows is.xs
 
-    wants : wanted s (event.Take own_worker) ≡ of_run s (run.handed s.run c None)
+    wants : event_outcome s (event.Take own_worker) ≡ of_run s (run.handed s.run c None)
     wants = wanted_take s own_worker ∙ ap (λ (p : Phase). of_run s (run.taken_in s.run p)) is.phase
         ∙ ap (λ (o : Option run.Offer). of_run s (run.handed s.run c o)) next
 take_by d planned windows number k r d' is handled (Some offer) next =
@@ -104,7 +104,7 @@ take_by d planned windows number k r d' is handled (Some offer) next =
     at = let i = next_is 0 is.xs offer next in
         ap (slice_get is.xs) (let n = i.number in omega (arith, n)) ∙ i.at
 
-    wants : wanted s (event.Take own_worker) ≡ of_run s (run.handed s.run c (Some offer))
+    wants : event_outcome s (event.Take own_worker) ≡ of_run s (run.handed s.run c (Some offer))
     wants = wanted_take s own_worker ∙ ap (λ (p : Phase). of_run s (run.taken_in s.run p)) is.phase
         ∙ ap (λ (o : Option run.Offer). of_run s (run.handed s.run c o)) next
 
@@ -172,7 +172,8 @@ tile_step exact d planned windows number k a r d' is job handled =
     more = one_answered is.xs a.job.tile u.0 a.markers (ap (slice_get is.xs) here ∙ u.1) u.2
         ∙ ap (λ m. m + 1) is.done
 
-    wants : (o : run.Outcome) → run.kept s.run c now ≡ o → wanted s (event.Tile a) ≡ of_run s o
+    wants : (o : run.Outcome) → run.kept s.run c now ≡ o
+        → event_outcome s (event.Tile a) ≡ of_run s o
     wants o e = wanted_tile s a ∙ ap (of_run s)
         (tile_is exact s.run c a u.0 number k is.phase is.number_is job u.1 u.2 ∙ e)
 

@@ -65,6 +65,6 @@ pub data IsOver (d : KeptDesk) : Type 0 where
 -- Behind a `run` that is accepted the work goes on until it is over, unless memory is wanting.
 abbrev pub WorkEnds : Type 0
 WorkEnds =
-    (conn : ℕ) (response : Response) (before d d' : KeptDesk)
-    → IsHandled before (event.Ask conn (ask.Run Run)) response d → is_accepted response ≡ true
+    (connection : ℕ) (response : Response) (before d d' : KeptDesk)
+    → IsHandled before (event.Ask connection (ask.Run Run)) response d → is_accepted response ≡ true
     → (work : WorksOff d d') → AllAnswered d d' work → IsOver d'

@@ -119,21 +119,21 @@ abbrev pub cut_of : Job → Option CutJob
 cut_of (jobs.Cut job) = Some job
 cut_of (jobs.Tile job) = None
 
-abbrev pub cut_handed : RunReply → Option CutJob
-cut_handed (told.Taken job) = cut_of job
-cut_handed told.NoJob = None
-cut_handed told.Kept = None
-cut_handed told.Finished = None
-cut_handed told.Stranger = None
-cut_handed told.Double = None
-cut_handed told.OldRun = None
+abbrev pub cut_of_reply : RunReply → Option CutJob
+cut_of_reply (told.Taken job) = cut_of job
+cut_of_reply told.NoJob = None
+cut_of_reply told.Kept = None
+cut_of_reply told.Finished = None
+cut_of_reply told.Stranger = None
+cut_of_reply told.Double = None
+cut_of_reply told.OldRun = None
 
-abbrev pub cut_told : Response → Option CutJob
-cut_told response = by_run None cut_handed response
+abbrev pub cut_of_response : Response → Option CutJob
+cut_of_response response = by_run None cut_of_reply response
 
-abbrev pub cut_called : Option Response → Option CutJob
-cut_called None = None
-cut_called (Some response) = cut_told response
+abbrev pub cut_of_call : Option Response → Option CutJob
+cut_of_call None = None
+cut_of_call (Some response) = cut_of_response response
 
 -- The windows were kept.
 abbrev pub keeps : RunReply → Bool
@@ -177,9 +177,9 @@ pub data WorksCut (d : KeptDesk) (job : CutJob) : KeptDesk → Type 0 where
 -- The desk is called for a job; where that is to cut, the run is worked off.
 pub data WorksOff (d : KeptDesk) : KeptDesk → Type 0 where
   uncalled : (call : Option Response) (d' : KeptDesk) → CameOf d (event.Take own_worker) call d'
-      → cut_called call ≡ None → WorksOff d d'
+      → cut_of_call call ≡ None → WorksOff d d'
   called : (call : Option Response) (job : CutJob) (d' d'' : KeptDesk)
-      → CameOf d (event.Take own_worker) call d' → cut_called call ≡ Some job → WorksCut d' job d''
+      → CameOf d (event.Take own_worker) call d' → cut_of_call call ≡ Some job → WorksCut d' job d''
       → WorksOff d d''
 
 -- ---- behind which replies

@@ -98,6 +98,6 @@ places_for run prepared = if finishes prepared.reply
     then Some (none_asked (book_size (applied prepared.change run).phase)) else None
 
 -- what moves in of what was prepared for the run: what finishes the run has to be kept, and has places for waivers
-abbrev pub moved : Prepared → Option (List (Option Waiver)) → Next
-moved prepared None = Move prepared
-moved prepared (Some waivers) = Finish prepared waivers
+abbrev pub move_or_finish : Prepared → Option (List (Option Waiver)) → Next
+move_or_finish prepared None = Move prepared
+move_or_finish prepared (Some waivers) = Finish prepared waivers

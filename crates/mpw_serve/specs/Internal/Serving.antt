@@ -15,20 +15,20 @@ answer_of None = Answer.starved
 answer_of (Some response) = Answer.replied response
 
 -- one line ends the connection
-pub record StopsLine (conn : ℕ) (input input' output output' : Option (List ℕ))
+pub record StopsLine (connection : ℕ) (input input' output output' : Option (List ℕ))
     (desk desk' : KeptDesk) (result : Result End WireFault) : Type 0 where
   pub stop : Stop
-  pub stopped : IsStop conn 0 input desk stop input' desk'
+  pub stopped : IsStop connection 0 input desk stop input' desk'
   pub told : Tells stop result
   pub written : Written output output' (fault_of result) [] (stop_text stop)
 
 -- one line is answered, or it ends the connection
 abbrev pub ServesLine : ℕ → Option (List ℕ) → Option (List ℕ) → Option (List ℕ) → Option (List ℕ)
     → KeptDesk → KeptDesk → Result (Option End) WireFault → Type 0
-ServesLine conn input input' output output' desk desk' (Ok None) =
-    (turn : AnsweredLine) × IsAnsweredLine conn input desk turn input' desk'
+ServesLine connection input input' output output' desk desk' (Ok None) =
+    (turn : AnsweredLine) × IsAnsweredLine connection input desk turn input' desk'
     × Appends output output' (answered_text turn)
-ServesLine conn input input' output output' desk desk' (Ok (Some end)) =
-    StopsLine conn input input' output output' desk desk' (Ok end)
-ServesLine conn input input' output output' desk desk' (Err fault) =
-    StopsLine conn input input' output output' desk desk' (Err fault)
+ServesLine connection input input' output output' desk desk' (Ok (Some end)) =
+    StopsLine connection input input' output output' desk desk' (Ok end)
+ServesLine connection input input' output output' desk desk' (Err fault) =
+    StopsLine connection input input' output output' desk desk' (Err fault)

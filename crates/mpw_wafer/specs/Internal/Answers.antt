@@ -1,13 +1,10 @@
 -- What private functions and proofs need of this: what functions of the rows over the wafer answer.
-use Rattle.std.specs.Prelude.{◌≡◌, None}
 use Rattle.mpw_placings.specs.declared.fault.PlacingFault.{PlacingFault}
 use Rattle.mpw_placings.specs.declared.fault.PlacingFault.TheVariants as placing
-use Rattle.mpw_replies.specs.Rows.{ended_by}
 use Rattle.mpw_replies.specs.declared.reply.Code.TheVariants as code
 use Rattle.mpw_replies.specs.declared.row.Ending.TheVariants as ending
 use Rattle.mpw_replies.specs.declared.row.Fault.{Fault}
 use Rattle.mpw_replies.specs.declared.row.Fault.TheVariants as fault
-use Rattle.mpw_wafer.specs.declared.answer.WaferAnswer.{WaferAnswer}
 
 -- Why a placing is refused, as what ends a row.
 abbrev pub fault_of : PlacingFault → Fault
@@ -18,8 +15,3 @@ fault_of placing.Shapes = fault.Told (ending.Refused code.Shapes)
 fault_of placing.Full = fault.Told (ending.Refused code.Full)
 fault_of placing.Unknown = fault.Told (ending.Refused code.Unknown)
 fault_of placing.Memory = fault.Memory
-
--- What ends a row is told, and leaves the wafer; want of memory gives no answer.
-abbrev pub IsEnd : Fault → WaferAnswer → Type 0
-IsEnd fault.Memory answer = ⊥
-IsEnd (fault.Told ending) answer = (answer.reply ≡ ended_by ending) × (answer.next ≡ None)

@@ -5,7 +5,7 @@ use Rattle.mpw_core.specs.declared.event.Event.{Event}
 use Rattle.mpw_core.specs.declared.event.Event.TheVariants as event
 use Rattle.mpw_core.specs.declared.event.Response.{Response}
 use Rattle.mpw_job.specs.declared.job.CutJob.{CutJob}
-use Rattle.mpw_work.specs.Working.{own_worker, CameOf, cut_called}
+use Rattle.mpw_work.specs.Working.{own_worker, CameOf, cut_of_call}
 
 -- The event is of the run, and no restart.
 abbrev pub IsOfRun : Event → Type 0
@@ -15,4 +15,4 @@ IsOfRun e = restarts e ≡ false
 pub record CallsFor (d : KeptDesk) (job : Option CutJob) (d' : KeptDesk) : Type 0 where
   pub call : Option Response
   pub handled : CameOf d (event.Take own_worker) call d'
-  pub taken : IfSome job (λ j. cut_called call ≡ Some j)
+  pub taken : IfSome job (λ j. cut_of_call call ≡ Some j)

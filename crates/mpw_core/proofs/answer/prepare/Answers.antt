@@ -3,18 +3,18 @@ use Rattle.mpw_job.specs.Jobs.{CutWindows, FoundMarkers}
 use Rattle.mpw_run.specs.Prepared.{IsPrepared}
 use Rattle.mpw_run.specs.Step as run
 use Rattle.mpw_core.specs.Internal.Answer.{open_state}
-use Rattle.mpw_core.specs.Step.{State, wanted}
+use Rattle.mpw_core.specs.Step.{State, event_outcome}
 use Rattle.mpw_core.proofs.answer.prepare.Goals as goal
 
 pub returns-in_ok-prepare_take-in-Take : goal.returns-in_ok-prepare_take-in-Take
-unfolding wanted
+unfolding event_outcome
 returns-in_ok-prepare_take-in-Take c =
     let state : State = open_state c.args.tables.now in
     rw c.in-Take.is (c.of_run.ensures state (run.taken state.run) refl
     c.in_ok-prepare_take-in-Take.ensures)
 
 pub returns-in_ok-prepare_cut-in-Cut : goal.returns-in_ok-prepare_cut-in-Cut
-unfolding wanted
+unfolding event_outcome
 returns-in_ok-prepare_cut-in-Cut c =
     let state : State = open_state c.args.tables.now in
     let made = c.in_ok-prepare_cut-in-Cut.field-0 in
@@ -24,7 +24,7 @@ returns-in_ok-prepare_cut-in-Cut c =
     is)
 
 pub returns-in_ok-prepare_tile-in-Tile : goal.returns-in_ok-prepare_tile-in-Tile
-unfolding wanted
+unfolding event_outcome
 returns-in_ok-prepare_tile-in-Tile c =
     let state : State = open_state c.args.tables.now in
     let made = c.in_ok-prepare_tile-in-Tile.field-0 in
@@ -34,7 +34,7 @@ returns-in_ok-prepare_tile-in-Tile c =
     refl is)
 
 pub returns-in-Gone : goal.returns-in-Gone
-unfolding wanted
+unfolding event_outcome
 returns-in-Gone c =
     let state : State = open_state c.args.tables.now in
     rw c.in-Gone.is (c.parting.ensures state refl)

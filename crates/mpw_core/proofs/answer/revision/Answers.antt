@@ -9,12 +9,12 @@ pub returns : goal.returns
 returns c = λ state same.
     let p = c.args.policy.now in
     let r = c.args.request.now in
-    let conn = c.args.conn in
-    let ok : OnOk c.make-made.result (row_of p conn r ≡ Ok c.make-made.new.policy) =
+    let connection = c.args.connection in
+    let ok : OnOk c.make-made.result (row_of p connection r ≡ Ok c.make-made.new.policy) =
     subst (λ (q : Policy). OnOk c.make-made.result
-    (row_of q conn r ≡ Ok c.make-made.new.policy)) c.in_ok-next.ensures
+    (row_of q connection r ≡ Ok c.make-made.new.policy)) c.in_ok-next.ensures
     c.make-made.ensures.ok in
-    let err : IfErr c.make-made.result (IsFaultOf (row_of p conn r)) =
-    subst (λ (q : Policy). IfErr c.make-made.result (IsFaultOf (row_of q conn r)))
+    let err : IfErr c.make-made.result (IsFaultOf (row_of p connection r)) =
+    subst (λ (q : Policy). IfErr c.make-made.result (IsFaultOf (row_of q connection r)))
     c.in_ok-next.ensures c.make-made.ensures.refused in
-    c.changed.ensures state (row_of p conn r) ok err
+    c.policy_answer.ensures state (row_of p connection r) ok err

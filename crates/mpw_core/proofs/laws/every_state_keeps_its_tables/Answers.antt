@@ -12,27 +12,40 @@ returns c = λ officer digest calls. kept-history AreTablesSound keeps
     c.each_request_keeps_the_tables.ensures.end_sessions officer digest calls
     (c.each_request_keeps_the_tables.ensures.new_desk officer digest)
   where
-    keeps : (conn : ℕ) (request : PolicyRequest) → KeepsTables (λ p. row_of p conn request)
-    keeps conn (Open user digest) = c.each_request_keeps_the_tables.ensures.open_session conn user
+    keeps : (connection : ℕ) (request : PolicyRequest)
+        → KeepsTables (λ p. row_of p connection request)
+    keeps connection (Open user digest) = c.each_request_keeps_the_tables.ensures.open_session
+        connection user
         digest
-    keeps conn Close = c.each_request_keeps_the_tables.ensures.close_session conn
-    keeps conn (Activate role) = c.each_request_keeps_the_tables.ensures.activate conn role
-    keeps conn (DropRole role) = c.each_request_keeps_the_tables.ensures.drop_role conn role
-    keeps conn (AddUser user digest) = c.each_request_keeps_the_tables.ensures.adduser conn user
-        digest
-    keeps conn (DelUser user) = c.each_request_keeps_the_tables.ensures.deluser conn user
-    keeps conn (AddRole role) = c.each_request_keeps_the_tables.ensures.addrole conn role
-    keeps conn (DelRole role) = c.each_request_keeps_the_tables.ensures.delrole conn role
-    keeps conn (Assign user role) = c.each_request_keeps_the_tables.ensures.assign conn user role
-    keeps conn (Deassign user role) = c.each_request_keeps_the_tables.ensures.deassign conn user
+    keeps connection Close = c.each_request_keeps_the_tables.ensures.close_session connection
+    keeps connection (Activate role) = c.each_request_keeps_the_tables.ensures.activate connection
         role
-    keeps conn (Grant grant) = c.each_request_keeps_the_tables.ensures.grant conn grant
-    keeps conn (Revoke grant) = c.each_request_keeps_the_tables.ensures.revoke conn grant
-    keeps conn (Inherit senior junior) = c.each_request_keeps_the_tables.ensures.inherit conn senior
+    keeps connection (DropRole role) = c.each_request_keeps_the_tables.ensures.drop_role connection
+        role
+    keeps connection (AddUser user digest) = c.each_request_keeps_the_tables.ensures.adduser
+        connection user
+        digest
+    keeps connection (DelUser user) = c.each_request_keeps_the_tables.ensures.deluser connection
+        user
+    keeps connection (AddRole role) = c.each_request_keeps_the_tables.ensures.addrole connection
+        role
+    keeps connection (DelRole role) = c.each_request_keeps_the_tables.ensures.delrole connection
+        role
+    keeps connection (Assign user role) = c.each_request_keeps_the_tables.ensures.assign connection
+        user role
+    keeps connection (Deassign user role) = c.each_request_keeps_the_tables.ensures.deassign
+        connection user
+        role
+    keeps connection (Grant grant) = c.each_request_keeps_the_tables.ensures.grant connection grant
+    keeps connection (Revoke grant) = c.each_request_keeps_the_tables.ensures.revoke connection
+        grant
+    keeps connection (Inherit senior junior) = c.each_request_keeps_the_tables.ensures.inherit
+        connection senior
         junior
-    keeps conn (Uninherit senior junior) = c.each_request_keeps_the_tables.ensures.uninherit conn
+    keeps connection (Uninherit senior junior) = c.each_request_keeps_the_tables.ensures.uninherit
+        connection
         senior junior
-    keeps conn (Ssd set) = c.each_request_keeps_the_tables.ensures.ssd conn set
-    keeps conn (Dsd set) = c.each_request_keeps_the_tables.ensures.dsd conn set
-    keeps conn (UnSsd name) = c.each_request_keeps_the_tables.ensures.unssd conn name
-    keeps conn (UnDsd name) = c.each_request_keeps_the_tables.ensures.undsd conn name
+    keeps connection (Ssd set) = c.each_request_keeps_the_tables.ensures.ssd connection set
+    keeps connection (Dsd set) = c.each_request_keeps_the_tables.ensures.dsd connection set
+    keeps connection (UnSsd name) = c.each_request_keeps_the_tables.ensures.unssd connection name
+    keeps connection (UnDsd name) = c.each_request_keeps_the_tables.ensures.undsd connection name

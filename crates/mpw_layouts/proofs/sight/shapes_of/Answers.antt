@@ -9,8 +9,8 @@ pub returns : goal.returns
 returns c =
     let ss = c.args.shelf.now in
     let policy = c.args.policy.now in
-    let seen : c.in_ok-seen.seen.items ≡ seen_by policy c.args.conn ss = c.in_ok-seen.ensures
-    ∙ ap (seen_by policy c.args.conn) c.submissions.ensures in
+    let seen : c.in_ok-seen.seen.items ≡ seen_by policy c.args.connection ss = c.in_ok-seen.ensures
+    ∙ ap (seen_by policy c.args.connection) c.submissions.ensures in
     c.new.ensures ∙ ap (λ shelf. seen_lines shelf c.in_ok-seen.seen.items
     (flat shelf c.args.number)) c.in_ok-copy.ensures
-    ∙ all_readable policy ss c.args.conn c.in_ok-seen.seen.items (flat ss c.args.number) seen
+    ∙ all_readable policy ss c.args.connection c.in_ok-seen.seen.items (flat ss c.args.number) seen

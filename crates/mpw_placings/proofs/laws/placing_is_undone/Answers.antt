@@ -1,6 +1,10 @@
-use Rattle.mpw_placings.proofs.Undoing.{undone, versioned}
+use Rattle.mpw_placings.proofs.Undoing.{undone, place_gives_version}
 use Rattle.mpw_placings.proofs.laws.placing_is_undone.Goals as goal
 
 pub returns : goal.returns
 returns c =
-    record { undone = undone; version = versioned c.shelves_have_their_numbers.ensures.cells }
+    record {
+      undone = undone;
+      version = place_gives_version
+          c.shelves_have_their_numbers.ensures.cells;
+    }

@@ -2,11 +2,12 @@ use Rattle.mpw_core.specs.History.{state_of}
 use Rattle.mpw_secrecy.proofs.laws.desks_of_equal_views_answer_alike.Goals as goal
 
 pub returns : goal.returns
-returns c = λ conn requests same are.
+returns c = λ connection requests same are.
     let first = c.args.first.now in
     let second = c.args.second.now in
     let places = c.every_state_has_a_place_for_each_marker.ensures in
-    c.equal_views_give_equal_answers.ensures.lists conn (state_of first) (state_of second) requests
+    c.equal_views_give_equal_answers.ensures.lists connection (state_of first) (state_of second)
+    requests
     (record {
       run = c.run_is_sound.ensures.run;
       places = places first.officer first.digest

@@ -5,7 +5,7 @@ use Rattle.mpw_serve.proofs.serve.serve_lines.Given as goal
 
 abbrev pub invariant-loop : goal.invariant-loop
 invariant-loop g l =
-    Progress l.conn (g.R.Source.remaining l.initial.reader) (g.R.Source.remaining l.reader)
+    Progress l.connection (g.R.Source.remaining l.initial.reader) (g.R.Source.remaining l.reader)
     (g.W.Sink.contents l.initial.writer) (g.W.Sink.contents l.writer)
     (kept_desk l.initial.core (g.K.Keeper.kept l.initial.keeper)
     (g.K.Keeper.failures l.initial.keeper))

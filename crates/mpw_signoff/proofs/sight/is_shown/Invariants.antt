@@ -7,5 +7,5 @@ use Rattle.mpw_signoff.proofs.sight.is_shown.Given as goal
 -- the numbers so far may be seen
 abbrev pub invariant-loop-number : goal.invariant-loop-number
 invariant-loop-number l =
-    list_all (λ number. is_seen (slice_get (seen_by l.policy l.conn l.shelf) number))
+    list_all (λ number. is_seen (slice_get (seen_by l.policy l.connection l.shelf) number))
     (take l.number-index l.marker.met) ≡ true

@@ -1,5 +1,5 @@
 use Rattle.std.proofs.Common.{sym, ◌∙◌}
-use Rattle.mpw_layouts.proofs.rows.shown.Goals as goal
+use Rattle.mpw_layouts.proofs.rows.present_number.Goals as goal
 
 pub returns-in-Some-clause-within : goal.returns-in-Some-clause-within
 returns-in-Some-clause-within c = (c.shelves_have_their_numbers.ensures.cells c.args.shelf.now
