@@ -11,7 +11,7 @@ ghost use Rattle.mpw_region.specs.Internal.Swept.{IsCovered};
 ghost use Rattle.mpw_checks.specs.Internal.Across.{IsAcross};
 
 use mpw_geom::Box2;
-use mpw_region::{Line, Run, joined};
+use mpw_region::{Line, Run, join_runs};
 use std::alloc::{AllocError, Global};
 
 /// The boxes of a window that begin or end within it, and the rows of those that reach across.
@@ -101,7 +101,7 @@ pub(crate) fn merged(alloc: Global, boxes: &[Box2], window: &Box2) -> Result<Vec
     ensures { IfOk result (λ v. (i j : ℤ) → covers v.items i j ≡ covers boxes.now i j) }
 {
     let Apart { within, across } = separate(alloc, boxes, window)?;
-    let across = joined(alloc, across)?;
+    let across = join_runs(alloc, across)?;
     let mut within = within;
     add_across(&mut within, across.as_slice(), window)?;
     Ok(within)

@@ -17,7 +17,7 @@ ghost use Rattle.mpw_checks.specs.Strips.{IsStrip, HasStepIn, FindsIn, AreStrips
 use mpw_deck::Rule;
 use mpw_edges::{Piece, pieces_of, vertical_steps};
 use mpw_geom::Box2;
-use mpw_region::{Run, joined};
+use mpw_region::{Run, join_runs};
 use std::alloc::{AllocError, Global};
 use std::marker::Model;
 
@@ -121,7 +121,7 @@ fn runs_in(alloc: Global, rule: &Rule, strips: &[Strip]) -> Result<Vec<Run>, All
     for strip in strips {
         add_runs(alloc, &mut found, rule, strip)?;
     }
-    joined(alloc, found)
+    join_runs(alloc, found)
 }
 
 /// What the rule finds in a core, as [`mpw_edges::pieces`] tells it, where these are the core's

@@ -20,7 +20,7 @@ use crate::edges::runs;
 use crate::run::{Axis, Piece};
 use mpw_deck::Rule;
 use mpw_geom::Box2;
-use mpw_region::{Bands, Run, joined};
+use mpw_region::{Bands, Run, join_runs};
 use std::alloc::{AllocError, Global};
 
 /// The maximal runs of rows with a pair step between vertical edges of bands, whose boxes are given: the line
@@ -46,7 +46,7 @@ pub fn vertical_steps(
     ensures apart { IfOk result (λ v. AreApart v.items) }
 {
     let found = runs(alloc, rule, first, second, core)?;
-    joined(alloc, found)
+    join_runs(alloc, found)
 }
 
 /// The box with its coordinates exchanged.

@@ -11,7 +11,9 @@ ghost use Rattle.mpw_elements.specs.Grammar.{orientation, single, array};
 use crate::element::Reference;
 use crate::fault::ReadError;
 use crate::reading::{demand, expect, is_kind, next_field};
-use crate::values::{counts, magnification, mirrored, orient, place, read_grid, read_name, turns};
+use crate::values::{
+    counts, is_mirrored, magnification, orient, place, read_grid, read_name, turns,
+};
 use mpw_geom::{Orient, Point};
 use mpw_records::{Record, Records, kind};
 use std::alloc::Global;
@@ -69,7 +71,7 @@ fn orientation<'a>(
     if !is_kind(found, kind::STRANS) {
         return Ok((Orient::R0, found));
     }
-    let mirrored = mirrored(found)?;
+    let mirrored = is_mirrored(found)?;
     let found = next_field(records, start)?;
     let found = optional_magnification(records, start, found)?;
     let (turns, found) = optional_turns(records, start, found)?;

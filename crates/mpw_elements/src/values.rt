@@ -117,7 +117,7 @@ pub fn read_name(alloc: Global, from: Record<'_>) -> Result<Name, ReadError>
 
 /// Whether STRANS mirrors.
 #[tactic(auto, unfolding(crate::specs::Values::mirrored_of))]
-pub fn mirrored(from: Record<'_>) -> Result<bool, ReadFault>
+pub fn is_mirrored(from: Record<'_>) -> Result<bool, ReadFault>
     requires { 2 ≤ length from.bytes.now }
     ensures { result ≡ mirrored_of (raw from.entry) }
 {

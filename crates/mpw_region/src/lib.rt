@@ -17,4 +17,4 @@ mod sweep;
 
 pub use cut::{bands, exchange, row_bands};
 pub use region::Bands;
-pub use runs::{Line, Run, joined};
+pub use runs::{Line, Run, join_runs};

@@ -99,7 +99,7 @@ fn join(alloc: Global, first: Run, rest: &[Run]) -> Result<Vec<Run>, AllocError>
 ///
 /// # Errors
 /// Where there is no room.
-pub fn joined(alloc: Global, runs: Vec<Run>) -> Result<Vec<Run>, AllocError>
+pub fn join_runs(alloc: Global, runs: Vec<Run>) -> Result<Vec<Run>, AllocError>
     requires { All IsFilled runs.items }
     ensures places { IfOk result (λ v. (line : LineValue) (at : ℤ) →
         CoversPlace v.items line at ↔ CoversPlace runs.items line at) }

@@ -7,7 +7,7 @@ use std::alloc::{AllocError, Global};
 
 /// A text, padded with a NUL to an even length.
 #[tactic(auto, unfolding(crate::specs::Text::padded))]
-pub fn padded(alloc: Global, text: &str) -> Result<Vec<u8>, AllocError>
+pub fn pad(alloc: Global, text: &str) -> Result<Vec<u8>, AllocError>
     ensures { IfOk result (λ bytes. bytes.items ≡ padded text.now) }
 {
     let mut bytes = Vec::from_slice(alloc, text.as_bytes())?;

@@ -6,7 +6,7 @@
 ghost use Rattle.std.specs.Prelude.{◌≡◌, [], ◌∷◌, map};
 ghost use Rattle.mpw_samples.specs.Text.{raw, Adds, Gives, short, long, string, xy, head, begin, end, boundary, single, array, last};
 
-use crate::encode::{padded, points_bytes};
+use crate::encode::{pad, points_bytes};
 use crate::error::SampleError;
 use crate::record::{NewRecord, text_of};
 use mpw_records::kind;
@@ -106,7 +106,7 @@ impl Sample {
     pub fn text(&mut self, kind: u8, text: &str) -> Result<(), SampleError>
         ensures { Adds result self.old self.new (string kind text.now ∷ []) }
     {
-        let bytes = padded(*self.bytes.allocator(), text)?;
+        let bytes = pad(*self.bytes.allocator(), text)?;
         self.add(&[NewRecord(kind, 6, &bytes)])
     }
 
@@ -122,7 +122,7 @@ impl Sample {
     pub fn begin(&mut self, name: &str) -> Result<(), SampleError>
         ensures { Adds result self.old self.new (begin name.now) }
     {
-        let name = padded(*self.bytes.allocator(), name)?;
+        let name = pad(*self.bytes.allocator(), name)?;
         self.add(&[
             NewRecord(kind::BGNSTR, 2, &[0; 24]),
             NewRecord(kind::STRNAME, 6, &name),
@@ -160,7 +160,7 @@ impl Sample {
         ensures { Adds result self.old self.new (single name.now x y) }
     {
         let alloc = *self.bytes.allocator();
-        let name = padded(alloc, name)?;
+        let name = pad(alloc, name)?;
         let xy = points_bytes(alloc, &[(x, y)])?;
         self.add(&[
             NewRecord(kind::SREF, 0, &[]),
@@ -181,7 +181,7 @@ impl Sample {
         ensures { Adds result self.old self.new (array name.now columns rows points.now) }
     {
         let alloc = *self.bytes.allocator();
-        let name = padded(alloc, name)?;
+        let name = pad(alloc, name)?;
         let [c1, c0] = columns.to_be_bytes();
         let [r1, r0] = rows.to_be_bytes();
         let xy = points_bytes(alloc, points)?;

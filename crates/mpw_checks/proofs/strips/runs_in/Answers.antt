@@ -24,12 +24,12 @@ pub add_runs-requires : goal.add_runs-requires
 add_runs-requires c = subst IsStrip (sym c.strip-item.is)
     (c.requires c.loop-strip.strip-index c.strip-item.result c.loop-strip-test.true)
 
-pub joined-requires : goal.joined-requires
-joined-requires c = c.loop-strip.invariant.filled (All-nil IsFilled)
+pub join_runs-requires : goal.join_runs-requires
+join_runs-requires c = c.loop-strip.invariant.filled (All-nil IsFilled)
 
 pub returns-clause-places : goal.returns-clause-places
 returns-clause-places c =
     let all = Adds-all [] _ (λ s line j. HasStepIn c.args.rule.now line j s) c.args.strips.now
     c.loop-strip.strip-index c.loop-strip-test.false c.loop-strip.invariant in
-    IfOk-weaker c.joined.result _ _ (λ v h line j. joined_places c.loop-strip.found.items v.items
-    (λ l k. FindsIn c.args.strips.now c.args.rule.now l k) all h line j) c.joined.ensures.places
+    IfOk-weaker c.join_runs.result _ _ (λ v h line j. joined_places c.loop-strip.found.items v.items
+    (λ l k. FindsIn c.args.strips.now c.args.rule.now l k) all h line j) c.join_runs.ensures.places

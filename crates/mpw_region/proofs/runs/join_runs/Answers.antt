@@ -7,7 +7,7 @@ use Rattle.mpw_region.specs.declared.runs.Run.{Run}
 use Rattle.mpw_region.specs.Runs.{IsFilled, CoversPlace}
 use Rattle.mpw_region.specs.Internal.Order.{AreInOrder}
 use Rattle.mpw_region.proofs.Joins.{no_run, first_and_rest, same_places-permutation}
-use Rattle.mpw_region.proofs.runs.joined.Goals as goal
+use Rattle.mpw_region.proofs.runs.join_runs.Goals as goal
 
 pub returns-in-empty-clause-places : goal.returns-in-empty-clause-places
 returns-in-empty-clause-places c = λ line at.
