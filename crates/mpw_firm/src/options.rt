@@ -1,10 +1,13 @@
 //! The command line.
-ghost use Rattle.std.specs.Prelude.{◌≡◌, option_map, slice_get, IfOk, IfErr};
-ghost use Rattle.mpw_firm.specs.Commands.{IsOfCheck, IsOfWord};
+ghost use Rattle.std.specs.Prelude.{◌≡◌, ◌∷◌, ◌||◌, option_map, slice_get, IfOk, IfErr};
+ghost use Rattle.std.specs.List.{list_any};
+ghost use Rattle.std.specs.String.{string_bytes};
+ghost use Rattle.mpw_geom.specs.Names.{name_eq};
+ghost use Rattle.mpw_firm.specs.Commands.{IsOfCheck, IsOfWord, IsToldBy, telling_of};
 ghost use Rattle.mpw_firm.specs.Told.{IsMisuse, Misuses};
 
 use crate::fault::FirmFault;
-use crate::out_file::{free_option, out_file};
+use crate::out_file::{free_option, is_among, out_file};
 use crate::picture_options::{Wanted, read_wanted, with_picture};
 use crate::stitch_options::{StitchOptions, read_stitch};
 use crate::told::misused;
@@ -32,6 +35,15 @@ pub struct Options {
     pub picture: Option<Wanted>,
     /// The tiles whose part is wanted, in place of the markers of the whole.
     pub tiles: Option<TileRange>,
+}
+
+/// A text that a command line asks for in place of what a command does.
+#[derive(Clone, Copy, Drop)]
+pub enum Telling {
+    /// What a command's words are.
+    Help,
+    /// The version.
+    Version,
 }
 
 /// What the command line asks for.
@@ -183,18 +195,53 @@ fn given(alloc: Global, matches: &ArgMatches<'_>) -> Result<Options, FirmFault>
     })
 }
 
-/// The text of an error of `clap` by which the help or the version is asked for; else it is a fault.
-pub fn told_by(alloc: Global, error: Error) -> Result<String, FirmFault>
-    ensures { IfErr result IsMisuse }
+/// What is told of an error of `clap`.
+pub fn misuse_of(alloc: Global, error: Error) -> FirmFault
+    ensures { IsMisuse result }
 {
     if error.kind() == ErrorKind::OutOfMemory {
-        return Err(FirmFault::Memory);
+        return FirmFault::Memory;
     }
-    let text = error.to_string(alloc)?;
-    if error.use_stderr() {
-        Err(FirmFault::Usage(text))
+    match error.to_string(alloc) {
+        Ok(text) => FirmFault::Usage(text),
+        Err(_) => FirmFault::Memory,
+    }
+}
+
+/// Whether one of the words is the option of that name or of that letter.
+fn asks(words: &[&str], name: &str, letter: &str) -> bool
+    ensures { result ≡ (list_any (λ word. name_eq word.now name.now) words.now || list_any (λ word. name_eq word.now letter.now) words.now) }
+{
+    is_among(name, words) | is_among(letter, words)
+}
+
+/// The text that the words ask for in place of what a command does. The help goes before the version.
+fn telling_of(words: &[&str]) -> Option<Telling>
+    ensures { result ≡ telling_of (λ word. word.now) words.now }
+{
+    if asks(words, "--help", "-h") {
+        Some(Telling::Help)
+    } else if asks(words, "--version", "-V") {
+        Some(Telling::Version)
     } else {
-        Ok(text)
+        None
+    }
+}
+
+/// The text that a command of that name and form is asked for.
+#[tactic(auto, unfolding(crate::specs::Commands::version_text))]
+pub fn told_by(
+    alloc: Global,
+    telling: Telling,
+    name: &str,
+    command: Command<'_>,
+) -> Result<String, AllocError>
+    ensures { IfOk result (λ text. IsToldBy name.now telling (string_bytes text)) }
+{
+    let mut command = command;
+    match telling {
+        Telling::Help => command.render_help(),
+        Telling::Version => format!(in alloc; "{name} {VERSION}\n"),
     }
 }
 
@@ -203,39 +250,50 @@ pub fn named<'a>(
     alloc: Global,
     name: &'a str,
     words: &[&'a str],
-) -> Result<Vec<&'a str>, AllocError> {
+) -> Result<Vec<&'a str>, AllocError>
+    ensures { IfOk result (λ named. named.items ≡ name.entry ∷ words.now) }
+{
     let mut named = Vec::new(alloc);
     named.push(name)?;
-    for word in words {
-        named.push(*word)?;
-    }
+    named.extend_from_slice(words)?;
     Ok(named)
 }
 
-/// What the words behind `check` ask for.
-fn read_check(alloc: Global, words: &[&str]) -> Result<Asked, FirmFault>
-    ensures asked { IfOk result IsOfCheck }
-    ensures refused { IfErr result IsMisuse }
+/// The options that the words behind `check` give.
+fn options_of(alloc: Global, words: &[&str]) -> Result<Options, FirmFault>
+    ensures { IfErr result IsMisuse }
 {
     let words = named(alloc, "mpw check", words)?;
     match command(alloc)?.try_get_matches_from(words.as_slice()) {
-        Ok(matches) => Ok(Asked::Check(given(alloc, &matches)?)),
-        Err(error) => Ok(Asked::Told(told_by(alloc, error)?)),
+        Ok(matches) => given(alloc, &matches),
+        Err(error) => Err(misuse_of(alloc, error)),
     }
 }
 
-/// What the words of a command line ask for: the program's name, `check` or `stitch`, and the words of that command. One pass over the
-/// words.
+/// What the words behind `check` ask for, where a text may be asked for in their place.
+fn read_check(alloc: Global, telling: Option<Telling>, words: &[&str]) -> Result<Asked, FirmFault>
+    ensures asked { IfOk result (IsOfCheck telling) }
+    ensures refused { IfErr result IsMisuse }
+{
+    match telling {
+        None => Ok(Asked::Check(options_of(alloc, words)?)),
+        Some(telling) => Ok(Asked::Told(told_by(alloc, telling, "mpw check", command(alloc)?)?)),
+    }
+}
+
+/// What the words of a command line ask for: the program's name, `check` or `stitch`, and the words of that command. Where one of
+/// the words is `--help` or `-h`, or else `--version` or `-V`, it is that text, whatever the others are. Three passes over the words.
 ///
 /// # Errors
 /// `Usage`, with a text that says what is wrong and what is accepted; and `Memory`.
 pub fn read_options(alloc: Global, words: &[&str]) -> Result<Asked, FirmFault>
-    ensures asked { IfOk result (IsOfWord (option_map (λ word. word.now) (slice_get words.now 1))) }
+    ensures asked { IfOk result (IsOfWord (option_map (λ word. word.now) (slice_get words.now 1)) (telling_of (λ word. word.now) words.now)) }
     ensures refused { IfErr result IsMisuse }
 {
+    let telling = telling_of(words);
     match words {
-        [_, first, rest @ ..] if *first == "check" => read_check(alloc, rest),
-        [_, first, rest @ ..] if *first == "stitch" => read_stitch(alloc, rest),
+        [_, first, rest @ ..] if *first == "check" => read_check(alloc, telling, rest),
+        [_, first, rest @ ..] if *first == "stitch" => read_stitch(alloc, telling, rest),
         _ => Err(usage(alloc, "error: the first word is check or stitch")),
     }
 }

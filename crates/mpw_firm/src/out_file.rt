@@ -19,7 +19,7 @@ pub fn free_option<'a>(alloc: Global, name: &'a str, value: &'a str, help: &'a s
 }
 
 /// Whether a text is one of these.
-fn is_among(text: &str, words: &[&str]) -> bool
+pub fn is_among(text: &str, words: &[&str]) -> bool
     ensures { result ≡ list_any (λ word. name_eq word.now text.now) words.now }
 {
     for word in words {

@@ -1,11 +1,26 @@
 //! What a fault of a library or a deck means, and what to do. `specs/Sentences.antt` has each sentence.
-ghost use Rattle.std.specs.Prelude.{◌≡◌};
+ghost use Rattle.std.specs.Prelude.{◌≡◌, if◌then◌else◌};
+ghost use Rattle.mpw_records.specs.declared.fault.Code.TheVariants as code;
 ghost use Rattle.mpw_firm.specs.Sentences.{record_sentence, library_sentence, structure_sentence, deck_sentence};
 
 use crate::cause::{Cause, cause_of};
 use mpw_deck::DeckKind;
 use mpw_hier::HierFault;
 use mpw_records::{Code, ReadFault};
+
+/// What it means that a reference is magnified, or that it is turned by another angle, and what to do.
+#[tactic(auto, unfolding(crate::specs::Sentences::record_sentence))]
+fn of_reference(is_turned: bool) -> &'static str
+    ensures { result.now ≡ record_sentence (if is_turned then code.Angle else code.Magnification) }
+{
+    if is_turned {
+        "an angle isn't a multiple of 90 degrees, or is beyond -360 to 360: resolve the reference \
+        before the export (KLayout: 'Flatten' that instance; gdspy: flatten() the cell that has it)"
+    } else {
+        "a reference is magnified: resolve it before the export (KLayout: 'Flatten' that instance; \
+        gdspy: flatten() the cell that has it)"
+    }
+}
 
 /// What a fault of a library's records means and what to do, by its code alone.
 #[tactic(auto, unfolding(crate::specs::Sentences::record_sentence))]
@@ -29,13 +44,8 @@ fn of_record(code: Code) -> &'static str
         Code::Unit =>
             "the database unit isn't a whole number of nm from 1 to 1000, as 0.5 isn't: export \
             with a unit of 1 nm (KLayout: 'Database unit' 0.001; gdspy: precision=1e-9)",
-        Code::Magnification =>
-            "a reference is magnified: resolve it before the export (KLayout: 'Flatten' that \
-            instance; gdspy: flatten() the cell that has it)",
-        Code::Angle =>
-            "an angle isn't a multiple of 90 degrees, or is beyond -360 to 360: resolve the \
-            reference before the export (KLayout: 'Flatten' that instance; gdspy: flatten() the \
-            cell that has it)",
+        Code::Magnification => of_reference(false),
+        Code::Angle => of_reference(true),
         Code::NotManhattan =>
             "an edge is neither horizontal nor vertical, as one at 45 degrees: only such edges are \
             checked; draw it in steps, or export without that shape",

@@ -4,7 +4,7 @@ ghost use Rattle.mpw_firm.specs.Commands.{IsOfStitch};
 ghost use Rattle.mpw_firm.specs.Told.{IsMisuse};
 
 use crate::fault::FirmFault;
-use crate::options::{Asked, VERSION, named, told_by, usage};
+use crate::options::{Asked, Telling, VERSION, misuse_of, named, told_by, usage};
 use crate::out_file::{free_option, out_file};
 use clap::{Arg, ArgAction, ArgMatches, Command};
 use std::alloc::{AllocError, Global};
@@ -72,17 +72,31 @@ fn given(alloc: Global, matches: &ArgMatches<'_>) -> Result<StitchOptions, FirmF
     })
 }
 
-/// What the words behind `stitch` ask for. One pass over the words.
-///
-/// # Errors
-/// `Usage`, with a text that says what is wrong and what is accepted; and `Memory`.
-pub fn read_stitch(alloc: Global, words: &[&str]) -> Result<Asked, FirmFault>
-    ensures asked { IfOk result IsOfStitch }
-    ensures refused { IfErr result IsMisuse }
+/// The options that the words behind `stitch` give.
+fn options_of(alloc: Global, words: &[&str]) -> Result<StitchOptions, FirmFault>
+    ensures { IfErr result IsMisuse }
 {
     let words = named(alloc, "mpw stitch", words)?;
     match command(alloc)?.try_get_matches_from(words.as_slice()) {
-        Ok(matches) => Ok(Asked::Stitch(given(alloc, &matches)?)),
-        Err(error) => Ok(Asked::Told(told_by(alloc, error)?)),
+        Ok(matches) => given(alloc, &matches),
+        Err(error) => Err(misuse_of(alloc, error)),
+    }
+}
+
+/// What the words behind `stitch` ask for, where a text may be asked for in their place. One pass over the words.
+///
+/// # Errors
+/// `Usage`, with a text that says what is wrong and what is accepted; and `Memory`.
+pub fn read_stitch(
+    alloc: Global,
+    telling: Option<Telling>,
+    words: &[&str],
+) -> Result<Asked, FirmFault>
+    ensures asked { IfOk result (IsOfStitch telling) }
+    ensures refused { IfErr result IsMisuse }
+{
+    match telling {
+        None => Ok(Asked::Stitch(options_of(alloc, words)?)),
+        Some(telling) => Ok(Asked::Told(told_by(alloc, telling, "mpw stitch", command(alloc)?)?)),
     }
 }

@@ -11,6 +11,7 @@ mod entry;
 mod files;
 mod refusals;
 mod requests;
+mod run_requests;
 mod told;
 
 pub use entry::{Detail, Entry, Table};
@@ -33,11 +34,11 @@ pub fn tables() -> [Table; 12] {
         },
         Table {
             title: "Cells, placements and the deck",
-            entries: requests::cells(),
+            entries: run_requests::cells(),
         },
         Table {
             title: "The run, its waivers and the trail",
-            entries: requests::runs(),
+            entries: run_requests::runs(),
         },
         Table {
             title: "Commands",
