@@ -1,7 +1,8 @@
 #!/usr/bin/env python3
 """Compares what the programs print for the examples with what is expected, and tells which differ.
 
-  examples/check.py            NAME.gds under NAME.deck by mpw check, for each NAME.markers
+  examples/check.py            NAME.gds under NAME.deck by mpw check, for each NAME.markers; and what
+                               failed.awk tells of NAME.txt with NAME.replies, for each NAME.failed
   examples/check.py --desk     then also NAME.txt by mpw script, for each NAME.replies
 
 The exit status is 0 where all are the same, else 1. A program that isn't built is proved and built
@@ -24,6 +25,13 @@ def of_check(name, expected):
     words = [MPW, "check", "--deck", f"{name}.deck", "--top", "TOP", f"{name}.gds"]
     ended = subprocess.run(words, stdout=subprocess.PIPE, stderr=subprocess.DEVNULL)
     return ended.stdout, ended.returncode, 0 if expected == b"OK 0\n" else 1
+
+
+def of_failed(name, _):
+    words = ["awk", "-v", f"replies={name}.replies", "-f", os.path.join(HERE, "failed.awk")]
+    environment = {**os.environ, "LC_ALL": "C"}
+    ended = subprocess.run([*words, f"{name}.txt"], stdout=subprocess.PIPE, env=environment)
+    return ended.stdout, ended.returncode, 0
 
 
 def of_script(name, _):
@@ -51,7 +59,7 @@ def is_same(path, run):
 def main(words):
     if words not in ([], ["--desk"]):
         sys.exit(__doc__)
-    kinds = [("markers", of_check)] + [("replies", of_script)] * len(words)
+    kinds = [("markers", of_check), ("failed", of_failed)] + [("replies", of_script)] * len(words)
     told = []
     for kind, run in kinds:
         for path in sorted(glob.glob(os.path.join(HERE, f"*.{kind}"))):

@@ -256,12 +256,13 @@ grant place farm shuttle
 grant deck desk shuttle
 grant run desk shuttle
 grant verdict desk shuttle
+grant waive desk shuttle
 grant sign desk signing
 grant verdict desk signing
 grant audit desk auditing
 ssd firms 2 alpha beta signing
 ssd office 2 officer signing auditing
-dsd session 2 shuttle signing
+dsd duties 2 shuttle signing
 assign ann alpha
 assign bob beta
 assign carl shuttle
@@ -304,6 +305,8 @@ def shuttle_deck():
 def shuttle():
     place_farm = "place farm centre R90 200000 200000"
     place_all = ["place ring frame R0 0 0", place_farm]
+    # Between the guard ring and the lower edge's last pad, where the ring's first marker lies.
+    place_gap = "place farm gap R0 300000 7500"
     waive, sign = ([f"{word} {key}" for key in KEYS] for word in ("waive", "sign"))
     return b"".join([
         POLICY.encode(),
@@ -313,10 +316,11 @@ def shuttle():
                 "run", "status", "verdict", "activate signing"),
         session("ann", "alpha", "markers"),
         session("bob", "beta", "markers", with_payload("submit farm TOP", via_farm(True))),
-        session("carl", "shuttle", "unplace farm centre", place_farm, "verdict",
+        session("carl", "shuttle", "unplace farm centre", place_farm, place_gap, "verdict",
                 "run", "status", "verdict"),
         session("bob", "beta", "markers"),
         session("ann", "alpha", "markers", *waive),
+        session("carl", "shuttle", "markers", waive[0]),
         session("dora", "signing", "waivers", *sign, "verdict"),
         session("erik", "auditing", "trail"),
     ])
