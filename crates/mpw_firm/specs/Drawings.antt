@@ -7,23 +7,23 @@ use Rattle.mpw_deck.specs.Reading.{deck_of}
 use Rattle.mpw_deck.specs.declared.deck.DeckFault.{DeckFault}
 use Rattle.mpw_firm.specs.declared.fault.FirmFault.{FirmFault}
 use Rattle.mpw_firm.specs.declared.fault.FirmFault.TheVariants.{Memory}
-use Rattle.mpw_firm.specs.Told.{IsRefusal}
+use Rattle.mpw_firm.specs.Told.{Tells}
+use Rattle.mpw_firm.specs.ToldFaults.{check_told, deck_told}
 use Rattle.mpw_tiles.specs.Snapshots.{Snapshot}
 
--- A deck's text is refused that has a fault; or there is no room.
-abbrev pub IsOfDeck : List ℕ → FirmFault → Type 0
-IsOfDeck text fault =
-    (fault ≡ Memory) ⊎ ((why : DeckFault) × (deck_of text ≡ Err why) × IsRefusal fault)
+-- A deck's text is refused that has a fault, and that is told of the file; or there is no room.
+abbrev pub IsOfDeck : (file text : List ℕ) → FirmFault → Type 0
+IsOfDeck file text fault =
+    (fault ≡ Memory)
+    ⊎ ((why : DeckFault) × (deck_of text ≡ Err why) × Tells (deck_told file why) fault)
 
 -- The texts are a deck's and a library's, whose structure of that name is drawn under the deck.
 abbrev pub IsReadFrom : (deck top library : List ℕ) → Snapshot → Type 0
 IsReadFrom deck top library snapshot =
     (rules : Deck) × (deck_of deck ≡ Ok rules) × IsDrawnFrom rules top library snapshot
 
--- The deck's text is refused, or the library's; or there is no room.
-abbrev pub IsOfLibrary : (top library : List ℕ) → FirmFault → Type 0
-IsOfLibrary top library fault =
-    (fault ≡ Memory) ⊎ ((why : CheckFault) × IsOfText top library why × IsRefusal fault)
-
-abbrev pub IsOfTexts : (deck top library : List ℕ) → FirmFault → Type 0
-IsOfTexts deck top library fault = IsOfDeck deck fault ⊎ IsOfLibrary top library fault
+-- The same of a library's text, and of the structure that is checked.
+abbrev pub IsOfLibrary : (file top text : List ℕ) → FirmFault → Type 0
+IsOfLibrary file top text fault =
+    (fault ≡ Memory)
+    ⊎ ((why : CheckFault) × IsOfText top text why × Tells (check_told file top why text) fault)

@@ -9,4 +9,5 @@ pub mod Sentences
 pub mod Status
 pub mod Stitched
 pub mod Told
+pub mod ToldFaults
 pub mod ToldParts

@@ -1,5 +1,5 @@
 -- What comes of parts that are stitched, and what is refused.
-use Rattle.std.specs.Prelude.{◌≡◌, ◌==◌, ◌&&◌, ◌⊎◌, ℕ, Bool, true, false, nat_lt, List, [], ◌∷◌, length, slice_get, All, None, Some, Ok}
+use Rattle.std.specs.Prelude.{◌≡◌, ◌==◌, ◌&&◌, ◌⊎◌, ℕ, Bool, true, false, nat_lt, List, [], ◌∷◌, codes, length, slice_get, All, None, Some, Ok}
 use Rattle.std.specs.List.{list_all}
 use Rattle.mpw_check.specs.Drawn.{IsDrawnFrom}
 use Rattle.mpw_deck.specs.Reading.{deck_of}
@@ -68,11 +68,18 @@ pub record IsSubjectOf (parts : List Found) (subject : Subject) : Type 0 where
   pub top : subject.top ≡ first.subject.top
   pub tiles : subject.tiles ≡ first.subject.tiles
 
--- There is no part, or the first one's deck has a fault.
-abbrev pub IsOfFirst : List Found → FirmFault → Type 0
-IsOfFirst parts fault =
+-- The name of the first file; where there is none, the command's.
+abbrev pub first_name : List Holder → List ℕ
+first_name [] = codes "mpw stitch"
+first_name (first ∷ rest) = first.name
+
+-- There is no part, or the first one's deck has a fault, which is told of the first file.
+abbrev pub IsOfFirst : List Holder → List Found → FirmFault → Type 0
+IsOfFirst holders parts fault =
     ((parts ≡ []) × Refuses no_markers_text fault)
-    ⊎ ((first : Found) × (slice_get parts 0 ≡ Some first) × IsOfDeck first.subject.deck fault)
+    ⊎ ((first : Found)
+    × (slice_get parts 0 ≡ Some first)
+    × IsOfDeck (first_name holders) first.subject.deck fault)
 
 -- The layout is drawn of some library's structure of that name.
 abbrev pub IsNamed : List ℕ → Snapshot → Type 0

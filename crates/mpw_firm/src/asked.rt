@@ -1,12 +1,12 @@
 //! A check of a whole layout, done.
-ghost use Rattle.std.specs.Prelude.{◌≡◌, IfOk, IfErr};
-ghost use Rattle.mpw_check.specs.declared.fault.CheckFault.TheVariants as kinds;
+ghost use Rattle.std.specs.Prelude.{◌⊎◌, IfOk, IfErr};
+ghost use Rattle.std.specs.String.{string_bytes};
 ghost use Rattle.mpw_check.specs.Drawn.{IsDrawnFrom};
 ghost use Rattle.mpw_check.specs.Tiled.{IsOfPlan};
 ghost use Rattle.mpw_job.specs.Layout.{AreLayoutMarkers};
-ghost use Rattle.mpw_firm.specs.declared.fault.FirmFault.TheVariants.{Memory};
-ghost use Rattle.mpw_firm.specs.Drawings.{IsOfLibrary, IsOfTexts, IsReadFrom};
-ghost use Rattle.mpw_firm.specs.Told.{IsFailure, IsRefusal};
+ghost use Rattle.mpw_firm.specs.Drawings.{IsOfDeck, IsOfLibrary, IsReadFrom};
+ghost use Rattle.mpw_firm.specs.Told.{IsFailure, Tells};
+ghost use Rattle.mpw_firm.specs.ToldFaults.{check_told};
 
 use crate::fault::FirmFault;
 use crate::line::Line;
@@ -34,7 +34,7 @@ pub fn drawn_of(
     text: &[u8],
 ) -> Result<Snapshot, FirmFault>
     ensures drawn { IfOk result (IsReadFrom deck.now options.now.top text.now) }
-    ensures refused { IfErr result (IsOfTexts deck.now options.now.top text.now) }
+    ensures refused { IfErr result (λ fault. IsOfDeck (string_bytes options.now.deck) deck.now fault ⊎ IsOfLibrary (string_bytes options.now.file) options.now.top text.now fault) }
 {
     match deck_of(rt.alloc(), options.deck.as_str(), deck) {
         Ok(deck) => drawn_under(rt, options, deck, text),
@@ -50,7 +50,7 @@ fn drawn_under(
     text: &[u8],
 ) -> Result<Snapshot, FirmFault>
     ensures drawn { IfOk result (IsDrawnFrom deck options.now.top text.now) }
-    ensures refused { IfErr result (IsOfLibrary options.now.top text.now) }
+    ensures refused { IfErr result (IsOfLibrary (string_bytes options.now.file) options.now.top text.now) }
 {
     match read_layout(rt.alloc(), deck, &options.top, text) {
         Ok(snapshot) => Ok(snapshot),
@@ -67,8 +67,7 @@ fn snapshot_of(rt: &HostRuntime, options: &Options) -> Result<Snapshot, FirmFaul
 
 /// What is told of a library of that text that isn't checked.
 pub fn refused(rt: &HostRuntime, options: &Options, fault: &CheckFault, text: &[u8]) -> FirmFault
-    ensures refused { IsRefusal result }
-    ensures memory { fault.now ≡ kinds.Memory → result ≡ Memory }
+    ensures { Tells (check_told (string_bytes options.now.file) options.now.top fault.now text.now) result }
 {
     let (file, top) = (options.file.as_str(), options.top.as_str());
     check_fault(rt.alloc(), file, top, fault, text)

@@ -44,7 +44,7 @@ pub fn read_file(rt: &HostRuntime, file: &str) -> Result<Vec<u8>, FirmFault>
 /// `Refused` at a faulty line, and `Memory`.
 pub fn deck_of(alloc: Global, file: &str, text: &[u8]) -> Result<Deck, FirmFault>
     ensures deck { IfOk result (λ deck. deck_of text.now ≡ Ok deck) }
-    ensures refused { IfErr result (IsOfDeck text.now) }
+    ensures refused { IfErr result (IsOfDeck file.now text.now) }
 {
     match read_deck(alloc, text) {
         Ok(deck) => Ok(deck),

@@ -1,17 +1,17 @@
-//! What is told on the standard error. `specs/Told.antt` has what contracts say of it.
-ghost use Rattle.std.specs.Prelude.{◌≡◌, ◌≢◌, ℕ, List, IfOk, IfErr};
+//! What is told on the standard error. `specs/Told.antt` and `specs/ToldFaults.antt` have what contracts say of it.
+ghost use Rattle.std.specs.Prelude.{◌≡◌, ℕ, List, IfOk};
 ghost use Rattle.std.specs.String.{string_bytes};
-ghost use Rattle.mpw_check.specs.declared.fault.CheckFault.TheVariants as kinds;
-ghost use Rattle.mpw_deck.specs.declared.deck.DeckKind.TheVariants as deck;
-ghost use Rattle.mpw_firm.specs.declared.fault.FirmFault.TheVariants.{Memory};
-ghost use Rattle.mpw_firm.specs.Told.{Fails, IsRefusal, Misuses, Refuses, output_text, unread_text, unwritten_text};
+ghost use Rattle.mpw_records.specs.Words.{fault_text};
+ghost use Rattle.mpw_firm.specs.Told.{Fails, Misuses, Refuses, Tells, output_text, unread_text, unwritten_text};
+ghost use Rattle.mpw_firm.specs.ToldFaults.{check_told, deck_text, deck_told, library_text, named_text, outside_text, record_text, spaced, structure_text, tiles_text};
 
 use crate::fault::FirmFault;
 use crate::place::structure_at;
 use crate::sentences::{of_deck, of_library, of_structure};
 use mpw_check::CheckFault;
 use mpw_deck::{DeckFault, DeckKind};
-use mpw_geom::Names;
+use mpw_geom::{Name, Names};
+use mpw_hier::HierFault;
 use mpw_records::ReadFault;
 use std::alloc::{AllocError, Global};
 
@@ -46,8 +46,8 @@ pub fn failed(text: Result<String, AllocError>) -> FirmFault
 }
 
 /// The names, with a space before each.
-fn listed(alloc: Global, names: &Names) -> Result<String, FirmFault>
-    ensures { IfErr result (λ fault. fault ≡ Memory) }
+fn listed(alloc: Global, names: &Names) -> Result<String, AllocError>
+    ensures { IfOk result (λ text. string_bytes text ≡ spaced names.now) }
 {
     let mut text = String::new(alloc);
     for name in names.as_slice() {
@@ -57,71 +57,90 @@ fn listed(alloc: Global, names: &Names) -> Result<String, FirmFault>
     Ok(text)
 }
 
+/// What is told of a deck's line.
+#[tactic(auto, unfolding(crate::specs::ToldFaults::deck_text))]
+fn line_fault(alloc: Global, file: &str, fault: DeckFault) -> FirmFault
+    ensures { Refuses (deck_text file.now fault) result }
+{
+    let sentence = of_deck(fault.kind);
+    told(format!(in alloc; "{file}: {fault}: {sentence}"))
+}
+
 /// What is told of a deck's fault.
 pub fn deck_fault(alloc: Global, file: &str, fault: DeckFault) -> FirmFault
-    ensures refused { IsRefusal result }
-    ensures memory { fault.kind ≡ deck.Memory → result ≡ Memory }
+    ensures { Tells (deck_told file.now fault) result }
 {
-    if fault.kind == DeckKind::Memory {
-        return FirmFault::Memory;
-    }
-    let sentence = of_deck(fault.kind);
-    match format!(in alloc; "{file}: {fault}: {sentence}") {
-        Ok(text) => FirmFault::Refused(text),
-        Err(_) => FirmFault::Memory,
+    match fault.kind {
+        DeckKind::Memory => FirmFault::Memory,
+        _ => line_fault(alloc, file, fault),
     }
 }
 
 /// What is told where names stand outside the library.
-fn outside(alloc: Global, file: &str, names: &Names) -> Result<String, FirmFault>
-    ensures { IfErr result (λ fault. fault ≡ Memory) }
+#[tactic(auto, unfolding(crate::specs::ToldFaults::outside_text))]
+fn outside(alloc: Global, file: &str, names: &Names) -> FirmFault
+    ensures { Refuses (outside_text file.now (spaced names.now)) result }
 {
-    let names = listed(alloc, names)?;
-    Ok(format!(in alloc;
-        "{file}: structures that the library doesn't have:{names}: a check by itself needs them in \
-        the file"
-    )?)
+    match listed(alloc, names) {
+        Ok(names) => told(format!(in alloc;
+            "{file}: structures that the library doesn't have:{names}: a check by itself needs \
+            them in the file"
+        )),
+        Err(_) => FirmFault::Memory,
+    }
 }
 
-/// What is told of a fault of a library's records: the code and the byte, the structure, and what it means.
-fn library_fault(
+/// What is told of a fault of records in a structure of that name.
+#[tactic(auto, unfolding(crate::specs::ToldFaults::named_text))]
+fn named_fault(
     alloc: Global,
     file: &str,
     fault: ReadFault,
-    text: &[u8],
-) -> Result<String, FirmFault>
-    ensures { IfErr result (λ fault. fault ≡ Memory) }
+    name: &Name,
+    sentence: &str,
+) -> FirmFault
+    ensures { Refuses (named_text file.now (fault_text fault) name.now sentence.now) result }
+{
+    told(format!(in alloc; "{file}: {fault} in {name}: {sentence}"))
+}
+
+/// What is told of a fault of records in no structure.
+#[tactic(auto, unfolding(crate::specs::ToldFaults::record_text))]
+fn record_fault(alloc: Global, file: &str, fault: ReadFault, sentence: &str) -> FirmFault
+    ensures { Refuses (record_text file.now (fault_text fault) sentence.now) result }
+{
+    told(format!(in alloc; "{file}: {fault}: {sentence}"))
+}
+
+/// What is told of a fault of a library's records: the code and the byte, the structure, and what it means.
+fn library_fault(alloc: Global, file: &str, fault: ReadFault, text: &[u8]) -> FirmFault
+    ensures { Refuses (library_text file.now fault text.now) result }
 {
     let sentence = of_library(fault, text);
-    match structure_at(alloc, text, fault.offset)? {
-        Some(name) => Ok(format!(in alloc; "{file}: {fault} in {name}: {sentence}")?),
-        None => Ok(format!(in alloc; "{file}: {fault}: {sentence}")?),
+    match structure_at(alloc, text, fault.offset) {
+        Ok(Some(name)) => named_fault(alloc, file, fault, &name, sentence),
+        Ok(None) => record_fault(alloc, file, fault, sentence),
+        Err(_) => FirmFault::Memory,
     }
 }
 
-/// What is told of the fault of a library of that text.
-fn text_of(
-    alloc: Global,
-    file: &str,
-    top: &str,
-    fault: &CheckFault,
-    text: &[u8],
-) -> Result<String, FirmFault>
-    ensures error { IfErr result (λ fault. fault ≡ Memory) }
-    ensures told { IfOk result (λ _. fault.now ≢ kinds.Memory) }
+/// What is told of a fault of the structures below a top.
+#[tactic(auto, unfolding(crate::specs::ToldFaults::structure_text))]
+fn structure_fault(alloc: Global, file: &str, top: &str, fault: HierFault) -> FirmFault
+    ensures { Refuses (structure_text file.now top.now fault) result }
 {
-    match fault {
-        CheckFault::Memory => Err(FirmFault::Memory),
-        CheckFault::Library(fault) => library_fault(alloc, file, *fault, text),
-        CheckFault::Outside(names) => outside(alloc, file, names),
-        CheckFault::Structure(fault) => {
-            let sentence = of_structure(*fault);
-            Ok(format!(in alloc; "{file}: {top}: {fault}: {sentence}")?)
-        }
-        CheckFault::Tiles => Ok(format!(in alloc;
-            "{file}: {top}: more than 4096 tiles: take a larger tile in the deck's first line"
-        )?),
-    }
+    let sentence = of_structure(fault);
+    told(format!(in alloc; "{file}: {top}: {fault}: {sentence}"))
+}
+
+/// What is told of a plan of too many tiles.
+#[tactic(auto, unfolding(crate::specs::ToldFaults::tiles_text))]
+fn tiles_fault(alloc: Global, file: &str, top: &str) -> FirmFault
+    ensures { Refuses (tiles_text file.now top.now) result }
+{
+    told(format!(in alloc;
+        "{file}: {top}: more than 4096 tiles: take a larger tile in the deck's first line"
+    ))
 }
 
 /// What is told of what keeps a library of that text from being checked.
@@ -132,12 +151,14 @@ pub fn check_fault(
     fault: &CheckFault,
     text: &[u8],
 ) -> FirmFault
-    ensures refused { IsRefusal result }
-    ensures memory { fault.now ≡ kinds.Memory → result ≡ Memory }
+    ensures { Tells (check_told file.now top.now fault.now text.now) result }
 {
-    match text_of(alloc, file, top, fault, text) {
-        Ok(text) => FirmFault::Refused(text),
-        Err(fault) => fault,
+    match fault {
+        CheckFault::Memory => FirmFault::Memory,
+        CheckFault::Library(fault) => library_fault(alloc, file, *fault, text),
+        CheckFault::Outside(names) => outside(alloc, file, names),
+        CheckFault::Structure(fault) => structure_fault(alloc, file, top, *fault),
+        CheckFault::Tiles => tiles_fault(alloc, file, top),
     }
 }
 

@@ -2,7 +2,7 @@
 ghost use Rattle.std.specs.Prelude.{◌≡◌, true, IfOk, IfErr};
 ghost use Rattle.mpw_parts.specs.Stitching.{IsBookOf};
 ghost use Rattle.mpw_firm.specs.Listed.{ListsAsEach};
-ghost use Rattle.mpw_firm.specs.Stitched.{is_alone, are_alone, IsListedAsCheck, IsNamed, IsSubjectOf, IsWholeOf, IsOfBook, IsOfFirst, IsOfMarkers, IsOfParts};
+ghost use Rattle.mpw_firm.specs.Stitched.{are_alone, first_name, is_alone, IsListedAsCheck, IsNamed, IsSubjectOf, IsWholeOf, IsOfBook, IsOfFirst, IsOfMarkers, IsOfParts};
 ghost use Rattle.mpw_firm.specs.Told.{IsRefusal};
 
 use crate::blank::blank_layout;
@@ -41,7 +41,7 @@ pub struct Whole {
 /// What the first of the parts tells of it.
 fn subject_of(alloc: Global, files: &[PartFile<'_>], parts: &[Part]) -> Result<Subject, FirmFault>
     ensures subject { IfOk result (IsSubjectOf parts.now) }
-    ensures refused { IfErr result (IsOfFirst parts.now) }
+    ensures refused { IfErr result (IsOfFirst files.now parts.now) }
 {
     let Some(part) = parts.first() else {
         return Err(no_markers(alloc));
@@ -56,7 +56,9 @@ fn subject_of(alloc: Global, files: &[PartFile<'_>], parts: &[Part]) -> Result<S
 }
 
 /// The name of the first file.
-fn first_name<'a>(files: &[PartFile<'a>]) -> &'a str {
+fn first_name<'a>(files: &[PartFile<'a>]) -> &'a str
+    ensures { result.now ≡ first_name files.now }
+{
     match files.first() {
         Some(file) => file.name(),
         None => "mpw stitch",

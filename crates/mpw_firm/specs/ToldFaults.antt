@@ -1,0 +1,82 @@
+-- What is told of a deck's fault, and of what keeps a library from being checked.
+use Rattle.std.specs.Prelude.{ℕ, List, ◌++◌, codes, Option, None, Some}
+use Rattle.std.specs.List.{flat_map}
+use Rattle.mpw_check.specs.declared.fault.CheckFault.{CheckFault}
+use Rattle.mpw_check.specs.declared.fault.CheckFault.TheVariants as kinds
+use Rattle.mpw_deck.specs.declared.deck.DeckFault.{DeckFault}
+use Rattle.mpw_deck.specs.declared.deck.DeckKind.{DeckKind}
+use Rattle.mpw_deck.specs.declared.deck.DeckKind.TheVariants as deck
+use Rattle.mpw_deck.specs.Words as decks
+use Rattle.mpw_hier.specs.Words.{hier_word}
+use Rattle.mpw_hier.specs.declared.fault.HierFault.{HierFault}
+use Rattle.mpw_records.specs.Words as records
+use Rattle.mpw_records.specs.declared.fault.ReadFault.{ReadFault}
+use Rattle.mpw_firm.specs.Places.{structure_at}
+use Rattle.mpw_firm.specs.Sentences.{deck_sentence, library_sentence, structure_sentence}
+
+-- ---- of a deck
+
+unfoldable pub deck_text : List ℕ → DeckFault → List ℕ
+deck_text file fault =
+    file ++ (codes ": " ++ (decks.fault_text fault ++ (codes ": " ++ deck_sentence fault.kind)))
+
+-- Want of memory has no text of its own.
+abbrev pub unless_memory : DeckKind → List ℕ → Option (List ℕ)
+unless_memory deck.Memory text = None
+unless_memory kind text = Some text
+
+abbrev pub deck_told : List ℕ → DeckFault → Option (List ℕ)
+deck_told file fault = unless_memory fault.kind (deck_text file fault)
+
+-- ---- of a library's records
+
+unfoldable pub record_text : (file told sentence : List ℕ) → List ℕ
+record_text file told sentence = file ++ (codes ": " ++ (told ++ (codes ": " ++ sentence)))
+
+unfoldable pub named_text : (file told structure sentence : List ℕ) → List ℕ
+named_text file told structure sentence =
+    file
+    ++ (codes ": " ++ (told ++ (codes " in " ++ (structure ++ (codes ": " ++ sentence)))))
+
+-- The structure that the record stands in is told where there is one.
+abbrev pub placed_text : (file told : List ℕ) → Option (List ℕ) → (sentence : List ℕ) → List ℕ
+placed_text file told None sentence = record_text file told sentence
+placed_text file told (Some structure) sentence = named_text file told structure sentence
+
+abbrev pub library_text : List ℕ → ReadFault → List ℕ → List ℕ
+library_text file fault text =
+    placed_text file (records.fault_text fault) (structure_at text fault.offset)
+    (library_sentence fault text)
+
+-- ---- of its structures
+
+-- The names, with a space before each.
+abbrev pub spaced : List (List ℕ) → List ℕ
+spaced names = flat_map (λ name. codes " " ++ name) names
+
+unfoldable pub outside_text : List ℕ → List ℕ → List ℕ
+outside_text file names =
+    file
+    ++ (codes ": structures that the library doesn't have:"
+    ++ (names ++ codes ": a check by itself needs them in the file"))
+
+unfoldable pub structure_text : (file top : List ℕ) → HierFault → List ℕ
+structure_text file top fault =
+    file
+    ++ (codes ": "
+    ++ (top ++ (codes ": " ++ (hier_word fault ++ (codes ": " ++ structure_sentence fault)))))
+
+unfoldable pub tiles_text : (file top : List ℕ) → List ℕ
+tiles_text file top =
+    file
+    ++ (codes ": "
+    ++ (top ++ codes ": more than 4096 tiles: take a larger tile in the deck's first line"))
+
+-- ---- of what keeps a library of that text from being checked
+
+abbrev pub check_told : (file top : List ℕ) → CheckFault → (text : List ℕ) → Option (List ℕ)
+check_told file top kinds.Memory text = None
+check_told file top (kinds.Library fault) text = Some (library_text file fault text)
+check_told file top (kinds.Outside names) text = Some (outside_text file (spaced names))
+check_told file top (kinds.Structure fault) text = Some (structure_text file top fault)
+check_told file top kinds.Tiles text = Some (tiles_text file top)
