@@ -1,6 +1,6 @@
--- Grants in blocks, and the slots of their objects.
+-- Grants in blocks, and the slots of their objects and roles.
 use Rattle.std.proofs.Common.{◌≡◌, ℕ, zero, suc, ◌+◌, ◌<◌, ◌≤◌, take, get_or, arith, Bool, true, false, cond, not, ◌||◌, ◌&&◌, eqb, eq-eqb, List, [], ◌∷◌, ◌++◌, filter, length, refl, sym, ap, ◌∙◌, true≢false, append_assoc, append-nil}
-use Rattle.std.specs.Prelude.{nat_lt}
+use Rattle.std.specs.Prelude.{◌%◌, nat_lt}
 use Rattle.std.specs.List.{list_any, list_all, flat_map}
 use Rattle.std.proofs.lemmas.Bool.{ltb-true}
 use Rattle.std.proofs.lemmas.List.{length-append}
@@ -8,61 +8,88 @@ use Rattle.std.proofs.lemmas.List.Folds.{list_any-append}
 use Rattle.mpw_roles.specs.declared.mask.Mask.{Mask}
 use Rattle.mpw_roles.specs.Mask.{has}
 use Rattle.mpw_rbac.specs.Grant.{operation_eq, object_eq, grant_eq}
-use Rattle.mpw_rbac.specs.Internal.Grants.{IsCovered, without_grant}
-use Rattle.mpw_rbac.specs.Internal.Holders.{slot}
+use Rattle.mpw_rbac.specs.Internal.Grants.{AreCovered, IsCovered, object_slot, role_slot, without_grant}
+use Rattle.mpw_rbac.specs.Internal.Holders.{hash, name_hash}
+use Rattle.mpw_roles.proofs.CallerLemmas.{same_name}
 use Rattle.mpw_geom.specs.Names.{name_eq}
 use Rattle.mpw_rbac.specs.declared.permission.Grant.{Grant}
 use Rattle.mpw_rbac.proofs.ObjectLemmas.{same_object}
 use Rattle.mpw_rbac.proofs.SeparationLemmas.{refuted, both, parts}
 
--- a grant whose slot isn't there is none of them
-pub not-covered : (slots : Mask) (grants : List Grant) (g : Grant) → IsCovered slots grants
-    → has slots (slot g.object) ≡ false → list_any (grant_eq g) grants ≡ false
-not-covered slots [] g covered none = refl
-not-covered slots (x ∷ xs) g covered none =
-    let p = parts (has slots (slot x.object))
-    (list_all (λ (y : Grant). has slots (slot y.object)) xs) covered in
-    ap (λ b. b || list_any (grant_eq g) xs)
-    (refuted (grant_eq g x) (λ is.
+-- equal grants have the same slots
+parts_of : (g x : Grant) → grant_eq g x ≡ true
+    → (object_eq g.object x.object ≡ true) × (name_eq g.role x.role ≡ true)
+parts_of g x is =
     let f = parts (operation_eq g.operation x.operation) (object_eq g.object x.object
     && name_eq g.role x.role) is in
-    let s = parts (object_eq g.object x.object) (name_eq g.role x.role) f.1 in
-    true≢false (sym p.0 ∙ ap (λ o. has slots (slot o)) (sym (same_object g.object x.object s.0))
-    ∙ none)))
-    ∙ not-covered slots xs g p.1 none
+    parts (object_eq g.object x.object) (name_eq g.role x.role) f.1
 
--- one slot and one grant more
-pub covered-more : (slots wider : Mask) (grants : List Grant) (g : Grant)
-    → ((q : ℕ) → has wider q ≡ (has slots q || eqb q (slot g.object))) → IsCovered slots grants
-    → IsCovered wider (grants ++ g ∷ [])
-covered-more slots wider [] g is covered = both (has wider (slot g.object)) true
-    (is (slot g.object) ∙ right (has slots (slot g.object)) (eqb (slot g.object) (slot g.object))
-    (eqb-refl (slot g.object))) refl
-  where
-    right : (a b : Bool) → b ≡ true → (a || b) ≡ true
-    right true b t = refl
-    right false b t = t
+same_object_slot : (g x : Grant) → grant_eq g x ≡ true → object_slot g ≡ object_slot x
+unfolding object_slot
+same_object_slot g x is =
+    ap (λ o. hash o % 512) (same_object g.object x.object (parts_of g x is).0)
 
-    eqb-refl : (n : ℕ) → eqb n n ≡ true
-    eqb-refl n = eq-eqb n n refl
-covered-more slots wider (x ∷ xs) g is covered =
-    let p = parts (has slots (slot x.object))
-    (list_all (λ (y : Grant). has slots (slot y.object)) xs) covered in
-    both (has wider (slot x.object)) _
-    (is (slot x.object) ∙ ap (λ b. b || eqb (slot x.object) (slot g.object)) p.0)
-    (covered-more slots wider xs g is p.1)
+same_role_slot : (g x : Grant) → grant_eq g x ≡ true → role_slot g ≡ role_slot x
+unfolding role_slot
+same_role_slot g x is = ap (λ r. name_hash r % 512) (same_name g.role x.role (parts_of g x is).1)
 
--- fewer grants
-pub covered-less : (slots : Mask) (k : Grant → Bool) (grants : List Grant) → IsCovered slots grants
-    → IsCovered slots (filter k grants)
-covered-less slots k [] covered = refl
-covered-less slots k (x ∷ xs) covered =
-    let p = parts (has slots (slot x.object))
-    (list_all (λ (y : Grant). has slots (slot y.object)) xs) covered in
-    elim (k x) as (λ b. IsCovered slots (cond b (x ∷ filter k xs) (filter k xs))) [
-      | true ↦ both (has slots (slot x.object)) _ p.0 (covered-less slots k xs p.1)
-      | false ↦ covered-less slots k xs p.1
-    ]
+module _ (slot : Grant → ℕ) where
+  -- a grant whose slot isn't there is none of them
+  none_covered : ((g x : Grant) → grant_eq g x ≡ true → slot g ≡ slot x) → (mask : Mask)
+      (grants : List Grant) (g : Grant) → IsCovered slot mask grants
+      → has mask (slot g) ≡ false → list_any (grant_eq g) grants ≡ false
+  none_covered same mask [] g covered none = refl
+  none_covered same mask (x ∷ xs) g covered none =
+      let p = parts (has mask (slot x)) (list_all (λ y. has mask (slot y)) xs) covered in
+      ap (λ b. b || list_any (grant_eq g) xs)
+      (refuted (grant_eq g x) (λ is.
+      true≢false (sym p.0 ∙ ap (has mask) (sym (same g x is)) ∙ none)))
+      ∙ none_covered same mask xs g p.1 none
+
+  -- one slot and one grant more
+  pub covered-more : (mask wider : Mask) (grants : List Grant) (g : Grant) (at : ℕ)
+      → at ≡ slot g → ((q : ℕ) → has wider q ≡ (has mask q || eqb q at))
+      → IsCovered slot mask grants → IsCovered slot wider (grants ++ g ∷ [])
+  covered-more mask wider [] g at here is covered = both (has wider (slot g)) true
+      (is (slot g) ∙ right (has mask (slot g)) (eqb (slot g) at)
+      (ap (eqb (slot g)) here ∙ eq-eqb (slot g) (slot g) refl)) refl
+    where
+      right : (a b : Bool) → b ≡ true → (a || b) ≡ true
+      right true b t = refl
+      right false b t = t
+  covered-more mask wider (x ∷ xs) g at here is covered =
+      let p = parts (has mask (slot x)) (list_all (λ y. has mask (slot y)) xs) covered in
+      both (has wider (slot x)) _
+      (is (slot x) ∙ ap (λ b. b || eqb (slot x) at) p.0)
+      (covered-more mask wider xs g at here is p.1)
+
+  -- fewer grants
+  covered_less : (mask : Mask) (k : Grant → Bool) (grants : List Grant)
+      → IsCovered slot mask grants → IsCovered slot mask (filter k grants)
+  covered_less mask k [] covered = refl
+  covered_less mask k (x ∷ xs) covered =
+      let p = parts (has mask (slot x)) (list_all (λ y. has mask (slot y)) xs) covered in
+      elim (k x) as (λ b. IsCovered slot mask (cond b (x ∷ filter k xs) (filter k xs))) [
+        | true ↦ both (has mask (slot x)) _ p.0 (covered_less mask k xs p.1)
+        | false ↦ covered_less mask k xs p.1
+      ]
+
+pub no-object : (mask : Mask) (grants : List Grant) (g : Grant)
+    → IsCovered object_slot mask grants → has mask (object_slot g) ≡ false
+    → list_any (grant_eq g) grants ≡ false
+no-object = none_covered object_slot same_object_slot
+
+pub no-role : (mask : Mask) (grants : List Grant) (g : Grant)
+    → IsCovered role_slot mask grants → has mask (role_slot g) ≡ false
+    → list_any (grant_eq g) grants ≡ false
+no-role = none_covered role_slot same_role_slot
+
+pub covered-less : (objects roles : Mask) (k : Grant → Bool) (grants : List Grant)
+    → AreCovered objects roles grants → AreCovered objects roles (filter k grants)
+covered-less objects roles k grants covered = (
+  covered_less object_slot objects k grants covered.0,
+  covered_less role_slot roles k grants covered.1,
+)
 
 -- a filter that nothing falls through
 pub without-none : (grants : List Grant) (g : Grant) → list_any (grant_eq g) grants ≡ false

@@ -88,13 +88,14 @@ pub both-false : (b : Bool) → (b && b) ≡ false → b ≡ false
 both-false true is = absurd (true≢false is)
 both-false false is = refl
 
--- an empty bucket more
-pub pushed-empty : {X : Type 0} (xs : List (List X)) (x : List X) → x ≡ []
-    → ((k : ℕ) → get_or xs k [] ≡ []) → (k : ℕ) → get_or (xs ++ x ∷ []) k [] ≡ []
-pushed-empty [] x none all zero = none
-pushed-empty [] x none all (suc k) = refl
-pushed-empty (y ∷ ys) x none all zero = all zero
-pushed-empty (y ∷ ys) x none all (suc k) = pushed-empty ys x none (λ j. all (suc j)) k
+-- what holds of each bucket or group, and of none, with one more of which it holds
+pub pushed-each : {X : Type 0} (P : List X → Type 0) → P [] → (xs : List (List X)) (x : List X)
+    → P x → ((k : ℕ) → P (get_or xs k [])) → (k : ℕ) → P (get_or (xs ++ x ∷ []) k [])
+pushed-each P none [] x here all zero = here
+pushed-each P none [] x here all (suc k) = none
+pushed-each P none (y ∷ ys) x here all zero = all zero
+pushed-each P none (y ∷ ys) x here all (suc k) =
+    pushed-each P none ys x here (λ j. all (suc j)) k
 
 pub pushed-length : {X : Type 0} (xs : List X) (x : X) (new : List X) (n : ℕ) → new ≡ xs ++ x ∷ []
     → length xs ≡ n → length new ≡ n + 1

@@ -2,49 +2,40 @@
 //!
 //! A bucket that copies share never changes: a change of one object's mask makes it anew, and every other one stays shared.
 //! One that no copy shares yet, as while masks are made for all grants, is changed in place. The hash is no secret, so names can be chosen that share a bucket; a look-up among n such names costs n comparisons.
-ghost use Rattle.std.specs.Prelude.{◌≡◌, ℕ, ◌<◌, not, filter, List, length, IfOk, OnOk, true, false, [], if◌then◌else◌};
+ghost use Rattle.std.specs.Prelude.{◌≡◌, ℕ, not, filter, List, length, IfOk, OnOk, true, false, [], if◌then◌else◌};
 ghost use Rattle.mpw_roles.specs.Mask.{has};
 ghost use Rattle.mpw_roles.specs.declared.mask.Mask.{Mask as MaskState};
 ghost use Rattle.mpw_rbac.specs.Grant.{object_eq};
-ghost use Rattle.mpw_rbac.specs.Internal.Holders.{slot, bucket_of, holds_in};
+ghost use Rattle.mpw_rbac.specs.Internal.Holders.{hash, name_hash, holds_in};
 ghost use Rattle.mpw_rbac.specs.declared.permission.Object.{Object as ObjectState};
 
 use crate::Object;
+use mpw_geom::Name;
 use mpw_roles::Mask;
 use std::alloc::{AllocError, Global};
 use std::hash::{FoldHasher, Hash, Hasher};
 use std::marker::Model;
 use std::sync::Arc;
 
-/// The number of slots: as many as a [`Mask`] has places.
-const SLOTS: u64 = 512;
+/// A hash of a name.
+#[tactic(auto, unfolding(crate::specs::Internal::Holders::name_hash))]
+pub(crate) fn name_hash(name: &Name) -> u64
+    ensures { result ≡ name_hash name.now }
+{
+    let mut state = FoldHasher::default();
+    name.hash(&mut state);
+    state.finish()
+}
 
-/// The number of buckets.
-pub(crate) const BUCKETS: usize = 128;
-
-/// The slot of an object: a hash of its name.
-#[tactic(auto, unfolding(crate::specs::Internal::Holders::slot))]
-pub(crate) fn slot(object: &Object) -> usize
-    ensures slot { result ≡ slot object.now }
-    ensures within { result < 512 }
+/// A hash of an object's name.
+#[tactic(auto, unfolding(crate::specs::Internal::Holders::hash))]
+pub(crate) fn hash(object: &Object) -> u64
+    ensures { result ≡ hash object.now }
 {
     match object {
         Object::Desk => 0,
-        Object::Cell(name) => {
-            let mut state = FoldHasher::default();
-            name.hash(&mut state);
-            (state.finish() % SLOTS) as usize
-        }
+        Object::Cell(name) => name_hash(name),
     }
-}
-
-/// The bucket of an object, by its slot.
-#[tactic(auto, unfolding(crate::specs::Internal::Holders::bucket_of))]
-pub(crate) fn bucket_of(object: &Object) -> usize
-    ensures bucket { result ≡ bucket_of object.now }
-    ensures within { result < 128 }
-{
-    slot(object) % BUCKETS
 }
 
 /// The same object.

@@ -2,17 +2,16 @@
 //!
 //! A block never changes. The last one stands beside the others, which copies share as a whole: a grant more copies the last
 //! block, and where that is full begins another, which costs a count for each. A grant less copies the block that it stands
-//! in, which its slot tells apart from most others, and costs a count for each other one, unless it stands in the last.
-ghost use Rattle.std.specs.Prelude.{◌≡◌, ◌∷◌, ◌++◌, [], true, not, filter, length, nat_lt, IfOk, OnOk};
+//! in, which its slots tell apart from nearly all others, and costs a count for each other one, unless it stands in the last.
+ghost use Rattle.std.specs.Prelude.{◌≡◌, ◌<◌, ◌∷◌, ◌++◌, [], not, filter, length, nat_lt, IfOk, OnOk};
 ghost use Rattle.std.specs.List.{list_any, flat_map};
 ghost use Rattle.mpw_geom.specs.Names.{name_eq};
 ghost use Rattle.mpw_rbac.specs.Grant.{grant_eq};
-ghost use Rattle.mpw_rbac.specs.Internal.Grants.{IsCovered, without_grant};
-ghost use Rattle.mpw_rbac.specs.Internal.Holders.{slot};
+ghost use Rattle.mpw_rbac.specs.Internal.Grants.{AreCovered, AreSlots, without_grant};
 ghost use Rattle.mpw_rbac.specs.Rows.{ungranted};
 
 use crate::Grant;
-use crate::bucket::slot;
+use crate::bucket::{hash, name_hash};
 use mpw_geom::Name;
 use mpw_roles::Mask;
 use std::alloc::{AllocError, Global};
@@ -22,15 +21,45 @@ use std::sync::Arc;
 /// How many grants a block has at most.
 const BLOCK: usize = 32;
 
-/// Some grants in their order, and the slots of their objects: there may be more slots.
+/// The number of slots: as many as a [`Mask`] has places.
+const SLOTS: u64 = 512;
+
+/// The slots of a grant's object and of its role.
+#[derive(Clone, Copy)]
+pub(crate) struct Slots {
+    object: usize,
+    role: usize,
+}
+
+impl Slots {
+    /// The slots of a grant: hashes of two names.
+    #[tactic(auto, unfolding(crate::specs::Internal::Grants::object_slot, crate::specs::Internal::Grants::role_slot))]
+    fn of(grant: &Grant) -> Slots
+        ensures slots { AreSlots result grant.now }
+        ensures object { result.object < 512 }
+        ensures role { result.role < 512 }
+    {
+        Slots {
+            object: (hash(&grant.object) % SLOTS) as usize,
+            role: (name_hash(&grant.role) % SLOTS) as usize,
+        }
+    }
+}
+
+/// Some grants in their order, and the slots of their objects and of their roles: there may be more slots.
 pub(crate) struct Block {
     grants: Arc<Vec<Grant>>,
-    slots: Mask,
+    objects: Mask,
+    roles: Mask,
 }
 
 impl Drop for Block {
     fn drop(self) {
-        let Block { grants, slots: _ } = self;
+        let Block {
+            grants,
+            objects: _,
+            roles: _,
+        } = self;
         drop(grants);
     }
 }
@@ -38,13 +67,13 @@ impl Drop for Block {
 impl Model for Block {
     ghost use Rattle.std.specs.Prelude.{List};
     ghost use Rattle.mpw_rbac.specs.declared.permission.Grant.{Grant};
-    ghost use Rattle.mpw_rbac.specs.Internal.Grants.{IsCovered};
+    ghost use Rattle.mpw_rbac.specs.Internal.Grants.{AreCovered};
 
     ghost Value = { List Grant };
 
     ghost view = { λ block. block.grants.value.items };
 
-    ghost invariant = { λ block. IsCovered block.slots block.grants.value.items };
+    ghost invariant = { λ block. AreCovered block.objects block.roles block.grants.value.items };
 }
 
 /// The same grant.
@@ -99,14 +128,20 @@ fn ungrant(grants: &mut Vec<Grant>, role: &Name)
 }
 
 impl Block {
-    /// These grants, with the slots of their objects.
-    fn of(alloc: Global, grants: Vec<Grant>, slots: Mask) -> Result<Block, AllocError>
-        requires { IsCovered slots grants.items }
+    /// These grants, with the slots of their objects and of their roles.
+    fn of(
+        alloc: Global,
+        grants: Vec<Grant>,
+        objects: Mask,
+        roles: Mask,
+    ) -> Result<Block, AllocError>
+        requires { AreCovered objects roles grants.items }
         ensures { IfOk result (λ block. block ≡ grants.items) }
     {
         Ok(Block {
             grants: Arc::new(alloc, grants)?,
-            slots,
+            objects,
+            roles,
         })
     }
 
@@ -114,7 +149,7 @@ impl Block {
     fn new(alloc: Global) -> Result<Block, AllocError>
         ensures { IfOk result (λ block. block ≡ []) }
     {
-        Block::of(alloc, Vec::new(alloc), Mask::new())
+        Block::of(alloc, Vec::new(alloc), Mask::new(), Mask::new())
     }
 
     /// Its grants.
@@ -130,16 +165,20 @@ impl Block {
     {
         Ok(Block {
             grants: self.grants.clone()?,
-            slots: self.slots,
+            objects: self.objects,
+            roles: self.roles,
         })
     }
 
-    /// Whether that is one of its grants, by the slot of its object, and where that is there by a comparison for each grant.
-    fn contains(&self, at: usize, grant: &Grant) -> bool
-        requires { at ≡ slot grant.now.object }
+    /// Whether that is one of its grants, by its slots, and where both are there by a comparison for each grant.
+    fn contains(&self, slots: Slots, grant: &Grant) -> bool
+        requires { AreSlots slots grant.now }
         ensures { result ≡ list_any (grant_eq grant.now) self.now }
     {
-        if !self.slots.contains(at) {
+        if !self.objects.contains(slots.object) {
+            return false;
+        }
+        if !self.roles.contains(slots.role) {
             return false;
         }
         has(self.as_slice(), grant)
@@ -149,36 +188,39 @@ impl Block {
     fn with(&self, alloc: Global, grant: &Grant) -> Result<Block, AllocError>
         ensures { IfOk result (λ block. block ≡ self.now ++ grant.now ∷ []) }
     {
-        let mut slots = self.slots;
-        slots.insert(slot(&grant.object));
+        let slots = Slots::of(grant);
+        let mut objects = self.objects;
+        objects.insert(slots.object);
+        let mut roles = self.roles;
+        roles.insert(slots.role);
         let mut grants = all_copied(alloc, self.as_slice())?;
         grants.push(copied(grant)?)?;
-        Block::of(alloc, grants, slots)
+        Block::of(alloc, grants, objects, roles)
     }
 
-    /// The block without a grant, by the slot of its object: the same one where it isn't there.
-    fn without(&self, alloc: Global, at: usize, grant: &Grant) -> Result<Block, AllocError>
-        requires { at ≡ slot grant.now.object }
+    /// The block without a grant, by its slots: the same one where it isn't there.
+    fn without(&self, alloc: Global, slots: Slots, grant: &Grant) -> Result<Block, AllocError>
+        requires { AreSlots slots grant.now }
         ensures { IfOk result (λ block. block ≡ without_grant self.now grant.now) }
     {
-        if !self.contains(at, grant) {
+        if !self.contains(slots, grant) {
             let same = self.copy()?;
             return Ok(same);
         }
-        let slots = self.slots;
+        let (objects, roles) = (self.objects, self.roles);
         let mut grants = all_copied(alloc, self.as_slice())?;
         take_back(&mut grants, grant);
-        Block::of(alloc, grants, slots)
+        Block::of(alloc, grants, objects, roles)
     }
 
     /// The block without the grants to a role.
     fn ungranted(&self, alloc: Global, role: &Name) -> Result<Block, AllocError>
         ensures { IfOk result (λ block. block ≡ ungranted self.now role.now) }
     {
-        let slots = self.slots;
+        let (objects, roles) = (self.objects, self.roles);
         let mut grants = all_copied(alloc, self.as_slice())?;
         ungrant(&mut grants, role);
-        Block::of(alloc, grants, slots)
+        Block::of(alloc, grants, objects, roles)
     }
 }
 
@@ -233,12 +275,12 @@ fn is_shorter(blocks: &[Block], last: &[Grant], limit: usize) -> bool
 }
 
 /// Whether that is a grant of one of the blocks.
-fn is_among(blocks: &[Block], at: usize, grant: &Grant) -> bool
-    requires { at ≡ slot grant.now.object }
+fn is_among(blocks: &[Block], slots: Slots, grant: &Grant) -> bool
+    requires { AreSlots slots grant.now }
     ensures { result ≡ list_any (grant_eq grant.now) (flat_map (λ block. block) blocks.now) }
 {
     for block in blocks {
-        if block.contains(at, grant) {
+        if block.contains(slots, grant) {
             return true;
         }
     }
@@ -260,15 +302,15 @@ fn blocks_copied(alloc: Global, blocks: &[Block]) -> Result<Vec<Block>, AllocErr
 fn blocks_without(
     alloc: Global,
     blocks: &[Block],
-    at: usize,
+    slots: Slots,
     grant: &Grant,
 ) -> Result<Vec<Block>, AllocError>
-    requires { at ≡ slot grant.now.object }
+    requires { AreSlots slots grant.now }
     ensures { IfOk result (λ left. flat_map (λ block. block) left.items ≡ without_grant (flat_map (λ block. block) blocks.now) grant.now) }
 {
     let mut left = Vec::with_capacity(alloc, blocks.len())?;
     for block in blocks {
-        keep(&mut left, block.without(alloc, at, grant)?)?;
+        keep(&mut left, block.without(alloc, slots, grant)?)?;
     }
     Ok(left)
 }
@@ -288,17 +330,17 @@ fn blocks_ungranted(alloc: Global, blocks: &[Block], role: &Name) -> Result<Vec<
 fn shared_without(
     alloc: Global,
     blocks: &Arc<Vec<Block>>,
-    at: usize,
+    slots: Slots,
     grant: &Grant,
 ) -> Result<Arc<Vec<Block>>, AllocError>
-    requires { at ≡ slot grant.now.object }
+    requires { AreSlots slots grant.now }
     ensures { IfOk result (λ left. flat_map (λ block. block) left.value.items ≡ without_grant (flat_map (λ block. block) blocks.now.value.items) grant.now) }
 {
-    if !is_among(blocks, at, grant) {
+    if !is_among(blocks, slots, grant) {
         let same = blocks.clone()?;
         return Ok(same);
     }
-    let left = blocks_without(alloc, blocks, at, grant)?;
+    let left = blocks_without(alloc, blocks, slots, grant)?;
     Ok(Arc::new(alloc, left)?)
 }
 
@@ -364,9 +406,9 @@ impl Grants {
     pub(crate) fn without(&self, alloc: Global, grant: &Grant) -> Result<Grants, AllocError>
         ensures { IfOk result (λ grants. grants ≡ without_grant self.now grant.now) }
     {
-        let at = slot(&grant.object);
-        let blocks = shared_without(alloc, &self.blocks, at, grant)?;
-        let last = self.last.without(alloc, at, grant)?;
+        let slots = Slots::of(grant);
+        let blocks = shared_without(alloc, &self.blocks, slots, grant)?;
+        let last = self.last.without(alloc, slots, grant)?;
         Ok(Grants::of(blocks, last))
     }
 

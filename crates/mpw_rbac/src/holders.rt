@@ -1,18 +1,19 @@
 //! Who was granted one operation, by object: the places of the roles as masks, in buckets.
 //!
-//! The masks of each operation stand behind a shared pointer of their own, and so does each bucket of theirs. So one grant
-//! more or less makes one bucket anew, and counts the other buckets of its operation.
+//! The masks of each operation stand behind a shared pointer of their own, and so does each bucket of theirs, and each group of
+//! buckets. So one grant more or less makes one bucket anew, and counts the others of its group, and the other groups of its
+//! operation: 32 groups of 16 buckets, of some eight objects each where there are as many grants as there may be.
 ghost use Rattle.std.specs.Prelude.{◌≡◌, ℕ, ◌<◌, ◌==◌, ◌||◌, ◌&&◌, not, [], ◌∷◌, ◌++◌, List, true, false, IfOk, OnOk, length, slice_index_or, if◌then◌else◌};
 ghost use Rattle.std.specs.List.{flat_map};
 ghost use Rattle.mpw_roles.specs.Hierarchy.{role_names};
 ghost use Rattle.mpw_roles.specs.Mask.{has};
 ghost use Rattle.mpw_rbac.specs.Grant.{operation_index, object_eq};
-ghost use Rattle.mpw_rbac.specs.Internal.Holders.{holds, IsHeld, AreHeld, IsHeldAfter, AreHeldAfter};
+ghost use Rattle.mpw_rbac.specs.Internal.Holders.{holds, holds_within, IsHeld, AreHeld, IsHeldAfter, AreHeldAfter};
 ghost use Rattle.mpw_rbac.specs.declared.permission.Grant.{Grant as GrantState};
 ghost use Rattle.mpw_rbac.specs.declared.permission.Object.{Object as ObjectState};
 
-use crate::bucket::{BUCKETS, Bucket, bucket_of};
 use crate::grants::{Block, Grants};
+use crate::group::{GROUPS, Group, Place};
 use crate::{Grant, Object, Operation};
 use mpw_roles::{Mask, Roles};
 use std::alloc::{AllocError, Global};
@@ -24,13 +25,13 @@ const OPERATIONS: usize = 11;
 
 /// The places of the roles that were granted one operation on each object: each object in its bucket.
 pub(crate) struct Holders {
-    buckets: Vec<Bucket>,
+    groups: Vec<Group>,
 }
 
 impl Drop for Holders {
     fn drop(self) {
-        let Holders { buckets } = self;
-        drop(buckets);
+        let Holders { groups } = self;
+        drop(groups);
     }
 }
 
@@ -40,9 +41,9 @@ impl Model for Holders {
 
     ghost Value = { Buckets };
 
-    ghost view = { λ holders. holders.buckets.items };
+    ghost view = { λ holders. holders.groups.items };
 
-    ghost invariant = { λ holders. length holders.buckets.items ≡ 128 };
+    ghost invariant = { λ holders. length holders.groups.items ≡ 32 };
 }
 
 /// The place of an operation among all.
@@ -80,54 +81,56 @@ fn with_place(mask: &Mask, place: usize, more: bool) -> Mask
     next
 }
 
-/// Buckets without masks.
-fn no_masks(alloc: Global, empty: &Bucket) -> Result<Vec<Bucket>, AllocError>
-    requires { empty.now ≡ [] }
-    ensures long { IfOk result (λ buckets. length buckets.items ≡ 128) }
-    ensures empty { IfOk result (λ buckets. (k : ℕ) → slice_index_or buckets.items k [] ≡ []) }
+/// Groups without masks.
+fn no_masks(alloc: Global, empty: &Group) -> Result<Vec<Group>, AllocError>
+    requires { (object : ObjectState) (place : ℕ) → holds_within empty.now object place ≡ false }
+    ensures long { IfOk result (λ groups. length groups.items ≡ 32) }
+    ensures empty { IfOk result (λ groups. (k : ℕ) (object : ObjectState) (place : ℕ) → holds_within (slice_index_or groups.items k []) object place ≡ false) }
 {
-    let mut buckets = Vec::with_capacity(alloc, BUCKETS)?;
-    for _ in 0..BUCKETS {
-        buckets.push(empty.copy()?)?;
+    let mut groups = Vec::with_capacity(alloc, GROUPS)?;
+    for _ in 0..GROUPS {
+        groups.push(empty.copy()?)?;
     }
-    Ok(buckets)
+    Ok(groups)
 }
 
 impl Holders {
-    /// No holders: one empty bucket, and a count for each other one.
+    /// No holders: one empty group, and a count for each other one.
     fn new(alloc: Global) -> Result<Holders, AllocError>
         ensures { IfOk result (λ holders. (object : ObjectState) (place : ℕ) → holds holders object place ≡ false) }
     {
-        let empty = Bucket::new(alloc)?;
-        let buckets = no_masks(alloc, &empty)?;
-        Ok(Holders { buckets })
+        let empty = Group::new(alloc)?;
+        let groups = no_masks(alloc, &empty)?;
+        Ok(Holders { groups })
     }
 
-    /// The same masks: a count for each bucket.
+    /// The same masks: a count for each group.
     fn copy(&self) -> Result<Holders, AllocError>
         ensures { IfOk result (λ copy. copy ≡ self.now) }
     {
-        let mut buckets = Vec::with_capacity(*self.buckets.allocator(), self.buckets.len())?;
-        for bucket in &self.buckets {
-            buckets.push(bucket.copy()?)?;
+        let mut groups = Vec::with_capacity(*self.groups.allocator(), self.groups.len())?;
+        for group in &self.groups {
+            groups.push(group.copy()?)?;
         }
-        Ok(Holders { buckets })
+        Ok(Holders { groups })
     }
 
     /// The places of the roles that were granted the operation on the object: a hash, and a look at its bucket.
     fn of(&self, object: &Object) -> Mask
         ensures { (place : ℕ) → has result place ≡ holds self.now object.now place }
     {
-        let _all = self.buckets.len();
-        self.buckets[bucket_of(object)].of(object)
+        let _all = self.groups.len();
+        let place = Place::of(object);
+        self.groups[place.group].of(place, object)
     }
 
     /// Another mask for an object: its bucket is written in place, where no copy shares it.
     fn put(&mut self, object: &Object, mask: &Mask) -> Result<(), AllocError>
         ensures { OnOk result ((other : ObjectState) (place : ℕ) → holds self.new other place ≡ (if object_eq object.now other then has mask.now place else holds self.old other place)) }
     {
-        let alloc = *self.buckets.allocator();
-        self.buckets[bucket_of(object)].put(alloc, object, mask)?;
+        let alloc = *self.groups.allocator();
+        let place = Place::of(object);
+        self.groups[place.group].put(alloc, place, object, mask)?;
         Ok(())
     }
 

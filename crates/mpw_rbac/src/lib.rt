@@ -11,6 +11,7 @@ mod active;
 mod admin;
 mod bucket;
 mod grants;
+mod group;
 mod hierarchy;
 mod holders;
 mod laws;

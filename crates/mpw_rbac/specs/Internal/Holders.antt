@@ -1,5 +1,5 @@
 -- The holders of a permission, by the places of their roles.
-use Rattle.std.specs.Prelude.{◌≡◌, ℕ, ◌<◌, ◌%◌, Bool, true, false, not, ◌&&◌, ◌==◌, List, [], ◌∷◌, ◌++◌, length, filter, fold, nat_lt, slice_index_or, if◌then◌else◌}
+use Rattle.std.specs.Prelude.{◌≡◌, ℕ, ◌<◌, ◌/◌, ◌%◌, Bool, true, false, not, ◌&&◌, ◌==◌, List, [], ◌∷◌, ◌++◌, length, filter, fold, nat_lt, slice_index_or, if◌then◌else◌}
 use Rattle.std.specs.Hash as fed
 use Rattle.std.specs.Hash.FoldHasher as folding
 use Rattle.std.specs.List.{list_any, list_all}
@@ -26,27 +26,38 @@ is_place_granted roles granted operation object place =
     nat_lt place (length roles) && list_any
     (is_grant_of operation object (slice_index_or roles place [])) granted
 
--- where an object is looked for: a hash of its name
-unfoldable pub slot : Object → ℕ
-slot Desk = 0
-slot (Cell name) = folding.finish (fold folding.write folding.initial (fed.str name)) % 512
+-- a hash of a name, and of an object's
+unfoldable pub name_hash : Name → ℕ
+name_hash name = folding.finish (fold folding.write folding.initial (fed.str name))
 
--- the bucket of an object
+unfoldable pub hash : Object → ℕ
+hash Desk = 0
+hash (Cell name) = name_hash name
+
+-- the group of an object's bucket, and the bucket's place in it
+unfoldable pub group_of : Object → ℕ
+group_of object = hash object / 16 % 32
+
 unfoldable pub bucket_of : Object → ℕ
-bucket_of object = slot object % 128
+bucket_of object = hash object % 16
 
 -- whether the place is in the mask of an object of one bucket
 abbrev pub holds_in : List (Object × Mask) → Object → ℕ → Bool
 holds_in bucket object place =
     option_map_or (λ mask. has mask place) (value_at object_eq bucket object) false
 
--- the masks of the objects in their buckets
+-- whether the place is in the mask of an object of one group of buckets
+abbrev pub holds_within : List (List (Object × Mask)) → Object → ℕ → Bool
+holds_within group object place =
+    holds_in (slice_index_or group (bucket_of object) []) object place
+
+-- the masks of the objects in their buckets, in groups
 abbrev pub Buckets : Type 0
-Buckets = List (List (Object × Mask))
+Buckets = List (List (List (Object × Mask)))
 
 -- whether the place is in the mask of an object
 abbrev pub holds : Buckets → Object → ℕ → Bool
-holds buckets object place = holds_in (slice_index_or buckets (bucket_of object) []) object place
+holds buckets object place = holds_within (slice_index_or buckets (group_of object) []) object place
 
 -- the masks of one operation are those of its grants
 pub record IsHeld (roles : List Name) (granted : List Grant) (operation : ℕ) (buckets : Buckets) :

@@ -1,7 +1,6 @@
--- The slot of the new grant is there too.
-use Rattle.std.proofs.Common.{◌≡◌, ◌∙◌, sym, ap, subst, [], ◌∷◌, ◌++◌, ◌||◌, ◌==◌}
-use Rattle.mpw_roles.specs.Mask.{has}
-use Rattle.mpw_rbac.specs.Internal.Grants.{IsCovered}
+-- The slots of the new grant are there too.
+use Rattle.std.proofs.Common.{◌≡◌, ◌∙◌, sym, subst, [], ◌∷◌, ◌++◌}
+use Rattle.mpw_rbac.specs.Internal.Grants.{AreCovered, object_slot, role_slot}
 use Rattle.mpw_rbac.proofs.BlockLemmas.{covered-more}
 use Rattle.mpw_rbac.proofs.grants.Block.with.Goals as goal
 
@@ -13,7 +12,9 @@ of-requires c =
     let is : c.push.new.self.items ≡ old ++ grant ∷ [] =
     c.in_ok-push.ensures.items ∙ (λ i. (c.in_ok-grants.ensures ∙ c.as_slice.ensures
     ∙ sym c.self.view_is) i ++ c.in_ok-copied.ensures i ∷ []) in
-    subst (IsCovered c.insert.new.self) (sym is)
-    (covered-more in'.slots c.insert.new.self old grant
-    (λ q. c.insert.ensures q ∙ ap (λ k. has in'.slots q || (q == k)) c.slot.ensures.slot)
-    c.self.invariant)
+    subst (AreCovered c.insert.new.self c.insert-2.new.self) (sym is) (
+      covered-more object_slot in'.objects c.insert.new.self old grant c.of-slots.result.object
+          c.of-slots.ensures.slots.0 c.insert.ensures c.self.invariant.0,
+      covered-more role_slot in'.roles c.insert-2.new.self old grant c.of-slots.result.role
+          c.of-slots.ensures.slots.1 c.insert-2.ensures c.self.invariant.1,
+    )

@@ -1,7 +1,7 @@
 -- The slots of fewer grants are there.
 use Rattle.std.proofs.Common.{◌≡◌, ◌∙◌, sym, ap, subst, not}
 use Rattle.mpw_rbac.specs.Grant.{grant_eq}
-use Rattle.mpw_rbac.specs.Internal.Grants.{IsCovered, without_grant}
+use Rattle.mpw_rbac.specs.Internal.Grants.{AreCovered, without_grant}
 use Rattle.mpw_rbac.proofs.BlockLemmas.{covered-less, without-none}
 use Rattle.mpw_rbac.proofs.grants.Block.without.Goals as goal
 
@@ -16,6 +16,6 @@ of-requires c =
     let is : c.take_back.new.grants.items ≡ without_grant in'.grants.value.items grant =
     c.take_back.ensures ∙ ap (λ l. without_grant l grant)
     (c.in_ok-grants.ensures ∙ c.as_slice.ensures ∙ sym c.self.view_is) in
-    subst (IsCovered in'.slots) (sym is)
-    (covered-less in'.slots (λ other. not (grant_eq grant other)) in'.grants.value.items
+    subst (AreCovered in'.objects in'.roles) (sym is)
+    (covered-less in'.objects in'.roles (λ other. not (grant_eq grant other)) in'.grants.value.items
     c.self.invariant)
