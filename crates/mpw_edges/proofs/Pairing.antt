@@ -1,6 +1,7 @@
 -- Two lists of edges gone through by bands: what is found, and what is left to find.
 use Rattle.std.proofs.Common.{◌≡◌, ℕ, ◌+◌, ◌<◌, ◌≤◌, ℤ, pos, ◌-ℤ◌, ◌≤ℤ◌, ◌<ℤ◌, Bool, true, false, List, length, get_or, take, drop, ◌⊎◌, inl, inr, subst, sym, ap, ◌∙◌, arith}
 use Rattle.std.specs.Prelude.{All, AllPairs, Contains, MatchBool}
+use Rattle.std.proofs.Math.Logic.{⊎_map}
 use Rattle.std.proofs.lemmas.Int.{ints}
 use Rattle.std.proofs.lemmas.Bool.{cases_lt}
 use Rattle.std.proofs.lemmas.List.{get_or-drop, length-drop, drop-drop}
@@ -227,21 +228,11 @@ moves_as : (old new : List Run) (P Q R : Line → ℤ → Type 0) → Moves old 
     → ((line : Line) (at : ℤ) → R line at → Q line at) → Moves old P new R
 moves_as old new P Q R h f g = record {
   places = λ line at. (
-    λ p. (h.places line at).0 (to line at p),
-    λ p. from line at ((h.places line at).1 p),
+    λ p. (h.places line at).0 (⊎_map (λ x. x) (g line at) p),
+    λ p. ⊎_map (λ x. x) (f line at) ((h.places line at).1 p),
   );
   filled = h.filled;
 }
-  where
-    to : (line : Line) (at : ℤ) → CoversPlace new line at ⊎ R line at → CoversPlace new line at
-        ⊎ Q line at
-    to line at (inl c) = inl c
-    to line at (inr r) = inr (g line at r)
-
-    from : (line : Line) (at : ℤ) → CoversPlace new line at ⊎ Q line at → CoversPlace new line at
-        ⊎ R line at
-    from line at (inl c) = inl c
-    from line at (inr q) = inr (f line at q)
 
 -- edges of the first list that end below the other list have no pairs
 pub past_low_from : (runs : List Run) (side : ℕ) (limits : Limits) (froms tos : List Edge) (m : ℕ)

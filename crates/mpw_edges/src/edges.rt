@@ -112,11 +112,7 @@ fn widths(alloc: Global, boxes: &[Box2], distance: u32, core: Box2) -> Result<Ve
         × ((line.second -ℤ line.first) <ℤ pos distance)) × IsInCore core line.first j)) }
 {
     let mut runs = Vec::with_capacity(alloc, boxes.len())?;
-    let limits = Limits {
-        touching: false,
-        distance,
-        core,
-    };
+    let limits = Limits::apart(distance, core);
     add_widths(&mut runs, boxes, &limits)?;
     Ok(runs)
 }
@@ -129,11 +125,7 @@ fn spaces(alloc: Global, boxes: &[Box2], distance: u32, core: Box2) -> Result<Ve
         × ((line.second -ℤ line.first) <ℤ pos distance)) × IsInCore core line.first j)) }
 {
     let mut runs = Vec::with_capacity(alloc, boxes.len())?;
-    let limits = Limits {
-        touching: false,
-        distance,
-        core,
-    };
+    let limits = Limits::apart(distance, core);
     add_pairs_of(
         alloc,
         &mut runs,

@@ -21,6 +21,7 @@ ghost use Rattle.std.specs.Prelude.{
   length,
   take,
   drop,
+  false,
 };
 ghost use Rattle.mpw_region.specs.declared.runs.Line.{Line as LineValue};
 ghost use Rattle.mpw_region.specs.Runs.{HoldsPlace, IsFilled};
@@ -52,6 +53,17 @@ pub(crate) struct Limits {
 }
 
 impl Limits {
+    /// Edges of one place aren't near each other.
+    pub(crate) fn apart(distance: u32, core: Box2) -> Limits
+        ensures { result ≡ record { touching = false; distance = distance; core = core } }
+    {
+        Limits {
+            touching: false,
+            distance,
+            core,
+        }
+    }
+
     ghost use Rattle.mpw_edges.specs.Internal.Pairs.{IsNear};
 
     /// Whether the edges are near each other.

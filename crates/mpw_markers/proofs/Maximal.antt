@@ -59,42 +59,33 @@ upwards p high b zero j h l = let k = b j h in absurd (omega (arith, ints, k, l)
 upwards p high b (suc n) j h l = up_at p j h (p (j +ℤ pos 1)) refl
     (λ e. upwards p high b n (j +ℤ pos 1) e (omega (arith, ints, l)))
 
--- the rows down to the first of them
+-- the rows down to the first of them: those up to the last, with all rows mirrored
 record IsDownTo (p : ℤ → Bool) (j low : ℤ) : Type 0 where
   pub below : low ≤ℤ j
   pub rows : (i : ℤ) → low ≤ℤ i → i ≤ℤ j → p i ≡ true
   pub stops : p (low -ℤ pos 1) ≡ false
 
-down_at : (p : ℤ → Bool) (j : ℤ) → p j ≡ true → (t : Bool) → p (j -ℤ pos 1) ≡ t
-    → (p (j -ℤ pos 1) ≡ true → (first : ℤ) × IsDownTo p (j -ℤ pos 1) first)
-    → (first : ℤ) × IsDownTo p j first
-down_at p j h false e next = (
-  j,
-  record {
-    below = omega (arith, ints);
-    rows = λ i g k. let same : j ≡ i = omega (arith, ints, g, k) in subst (λ (z : ℤ). p z ≡ true)
-        same h;
-    stops = e;
-  },
-)
-down_at p j h true e next =
-    let u = next e in
-    let more = u.1.below in (
-      u.0,
-      record {
-        below = omega (arith, ints, more);
-        rows = λ i g k. by_lt_z i j (λ under. u.1.rows i g (omega (arith, ints, under)))
-            (λ up. let same : j ≡ i = omega (arith, ints, k, up) in subst (λ (z : ℤ). p z ≡ true)
-            same h);
-        stops = u.1.stops;
-      },
-    )
+mirrored : (ℤ → Bool) → ℤ → Bool
+mirrored p i = p (pos 0 -ℤ i)
 
 downwards : (p : ℤ → Bool) (low : ℤ) → ((i : ℤ) → p i ≡ true → low ≤ℤ i) → (n : ℕ) (j : ℤ)
     → p j ≡ true → (j -ℤ pos n) <ℤ low → (first : ℤ) × IsDownTo p j first
-downwards p low b zero j h l = let k = b j h in absurd (omega (arith, ints, k, l))
-downwards p low b (suc n) j h l = down_at p j h (p (j -ℤ pos 1)) refl
-    (λ e. downwards p low b n (j -ℤ pos 1) e (omega (arith, ints, l)))
+unfolding mirrored
+downwards p low b n j h l =
+    let back : (i : ℤ) → pos 0 -ℤ (pos 0 -ℤ i) ≡ i = λ i. omega (arith, ints) in
+    let u = upwards (mirrored p) (pos 1 -ℤ low)
+    (λ i is. let k = b (pos 0 -ℤ i) is in omega (arith, ints, k)) n (pos 0 -ℤ j)
+    (subst (λ z. p z ≡ true) (sym (back j)) h) (omega (arith, ints, l)) in
+    let more = u.1.above in (
+      pos 1 -ℤ u.0,
+      record {
+        below = omega (arith, ints, more);
+        rows = λ i g k. subst (λ z. p z ≡ true) (back i)
+            (u.1.rows (pos 0 -ℤ i) (omega (arith, ints, k)) (omega (arith, ints, g)));
+        stops = let same : pos 0 -ℤ u.0 ≡ (pos 1 -ℤ u.0) -ℤ pos 1 = omega (arith, ints) in
+            subst (λ z. p z ≡ false) same u.1.stops;
+      },
+    )
 
 -- a maximal run that has the row
 record IsRunAt (p : ℤ → Bool) (j first top : ℤ) : Type 0 where

@@ -1,5 +1,6 @@
 use Rattle.std.proofs.Common.{ℕ, ◌+◌, ◌<◌, ◌≤◌, ℤ, List, [], ◌∷◌, ◌++◌, length, get_or, take, ◌⊎◌, inl, inr, subst, sym}
 use Rattle.std.specs.Prelude.{◌↔◌}
+use Rattle.std.proofs.Math.Logic.{⊎_map}
 use Rattle.std.proofs.lemmas.List.{take_more, take_all}
 use Rattle.std.proofs.lemmas.List.Elements.{All-nil, All-push}
 use Rattle.mpw_region.specs.declared.runs.Line.{Line}
@@ -104,21 +105,11 @@ pub Adds-same : (old new : List Run) (P Q : Line → ℤ → Type 0) → Adds ol
     → ((line : Line) (at : ℤ) → Q line at → P line at) → Adds old new Q
 Adds-same old new P Q h f g = record {
   places = λ line at. (
-    λ c. to line at ((h.places line at).0 c),
-    λ s. (h.places line at).1 (from line at s),
+    λ c. ⊎_map (λ x. x) (f line at) ((h.places line at).0 c),
+    λ s. (h.places line at).1 (⊎_map (λ x. x) (g line at) s),
   );
   filled = h.filled;
 }
-  where
-    to : (line : Line) (at : ℤ) → CoversPlace old line at ⊎ P line at → CoversPlace old line at
-        ⊎ Q line at
-    to line at (inl c) = inl c
-    to line at (inr p) = inr (f line at p)
-
-    from : (line : Line) (at : ℤ) → CoversPlace old line at ⊎ Q line at → CoversPlace old line at
-        ⊎ P line at
-    from line at (inl c) = inl c
-    from line at (inr q) = inr (g line at q)
 
 -- what was added to no runs is all that is found
 pub Finds-from_adds : (runs : List Run) (P : Line → ℤ → Type 0) → Adds [] runs P → Finds runs P
