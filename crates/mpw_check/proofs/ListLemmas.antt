@@ -13,7 +13,7 @@ use Rattle.mpw_markers.specs.declared.marker.Marker.{Marker}
 use Rattle.mpw_tiles.specs.declared.listing.Rectangle.{Rectangle}
 use Rattle.mpw_tiles.specs.Plan.{Tiling, tiles}
 use Rattle.mpw_tiles.specs.Snapshots.{Snapshot, IsSnapshot, shown, shown_extent, plan_for, AreWindowsFor, StandFor}
-use Rattle.mpw_check.specs.Lists.{only_run, task_with, ShowsTile, IsOfTile, AreOfTiles, tile_count, TilesFollowOn, TilesMakeTheLayout}
+use Rattle.mpw_check.specs.Lists.{only_run, tile_job_with, ShowsTile, IsOfTile, AreOfTiles, tile_count, TilesFollowOn, TilesMakeTheLayout}
 use Rattle.mpw_check.proofs.TileLemmas.{count-planned, count-unplanned}
 
 -- ---- lists that follow on one another
@@ -79,7 +79,7 @@ choose P d (suc n) some =
 
 abbrev Serves : Snapshot → Tiling → List (List Marker) → ℕ → List Rectangle → Type 0
 Serves s plan lists tile window = ShowsTile plan (shown s) tile window
-    × Answers (task_with s plan window tile) (get_or lists tile [])
+    × Answers (tile_job_with s plan window tile) (get_or lists tile [])
 
 -- A tile's list has a window of the snapshot's plan.
 served : (s : Snapshot) (plan : Tiling) (lists : List (List Marker)) (tile : ℕ)

@@ -8,9 +8,9 @@ use Rattle.std.proofs.lemmas.List.FromFn.{get_or-map-range_with_len, length-map-
 use Rattle.std.proofs.lemmas.Option.{slice_get_cases}
 use Rattle.mpw_geom.specs.declared.plane.Box2.{Box2}
 use Rattle.mpw_deck.specs.Decks.{Deck}
-use Rattle.mpw_job.specs.Answers.{Task, Answers}
+use Rattle.mpw_job.specs.Answers.{TileJob, Answers}
 use Rattle.mpw_job.specs.Carried.{job_of}
-use Rattle.mpw_job.specs.Laws.{task_of}
+use Rattle.mpw_job.specs.Laws.{tile_job_of}
 use Rattle.mpw_job.specs.declared.answer.Answer.{Answer}
 use Rattle.mpw_job.specs.declared.answer.Answer.TheVariants as answers
 use Rattle.mpw_job.specs.declared.job.Job.TheVariants as jobs
@@ -21,12 +21,12 @@ use Rattle.mpw_tiles.specs.Snapshots.{Snapshot, shown, shown_extent, plan_over, 
 use Rattle.mpw_check.specs.Lists.{only_run, ShowsTile, IsOfTile, AreOfTiles, AreTiles, count_over, tile_count}
 use Rattle.mpw_check.specs.Internal.Tiled.{IsCut, job_at, jobs_of, markers_in, IsAnswered}
 
--- An answer of a tile's job has markers that answer the tile's task.
-answered-task : (x : Answer) (task : Task) → job_of x ≡ jobs.Tile task → IsAnswered x
-    → Answers task (markers_in x)
-answered-task (answers.Cut a) task e answered = absurd cc
-answered-task (answers.Tile a) task e answered =
-    let same : a.job ≡ task = cc in rw (← same) answered
+-- An answer of a tile's job has markers that answer that job.
+answered-job : (x : Answer) (tile_job : TileJob) → job_of x ≡ jobs.Tile tile_job → IsAnswered x
+    → Answers tile_job (markers_in x)
+answered-job (answers.Cut a) tile_job e answered = absurd cc
+answered-job (answers.Tile a) tile_job e answered =
+    let same : a.job ≡ tile_job = cc in rw (← same) answered
 
 -- As many answers as tiles.
 as-many : (s : Snapshot) (plan : Tiling) (windows : List (List Rectangle)) (first end : ℕ)
@@ -38,7 +38,7 @@ as-many s plan windows first end xs e = sym (length-map xs job_of) ∙ ap length
 answered-at : (s : Snapshot) (plan : Tiling) (windows : List (List Rectangle)) (first end : ℕ)
     (xs : List Answer) (k : ℕ) (x : Answer) → map job_of xs ≡ jobs_of s plan windows first end
     → All IsAnswered xs → k < length xs → k < end - first → get_or xs k x ≡ x
-    → Answers (task_of s plan windows only_run (first + k)) (get_or (map markers_in xs) k [])
+    → Answers (tile_job_of s plan windows only_run (first + k)) (get_or (map markers_in xs) k [])
 answered-at s plan windows first end xs k x e all within small at =
     let job : job_of x ≡ job_at s plan windows (first + k) =
     ap job_of (sym at) ∙ sym (get_or-map job_of xs k x (job_of x) within)
@@ -47,7 +47,7 @@ answered-at s plan windows first end xs k x e all within small at =
     let answered : IsAnswered x = subst IsAnswered at
     (All-get_or IsAnswered xs k x within all) in
     rw (get_or-map markers_in xs k x [] within, at)
-    (answered-task x (task_of s plan windows only_run (first + k)) job answered)
+    (answered-job x (tile_job_of s plan windows only_run (first + k)) job answered)
 
 -- The window of a tile shows it.
 shows-tile : (s : Snapshot) (plan : Tiling) (windows : List (List Rectangle)) (tile : ℕ)
@@ -75,7 +75,7 @@ of_tiles s plan windows first end xs lists is_cut ordered within e all is =
     counted = let mapped = length-map xs markers_in in omega (arith, mapped, many, ordered)
 
     answered : (k : ℕ) → k < end - first
-        → Answers (task_of s plan windows only_run (first + k)) (get_or (map markers_in xs) k [])
+        → Answers (tile_job_of s plan windows only_run (first + k)) (get_or (map markers_in xs) k [])
     answered k small = elim (slice_get_cases xs k).1 [
       | inl found ↦ answered-at s plan windows first end xs k found.0 e all found.1 small found.3
       | inr past ↦ absurd (let over = past.0 in omega (arith, over, small, many))

@@ -5,7 +5,7 @@ use Rattle.mpw_geom.specs.declared.plane.Layer.{Layer}
 use Rattle.mpw_geom.specs.Plane.{Square, has_square}
 use Rattle.mpw_grid.specs.Grid.{ShareSquare}
 use Rattle.mpw_hier.specs.Items.{Item}
-use Rattle.mpw_job.specs.Answers.{Task, Answers}
+use Rattle.mpw_job.specs.Answers.{TileJob, Answers}
 use Rattle.mpw_job.specs.Layout.{AreLayoutMarkers}
 use Rattle.mpw_markers.specs.Stitched.{IsStitched}
 use Rattle.mpw_markers.specs.declared.marker.Marker.{Marker}
@@ -28,9 +28,9 @@ pub record ShowsTile (plan : Tiling) (items : List Item) (tile : ℕ) (window : 
       → IsListed window layer origin s ↔ IsShown items layer origin s
   pub near : (r : Rectangle) → Contains window r → ShareSquare (tile_window plan tile) r.area
 
--- The tile's task with that window.
-abbrev pub task_with : Snapshot → Tiling → List Rectangle → ℕ → Task
-task_with s plan window tile = record {
+-- The tile's job with that window.
+abbrev pub tile_job_with : Snapshot → Tiling → List Rectangle → ℕ → TileJob
+tile_job_with s plan window tile = record {
   run = only_run;
   tile = tile;
   core = tile_core plan tile;
@@ -38,14 +38,14 @@ task_with s plan window tile = record {
   rules = s.deck.rules;
 }
 
--- The markers are those of the tile of the snapshot's plan: they answer its task with a window that shows the layout there.
+-- The markers are those of the tile of the snapshot's plan: they answer its job with a window that shows the layout there.
 pub record IsOfTile (s : Snapshot) (tile : ℕ) (markers : List Marker) : Type 0 where
   pub plan : Tiling
   pub planned : plan_for s ≡ Some plan
   pub within : tile < tiles plan
   pub window : List Rectangle
   pub shows : ShowsTile plan (shown s) tile window
-  pub answered : Answers (task_with s plan window tile) markers
+  pub answered : Answers (tile_job_with s plan window tile) markers
 
 -- A list for each tile from `first` to below `end`.
 pub record AreOfTiles (s : Snapshot) (first end : ℕ) (lists : List (List Marker)) : Type 0 where

@@ -13,8 +13,8 @@ use Rattle.mpw_run.specs.declared.phase.Phase.TheVariants.{Idle, Cutting, Checki
 use Rattle.mpw_run.specs.declared.phase.RunReply.{RunReply}
 use Rattle.mpw_run.specs.declared.phase.RunReply.TheVariants as reply
 use Rattle.mpw_run.specs.Run.{Tile, Checks, answered}
-use Rattle.mpw_run.specs.Same.{same_snapshot, same_task}
-use Rattle.mpw_run.specs.Step.{Run, Offer, Outcome as RunOutcome, answered_by, next_from, handed, taken_in, taken, cut_in, cut_answered, kept, tile_task, tile_compared, tile_checked, tile_in, tile_answered}
+use Rattle.mpw_run.specs.Same.{same_snapshot, same_tile_job}
+use Rattle.mpw_run.specs.Step.{Run, Offer, Outcome as RunOutcome, answered_by, next_from, handed, taken_in, taken, cut_in, cut_answered, kept, job_of_tile, tile_compared, tile_checked, tile_in, tile_answered}
 use Rattle.mpw_run.specs.Laws.{Event as RunEvent, leaves, UnkeptLeavesTheRun}
 use Rattle.mpw_run.specs.Laws as law
 use Rattle.mpw_checking.specs.Laws.{NumbersAreCounted}
@@ -150,7 +150,7 @@ compared_stays : (run : Run) (c : Checks) (answer : FoundMarkers) (tile : Tile)
     (a : Option (List Marker)) → Stays run (tile_compared run c answer tile a)
 compared_stays run c answer tile (Some m) = refl
 compared_stays run c answer tile None =
-    one_of run (same_task answer.job (tile_task run.number c answer.job.tile)) _ _
+    one_of run (same_tile_job answer.job (job_of_tile run.number c answer.job.tile)) _ _
     (kept_stays run c (slice_set c.tiles answer.job.tile (answered_by answer.markers tile)))
     refl
 

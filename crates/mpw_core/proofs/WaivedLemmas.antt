@@ -20,8 +20,8 @@ use Rattle.mpw_run.specs.declared.phase.Checked.{Checked}
 use Rattle.mpw_run.specs.declared.phase.Phase.{Phase}
 use Rattle.mpw_run.specs.declared.phase.Phase.TheVariants.{Idle, Cutting, Checking, Finished}
 use Rattle.mpw_run.specs.Run.{Planned, Tile, Checks, answered}
-use Rattle.mpw_run.specs.Same.{same_snapshot, same_task}
-use Rattle.mpw_run.specs.Step.{Offer, Outcome as RunOutcome, answered_by, next_from, handed, taken_in, cut_in, kept, restarted_phase, tile_task, tile_compared, tile_checked, tile_in}
+use Rattle.mpw_run.specs.Same.{same_snapshot, same_tile_job}
+use Rattle.mpw_run.specs.Step.{Offer, Outcome as RunOutcome, answered_by, next_from, handed, taken_in, cut_in, kept, restarted_phase, job_of_tile, tile_compared, tile_checked, tile_in}
 use Rattle.mpw_requests.specs.declared.sign_off.SignOffRequest.{SignOffRequest}
 use Rattle.mpw_signoff.specs.SigningOff as signing
 use Rattle.mpw_waiver.specs.declared.waiver.Waiver.{Waiver}
@@ -122,7 +122,7 @@ module _
         → FitRun s (tile_compared s.run c answer tile a)
     waived-compared s c answer tile (Some m) fit none = fit
     waived-compared s c answer tile None fit none =
-        one_of s (same_task answer.job (tile_task s.run.number c answer.job.tile)) _ _
+        one_of s (same_tile_job answer.job (job_of_tile s.run.number c answer.job.tile)) _ _
         (waived-kept s c (slice_set c.tiles answer.job.tile (answered_by answer.markers tile)) none)
         fit
 

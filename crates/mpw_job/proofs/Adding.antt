@@ -25,7 +25,7 @@ use Rattle.mpw_markers.specs.declared.marker.Key.{Key}
 use Rattle.mpw_markers.specs.declared.marker.Marker.{Marker}
 use Rattle.mpw_markers.specs.Markers.{key_of, box_on, IsFilled}
 use Rattle.mpw_job.specs.Layers.{Coverage, first_squares, second_squares}
-use Rattle.mpw_job.specs.Answers.{Task, listed_on, IsFoundIn, key_at, TellsMet, ComesBefore, Answers}
+use Rattle.mpw_job.specs.Answers.{TileJob, listed_on, IsFoundIn, key_at, TellsMet, ComesBefore, Answers}
 use Rattle.mpw_job.specs.Internal.Found.{run_at, key_box, key_cmp, IsKey, IsKeyBefore, AddsRule, AreFirstKeys, AreKeys, AreMarkersOfKeys}
 
 -- ---- mapped lists
@@ -75,17 +75,17 @@ adds_one place runs n d old new k lt e f =
 
 -- ---- rules so far
 
-pub no_keys : (task : Task) → AreFirstKeys task 0 []
-no_keys task = record {
+pub no_keys : (job : TileJob) → AreFirstKeys job 0 []
+no_keys job = record {
   sound = λ k c. absurd (omega (arith, c.1));
   complete = λ place rule p lt at found. absurd (omega arith);
   ordered = λ i j d lt within. absurd (omega arith);
 }
 
-pub all_keys : (task : Task) (n : ℕ) (keys : List Key) → length task.rules ≤ n
-    → AreFirstKeys task n keys → AreKeys task keys
-all_keys task n keys le h = record {
-  sound = λ k c. let s = h.sound k c in (slice_get_within task.rules k.rule s.1.rule s.1.at, s.1);
+pub all_keys : (job : TileJob) (n : ℕ) (keys : List Key) → length job.rules ≤ n
+    → AreFirstKeys job n keys → AreKeys job keys
+all_keys job n keys le h = record {
+  sound = λ k c. let s = h.sound k c in (slice_get_within job.rules k.rule s.1.rule s.1.at, s.1);
   complete = λ place rule p lt at found. h.complete place rule p (omega arith) at found;
   ordered = h.ordered;
 }
@@ -121,12 +121,12 @@ cases_place place n lt = grind arith
 same_rule : (o : Option Rule) (a b : Rule) → o ≡ Some a → o ≡ Some b → a ≡ b
 same_rule o a b e f = cc
 
-keys_both : (task : Task) (n : ℕ) (rule : Rule) (old : List Key) (runs : List Piece)
-    → slice_get task.rules n ≡ Some rule
-    → AreFirstKeys task n old → ((p : Piece)
-    → Contains runs p ↔ IsFoundIn task.core (listed_on task.window) rule p)
-    → AllPairs IsPieceBefore runs → AreFirstKeys task (n + 1) (old ++ map (key_at n) runs)
-keys_both task n rule old runs at h exact ordered = record {
+keys_both : (job : TileJob) (n : ℕ) (rule : Rule) (old : List Key) (runs : List Piece)
+    → slice_get job.rules n ≡ Some rule
+    → AreFirstKeys job n old → ((p : Piece)
+    → Contains runs p ↔ IsFoundIn job.core (listed_on job.window) rule p)
+    → AllPairs IsPieceBefore runs → AreFirstKeys job (n + 1) (old ++ map (key_at n) runs)
+keys_both job n rule old runs at h exact ordered = record {
   sound = λ k c. elim (Contains-append_cases old (map (key_at n) runs) k c)
       [ inl o ↦ sound_old k o | inr a ↦ sound_new k a ];
   complete = λ place other p lt there found. elim (cases_place place n lt) [
@@ -138,30 +138,30 @@ keys_both task n rule old runs at h exact ordered = record {
       (keys_ordered n runs ordered) cross;
 }
   where
-    sound_old : (k : Key) → Contains old k → (k.rule < n + 1) × IsKey task k
+    sound_old : (k : Key) → Contains old k → (k.rule < n + 1) × IsKey job k
     sound_old k c = let s = h.sound k c in let lt = s.0 in (omega arith, s.1)
 
-    sound_new : (k : Key) → Contains (map (key_at n) runs) k → (k.rule < n + 1) × IsKey task k
+    sound_new : (k : Key) → Contains (map (key_at n) runs) k → (k.rule < n + 1) × IsKey job k
     sound_new k c =
         let a = of_map (key_at n) runs k c in
         let place : n ≡ k.rule = ap (λ (x : Key). x.rule) a.2 in (
           omega arith,
           record {
             rule = rule;
-            at = ap (slice_get task.rules) (sym place) ∙ at;
-            run = subst (IsFoundIn task.core (listed_on task.window) rule) (ap run_at a.2)
+            at = ap (slice_get job.rules) (sym place) ∙ at;
+            run = subst (IsFoundIn job.core (listed_on job.window) rule) (ap run_at a.2)
                 ((exact a.0).0 a.1);
           },
         )
 
     complete_new : (place : ℕ) (other : Rule) (p : Piece) → place ≡ n
-        → slice_get task.rules place ≡ Some other
-        → IsFoundIn task.core (listed_on task.window) other p
+        → slice_get job.rules place ≡ Some other
+        → IsFoundIn job.core (listed_on job.window) other p
         → Contains (old ++ map (key_at n) runs) (key_at place p)
     complete_new place other p e there found =
-        let same : other ≡ rule = same_rule (slice_get task.rules n) other rule
-        (ap (slice_get task.rules) (sym e) ∙ there) at in
-        let held = (exact p).1 (subst (λ (r : Rule). IsFoundIn task.core (listed_on task.window) r
+        let same : other ≡ rule = same_rule (slice_get job.rules n) other rule
+        (ap (slice_get job.rules) (sym e) ∙ there) at in
+        let held = (exact p).1 (subst (λ (r : Rule). IsFoundIn job.core (listed_on job.window) r
         p) same found) in
         subst (λ (x : ℕ). Contains (old ++ map (key_at n) runs) (key_at x p)) (sym e)
         (Contains-append_right old (map (key_at n) runs) (key_at n p)
@@ -175,16 +175,16 @@ keys_both task n rule old runs at h exact ordered = record {
         let place : n ≡ y.rule = ap (λ (k : Key). k.rule) a.2 in
         behind x y (omega arith)
 
-pub keys_more : (task : Task) (n : ℕ) (core : Box2) (on : Coverage) (rule : Rule)
-    (old new : List Key) → core ≡ task.core → on ≡ listed_on task.window
-    → slice_get task.rules n ≡ Some rule → AreFirstKeys task n old → AddsRule core on n rule old new
-    → AreFirstKeys task (n + 1) new
-keys_more task n core on rule old new e f at h r =
-    let g : AddsRule task.core (listed_on task.window) n rule old new =
-    subst (λ (c : Box2). AddsRule c (listed_on task.window) n rule old new) e
+pub keys_more : (job : TileJob) (n : ℕ) (core : Box2) (on : Coverage) (rule : Rule)
+    (old new : List Key) → core ≡ job.core → on ≡ listed_on job.window
+    → slice_get job.rules n ≡ Some rule → AreFirstKeys job n old → AddsRule core on n rule old new
+    → AreFirstKeys job (n + 1) new
+keys_more job n core on rule old new e f at h r =
+    let g : AddsRule job.core (listed_on job.window) n rule old new =
+    subst (λ (c : Box2). AddsRule c (listed_on job.window) n rule old new) e
     (subst (λ (o : Coverage). AddsRule core o n rule old new) f r) in
-    subst (AreFirstKeys task (n + 1)) (sym g.is)
-    (keys_both task n rule old g.runs at h g.exact g.ordered)
+    subst (AreFirstKeys job (n + 1)) (sym g.is)
+    (keys_both job n rule old g.runs at h g.exact g.ordered)
 
 -- ---- the boxes of keys
 
@@ -214,18 +214,18 @@ run_ordered core on rule k h =
     (step_ordered rule (first_squares rule.check on) (second_squares rule.check on) core k.axis
     k.side k.x1 k.x2 k.y0 step) h.filled
 
-pub boxes_ordered : (task : Task) (keys : List Key) → AreKeys task keys
+pub boxes_ordered : (job : TileJob) (keys : List Key) → AreKeys job keys
     → All (λ (k : Key). IsOrdered (key_box k)) keys
-boxes_ordered task keys h k d lt =
+boxes_ordered job keys h k d lt =
     let s = (h.sound (get_or keys k d) (Contains-get_or keys k d lt)).1 in
-    run_ordered task.core (listed_on task.window) s.rule (get_or keys k d) s.run
+    run_ordered job.core (listed_on job.window) s.rule (get_or keys k d) s.run
 
 -- ---- the markers of keys
 
-pub answers_from : (task : Task) (keys : List Key) (markers : List Marker) → AreKeys task keys
-    → AreMarkersOfKeys task.window keys markers
-    → Answers task markers
-answers_from task keys markers h g = record {
+pub answers_from : (job : TileJob) (keys : List Key) (markers : List Marker) → AreKeys job keys
+    → AreMarkersOfKeys job.window keys markers
+    → Answers job markers
+answers_from job keys markers h g = record {
   sound = λ m c.
       let k = (h.sound (key_of m) (subst (λ (ks : List Key). Contains ks (key_of m)) g.keys_are
       (to_map key_of markers m c))).1 in
@@ -233,11 +233,11 @@ answers_from task keys markers h g = record {
         rule = k.rule;
         at = k.at;
         run = k.run;
-        met = All-contains (TellsMet task.window)
+        met = All-contains (TellsMet job.window)
             markers m g.met c;
       };
   complete = λ place rule p at f.
-      let lt = slice_get_within task.rules place rule at in
+      let lt = slice_get_within job.rules place rule at in
       of_map key_of markers (key_at place p)
       (subst (λ (ks : List Key). Contains ks (key_at place p)) (sym g.keys_are)
       (h.complete place rule p lt at f));
@@ -256,6 +256,6 @@ answers_from task keys markers h g = record {
         ∙ all i j (key_of d) lt (omega arith)
 
 -- each marker of an answer has a row
-pub all_filled : (task : Task) (markers : List Marker) → Answers task markers → All IsFilled markers
-all_filled task markers h k d l =
+pub all_filled : (job : TileJob) (markers : List Marker) → Answers job markers → All IsFilled markers
+all_filled job markers h k d l =
     (h.sound (get_or markers k d) (Contains-get_or markers k d l)).run.filled

@@ -31,7 +31,7 @@ use Rattle.mpw_job.specs.Internal.Cores.{is_in_core}
 use Rattle.mpw_job.specs.Answers.{HasListed, listed_on, IsFoundIn, run_of, Answers}
 use Rattle.mpw_job.specs.Internal.Found.{run_at}
 use Rattle.mpw_job.specs.Layout.{shown_on}
-use Rattle.mpw_job.specs.Laws.{task_of, CoresLieInPlane}
+use Rattle.mpw_job.specs.Laws.{tile_job_of, CoresLieInPlane}
 use Rattle.mpw_job.proofs.Tests.{same_first, same_second, get_contains, maximal_from, run_from, rule_of}
 use Rattle.mpw_job.proofs.Shapes.{tests_tell, tests_tell_listed, shown_by, by_from, by_as}
 
@@ -222,7 +222,7 @@ met_alike laws s extent windows tile rule m origin e stand u c run =
 pub answer_is : Laws → (s : Snapshot) (extent : Box2) (windows : List (List Rectangle))
     (run tile : ℕ) (list : List Marker) → plan_for s ≡ Some (plan_of extent s.deck)
     → StandFor s windows → tile < tiles (plan_of extent s.deck)
-    → Answers (task_of s (plan_of extent s.deck) windows run tile) list
+    → Answers (tile_job_of s (plan_of extent s.deck) windows run tile) list
     → AreMarkersOf (steps_in (steps_of s.deck.rules (shown_on (shown s)))
     (is_in_core (tile_core (plan_of extent s.deck) tile)))
     (λ o q. shown_by (shown s) o q ≡ true) list

@@ -27,7 +27,7 @@ use Rattle.mpw_markers.specs.Markers.{key_of, line_of_key, box_on}
 use Rattle.mpw_markers.specs.Book.{IsBook}
 use Rattle.mpw_markers.specs.Whole.{IsMet, IsMaximal}
 use Rattle.mpw_job.specs.Layers.{same_layer, Coverage, first_squares, second_squares, steps_of}
-use Rattle.mpw_job.specs.Answers.{Task, listed_on, HasListed, IsFoundIn}
+use Rattle.mpw_job.specs.Answers.{TileJob, listed_on, HasListed, IsFoundIn}
 use Rattle.mpw_job.specs.Internal.Found.{run_at, AreKeys, MeetsSome}
 use Rattle.mpw_job.specs.Layout.{shown_on, HasShown}
 use Rattle.mpw_job.specs.Laws.{EachMarkerMeetsSome, NoShapesNoMarkers}
@@ -213,11 +213,11 @@ run_met core listed rule k h =
     (second_squares rule.check (listed_on listed)) core k.axis k.side k.x1 k.x2 k.y0
     (h.steps k.y0 (omega (arith, ints)) h.filled))
 
-pub keys_meet : (task : Task) (keys : List Key) → AreKeys task keys
-    → All (MeetsSome task.window) keys
-keys_meet task keys h k d lt =
+pub keys_meet : (job : TileJob) (keys : List Key) → AreKeys job keys
+    → All (MeetsSome job.window) keys
+keys_meet job keys h k d lt =
     let s = (h.sound (get_or keys k d) (Contains-get_or keys k d lt)).1 in
-    run_met task.core task.window s.rule (get_or keys k d) s.run
+    run_met job.core job.window s.rule (get_or keys k d) s.run
 
 pub each_meets : TestDecidesPairSteps → EachMarkerMeetsSome
 each_meets law s markers m h c =

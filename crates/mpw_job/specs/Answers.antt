@@ -18,17 +18,17 @@ use Rattle.mpw_markers.specs.Whole.{IsMet}
 use Rattle.mpw_job.specs.Layers.{same_layer, Coverage, first_squares, second_squares}
 
 -- A tile of a run: its core, the rectangles of its window, and the rules.
-pub record Task : Type 0 where
+pub record TileJob : Type 0 where
   pub run : ℕ
   pub tile : ℕ
   pub core : Box2
   pub window : List Rectangle
   pub rules : List Rule
 
--- What is true of a task: its core lies in the plane, and it has at most 256 rules, as a deck.
-pub record IsTask (task : Task) : Type 0 where
-  pub plane : IsBoxInPlane task.core
-  pub few : length task.rules ≤ 256
+-- What is true of a tile's job: its core lies in the plane, and it has at most 256 rules, as a deck.
+pub record IsTileJob (job : TileJob) : Type 0 where
+  pub plane : IsBoxInPlane job.core
+  pub few : length job.rules ≤ 256
 
 -- A listed rectangle on the layer has the unit square.
 abbrev pub listed_on : List Rectangle → Coverage
@@ -66,11 +66,11 @@ pub record TellsMet (listed : List Rectangle) (m : Marker) : Type 0 where
   pub exact : (origin : ℕ) → Contains m.met origin ↔ IsMet (HasListed listed) (box_of m) origin
 
 -- A maximal run of the rule at the marker's place, with what it meets.
-pub record IsAnswer (task : Task) (m : Marker) : Type 0 where
+pub record IsAnswer (job : TileJob) (m : Marker) : Type 0 where
   pub rule : Rule
-  pub at : slice_get task.rules m.rule ≡ Some rule
-  pub run : IsFoundIn task.core (listed_on task.window) rule (run_of m)
-  pub met : TellsMet task.window m
+  pub at : slice_get job.rules m.rule ≡ Some rule
+  pub run : IsFoundIn job.core (listed_on job.window) rule (run_of m)
+  pub met : TellsMet job.window m
 
 -- Markers by the rule's place, then by axis, V before H, side, x1, x2 and y0.
 abbrev pub marker_cmp : Marker → Marker → Ordering
@@ -79,11 +79,11 @@ marker_cmp m n = ordering_then (nat_cmp m.rule n.rule) (piece_cmp (run_of m) (ru
 abbrev pub ComesBefore : Marker → Marker → Type 0
 ComesBefore m n = marker_cmp m n ≡ Less
 
--- The markers answer the task: for each rule, by its place, they are the maximal runs within the core of the pair steps of the window's
+-- The markers answer the job: for each rule, by its place, they are the maximal runs within the core of the pair steps of the window's
 -- rectangles, with the origins listed that each one's closed box meets. They stand in order, each once.
-pub record Answers (task : Task) (markers : List Marker) : Type 0 where
-  pub sound : (m : Marker) → Contains markers m → IsAnswer task m
-  pub complete : (place : ℕ) (rule : Rule) (p : Piece) → slice_get task.rules place ≡ Some rule
-      → IsFoundIn task.core (listed_on task.window) rule p
+pub record Answers (job : TileJob) (markers : List Marker) : Type 0 where
+  pub sound : (m : Marker) → Contains markers m → IsAnswer job m
+  pub complete : (place : ℕ) (rule : Rule) (p : Piece) → slice_get job.rules place ≡ Some rule
+      → IsFoundIn job.core (listed_on job.window) rule p
       → (m : Marker) × Contains markers m × (key_of m ≡ key_at place p)
   pub ordered : AllPairs ComesBefore markers

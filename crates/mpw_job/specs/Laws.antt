@@ -10,16 +10,16 @@ use Rattle.mpw_tiles.specs.Plan.{Tiling, tiles, tile_core}
 use Rattle.mpw_tiles.specs.Snapshots.{Snapshot, IsSnapshot, shown_extent, plan_for, StandFor}
 use Rattle.mpw_markers.specs.declared.marker.Marker.{Marker}
 use Rattle.mpw_markers.specs.Stitched.{IsStitched}
-use Rattle.mpw_job.specs.Answers.{Task, Answers}
+use Rattle.mpw_job.specs.Answers.{TileJob, Answers}
 use Rattle.mpw_job.specs.Layout.{shown_on, AreLayoutMarkers}
 
 -- The test of a layer's squares is true just where a shape of the layer shows the square.
 abbrev pub TestsTellShown : Type 0
 TestsTellShown = (items : List Item) (layer : Layer) → AreShownOn items layer (shown_on items layer)
 
--- The task of a tile of a run over the snapshot, by its plan and windows.
-abbrev pub task_of : Snapshot → Tiling → List (List Rectangle) → (run tile : ℕ) → Task
-task_of s plan windows run tile = record {
+-- The job of a tile of a run over the snapshot, by its plan and windows.
+abbrev pub tile_job_of : Snapshot → Tiling → List (List Rectangle) → (run tile : ℕ) → TileJob
+tile_job_of s plan windows run tile = record {
   run = run;
   tile = tile;
   core = tile_core plan tile;
@@ -27,21 +27,21 @@ task_of s plan windows run tile = record {
   rules = s.deck.rules;
 }
 
--- Each core of a plan lies in the plane, as a task's core has to.
+-- Each core of a plan lies in the plane, as a job's core has to.
 abbrev pub CoresLieInPlane : Type 0
 CoresLieInPlane =
     (s : Snapshot) (plan : Tiling) (tile : ℕ) → IsSnapshot s → plan_for s ≡ Some plan
     → WindowsLieInPlane plan → tile < tiles plan
     → IsBoxInPlane (tile_core plan tile)
 
--- There is a list for each tile, and each answers its tile's task.
+-- There is a list for each tile, and each answers its tile's job.
 pub record AnswerTiles (s : Snapshot) (plan : Tiling) (windows : List (List Rectangle)) (run : ℕ)
     (lists : List (List Marker)) : Type 0 where
   pub count : length lists ≡ tiles plan
   pub answered : (tile : ℕ) → tile < tiles plan
-      → Answers (task_of s plan windows run tile) (slice_index_or lists tile [])
+      → Answers (tile_job_of s plan windows run tile) (slice_index_or lists tile [])
 
--- Where windows stand for a snapshot, and each tile's task is answered, the book stitched from the answers has just the markers of
+-- Where windows stand for a snapshot, and each tile's job is answered, the book stitched from the answers has just the markers of
 -- the flat layout, whatever the side of the tiles.
 abbrev pub AnswersMakeTheLayout : Type 0
 AnswersMakeTheLayout =

@@ -64,7 +64,7 @@ fn add_rule(
 fn keys_found(alloc: Global, job: &TileJob) -> Result<Vec<Key>, AllocError>
     ensures { IfOk result (λ v. AreKeys job.now v.items) }
 {
-    job.is_task();
+    job.is_tile_job();
     let core = job.core();
     let sorted = by_layer(alloc, job.window().as_slice())?;
     let rectangles = sorted.as_slice();

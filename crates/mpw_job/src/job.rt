@@ -1,7 +1,7 @@
 //! What there is to do: to cut a snapshot, or to find the markers of a tile.
 
 ghost use Rattle.std.specs.Prelude.{◌≡◌, ◌↔◌, IfOk, IsTrue};
-ghost use Rattle.mpw_job.specs.Answers.{IsTask};
+ghost use Rattle.mpw_job.specs.Answers.{IsTileJob};
 
 use mpw_deck::Rules;
 use mpw_geom::Box2;
@@ -69,13 +69,13 @@ impl Drop for TileJob {
 }
 
 impl Model for TileJob {
-    ghost use Rattle.mpw_job.specs.Answers.{Task, IsTask};
+    ghost use Rattle.mpw_job.specs.Answers.{TileJob, IsTileJob};
 
-    ghost Value = { Task };
+    ghost Value = { TileJob };
 
     ghost view = { λ j. record { run = j.run; tile = j.tile; core = j.core; window = j.window; rules = j.rules } };
 
-    ghost invariant = { λ j. IsTask (record { run = j.run; tile = j.tile; core = j.core; window = j.window; rules = j.rules }) };
+    ghost invariant = { λ j. IsTileJob (record { run = j.run; tile = j.tile; core = j.core; window = j.window; rules = j.rules }) };
 }
 
 /// Whether the boxes have equal corners.
@@ -89,7 +89,7 @@ impl TileJob {
     /// The job of a tile of the run of that number. The core, in nm, and the window are the tile's, the rules those of
     /// the run's deck. Constant time; it takes no memory.
     pub fn new(run: u32, tile: u32, core: Box2, window: Window, rules: Rules) -> TileJob
-        requires { IsTask (record { run = run; tile = tile; core = core; window = window; rules = rules }) }
+        requires { IsTileJob (record { run = run; tile = tile; core = core; window = window; rules = rules }) }
         ensures { result ≡ record { run = run; tile = tile; core = core; window = window; rules = rules } }
     {
         TileJob {
@@ -137,8 +137,8 @@ impl TileJob {
     }
 
     /// Each job keeps the limits. A law: the function does nothing.
-    pub fn is_task(&self)
-        ensures { IsTask self.now }
+    pub fn is_tile_job(&self)
+        ensures { IsTileJob self.now }
     {
         let _run = self.run;
     }

@@ -4,7 +4,7 @@ ghost use Rattle.std.specs.Prelude.{◌≡◌, ◌<◌, Some, length, IfOk};
 ghost use Rattle.mpw_tiles.specs.Placed.{WindowsLieInPlane};
 ghost use Rattle.mpw_tiles.specs.Plan.{tiles};
 ghost use Rattle.mpw_tiles.specs.Snapshots.{plan_for};
-ghost use Rattle.mpw_job.specs.Laws.{task_of};
+ghost use Rattle.mpw_job.specs.Laws.{tile_job_of};
 
 use crate::job::TileJob;
 use crate::laws::cores_lie_in_plane;
@@ -27,7 +27,7 @@ pub fn tile_job(
     requires plane { WindowsLieInPlane plan.now }
     requires tile { tile < tiles plan.now }
     requires windows { tile < length windows.now }
-    ensures { IfOk result (λ job. job ≡ task_of snapshot.now plan.now windows.now run tile) }
+    ensures { IfOk result (λ job. job ≡ tile_job_of snapshot.now plan.now windows.now run tile) }
 {
     cores_lie_in_plane();
     snapshot.is_snapshot();

@@ -6,7 +6,7 @@ use Rattle.std.proofs.lemmas.Option.{slice_get-get_or}
 use Rattle.mpw_tiles.specs.declared.listing.Rectangle.{Rectangle}
 use Rattle.mpw_tiles.specs.Plan.{tiles}
 use Rattle.mpw_markers.specs.declared.marker.Marker.{Marker}
-use Rattle.mpw_job.specs.Answers.{Task, Answers}
+use Rattle.mpw_job.specs.Answers.{TileJob, Answers}
 use Rattle.mpw_job.specs.Jobs.{CutWindows, FoundMarkers, IsCutAnswer, IsTileAnswer}
 use Rattle.mpw_job.specs.Laws.{AnswerTiles, AnswersMakeTheLayout}
 use Rattle.mpw_run.specs.declared.phase.Phase.TheVariants.{Cutting, Checking}
@@ -14,13 +14,13 @@ use Rattle.mpw_run.specs.declared.phase.RunReply.TheVariants as reply
 use Rattle.mpw_run.specs.declared.prepare.Change.TheVariants as change
 use Rattle.mpw_run.specs.declared.prepare.Prepared.{Prepared}
 use Rattle.mpw_run.specs.Run.{Planned, Tile, Checks, answers_of, answered, IsPlanned, IsChecks}
-use Rattle.mpw_run.specs.Same.{same_task}
-use Rattle.mpw_run.specs.Step.{Run, Outcome, IsRun, tile_task, answered_by, new_tiles, begun, left_as, kept, tile_compared, tile_checked}
+use Rattle.mpw_run.specs.Same.{same_tile_job}
+use Rattle.mpw_run.specs.Step.{Run, Outcome, IsRun, job_of_tile, answered_by, new_tiles, begun, left_as, kept, tile_compared, tile_checked}
 use Rattle.mpw_run.specs.Prepared.{set_tile, IsPrepared}
 use Rattle.mpw_run.specs.Internal.Prepared.{answers_with}
 use Rattle.mpw_run.specs.Stitching.{stitched, AreFilled}
 use Rattle.mpw_run.specs.Laws.{StitchedComputes}
-use Rattle.mpw_run.proofs.Exactness.{tasks}
+use Rattle.mpw_run.proofs.Exactness.{tile_jobs}
 use Rattle.mpw_run.proofs.TileLists.{new_tile}
 use Rattle.mpw_run.proofs.Opened.{filled_lists, answers_all}
 use Rattle.mpw_run.proofs.Changes.{phase_of, cut_prepared, last, keep_prepared, finish_prepared}
@@ -47,15 +47,15 @@ open_is : (a : Option (List Marker)) → is_some a ≡ false → a ≡ None
 open_is None e = refl
 open_is (Some m) e = absurd (false≢true (sym e))
 
-pub own_task : (p : Prepared) (run : Run) (c : Checks) (answer : FoundMarkers) (x : Tile)
+pub own_job : (p : Prepared) (run : Run) (c : Checks) (answer : FoundMarkers) (x : Tile)
     → slice_get c.tiles answer.job.tile ≡ Some x → is_some x.answer ≡ false
-    → same_task answer.job (tile_task run.number c answer.job.tile) ≡ true
+    → same_tile_job answer.job (job_of_tile run.number c answer.job.tile) ≡ true
     → Prepares p run (kept run c (set_tile (answered_by answer.markers) answer.job.tile c.tiles
     (slice_get c.tiles answer.job.tile)))
     → Prepares p run (tile_checked run c answer (slice_get c.tiles answer.job.tile))
-own_task p run c answer x e s t h =
+own_job p run c answer x e s t h =
     compared p run c answer x None e (open_is x.answer s)
-    (when p run (same_task answer.job (tile_task run.number c answer.job.tile)) _
+    (when p run (same_tile_job answer.job (job_of_tile run.number c answer.job.tile)) _
     (left_as reply.Stranger run) t
     (subst (λ (y : Option Tile). Prepares p run
     (kept run c (set_tile (answered_by answer.markers) answer.job.tile c.tiles y))) e h))
@@ -78,27 +78,27 @@ cut_is run planned answer windows xs e few h same right w x =
     made : List (List Rectangle) → List Tile → Prepared
     made ws ts = record { reply = reply.Kept; change = change.Check ws ts }
 
--- what is true of a tile that is answered now: there is such a tile, which is not answered yet, and the markers answer its task
+-- what is true of a tile that is answered now: there is such a tile, which is not answered yet, and the markers answer its job
 pub record IsOpen (run : Run) (c : Checks) (answer : FoundMarkers) (k : ℕ) : Type 0 where
   pub phase : run.phase ≡ Checking c
   pub few : run.number < 2 ^ 32
   pub run_is : IsRun run
   pub within : k < length c.tiles
   pub unanswered : (x : Tile) → slice_get c.tiles k ≡ Some x → x.answer ≡ None
-  pub task : answer.job ≡ tile_task run.number c k
+  pub job : answer.job ≡ job_of_tile run.number c k
   pub right : IsTileAnswer answer
 
 pub open_tile : (run : Run) (c : Checks) (answer : FoundMarkers) (k : ℕ) → run.phase ≡ Checking c
     → run.number < 2 ^ 32 → IsRun run → k < length c.tiles
     → ((x : Tile) → slice_get c.tiles k ≡ Some x → x.answer ≡ None)
-    → answer.job ≡ tile_task run.number c k → IsTileAnswer answer → IsOpen run c answer k
-open_tile run c answer k phase few run_is within unanswered task right = record {
+    → answer.job ≡ job_of_tile run.number c k → IsTileAnswer answer → IsOpen run c answer k
+open_tile run c answer k phase few run_is within unanswered job right = record {
   phase = phase;
   few = few;
   run_is = run_is;
   within = within;
   unanswered = unanswered;
-  task = task;
+  job = job;
   right = right;
 }
 
@@ -109,9 +109,9 @@ at_is : (c : Checks) (k : ℕ) → k < length c.tiles → slice_get c.tiles k �
 unfolding tile_at
 at_is c k l = slice_get-get_or c.tiles k new_tile l
 
-answers_task : (run : Run) (c : Checks) (answer : FoundMarkers) (k : ℕ) → IsOpen run c answer k
-    → Answers (tile_task run.number c k) answer.markers
-answers_task run c answer k h = subst (λ (t : Task). Answers t answer.markers) h.task h.right
+answers_job : (run : Run) (c : Checks) (answer : FoundMarkers) (k : ℕ) → IsOpen run c answer k
+    → Answers (job_of_tile run.number c k) answer.markers
+answers_job run c answer k h = subst (λ (t : TileJob). Answers t answer.markers) h.job h.right
 
 -- what is kept is the reply to the answer
 own_kept : (p : Prepared) (run : Run) (c : Checks) (answer : FoundMarkers) (k : ℕ)
@@ -120,8 +120,8 @@ own_kept : (p : Prepared) (run : Run) (c : Checks) (answer : FoundMarkers) (k : 
     (slice_get c.tiles k)))
     → Prepares p run (tile_checked run c answer (slice_get c.tiles answer.job.tile))
 own_kept p run c answer k h made =
-    own_task p run c answer (tile_at c n) at open_now
-    ((tasks answer.job (tile_task run.number c n)).1 task)
+    own_job p run c answer (tile_at c n) at open_now
+    ((tile_jobs answer.job (job_of_tile run.number c n)).1 job)
     (subst (λ (j : ℕ). Prepares p run (kept run c
     (set_tile (answered_by answer.markers) j c.tiles (slice_get c.tiles j)))) same made)
   where
@@ -129,10 +129,10 @@ own_kept p run c answer k h made =
     n = answer.job.tile
 
     same : k ≡ n
-    same = sym (ap (λ (t : Task). t.tile) h.task)
+    same = sym (ap (λ (t : TileJob). t.tile) h.job)
 
-    task : answer.job ≡ tile_task run.number c n
-    task = subst (λ (j : ℕ). answer.job ≡ tile_task run.number c j) same h.task
+    job : answer.job ≡ job_of_tile run.number c n
+    job = subst (λ (j : ℕ). answer.job ≡ job_of_tile run.number c j) same h.job
 
     at : slice_get c.tiles n ≡ Some (tile_at c n)
     at = at_is c n (subst (λ (j : ℕ). j < length c.tiles) same h.within)
@@ -151,7 +151,7 @@ keep_is run c answer k m h e less =
     (tile_checked run c answer (slice_get c.tiles answer.job.tile))) (sym e)
     (own_kept (made answer.markers) run c answer k h
     (keep_prepared run c k (tile_at c k) answer.markers h.phase h.few h.run_is (at_is c k h.within)
-    (h.unanswered (tile_at c k) (at_is c k h.within)) (answers_task run c answer k h) less))
+    (h.unanswered (tile_at c k) (at_is c k h.within)) (answers_job run c answer k h) less))
   where
     made : List Marker → Prepared
     made n = record { reply = reply.Kept; change = change.Keep k n }
@@ -175,7 +175,7 @@ filled_is run c answer k h most =
     all : AnswerTiles c.planned.snapshot c.planned.plan c.windows run.number
         (answers_of (slice_set c.tiles k (answered_by answer.markers (tile_at c k))))
     all = answers_all run.number c k (tile_at c k) answer.markers true_of.1 at
-        (answers_task run c answer k h)
+        (answers_job run c answer k h)
         (last run.number c k (tile_at c k) answer.markers true_of.1 at
         (h.unanswered (tile_at c k) at) most)
 
@@ -190,4 +190,4 @@ finish_is law computes run c answer k book h most made =
     own_kept (record { reply = reply.Finished; change = change.Finish book }) run c answer k h
     (finish_prepared law computes run c k (tile_at c k) answer.markers book h.phase h.few h.run_is
     (at_is c k h.within) (h.unanswered (tile_at c k) (at_is c k h.within))
-    (answers_task run c answer k h) most made)
+    (answers_job run c answer k h) most made)

@@ -6,7 +6,7 @@ use Rattle.std.proofs.lemmas.Option.{slice_get_within}
 use Rattle.mpw_tiles.specs.Plan.{tiles}
 use Rattle.mpw_tiles.specs.Snapshots.{Snapshot, StandFor}
 use Rattle.mpw_markers.specs.declared.marker.Marker.{Marker}
-use Rattle.mpw_job.specs.Answers.{Task, Answers}
+use Rattle.mpw_job.specs.Answers.{TileJob, Answers}
 use Rattle.mpw_job.specs.Jobs.{CutWindows}
 use Rattle.mpw_job.specs.Laws.{AnswersMakeTheLayout}
 use Rattle.mpw_job.specs.declared.job.Job.TheVariants as job
@@ -16,7 +16,7 @@ use Rattle.mpw_run.specs.declared.phase.RunReply.TheVariants as reply
 use Rattle.mpw_run.specs.declared.prepare.Change.TheVariants as change
 use Rattle.mpw_run.specs.declared.prepare.Prepared.{Prepared}
 use Rattle.mpw_run.specs.Run.{Planned, Tile, Checks, answers_of, answered, IsPlanned, IsChecks}
-use Rattle.mpw_run.specs.Step.{Run, Offer, Outcome, IsPhase, IsRun, tile_task, with_tiles, raised, answered_by, new_tiles, handed, begun, kept, next_from}
+use Rattle.mpw_run.specs.Step.{Run, Offer, Outcome, IsPhase, IsRun, job_of_tile, with_tiles, raised, answered_by, new_tiles, handed, begun, kept, next_from}
 use Rattle.mpw_run.specs.Prepared.{set_tile, next_phase, applied, IsPrepared}
 use Rattle.mpw_run.specs.Stitching.{stitched}
 use Rattle.mpw_run.specs.Laws.{StitchedComputes}
@@ -36,7 +36,7 @@ pub take_prepared : (run : Run) (c : Checks) (o : Offer) → run.phase ≡ Check
     → run.number < 2 ^ 32 → IsRun run → next_from 0 c.tiles ≡ Some o
     → IsPrepared (let p : Prepared = record {
       reply = reply.Taken
-          (job.Tile (tile_task run.number c o.number));
+          (job.Tile (job_of_tile run.number c o.number));
       change = change.Take o.number;
     } in p) run
     (handed run c (Some o))
@@ -81,22 +81,22 @@ offered_within run c tile e h o =
     omega (arith, n, slice_get_within c.tiles i.place q.0.tile i.at, q.2, count)
 
 -- a tile is handed out, by its number
-pub take_is : (run : Run) (c : Checks) (tile : ℕ) (task : Task) → run.phase ≡ Checking c
+pub take_is : (run : Run) (c : Checks) (tile : ℕ) (tile_job : TileJob) → run.phase ≡ Checking c
     → run.number < 2 ^ 32 → IsRun run → Some tile ≡ option_map (λ (o : Offer). o.number)
     (next_from 0 c.tiles)
-    → task ≡ tile_task run.number c tile
+    → tile_job ≡ job_of_tile run.number c tile
     → IsPrepared (let p : Prepared = record {
-      reply = reply.Taken (job.Tile task);
+      reply = reply.Taken (job.Tile tile_job);
       change = change.Take tile;
     } in p) run (handed run c (next_from 0 c.tiles))
-take_is run c tile task e few h o same =
+take_is run c tile tile_job e few h o same =
     let q = offer_of_number (next_from 0 c.tiles) tile o in
-    subst (IsPrepared (made task tile) run) (sym (ap (handed run c) q.1))
-    (subst (λ (t : Task). IsPrepared (made t tile) run (handed run c (Some q.0))) (sym same)
-    (subst (λ (k : ℕ). IsPrepared (made (tile_task run.number c k) k) run (handed run c (Some q.0)))
+    subst (IsPrepared (made tile_job tile) run) (sym (ap (handed run c) q.1))
+    (subst (λ (t : TileJob). IsPrepared (made t tile) run (handed run c (Some q.0))) (sym same)
+    (subst (λ (k : ℕ). IsPrepared (made (job_of_tile run.number c k) k) run (handed run c (Some q.0)))
     q.2 (take_prepared run c q.0 e few h q.1)))
   where
-    made : Task → ℕ → Prepared
+    made : TileJob → ℕ → Prepared
     made t k = record { reply = reply.Taken (job.Tile t); change = change.Take k }
 
 -- the check begins
@@ -151,7 +151,7 @@ test_is_not a b x y ne = by (a == b) refl
 -- the markers of a tile are kept, and a tile is left
 pub keep_prepared : (run : Run) (c : Checks) (k : ℕ) (x : Tile) (m : List Marker)
     → run.phase ≡ Checking c → run.number < 2 ^ 32 → IsRun run
-    → slice_get c.tiles k ≡ Some x → x.answer ≡ None → Answers (tile_task run.number c k) m
+    → slice_get c.tiles k ≡ Some x → x.answer ≡ None → Answers (job_of_tile run.number c k) m
     → answered c.tiles + 1 < tiles c.planned.plan
     → IsPrepared (let p : Prepared = record { reply = reply.Kept; change = change.Keep k m } in p)
     run (kept run c (set_tile (answered_by m) k c.tiles (slice_get c.tiles k)))
@@ -206,7 +206,7 @@ keep_prepared run c k x m e few h at free right less =
 pub finish_prepared : AnswersMakeTheLayout → StitchedComputes
     → (run : Run) (c : Checks) (k : ℕ) (x : Tile) (m : List Marker) (book : List Marker)
     → run.phase ≡ Checking c → run.number < 2 ^ 32 → IsRun run
-    → slice_get c.tiles k ≡ Some x → x.answer ≡ None → Answers (tile_task run.number c k) m
+    → slice_get c.tiles k ≡ Some x → x.answer ≡ None → Answers (job_of_tile run.number c k) m
     → tiles c.planned.plan ≤ answered c.tiles + 1
     → book ≡ stitched (answers_of (set_tile (answered_by m) k c.tiles (slice_get c.tiles k)))
     → IsPrepared (let p : Prepared = record { reply = reply.Finished; change = change.Finish book }

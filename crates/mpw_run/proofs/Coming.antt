@@ -5,16 +5,16 @@ use Rattle.std.proofs.lemmas.Bool.{false≢true, eqb-true, eq-eqb, cases_eq}
 use Rattle.mpw_tiles.specs.Plan.{tiles}
 use Rattle.mpw_tiles.specs.Snapshots.{Snapshot, StandFor}
 use Rattle.mpw_markers.specs.declared.marker.Marker.{Marker}
-use Rattle.mpw_job.specs.Answers.{Task, Answers}
+use Rattle.mpw_job.specs.Answers.{TileJob, Answers}
 use Rattle.mpw_job.specs.Jobs.{CutWindows, FoundMarkers, IsCutAnswer, IsTileAnswer}
 use Rattle.mpw_job.specs.Laws.{AnswersMakeTheLayout}
 use Rattle.mpw_run.specs.declared.phase.Phase.{Phase}
 use Rattle.mpw_run.specs.declared.phase.Phase.TheVariants.{Idle, Cutting, Checking, Finished}
 use Rattle.mpw_run.specs.Run.{Tile, Checks, answered, IsPlanned, IsChecks}
-use Rattle.mpw_run.specs.Step.{Run, Offer, Outcome, IsPhase, IsRun, tile_task, answered_by, next_from, handed, taken_in, cut_in, kept, tile_compared, tile_checked, tile_in}
-use Rattle.mpw_run.specs.Same.{same_snapshot, same_task}
+use Rattle.mpw_run.specs.Step.{Run, Offer, Outcome, IsPhase, IsRun, job_of_tile, answered_by, next_from, handed, taken_in, cut_in, kept, tile_compared, tile_checked, tile_in}
+use Rattle.mpw_run.specs.Same.{same_snapshot, same_tile_job}
 use Rattle.mpw_run.specs.Laws.{StitchedComputes, Event, step, IsRight, run_after, EachRunKeeps}
-use Rattle.mpw_run.proofs.Exactness.{snapshots, tasks}
+use Rattle.mpw_run.proofs.Exactness.{snapshots, tile_jobs}
 use Rattle.mpw_run.proofs.TileLists.{few_answered}
 use Rattle.mpw_run.proofs.Next.{next_is}
 use Rattle.mpw_run.proofs.Tests.{either}
@@ -59,7 +59,7 @@ cut_keeps run answer (Finished f) a h r = r
 kept_keeps : AnswersMakeTheLayout → StitchedComputes
     → (run : Run) (c : Checks) (k : ℕ) (x : Tile) (m : List Marker) → IsPlanned c.planned
     → IsChecks run.number c
-    → slice_get c.tiles k ≡ Some x → Answers (tile_task run.number c k) m
+    → slice_get c.tiles k ≡ Some x → Answers (job_of_tile run.number c k) m
     → Keeps (kept run c (slice_set c.tiles k (answered_by m x)))
 kept_keeps law computes run c k x m p h e right =
     either Keeps (answered now == tiles c.planned.plan) _ _
@@ -88,10 +88,10 @@ compared_keeps : AnswersMakeTheLayout → StitchedComputes
     → IsRun run → Keeps (tile_compared run c answer x a)
 compared_keeps law computes run c answer x (Some m) t p h e r = r
 compared_keeps law computes run c answer x None t p h e r =
-    either Keeps (same_task answer.job (tile_task run.number c answer.job.tile)) _ _
+    either Keeps (same_tile_job answer.job (job_of_tile run.number c answer.job.tile)) _ _
     (λ b. kept_keeps law computes run c answer.job.tile x answer.markers p h e
-    (subst (λ (task : Task). Answers task answer.markers)
-    ((tasks answer.job (tile_task run.number c answer.job.tile)).0 b) t))
+    (subst (λ (job : TileJob). Answers job answer.markers)
+    ((tile_jobs answer.job (job_of_tile run.number c answer.job.tile)).0 b) t))
     (λ f. r)
 
 checked_keeps : AnswersMakeTheLayout → StitchedComputes

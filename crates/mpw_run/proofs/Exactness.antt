@@ -20,9 +20,9 @@ use Rattle.mpw_hier.specs.declared.submission.Submission.{Submission}
 use Rattle.mpw_walk.specs.declared.root.Root.{Root}
 use Rattle.mpw_tiles.specs.declared.listing.Rectangle.{Rectangle}
 use Rattle.mpw_tiles.specs.Snapshots.{Snapshot}
-use Rattle.mpw_job.specs.Answers.{Task}
+use Rattle.mpw_job.specs.Answers.{TileJob}
 use Rattle.mpw_run.specs.Same.{same_point, same_box, same_layer, same_orient, same_placing, same_points, same_boundary, same_ends, same_path, same_array, same_reference, same_element, same_structure}
-use Rattle.mpw_run.specs.Same.{same_library, same_binding, same_version, same_submission, same_root, same_check, same_rule, same_rules, same_deck, same_snapshot, same_rectangle, same_place, same_task}
+use Rattle.mpw_run.specs.Same.{same_library, same_binding, same_version, same_submission, same_root, same_check, same_rule, same_rules, same_deck, same_snapshot, same_rectangle, same_place, same_tile_job}
 use Rattle.mpw_run.specs.Laws.{TestsAreExact}
 use Rattle.mpw_run.proofs.ExactPlane.{Exact, names, lists, one, two, three, four, points, boxes, layers, orients, placings}
 
@@ -245,7 +245,7 @@ decks a b =
     (λ e f. λ i. record { tile = e i; rules = f i })
     (λ e. (ap (λ (d : Deck). d.tile) e, ap (λ (d : Deck). d.rules) e))
 
--- ---- what a run looks at, and the task of a tile
+-- ---- what a run looks at, and the job of a tile
 
 pub snapshots : (a b : Snapshot) → Decides (same_snapshot a b) (a ≡ b)
 unfolding same_snapshot
@@ -272,29 +272,29 @@ rectangles a b =
       ap (λ (r : Rectangle). r.origin) e,
     ))
 
-abbrev SamePlace : Task → Task → Type 0
+abbrev SamePlace : TileJob → TileJob → Type 0
 SamePlace a b = (a.run ≡ b.run) × (a.tile ≡ b.tile) × (a.core ≡ b.core)
 
-places : (a b : Task) → Decides (same_place a b) (SamePlace a b)
+places : (a b : TileJob) → Decides (same_place a b) (SamePlace a b)
 places a b =
     three {X = SamePlace a b} (a.run == b.run) (a.tile == b.tile) (same_box a.core b.core)
     (Decides-eqb a.run b.run) (Decides-eqb a.tile b.tile) (boxes a.core b.core)
     (λ e f g. (e, f, g))
     (λ h. h)
 
-pub tasks : (a b : Task) → Decides (same_task a b) (a ≡ b)
-unfolding same_task
-tasks a b =
+pub tile_jobs : (a b : TileJob) → Decides (same_tile_job a b) (a ≡ b)
+unfolding same_tile_job
+tile_jobs a b =
     three {X = a ≡ b} (same_place a b) (pointwise same_rectangle a.window b.window)
     (same_rules a.rules b.rules)
     (places a b) (lists same_rectangle rectangles a.window b.window)
     (lists same_rule rules_of a.rules b.rules)
     (λ e f g. λ i. record { run = e.0 i; tile = e.1 i; core = e.2 i; window = f i; rules = g i })
     (λ e. (
-      (ap (λ (t : Task). t.run) e, ap (λ (t : Task). t.tile) e, ap (λ (t : Task). t.core) e),
-      ap (λ (t : Task). t.window) e,
-      ap (λ (t : Task). t.rules) e,
+      (ap (λ (t : TileJob). t.run) e, ap (λ (t : TileJob). t.tile) e, ap (λ (t : TileJob). t.core) e),
+      ap (λ (t : TileJob). t.window) e,
+      ap (λ (t : TileJob). t.rules) e,
     ))
 
 pub exact : TestsAreExact
-exact = record { snapshots = snapshots; tasks = tasks }
+exact = record { snapshots = snapshots; tile_jobs = tile_jobs }

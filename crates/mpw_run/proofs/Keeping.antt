@@ -12,8 +12,8 @@ use Rattle.mpw_run.specs.declared.phase.Phase.TheVariants.{Idle, Cutting, Checki
 use Rattle.mpw_run.specs.declared.phase.RunReply.{RunReply}
 use Rattle.mpw_run.specs.declared.phase.RunReply.TheVariants as reply
 use Rattle.mpw_run.specs.Run.{Planned, Tile, Checks, answers_of, answered}
-use Rattle.mpw_run.specs.Same.{same_snapshot, same_task}
-use Rattle.mpw_run.specs.Step.{Run, Offer, Outcome, IsPhase, IsRun, raised, answered_by, next_from, handed, taken_in, left_as, cut_in, kept, tile_task, tile_compared, tile_checked, tile_in}
+use Rattle.mpw_run.specs.Same.{same_snapshot, same_tile_job}
+use Rattle.mpw_run.specs.Step.{Run, Offer, Outcome, IsPhase, IsRun, raised, answered_by, next_from, handed, taken_in, left_as, cut_in, kept, job_of_tile, tile_compared, tile_checked, tile_in}
 use Rattle.mpw_run.specs.Laws.{StitchedComputes, Event, AreRight, run_after, is_kept, looked_at, was_kept, is_finished, AllWereKept, FinishedOnceAllWereKept}
 use Rattle.mpw_run.proofs.Tests.{either}
 use Rattle.mpw_run.proofs.TileLists.{own, own_some, same_tile, other_tile, new_get, all_answered}
@@ -171,7 +171,7 @@ compared_agrees looked was run c answer x (Some m) h count at r =
     left looked was answer.job.tile reply.Double run refl r
 compared_agrees looked was run c answer x None h count at r =
     either (AgreesWith looked was answer.job.tile)
-    (same_task answer.job (tile_task run.number c answer.job.tile)) _ _
+    (same_tile_job answer.job (job_of_tile run.number c answer.job.tile)) _ _
     (λ b. kept_agrees looked was run c answer.job.tile x answer.markers h count at)
     (λ f. left looked was answer.job.tile reply.Stranger run refl r)
 

@@ -14,10 +14,10 @@ use Rattle.std.proofs.lemmas.List.{get_or_default}
 use Rattle.std.proofs.lemmas.List.Elements.{All-contains}
 use Rattle.mpw_job.proofs.Adding.{all_filled}
 use Rattle.mpw_job.specs.Answers.{Answers}
-use Rattle.mpw_job.specs.Laws.{task_of, AnswerTiles, AnswersMakeTheLayout}
+use Rattle.mpw_job.specs.Laws.{tile_job_of, AnswerTiles, AnswersMakeTheLayout}
 use Rattle.mpw_job.specs.Layout.{AreLayoutMarkers}
 use Rattle.mpw_run.specs.Run.{Planned, Tile, Checks, answers_of, answered, IsPlanned, IsChecks}
-use Rattle.mpw_run.specs.Step.{tile_task, with_tiles, raised, answered_by, new_tiles}
+use Rattle.mpw_run.specs.Step.{job_of_tile, with_tiles, raised, answered_by, new_tiles}
 use Rattle.mpw_run.specs.Stitching.{stitched, AreFilled}
 use Rattle.mpw_run.specs.Laws.{StitchedComputes}
 use Rattle.mpw_run.proofs.TileLists.{same_tile, other_tile, raised_same, new_answered, new_open, all_answered}
@@ -32,7 +32,7 @@ some_tile plan = omega (arith, some_columns plan.grid, columns_few plan.grid)
 pub set_keeps : (run : ℕ) (c : Checks) (k : ℕ) (x y : Tile) → IsChecks run c
     → slice_get c.tiles k ≡ Some x
     → ((markers : List Marker) → y.answer ≡ Some markers
-    → Answers (task_of c.planned.snapshot c.planned.plan c.windows run k) markers)
+    → Answers (tile_job_of c.planned.snapshot c.planned.plan c.windows run k) markers)
     → answered (slice_set c.tiles k y) < tiles c.planned.plan
     → IsChecks run (with_tiles c (slice_set c.tiles k y))
 set_keeps run c k x y h e right less = record {
@@ -43,7 +43,7 @@ set_keeps run c k x y h e right less = record {
         let own : y ≡ t = same_Some y t (sym
         (same_tile c.tiles k y (slice_get_within c.tiles k x e))
         ∙ ap (slice_get (slice_set c.tiles k y)) (sym s) ∙ g) in
-        subst (λ (n : ℕ). Answers (task_of c.planned.snapshot c.planned.plan c.windows run n) m)
+        subst (λ (n : ℕ). Answers (tile_job_of c.planned.snapshot c.planned.plan c.windows run n) m)
         (sym s) (right m (ap (λ (u : Tile). u.answer) own ∙ a))
     | inr ne ↦ h.kept j t m (sym (other_tile c.tiles k j y ne) ∙ g) a
   ];
@@ -58,12 +58,12 @@ raise_keeps run c k x h e =
     (omega (arith, l, raised_same c.tiles k x e))
 
 pub answer_keeps : (run : ℕ) (c : Checks) (k : ℕ) (x : Tile) (m : List Marker) → IsChecks run c
-    → slice_get c.tiles k ≡ Some x → Answers (tile_task run c k) m
+    → slice_get c.tiles k ≡ Some x → Answers (job_of_tile run c k) m
     → answered (slice_set c.tiles k (answered_by m x)) < tiles c.planned.plan
     → IsChecks run (with_tiles c (slice_set c.tiles k (answered_by m x)))
 answer_keeps run c k x m h e right less =
     set_keeps run c k x (answered_by m x) h e
-    (λ n a. subst (Answers (tile_task run c k)) (same_Some m n a) right) less
+    (λ n a. subst (Answers (job_of_tile run c k)) (same_Some m n a) right) less
 
 pub begins : (run : ℕ) (planned : Planned) (windows : List (List Rectangle))
     → StandFor planned.snapshot windows
@@ -85,7 +85,7 @@ begins run planned windows h = record {
 pub answers_tiles : (run : ℕ) (planned : Planned) (windows : List (List Rectangle)) (xs : List Tile)
     → length xs ≡ tiles planned.plan → answered xs ≡ tiles planned.plan
     → ((k : ℕ) (t : Tile) (m : List Marker) → slice_get xs k ≡ Some t → t.answer ≡ Some m
-    → Answers (task_of planned.snapshot planned.plan windows run k) m)
+    → Answers (tile_job_of planned.snapshot planned.plan windows run k) m)
     → AnswerTiles planned.snapshot planned.plan windows run (answers_of xs)
 answers_tiles run planned windows xs count all right = record {
   count = all;
@@ -101,15 +101,15 @@ filled_lists s plan windows run lists a m p =
     let k : ℕ = p.1.0 in
     let within : k < tiles plan = omega (arith, p.1.1, a.count) in
     let same : get_or lists k [] ≡ p.0 = get_or_default lists k [] p.0 p.1.1 ∙ p.1.2 in
-    let right : Answers (task_of s plan windows run k) p.0 =
-    subst (Answers (task_of s plan windows run k)) same (a.answered k within) in (
-      All-contains IsFilled p.0 m (all_filled (task_of s plan windows run k) p.0 right) p.2,
+    let right : Answers (tile_job_of s plan windows run k) p.0 =
+    subst (Answers (tile_job_of s plan windows run k)) same (a.answered k within) in (
+      All-contains IsFilled p.0 m (all_filled (tile_job_of s plan windows run k) p.0 right) p.2,
       (right.sound m p.2).met.ascending,
     )
 
 -- the last tile's answer answers all
 pub answers_all : (run : ℕ) (c : Checks) (k : ℕ) (x : Tile) (m : List Marker) → IsChecks run c
-    → slice_get c.tiles k ≡ Some x → Answers (tile_task run c k) m
+    → slice_get c.tiles k ≡ Some x → Answers (job_of_tile run c k) m
     → answered (slice_set c.tiles k (answered_by m x)) ≡ tiles c.planned.plan
     → AnswerTiles c.planned.snapshot c.planned.plan c.windows run
     (answers_of (slice_set c.tiles k (answered_by m x)))
@@ -120,15 +120,15 @@ answers_all run c k x m h e right all = answers_tiles run c.planned c.windows no
     now = slice_set c.tiles k (answered_by m x)
 
     tile : (j : ℕ) (t : Tile) (n : List Marker) → slice_get now j ≡ Some t → t.answer ≡ Some n
-        → Answers (task_of c.planned.snapshot c.planned.plan c.windows run j) n
+        → Answers (tile_job_of c.planned.snapshot c.planned.plan c.windows run j) n
     tile j t n g a = elim (cases_eq j k) [
       | inl s ↦
           let own : answered_by m x ≡ t = same_Some _ t
           (sym (same_tile c.tiles k (answered_by m x) (slice_get_within c.tiles k x e))
           ∙ ap (slice_get now) (sym s) ∙ g) in
           let same : m ≡ n = same_Some m n (ap (λ (u : Tile). u.answer) own ∙ a) in
-          subst (λ (i : ℕ). Answers (task_of c.planned.snapshot c.planned.plan c.windows run i) n)
-          (sym s) (subst (Answers (tile_task run c k)) same right)
+          subst (λ (i : ℕ). Answers (tile_job_of c.planned.snapshot c.planned.plan c.windows run i) n)
+          (sym s) (subst (Answers (job_of_tile run c k)) same right)
       | inr ne ↦ h.kept j t n (sym (other_tile c.tiles k j (answered_by m x) ne) ∙ g) a
     ]
 
@@ -136,7 +136,7 @@ answers_all run c k x m h e right all = answers_tiles run c.planned c.windows no
 pub finishes : AnswersMakeTheLayout → StitchedComputes
     → (run : ℕ) (c : Checks) (k : ℕ) (x : Tile) (m : List Marker)
     → IsPlanned c.planned → IsChecks run c → slice_get c.tiles k ≡ Some x
-    → Answers (tile_task run c k) m
+    → Answers (job_of_tile run c k) m
     → answered (slice_set c.tiles k (answered_by m x)) ≡ tiles c.planned.plan
     → AreLayoutMarkers c.planned.snapshot
     (stitched (answers_of (slice_set c.tiles k (answered_by m x))))

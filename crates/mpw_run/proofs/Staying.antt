@@ -9,8 +9,8 @@ use Rattle.mpw_job.specs.Jobs.{CutWindows, FoundMarkers}
 use Rattle.mpw_run.specs.declared.phase.Phase.{Phase}
 use Rattle.mpw_run.specs.declared.phase.Phase.TheVariants.{Idle, Cutting, Checking, Finished}
 use Rattle.mpw_run.specs.Run.{Tile, Checks, answered}
-use Rattle.mpw_run.specs.Step.{Run, Offer, Outcome, raised, answered_by, with_tiles, next_from, handed, taken_in, cut_in, kept, tile_task, tile_compared, tile_checked, tile_in}
-use Rattle.mpw_run.specs.Same.{same_snapshot, same_task}
+use Rattle.mpw_run.specs.Step.{Run, Offer, Outcome, raised, answered_by, with_tiles, next_from, handed, taken_in, cut_in, kept, job_of_tile, tile_compared, tile_checked, tile_in}
+use Rattle.mpw_run.specs.Same.{same_snapshot, same_tile_job}
 use Rattle.mpw_run.specs.Laws.{Event, leaves, is_finished, UnkeptLeavesTheRun, GoesOn, IsFinishedNow, RunsGoOnOrAreFinished, uncounted, without_counts, TakingCountsAlone}
 use Rattle.mpw_run.proofs.Tests.{either}
 use Rattle.mpw_run.proofs.Next.{next_is}
@@ -52,7 +52,7 @@ compared_comes : (run : Run) (c : Checks) (answer : FoundMarkers) (tile : Tile)
     → Comes run (tile_compared run c answer tile a)
 compared_comes run c answer tile (Some m) e = inl (GoesOn.stays refl refl)
 compared_comes run c answer tile None e =
-    either (Comes run) (same_task answer.job (tile_task run.number c answer.job.tile)) _ _
+    either (Comes run) (same_tile_job answer.job (job_of_tile run.number c answer.job.tile)) _ _
     (λ t. kept_comes run c (slice_set c.tiles answer.job.tile (answered_by answer.markers tile)) e)
     (λ f. inl (GoesOn.stays refl refl))
 

@@ -4,21 +4,21 @@ use Rattle.mpw_tiles.specs.Plan.{tiles}
 use Rattle.mpw_tiles.specs.Snapshots.{Snapshot}
 use Rattle.mpw_markers.specs.declared.marker.Marker.{Marker}
 use Rattle.mpw_markers.specs.Stitched.{IsStitched}
-use Rattle.mpw_job.specs.Answers.{Task}
+use Rattle.mpw_job.specs.Answers.{TileJob}
 use Rattle.mpw_job.specs.Jobs.{CutWindows, FoundMarkers, IsCutAnswer, IsTileAnswer}
 use Rattle.mpw_run.specs.declared.phase.Phase.{Phase}
 use Rattle.mpw_run.specs.declared.phase.Phase.TheVariants.{Idle, Cutting, Checking, Finished}
 use Rattle.mpw_run.specs.declared.phase.RunReply.{RunReply}
 use Rattle.mpw_run.specs.declared.phase.RunReply.TheVariants as reply
 use Rattle.mpw_run.specs.Run.{Planned, Tile, IsPlanned}
-use Rattle.mpw_run.specs.Same.{same_snapshot, same_task}
+use Rattle.mpw_run.specs.Same.{same_snapshot, same_tile_job}
 use Rattle.mpw_run.specs.Step.{Run, Offer, Outcome, IsRun, new_run, started, cancelled, next_from, with_tiles, taken, cut_answered, tile_answered}
 use Rattle.mpw_run.specs.Stitching.{stitched, AreFilled}
 
 -- The tests of equality are exact: each is true just where its two values are equal.
 pub record TestsAreExact : Type 0 where
   pub snapshots : (a b : Snapshot) → (same_snapshot a b ≡ true) ↔ (a ≡ b)
-  pub tasks : (a b : Task) → (same_task a b ≡ true) ↔ (a ≡ b)
+  pub tile_jobs : (a b : TileJob) → (same_tile_job a b ≡ true) ↔ (a ≡ b)
 
 -- The book that computes is the one that is stitched from the lists.
 abbrev pub StitchedComputes : Type 0

@@ -8,7 +8,7 @@ use Rattle.mpw_tiles.specs.Plan.{Tiling, tiles}
 use Rattle.mpw_tiles.specs.Snapshots.{Snapshot, IsSnapshot, plan_for, StandFor}
 use Rattle.mpw_markers.specs.declared.marker.Marker.{Marker}
 use Rattle.mpw_job.specs.Answers.{Answers}
-use Rattle.mpw_job.specs.Laws.{task_of}
+use Rattle.mpw_job.specs.Laws.{tile_job_of}
 
 -- A snapshot with the plan of its tiles.
 pub record Planned : Type 0 where
@@ -40,11 +40,11 @@ abbrev pub answered : List Tile → ℕ
 answered tiles = length (answers_of tiles)
 
 -- What is true of a run whose snapshot is cut: its windows stand for the snapshot, there is a tile for each of the plan's, what was kept
--- for a tile answers that tile's task, and a tile is left.
+-- for a tile answers that tile's job, and a tile is left.
 pub record IsChecks (run : ℕ) (c : Checks) : Type 0 where
   pub windows : StandFor c.planned.snapshot c.windows
   pub count : length c.tiles ≡ tiles c.planned.plan
   pub kept : (number : ℕ) (tile : Tile) (markers : List Marker)
       → slice_get c.tiles number ≡ Some tile → tile.answer ≡ Some markers
-      → Answers (task_of c.planned.snapshot c.planned.plan c.windows run number) markers
+      → Answers (tile_job_of c.planned.snapshot c.planned.plan c.windows run number) markers
   pub left : answered c.tiles < tiles c.planned.plan

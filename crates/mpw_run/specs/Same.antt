@@ -1,4 +1,4 @@
--- Tests of equality by value, from numbers up to snapshots and tasks. They compute, and each is
+-- Tests of equality by value, from numbers up to snapshots and jobs of tiles. They compute, and each is
 -- true just where its two values are equal (the law `TestsAreExact`).
 use Rattle.std.specs.Prelude.{ℕ, ◌==◌, ◌&&◌, Bool, false, List}
 use Rattle.std.specs.Ordering.{int_eq}
@@ -25,7 +25,7 @@ use Rattle.mpw_hier.specs.declared.submission.Submission.{Submission}
 use Rattle.mpw_walk.specs.declared.root.Root.{Root}
 use Rattle.mpw_tiles.specs.declared.listing.Rectangle.{Rectangle}
 use Rattle.mpw_tiles.specs.Snapshots.{Snapshot}
-use Rattle.mpw_job.specs.Answers.{Task}
+use Rattle.mpw_job.specs.Answers.{TileJob}
 
 -- ---- the plane
 
@@ -143,7 +143,7 @@ same_rules = pointwise same_rule
 abbrev pub same_deck : Deck → Deck → Bool
 same_deck a b = (a.tile == b.tile) && same_rules a.rules b.rules
 
--- ---- what a run looks at, and the task of a tile
+-- ---- what a run looks at, and the job of a tile
 
 unfoldable pub same_snapshot : Snapshot → Snapshot → Bool
 same_snapshot a b =
@@ -154,9 +154,9 @@ abbrev pub same_rectangle : Rectangle → Rectangle → Bool
 same_rectangle a b =
     same_box a.area b.area && (same_layer a.layer b.layer && (a.origin == b.origin))
 
-abbrev pub same_place : Task → Task → Bool
+abbrev pub same_place : TileJob → TileJob → Bool
 same_place a b = (a.run == b.run) && ((a.tile == b.tile) && same_box a.core b.core)
 
-unfoldable pub same_task : Task → Task → Bool
-same_task a b =
+unfoldable pub same_tile_job : TileJob → TileJob → Bool
+same_tile_job a b =
     same_place a b && (pointwise same_rectangle a.window b.window && same_rules a.rules b.rules)

@@ -5,16 +5,16 @@ use Rattle.mpw_tiles.specs.Plan.{tiles}
 use Rattle.mpw_markers.specs.declared.marker.Marker.{Marker}
 use Rattle.mpw_job.specs.declared.job.CutJob.{CutJob}
 use Rattle.mpw_job.specs.declared.job.Job.TheVariants as job
-use Rattle.mpw_job.specs.Answers.{Task}
+use Rattle.mpw_job.specs.Answers.{TileJob}
 use Rattle.mpw_job.specs.Jobs.{CutWindows, FoundMarkers}
-use Rattle.mpw_job.specs.Laws.{task_of}
+use Rattle.mpw_job.specs.Laws.{tile_job_of}
 use Rattle.mpw_job.specs.Layout.{AreLayoutMarkers}
 use Rattle.mpw_run.specs.declared.phase.Phase.{Phase}
 use Rattle.mpw_run.specs.declared.phase.Phase.TheVariants.{Idle, Cutting, Checking, Finished}
 use Rattle.mpw_run.specs.declared.phase.RunReply.{RunReply}
 use Rattle.mpw_run.specs.declared.phase.RunReply.TheVariants as reply
 use Rattle.mpw_run.specs.Run.{Planned, Tile, Checks, answers_of, answered, IsPlanned, IsChecks}
-use Rattle.mpw_run.specs.Same.{same_snapshot, same_task}
+use Rattle.mpw_run.specs.Same.{same_snapshot, same_tile_job}
 use Rattle.mpw_run.specs.Stitching.{stitched}
 
 -- A run: its number, which counts the runs that were accepted, and how far it is.
@@ -54,9 +54,9 @@ restarted_phase (Finished f) = Finished f
 abbrev pub restarted : Run → Run
 restarted run = record { number = run.number; phase = restarted_phase run.phase }
 
--- The task of a tile of a run.
-abbrev pub tile_task : ℕ → Checks → ℕ → Task
-tile_task number c tile = task_of c.planned.snapshot c.planned.plan c.windows number tile
+-- The job of a tile of a run.
+abbrev pub job_of_tile : ℕ → Checks → ℕ → TileJob
+job_of_tile number c tile = tile_job_of c.planned.snapshot c.planned.plan c.windows number tile
 
 -- A tile with its number.
 pub record Offer : Type 0 where
@@ -102,7 +102,7 @@ new_tiles n = replicate n (record { taken = 0; answer = None })
 abbrev pub handed : Run → Checks → Option Offer → Outcome
 handed run c None = record { reply = reply.NoJob; run = run }
 handed run c (Some offer) = record {
-  reply = reply.Taken (job.Tile (tile_task run.number c offer.number));
+  reply = reply.Taken (job.Tile (job_of_tile run.number c offer.number));
   run = record {
     number = run.number;
     phase = Checking (with_tiles c (slice_set c.tiles offer.number (raised offer.tile)));
@@ -174,7 +174,7 @@ kept run c now = if answered now == tiles c.planned.plan
 abbrev pub tile_compared : Run → Checks → FoundMarkers → Tile → Option (List Marker) → Outcome
 tile_compared run c answer tile (Some markers) = left_as reply.Double run
 tile_compared run c answer tile None =
-    if same_task answer.job (tile_task run.number c answer.job.tile)
+    if same_tile_job answer.job (job_of_tile run.number c answer.job.tile)
     then kept run c (slice_set c.tiles answer.job.tile (answered_by answer.markers tile))
     else left_as reply.Stranger run
 

@@ -14,7 +14,7 @@ ghost use Rattle.mpw_run.specs.Step.{Run as RunValue};
 
 use mpw_job::answers_make_the_layout;
 
-/// The tests of equality, of snapshots and of tasks, are true just where the values are equal.
+/// The tests of equality, of snapshots and of jobs of tiles, are true just where the values are equal.
 pub fn tests_are_exact()
     ensures { TestsAreExact }
 {}
@@ -26,7 +26,7 @@ pub fn stitched_computes()
 {}
 
 /// After any events a run is what runs are: the windows stand for its snapshot, what was kept for a
-/// tile answers the tile's task, and the book of a run that is finished has just the markers of its
+/// tile answers the tile's job, and the book of a run that is finished has just the markers of its
 /// snapshot's flat layout.
 pub fn each_run_keeps()
     ensures { EachRunKeeps }

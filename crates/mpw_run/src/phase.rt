@@ -5,7 +5,7 @@ ghost use Rattle.mpw_tiles.specs.Snapshots.{plan_for, StandFor};
 ghost use Rattle.mpw_tiles.specs.Plan.{tiles};
 ghost use Rattle.mpw_run.specs.Run.{answered, IsPlanned};
 ghost use Rattle.mpw_run.specs.Internal.Prepared.{answers_with};
-ghost use Rattle.mpw_run.specs.Step.{Offer, next_from, tile_task};
+ghost use Rattle.mpw_run.specs.Step.{Offer, next_from, job_of_tile};
 ghost use Rattle.mpw_run.specs.Stitching.{stitched, AreFilled};
 
 use crate::tiles::Tiles;
@@ -101,10 +101,10 @@ impl Checks {
     ///
     /// # Errors
     /// Where no more copies of its parts can be counted.
-    pub(crate) fn task(&self, run: u32, tile: u32) -> Result<TileJob, AllocError>
+    pub(crate) fn tile_job(&self, run: u32, tile: u32) -> Result<TileJob, AllocError>
         requires tile { tile < tiles self.now.planned.plan }
         requires windows { StandFor self.now.planned.snapshot self.now.windows }
-        ensures { IfOk result (λ job. job ≡ tile_task run self.now tile) }
+        ensures { IfOk result (λ job. job ≡ job_of_tile run self.now tile) }
     {
         self.planned.is_planned();
         tile_job(

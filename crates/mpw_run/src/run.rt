@@ -3,14 +3,14 @@
 ghost use Rattle.std.specs.Prelude.{◌≡◌, ◌+◌, ◌<◌, ◌^◌, IfOk, Some, None, length, slice_get};
 ghost use Rattle.mpw_run.specs.Run.{Tile as TileValue};
 ghost use Rattle.mpw_run.specs.declared.phase.RunReply.TheVariants.{Kept};
-ghost use Rattle.mpw_run.specs.Step.{IsRun, book_size, new_run, started, cancelled, restarted, restarted_phase, taken, tile_answered, tile_checked, tile_task, cut_answered, begun, handed, next_from, kept, answered_by};
+ghost use Rattle.mpw_run.specs.Step.{IsRun, book_size, new_run, started, cancelled, restarted, restarted_phase, taken, tile_answered, tile_checked, job_of_tile, cut_answered, begun, handed, next_from, kept, answered_by};
 ghost use Rattle.mpw_run.specs.declared.phase.Phase.TheVariants.{Cutting, Checking};
 ghost use Rattle.mpw_run.specs.Prepared.{IsFitting, IsPrepared, applied, set_tile};
 
 use crate::laws::stitched_computes;
 use crate::phase::{Checks, Phase, Planned, RunReply};
 use crate::prepare::{Change, Prepared, next_number, next_phase, next_size};
-use crate::same::{is_same_snapshot, is_same_task};
+use crate::same::{is_same_snapshot, is_same_tile_job};
 use crate::tiles::Tiles;
 use mpw_job::{CutAnswer, CutJob, Job, TileAnswer, answers_make_the_layout};
 use std::alloc::{AllocError, Global};
@@ -170,7 +170,7 @@ impl Run {
         let Some(tile) = c.next() else {
             return Ok(self.unchanged(RunReply::NoJob));
         };
-        let job = c.task(self.number(), tile)?;
+        let job = c.tile_job(self.number(), tile)?;
         Ok(Prepared {
             reply: RunReply::Taken(Job::Tile(job)),
             change: Change::Take(tile),
@@ -219,14 +219,14 @@ impl Run {
         if tile.answer.is_some() {
             return Ok(self.unchanged(RunReply::Double));
         }
-        let task = c.task(self.number, number)?;
-        if !is_same_task(answer.job(), &task) {
+        let own = c.tile_job(self.number, number)?;
+        if !is_same_tile_job(answer.job(), &own) {
             return Ok(self.unchanged(RunReply::Stranger));
         }
         self.tile_kept(alloc, c, number, answer)
     }
 
-    /// What the markers of a tile that is not answered yet are answered, where they answer the run's own task.
+    /// What the markers of a tile that is not answered yet are answered, where they answer the run's own job.
     fn tile_kept(
         &self,
         alloc: Global,
@@ -237,7 +237,7 @@ impl Run {
         requires phase { self.now.phase ≡ Checking c.now }
         requires number { number < length c.now.tiles }
         requires unanswered { (x : TileValue) → slice_get c.now.tiles number ≡ Some x → x.answer ≡ None }
-        requires task { answer.now.job ≡ tile_task self.now.number c.now number }
+        requires job { answer.now.job ≡ job_of_tile self.now.number c.now number }
         ensures { IfOk result (λ p. IsPrepared p self.now
             (tile_checked self.now c.now answer.now (slice_get c.now.tiles answer.now.job.tile))) }
     {

@@ -1,7 +1,7 @@
-//! Whether snapshots, and tasks, are equal by value: the definitions' tests.
+//! Whether snapshots, and jobs of tiles, are equal by value: the definitions' tests.
 
 ghost use Rattle.std.specs.Prelude.{◌≡◌};
-ghost use Rattle.mpw_run.specs.Same.{same_snapshot, same_task};
+ghost use Rattle.mpw_run.specs.Same.{same_snapshot, same_tile_job};
 
 use crate::laws::tests_are_exact;
 use mpw_job::TileJob;
@@ -16,10 +16,10 @@ pub(crate) fn is_same_snapshot(a: &Snapshot, b: &Snapshot) -> bool
     a.is_same(b)
 }
 
-/// Whether the tasks have equal numbers, cores, windows and rules. It stops at the first difference,
+/// Whether the jobs have equal numbers, cores, windows and rules. It stops at the first difference,
 /// and takes no memory.
-pub(crate) fn is_same_task(a: &TileJob, b: &TileJob) -> bool
-    ensures { result ≡ same_task a.now b.now }
+pub(crate) fn is_same_tile_job(a: &TileJob, b: &TileJob) -> bool
+    ensures { result ≡ same_tile_job a.now b.now }
 {
     tests_are_exact();
     a.is_same(b)

@@ -10,10 +10,10 @@ use Rattle.mpw_core.specs.declared.event.Event.{Event}
 use Rattle.mpw_core.specs.declared.event.Event.TheVariants as event
 use Rattle.mpw_core.specs.declared.event.Response.{Response}
 use Rattle.mpw_core.specs.declared.event.Response.TheVariants as response
-use Rattle.mpw_job.specs.Answers.{Task}
+use Rattle.mpw_job.specs.Answers.{TileJob}
 use Rattle.mpw_job.specs.Carried.{job_of}
 use Rattle.mpw_job.specs.Jobs.{CutWindows, FoundMarkers}
-use Rattle.mpw_job.specs.Laws.{task_of}
+use Rattle.mpw_job.specs.Laws.{tile_job_of}
 use Rattle.mpw_job.specs.declared.answer.Answer.{Answer}
 use Rattle.mpw_job.specs.declared.answer.Answer.TheVariants as answers
 use Rattle.mpw_job.specs.declared.job.CutJob.{CutJob}
@@ -125,28 +125,28 @@ take_by d planned windows number k r d' is handled (Some offer) next =
 
 tile_is : TestsAreExact → (r : run.Run) (c : Checks) (a : FoundMarkers) (x : Tile) (number k : ℕ)
     → r.phase ≡ Checking c → r.number ≡ number
-    → a.job ≡ task_of c.planned.snapshot c.planned.plan c.windows number k
+    → a.job ≡ tile_job_of c.planned.snapshot c.planned.plan c.windows number k
     → slice_get c.tiles k ≡ Some x → x.answer ≡ None
     → run.tile_answered r a ≡ run.kept r c
     (slice_set c.tiles a.job.tile (run.answered_by a.markers x))
 tile_is exact r c a x number k phase is job at none =
-    let here : a.job.tile ≡ k = ap (λ (t : Task). t.tile) job in
-    let own : a.job ≡ run.tile_task r.number c a.job.tile =
-    job ∙ ap (λ m. task_of c.planned.snapshot c.planned.plan c.windows m k) (sym is)
-    ∙ ap (λ m. task_of c.planned.snapshot c.planned.plan c.windows r.number m) (sym here) in
+    let here : a.job.tile ≡ k = ap (λ (t : TileJob). t.tile) job in
+    let own : a.job ≡ run.job_of_tile r.number c a.job.tile =
+    job ∙ ap (λ m. tile_job_of c.planned.snapshot c.planned.plan c.windows m k) (sym is)
+    ∙ ap (λ m. tile_job_of c.planned.snapshot c.planned.plan c.windows r.number m) (sym here) in
     ap (λ (b : Bool). if b then run.tile_in r a r.phase else run.left_as told.OldRun r)
-    (eq-eqb r.number a.job.run (is ∙ sym (ap (λ (t : Task). t.run) job)))
+    (eq-eqb r.number a.job.run (is ∙ sym (ap (λ (t : TileJob). t.run) job)))
     ∙ ap (λ (p : Phase). run.tile_in r a p) phase
     ∙ ap (λ (o : Option Tile). run.tile_checked r c a o) (ap (slice_get c.tiles) here ∙ at)
     ∙ ap (λ m. run.tile_compared r c a x m) none
     ∙ ap (λ (b : Bool). if b then run.kept r c
     (slice_set c.tiles a.job.tile (run.answered_by a.markers x))
-    else run.left_as told.Stranger r) ((exact.tasks _ _).1 own)
+    else run.left_as told.Stranger r) ((exact.tile_jobs _ _).1 own)
 
 tile_step : TestsAreExact → (d : KeptDesk) (planned : Planned) (windows : List (List Rectangle))
     (number k : ℕ) (a : FoundMarkers) (r : Response) (d' : KeptDesk)
     → Checks_at d planned windows number k
-    → a.job ≡ task_of planned.snapshot planned.plan windows number k
+    → a.job ≡ tile_job_of planned.snapshot planned.plan windows number k
     → IsHandled d (event.Tile a) r d'
     → (IsOver d' × (ends r ≡ true)) ⊎ (Checks_at d' planned windows number (k + 1)
     × (ends r ≡ false))
@@ -163,7 +163,7 @@ tile_step exact d planned windows number k a r d' is job handled =
     u = is.unanswered k (omega arith) is.left
 
     here : a.job.tile ≡ k
-    here = ap (λ (t : Task). t.tile) job
+    here = ap (λ (t : TileJob). t.tile) job
 
     now : List Tile
     now = slice_set is.xs a.job.tile (run.answered_by a.markers u.0)
@@ -252,7 +252,7 @@ call_tile d planned windows number k over d' is call all = by call.came call.han
 answer_tile : TestsAreExact → (d : KeptDesk) (planned : Planned) (windows : List (List Rectangle))
     (number k : ℕ) (a : FoundMarkers) (tile : Event) (over : Bool) (d' : KeptDesk)
     → Checks_at d planned windows number k
-    → a.job ≡ task_of planned.snapshot planned.plan windows number k → tile ≡ event.Tile a
+    → a.job ≡ tile_job_of planned.snapshot planned.plan windows number k → tile ≡ event.Tile a
     → (answer : HandsOver d tile over d') → IsAnswered answer.came
     → (IsOver d' × (over ≡ true)) ⊎ (Checks_at d' planned windows number (k + 1) × (over ≡ false))
 answer_tile exact d planned windows number k a tile over d' is job same answer all =
@@ -271,7 +271,7 @@ answer_tile exact d planned windows number k a tile over d' is job same answer a
 one_tile : TestsAreExact → (d : KeptDesk) (planned : Planned) (windows : List (List Rectangle))
     (number k : ℕ) (a : FoundMarkers) (tile : Event) (over : Bool) (d' : KeptDesk)
     → Checks_at d planned windows number k
-    → a.job ≡ task_of planned.snapshot planned.plan windows number k → tile ≡ event.Tile a
+    → a.job ≡ tile_job_of planned.snapshot planned.plan windows number k → tile ≡ event.Tile a
     → (one : HandsTile d tile over d') → TileAnswered d tile over d' one
     → (IsOver d' × (over ≡ true)) ⊎ (Checks_at d' planned windows number (k + 1) × (over ≡ false))
 one_tile exact d planned windows number k a tile over d' is job same (HandsTile.uncalled near call)
@@ -293,14 +293,14 @@ abbrev is_tile : Job → Bool
 is_tile (jobs.Cut job) = false
 is_tile (jobs.Tile job) = true
 
-abbrev task_in : Job → Task → Task
-task_in (jobs.Cut job) t = t
-task_in (jobs.Tile job) t = job
+abbrev job_in : Job → TileJob → TileJob
+job_in (jobs.Cut job) t = t
+job_in (jobs.Tile job) t = job
 
-tile_answer : (x : Answer) (t : Task) → job_of x ≡ jobs.Tile t
+tile_answer : (x : Answer) (t : TileJob) → job_of x ≡ jobs.Tile t
     → (a : FoundMarkers) × (event_of x ≡ event.Tile a) × (a.job ≡ t)
 tile_answer (answers.Cut c) t e = absurd (true≢false (sym (ap is_tile e)))
-tile_answer (answers.Tile a) t e = (a, refl, ap (λ j. task_in j t) e)
+tile_answer (answers.Tile a) t e = (a, refl, ap (λ j. job_in j t) e)
 
 tiles_end : TestsAreExact → (planned : Planned) (windows : List (List Rectangle)) (number m k : ℕ)
     (d : KeptDesk) (events : List Event) (xs : List Answer) (d' : KeptDesk)

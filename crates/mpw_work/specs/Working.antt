@@ -9,7 +9,7 @@ use Rattle.mpw_core.specs.declared.event.Response.{Response}
 use Rattle.mpw_core.specs.declared.event.Response.TheVariants as response
 use Rattle.mpw_job.specs.Carried.{job_of}
 use Rattle.mpw_job.specs.Jobs.{CutWindows}
-use Rattle.mpw_job.specs.Laws.{task_of}
+use Rattle.mpw_job.specs.Laws.{tile_job_of}
 use Rattle.mpw_job.specs.declared.answer.Answer.{Answer}
 use Rattle.mpw_job.specs.declared.answer.Answer.TheVariants as answers
 use Rattle.mpw_job.specs.declared.job.CutJob.{CutJob}
@@ -96,7 +96,7 @@ pub data HandsTiles : KeptDesk → List Event → KeptDesk → Type 0 where
 
 -- The jobs of the tiles of a cut, in order.
 abbrev pub job_at : Snapshot → Tiling → List (List Rectangle) → (run tile : ℕ) → Job
-job_at snapshot plan windows run tile = jobs.Tile (task_of snapshot plan windows run tile)
+job_at snapshot plan windows run tile = jobs.Tile (tile_job_of snapshot plan windows run tile)
 
 abbrev pub jobs_by : CutWindows → Option Tiling → List Job
 jobs_by a None = []

@@ -17,8 +17,8 @@ pub fn tile_job(
     window: &TileJob,
     rules: &TileJob,
 ) -> Result<Job, AllocError> {
-    core.is_task();
-    rules.is_task();
+    core.is_tile_job();
+    rules.is_tile_job();
     let window = window.window().copy()?;
     let rules = rules.rules().copy()?;
     Ok(Job::Tile(TileJob::new(run, tile, core.core(), window, rules)))

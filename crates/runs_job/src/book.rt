@@ -53,7 +53,7 @@ fn windows(alloc: Global, plan: &Plan, rectangles: &[Rectangle]) -> Result<Windo
 
 fn job(tile: u32, core: Box2, window: Window, rules: Rules) -> Result<Job> {
     if !is_near(&core) || rules.as_slice().len() > 256 {
-        bail!("a task");
+        bail!("the job of a tile");
     }
     Ok(Job::Tile(TileJob::new(1, tile, core, window, rules)))
 }

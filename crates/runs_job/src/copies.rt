@@ -29,7 +29,7 @@ fn tile_job(alloc: Global) -> Result<Job> {
     };
     let rules = deck.rules().copy()?;
     if rules.as_slice().len() > 256 {
-        bail!("rules of a task");
+        bail!("the rules of a job");
     }
     Ok(Job::Tile(TileJob::new(3, 0, core, window, rules)))
 }

@@ -2,7 +2,7 @@
 use Rattle.std.specs.Prelude.{◌≡◌, ℕ, ◌-◌, List, [], map, length, Some}
 use Rattle.std.specs.List.{range_with_len}
 use Rattle.mpw_job.specs.Answers.{Answers}
-use Rattle.mpw_job.specs.Laws.{task_of}
+use Rattle.mpw_job.specs.Laws.{tile_job_of}
 use Rattle.mpw_job.specs.declared.answer.Answer.{Answer}
 use Rattle.mpw_job.specs.declared.answer.Answer.TheVariants as answers
 use Rattle.mpw_job.specs.declared.job.Job.{Job}
@@ -24,7 +24,7 @@ pub record IsCut (snapshot : Snapshot) (plan : Tiling) (windows : List (List Rec
 
 -- The job of a tile, and those of the tiles from `first` to below `end`, in order.
 abbrev pub job_at : Snapshot → Tiling → List (List Rectangle) → ℕ → Job
-job_at snapshot plan windows tile = jobs.Tile (task_of snapshot plan windows only_run tile)
+job_at snapshot plan windows tile = jobs.Tile (tile_job_of snapshot plan windows only_run tile)
 
 abbrev pub jobs_of : Snapshot → Tiling → List (List Rectangle) → (first end : ℕ) → List Job
 jobs_of snapshot plan windows first end =

@@ -14,7 +14,7 @@ use Rattle.mpw_markers.specs.Markers.{key_of, box_on}
 use Rattle.mpw_markers.specs.Met.{IsAscending}
 use Rattle.mpw_markers.specs.Whole.{IsMet}
 use Rattle.mpw_job.specs.Layers.{Coverage}
-use Rattle.mpw_job.specs.Answers.{Task, HasListed, listed_on, IsFoundIn, key_at, TellsMet}
+use Rattle.mpw_job.specs.Answers.{TileJob, HasListed, listed_on, IsFoundIn, key_at, TellsMet}
 
 -- The run of a key, and its closed box.
 abbrev pub run_at : Key → Piece
@@ -35,10 +35,10 @@ pub record AddsRule (core : Box2) (on : Coverage) (place : ℕ) (rule : Rule) (o
   pub is : new ≡ old ++ map (key_at place) runs
 
 -- A maximal run of the rule at the key's place.
-pub record IsKey (task : Task) (k : Key) : Type 0 where
+pub record IsKey (job : TileJob) (k : Key) : Type 0 where
   pub rule : Rule
-  pub at : slice_get task.rules k.rule ≡ Some rule
-  pub run : IsFoundIn task.core (listed_on task.window) rule (run_at k)
+  pub at : slice_get job.rules k.rule ≡ Some rule
+  pub run : IsFoundIn job.core (listed_on job.window) rule (run_at k)
 
 -- Keys by the rule's place, then as their runs.
 abbrev pub key_cmp : Key → Key → Ordering
@@ -48,15 +48,15 @@ abbrev pub IsKeyBefore : Key → Key → Type 0
 IsKeyBefore k l = key_cmp k l ≡ Less
 
 -- The keys are those of the first n rules' maximal runs within the core, in order.
-pub record AreFirstKeys (task : Task) (n : ℕ) (keys : List Key) : Type 0 where
-  pub sound : (k : Key) → Contains keys k → (k.rule < n) × IsKey task k
+pub record AreFirstKeys (job : TileJob) (n : ℕ) (keys : List Key) : Type 0 where
+  pub sound : (k : Key) → Contains keys k → (k.rule < n) × IsKey job k
   pub complete : (place : ℕ) (rule : Rule) (p : Piece) → place < n
-      → slice_get task.rules place ≡ Some rule
-      → IsFoundIn task.core (listed_on task.window) rule p → Contains keys (key_at place p)
+      → slice_get job.rules place ≡ Some rule
+      → IsFoundIn job.core (listed_on job.window) rule p → Contains keys (key_at place p)
   pub ordered : AllPairs IsKeyBefore keys
 
-abbrev pub AreKeys : Task → List Key → Type 0
-AreKeys task keys = AreFirstKeys task (length task.rules) keys
+abbrev pub AreKeys : TileJob → List Key → Type 0
+AreKeys job keys = AreFirstKeys job (length job.rules) keys
 
 -- For each key the origins that its closed box meets.
 pub record TellMet (listed : List Rectangle) (keys : List Key) (mets : List (List ℕ)) : Type 0 where

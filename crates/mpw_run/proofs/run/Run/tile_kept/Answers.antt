@@ -9,7 +9,7 @@ pub returns-then-done-total : goal.returns-then-done-total
 returns-then-done-total c =
     let free = open_tile c.args.self.now c.args.c.now c.args.answer.now c.args.number
     c.requires.phase c.is_counted.ensures c.is_run.ensures c.requires.number c.requires.unanswered
-    c.requires.task c.is_answer.ensures in
+    c.requires.job c.is_answer.ensures in
     keep_is c.args.self.now c.args.c.now c.args.answer.now c.args.number c.in_ok-copy.field-0 free
     (c.in_ok-copy.ensures ∙ c.markers-markers.ensures)
     (let t = c.if-done-total.true in omega (arith, t, c.done.ensures, c.total.ensures))
@@ -18,7 +18,7 @@ pub book_with-requires-clause-filled : goal.book_with-requires-clause-filled
 book_with-requires-clause-filled c =
     let free = open_tile c.args.self.now c.args.c.now c.args.answer.now c.args.number
     c.requires.phase c.is_counted.ensures c.is_run.ensures c.requires.number c.requires.unanswered
-    c.requires.task c.is_answer.ensures in
+    c.requires.job c.is_answer.ensures in
     let filled = filled_is c.args.self.now c.args.c.now c.args.answer.now c.args.number free
     (let t = c.if-done-total.false in omega (arith, t, c.done.ensures, c.total.ensures)) in
     subst (λ (m : List Marker). AreFilled (answers_with m c.args.number c.args.c.now.tiles))
@@ -28,7 +28,7 @@ pub returns : goal.returns
 returns c =
     let free = open_tile c.args.self.now c.args.c.now c.args.answer.now c.args.number
     c.requires.phase c.is_counted.ensures c.is_run.ensures c.requires.number c.requires.unanswered
-    c.requires.task c.is_answer.ensures in
+    c.requires.job c.is_answer.ensures in
     finish_is c.answers_make_the_layout.ensures c.stitched_computes.ensures c.args.self.now
     c.args.c.now c.args.answer.now c.args.number c.in_ok-book.book free
     (let t = c.if-done-total.false in omega (arith, t, c.done.ensures, c.total.ensures))

@@ -1,8 +1,0 @@
-use Rattle.std.proofs.lemmas.Bool.Decides.{same_from_decides}
-use Rattle.mpw_run.specs.Same.{same_task}
-use Rattle.mpw_run.proofs.same.is_same_task.Goals as goal
-
-pub returns : goal.returns
-returns c =
-    same_from_decides c.is_same.result (same_task c.args.a.now c.args.b.now) c.is_same.ensures
-    (c.tests_are_exact.ensures.tasks c.args.a.now c.args.b.now)
