@@ -86,50 +86,6 @@ first_of unit first all read make D x sound derives e =
       told = derives h.records a.0.0 h.told;
     })
 
-boundary_first : (unit : ℕ) (first : RawRecord) (all : List RecordOutcome)
-    (x : Option Element × List RecordOutcome) → first.kind ≡ BOUNDARY
-    → (boundary first.offset unit DATATYPE all >>= λ b. done (Some (elements.Boundary b.0), b.1))
-    ≡ Ok x → Begins all x.1 (λ rs. DerivesElement unit (first ∷ rs) x.0)
-boundary_first unit first all x is e =
-    first_of unit first all (boundary first.offset unit DATATYPE all)
-    (λ b. Some (elements.Boundary b)) (DerivesBoundary unit DATATYPE) x
-    (boundary_sound first.offset unit DATATYPE all) (λ rs b d. DerivesElement.boundary is d) e
-
-box_first : (unit : ℕ) (first : RawRecord) (all : List RecordOutcome)
-    (x : Option Element × List RecordOutcome) → first.kind ≡ BOX
-    → (boundary first.offset unit BOXTYPE all >>= λ b. done (Some (elements.Boundary b.0), b.1))
-    ≡ Ok x → Begins all x.1 (λ rs. DerivesElement unit (first ∷ rs) x.0)
-box_first unit first all x is e =
-    first_of unit first all (boundary first.offset unit BOXTYPE all)
-    (λ b. Some (elements.Boundary b)) (DerivesBoundary unit BOXTYPE) x
-    (boundary_sound first.offset unit BOXTYPE all) (λ rs b d. DerivesElement.box is d) e
-
-path_first : (unit : ℕ) (first : RawRecord) (all : List RecordOutcome)
-    (x : Option Element × List RecordOutcome) → first.kind ≡ PATH
-    → (path first.offset unit all >>= λ p. done (Some (elements.Path p.0), p.1)) ≡ Ok x
-    → Begins all x.1 (λ rs. DerivesElement unit (first ∷ rs) x.0)
-path_first unit first all x is e =
-    first_of unit first all (path first.offset unit all) (λ p. Some (elements.Path p))
-    (DerivesPath unit) x (path_sound first.offset unit all) (λ rs p d. DerivesElement.path is d) e
-
-single_first : (unit : ℕ) (first : RawRecord) (all : List RecordOutcome)
-    (x : Option Element × List RecordOutcome) → first.kind ≡ SREF
-    → (single first.offset unit all >>= λ r. done (Some (elements.Reference r.0), r.1)) ≡ Ok x
-    → Begins all x.1 (λ rs. DerivesElement unit (first ∷ rs) x.0)
-single_first unit first all x is e =
-    first_of unit first all (single first.offset unit all) (λ r. Some (elements.Reference r))
-    (DerivesSingle unit) x (single_sound first.offset unit all)
-    (λ rs r d. DerivesElement.single is d) e
-
-array_first : (unit : ℕ) (first : RawRecord) (all : List RecordOutcome)
-    (x : Option Element × List RecordOutcome) → first.kind ≡ AREF
-    → (array first.offset unit all >>= λ r. done (Some (elements.Reference r.0), r.1)) ≡ Ok x
-    → Begins all x.1 (λ rs. DerivesElement unit (first ∷ rs) x.0)
-array_first unit first all x is e =
-    first_of unit first all (array first.offset unit all) (λ r. Some (elements.Reference r))
-    (DerivesArray unit) x (array_sound first.offset unit all)
-    (λ rs r d. DerivesElement.array is d) e
-
 either : (a b : Bool) → (a || b) ≡ true → (a ≡ true) ⊎ (b ≡ true)
 either true b e = inl refl
 either false b e = inr e
@@ -164,15 +120,30 @@ pub element_sound : (unit : ℕ) (first : RawRecord) (all : List RecordOutcome)
 unfolding element
 element_sound unit first all x e =
     elim (chosen (eqb first.kind BOUNDARY) _ _ (Ok x) e) [
-      | inl p ↦ boundary_first unit first all x (eqb-true _ _ p.0) p.1
+      | inl p ↦ first_of unit first all (boundary first.offset unit DATATYPE all)
+          (λ b. Some (elements.Boundary b)) (DerivesBoundary unit DATATYPE) x
+          (boundary_sound first.offset unit DATATYPE all)
+          (λ rs b d. DerivesElement.boundary (eqb-true _ _ p.0) d) p.1
       | inr p ↦ elim (chosen (eqb first.kind BOX) _ _ (Ok x) p.1) [
-        | inl q ↦ box_first unit first all x (eqb-true _ _ q.0) q.1
+        | inl q ↦ first_of unit first all (boundary first.offset unit BOXTYPE all)
+            (λ b. Some (elements.Boundary b)) (DerivesBoundary unit BOXTYPE) x
+            (boundary_sound first.offset unit BOXTYPE all)
+            (λ rs b d. DerivesElement.box (eqb-true _ _ q.0) d) q.1
         | inr q ↦ elim (chosen (eqb first.kind PATH) _ _ (Ok x) q.1) [
-          | inl r ↦ path_first unit first all x (eqb-true _ _ r.0) r.1
+          | inl r ↦ first_of unit first all (path first.offset unit all)
+              (λ p. Some (elements.Path p)) (DerivesPath unit) x
+              (path_sound first.offset unit all)
+              (λ rs p d. DerivesElement.path (eqb-true _ _ r.0) d) r.1
           | inr r ↦ elim (chosen (eqb first.kind SREF) _ _ (Ok x) r.1) [
-            | inl s ↦ single_first unit first all x (eqb-true _ _ s.0) s.1
+            | inl s ↦ first_of unit first all (single first.offset unit all)
+                (λ r. Some (elements.Reference r)) (DerivesSingle unit) x
+                (single_sound first.offset unit all)
+                (λ rs r d. DerivesElement.single (eqb-true _ _ s.0) d) s.1
             | inr s ↦ elim (chosen (eqb first.kind AREF) _ _ (Ok x) s.1) [
-              | inl t ↦ array_first unit first all x (eqb-true _ _ t.0) t.1
+              | inl t ↦ first_of unit first all (array first.offset unit all)
+                  (λ r. Some (elements.Reference r)) (DerivesArray unit) x
+                  (array_sound first.offset unit all)
+                  (λ rs r d. DerivesElement.array (eqb-true _ _ t.0) d) t.1
               | inr t ↦ elim (chosen (eqb first.kind TEXT || eqb first.kind NODE) _ _ (Ok x) t.1) [
                 | inl u ↦ text_first unit first all x u.0 u.1
                 | inr u ↦ absurd (let h = u.1 in cc)

@@ -106,15 +106,21 @@ single_end start unit name orient next rs = do
     last.1,
   )
 
+-- a reference whose rest is read so, behind its name and its orientation, is derived
+abbrev IsEndSound : ℕ → (List ℕ → Orient → RawRecord → List RecordOutcome → Reading Reference)
+    → (List RawRecord → Reference → Type 0) → Type 0
+IsEndSound start end D =
+    (o1 o2 o3 : List RecordOutcome) (sname : RawRecord) (name : List ℕ) (orient : Orient)
+    (next : RawRecord) (rs : List RecordOutcome) (x : Reference × List RecordOutcome)
+    → Begins o1 o2 (λ rs. IsField SNAME rs sname) → name_of sname ≡ Ok name
+    → Begins o2 o3 (λ rs. DerivesOrient rs orient) → field start o3 ≡ Ok (next, rs)
+    → end name orient next rs ≡ Ok x → Begins o1 x.1 (λ rs. D rs x.0)
+
 -- what stands before the rest of a reference is read alike for one instance and for an array
 reference_sound : (start : ℕ)
     (end : List ℕ → Orient → RawRecord → List RecordOutcome → Reading Reference)
     (D : List RawRecord → Reference → Type 0)
-    → ((o1 o2 o3 : List RecordOutcome) (sname : RawRecord) (name : List ℕ) (orient : Orient)
-    (next : RawRecord) (rs : List RecordOutcome) (x : Reference × List RecordOutcome)
-    → Begins o1 o2 (λ rs. IsField SNAME rs sname) → name_of sname ≡ Ok name
-    → Begins o2 o3 (λ rs. DerivesOrient rs orient) → field start o3 ≡ Ok (next, rs)
-    → end name orient next rs ≡ Ok x → Begins o1 x.1 (λ rs. D rs x.0))
+    → IsEndSound start end D
     → (all : List RecordOutcome) (x : Reference × List RecordOutcome)
     → (expected start SNAME all >>= λ sname. name_of sname.0 >>= λ name. field start sname.1
     >>= λ next. orientation start next.0 next.1 >>= λ orient. end name orient.0.0 orient.0.1
@@ -135,14 +141,8 @@ reference_sound start end D sound all x e =
     sound all a.0.1 lo.rest a.0.0 v.0 o.0.0.0 o.0.0.1 o.0.1 x
     (expected_sound start SNAME all a.0 a.1) v.1 lo.begins lo.ahead o.2
 
-single_end_sound : (start unit : ℕ) (o1 o2 o3 : List RecordOutcome) (sname : RawRecord)
-    (name : List ℕ) (orient : Orient) (next : RawRecord) (rs : List RecordOutcome)
-    (x : Reference × List RecordOutcome)
-    → Begins o1 o2 (λ rs. IsField SNAME rs sname) → name_of sname ≡ Ok name
-    → Begins o2 o3 (λ rs. DerivesOrient rs orient)
-    → field start o3 ≡ Ok (next, rs)
-    → single_end start unit name orient next rs ≡ Ok x
-    → Begins o1 x.1 (λ rs. DerivesSingle unit rs x.0)
+single_end_sound : (start unit : ℕ)
+    → IsEndSound start (single_end start unit) (DerivesSingle unit)
 single_end_sound start unit o1 o2 o3 sname name orient next rs x a is o n e =
     let c = bind_ok (demanded XY next) _ x e in
     let v = bind_ok (origin_of unit c.0) _ x c.2 in
@@ -217,14 +217,8 @@ array_end start unit name orient next rs = do
     last.1,
   )
 
-array_end_sound : (start unit : ℕ) (o1 o2 o3 : List RecordOutcome) (sname : RawRecord)
-    (name : List ℕ) (orient : Orient) (next : RawRecord) (rs : List RecordOutcome)
-    (x : Reference × List RecordOutcome)
-    → Begins o1 o2 (λ rs. IsField SNAME rs sname) → name_of sname ≡ Ok name
-    → Begins o2 o3 (λ rs. DerivesOrient rs orient)
-    → field start o3 ≡ Ok (next, rs)
-    → array_end start unit name orient next rs ≡ Ok x
-    → Begins o1 x.1 (λ rs. DerivesArray unit rs x.0)
+array_end_sound : (start unit : ℕ)
+    → IsEndSound start (array_end start unit) (DerivesArray unit)
 array_end_sound start unit o1 o2 o3 sname name orient next rs x a is o n e =
     let c = bind_ok (demanded COLROW next) _ x e in
     let k = bind_ok (counts_of c.0) _ x c.2 in

@@ -1,23 +1,12 @@
 -- Reading the next record of an element, one record at a time.
-use Rattle.std.proofs.Common.{◌≡◌, ℕ, true, false, List, [], ◌∷◌, Ok, Err, refl}
+use Rattle.std.proofs.Common.{◌≡◌, ℕ, true, false, List, ◌∷◌, Ok, Err, refl}
 use Rattle.mpw_records.specs.declared.fault.Code.TheVariants.{Unexpected}
-use Rattle.mpw_records.specs.declared.fault.ReadFault.{ReadFault}
 use Rattle.mpw_records.specs.Records.{RawRecord, RecordOutcome}
 use Rattle.std.proofs.Common.{eqb, inl, inr}
 use Rattle.std.proofs.lemmas.Bool.Decides.{eqb_tells}
 use Rattle.mpw_records.specs.declared.kind.TheConstants.{ENDEL, ENDLIB}
 use Rattle.mpw_elements.specs.Reading.{is_skipped, field, fault_at}
 use Rattle.mpw_elements.specs.Grammar.{ignored}
-
-pub field_end : (start : ℕ) (rs : List RecordOutcome) → rs ≡ []
-    → field start rs ≡ Err (record { code = Unexpected; offset = start })
-unfolding field
-field_end start rs e = rw e refl
-
-pub field_err : (start : ℕ) (rs rest : List RecordOutcome) (f : ReadFault) → rs ≡ Err f ∷ rest
-    → field start rs ≡ Err f
-unfolding field
-field_err start rs rest f e = rw e refl
 
 pub field_skip : (start : ℕ) (rs rest : List RecordOutcome) (r : RawRecord) → rs ≡ Ok r ∷ rest
     → is_skipped r.kind ≡ true → field start rs ≡ field start rest
@@ -30,16 +19,6 @@ unfolding field
 field_ok start rs rest r e skip = rw (e, skip) refl
 
 -- ---- the same for what is ignored
-
-pub ignored_end : (start : ℕ) (rs : List RecordOutcome) → rs ≡ []
-    → ignored start rs ≡ Err (record { code = Unexpected; offset = start })
-unfolding ignored
-ignored_end start rs e = rw e refl
-
-pub ignored_err : (start : ℕ) (rs rest : List RecordOutcome) (f : ReadFault) → rs ≡ Err f ∷ rest
-    → ignored start rs ≡ Err f
-unfolding ignored
-ignored_err start rs rest f e = rw e refl
 
 pub ignored_done : (start : ℕ) (rs rest : List RecordOutcome) (r : RawRecord) → rs ≡ Ok r ∷ rest
     → r.kind ≡ ENDEL → ignored start rs ≡ Ok (tt, rest)

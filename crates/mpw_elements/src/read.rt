@@ -11,7 +11,7 @@ use crate::element::Element;
 use crate::fault::ReadError;
 use crate::path::read_path;
 use crate::reading::fault_of;
-use crate::reference::{read_array, read_single};
+use crate::reference::read_reference;
 use mpw_records::{Code, ReadFault, Record, Records, kind};
 use std::alloc::Global;
 
@@ -60,11 +60,11 @@ fn one_element(
         }
         kind::PATH => Ok(Some(Element::Path(read_path(alloc, records, start, unit)?))),
         kind::SREF => {
-            let reference = read_single(alloc, records, start, unit)?;
+            let reference = read_reference(alloc, records, start, unit, false)?;
             Ok(Some(Element::Reference(reference)))
         }
         kind::AREF => {
-            let reference = read_array(alloc, records, start, unit)?;
+            let reference = read_reference(alloc, records, start, unit, true)?;
             Ok(Some(Element::Reference(reference)))
         }
         kind::TEXT | kind::NODE => {

@@ -1,6 +1,6 @@
 //! SREF and AREF.
 
-ghost use Rattle.std.specs.Prelude.{◌≤◌, length, IfOk};
+ghost use Rattle.std.specs.Prelude.{◌≡◌, ◌≤◌, false, length, true, IfOk};
 ghost use Rattle.mpw_records.specs.declared.kind.TheConstants.{MAG, ANGLE};
 ghost use Rattle.mpw_records.specs.Records.{raw, IsSized};
 ghost use Rattle.mpw_elements.specs.Element.{IsReference};
@@ -78,22 +78,39 @@ fn orientation<'a>(
     Ok((orient(mirrored, turns), found))
 }
 
-/// The reference whose SREF was read, which begins at `start`.
-#[tactic(auto, unfolding(crate::specs::Grammar::single))]
-pub fn read_single(
+/// The reference whose SREF or AREF was read, which begins at `start`.
+#[tactic(auto, unfolding(crate::specs::Grammar::single, crate::specs::Grammar::array, mpw_records::specs::Format::least_size))]
+pub fn read_reference(
     alloc: Global,
     records: &mut Records<'_>,
     start: usize,
     unit: u16,
+    is_array: bool,
 ) -> Result<Reference, ReadError>
     requires { unit ≤ 1000 }
-    ensures reference { GivesReading (λ r. r) result records.new (single start unit records.old) }
+    ensures single { is_array ≡ false → GivesReading (λ r. r) result records.new (single start unit records.old) }
+    ensures array { is_array ≡ true → GivesReading (λ r. r) result records.new (array start unit records.old) }
     ensures shape { IfOk result IsReference }
     ensures rest { length records.new ≤ length records.old }
 {
     let name = read_name(alloc, expect(records, start, kind::SNAME)?)?;
     let found = next_field(records, start)?;
     let (orient, found) = orientation(records, start, found)?;
+    if is_array {
+        let (columns, rows) = counts(demand(found, kind::COLROW)?)?;
+        let xy = expect(records, start, kind::XY)?;
+        let grid = read_grid(unit, columns, rows, xy)?;
+        expect(records, start, kind::ENDEL)?;
+        return Ok(Reference {
+            name,
+            orient,
+            origin: grid.origin,
+            columns,
+            rows,
+            column_step: grid.column_step,
+            row_step: grid.row_step,
+        });
+    }
     let origin = place(unit, demand(found, kind::XY)?)?;
     expect(records, start, kind::ENDEL)?;
     Ok(Reference {
@@ -104,36 +121,5 @@ pub fn read_single(
         rows: 1,
         column_step: Point { x: 0, y: 0 },
         row_step: Point { x: 0, y: 0 },
-    })
-}
-
-/// The reference whose AREF was read, which begins at `start`.
-#[tactic(auto, unfolding(crate::specs::Grammar::array, mpw_records::specs::Format::least_size))]
-pub fn read_array(
-    alloc: Global,
-    records: &mut Records<'_>,
-    start: usize,
-    unit: u16,
-) -> Result<Reference, ReadError>
-    requires { unit ≤ 1000 }
-    ensures reference { GivesReading (λ r. r) result records.new (array start unit records.old) }
-    ensures shape { IfOk result IsReference }
-    ensures rest { length records.new ≤ length records.old }
-{
-    let name = read_name(alloc, expect(records, start, kind::SNAME)?)?;
-    let found = next_field(records, start)?;
-    let (orient, found) = orientation(records, start, found)?;
-    let (columns, rows) = counts(demand(found, kind::COLROW)?)?;
-    let xy = expect(records, start, kind::XY)?;
-    let grid = read_grid(unit, columns, rows, xy)?;
-    expect(records, start, kind::ENDEL)?;
-    Ok(Reference {
-        name,
-        orient,
-        origin: grid.origin,
-        columns,
-        rows,
-        column_step: grid.column_step,
-        row_step: grid.row_step,
     })
 }

@@ -1,8 +1,8 @@
 -- Closed boxes share a point.
-use Rattle.std.proofs.Common.{◌≡◌, true, arith, IsTrue}
+use Rattle.std.proofs.Common.{◌≡◌, true, ℤ, w64, to_z, of_z, SFits, arith, IsTrue, refl}
 use Rattle.std.specs.Prelude.{int_le}
 use Rattle.std.specs.Int.{int_min, int_max}
-use Rattle.std.proofs.lemmas.Int.{ints, clamps}
+use Rattle.std.proofs.lemmas.Int.{ints, clamps, to_z-of_z}
 use Rattle.mpw_geom.specs.declared.plane.Box2.{Box2}
 use Rattle.mpw_geom.specs.declared.plane.Point.{Point}
 use Rattle.mpw_geom.specs.Plane.{has_point}
@@ -41,3 +41,22 @@ spans_from_point b c h =
       test_from_le (int_max b.x0 c.x0) (int_min b.x1 c.x1) (omega (arith, ints, clamps)),
       test_from_le (int_max b.y0 c.y0) (int_min b.y1 c.y1) (omega (arith, ints, clamps)),
     )
+
+-- two spans meet where the greater of their lower ends isn't past the lesser of their upper ends, as the code reckons it
+pub spans_meet : (a b c d low high : ℤ) → SFits w64 a → SFits w64 b → SFits w64 c → SFits w64 d
+    → SFits w64 low → SFits w64 high
+    → low ≡ int_max (to_z w64 (of_z w64 a)) (to_z w64 (of_z w64 b))
+    → high ≡ int_min (to_z w64 (of_z w64 c)) (to_z w64 (of_z w64 d))
+    → int_le (to_z w64 (of_z w64 low)) (to_z w64 (of_z w64 high))
+    ≡ int_le (int_max a b) (int_min c d)
+spans_meet a b c d low high f g h k l m least most =
+    rw (
+      to_z-of_z w64 low l,
+      to_z-of_z w64 high m,
+      least,
+      most,
+      to_z-of_z w64 a f,
+      to_z-of_z w64 b g,
+      to_z-of_z w64 c h,
+      to_z-of_z w64 d k,
+    ) refl

@@ -66,18 +66,18 @@ impl Orient {
     {
         match next {
             Orient::R0 => self,
-            Orient::R90 => self.turned(),
-            Orient::R180 => self.turned().turned(),
-            Orient::R270 => self.turned().turned().turned(),
-            Orient::M0 => self.mirrored(),
-            Orient::M90 => self.mirrored().turned(),
-            Orient::M180 => self.mirrored().turned().turned(),
-            Orient::M270 => self.mirrored().turned().turned().turned(),
+            Orient::R90 => self.turn(),
+            Orient::R180 => self.turn().turn(),
+            Orient::R270 => self.turn().turn().turn(),
+            Orient::M0 => self.mirror(),
+            Orient::M90 => self.mirror().turn(),
+            Orient::M180 => self.mirror().turn().turn(),
+            Orient::M270 => self.mirror().turn().turn().turn(),
         }
     }
 
     #[tactic(auto, using(crate::proofs::Turns::negations), unfolding(crate::specs::Placing::oriented_point, crate::specs::Placing::oriented_square))]
-    fn turned(self) -> Orient
+    fn turn(self) -> Orient
         ensures points { (p : Point) → oriented_point result p ≡ turned_point (oriented_point self p) }
         ensures squares { (s : Square) → oriented_square result s ≡ turned_square (oriented_square self s) }
     {
@@ -94,7 +94,7 @@ impl Orient {
     }
 
     #[tactic(auto, using(crate::proofs::Turns::negations), unfolding(crate::specs::Placing::oriented_point, crate::specs::Placing::oriented_square))]
-    fn mirrored(self) -> Orient
+    fn mirror(self) -> Orient
         ensures points { (p : Point) → oriented_point result p ≡ mirrored_point (oriented_point self p) }
         ensures squares { (s : Square) → oriented_square result s ≡ mirrored_square (oriented_square self s) }
     {

@@ -30,5 +30,4 @@ pub mod Pushing
 pub mod Origins
 pub mod Stays
 pub mod Holding
-pub mod Outlining
 pub mod Named

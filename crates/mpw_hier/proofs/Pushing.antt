@@ -1,9 +1,9 @@
 -- What the nodes of a submission tell of its limits.
-use Rattle.std.proofs.Common.{◌≡◌, ℕ, ◌-◌, ◌<◌, ◌≤◌, ◌^◌, true, false, List, length, get_or, Some, Result, Ok, Err, Vec, Global, vec_len, refl, sym, ap, subst, ◌∙◌, arith}
+use Rattle.std.proofs.Common.{◌≡◌, ℕ, ◌-◌, ◌<◌, ◌≤◌, ◌^◌, true, false, List, length, get_or, Some, Result, Ok, Err, refl, sym, ap, subst, ◌∙◌, arith}
 use Rattle.std.specs.Prelude.{slice_get, nat_lt, IfSome}
 use Rattle.std.specs.Result.{IfErr, IsErrAnd}
 use Rattle.std.proofs.lemmas.Bool.{lt-ltb, le-ltb, ltb-false}
-use Rattle.std.proofs.lemmas.Option.{slice_get_read}
+use Rattle.std.proofs.lemmas.Option.{slice_get-get_or}
 use Rattle.mpw_library.specs.Library.{IsLibrary}
 use Rattle.mpw_library.specs.Places.{place_of}
 use Rattle.mpw_hier.specs.declared.fault.HierFault.{HierFault}
@@ -13,7 +13,7 @@ use Rattle.mpw_hier.specs.declared.size.Size.{Size}
 use Rattle.mpw_hier.specs.declared.submission.Submission.{Submission}
 use Rattle.mpw_hier.specs.Boxes.{extent_of, is_box_near}
 use Rattle.mpw_hier.specs.Internal.Building.{IsHierarchy}
-use Rattle.mpw_hier.specs.Limits.{IsFar, IsBound, IsRefused, KeepsLimits, is_too_large, is_too_deep, has_room_for}
+use Rattle.mpw_hier.specs.Limits.{IsFar, IsRefused, KeepsLimits, is_too_large, is_too_deep, has_room_for}
 use Rattle.mpw_hier.specs.Internal.Limits.{IsOfNodes}
 use Rattle.mpw_hier.specs.Nodes.{AreNodesOf, structure_levels}
 use Rattle.mpw_hier.specs.Sizes.{IsSizeOf}
@@ -21,31 +21,10 @@ use Rattle.mpw_hier.specs.Values.{structure_items, flat_of, flats, height_of, he
 use Rattle.mpw_hier.proofs.Told.{told_limit}
 use Rattle.mpw_hier.proofs.Tops.{same_place}
 
--- the version says nothing of how far a submission reaches
-pub far_of : (ss : List Submission) (s : Submission) (version : ℕ) → IsFar ss s
-    → IsFar ss (record s { version = version })
-far_of ss s version h = record {
-  structure = h.structure;
-  place = h.place;
-  inside = h.inside;
-  below = h.below;
-  box = h.box;
-  extent = h.extent;
-  far = h.far;
-}
-
-pub far_as : (ss : List Submission) (s : Submission) (version : ℕ)
-    → IsFar ss (record s { version = version }) → IsFar ss s
-far_as ss s version h = far_of ss (record s { version = version }) s.version h
-
-pub bound_as : (ss : List Submission) (s : Submission) (version : ℕ) → IsBound ss s
-    → IsBound ss (record s { version = version })
-bound_as ss s version b = record { names = b.names; externals = b.externals; bound = b.bound }
-
 module _ (ss : List Submission) (s : Submission) (nodes : List Node)
     (w : IsHierarchy ss s nodes) where
   -- the size of the last node is that of the submission
-  pub last_size : (top : Node) → slice_get nodes (length nodes - 1) ≡ Some top
+  last_size : (top : Node) → slice_get nodes (length nodes - 1) ≡ Some top
       → IsSizeOf (flat_of (flats ss) s) (height_of (heights ss) s) top.size
   last_size top is =
       let both : Some w.top ≡ Some top = sym w.last ∙ is in
@@ -56,14 +35,6 @@ module _ (ss : List Submission) (s : Submission) (nodes : List Node)
       subst (λ name. IsSizeOf (structure_items (flats ss) s name)
       (structure_levels (heights ss) s name) top.size)
       (same_place s.library here.structure.name s.top top.structure here.named named) here.size
-
-  pub read_size : (n : ℕ) (top : Node) → n ≡ length nodes → top ≡ get_or nodes (n - 1) top
-      → IsSizeOf (flat_of (flats ss) s) (height_of (heights ss) s) top.size
-  read_size n top e at =
-      let last : n - 1 ≡ length nodes - 1 = omega (arith, e) in
-      let within : length nodes - 1 < length nodes = omega (arith, w.some) in
-      last_size top (slice_get_read nodes (length nodes) (length nodes - 1) top refl within
-      (subst (λ k. top ≡ get_or nodes k top) last at))
 
   pub not_far : IsFar ss s → ⊥
   not_far h =
@@ -102,16 +73,16 @@ pub record IsMeasured (ss : List Submission) (s : Submission) (size : Size) : Ty
   pub shapes : is_too_large ss s ≡ nat_lt (2 ^ 20) size.count
   pub levels : is_too_deep ss s ≡ nat_lt 64 size.height
 
-pub measured : (ss : List Submission) (s : Submission) {version n : ℕ} {top : Node}
-    (nodes : Vec Node Global) → IsHierarchy ss (record s { version = version }) nodes.items
-    → n ≡ vec_len nodes → top ≡ get_or nodes.items (n - 1) top → IsMeasured ss s top.size
-measured ss s {version = version} {n = n} {top = top} nodes w e at =
-    let t : Submission = record s { version = version } in
-    let told =
-    read_size ss t nodes.items w n top (omega (arith, e, nodes.ok.0)) at in record {
-      near = λ far. not_far ss t nodes.items w (far_of ss s version far);
-      shapes = told_limit (2 ^ 20) top.size.count (length (flat_of (flats ss) t)) told.count;
-      levels = told_limit 64 top.size.height (height_of (heights ss) t) told.height;
+pub measured : (ss : List Submission) (s : Submission) (nodes : List Node) (other : Node)
+    → IsHierarchy ss s nodes → IsMeasured ss s (get_or nodes (length nodes - 1) other).size
+measured ss s nodes other w =
+    let top = get_or nodes (length nodes - 1) other in
+    let within : length nodes - 1 < length nodes = omega (arith, w.some) in
+    let last = slice_get-get_or nodes (length nodes - 1) other within in
+    let told = last_size ss s nodes w top last in record {
+      near = not_far ss s nodes w;
+      shapes = told_limit (2 ^ 20) top.size.count (length (flat_of (flats ss) s)) told.count;
+      levels = told_limit 64 top.size.height (height_of (heights ss) s) told.height;
     }
 
 module _ {ss : List Submission} {s : Submission} {size : Size} (m : IsMeasured ss s size) where
@@ -131,28 +102,56 @@ module _ {ss : List Submission} {s : Submission} {size : Size} (m : IsMeasured s
       → KeepsLimits ss s
   kept few flat room = record { near = m.near; small = small few; low = low flat; room = room }
 
-pub kept_as : (ss : List Submission) (s : Submission) (version : ℕ) → KeepsLimits ss s
-    → KeepsLimits ss (record s { version = version })
+-- ---- the version says nothing of the limits
+
+far_of : (ss : List Submission) (s : Submission) (version : ℕ) → IsFar ss s
+    → IsFar ss (record s { version = version })
+far_of ss s version h = record {
+  structure = h.structure;
+  place = h.place;
+  inside = h.inside;
+  below = h.below;
+  box = h.box;
+  extent = h.extent;
+  far = h.far;
+}
+
+pub kept_as : (ss : List Submission) (s : Submission) (version : ℕ)
+    → KeepsLimits ss (record s { version = version }) → KeepsLimits ss s
 kept_as ss s version k = record {
-  near = λ far. k.near (far_as ss s version far);
+  near = λ far. k.near (far_of ss s version far);
   small = k.small;
   low = k.low;
   room = k.room;
 }
 
+pub refused_as : (ss : List Submission) (s : Submission) (version : ℕ) (fault : HierFault)
+    → IsRefused ss (record s { version = version }) fault → IsRefused ss s fault
+refused_as ss s version faults.Memory h = tt
+refused_as ss s version faults.Extent h = far_of ss (record s { version = version }) s.version h
+refused_as ss s version faults.Shapes h = (λ far. h.0 (far_of ss s version far), h.1)
+refused_as ss s version faults.Deep h = (λ far. h.0 (far_of ss s version far), h.1)
+refused_as ss s version faults.Full h = (λ far. h.0 (far_of ss s version far), h.1)
+refused_as ss s version faults.NoTop h = absurd h
+refused_as ss s version faults.Cycle h = absurd h
+refused_as ss s version faults.NoCell h = absurd h
+
+-- ---- faults
+
 -- what the making of nodes refuses
-pub refused_nodes : (ss : List Submission) (s : Submission) (result : Result ℕ HierFault)
-    (fault : HierFault) → IsErrAnd result (λ e. e ≡ fault) → IsOfNodes fault
-    → (fault ≡ faults.Extent → IsFar ss s) → IfErr result (IsRefused ss s)
-refused_nodes ss s (Ok n) fault h of far = absurd h
-refused_nodes ss s (Err e) fault h of far = subst (IsRefused ss s) (sym h) (go fault of far)
-  where
-    go : (f : HierFault) → IsOfNodes f → (f ≡ faults.Extent → IsFar ss s) → IsRefused ss s f
-    go faults.Memory of far = tt
-    go faults.Extent of far = far refl
-    go faults.NoTop of far = absurd of
-    go faults.Cycle of far = absurd of
-    go faults.NoCell of far = absurd of
-    go faults.Shapes of far = absurd of
-    go faults.Deep of far = absurd of
-    go faults.Full of far = absurd of
+pub refused_nodes : (ss : List Submission) (s : Submission) (fault : HierFault) → IsOfNodes fault
+    → (fault ≡ faults.Extent → IsFar ss s) → IsRefused ss s fault
+refused_nodes ss s faults.Memory of far = tt
+refused_nodes ss s faults.Extent of far = far refl
+refused_nodes ss s faults.NoTop of far = absurd of
+refused_nodes ss s faults.Cycle of far = absurd of
+refused_nodes ss s faults.NoCell of far = absurd of
+refused_nodes ss s faults.Shapes of far = absurd of
+refused_nodes ss s faults.Deep of far = absurd of
+refused_nodes ss s faults.Full of far = absurd of
+
+pub refused : (ss : List Submission) (s : Submission) (result : Result ℕ HierFault)
+    (fault : HierFault) → IsErrAnd result (λ e. e ≡ fault) → IsRefused ss s fault
+    → IfErr result (IsRefused ss s)
+refused ss s (Ok n) fault h is = absurd h
+refused ss s (Err e) fault h is = subst (IsRefused ss s) (sym h) is

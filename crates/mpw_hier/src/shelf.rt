@@ -13,7 +13,8 @@ ghost use Rattle.mpw_hier.specs.Values.{flat, count, height, extent};
 
 use crate::bindings::{Binding, Bindings};
 use crate::fault::HierFault;
-use crate::node::Node;
+use crate::hierarchy::nodes_of;
+use crate::node::{Node, Nodes};
 use crate::outline::Outline;
 use crate::size::Size;
 use crate::submission::Submission;
@@ -242,7 +243,12 @@ impl Shelf {
         ensures faults { IfErr result (IsRefused self.old submission) }
     {
         let mut table = self.table(alloc)?;
-        let number = table.put(alloc, submission, outline)?;
+        let mut submission = submission;
+        submission.version = table.next_version(&submission.cell);
+        let nodes = nodes_of(alloc, &table, &submission, outline)?;
+        table.test_limits(&submission, &nodes)?;
+        let nodes = Nodes::from_vec(alloc, nodes)?;
+        let number = table.append(submission, nodes)?;
         self.table = Some(Arc::new(alloc, table)?);
         Ok(number)
     }

@@ -9,7 +9,7 @@ use mpw_geom::Box2;
 const MAX_COORDINATE: i128 = 1 << 30;
 
 /// The least box that holds two.
-pub fn joined(a: Box2, b: Box2) -> Box2
+pub fn join(a: Box2, b: Box2) -> Box2
     ensures { result ≡ joined a b }
 {
     Box2 {
@@ -27,7 +27,7 @@ pub fn hull(a: Option<Box2>, b: Option<Box2>) -> Option<Box2>
     match (a, b) {
         (None, b) => b,
         (a, None) => a,
-        (Some(a), Some(b)) => Some(joined(a, b)),
+        (Some(a), Some(b)) => Some(join(a, b)),
     }
 }
 

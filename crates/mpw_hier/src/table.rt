@@ -1,18 +1,15 @@
 //! The submissions of a shelf with what stands beside them. A [`crate::shelf::Shelf`] shares one.
 
 ghost use Rattle.std.specs.Prelude.{◌≡◌, ◌+◌, ◌<◌, ◌≤◌, ◌^◌, ◌++◌, ◌∷◌, [], length, Err, OnOk, OnErr, IfOk, IfErr, IfSome, IfNone, Some, None, slice_get};
-ghost use Rattle.mpw_hier.specs.Shelf.{present, versions, bound_to};
-ghost use Rattle.mpw_hier.specs.Limits.{KeepsLimits, IsRefused, IsSubmitted, IsShelf, numbered, has_room_for};
-ghost use Rattle.mpw_library.specs.Library.{IsLibrary};
+ghost use Rattle.mpw_hier.specs.Shelf.{present, versions};
+ghost use Rattle.mpw_hier.specs.Limits.{KeepsLimits, IsRefused, IsSubmitted, IsShelf, has_room_for};
 ghost use Rattle.mpw_hier.specs.Nodes.{AreNodes, AreNodesOf};
-ghost use Rattle.mpw_hier.specs.Outline.{IsOutline};
+ghost use Rattle.mpw_hier.specs.Internal.Building.{IsHierarchy};
 ghost use Rattle.mpw_hier.specs.Sizes.{IsSizeOf};
 ghost use Rattle.mpw_hier.specs.Values.{flat, flats, count, height, heights};
 
 use crate::fault::HierFault;
-use crate::hierarchy::nodes_of;
 use crate::node::{Node, Nodes};
-use crate::outline::Outline;
 use crate::size::Size;
 use crate::submission::Submission;
 use mpw_geom::Name;
@@ -139,7 +136,7 @@ impl Table {
     }
 
     /// The version that the next submission of a cell gets, counted from 1.
-    fn next_version(&self, cell: &Name) -> u32
+    pub fn next_version(&self, cell: &Name) -> u32
         ensures { result ≡ versions self.now cell.now + 1 }
     {
         match self.present(cell) {
@@ -156,8 +153,31 @@ impl Table {
             && (self.present(cell).is_some() || self.present.len() < MAX_CELLS)
     }
 
+    /// Tests the limits of a submission of these nodes: its shapes, its levels, and the room for it.
+    ///
+    /// # Errors
+    /// In this order: `Shapes` above 2^20 flat shapes, `Deep` above 64 levels, `Full` where there are 4096
+    /// submissions, or 1024 cells and this would be another.
+    pub fn test_limits(&self, submission: &Submission, nodes: &[Node]) -> Result<(), HierFault>
+        requires { IsHierarchy self.now submission.now nodes.now }
+        ensures kept { OnOk result (KeepsLimits self.now submission.now) }
+        ensures faults { IfErr result (IsRefused self.now submission.now) }
+    {
+        let size = nodes[nodes.len() - 1].size;
+        if size.count > MAX_SHAPES {
+            return Err(HierFault::Shapes);
+        }
+        if size.height > MAX_HEIGHT {
+            return Err(HierFault::Deep);
+        }
+        if !self.has_room(&submission.cell) {
+            return Err(HierFault::Full);
+        }
+        Ok(())
+    }
+
     /// Adds a submission with its nodes and its version.
-    fn append(&mut self, submission: Submission, nodes: Nodes) -> Result<u32, AllocError>
+    pub fn append(&mut self, submission: Submission, nodes: Nodes) -> Result<u32, AllocError>
         requires nodes { AreNodesOf (flats self.old) (heights self.old) submission nodes }
         requires submitted { IsSubmitted self.old submission }
         ensures ok { OnOk result (self.new ≡ self.old ++ submission ∷ []) }
@@ -172,47 +192,5 @@ impl Table {
         self.submissions.push(submission)?;
         self.nodes.push(nodes)?;
         Ok(number)
-    }
-
-    /// Puts a submission on the shelf, with the next version of its cell. The result is its number. The outline is that of
-    /// its library and top, and its bindings are those of the outline's names.
-    ///
-    /// Linear in the library, with a search for each name, however deep its structures are.
-    ///
-    /// # Errors
-    /// In this order: `Extent` where a structure that the top reaches has an extent beyond -2^30 to
-    /// 2^30 nm in its own coordinates, `Shapes` above 2^20 flat shapes, `Deep` above 64 levels, `Full`
-    /// where there are 4096 submissions, or 1024 cells and this would be another; or want of memory.
-    /// The shelf is then as before.
-    pub fn put(
-        &mut self,
-        alloc: Global,
-        submission: Submission,
-        outline: &Outline,
-    ) -> Result<u32, HierFault>
-        requires library { IsLibrary submission.library }
-        requires outline { IsOutline submission.library submission.top outline.now }
-        requires bound { bound_to self.old outline.now.names ≡ Some submission.bound }
-        ensures ok { OnOk result (self.new ≡ self.old ++ numbered self.old submission ∷ []) }
-        ensures number { IfOk result (λ number. number ≡ length self.old) }
-        ensures kept { OnOk result (KeepsLimits self.old submission) }
-        ensures err { OnErr result (self.new ≡ self.old) }
-        ensures faults { IfErr result (IsRefused self.old submission) }
-    {
-        let mut submission = submission;
-        submission.version = self.next_version(&submission.cell);
-        let nodes = nodes_of(alloc, self, &submission, outline)?;
-        let size = nodes[nodes.len() - 1].size;
-        if size.count > MAX_SHAPES {
-            return Err(HierFault::Shapes);
-        }
-        if size.height > MAX_HEIGHT {
-            return Err(HierFault::Deep);
-        }
-        if !self.has_room(&submission.cell) {
-            return Err(HierFault::Full);
-        }
-        let nodes = Nodes::from_vec(alloc, nodes)?;
-        Ok(self.append(submission, nodes)?)
     }
 }

@@ -4,16 +4,14 @@
 //! first fault by offset.
 #![tactic(auto)]
 
-mod elements;
 mod laws;
 mod library;
 mod read;
 mod structures;
 mod text;
 
-pub use elements::Elements;
 pub use laws::{libraries_are_derived, unexpected_is_first};
 pub use library::Library;
 pub use read::read_library;
-pub use structures::{Structure, Structures};
+pub use structures::{Elements, Structure, Structures};
 pub use text::LibraryText;

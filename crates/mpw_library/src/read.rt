@@ -12,9 +12,8 @@ ghost use Rattle.mpw_library.specs.Library.{IsStructure, IsLibrary};
 ghost use Rattle.mpw_library.specs.Internal.Library.{IsItem};
 ghost use Rattle.mpw_library.specs.Places.{place_of};
 
-use crate::elements::Elements;
 use crate::library::Library;
-use crate::structures::{Structure, Structures};
+use crate::structures::{Elements, Structure, Structures};
 use mpw_elements::{Element, ReadError, demand, fault_of, read_element, read_name};
 use mpw_real8::Real8;
 use mpw_records::{Code, ReadFault, Record, Records, kind};

@@ -3,12 +3,15 @@
 ghost use Rattle.std.specs.Prelude.{◌≡◌, ◌↔◌, IsTrue, [], ◌∷◌, ◌++◌, None, OnOk, OnErr, is_some};
 ghost use Rattle.mpw_library.specs.Places.{place_of};
 
-use crate::elements::Elements;
+use mpw_elements::{Element, OwnedList};
 use mpw_geom::Name;
 use mpw_lists::{Same, are_same};
 use std::alloc::{AllocError, Global};
 use std::collections::BTreeMap;
 use std::marker::Model;
+
+/// The elements of a structure in file order, which `Same` compares by value.
+pub type Elements = OwnedList<Element>;
 
 /// A structure: a name and what stands in it.
 pub struct Structure {

@@ -75,7 +75,7 @@ impl LibraryText {
         ensures shape { IfOk result IsLibrary }
     {
         match &self.outcome {
-            Some(outcome) => found(outcome),
+            Some(outcome) => library_in(outcome),
             None => read_library(alloc, self.bytes.as_slice()),
         }
     }
@@ -102,13 +102,13 @@ impl LibraryText {
     {
         Ok(LibraryText {
             bytes: self.bytes.clone()?,
-            outcome: copied(&self.outcome)?,
+            outcome: copy_outcome(&self.outcome)?,
         })
     }
 }
 
 /// What reading gave.
-fn found(outcome: &Result<Library, ReadFault>) -> Result<Library, ReadError>
+fn library_in(outcome: &Result<Library, ReadFault>) -> Result<Library, ReadError>
     ensures { GivesValue (λ library. library) result outcome.now }
 {
     match outcome {
@@ -118,7 +118,7 @@ fn found(outcome: &Result<Library, ReadFault>) -> Result<Library, ReadError>
 }
 
 /// What reading gave, shared.
-fn copied(
+fn copy_outcome(
     outcome: &Option<Result<Library, ReadFault>>,
 ) -> Result<Option<Result<Library, ReadFault>>, AllocError>
     ensures { IfOk result (λ copy. copy ≡ outcome.now) }

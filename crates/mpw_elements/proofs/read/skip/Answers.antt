@@ -1,15 +1,16 @@
 use Rattle.std.proofs.Common.{◌∷◌, Err, sym, ap, ◌∙◌, length, arith}
 use Rattle.std.proofs.lemmas.Result.{err_from_is_err_and}
 use Rattle.mpw_records.specs.Records.{raw, seen}
-use Rattle.mpw_elements.proofs.Fields.{ignored_end, ignored_err, ignored_done, ignored_last, ignored_more}
+use Rattle.mpw_elements.specs.Grammar.{ignored}
+use Rattle.mpw_elements.proofs.Fields.{ignored_done, ignored_last, ignored_more}
 use Rattle.mpw_elements.proofs.read.skip.Goals as goal
 
 pub returns-in_err-found-clause-ignored : goal.returns-in_err-found-clause-ignored
+unfolding ignored
 returns-in_err-found-clause-ignored c =
     let p = err_from_is_err_and c.from_residual.result c.from_residual.ensures.1 in
-    rw (p.1, p.2) (sym c.loop-outcome.invariant.same ∙ ignored_err c.args.start _ c.next.new.self
-    c.in_err-found.field-0.0 (c.in-Some.ensures.some
-    ∙ ap (λ o. seen o ∷ c.next.new.self) c.in_err-found.was))
+    let read = c.in-Some.ensures.some ∙ ap (λ o. seen o ∷ c.next.new.self) c.in_err-found.was in
+    rw (p.1, p.2) (sym c.loop-outcome.invariant.same ∙ ap (ignored c.args.start) read)
 
 pub returns-then-found-eq-ENDEL-clause-ignored : goal.returns-then-found-eq-ENDEL-clause-ignored
 returns-then-found-eq-ENDEL-clause-ignored c =
@@ -34,5 +35,6 @@ loop-outcome-preserved c = record {
 }
 
 pub returns-clause-ignored : goal.returns-clause-ignored
+unfolding ignored
 returns-clause-ignored c =
-    sym c.loop-outcome.invariant.same ∙ ignored_end c.args.start _ c.in_default.ensures.none
+    sym c.loop-outcome.invariant.same ∙ ap (ignored c.args.start) c.in_default.ensures.none

@@ -5,9 +5,9 @@ pub returns-in-M270-clause-squares : goal.returns-in-M270-clause-squares
 unfolding oriented_square
 returns-in-M270-clause-squares c =
     λ s. rw (
-      c.turned-in-M270-3.ensures.squares s,
-      c.turned-in-M270-2.ensures.squares s,
-      c.turned-in-M270.ensures.squares s,
-      c.mirrored-in-M270.ensures.squares s,
+      c.turn-in-M270-3.ensures.squares s,
+      c.turn-in-M270-2.ensures.squares s,
+      c.turn-in-M270.ensures.squares s,
+      c.mirror-in-M270.ensures.squares s,
       c.in-M270.is,
     )

@@ -2,7 +2,7 @@ use Rattle.std.proofs.Common.{rules}
 use Rattle.std.specs.Int.{int_min, int_max}
 use Rattle.mpw_geom.proofs.Boxes.{same_box}
 use Rattle.mpw_hier.proofs.Hulls.{fitting}
-use Rattle.mpw_hier.proofs.size_box.joined.Goals as goal
+use Rattle.mpw_hier.proofs.size_box.join.Goals as goal
 
 pub returns : goal.returns
 returns c =
