@@ -1,5 +1,5 @@
 //! Why parts aren't stitched.
-ghost use Rattle.std.specs.Prelude.{◌≡◌};
+ghost use Rattle.std.specs.Prelude.{◌≡◌, Some};
 ghost use Rattle.mpw_parts.specs.declared.fault.PartsFault.TheVariants.{Memory};
 ghost use Rattle.mpw_parts.specs.Stitching.{word_of};
 
@@ -36,6 +36,8 @@ impl Difference {
 }
 
 impl fmt::Display for Difference {
+    ghost output = { λ difference. Some (word_of difference) };
+
     fn fmt<W: fmt::Write>(&self, f: &mut fmt::Formatter<W>) -> fmt::Result {
         f.write_str(self.word())
     }
