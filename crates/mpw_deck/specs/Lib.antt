@@ -3,3 +3,4 @@ pub mod Named
 pub mod Reading
 pub mod Text
 pub mod Internal
+pub mod Words

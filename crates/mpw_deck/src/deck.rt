@@ -1,7 +1,8 @@
 //! Decks, and what may be wrong with one's text.
 
-ghost use Rattle.std.specs.Prelude.{◌≡◌, ◌↔◌, IfOk, IsTrue};
+ghost use Rattle.std.specs.Prelude.{◌≡◌, ◌↔◌, IfOk, IsTrue, Some};
 ghost use Rattle.mpw_deck.specs.Decks.{IsDeck};
+ghost use Rattle.mpw_deck.specs.Words.{kind_words, fault_text};
 ghost use Rattle.mpw_deck.specs.declared.deck.DeckKind.TheVariants.{Memory};
 
 use crate::rule::Rule;
@@ -109,7 +110,10 @@ pub enum DeckKind {
 
 impl DeckKind {
     /// What is said of a line.
-    fn words(self) -> &'static str {
+    #[tactic(auto, unfolding(crate::specs::Words::kind_words))]
+    fn words(self) -> &'static str
+        ensures { result.now ≡ kind_words self }
+    {
         match self {
             DeckKind::Word => "word",
             DeckKind::Number => "number",
@@ -124,6 +128,8 @@ impl DeckKind {
 }
 
 impl fmt::Display for DeckKind {
+    ghost output = { λ kind. Some (kind_words kind) };
+
     fn fmt<W: fmt::Write>(&self, f: &mut fmt::Formatter<W>) -> fmt::Result {
         f.write_str(self.words())
     }
@@ -147,9 +153,20 @@ impl From<AllocError> for DeckKind {
 
 /// The first faulty line of a deck's text, counted from 1, and its first fault. At `Memory` the
 /// line is where reading stopped.
-#[derive(Clone, Copy, Debug, PartialEq, Eq, thiserror::Error)]
-#[error("line {line}: {kind}")]
+#[derive(Clone, Copy, Debug, PartialEq, Eq)]
 pub struct DeckFault {
     pub kind: DeckKind,
     pub line: usize,
 }
+
+impl fmt::Display for DeckFault {
+    ghost output = { λ fault. Some (fault_text fault) };
+
+    #[tactic(auto, unfolding(crate::specs::Words::fault_text))]
+    fn fmt<W: fmt::Write>(&self, f: &mut fmt::Formatter<W>) -> fmt::Result {
+        let DeckFault { kind, line } = *self;
+        write!(f, "line {line}: {kind}")
+    }
+}
+
+impl Error for DeckFault {}

@@ -16,3 +16,4 @@ pub mod Holding
 pub mod Placed
 pub mod Named
 pub mod Internal
+pub mod Words

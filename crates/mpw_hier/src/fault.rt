@@ -1,6 +1,7 @@
 //! Why a library can't be put on the shelf.
 
-ghost use Rattle.std.specs.Prelude.{◌≡◌};
+ghost use Rattle.std.specs.Prelude.{◌≡◌, Some};
+ghost use Rattle.mpw_hier.specs.Words.{hier_word};
 ghost use Rattle.mpw_hier.specs.declared.fault.HierFault.TheVariants.{Memory};
 
 use std::alloc::{AllocError, AllocFailed};
@@ -28,8 +29,11 @@ pub enum HierFault {
 }
 
 impl HierFault {
-    /// The fault's word, as replies have it.
-    fn word(self) -> &'static str {
+    /// The fault's word.
+    #[tactic(auto, unfolding(crate::specs::Words::hier_word))]
+    fn word(self) -> &'static str
+        ensures { result.now ≡ hier_word self }
+    {
         match self {
             HierFault::Memory => "memory",
             HierFault::NoTop => "notop",
@@ -44,6 +48,8 @@ impl HierFault {
 }
 
 impl fmt::Display for HierFault {
+    ghost output = { λ fault. Some (hier_word fault) };
+
     fn fmt<W: fmt::Write>(&self, f: &mut fmt::Formatter<W>) -> fmt::Result {
         f.write_str(self.word())
     }

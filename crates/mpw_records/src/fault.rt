@@ -1,4 +1,6 @@
 //! What can be wrong with a GDSII text.
+ghost use Rattle.std.specs.Prelude.{◌≡◌, Some};
+ghost use Rattle.mpw_records.specs.Words.{code_word, fault_text};
 
 use std::error::Error;
 use std::fmt;
@@ -43,8 +45,11 @@ pub enum Code {
 }
 
 impl Code {
-    /// The code's word, as replies have it.
-    fn word(self) -> &'static str {
+    /// The code's word.
+    #[tactic(auto, unfolding(crate::specs::Words::code_word))]
+    fn word(self) -> &'static str
+        ensures { result.now ≡ code_word self }
+    {
         match self {
             Code::Short => "short",
             Code::BadLength => "badlength",
@@ -68,6 +73,8 @@ impl Code {
 }
 
 impl fmt::Display for Code {
+    ghost output = { λ code. Some (code_word code) };
+
     fn fmt<W: fmt::Write>(&self, f: &mut fmt::Formatter<W>) -> fmt::Result {
         f.write_str(self.word())
     }
@@ -83,9 +90,20 @@ impl Error for Code {}
 
 /// A fault, and the offset in bytes of the record that has it. Where no byte is left, the offset is
 /// the number of bytes.
-#[derive(Clone, Copy, Debug, PartialEq, Eq, thiserror::Error)]
-#[error("{code} at byte {offset}")]
+#[derive(Clone, Copy, Debug, PartialEq, Eq)]
 pub struct ReadFault {
     pub code: Code,
     pub offset: usize,
 }
+
+impl fmt::Display for ReadFault {
+    ghost output = { λ fault. Some (fault_text fault) };
+
+    #[tactic(auto, unfolding(crate::specs::Words::fault_text))]
+    fn fmt<W: fmt::Write>(&self, f: &mut fmt::Formatter<W>) -> fmt::Result {
+        let ReadFault { code, offset } = *self;
+        write!(f, "{code} at byte {offset}")
+    }
+}
+
+impl Error for ReadFault {}
