@@ -4,7 +4,8 @@ use Rattle.std.proofs.lemmas.Result.{err_from_is_err_and}
 use Rattle.mpw_geom.proofs.Linked.{or_cases}
 use Rattle.mpw_roles.specs.Hierarchy.{with_role, is_role}
 use Rattle.mpw_roles.specs.Internal.Table.{IsTable, name_of, entries_of, has_number}
-use Rattle.mpw_roles.proofs.EntryLemmas.{juniors-there, more-names, role-number, between-more, with-role-entries}
+use Rattle.mpw_roles.proofs.EntryLemmas.{more-names, role-number, with-role-entries}
+use Rattle.mpw_roles.proofs.PairLemmas.{juniors-there, between-more}
 use Rattle.mpw_roles.proofs.NumberLemmas.{eqb-back, has-more, once-more, name-numbered, number-within}
 use Rattle.mpw_roles.proofs.table.Table.add.Goals.{After-numbered, In_ok-number}
 use Rattle.mpw_roles.proofs.table.Table.add.Goals as goal
