@@ -23,7 +23,8 @@ pub role-number : (ns : List Name) (ps : List Pair) (os : List ℕ)
     → (r : Name) (n : ℕ) → Some n ≡ position (name_eq r) ns
     → is_role (entries_of ns ps os) r ≡ has_number os n
 role-number ns ps os known once r n found =
-    ap (λ l. contains_name l r) (names-entries ns ps os) ∙ contains-number ns os known once r n found
+    ap (λ l. contains_name l r) (names-entries ns ps os)
+    ∙ contains-number ns os known once r n found
 
 pub role-unnumbered : (ns : List Name) (ps : List Pair) (os : List ℕ)
     → ((k : ℕ) → has_number os k ≡ true → k < length ns) → (r : Name)
@@ -39,8 +40,10 @@ linked-there : (ns : List Name) (ps : List Pair) (os : List ℕ)
     ≡ cond (has_number os n) (map (name_of ns) (juniors_of ps n)) []
 linked-there ns ps [] known once r n found = refl
 linked-there ns ps (o ∷ os) known once r n found =
-    let rest = linked-there ns ps os (λ k there. known k (or_later (eqb k o) _ there)) once r n found in
-    ap (λ b. cond b (map (name_of ns) (juniors_of ps o)) (immediate_juniors (entries_of ns ps os) r))
+    let rest =
+    linked-there ns ps os (λ k there. known k (or_later (eqb k o) _ there)) once r n found in
+    ap (λ b. cond b (map (name_of ns) (juniors_of ps o))
+    (immediate_juniors (entries_of ns ps os) r))
     (name-number ns once r n found o (known o (ap (λ b. b || has_number os o) (eqb-same o))))
     ∙ elim (eqb n o) as (λ b. eqb n o ≡ b
     → cond b (map (name_of ns) (juniors_of ps o)) (immediate_juniors (entries_of ns ps os) r)
@@ -94,7 +97,8 @@ with-juniors-entries : (ns : List Name) (ps qs : List Pair) (os : List ℕ)
 with-juniors-entries ns ps qs [] known names once r n found same = refl
 with-juniors-entries ns ps qs (o ∷ os) known names once r n found same =
     let p = and_parts (not (has_number os o)) (are_once os) once in
-    let rest = with-juniors-entries ns ps qs os (λ k there. known k (or_later (eqb k o) _ there)) names
+    let rest =
+    with-juniors-entries ns ps qs os (λ k there. known k (or_later (eqb k o) _ there)) names
     p.1 r n found same in
     let js = map (name_of ns) (juniors_of qs n) in
     ap (λ b. cond b ((name_of ns o, js) ∷ entries_of ns ps os)
@@ -149,7 +153,8 @@ without-numbered : (ns : List Name) → are_distinct ns ≡ true → (r : Name) 
     → without_name (map (name_of ns) ks) r ≡ map (name_of ns) (filter (λ k. not (eqb n k)) ks)
 without-numbered ns names r n found [] known = refl
 without-numbered ns names r n found (x ∷ xs) known =
-    let rest = without-numbered ns names r n found xs (λ k there. known k (or_later (eqb k x) _ there)) in
+    let rest =
+    without-numbered ns names r n found xs (λ k there. known k (or_later (eqb k x) _ there)) in
     ap (λ b. cond (not b) (name_of ns x ∷ without_name (map (name_of ns) xs) r)
     (without_name (map (name_of ns) xs) r))
     (name-number ns names r n found x (known x (ap (λ b. b || has_number xs x) (eqb-same x))))
@@ -172,7 +177,8 @@ place-found ns ps os known names r n found =
 
 pub place-none : (ns : List Name) (ps : List Pair) (os : List ℕ)
     → ((k : ℕ) → has_number os k ≡ true → k < length ns) → (r : Name)
-    → position (name_eq r) ns ≡ None → None ≡ position (name_eq r) (role_names (entries_of ns ps os))
+    → position (name_eq r) ns ≡ None → None ≡ position (name_eq r)
+    (role_names (entries_of ns ps os))
 place-none ns ps os known r none =
     sym (ap (position (name_eq r)) (names-entries ns ps os) ∙ place-unnumbered ns os known r none)
 
@@ -277,7 +283,8 @@ pub with-role-entries : (ns : List Name) (ps : List Pair) (os : List ℕ) (r : N
     → list_all (is_between os) ps ≡ true → has_number os n ≡ false → name_of ns n ≡ r
     → with_role (entries_of ns ps os) r ≡ entries_of ns ps (os ++ n ∷ [])
 with-role-entries ns ps os r n between new is = sym (split os
-    ∙ (λ t. entries_of ns ps os ++ (is t, map (name_of ns) (juniors-none ps os n new between t)) ∷ []))
+    ∙ (λ t. entries_of ns ps os ++ (is t, map (name_of ns) (juniors-none ps os n new between t))
+    ∷ []))
   where
     split : (ks : List ℕ) → entries_of ns ps (ks ++ n ∷ []) ≡ entries_of ns ps ks
         ++ entry_of ns ps n ∷ []
@@ -293,7 +300,8 @@ name-at-place ns ps (o ∷ os) zero n r known inside at is =
     let within : n < length ns = known n (ap (λ b. b || has_number os n) (eq-eqb n o (sym at))) in
     is ∙ item-there ns n (name_of ns n) [] within refl ∙ ap (λ k. Some (name_of ns k)) (sym at)
 name-at-place ns ps (o ∷ os) (suc i) n r known inside at is =
-    name-at-place ns ps os i n r (λ k there. known k (or_later (eqb k o) _ there)) (omega arith) at is
+    name-at-place ns ps os i n r (λ k there. known k (or_later (eqb k o) _ there)) (omega arith) at
+    is
 
 pub no-name-at : (ns : List Name) (ps : List Pair) (os : List ℕ) (i : ℕ) → length os ≤ i
     → None ≡ slice_get (role_names (entries_of ns ps os)) i

@@ -16,7 +16,8 @@ juniors-none (p ∷ ps) os n none between =
     let other : eqb n p.senior ≡ false = refuted (eqb n p.senior) (λ is.
     true≢false (sym ends.0 ∙ ap (has_number os) (sym (eqb-back n p.senior is)) ∙ none)) in
     ap (λ b. map (λ (q : Pair). q.junior) (cond b
-    (p ∷ filter (λ (q : Pair). eqb n q.senior) ps) (filter (λ (q : Pair). eqb n q.senior) ps))) other
+    (p ∷ filter (λ (q : Pair). eqb n q.senior) ps) (filter (λ (q : Pair). eqb n q.senior) ps)))
+    other
     ∙ juniors-none ps os n none both.1
 
 -- the juniors of roles are roles
@@ -39,7 +40,8 @@ juniors-there (p ∷ ps) os n between k there =
 
 pub juniors-more : (ps : List Pair) (p : Pair) (n : ℕ)
     → juniors_of (ps ++ p ∷ []) n ≡ juniors_of ps n ++ cond (eqb n p.senior) (p.junior ∷ []) []
-juniors-more [] p n = elim (eqb n p.senior) as (λ b. map (λ (q : Pair). q.junior) (cond b (p ∷ []) [])
+juniors-more [] p n =
+    elim (eqb n p.senior) as (λ b. map (λ (q : Pair). q.junior) (cond b (p ∷ []) [])
     ≡ cond b (p.junior ∷ []) []) [ true ↦ refl | false ↦ refl ]
 juniors-more (q ∷ ps) p n = elim (eqb n q.senior) as (λ b.
     map (λ (x : Pair). x.junior) (cond b
@@ -140,7 +142,8 @@ between-more (p ∷ ps) os n between =
     let both = and_parts (is_between os p) (list_all (is_between os) ps) between in
     let ends = and_parts (has_number os p.senior) (has_number os p.junior) both.0 in
     and_both (is_between (os ++ n ∷ []) p) _
-    (and_both (has_number (os ++ n ∷ []) p.senior) _ (still p.senior ends.0) (still p.junior ends.1))
+    (and_both (has_number (os ++ n ∷ []) p.senior) _ (still p.senior ends.0)
+    (still p.junior ends.1))
     (between-more ps os n both.1)
   where
     still : (k : ℕ) → has_number os k ≡ true → has_number (os ++ n ∷ []) k ≡ true

@@ -18,7 +18,8 @@ loop-senior-preserved c = λ q.
     elim c.match-place.branch [
       | in-Some w ↦ ap (λ m. has m q || is_place_below h rest q) w.mask-is
           ∙ turn-role h s rest q before _ (w.add.ensures q ∙ ap (λ t. before || t)
-          (mask-found h c.args.masks.now c.requires.masked s w.in-Some.place w.in-Some.ensures.place q))
+          (mask-found h c.args.masks.now c.requires.masked s w.in-Some.place w.in-Some.ensures.place
+          q))
           ∙ so_far
       | in_default w ↦ ap (λ m. has m q || is_place_below h rest q) w.mask-is
           ∙ turn-none h s rest q before (sym w.in_default.ensures.found) ∙ so_far

@@ -41,7 +41,8 @@ invariant_of-self-2 c =
       names_once = inv.names_once;
       once = inv.once;
       known = inv.known;
-      between = between-pair ps os p inv.between (and_both (has_number os p.senior) _ senior junior);
+      between =
+          between-pair ps os p inv.between (and_both (has_number os p.senior) _ senior junior);
     })
 
 pub returns-clause-ok : goal.returns-clause-ok

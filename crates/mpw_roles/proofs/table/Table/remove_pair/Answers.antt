@@ -29,7 +29,8 @@ invariant_of-self c =
       names_once = inv.names_once;
       once = inv.once;
       known = inv.known;
-      between = between-less (λ (p : Pair). not (is_pair c.in-Some.senior c.in-Some-number.junior p))
+      between =
+          between-less (λ (p : Pair). not (is_pair c.in-Some.senior c.in-Some-number.junior p))
           in'.pairs.items in'.order.items inv.between;
     })
 
