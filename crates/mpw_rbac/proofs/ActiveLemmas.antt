@@ -6,15 +6,13 @@ use Rattle.mpw_geom.specs.Names.{name_eq, contains_name}
 use Rattle.mpw_roles.specs.Decided.{decided}
 use Rattle.mpw_roles.specs.Hierarchy.{Name}
 use Rattle.mpw_roles.proofs.CallerLemmas.{name_eq-refl, or_right, contains-filter}
-use Rattle.mpw_separation.specs.Set.{SeparationSet}
-use Rattle.mpw_rbac.specs.Laws.{is_session_of, AddsNoActive}
+use Rattle.mpw_rbac.specs.Laws.{IsPart, is_session_of, AddsNoActive}
 use Rattle.mpw_rbac.specs.Policy.{Policy, authorized, is_user, kept_roles, trim}
 use Rattle.mpw_rbac.specs.Rows as rows
-use Rattle.mpw_rbac.specs.declared.permission.Grant.{Grant}
 use Rattle.mpw_rbac.specs.declared.session.Session.{Session}
 use Rattle.mpw_rbac.proofs.RowLemmas.{decided-value}
 use Rattle.mpw_rbac.proofs.RowTests as row
-use Rattle.mpw_rbac.proofs.SeparationLemmas.{both, parts, all_imply, IsPart}
+use Rattle.mpw_rbac.proofs.SeparationLemmas.{both, parts, all_imply}
 
 all-part : (few all : List Name) → IsPart few all → list_all (contains_name all) few ≡ true
 all-part [] all part = refl
@@ -89,67 +87,16 @@ pub adds-close_session : (conn : ℕ) → AddsNoActive (λ p. rows.close_session
 adds-close_session conn p q is = stays p (rows.in_session p conn ∷ []) (rows.end_session p conn) q
     is (stays-filter (λ (e : ℕ × Session). not (conn == e.0)) p.sessions)
 
-pub adds-adduser : (conn : ℕ) (user digest : List ℕ)
-    → AddsNoActive (λ p. rows.adduser p conn user digest)
-adds-adduser conn user digest p q is =
-    stays p (row.administer-tests p conn (row.adduser-tests p user)) (row.user_added p user digest)
-    q is (stays-same p.sessions)
+stays-of : (request : row.Administration) (p : Policy)
+    → Stays p.sessions (row.next-of request p).sessions
+stays-of (row.DeleteUser user) p = stays-trim (row.user_deleted p user)
+stays-of (row.DeleteRole role) p = stays-trim (rows.without_role_of p role)
+stays-of (row.Deassign user role) p = stays-trim (row.deassigned p user role)
+stays-of (row.Uninherit senior junior) p = stays-trim (row.uninherited p senior junior)
+stays-of request p = stays-same p.sessions
 
-pub adds-deluser : (conn : ℕ) (user : List ℕ) → AddsNoActive (λ p. rows.deluser p conn user)
-adds-deluser conn user p q is = stays p (row.administer-tests p conn (row.deluser-tests p user))
-    (trim (row.user_deleted p user)) q is (stays-trim (row.user_deleted p user))
-
-pub adds-addrole : (conn : ℕ) (role : List ℕ) → AddsNoActive (λ p. rows.addrole p conn role)
-adds-addrole conn role p q is = stays p (row.administer-tests p conn (row.addrole-tests p role))
-    (row.role_added p role) q is (stays-same p.sessions)
-
-pub adds-delrole : (conn : ℕ) (role : List ℕ) → AddsNoActive (λ p. rows.delrole p conn role)
-adds-delrole conn role p q is = stays p (row.administer-tests p conn (row.delrole-tests p role))
-    (trim (rows.without_role_of p role)) q is (stays-trim (rows.without_role_of p role))
-
-pub adds-assign : (conn : ℕ) (user role : List ℕ) → AddsNoActive (λ p. rows.assign p conn user role)
-adds-assign conn user role p q is =
-    stays p (row.administer-tests p conn (row.assign-tests p user role)) (row.assigned p user role)
-    q is (stays-same p.sessions)
-
-pub adds-deassign : (conn : ℕ) (user role : List ℕ)
-    → AddsNoActive (λ p. rows.deassign p conn user role)
-adds-deassign conn user role p q is =
-    stays p (row.administer-tests p conn (row.deassign-tests p user role))
-    (trim (row.deassigned p user role)) q is (stays-trim (row.deassigned p user role))
-
-pub adds-grant : (conn : ℕ) (new : Grant) → AddsNoActive (λ p. rows.grant p conn new)
-adds-grant conn new p q is = stays p (row.administer-tests p conn (row.grant-tests p new))
-    (row.grant_added p new) q is (stays-same p.sessions)
-
-pub adds-revoke : (conn : ℕ) (old : Grant) → AddsNoActive (λ p. rows.revoke p conn old)
-adds-revoke conn old p q is = stays p (row.administer-tests p conn (row.revoke-tests p old))
-    (row.grant_revoked p old) q is (stays-same p.sessions)
-
-pub adds-inherit : (conn : ℕ) (senior junior : List ℕ)
-    → AddsNoActive (λ p. rows.inherit p conn senior junior)
-adds-inherit conn senior junior p q is =
-    stays p (row.administer-tests p conn (row.inherit-tests p senior junior))
-    (row.inherited p senior junior) q is (stays-same p.sessions)
-
-pub adds-uninherit : (conn : ℕ) (senior junior : List ℕ)
-    → AddsNoActive (λ p. rows.uninherit p conn senior junior)
-adds-uninherit conn senior junior p q is =
-    stays p (row.administer-tests p conn (row.uninherit-tests p senior junior))
-    (trim (row.uninherited p senior junior)) q is (stays-trim (row.uninherited p senior junior))
-
-pub adds-ssd : (conn : ℕ) (set : SeparationSet) → AddsNoActive (λ p. rows.ssd p conn set)
-adds-ssd conn set p q is = stays p (row.administer-tests p conn (row.ssd-tests p set))
-    (row.ssd_made p set) q is (stays-same p.sessions)
-
-pub adds-dsd : (conn : ℕ) (set : SeparationSet) → AddsNoActive (λ p. rows.dsd p conn set)
-adds-dsd conn set p q is = stays p (row.administer-tests p conn (row.dsd-tests p set))
-    (row.dsd_made p set) q is (stays-same p.sessions)
-
-pub adds-unssd : (conn : ℕ) (name : List ℕ) → AddsNoActive (λ p. rows.unssd p conn name)
-adds-unssd conn name p q is = stays p (row.administer-tests p conn (row.unssd-tests p name))
-    (row.ssd_removed p name) q is (stays-same p.sessions)
-
-pub adds-undsd : (conn : ℕ) (name : List ℕ) → AddsNoActive (λ p. rows.undsd p conn name)
-adds-undsd conn name p q is = stays p (row.administer-tests p conn (row.undsd-tests p name))
-    (row.dsd_removed p name) q is (stays-same p.sessions)
+pub adds-administration : (conn : ℕ) (request : row.Administration)
+    → AddsNoActive (row.row-of request conn)
+adds-administration conn request p q is =
+    stays p (row.administer-tests p conn (row.tests-of request p)) (row.next-of request p) q is
+    (stays-of request p)

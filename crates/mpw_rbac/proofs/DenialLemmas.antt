@@ -7,109 +7,83 @@ use Rattle.mpw_roles.specs.Decided.{decided}
 use Rattle.mpw_roles.specs.Hierarchy.{Name, is_role, is_immediate}
 use Rattle.mpw_roles.specs.Order.{at_least}
 use Rattle.mpw_geom.specs.Least.{least_name, IsLeast}
+use Rattle.mpw_separation.specs.declared.set.Kind.{Kind}
+use Rattle.mpw_separation.specs.declared.set.Kind.TheVariants.{Static, Dynamic}
 use Rattle.mpw_separation.specs.Separation.{broken_names, has_set}
 use Rattle.mpw_separation.specs.Set.{SeparationSet}
 use Rattle.mpw_geom.proofs.LeastLemmas.{least-is}
+use Rattle.mpw_rbac.specs.Internal.Kinds.{kind_sets, with_sets, bound_lists, told_broken, make_set}
 use Rattle.mpw_rbac.specs.Laws.{DeniesRightly, IsLeastStatic, IsLeastDynamic}
 use Rattle.mpw_rbac.specs.declared.session.Identity.{Identity}
-use Rattle.mpw_rbac.specs.Policy.{Policy, identity_of, authorized, assigned_roles, is_user, trim, assigned_lists, active_lists}
+use Rattle.mpw_rbac.specs.Policy.{Policy, identity_of, authorized, assigned_roles, is_user, assigned_lists}
 use Rattle.mpw_rbac.specs.Rows as rows
 use Rattle.mpw_rbac.specs.declared.permission.Grant.{Grant}
 use Rattle.mpw_rbac.specs.declared.permission.Object.{Object}
+use Rattle.mpw_rbac.specs.declared.permission.Object.TheVariants.{Desk}
 use Rattle.mpw_rbac.specs.declared.permission.Operation.{Operation}
+use Rattle.mpw_rbac.specs.declared.permission.Operation.TheVariants.{Admin}
 use Rattle.mpw_rbac.specs.declared.refusal.Refusal.{Refusal}
-use Rattle.mpw_rbac.specs.declared.refusal.Refusal.TheVariants.{Opened, Login, NoSession, NotPermitted, NotAuthorized, Unknown, Known, Full, Loop, Ssd, Dsd}
+use Rattle.mpw_rbac.specs.declared.refusal.Refusal.TheVariants.{NoSession, NotPermitted, NotAuthorized, Unknown, Known, Full, Loop, Ssd, Dsd}
 use Rattle.mpw_rbac.specs.Sound.{sets_hold}
+use Rattle.mpw_rbac.proofs.AcceptedLemmas.{no_permission-open_session, no_permission-close_session, no_permission-activate, no_permission-drop_role}
 use Rattle.mpw_rbac.proofs.LawLemmas.{static-holds}
 use Rattle.mpw_rbac.proofs.RowLemmas.{AllPass}
 use Rattle.mpw_rbac.proofs.RowTests as row
-use Rattle.mpw_rbac.proofs.Denying.{refused, refusal-same, NoneDenies, none-denied, admin-denied, permission-plain, activation-plain, ssd-plain, dsd-plain, ssd-permission, dsd-permission, dsd-activation, dsd-static, ssd-dynamic, admin-static, admin-dynamic, activation-dynamic}
+use Rattle.mpw_rbac.proofs.Denying.{refused, refusal-same, IsPlain, NoneDenies, none-denied, admin-denied, permission-plain, activation-plain, ssd-plain, dsd-plain, ssd-permission, dsd-permission, dsd-activation, dsd-static, ssd-dynamic, admin-static, admin-dynamic, activation-dynamic, none-tells}
+
+denies-administration : (conn : ℕ) (request : row.Administration)
+    → DeniesRightly conn (row.row-of request conn)
+denies-administration conn request p op obj is =
+    admin-denied p conn op obj (row.tests-of request p) (row.next-of request p)
+    (none-tells (NotPermitted op obj) (permission-plain op obj) request (λ _. ssd-permission op obj)
+    (λ _. dsd-permission op obj) p) is
 
 pub denies-adduser : (conn : ℕ) (user digest : List ℕ)
     → DeniesRightly conn (λ p. rows.adduser p conn user digest)
-denies-adduser conn user digest p op obj is =
-    let f = permission-plain op obj in
-    admin-denied p conn op obj (row.adduser-tests p user) (row.user_added p user digest)
-    (f.0, (f.2, tt)) is
+denies-adduser conn user digest = denies-administration conn (row.AddUser user digest)
 
 pub denies-deluser : (conn : ℕ) (user : List ℕ) → DeniesRightly conn (λ p. rows.deluser p conn user)
-denies-deluser conn user p op obj is =
-    let f = permission-plain op obj in
-    admin-denied p conn op obj (row.deluser-tests p user) (trim (row.user_deleted p user)) (f.1, tt)
-    is
+denies-deluser conn user = denies-administration conn (row.DeleteUser user)
 
 pub denies-addrole : (conn : ℕ) (role : List ℕ) → DeniesRightly conn (λ p. rows.addrole p conn role)
-denies-addrole conn role p op obj is =
-    let f = permission-plain op obj in
-    admin-denied p conn op obj (row.addrole-tests p role) (row.role_added p role) (f.0, (f.2, tt))
-    is
+denies-addrole conn role = denies-administration conn (row.AddRole role)
 
 pub denies-delrole : (conn : ℕ) (role : List ℕ) → DeniesRightly conn (λ p. rows.delrole p conn role)
-denies-delrole conn role p op obj is =
-    let f = permission-plain op obj in
-    admin-denied p conn op obj (row.delrole-tests p role) (trim (rows.without_role_of p role))
-    (f.1, (f.3, tt)) is
+denies-delrole conn role = denies-administration conn (row.DeleteRole role)
 
 pub denies-assign : (conn : ℕ) (user role : List ℕ)
     → DeniesRightly conn (λ p. rows.assign p conn user role)
-denies-assign conn user role p op obj is =
-    let f = permission-plain op obj in
-    admin-denied p conn op obj (row.assign-tests p user role) (row.assigned p user role)
-    (f.1, (f.0, (ssd-permission op obj _, tt))) is
+denies-assign conn user role = denies-administration conn (row.Assign user role)
 
 pub denies-deassign : (conn : ℕ) (user role : List ℕ)
     → DeniesRightly conn (λ p. rows.deassign p conn user role)
-denies-deassign conn user role p op obj is =
-    let f = permission-plain op obj in
-    admin-denied p conn op obj (row.deassign-tests p user role) (trim (row.deassigned p user role))
-    (f.1, tt) is
+denies-deassign conn user role = denies-administration conn (row.Deassign user role)
 
-pub denies-grant : (conn : ℕ) (new : Grant) → DeniesRightly conn (λ p. rows.grant p conn new)
-denies-grant conn new p op obj is =
-    let f = permission-plain op obj in
-    admin-denied p conn op obj (row.grant-tests p new) (row.grant_added p new)
-    (f.1, (f.0, (f.2, tt))) is
+pub denies-grant : (conn : ℕ) (grant : Grant) → DeniesRightly conn (λ p. rows.grant p conn grant)
+denies-grant conn grant = denies-administration conn (row.AddGrant grant)
 
-pub denies-revoke : (conn : ℕ) (old : Grant) → DeniesRightly conn (λ p. rows.revoke p conn old)
-denies-revoke conn old p op obj is =
-    let f = permission-plain op obj in
-    admin-denied p conn op obj (row.revoke-tests p old) (row.grant_revoked p old) (f.1, tt) is
+pub denies-revoke : (conn : ℕ) (grant : Grant) → DeniesRightly conn (λ p. rows.revoke p conn grant)
+denies-revoke conn grant = denies-administration conn (row.Revoke grant)
 
 pub denies-inherit : (conn : ℕ) (senior junior : List ℕ)
     → DeniesRightly conn (λ p. rows.inherit p conn senior junior)
-denies-inherit conn senior junior p op obj is =
-    let f = permission-plain op obj in
-    admin-denied p conn op obj (row.inherit-tests p senior junior) (row.inherited p senior junior)
-    (f.1, (f.0, (f.4, (ssd-permission op obj _, (dsd-permission op obj _, tt))))) is
+denies-inherit conn senior junior = denies-administration conn (row.Inherit senior junior)
 
 pub denies-uninherit : (conn : ℕ) (senior junior : List ℕ)
     → DeniesRightly conn (λ p. rows.uninherit p conn senior junior)
-denies-uninherit conn senior junior p op obj is =
-    let f = permission-plain op obj in
-    admin-denied p conn op obj (row.uninherit-tests p senior junior)
-    (trim (row.uninherited p senior junior)) (f.1, tt) is
+denies-uninherit conn senior junior = denies-administration conn (row.Uninherit senior junior)
 
 pub denies-ssd : (conn : ℕ) (set : SeparationSet) → DeniesRightly conn (λ p. rows.ssd p conn set)
-denies-ssd conn set p op obj is =
-    let f = permission-plain op obj in
-    admin-denied p conn op obj (row.ssd-tests p set) (row.ssd_made p set)
-    (f.0, (f.1, (ssd-permission op obj _, (f.2, tt)))) is
+denies-ssd conn set = denies-administration conn (row.MakeStatic set)
 
 pub denies-dsd : (conn : ℕ) (set : SeparationSet) → DeniesRightly conn (λ p. rows.dsd p conn set)
-denies-dsd conn set p op obj is =
-    let f = permission-plain op obj in
-    admin-denied p conn op obj (row.dsd-tests p set) (row.dsd_made p set)
-    (f.0, (f.1, (dsd-permission op obj _, (f.2, tt)))) is
+denies-dsd conn set = denies-administration conn (row.MakeDynamic set)
 
 pub denies-unssd : (conn : ℕ) (name : List ℕ) → DeniesRightly conn (λ p. rows.unssd p conn name)
-denies-unssd conn name p op obj is =
-    let f = permission-plain op obj in
-    admin-denied p conn op obj (row.unssd-tests p name) (row.ssd_removed p name) (f.1, tt) is
+denies-unssd conn name = denies-administration conn (row.RemoveStatic name)
 
 pub denies-undsd : (conn : ℕ) (name : List ℕ) → DeniesRightly conn (λ p. rows.undsd p conn name)
-denies-undsd conn name p op obj is =
-    let f = permission-plain op obj in
-    admin-denied p conn op obj (row.undsd-tests p name) (row.dsd_removed p name) (f.1, tt) is
+denies-undsd conn name = denies-administration conn (row.RemoveDynamic name)
 
 -- a denial that only one of the tests tells
 told-by : (denial : Refusal) (before : List rows.Test) (t : rows.Test) (later : List rows.Test)
@@ -139,27 +113,31 @@ passed-before denial (x ∷ xs) later next none is =
       | false ↦ λ e. absurd (none.0 (refusal-same x.1 denial e))
     ] is
 
-static-named : (o : Option Name) (name : Name) → (rows.none_broken Ssd o).0 ≡ false
-    → (rows.none_broken Ssd o).1 ≡ Ssd name → o ≡ Some name
-static-named None name is told = absurd (true≢false is)
-static-named (Some n) name is told = cc
+-- what is told of a broken set of a kind
+kind-plain : (kind : Kind) (name : Name) → IsPlain (told_broken kind name)
+kind-plain Static name = ssd-plain name
+kind-plain Dynamic name = dsd-plain name
 
-dynamic-named : (o : Option Name) (name : Name) → (rows.none_broken Dsd o).0 ≡ false
-    → (rows.none_broken Dsd o).1 ≡ Dsd name → o ≡ Some name
-dynamic-named None name is told = absurd (true≢false is)
-dynamic-named (Some n) name is told = cc
+kind-admin : (kind : Kind) (name : Name) → NotPermitted Admin Desk ≡ told_broken kind name → ⊥
+kind-admin Static name = admin-static name
+kind-admin Dynamic name = admin-dynamic name
 
-least-static : (p : Policy) (name : Name) → ((rows.ssd_holds p).0 ≡ false)
-    × ((rows.ssd_holds p).1 ≡ Ssd name) → IsLeastStatic p name
-least-static p name told =
-    let names = broken_names p.roles p.ssd (assigned_lists p.users) in
-    subst (IsLeast names) (static-named (least_name names) name told.0 told.1) (least-is names)
+told-named : (kind : Kind) (o : Option Name) (name : Name)
+    → (rows.none_broken (told_broken kind) o).0 ≡ false
+    → (rows.none_broken (told_broken kind) o).1 ≡ told_broken kind name → o ≡ Some name
+told-named kind None name is told = absurd (true≢false is)
+told-named Static (Some n) name is told = cc
+told-named Dynamic (Some n) name is told = cc
 
-least-dynamic : (p : Policy) (name : Name) → ((rows.dsd_holds p).0 ≡ false)
-    × ((rows.dsd_holds p).1 ≡ Dsd name) → IsLeastDynamic p name
-least-dynamic p name told =
-    let names = broken_names p.roles p.dsd (active_lists p.sessions) in
-    subst (IsLeast names) (dynamic-named (least_name names) name told.0 told.1) (least-is names)
+abbrev kind_names : Kind → Policy → List Name
+kind_names kind p = broken_names p.roles (kind_sets kind p) (bound_lists kind p)
+
+least-told : (kind : Kind) (names : List Name) (name : Name)
+    → ((rows.none_broken (told_broken kind) (least_name names)).0 ≡ false)
+    × ((rows.none_broken (told_broken kind) (least_name names)).1 ≡ told_broken kind name)
+    → IsLeast names (Some name)
+least-told kind names name told =
+    subst (IsLeast names) (told-named kind (least_name names) name told.0 told.1) (least-is names)
 
 pub least-assign : (p : Policy) (conn : ℕ) (user role name : List ℕ)
     → rows.assign p conn user role ≡ Err (Ssd name) → IsLeastStatic (row.assigned p user role) name
@@ -168,7 +146,7 @@ least-assign p conn user role name is =
     let before : List rows.Test = rows.in_session p conn ∷ rows.administers p conn
     ∷ (is_user p user && is_role p.roles role, Unknown)
     ∷ (not (contains_name (assigned_roles p user) role), Known) ∷ [] in
-    least-static (row.assigned p user role) name
+    least-told Static (kind_names Static (row.assigned p user role)) name
     (told-by (Ssd name) before (rows.ssd_holds (row.assigned p user role)) []
     (row.assigned p user role) (f.5, (admin-static name, (f.1, (f.0, tt)))) tt is)
 
@@ -187,7 +165,8 @@ pub least-inherit_static : (p : Policy) (conn : ℕ) (senior junior name : List 
 least-inherit_static p conn senior junior name is =
     let f = ssd-plain name in
     let next = row.inherited p senior junior in
-    least-static next name (told-by (Ssd name) (inherit-before p conn senior junior)
+    least-told Static (kind_names Static next) name
+    (told-by (Ssd name) (inherit-before p conn senior junior)
     (rows.ssd_holds next) (rows.dsd_holds next ∷ []) next
     (f.5, (admin-static name, (f.1, (f.0, (f.4, tt))))) (dsd-static name _, tt) is)
 
@@ -197,7 +176,8 @@ pub least-inherit_dynamic : (p : Policy) (conn : ℕ) (senior junior name : List
 least-inherit_dynamic p conn senior junior name is =
     let f = dsd-plain name in
     let next = row.inherited p senior junior in
-    least-dynamic next name (told-by (Dsd name) (inherit-before p conn senior junior
+    least-told Dynamic (kind_names Dynamic next) name
+    (told-by (Dsd name) (inherit-before p conn senior junior
     ++ rows.ssd_holds next ∷ []) (rows.dsd_holds next) [] next
     (f.5, (admin-dynamic name, (f.1, (f.0, (f.4, (ssd-dynamic name _, tt)))))) tt is)
 
@@ -220,33 +200,33 @@ least-activate p conn role name is =
     let before : List rows.Test = rows.in_session p conn
     ∷ (contains_name (authorized p (rows.user_of p conn)) role, NotAuthorized role)
     ∷ (not (contains_name (rows.active_roles p conn) role), Known) ∷ [] in
-    least-dynamic (row.activated p conn role) name
+    least-told Dynamic (kind_names Dynamic (row.activated p conn role)) name
     (told-by (Dsd name) before (rows.dsd_holds (row.activated p conn role)) []
     (row.activated p conn role) (f.5, (activation-dynamic role name, (f.0, tt))) tt is)
 
+-- a set that is made
+least-made : (kind : Kind) (p : Policy) (conn : ℕ) (set : SeparationSet) (name : Name)
+    → make_set kind p conn set ≡ Err (told_broken kind name)
+    → IsLeast (broken_names p.roles (kind_sets kind p ++ set ∷ []) (bound_lists kind p)) (Some name)
+least-made kind p conn set name is =
+    let f = kind-plain kind name in
+    let sets = kind_sets kind p ++ set ∷ [] in
+    let names = broken_names p.roles sets (bound_lists kind p) in
+    let before : List rows.Test = rows.in_session p conn ∷ rows.administers p conn
+    ∷ (not (has_set (kind_sets kind p) set.name), Known)
+    ∷ (list_all (is_role p.roles) set.roles, Unknown) ∷ [] in
+    least-told kind names name
+    (told-by (told_broken kind name) before (rows.none_broken (told_broken kind) (least_name names))
+    ((nat_lt (length (kind_sets kind p)) 64, Full) ∷ []) (with_sets kind p sets)
+    (f.5, (kind-admin kind name, (f.0, (f.1, tt)))) (f.2, tt) is)
+
 pub least-ssd : (p : Policy) (conn : ℕ) (set : SeparationSet) (name : List ℕ)
     → rows.ssd p conn set ≡ Err (Ssd name) → IsLeastStatic (row.ssd_made p set) name
-least-ssd p conn set name is =
-    let f = ssd-plain name in
-    let before : List rows.Test = rows.in_session p conn ∷ rows.administers p conn
-    ∷ (not (has_set p.ssd set.name), Known) ∷ (list_all (is_role p.roles) set.roles, Unknown)
-    ∷ [] in
-    least-static (row.ssd_made p set) name
-    (told-by (Ssd name) before (rows.ssd_holds (row.ssd_made p set))
-    ((nat_lt (length p.ssd) 64, Full) ∷ []) (row.ssd_made p set)
-    (f.5, (admin-static name, (f.0, (f.1, tt)))) (f.2, tt) is)
+least-ssd p conn set name is = least-made Static p conn set name is
 
 pub least-dsd : (p : Policy) (conn : ℕ) (set : SeparationSet) (name : List ℕ)
     → rows.dsd p conn set ≡ Err (Dsd name) → IsLeastDynamic (row.dsd_made p set) name
-least-dsd p conn set name is =
-    let f = dsd-plain name in
-    let before : List rows.Test = rows.in_session p conn ∷ rows.administers p conn
-    ∷ (not (has_set p.dsd set.name), Known) ∷ (list_all (is_role p.roles) set.roles, Unknown)
-    ∷ [] in
-    least-dynamic (row.dsd_made p set) name
-    (told-by (Dsd name) before (rows.dsd_holds (row.dsd_made p set))
-    ((nat_lt (length p.dsd) 64, Full) ∷ []) (row.dsd_made p set)
-    (f.5, (admin-dynamic name, (f.0, (f.1, tt)))) (f.2, tt) is)
+least-dsd p conn set name is = least-made Dynamic p conn set name is
 
 activation-same : (role other : Name) → NotAuthorized role ≡ NotAuthorized other → other ≡ role
 activation-same role other e = cc
@@ -265,46 +245,21 @@ denies-activate p conn role other is =
     (activation-same role other told.1, told.0)
 
 -- the requests of a session want no permission
-opened-permission : (operation : Operation) (object : Object)
-    → Opened ≡ NotPermitted operation object → ⊥
-opened-permission operation object e = cc
-
-login-permission : (operation : Operation) (object : Object) → Login ≡ NotPermitted operation object
-    → ⊥
-login-permission operation object e = cc
-
-activation-permission : (role : Name) (operation : Operation) (object : Object)
-    → NotAuthorized role ≡ NotPermitted operation object → ⊥
-activation-permission role operation object e = cc
-
 pub denies-open_session : (conn : ℕ) (user digest : List ℕ)
     → DeniesRightly conn (λ p. rows.open_session p conn user digest)
 denies-open_session conn user digest p op obj is =
-    absurd (none-denied (NotPermitted op obj) (row.open-tests p conn user digest)
-    (row.opened p conn user) (opened-permission op obj, (login-permission op obj, tt)) is)
+    absurd (no_permission-open_session conn user digest p op obj is)
 
 pub denies-close_session : (conn : ℕ) → DeniesRightly conn (λ p. rows.close_session p conn)
-denies-close_session conn p op obj is =
-    let f = permission-plain op obj in
-    absurd (none-denied (NotPermitted op obj) (rows.in_session p conn ∷ [])
-    (rows.end_session p conn) (f.5, tt) is)
+denies-close_session conn p op obj is = absurd (no_permission-close_session conn p op obj is)
 
 pub denies-drop_role : (conn : ℕ) (role : List ℕ)
     → DeniesRightly conn (λ p. rows.drop_role p conn role)
-denies-drop_role conn role p op obj is =
-    let f = permission-plain op obj in
-    absurd (none-denied (NotPermitted op obj) (row.drop-tests p conn role) (row.dropped p conn role)
-    (f.5, (f.1, tt)) is)
+denies-drop_role conn role p op obj is = absurd (no_permission-drop_role conn role p op obj is)
 
 pub denies-activation : (conn : ℕ) (role : List ℕ)
     → DeniesRightly conn (λ p. rows.activate p conn role)
-denies-activation conn role p op obj is =
-    let f = permission-plain op obj in
-    absurd (none-denied (NotPermitted op obj) (row.activate-tests p conn role)
-    (row.activated p conn role) (
-      f.5,
-      (activation-permission role op obj, (f.0, (dsd-permission op obj _, tt))),
-    ) is)
+denies-activation conn role p op obj is = absurd (no_permission-activate conn role p op obj is)
 
 abbrev untold : Refusal → Result Identity Refusal
 untold r = Err r

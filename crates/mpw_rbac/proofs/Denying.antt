@@ -7,14 +7,16 @@ use Rattle.mpw_roles.specs.Hierarchy.{Name}
 use Rattle.mpw_roles.specs.Order.{roles_below}
 use Rattle.mpw_roles.proofs.CallerLemmas.{or_cases, or_right, roles_below-grows}
 use Rattle.mpw_rbac.specs.Grant.{operation_eq, object_eq}
-use Rattle.mpw_rbac.specs.Policy.{Policy, permits, is_granted_to, session_permits}
+use Rattle.mpw_rbac.specs.Laws.{IsPart, PermitsNoLess}
+use Rattle.mpw_rbac.specs.Policy.{Policy, permits, is_granted_to}
 use Rattle.mpw_rbac.specs.Rows as rows
 use Rattle.mpw_rbac.specs.declared.permission.Object.{Object}
 use Rattle.mpw_rbac.specs.declared.permission.Object.TheVariants.{Desk}
 use Rattle.mpw_rbac.specs.declared.permission.Operation.{Operation}
 use Rattle.mpw_rbac.specs.declared.permission.Operation.TheVariants.{Admin}
 use Rattle.mpw_rbac.specs.declared.refusal.Refusal.{Refusal}
-use Rattle.mpw_rbac.specs.declared.refusal.Refusal.TheVariants.{NoSession, NotPermitted, NotAuthorized, Unknown, Known, Full, Used, Loop, Ssd, Dsd}
+use Rattle.mpw_rbac.specs.declared.refusal.Refusal.TheVariants.{Opened, Login, NoSession, NotPermitted, NotAuthorized, Unknown, Known, Full, Used, Loop, Ssd, Dsd}
+use Rattle.mpw_rbac.proofs.RowTests as row
 
 and_three : (a b c d : Bool) → (c ≡ true → d ≡ true) → (a && (b && c)) ≡ true
     → (a && (b && d)) ≡ true
@@ -31,10 +33,7 @@ any-more p q more (x ∷ xs) is = elim (or_cases (p x) (list_any p xs) is) [
 ]
 
 pub permits-more : (policy : Policy) (user : Name) (few many : List Name) (operation : Operation)
-    (object : Object) → ((role : Name) → contains_name few role ≡ true
-    → contains_name many role ≡ true)
-    → session_permits policy (record { user = user; active = few }) operation object ≡ true
-    → session_permits policy (record { user = user; active = many }) operation object ≡ true
+    (object : Object) → IsPart few many → PermitsNoLess policy user few many operation object
 permits-more policy user few many operation object more is =
     any-more (is_granted_to (roles_below policy.roles few) operation object)
     (is_granted_to (roles_below policy.roles many) operation object)
@@ -108,7 +107,8 @@ pub dsd-permission : (operation : Operation) (object : Object) (o : Option Name)
 dsd-permission operation object None e = cc
 dsd-permission operation object (Some n) e = cc
 
-pub dsd-activation : (role : Name) (o : Option Name) → (rows.none_broken Dsd o).1 ≡ NotAuthorized role
+pub dsd-activation : (role : Name) (o : Option Name)
+    → (rows.none_broken Dsd o).1 ≡ NotAuthorized role
     → ⊥
 dsd-activation role None e = cc
 dsd-activation role (Some n) e = cc
@@ -127,5 +127,63 @@ admin-static name e = cc
 pub admin-dynamic : (name : Name) → NotPermitted Admin Desk ≡ Dsd name → ⊥
 admin-dynamic name e = cc
 
+pub activation-static : (role name : Name) → NotAuthorized role ≡ Ssd name → ⊥
+activation-static role name e = cc
+
 pub activation-dynamic : (role name : Name) → NotAuthorized role ≡ Dsd name → ⊥
 activation-dynamic role name e = cc
+
+pub activation-permission : (role : Name) (operation : Operation) (object : Object)
+    → NotAuthorized role ≡ NotPermitted operation object → ⊥
+activation-permission role operation object e = cc
+
+-- an administrative request tells no denial but of what it tests
+pub none-tells : (denial : Refusal) → IsPlain denial → (request : row.Administration)
+    → (row.tests_static request ≡ true → (o : Option Name)
+    → (rows.none_broken Ssd o).1 ≡ denial → ⊥)
+    → (row.tests_dynamic request ≡ true → (o : Option Name)
+    → (rows.none_broken Dsd o).1 ≡ denial → ⊥) → (p : Policy)
+    → NoneDenies denial (row.tests-of request p)
+none-tells denial f (row.AddUser user digest) static dynamic p = (f.0, (f.2, tt))
+none-tells denial f (row.DeleteUser user) static dynamic p = (f.1, tt)
+none-tells denial f (row.AddRole role) static dynamic p = (f.0, (f.2, tt))
+none-tells denial f (row.DeleteRole role) static dynamic p = (f.1, (f.3, tt))
+none-tells denial f (row.Assign user role) static dynamic p = (f.1, (f.0, (static refl _, tt)))
+none-tells denial f (row.Deassign user role) static dynamic p = (f.1, tt)
+none-tells denial f (row.AddGrant new) static dynamic p = (f.1, (f.0, (f.2, tt)))
+none-tells denial f (row.Revoke old) static dynamic p = (f.1, tt)
+none-tells denial f (row.Inherit senior junior) static dynamic p =
+    (f.1, (f.0, (f.4, (static refl _, (dynamic refl _, tt)))))
+none-tells denial f (row.Uninherit senior junior) static dynamic p = (f.1, tt)
+none-tells denial f (row.MakeStatic set) static dynamic p =
+    (f.0, (f.1, (static refl _, (f.2, tt))))
+none-tells denial f (row.MakeDynamic set) static dynamic p =
+    (f.0, (f.1, (dynamic refl _, (f.2, tt))))
+none-tells denial f (row.RemoveStatic name) static dynamic p = (f.1, tt)
+none-tells denial f (row.RemoveDynamic name) static dynamic p = (f.1, tt)
+
+-- nor does a request of a session's own roles
+pub none-tells-opened : (denial : Refusal) → (Opened ≡ denial → ⊥) → (Login ≡ denial → ⊥)
+    → (conn : ℕ) (user digest : List ℕ) (p : Policy)
+    → rows.open_session p conn user digest ≡ refused denial → ⊥
+none-tells-opened denial opened login conn user digest p is =
+    none-denied denial (row.open-tests p conn user digest) (row.opened p conn user)
+    (opened, (login, tt)) is
+
+pub none-tells-closed : (denial : Refusal) → IsPlain denial → (conn : ℕ) (p : Policy)
+    → rows.close_session p conn ≡ refused denial → ⊥
+none-tells-closed denial f conn p is =
+    none-denied denial (rows.in_session p conn ∷ []) (rows.end_session p conn) (f.5, tt) is
+
+pub none-tells-dropped : (denial : Refusal) → IsPlain denial → (conn : ℕ) (role : Name)
+    (p : Policy) → rows.drop_role p conn role ≡ refused denial → ⊥
+none-tells-dropped denial f conn role p is =
+    none-denied denial (row.drop-tests p conn role) (row.dropped p conn role) (f.5, (f.1, tt)) is
+
+pub none-tells-activated : (denial : Refusal) → IsPlain denial → (conn : ℕ) (role : Name)
+    → (NotAuthorized role ≡ denial → ⊥)
+    → ((o : Option Name) → (rows.none_broken Dsd o).1 ≡ denial → ⊥) → (p : Policy)
+    → rows.activate p conn role ≡ refused denial → ⊥
+none-tells-activated denial f conn role authorized dynamic p is =
+    none-denied denial (row.activate-tests p conn role) (row.activated p conn role)
+    (f.5, (authorized, (f.0, (dynamic _, tt)))) is

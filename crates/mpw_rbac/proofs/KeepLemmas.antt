@@ -1,11 +1,11 @@
 -- Each change of the policy keeps what every policy keeps.
-use Rattle.std.proofs.Common.{[], ◌≡◌, ℕ, Bool, true, false, cond, not, ◌||◌, inl, inr, ◌==◌, List, ◌∷◌, ◌++◌, map, Some, is_some, refl, sym, ap, ◌∙◌, true≢false}
+use Rattle.std.proofs.Common.{[], ◌≡◌, ℕ, Bool, true, false, not, ◌||◌, inl, inr, ◌==◌, List, ◌∷◌, ◌++◌, map, Option, is_some, refl, sym, ap, ◌∙◌, true≢false}
 use Rattle.std.specs.Prelude.{nat_lt}
-use Rattle.std.specs.List.{list_any, list_all}
+use Rattle.std.specs.List.{list_all}
 use Rattle.std.specs.Option.{option_map_or}
 use Rattle.mpw_geom.specs.Names.{name_eq, contains_name, without_name}
 use Rattle.mpw_roles.specs.Hierarchy.{Name, Hierarchy, is_role, with_role}
-use Rattle.mpw_roles.proofs.CallerLemmas.{or_cases, or_right, roles-with_role}
+use Rattle.mpw_roles.proofs.CallerLemmas.{roles-with_role}
 use Rattle.mpw_separation.specs.Separation.{breaks, is_broken, without_set}
 use Rattle.mpw_separation.specs.Set.{SeparationSet}
 use Rattle.mpw_rbac.specs.declared.permission.Grant.{Grant}
@@ -14,10 +14,10 @@ use Rattle.mpw_rbac.specs.declared.session.Session.{Session}
 use Rattle.mpw_rbac.specs.Policy.{Policy, is_user, authorized, assigned_roles, assigned_lists, active_lists, session_of}
 use Rattle.mpw_rbac.specs.Rows as rows
 use Rattle.mpw_rbac.specs.Sound.{is_authorized_session, active_authorized, sets_hold, is_proper, Sound}
-use Rattle.mpw_rbac.specs.Table.{has_key, value_at, with_value}
-use Rattle.mpw_rbac.proofs.SeparationLemmas.{not_both, not_true, both, parts, IsPart, breaks-more, holds-less, holds-proper, proper-more, any-filter, any-append, nobody-breaks, unbroken-positive, breaks-with_role, all-append, all-filter, all-last}
+use Rattle.mpw_rbac.specs.Table.{has_key, value_at}
+use Rattle.mpw_rbac.proofs.SeparationLemmas.{not_both, not_true, both, parts, breaks-more, holds-less, holds-proper, proper-more, any-filter, any-append, nobody-breaks, unbroken-positive, breaks-with_role, all-append, all-filter, all-last}
 use Rattle.mpw_rbac.proofs.SoundLemmas.{sound-adduser, sound-addrole, sound-assign, sound-open, sound-end, sound-activate}
-use Rattle.mpw_rbac.proofs.TableLemmas.{any-same}
+use Rattle.mpw_rbac.proofs.TableLemmas.{any-same, any-changed, all-changed}
 use Rattle.mpw_rbac.proofs.KeepTrimmed.{roles_of, active_of, users-less, sessions-less, without-part, apart}
 
 -- a user without roles breaks no set, and so does a session without active ones
@@ -132,90 +132,20 @@ keep-activate p conn role there dynamic s = record {
 }
 
 -- one session's active roles are fewer
-abbrev dropped : List (ℕ × Session) → ℕ → Name → Session
-dropped es conn role = record {
-  user = option_map_or (λ (s : Session). s.user)
-      (value_at (λ a b. a == b) es conn) [];
-  active = without_name (option_map_or (λ (s : Session). s.active)
-      (value_at (λ a b. a == b) es conn) []) role;
+abbrev dropped : Name → Option Session → Session
+dropped role o = record {
+  user = option_map_or (λ (s : Session). s.user) o [];
+  active = without_name (option_map_or (λ (s : Session). s.active) o []) role;
 }
 
 pub authorized-drop : (p : Policy) (conn : ℕ) (role : Name) → active_authorized p ≡ true
     → active_authorized (rows.with_active p conn (without_name (rows.active_roles p conn) role))
     ≡ true
-authorized-drop p conn role sound = by p.sessions sound
-  where
-    by : (es : List (ℕ × Session)) → list_all (λ (e : ℕ × Session). is_authorized_session p e.1) es
-        ≡ true → list_all (λ (e : ℕ × Session). is_authorized_session p e.1)
-        (with_value (λ a b. a == b) es conn (dropped es conn role)) ≡ true
-    by [] all = refl
-    by (e ∷ es) all =
-        let t = parts (is_authorized_session p e.1)
-        (list_all (λ (x : ℕ × Session). is_authorized_session p x.1) es) all in
-        elim (conn == e.0) as (λ b. list_all (λ (x : ℕ × Session). is_authorized_session p x.1)
-        (cond b
-        ((
-          e.0,
-          record {
-            user = option_map_or (λ (s : Session). s.user)
-                (cond b (Some e.1) (value_at (λ a b. a == b) es conn)) [];
-            active = without_name (option_map_or (λ (s : Session). s.active)
-                (cond b (Some e.1) (value_at (λ a b. a == b) es conn)) []) role;
-          },
-        ) ∷ es)
-        (e ∷ with_value (λ a b. a == b) es conn
-        (record {
-          user = option_map_or (λ (s : Session). s.user)
-              (cond b (Some e.1) (value_at (λ a b. a == b) es conn)) [];
-          active = without_name (option_map_or (λ (s : Session). s.active)
-              (cond b (Some e.1) (value_at (λ a b. a == b) es conn)) []) role;
-        }))) ≡ true) [
-          | true ↦
-              let session = parts (is_user p e.1.user)
-              (list_all (contains_name (authorized p e.1.user)) e.1.active) t.0 in
-              both _ _ (both (is_user p e.1.user) _ session.0
-              (all-filter (contains_name (authorized p e.1.user))
-              (λ (o : Name). not (name_eq role o)) e.1.active session.1)) t.1
-          | false ↦ both (is_authorized_session p e.1) _ t.0 (by es t.1)
-        ]
-
-dropped-less : (test : List Name → Bool) (conn : ℕ) (role : Name)
-    → ((few many : List Name) → IsPart few many → test few ≡ true → test many ≡ true)
-    → (es : List (ℕ × Session))
-    → list_any (λ e. test (active_of e)) (with_value (λ a b. a == b) es conn (dropped es conn role))
-    ≡ true → list_any (λ e. test (active_of e)) es ≡ true
-dropped-less test conn role more [] is = is
-dropped-less test conn role more (e ∷ es) is =
-    elim (conn == e.0) as (λ b. list_any (λ x. test (active_of x))
-    (cond b
-    ((
-      e.0,
-      record {
-        user = option_map_or (λ (s : Session). s.user)
-            (cond b (Some e.1) (value_at (λ a b. a == b) es conn)) [];
-        active = without_name (option_map_or (λ (s : Session). s.active)
-            (cond b (Some e.1) (value_at (λ a b. a == b) es conn)) []) role;
-      },
-    ) ∷ es)
-    (e ∷ with_value (λ a b. a == b) es conn
-    (record {
-      user = option_map_or (λ (s : Session). s.user)
-          (cond b (Some e.1) (value_at (λ a b. a == b) es conn)) [];
-      active = without_name (option_map_or (λ (s : Session). s.active)
-          (cond b (Some e.1) (value_at (λ a b. a == b) es conn)) []) role;
-    }))) ≡ true
-    → (test e.1.active || list_any (λ x. test (active_of x)) es) ≡ true) [
-      | true ↦ λ t. elim (or_cases (test (without_name e.1.active role))
-          (list_any (λ x. test (active_of x)) es) t) [
-            | inl here ↦ ap (λ b. b || list_any (λ x. test (active_of x)) es)
-                (more (without_name e.1.active role) e.1.active (without-part e.1.active role) here)
-            | inr later ↦ or_right (test e.1.active) _ later
-          ]
-      | false ↦ λ t. elim (or_cases (test e.1.active) _ t) [
-        | inl here ↦ ap (λ b. b || list_any (λ x. test (active_of x)) es) here
-        | inr later ↦ or_right (test e.1.active) _ (dropped-less test conn role more es later)
-      ]
-    ] is
+authorized-drop p conn role sound =
+    all-changed (λ a b. a == b) (dropped role) (is_authorized_session p) (λ s is.
+    let t = parts (is_user p s.user) (list_all (contains_name (authorized p s.user)) s.active) is in
+    both (is_user p s.user) _ t.0 (all-filter (contains_name (authorized p s.user))
+    (λ (o : Name). not (name_eq role o)) s.active t.1)) conn p.sessions sound
 
 pub keep-drop : (p : Policy) (conn : ℕ) (role : Name) → Sound p
     → Sound (rows.with_active p conn (without_name (rows.active_roles p conn) role))
@@ -226,9 +156,10 @@ keep-drop p conn role s =
       static = s.static;
       dynamic = holds-less p.roles p.roles (active_lists q.sessions) (active_lists p.sessions)
           (λ set. sessions-less p.roles p.roles set q.sessions p.sessions
-          (dropped-less (λ l. breaks p.roles l set) conn role
-          (λ few many part t. breaks-more p.roles p.roles few many set (λ a b is. is)
-          (λ r is. is) part t) p.sessions)) p.dsd s.dynamic;
+          (any-changed (λ a b. a == b) (dropped role) (λ x. breaks p.roles x.active set)
+          (λ x t. breaks-more p.roles p.roles (without_name x.active role) x.active set
+          (λ a b is. is) (λ r is. is) (without-part x.active role) t) conn p.sessions)) p.dsd
+          s.dynamic;
       static_proper = s.static_proper;
       dynamic_proper = s.dynamic_proper;
     }

@@ -1,22 +1,24 @@
 -- Changes that leave fewer roles to users and sessions keep what every policy keeps.
-use Rattle.std.proofs.Common.{[], ◌≡◌, ℕ, Bool, true, false, cond, not, ◌||◌, inl, inr, List, ◌∷◌, ◌++◌, map, filter, Some, refl, sym, ap, ◌∙◌, true≢false}
+use Rattle.std.proofs.Common.{[], ◌≡◌, ℕ, Bool, true, false, cond, not, ◌||◌, List, ◌∷◌, ◌++◌, map, filter, Option, refl, sym, ap, ◌∙◌, true≢false}
 use Rattle.std.specs.Prelude.{nat_lt}
 use Rattle.std.specs.List.{list_any, list_all}
 use Rattle.std.specs.Option.{option_map_or}
 use Rattle.mpw_geom.specs.Names.{name_eq, contains_name, without_name}
 use Rattle.mpw_roles.specs.Hierarchy.{Name, Hierarchy, is_role, is_immediate, immediate_juniors, without_role, with_pair, without_pair}
-use Rattle.mpw_roles.proofs.CallerLemmas.{or_cases, or_right, contains-filter, contains-without, roles_below-grows, pairs-without_role, names-without_role, roles-left, pairs-without_pair, pairs-with_pair, names-with_juniors, first_role}
+use Rattle.mpw_roles.proofs.CallerLemmas.{contains-filter, contains-without, roles_below-grows, pairs-without_role, names-without_role, roles-left, pairs-without_pair, pairs-with_pair, names-with_juniors, first_role}
 use Rattle.mpw_separation.specs.Separation.{breaks, is_broken, has_role, uses_role}
 use Rattle.mpw_separation.specs.Set.{SeparationSet}
 use Rattle.mpw_rbac.specs.declared.permission.Grant.{Grant}
 use Rattle.mpw_rbac.specs.declared.session.User.{User}
 use Rattle.mpw_rbac.specs.declared.session.Session.{Session}
+use Rattle.mpw_rbac.specs.Laws.{IsPart}
 use Rattle.mpw_rbac.specs.Policy.{Policy, is_user, authorized, assigned_roles, assigned_lists, active_lists, kept_roles, trim}
 use Rattle.mpw_rbac.specs.Rows as rows
 use Rattle.mpw_rbac.specs.Sound.{is_authorized_session, active_authorized, sets_hold, is_proper, Sound}
 use Rattle.mpw_rbac.specs.Table.{value_at, with_value, without_key}
-use Rattle.mpw_rbac.proofs.SeparationLemmas.{both, parts, IsPart, breaks-more, holds-less, proper-more, any-map, any-more, any-filter, all-filter_self}
+use Rattle.mpw_rbac.proofs.SeparationLemmas.{both, parts, breaks-more, holds-less, proper-more, any-map, any-more, any-filter, all-filter_self}
 use Rattle.mpw_rbac.proofs.SoundLemmas.{sound-grows}
+use Rattle.mpw_rbac.proofs.TableLemmas.{any-changed}
 
 abbrev pub roles_of : Name × User → List Name
 roles_of e = e.1.roles
@@ -174,64 +176,19 @@ keep-delrole p role no_ssd no_dsd s =
     (left-proper p.roles role p.dsd no_dsd s.dynamic_proper) s
 
 -- one user's roles are fewer
-assigned-less : (test : List Name → Bool) (role : Name) (digest : List ℕ) (user : Name)
-    → ((few many : List Name) → IsPart few many → test few ≡ true → test many ≡ true)
-    → (es : List (Name × User))
-    → list_any (λ e. test (roles_of e))
-    (with_value name_eq es user (record {
-      digest = digest;
-      roles = without_name
-          (option_map_or (λ (x : User). x.roles) (value_at name_eq es user) []) role;
-    })) ≡ true
-    → list_any (λ e. test (roles_of e)) es ≡ true
-assigned-less test role digest user more [] is = is
-assigned-less test role digest user more (e ∷ es) is =
-    elim (name_eq user e.0) as (λ b.
-    list_any (λ x. test (roles_of x)) (cond b
-    ((
-      e.0,
-      record {
-        digest = digest;
-        roles = without_name
-            (option_map_or (λ (x : User). x.roles) (cond b (Some e.1) (value_at name_eq es user))
-            [])
-            role;
-      },
-    ) ∷ es)
-    (e ∷ with_value name_eq es user (record {
-      digest = digest;
-      roles = without_name
-          (option_map_or (λ (x : User). x.roles) (cond b (Some e.1) (value_at name_eq es user)) [])
-          role;
-    }))) ≡ true
-    → (test e.1.roles || list_any (λ x. test (roles_of x)) es) ≡ true) [
-      | true ↦ λ t. elim (or_cases (test (without_name e.1.roles role))
-          (list_any (λ x. test (roles_of x)) es) t) [
-            | inl here ↦ ap (λ b. b || list_any (λ x. test (roles_of x)) es)
-                (more (without_name e.1.roles role) e.1.roles (without-part e.1.roles role) here)
-            | inr later ↦ or_right (test e.1.roles) _ later
-          ]
-      | false ↦ λ t. elim (or_cases (test e.1.roles) _ t) [
-        | inl here ↦ ap (λ b. b || list_any (λ x. test (roles_of x)) es) here
-        | inr later ↦ or_right (test e.1.roles) _
-            (assigned-less test role digest user more es later)
-      ]
-    ] is
-
 pub keep-deassign : (p : Policy) (user role : Name) → Sound p
     → Sound (trim (rows.with_assigned p user (without_name (assigned_roles p user) role)))
 keep-deassign p user role s =
-    let us = with_value name_eq p.users user
-    (record {
+    let fewer : Option User → User = λ o. record {
       digest = rows.digest_of_user p user;
-      roles = without_name (assigned_roles p user)
-          role;
-    }) in
+      roles = without_name (option_map_or (λ (u : User). u.roles) o []) role;
+    } in
+    let us = with_value name_eq p.users user (fewer (value_at name_eq p.users user)) in
     keep-trim p us p.roles p.granted (λ a b is. is) (λ r is. is)
     (λ set. users-less p.roles p.roles set roles_of us p.users
-    (assigned-less (λ l. breaks p.roles l set) role (rows.digest_of_user p user) user
-    (λ few many part t. breaks-more p.roles p.roles few many set (λ a b is. is) (λ r is. is)
-    part t) p.users))
+    (any-changed name_eq fewer (λ u. breaks p.roles u.roles set)
+    (λ u t. breaks-more p.roles p.roles (without_name u.roles role) u.roles set (λ a b is. is)
+    (λ r is. is) (without-part u.roles role) t) user p.users))
     s.static_proper s.dynamic_proper s
 
 pub keep-uninherit : (p : Policy) (senior junior : Name) → is_immediate p.roles senior junior ≡ true

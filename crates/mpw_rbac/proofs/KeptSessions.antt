@@ -5,6 +5,7 @@ use Rattle.mpw_rbac.specs.Existing.{assigns_roles, leads_to_roles, grants_roles,
 use Rattle.mpw_rbac.specs.Policy.{Policy, new_policy}
 use Rattle.mpw_rbac.specs.Rows as rows
 use Rattle.mpw_rbac.specs.Sound.{Sound}
+use Rattle.mpw_rbac.specs.declared.session.Session.{Session}
 use Rattle.mpw_rbac.proofs.ExistingLemmas as there
 use Rattle.mpw_rbac.proofs.LawLemmas as law
 use Rattle.mpw_rbac.proofs.RowLemmas.{decided-value}
@@ -40,79 +41,38 @@ kept-new_desk officer digest =
       };
     }
 
+-- a row of sessions leaves the other tables as they are
+of-sessions : (p : Policy) (sessions : List (ℕ × Session)) (tests : List rows.Test) (q : Policy)
+    → decided tests (record p { sessions = sessions }) ≡ Ok q → Sound q → AreTablesSound p
+    → AreTablesSound q
+of-sessions p sessions tests q is sound k =
+    kept tests (record p { sessions = sessions }) q is sound k.names.assignments k.names.pairs
+    k.names.grants (grind (arith, k.limits))
+
 pub kept-end_session : (conn : ℕ) → KeepsTables (λ p. Ok (rows.end_session p conn))
-kept-end_session conn p q is k =
-    kept [] (rows.end_session p conn) q is (law.sound-end_session conn p q is k.sound)
-    (k.names.assignments) (k.names.pairs) (k.names.grants)
-    (record {
-      users = k.limits.users;
-      roles = k.limits.roles;
-      grants = k.limits.grants;
-      static = k.limits.static;
-      dynamic = k.limits.dynamic;
-    })
+kept-end_session conn p q is k = of-sessions p (rows.end_session p conn).sessions [] q is
+    (law.sound-end_session conn p q is k.sound) k
 
 pub kept-end_sessions : KeepsTables (λ p. Ok (rows.end_sessions p))
-kept-end_sessions p q is k =
-    kept [] (rows.end_sessions p) q is (law.sound-end_sessions p q is k.sound)
-    (k.names.assignments) (k.names.pairs) (k.names.grants)
-    (record {
-      users = k.limits.users;
-      roles = k.limits.roles;
-      grants = k.limits.grants;
-      static = k.limits.static;
-      dynamic = k.limits.dynamic;
-    })
+kept-end_sessions p q is k = of-sessions p [] [] q is (law.sound-end_sessions p q is k.sound) k
 
 pub kept-open_session : (conn : ℕ) (user digest : List ℕ)
     → KeepsTables (λ p. rows.open_session p conn user digest)
 kept-open_session conn user digest p q is k =
-    kept (row.open-tests p conn user digest) (row.opened p conn user) q is
-    (law.sound-open_session conn user digest p q is k.sound)
-    (k.names.assignments) (k.names.pairs) (k.names.grants)
-    (record {
-      users = k.limits.users;
-      roles = k.limits.roles;
-      grants = k.limits.grants;
-      static = k.limits.static;
-      dynamic = k.limits.dynamic;
-    })
+    of-sessions p (row.opened p conn user).sessions (row.open-tests p conn user digest) q is
+    (law.sound-open_session conn user digest p q is k.sound) k
 
 pub kept-close_session : (conn : ℕ) → KeepsTables (λ p. rows.close_session p conn)
 kept-close_session conn p q is k =
-    kept (rows.in_session p conn ∷ []) (rows.end_session p conn) q is
-    (law.sound-close_session conn p q is k.sound)
-    (k.names.assignments) (k.names.pairs) (k.names.grants)
-    (record {
-      users = k.limits.users;
-      roles = k.limits.roles;
-      grants = k.limits.grants;
-      static = k.limits.static;
-      dynamic = k.limits.dynamic;
-    })
+    of-sessions p (rows.end_session p conn).sessions (rows.in_session p conn ∷ []) q is
+    (law.sound-close_session conn p q is k.sound) k
 
 pub kept-activate : (conn : ℕ) (role : List ℕ) → KeepsTables (λ p. rows.activate p conn role)
 kept-activate conn role p q is k =
-    kept (row.activate-tests p conn role) (row.activated p conn role) q is
-    (law.sound-activate_row conn role p q is k.sound)
-    (k.names.assignments) (k.names.pairs) (k.names.grants)
-    (record {
-      users = k.limits.users;
-      roles = k.limits.roles;
-      grants = k.limits.grants;
-      static = k.limits.static;
-      dynamic = k.limits.dynamic;
-    })
+    of-sessions p (row.activated p conn role).sessions (row.activate-tests p conn role) q is
+    (law.sound-activate_row conn role p q is k.sound) k
 
 pub kept-drop_role : (conn : ℕ) (role : List ℕ) → KeepsTables (λ p. rows.drop_role p conn role)
 kept-drop_role conn role p q is k =
-    kept (row.drop-tests p conn role) (row.dropped p conn role) q is
-    (law.sound-drop_role conn role p q is k.sound)
-    (k.names.assignments) (k.names.pairs) (k.names.grants)
-    (record {
-      users = k.limits.users;
-      roles = k.limits.roles;
-      grants = k.limits.grants;
-      static = k.limits.static;
-      dynamic = k.limits.dynamic;
-    })
+    of-sessions p (row.dropped p conn role).sessions (row.drop-tests p conn role) q is
+    (law.sound-drop_role conn role p q is k.sound) k

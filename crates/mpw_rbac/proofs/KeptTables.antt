@@ -27,28 +27,19 @@ kept-adduser conn user digest p q is k =
     refl)
     (k.names.pairs)
     (k.names.grants)
-    (record {
-      users = there.one_more p.users (user, record { digest = digest; roles = [] }) 512
-          t.1.1.1.0;
-      roles = k.limits.roles;
-      grants = k.limits.grants;
-      static = k.limits.static;
-      dynamic = k.limits.dynamic;
-    })
+    (grind (
+      arith,
+      k.limits,
+      there.one_more p.users (user, record { digest = digest; roles = [] })
+          512 t.1.1.1.0,
+    ))
 
 pub kept-deluser : (conn : ℕ) (user : List ℕ) → KeepsTables (λ p. rows.deluser p conn user)
 kept-deluser conn user p q is k =
     kept (row.administer-tests p conn (row.deluser-tests p user)) (trim (row.user_deleted p user)) q
     is (law.sound-deluser conn user p q is k.sound)
     (all-filter _ (λ e. not (name_eq user e.0)) p.users k.names.assignments) (k.names.pairs)
-    (k.names.grants) (record {
-      users = omega
-          (arith, there.fewer (λ e. not (name_eq user e.0)) p.users, k.limits.users);
-      roles = k.limits.roles;
-      grants = k.limits.grants;
-      static = k.limits.static;
-      dynamic = k.limits.dynamic;
-    })
+    (k.names.grants) (grind (arith, k.limits, there.fewer (λ e. not (name_eq user e.0)) p.users))
 
 pub kept-addrole : (conn : ℕ) (role : List ℕ) → KeepsTables (λ p. rows.addrole p conn role)
 kept-addrole conn role p q is k =
@@ -63,13 +54,7 @@ kept-addrole conn role p q is k =
     k.names.pairs) refl)
     (there.grants-more p.roles (with_role p.roles role) (roles-with_role p.roles role) p.granted
     k.names.grants)
-    (record {
-      users = k.limits.users;
-      roles = there.one_more p.roles (role, []) 512 t.1.1.1.0;
-      grants = k.limits.grants;
-      static = k.limits.static;
-      dynamic = k.limits.dynamic;
-    })
+    (grind (arith, k.limits, there.one_more p.roles (role, []) 512 t.1.1.1.0))
 
 pub kept-delrole : (conn : ℕ) (role : List ℕ) → KeepsTables (λ p. rows.delrole p conn role)
 kept-delrole conn role p q is k =
@@ -78,17 +63,13 @@ kept-delrole conn role p q is k =
     (there.assigns-left p.roles role p.users k.names.assignments)
     (there.leads-left p.roles role k.names.pairs)
     (there.grants-left p.roles role p.granted k.names.grants)
-    (record {
-      users = omega (arith, there.same-unassigned p.users role, k.limits.users);
-      roles = omega (arith, there.fewer-roles p.roles role, k.limits.roles);
-      grants = omega (
-        arith,
-        there.fewer (λ (g : Grant). not (name_eq role g.role)) p.granted,
-        k.limits.grants,
-      );
-      static = k.limits.static;
-      dynamic = k.limits.dynamic;
-    })
+    (grind (
+      arith,
+      k.limits,
+      there.same-unassigned p.users role,
+      there.fewer-roles p.roles role,
+      there.fewer (λ (g : Grant). not (name_eq role g.role)) p.granted,
+    ))
 
 pub kept-assign : (conn : ℕ) (user role : List ℕ) → KeepsTables (λ p. rows.assign p conn user role)
 kept-assign conn user role p q is k =
@@ -102,22 +83,16 @@ kept-assign conn user role p q is k =
     (both (is_role p.roles role) true (parts _ (is_role p.roles role) t.1.1.0).1 refl)))
     (k.names.pairs)
     (k.names.grants)
-    (record {
-      users = omega (
-        arith,
-        there.same-users p.users user
-            (record {
-              digest = rows.digest_of_user p user;
-              roles = assigned_roles p user ++ role
-                  ∷ [];
-            }),
-        k.limits.users,
-      );
-      roles = k.limits.roles;
-      grants = k.limits.grants;
-      static = k.limits.static;
-      dynamic = k.limits.dynamic;
-    })
+    (grind (
+      arith,
+      k.limits,
+      there.same-users p.users user
+          (record {
+            digest = rows.digest_of_user p user;
+            roles = assigned_roles p user ++ role
+                ∷ [];
+          }),
+    ))
 
 pub kept-deassign : (conn : ℕ) (user role : List ℕ)
     → KeepsTables (λ p. rows.deassign p conn user role)
@@ -129,22 +104,16 @@ kept-deassign conn user role p q is k =
     (there.roles-assigned p.roles p.users user k.names.assignments)))
     (k.names.pairs)
     (k.names.grants)
-    (record {
-      users = omega (
-        arith,
-        there.same-users p.users user
-            (record {
-              digest = rows.digest_of_user p user;
-              roles = without_name (assigned_roles p user)
-                  role;
-            }),
-        k.limits.users,
-      );
-      roles = k.limits.roles;
-      grants = k.limits.grants;
-      static = k.limits.static;
-      dynamic = k.limits.dynamic;
-    })
+    (grind (
+      arith,
+      k.limits,
+      there.same-users p.users user
+          (record {
+            digest = rows.digest_of_user p user;
+            roles = without_name (assigned_roles p user)
+                role;
+          }),
+    ))
 
 pub kept-grant : (conn : ℕ) (new : Grant) → KeepsTables (λ p. rows.grant p conn new)
 kept-grant conn new p q is k =
@@ -155,14 +124,7 @@ kept-grant conn new p q is k =
     (k.names.assignments) (k.names.pairs)
     (all-append _ p.granted (new ∷ []) k.names.grants
     (both (is_role p.roles new.role) true t.1.1.0 refl))
-    (record {
-      users = k.limits.users;
-      roles = k.limits.roles;
-      grants = there.one_more p.granted
-          new 4096 t.1.1.1.1.0;
-      static = k.limits.static;
-      dynamic = k.limits.dynamic;
-    })
+    (grind (arith, k.limits, there.one_more p.granted new 4096 t.1.1.1.1.0))
 
 pub kept-revoke : (conn : ℕ) (old : Grant) → KeepsTables (λ p. rows.revoke p conn old)
 kept-revoke conn old p q is k =
@@ -171,17 +133,7 @@ kept-revoke conn old p q is k =
     (k.names.assignments)
     (k.names.pairs)
     (all-filter _ (λ other. not (grant_eq old other)) p.granted k.names.grants)
-    (record {
-      users = k.limits.users;
-      roles = k.limits.roles;
-      grants = omega (
-        arith,
-        there.fewer (λ other. not (grant_eq old other)) p.granted,
-        k.limits.grants,
-      );
-      static = k.limits.static;
-      dynamic = k.limits.dynamic;
-    })
+    (grind (arith, k.limits, there.fewer (λ other. not (grant_eq old other)) p.granted))
 
 pub kept-inherit : (conn : ℕ) (senior junior : List ℕ)
     → KeepsTables (λ p. rows.inherit p conn senior junior)
@@ -200,17 +152,7 @@ kept-inherit conn senior junior p q is k =
     (both (is_role p.roles junior) true
     (parts (is_role p.roles senior) (is_role p.roles junior) t.1.1.0).1 refl)))
     (there.grants-more p.roles (with_juniors p.roles senior juniors) more p.granted k.names.grants)
-    (record {
-      users = k.limits.users;
-      roles = omega (
-        arith,
-        there.same-pairs p.roles senior juniors,
-        k.limits.roles,
-      );
-      grants = k.limits.grants;
-      static = k.limits.static;
-      dynamic = k.limits.dynamic;
-    })
+    (grind (arith, k.limits, there.same-pairs p.roles senior juniors))
 
 pub kept-uninherit : (conn : ℕ) (senior junior : List ℕ)
     → KeepsTables (λ p. rows.uninherit p conn senior junior)
@@ -226,17 +168,7 @@ kept-uninherit conn senior junior p q is k =
     (there.all-without p.roles (immediate_juniors p.roles senior) junior
     (there.roles-linked p.roles p.roles senior k.names.pairs)))
     (there.grants-more p.roles (with_juniors p.roles senior juniors) more p.granted k.names.grants)
-    (record {
-      users = k.limits.users;
-      roles = omega (
-        arith,
-        there.same-pairs p.roles senior juniors,
-        k.limits.roles,
-      );
-      grants = k.limits.grants;
-      static = k.limits.static;
-      dynamic = k.limits.dynamic;
-    })
+    (grind (arith, k.limits, there.same-pairs p.roles senior juniors))
 
 pub kept-ssd : (conn : ℕ) (set : SeparationSet) → KeepsTables (λ p. rows.ssd p conn set)
 kept-ssd conn set p q is k =
@@ -245,13 +177,7 @@ kept-ssd conn set p q is k =
     kept (row.administer-tests p conn (row.ssd-tests p set)) (row.ssd_made p set) q is
     (law.sound-ssd conn set p q is k.sound)
     (k.names.assignments) (k.names.pairs) (k.names.grants)
-    (record {
-      users = k.limits.users;
-      roles = k.limits.roles;
-      grants = k.limits.grants;
-      static = there.one_more p.ssd set 64 t.1.1.1.1.1.0;
-      dynamic = k.limits.dynamic;
-    })
+    (grind (arith, k.limits, there.one_more p.ssd set 64 t.1.1.1.1.1.0))
 
 pub kept-dsd : (conn : ℕ) (set : SeparationSet) → KeepsTables (λ p. rows.dsd p conn set)
 kept-dsd conn set p q is k =
@@ -260,45 +186,28 @@ kept-dsd conn set p q is k =
     kept (row.administer-tests p conn (row.dsd-tests p set)) (row.dsd_made p set) q is
     (law.sound-dsd conn set p q is k.sound)
     (k.names.assignments) (k.names.pairs) (k.names.grants)
-    (record {
-      users = k.limits.users;
-      roles = k.limits.roles;
-      grants = k.limits.grants;
-      static = k.limits.static;
-      dynamic = there.one_more p.dsd set 64 t.1.1.1.1.1.0;
-    })
+    (grind (arith, k.limits, there.one_more p.dsd set 64 t.1.1.1.1.1.0))
 
 pub kept-unssd : (conn : ℕ) (name : List ℕ) → KeepsTables (λ p. rows.unssd p conn name)
 kept-unssd conn name p q is k =
     kept (row.administer-tests p conn (row.unssd-tests p name)) (row.ssd_removed p name) q is
     (law.sound-unssd conn name p q is k.sound)
     (k.names.assignments) (k.names.pairs) (k.names.grants)
-    (record {
-      users = k.limits.users;
-      roles = k.limits.roles;
-      grants = k.limits.grants;
-      static = omega (
-        arith,
-        there.fewer (λ (set : SeparationSet). not (name_eq name set.name))
-            p.ssd,
-        k.limits.static,
-      );
-      dynamic = k.limits.dynamic;
-    })
+    (grind (
+      arith,
+      k.limits,
+      there.fewer (λ (set : SeparationSet). not (name_eq name set.name))
+          p.ssd,
+    ))
 
 pub kept-undsd : (conn : ℕ) (name : List ℕ) → KeepsTables (λ p. rows.undsd p conn name)
 kept-undsd conn name p q is k =
     kept (row.administer-tests p conn (row.undsd-tests p name)) (row.dsd_removed p name) q is
     (law.sound-undsd conn name p q is k.sound)
     (k.names.assignments) (k.names.pairs) (k.names.grants)
-    (record {
-      users = k.limits.users;
-      roles = k.limits.roles;
-      grants = k.limits.grants;
-      static = k.limits.static;
-      dynamic = omega (
-        arith,
-        there.fewer (λ (set : SeparationSet). not (name_eq name set.name)) p.dsd,
-        k.limits.dynamic,
-      );
-    })
+    (grind (
+      arith,
+      k.limits,
+      there.fewer (λ (set : SeparationSet). not (name_eq name set.name))
+          p.dsd,
+    ))

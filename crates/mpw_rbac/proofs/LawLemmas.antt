@@ -4,7 +4,7 @@ use Rattle.mpw_roles.specs.Decided.{decided}
 use Rattle.mpw_roles.specs.Hierarchy.{is_role}
 use Rattle.mpw_separation.specs.Separation.{least_broken, uses_role}
 use Rattle.mpw_separation.specs.Set.{SeparationSet}
-use Rattle.mpw_rbac.specs.Policy.{Policy, new_policy, trim, assigned_lists, active_lists}
+use Rattle.mpw_rbac.specs.Policy.{Policy, new_policy, assigned_lists, active_lists}
 use Rattle.mpw_rbac.specs.Laws.{KeepsAuthorization, KeepsSound}
 use Rattle.mpw_rbac.specs.declared.permission.Grant.{Grant}
 use Rattle.mpw_rbac.specs.declared.refusal.Refusal.TheVariants.{Ssd, Dsd}
@@ -12,7 +12,7 @@ use Rattle.mpw_rbac.specs.Rows as rows
 use Rattle.mpw_rbac.specs.Sound.{active_authorized, Sound, sets_hold}
 use Rattle.mpw_rbac.proofs.KeepLemmas as keep
 use Rattle.mpw_rbac.proofs.KeepTrimmed as trimmed
-use Rattle.mpw_rbac.proofs.RowLemmas.{decided-value, all-pass, login-user}
+use Rattle.mpw_rbac.proofs.RowLemmas.{decided-value, AllPass, all-pass, login-user}
 use Rattle.mpw_rbac.proofs.RowTests as row
 use Rattle.mpw_rbac.proofs.SeparationLemmas.{parts, not_true, holds-of_none, test-none}
 use Rattle.mpw_rbac.proofs.SoundLemmas.{sound-adduser, sound-addrole, sound-assign, sound-open, sound-end, sound-activate}
@@ -106,163 +106,159 @@ pub sound-drop_role : (conn : ℕ) (role : List ℕ) → KeepsSound (λ p. rows.
 sound-drop_role conn role p q is s =
     sound (row.drop-tests p conn role) (row.dropped p conn role) q is (keep.keep-drop p conn role s)
 
+-- what an administrative request asks for, where its tests have passed
+abbrev Passed : ℕ → row.Administration → Policy → Type 0
+Passed conn request p = AllPass (row.administer-tests p conn (row.tests-of request p))
+
+authorized-next : (conn : ℕ) (request : row.Administration) (p : Policy) → Passed conn request p
+    → active_authorized p ≡ true → active_authorized (row.next-of request p) ≡ true
+authorized-next conn (row.AddUser user digest) p t s = sound-adduser p user digest s
+authorized-next conn (row.DeleteUser user) p t s = trimmed.trim-authorized (row.user_deleted p user)
+authorized-next conn (row.AddRole role) p t s = sound-addrole p role s
+authorized-next conn (row.DeleteRole role) p t s =
+    trimmed.trim-authorized (rows.without_role_of p role)
+authorized-next conn (row.Assign user role) p t s = sound-assign p user role s
+authorized-next conn (row.Deassign user role) p t s =
+    trimmed.trim-authorized (row.deassigned p user role)
+authorized-next conn (row.Inherit senior junior) p t s =
+    trimmed.authorized-inherit p senior junior
+    (parts (is_role p.roles senior) (is_role p.roles junior) t.1.1.0).0 s
+authorized-next conn (row.Uninherit senior junior) p t s =
+    trimmed.trim-authorized (row.uninherited p senior junior)
+authorized-next conn request p t s = s
+
+sound-next : (conn : ℕ) (request : row.Administration) (p : Policy) → Passed conn request p
+    → Sound p → Sound (row.next-of request p)
+sound-next conn (row.AddUser user digest) p t s = keep.keep-adduser p user digest s
+sound-next conn (row.DeleteUser user) p t s = trimmed.keep-deluser p user s
+sound-next conn (row.AddRole role) p t s = keep.keep-addrole p role s
+sound-next conn (row.DeleteRole role) p t s =
+    let unused = keep.unused (not_true (uses_role p.ssd role || uses_role p.dsd role) t.1.1.1.0) in
+    trimmed.keep-delrole p role unused.0 unused.1 s
+sound-next conn (row.Assign user role) p t s =
+    keep.keep-assign p user role (static-holds (row.assigned p user role) t.1.1.1.1.0) s
+sound-next conn (row.Deassign user role) p t s = trimmed.keep-deassign p user role s
+sound-next conn (row.AddGrant new) p t s = keep.keep-granted p (row.grant_added p new).granted s
+sound-next conn (row.Revoke old) p t s = keep.keep-granted p (row.grant_revoked p old).granted s
+sound-next conn (row.Inherit senior junior) p t s =
+    trimmed.keep-inherit p senior junior
+    (parts (is_role p.roles senior) (is_role p.roles junior) t.1.1.0).0
+    (static-holds (row.inherited p senior junior) t.1.1.1.1.1.0)
+    (dynamic-holds (row.inherited p senior junior) t.1.1.1.1.1.1.0) s
+sound-next conn (row.Uninherit senior junior) p t s =
+    trimmed.keep-uninherit p senior junior t.1.1.0 s
+sound-next conn (row.MakeStatic set) p t s = keep.keep-ssd p conn set t.0 t.1.1.1.0
+    (static-holds (row.ssd_made p set) t.1.1.1.1.0) s
+sound-next conn (row.MakeDynamic set) p t s = keep.keep-dsd p conn set t.0 t.1.1.1.0
+    (dynamic-holds (row.dsd_made p set) t.1.1.1.1.0) s
+sound-next conn (row.RemoveStatic name) p t s = keep.keep-unssd p name s
+sound-next conn (row.RemoveDynamic name) p t s = keep.keep-undsd p name s
+
+keeps-administration : (conn : ℕ) (request : row.Administration)
+    → KeepsAuthorization (row.row-of request conn)
+keeps-administration conn request p q is s =
+    let tests = row.administer-tests p conn (row.tests-of request p) in
+    let next = row.next-of request p in
+    keeps tests next q is (authorized-next conn request p (all-pass tests next q is) s)
+
+sound-administration : (conn : ℕ) (request : row.Administration)
+    → KeepsSound (row.row-of request conn)
+sound-administration conn request p q is s =
+    let tests = row.administer-tests p conn (row.tests-of request p) in
+    let next = row.next-of request p in
+    sound tests next q is (sound-next conn request p (all-pass tests next q is) s)
+
+-- each of them by its name
 pub keeps-adduser : (conn : ℕ) (user digest : List ℕ)
     → KeepsAuthorization (λ p. rows.adduser p conn user digest)
-keeps-adduser conn user digest p q is s =
-    keeps (row.administer-tests p conn (row.adduser-tests p user)) (row.user_added p user digest) q
-    is (sound-adduser p user digest s)
+keeps-adduser conn user digest = keeps-administration conn (row.AddUser user digest)
 
 pub sound-adduser_row : (conn : ℕ) (user digest : List ℕ)
     → KeepsSound (λ p. rows.adduser p conn user digest)
-sound-adduser_row conn user digest p q is s =
-    sound (row.administer-tests p conn (row.adduser-tests p user)) (row.user_added p user digest) q
-    is (keep.keep-adduser p user digest s)
+sound-adduser_row conn user digest = sound-administration conn (row.AddUser user digest)
 
 pub keeps-deluser : (conn : ℕ) (user : List ℕ) → KeepsAuthorization (λ p. rows.deluser p conn user)
-keeps-deluser conn user p q is s = keeps (row.administer-tests p conn (row.deluser-tests p user))
-    (trim (row.user_deleted p user)) q is (trimmed.trim-authorized (row.user_deleted p user))
+keeps-deluser conn user = keeps-administration conn (row.DeleteUser user)
 
 pub sound-deluser : (conn : ℕ) (user : List ℕ) → KeepsSound (λ p. rows.deluser p conn user)
-sound-deluser conn user p q is s = sound (row.administer-tests p conn (row.deluser-tests p user))
-    (trim (row.user_deleted p user)) q is (trimmed.keep-deluser p user s)
+sound-deluser conn user = sound-administration conn (row.DeleteUser user)
 
 pub keeps-addrole : (conn : ℕ) (role : List ℕ) → KeepsAuthorization (λ p. rows.addrole p conn role)
-keeps-addrole conn role p q is s = keeps (row.administer-tests p conn (row.addrole-tests p role))
-    (row.role_added p role) q is (sound-addrole p role s)
+keeps-addrole conn role = keeps-administration conn (row.AddRole role)
 
 pub sound-addrole_row : (conn : ℕ) (role : List ℕ) → KeepsSound (λ p. rows.addrole p conn role)
-sound-addrole_row conn role p q is s =
-    sound (row.administer-tests p conn (row.addrole-tests p role)) (row.role_added p role) q is
-    (keep.keep-addrole p role s)
+sound-addrole_row conn role = sound-administration conn (row.AddRole role)
 
 pub keeps-delrole : (conn : ℕ) (role : List ℕ) → KeepsAuthorization (λ p. rows.delrole p conn role)
-keeps-delrole conn role p q is s = keeps (row.administer-tests p conn (row.delrole-tests p role))
-    (trim (rows.without_role_of p role)) q is (trimmed.trim-authorized (rows.without_role_of p role))
+keeps-delrole conn role = keeps-administration conn (row.DeleteRole role)
 
 pub sound-delrole : (conn : ℕ) (role : List ℕ) → KeepsSound (λ p. rows.delrole p conn role)
-sound-delrole conn role p q is s =
-    let t = all-pass (row.administer-tests p conn (row.delrole-tests p role))
-    (trim (rows.without_role_of p role)) q is in
-    sound (row.administer-tests p conn (row.delrole-tests p role))
-    (trim (rows.without_role_of p role)) q is
-    (trimmed.keep-delrole p role (keep.unused
-    (not_true (uses_role p.ssd role || uses_role p.dsd role) t.1.1.1.0)).0
-    (keep.unused (not_true (uses_role p.ssd role || uses_role p.dsd role) t.1.1.1.0)).1 s)
+sound-delrole conn role = sound-administration conn (row.DeleteRole role)
 
 pub keeps-assign : (conn : ℕ) (user role : List ℕ)
     → KeepsAuthorization (λ p. rows.assign p conn user role)
-keeps-assign conn user role p q is s =
-    keeps (row.administer-tests p conn (row.assign-tests p user role)) (row.assigned p user role) q
-    is (sound-assign p user role s)
+keeps-assign conn user role = keeps-administration conn (row.Assign user role)
 
 pub sound-assign_row : (conn : ℕ) (user role : List ℕ)
     → KeepsSound (λ p. rows.assign p conn user role)
-sound-assign_row conn user role p q is s =
-    let t = all-pass (row.administer-tests p conn (row.assign-tests p user role))
-    (row.assigned p user role) q is in
-    sound (row.administer-tests p conn (row.assign-tests p user role)) (row.assigned p user role) q
-    is (keep.keep-assign p user role (static-holds (row.assigned p user role) t.1.1.1.1.0) s)
+sound-assign_row conn user role = sound-administration conn (row.Assign user role)
 
 pub keeps-deassign : (conn : ℕ) (user role : List ℕ)
     → KeepsAuthorization (λ p. rows.deassign p conn user role)
-keeps-deassign conn user role p q is s =
-    keeps (row.administer-tests p conn (row.deassign-tests p user role))
-    (trim (row.deassigned p user role)) q is (trimmed.trim-authorized (row.deassigned p user role))
+keeps-deassign conn user role = keeps-administration conn (row.Deassign user role)
 
 pub sound-deassign : (conn : ℕ) (user role : List ℕ)
     → KeepsSound (λ p. rows.deassign p conn user role)
-sound-deassign conn user role p q is s =
-    sound (row.administer-tests p conn (row.deassign-tests p user role))
-    (trim (row.deassigned p user role)) q is (trimmed.keep-deassign p user role s)
+sound-deassign conn user role = sound-administration conn (row.Deassign user role)
 
 pub keeps-grant : (conn : ℕ) (new : Grant) → KeepsAuthorization (λ p. rows.grant p conn new)
-keeps-grant conn new p q is s =
-    keeps (row.administer-tests p conn (row.grant-tests p new)) (row.grant_added p new) q is s
+keeps-grant conn new = keeps-administration conn (row.AddGrant new)
 
 pub sound-grant : (conn : ℕ) (new : Grant) → KeepsSound (λ p. rows.grant p conn new)
-sound-grant conn new p q is s = sound (row.administer-tests p conn (row.grant-tests p new))
-    (row.grant_added p new) q is (keep.keep-granted p (row.grant_added p new).granted s)
+sound-grant conn new = sound-administration conn (row.AddGrant new)
 
 pub keeps-revoke : (conn : ℕ) (old : Grant) → KeepsAuthorization (λ p. rows.revoke p conn old)
-keeps-revoke conn old p q is s =
-    keeps (row.administer-tests p conn (row.revoke-tests p old)) (row.grant_revoked p old) q is s
+keeps-revoke conn old = keeps-administration conn (row.Revoke old)
 
 pub sound-revoke : (conn : ℕ) (old : Grant) → KeepsSound (λ p. rows.revoke p conn old)
-sound-revoke conn old p q is s = sound (row.administer-tests p conn (row.revoke-tests p old))
-    (row.grant_revoked p old) q is (keep.keep-granted p (row.grant_revoked p old).granted s)
+sound-revoke conn old = sound-administration conn (row.Revoke old)
 
 pub keeps-inherit : (conn : ℕ) (senior junior : List ℕ)
     → KeepsAuthorization (λ p. rows.inherit p conn senior junior)
-keeps-inherit conn senior junior p q is s =
-    let t = all-pass (row.administer-tests p conn (row.inherit-tests p senior junior))
-    (row.inherited p senior junior) q is in
-    keeps (row.administer-tests p conn (row.inherit-tests p senior junior))
-    (row.inherited p senior junior) q is
-    (trimmed.authorized-inherit p senior junior
-    (parts (is_role p.roles senior) (is_role p.roles junior) t.1.1.0).0 s)
+keeps-inherit conn senior junior = keeps-administration conn (row.Inherit senior junior)
 
 pub sound-inherit : (conn : ℕ) (senior junior : List ℕ)
     → KeepsSound (λ p. rows.inherit p conn senior junior)
-sound-inherit conn senior junior p q is s =
-    let t = all-pass (row.administer-tests p conn (row.inherit-tests p senior junior))
-    (row.inherited p senior junior) q is in
-    sound (row.administer-tests p conn (row.inherit-tests p senior junior))
-    (row.inherited p senior junior) q is
-    (trimmed.keep-inherit p senior junior
-    (parts (is_role p.roles senior) (is_role p.roles junior) t.1.1.0).0
-    (static-holds (row.inherited p senior junior) t.1.1.1.1.1.0)
-    (dynamic-holds (row.inherited p senior junior) t.1.1.1.1.1.1.0) s)
+sound-inherit conn senior junior = sound-administration conn (row.Inherit senior junior)
 
 pub keeps-uninherit : (conn : ℕ) (senior junior : List ℕ)
     → KeepsAuthorization (λ p. rows.uninherit p conn senior junior)
-keeps-uninherit conn senior junior p q is s =
-    keeps (row.administer-tests p conn (row.uninherit-tests p senior junior))
-    (trim (row.uninherited p senior junior)) q is
-    (trimmed.trim-authorized (row.uninherited p senior junior))
+keeps-uninherit conn senior junior = keeps-administration conn (row.Uninherit senior junior)
 
 pub sound-uninherit : (conn : ℕ) (senior junior : List ℕ)
     → KeepsSound (λ p. rows.uninherit p conn senior junior)
-sound-uninherit conn senior junior p q is s =
-    let t = all-pass (row.administer-tests p conn (row.uninherit-tests p senior junior))
-    (trim (row.uninherited p senior junior)) q is in
-    sound (row.administer-tests p conn (row.uninherit-tests p senior junior))
-    (trim (row.uninherited p senior junior)) q is
-    (trimmed.keep-uninherit p senior junior t.1.1.0 s)
+sound-uninherit conn senior junior = sound-administration conn (row.Uninherit senior junior)
 
 pub keeps-ssd : (conn : ℕ) (set : SeparationSet) → KeepsAuthorization (λ p. rows.ssd p conn set)
-keeps-ssd conn set p q is s =
-    keeps (row.administer-tests p conn (row.ssd-tests p set)) (row.ssd_made p set) q is s
+keeps-ssd conn set = keeps-administration conn (row.MakeStatic set)
 
 pub sound-ssd : (conn : ℕ) (set : SeparationSet) → KeepsSound (λ p. rows.ssd p conn set)
-sound-ssd conn set p q is s =
-    let t =
-    all-pass (row.administer-tests p conn (row.ssd-tests p set)) (row.ssd_made p set) q is in
-    sound (row.administer-tests p conn (row.ssd-tests p set)) (row.ssd_made p set) q is
-    (keep.keep-ssd p conn set t.0 t.1.1.1.0 (static-holds (row.ssd_made p set) t.1.1.1.1.0) s)
+sound-ssd conn set = sound-administration conn (row.MakeStatic set)
 
 pub keeps-dsd : (conn : ℕ) (set : SeparationSet) → KeepsAuthorization (λ p. rows.dsd p conn set)
-keeps-dsd conn set p q is s =
-    keeps (row.administer-tests p conn (row.dsd-tests p set)) (row.dsd_made p set) q is s
+keeps-dsd conn set = keeps-administration conn (row.MakeDynamic set)
 
 pub sound-dsd : (conn : ℕ) (set : SeparationSet) → KeepsSound (λ p. rows.dsd p conn set)
-sound-dsd conn set p q is s =
-    let t =
-    all-pass (row.administer-tests p conn (row.dsd-tests p set)) (row.dsd_made p set) q is in
-    sound (row.administer-tests p conn (row.dsd-tests p set)) (row.dsd_made p set) q is
-    (keep.keep-dsd p conn set t.0 t.1.1.1.0 (dynamic-holds (row.dsd_made p set) t.1.1.1.1.0) s)
+sound-dsd conn set = sound-administration conn (row.MakeDynamic set)
 
 pub keeps-unssd : (conn : ℕ) (name : List ℕ) → KeepsAuthorization (λ p. rows.unssd p conn name)
-keeps-unssd conn name p q is s =
-    keeps (row.administer-tests p conn (row.unssd-tests p name)) (row.ssd_removed p name) q is s
+keeps-unssd conn name = keeps-administration conn (row.RemoveStatic name)
 
 pub sound-unssd : (conn : ℕ) (name : List ℕ) → KeepsSound (λ p. rows.unssd p conn name)
-sound-unssd conn name p q is s = sound (row.administer-tests p conn (row.unssd-tests p name))
-    (row.ssd_removed p name) q is (keep.keep-unssd p name s)
+sound-unssd conn name = sound-administration conn (row.RemoveStatic name)
 
 pub keeps-undsd : (conn : ℕ) (name : List ℕ) → KeepsAuthorization (λ p. rows.undsd p conn name)
-keeps-undsd conn name p q is s =
-    keeps (row.administer-tests p conn (row.undsd-tests p name)) (row.dsd_removed p name) q is s
+keeps-undsd conn name = keeps-administration conn (row.RemoveDynamic name)
 
 pub sound-undsd : (conn : ℕ) (name : List ℕ) → KeepsSound (λ p. rows.undsd p conn name)
-sound-undsd conn name p q is s = sound (row.administer-tests p conn (row.undsd-tests p name))
-    (row.dsd_removed p name) q is (keep.keep-undsd p name s)
+sound-undsd conn name = sound-administration conn (row.RemoveDynamic name)

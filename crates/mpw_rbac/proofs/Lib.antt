@@ -8,6 +8,7 @@ pub mod GrantedLemmas
 pub mod HolderLemmas
 pub mod InheritLemmas
 pub mod KeepLemmas
+pub mod KindLemmas
 pub mod LawLemmas
 pub mod MaskedLemmas
 pub mod NamedLemmas
@@ -21,7 +22,7 @@ pub mod TableLemmas
 pub mod TrimLemmas
 mod ExistingLemmas
 mod KeptTables
-mod AcceptedLemmas
+pub mod AcceptedLemmas
 pub mod Denying
 pub mod HeldLemmas
 pub mod KeepTrimmed

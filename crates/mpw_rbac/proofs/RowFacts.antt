@@ -27,7 +27,7 @@ use Rattle.mpw_separation.specs.declared.fault.SetsFault.{SetsFault}
 use Rattle.mpw_separation.specs.declared.fault.SetsFault.TheVariants as set_faults
 use Rattle.mpw_separation.specs.Set.{SeparationSet}
 use Rattle.mpw_rbac.specs.Sound.{Sound}
-use Rattle.mpw_rbac.specs.Table.{value_at, without_key}
+use Rattle.mpw_rbac.specs.Table.{value_at}
 use Rattle.mpw_rbac.proofs.HolderLemmas.{least-changed}
 use Rattle.mpw_rbac.proofs.SeparationLemmas.{parts}
 use Rattle.mpw_rbac.proofs.TableLemmas.{insert-new, insert-present, is_some-value_at}
@@ -104,10 +104,6 @@ module _ (p : Policy) (conn : ℕ) (ok : rows.administered p conn ≡ Ok p) wher
       let f = administered-facts p conn ok in
       rw (f.0, f.1, known) (ap (λ gs. Ok (record p { granted = gs })) (sym is))
 
-  pub deluser-ok : (user : Name) → is_user p user ≡ true
-      → rows.deluser p conn user ≡ Ok (trim (record p { users = without_key name_eq p.users user }))
-  deluser-ok user known = let f = administered-facts p conn ok in rw (f.0, f.1, known)
-
   pub delrole-ok : (role : Name) → is_role p.roles role ≡ true
       → (uses_role p.ssd role || uses_role p.dsd role) ≡ false
       → rows.delrole p conn role ≡ Ok (trim (rows.without_role_of p role))
@@ -118,19 +114,6 @@ module _ (p : Policy) (conn : ℕ) (ok : rows.administered p conn ≡ Ok p) wher
       → rows.deassign p conn user role ≡ Ok
       (trim (rows.with_assigned p user (without_name (assigned_roles p user) role)))
   deassign-ok user role known = let f = administered-facts p conn ok in rw (f.0, f.1, known)
-
-  pub uninherit-ok : (senior junior : Name) → is_immediate p.roles senior junior ≡ true
-      → rows.uninherit p conn senior junior
-      ≡ Ok (trim (record p { roles = without_pair p.roles senior junior }))
-  uninherit-ok senior junior known = let f = administered-facts p conn ok in rw (f.0, f.1, known)
-
-  pub unssd-ok : (name : Name) → has_set p.ssd name ≡ true
-      → rows.unssd p conn name ≡ Ok (record p { ssd = without_set p.ssd name })
-  unssd-ok name known = let f = administered-facts p conn ok in rw (f.0, f.1, known)
-
-  pub undsd-ok : (name : Name) → has_set p.dsd name ≡ true
-      → rows.undsd p conn name ≡ Ok (record p { dsd = without_set p.dsd name })
-  undsd-ok name known = let f = administered-facts p conn ok in rw (f.0, f.1, known)
 
 -- what an accepted command leaves
 abbrev done : {A F : Type 0} → A → Result A F
@@ -168,7 +151,7 @@ inherited-pair h senior junior after e =
       sym (left-value (a ∷ b ∷ d ∷ []) (with_pair h senior junior) after e),
     )
 
-inherited-tests : (h : Hierarchy) (senior junior : Name) (after : Hierarchy)
+pub inherited-tests : (h : Hierarchy) (senior junior : Name) (after : Hierarchy)
     → roles.inherit h senior junior ≡ Ok after
     → ((is_role h senior && is_role h junior) ≡ true) × (not (is_immediate h senior junior) ≡ true)
     × (not (at_least h junior senior) ≡ true)

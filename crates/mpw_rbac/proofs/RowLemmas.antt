@@ -1,7 +1,6 @@
 -- The rows of the policy, test by test.
-use Rattle.std.proofs.Common.{[], ◌≡◌, ℕ, Bool, true, false, cond, not, ◌⊎◌, inl, inr, List, ◌∷◌, ◌++◌, length, Result, Ok, Err, is_some, Option, Some, None, ◌==◌, refl, sym, ap, subst, ◌∙◌}
+use Rattle.std.proofs.Common.{[], ◌≡◌, ℕ, Bool, true, false, cond, not, List, ◌∷◌, ◌++◌, length, Ok, Err, is_some, Option, Some, None, ◌==◌, refl, sym, ap, ◌∙◌}
 use Rattle.std.specs.Prelude.{nat_lt, nat_eq, is_none}
-use Rattle.std.specs.List.{list_all}
 use Rattle.std.specs.Option.{option_map_or}
 use Rattle.std.specs.Cmp.Lexicographic.{pointwise}
 use Rattle.mpw_roles.specs.Decided.{decided}
@@ -10,107 +9,15 @@ use Rattle.mpw_roles.specs.declared.fault.RolesFault.TheVariants as faults
 use Rattle.mpw_roles.specs.Hierarchy.{Name, Hierarchy, is_role, with_role}
 use Rattle.mpw_geom.specs.Names.{name_eq, contains_name, without_name}
 use Rattle.indexmap.specs.IndexMap.{insert_entry}
-use Rattle.mpw_rbac.specs.declared.refusal.Refusal.{Refusal}
-use Rattle.mpw_rbac.specs.declared.refusal.Refusal.TheVariants.{Full, Known, Unknown, Dsd}
+use Rattle.mpw_rbac.specs.declared.refusal.Refusal.TheVariants.{Dsd}
 use Rattle.mpw_rbac.specs.Policy.{Policy, authorized, is_user, active_lists, session_of}
 use Rattle.mpw_rbac.specs.declared.session.User.{User}
 use Rattle.mpw_rbac.specs.declared.session.Session.{Session}
 use Rattle.mpw_rbac.specs.Rows as rows
-use Rattle.mpw_separation.specs.Separation.{least_broken, is_broken, has_set}
-use Rattle.mpw_separation.specs.Rows.{make}
-use Rattle.mpw_separation.specs.declared.fault.SetsFault.{SetsFault}
-use Rattle.mpw_separation.specs.declared.fault.SetsFault.TheVariants as set_faults
-use Rattle.mpw_separation.specs.Set.{SeparationSet}
-use Rattle.mpw_rbac.specs.Internal.Fault.{fault_of_sets}
-use Rattle.mpw_rbac.specs.Sound.{sets_hold}
+use Rattle.mpw_separation.specs.Separation.{least_broken}
 use Rattle.mpw_rbac.specs.Table.{has_key, value_at, without_key}
-use Rattle.mpw_rbac.proofs.HolderLemmas.{least-new}
 use Rattle.mpw_rbac.proofs.TableLemmas.{insert-new, insert-present, is_some-value_at}
-use Rattle.mpw_rbac.proofs.RowFacts.{ok_policy, administered-facts, none-passes}
-
--- a new name is refused only where there is no room
-full-fault : (sets : List SeparationSet) (set : SeparationSet) (fault : SetsFault)
-    → has_set sets set.name ≡ false → make sets set ≡ Err fault → (nat_lt (length sets) 64 ≡ false)
-    × (fault ≡ set_faults.Full)
-full-fault sets set fault new e = by (has_set sets set.name) (nat_lt (length sets) 64) new e
-  where
-    by : (x y : Bool) → x ≡ false → decided ((not x, set_faults.Known) ∷ (y, set_faults.Full) ∷ [])
-        (sets ++ set ∷ []) ≡ Err fault → (y ≡ false) × (fault ≡ set_faults.Full)
-    by true y n f = cc
-    by false true n f = cc
-    by false false n f = (refl, cc)
-
--- the row of a new set of one kind: the sets so far, whom they bind, and how a broken one is told
-abbrev pub set_row : Policy → ℕ → SeparationSet → List SeparationSet → List (List Name)
-    → (Name → Refusal) → Policy → Result Policy Refusal
-set_row p conn set sets holders told next =
-    decided
-    (rows.in_session p conn
-    ∷ rows.administers p conn
-    ∷ (not (has_set sets set.name), Known)
-    ∷ (list_all (is_role p.roles) set.roles, Unknown)
-    ∷ rows.none_broken told (least_broken p.roles (sets ++ set ∷ []) holders)
-    ∷ (nat_lt (length sets) 64, Full)
-    ∷ [])
-    next
-
--- what that row answers, by whether the set is broken
-pub record TellsSet (p : Policy) (conn : ℕ) (set : SeparationSet) (sets : List SeparationSet)
-    (holders : List (List Name)) (told : Name → Refusal) (next : Policy) : Type 0 where
-  pub made : is_broken p.roles holders set ≡ false → nat_lt (length sets) 64 ≡ true
-      → set_row p conn set sets holders told next ≡ Ok next
-  pub broken : is_broken p.roles holders set ≡ true
-      → set_row p conn set sets holders told next ≡ Err (told set.name)
-  pub refused : is_broken p.roles holders set ≡ false → (fault : SetsFault)
-      → (fault ≡ set_faults.Memory) ⊎ (make sets set ≡ Err fault)
-      → rows.IsFaultOf (set_row p conn set sets holders told next) (fault_of_sets fault)
-
--- a new name, and roles that are there
-module _ (p : Policy) (conn : ℕ) (set : SeparationSet) (sets : List SeparationSet)
-    (holders : List (List Name)) (told : Name → Refusal) (next : Policy)
-    (ok : rows.administered p conn ≡ Ok p) (hold : sets_hold p.roles sets holders ≡ true)
-    (new : has_set sets set.name ≡ false)
-    (known : list_all (is_role p.roles) set.roles ≡ true) where
-  least : (b : Bool) → is_broken p.roles holders set ≡ b
-      → least_broken p.roles (sets ++ set ∷ []) holders ≡ cond b (Some set.name) None
-  least b is = least-new p.roles sets set holders hold
-      ∙ ap (λ x. cond x (Some set.name) None) is
-
-  set-made : is_broken p.roles holders set ≡ false → nat_lt (length sets) 64 ≡ true
-      → set_row p conn set sets holders told next ≡ Ok next
-  set-made apart room =
-      let f = administered-facts p conn ok in
-      let none : least_broken p.roles (sets ++ set ∷ []) holders ≡ None = least false apart in
-      rw (f.0, f.1, new, known, none, room)
-
-  set-broken : is_broken p.roles holders set ≡ true
-      → set_row p conn set sets holders told next ≡ Err (told set.name)
-  set-broken broken =
-      let f = administered-facts p conn ok in
-      let some : least_broken p.roles (sets ++ set ∷ []) holders ≡ Some set.name =
-      least true broken in
-      rw (f.0, f.1, new, known, some)
-
-  set-full : is_broken p.roles holders set ≡ false → nat_lt (length sets) 64 ≡ false
-      → set_row p conn set sets holders told next ≡ Err Full
-  set-full apart full =
-      let f = administered-facts p conn ok in
-      let none : least_broken p.roles (sets ++ set ∷ []) holders ≡ None = least false apart in
-      rw (f.0, f.1, new, known, none, full)
-
-  set-refused : is_broken p.roles holders set ≡ false → (fault : SetsFault)
-      → (fault ≡ set_faults.Memory) ⊎ (make sets set ≡ Err fault)
-      → rows.IsFaultOf (set_row p conn set sets holders told next) (fault_of_sets fault)
-  set-refused apart fault (inl memory) =
-      subst (λ f. rows.IsFaultOf (set_row p conn set sets holders told next) (fault_of_sets f))
-      (sym memory) tt
-  set-refused apart fault (inr refused) =
-      let is = full-fault sets set fault new refused in
-      subst (λ f. rows.IsFaultOf (set_row p conn set sets holders told next) (fault_of_sets f))
-      (sym is.1) (set-full apart is.0)
-
-  pub tells-set : TellsSet p conn set sets holders told next
-  tells-set = record { made = set-made; broken = set-broken; refused = set-refused }
+use Rattle.mpw_rbac.proofs.RowFacts.{ok_policy, none-passes}
 
 -- what the hierarchy is where a role was added
 pub added-role : (h : Hierarchy) (role : Name) (after : Hierarchy) → roles.add h role ≡ Ok after

@@ -1,17 +1,19 @@
--- The tests of each row, and the policy that it leaves where all pass.
-use Rattle.std.proofs.Common.{ℕ, not, ◌||◌, ◌&&◌, List, [], ◌∷◌, ◌++◌, length, filter}
+-- The tests of each row, and the policy that it leaves where all pass; and the administrative rows as one.
+use Rattle.std.proofs.Common.{ℕ, Bool, true, false, not, ◌||◌, ◌&&◌, List, [], ◌∷◌, ◌++◌, length, filter, Result}
 use Rattle.std.specs.Prelude.{nat_lt, is_none}
 use Rattle.std.specs.List.{list_any, list_all}
 use Rattle.mpw_geom.specs.Names.{name_eq, contains_name, without_name}
+use Rattle.mpw_roles.specs.Decided.{decided}
 use Rattle.mpw_roles.specs.Hierarchy.{Name, is_role, is_immediate, with_role, with_pair, without_pair}
 use Rattle.mpw_roles.specs.Order.{at_least}
 use Rattle.mpw_separation.specs.Separation.{has_set, without_set, uses_role}
 use Rattle.mpw_separation.specs.Set.{SeparationSet}
 use Rattle.mpw_rbac.specs.Grant.{grant_eq}
-use Rattle.mpw_rbac.specs.Policy.{Policy, authorized, assigned_roles, is_user, session_of}
+use Rattle.mpw_rbac.specs.Policy.{Policy, authorized, assigned_roles, is_user, session_of, trim}
 use Rattle.mpw_rbac.specs.Rows as rows
 use Rattle.mpw_rbac.specs.Table.{without_key}
 use Rattle.mpw_rbac.specs.declared.permission.Grant.{Grant}
+use Rattle.mpw_rbac.specs.declared.refusal.Refusal.{Refusal}
 use Rattle.mpw_rbac.specs.declared.refusal.Refusal.TheVariants.{Opened, Login, NotAuthorized, Unknown, Known, Full, Used, Loop}
 
 abbrev pub opened : Policy → ℕ → Name → Policy
@@ -137,3 +139,68 @@ dsd_removed p name = record p { dsd = without_set p.dsd name }
 
 abbrev pub undsd-tests : Policy → Name → List rows.Test
 undsd-tests p name = (has_set p.dsd name, Unknown) ∷ []
+
+-- the administrative requests
+pub data Administration : Type 0 where
+  AddUser : Name → List ℕ → Administration
+  DeleteUser : Name → Administration
+  AddRole : Name → Administration
+  DeleteRole : Name → Administration
+  Assign : Name → Name → Administration
+  Deassign : Name → Name → Administration
+  AddGrant : Grant → Administration
+  Revoke : Grant → Administration
+  Inherit : Name → Name → Administration
+  Uninherit : Name → Name → Administration
+  MakeStatic : SeparationSet → Administration
+  MakeDynamic : SeparationSet → Administration
+  RemoveStatic : Name → Administration
+  RemoveDynamic : Name → Administration
+
+-- the tests behind those that every one of them begins with
+abbrev pub tests-of : Administration → Policy → List rows.Test
+tests-of (AddUser user digest) p = adduser-tests p user
+tests-of (DeleteUser user) p = deluser-tests p user
+tests-of (AddRole role) p = addrole-tests p role
+tests-of (DeleteRole role) p = delrole-tests p role
+tests-of (Assign user role) p = assign-tests p user role
+tests-of (Deassign user role) p = deassign-tests p user role
+tests-of (AddGrant new) p = grant-tests p new
+tests-of (Revoke old) p = revoke-tests p old
+tests-of (Inherit senior junior) p = inherit-tests p senior junior
+tests-of (Uninherit senior junior) p = uninherit-tests p senior junior
+tests-of (MakeStatic set) p = ssd-tests p set
+tests-of (MakeDynamic set) p = dsd-tests p set
+tests-of (RemoveStatic name) p = unssd-tests p name
+tests-of (RemoveDynamic name) p = undsd-tests p name
+
+abbrev pub next-of : Administration → Policy → Policy
+next-of (AddUser user digest) p = user_added p user digest
+next-of (DeleteUser user) p = trim (user_deleted p user)
+next-of (AddRole role) p = role_added p role
+next-of (DeleteRole role) p = trim (rows.without_role_of p role)
+next-of (Assign user role) p = assigned p user role
+next-of (Deassign user role) p = trim (deassigned p user role)
+next-of (AddGrant new) p = grant_added p new
+next-of (Revoke old) p = grant_revoked p old
+next-of (Inherit senior junior) p = inherited p senior junior
+next-of (Uninherit senior junior) p = trim (uninherited p senior junior)
+next-of (MakeStatic set) p = ssd_made p set
+next-of (MakeDynamic set) p = dsd_made p set
+next-of (RemoveStatic name) p = ssd_removed p name
+next-of (RemoveDynamic name) p = dsd_removed p name
+
+abbrev pub row-of : Administration → ℕ → Policy → Result Policy Refusal
+row-of request conn p = decided (administer-tests p conn (tests-of request p)) (next-of request p)
+
+-- which of them test the static sets, and which the dynamic ones
+abbrev pub tests_static : Administration → Bool
+tests_static (Assign user role) = true
+tests_static (Inherit senior junior) = true
+tests_static (MakeStatic set) = true
+tests_static request = false
+
+abbrev pub tests_dynamic : Administration → Bool
+tests_dynamic (Inherit senior junior) = true
+tests_dynamic (MakeDynamic set) = true
+tests_dynamic request = false

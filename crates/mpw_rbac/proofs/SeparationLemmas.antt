@@ -15,6 +15,7 @@ use Rattle.mpw_separation.specs.Set.{SeparationSet}
 use Rattle.mpw_separation.proofs.BrokenLemmas.{contains-names}
 use Rattle.mpw_geom.proofs.LeastLemmas.{least-is}
 use Rattle.mpw_rbac.specs.declared.refusal.Refusal.{Refusal}
+use Rattle.mpw_rbac.specs.Laws.{IsPart}
 use Rattle.mpw_rbac.specs.Rows as rows
 use Rattle.mpw_rbac.specs.Sound.{sets_hold, is_proper}
 
@@ -43,10 +44,6 @@ or_parts false b e = (refl, e)
 
 pub or_none : (a b : Bool) → a ≡ false → b ≡ false → (a || b) ≡ false
 or_none a b p q = λ i. (p i) || (q i)
-
--- each name of the first list is in the second
-abbrev pub IsPart : List Name → List Name → Type 0
-IsPart few many = (r : Name) → contains_name few r ≡ true → contains_name many r ≡ true
 
 fewer-pass : (p q : Name → Bool) → ((x : Name) → p x ≡ true → q x ≡ true) → (xs : List Name)
     → length (filter p xs) ≤ length (filter q xs)

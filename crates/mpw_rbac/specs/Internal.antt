@@ -2,4 +2,5 @@
 pub mod Fault
 pub mod Grants
 pub mod Holders
+pub mod Kinds
 pub mod Policy

@@ -1,5 +1,5 @@
 -- Laws over the rows.
-use Rattle.std.specs.Prelude.{◌≡◌, ℕ, Bool, true, false, ◌&&◌, ◌==◌, Result, Ok, Err, Some}
+use Rattle.std.specs.Prelude.{◌≡◌, ℕ, Bool, true, false, ◌&&◌, ◌==◌, List, Result, Ok, Err, Some}
 use Rattle.std.specs.List.{list_any, list_all}
 use Rattle.mpw_geom.specs.Names.{name_eq, contains_name}
 use Rattle.mpw_roles.specs.Hierarchy.{Name}
@@ -10,7 +10,7 @@ use Rattle.mpw_rbac.specs.declared.refusal.Refusal.TheVariants.{NotPermitted}
 use Rattle.mpw_rbac.specs.declared.permission.Object.{Object}
 use Rattle.mpw_rbac.specs.declared.permission.Operation.{Operation}
 use Rattle.mpw_rbac.specs.declared.session.Session.{Session}
-use Rattle.mpw_rbac.specs.Policy.{Policy, permits, assigned_lists, active_lists}
+use Rattle.mpw_rbac.specs.Policy.{Policy, permits, session_permits, assigned_lists, active_lists}
 use Rattle.mpw_rbac.specs.Sound.{active_authorized, Sound}
 
 -- where a row accepts, the policy that it leaves keeps that every active role is authorized
@@ -21,6 +21,16 @@ KeepsAuthorization row =
 -- where a row accepts, the policy that it leaves is sound where the one before was
 abbrev pub KeepsSound : (Policy → Result Policy Refusal) → Type 0
 KeepsSound row = (p q : Policy) → row p ≡ Ok q → Sound p → Sound q
+
+-- each of the first names is one of the others
+abbrev pub IsPart : List Name → List Name → Type 0
+IsPart few many = (role : Name) → contains_name few role ≡ true → contains_name many role ≡ true
+
+-- what the first active roles permit a user, the others permit too
+abbrev pub PermitsNoLess : Policy → Name → List Name → List Name → Operation → Object → Type 0
+PermitsNoLess policy user few many operation object =
+    session_permits policy (record { user = user; active = few }) operation object ≡ true
+    → session_permits policy (record { user = user; active = many }) operation object ≡ true
 
 -- where a row denies a permission, the connection's session lacks it
 abbrev pub DeniesRightly : ℕ → (Policy → Result Policy Refusal) → Type 0

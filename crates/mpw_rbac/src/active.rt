@@ -7,8 +7,8 @@ ghost use Rattle.std.specs.Option.{option_copied, option_map_or};
 ghost use Rattle.indexmap.specs.IndexMap.{insert_entry};
 ghost use Rattle.mpw_roles.specs.Hierarchy.{Hierarchy};
 ghost use Rattle.mpw_rbac.specs.Masked.{IsBelow, AreActing, AreAuthorized, sessions_in, masks_in};
-ghost use Rattle.mpw_rbac.specs.Policy.{is_user, kept_roles, kept_sessions};
-ghost use Rattle.mpw_rbac.specs.Internal.Policy.{users_and_roles};
+ghost use Rattle.mpw_rbac.specs.Policy.{kept_sessions};
+ghost use Rattle.mpw_rbac.specs.Internal.Policy.{users_and_roles, IsTrimmed};
 ghost use Rattle.mpw_rbac.specs.Table.{value_at, without_key};
 ghost use Rattle.mpw_rbac.specs.declared.session.Session.{Session as SessionState};
 
@@ -68,9 +68,7 @@ fn remask(roles: &Roles, active: &mut Active)
 
 /// Keeps those active roles of a session that its user is authorized for, and says whether the user is there.
 fn trim(users: &Users, roles: &Roles, active: &mut Active) -> bool
-    ensures user { result ≡ is_user (users_and_roles users.now.users roles.now) active.old.session.user }
-    ensures kept { AreAuthorized roles.now users.now → active.new.session ≡ kept_roles (users_and_roles users.now.users roles.now) active.old.session }
-    ensures acting { IsBelow roles.now active.new.session.active active.new.acting }
+    ensures { IsTrimmed roles.now users.now active.old active.new result }
 {
     let there = keep(users, roles, &mut active.session);
     remask(roles, active);
@@ -176,7 +174,7 @@ impl Sessions {
     {
         self.table.retain(
             |_conn: &u32, active: &mut Active| -> bool
-                ensures { (result ≡ is_user (users_and_roles users.entry.now.users roles.entry.now) active.old.session.user) × (AreAuthorized roles.entry.now users.entry.now → active.new.session ≡ kept_roles (users_and_roles users.entry.now.users roles.entry.now) active.old.session) × IsBelow roles.entry.now active.new.session.active active.new.acting }
+                ensures { IsTrimmed roles.entry.now users.entry.now active.old active.new result }
             { trim(users, roles, active) },
         );
     }

@@ -200,8 +200,8 @@ impl Policy {
         self.sets.sets().uses(role)
     }
 
-    /// Grants an operation on an object to a role (GrantPermission). It costs a copy of the grants, and of the masks of
-    /// the operation.
+    /// Grants an operation on an object to a role (GrantPermission). It costs a copy of the last block of the grants and of one
+    /// bucket of the masks of the operation: all others stay shared, by a count for each at most.
     ///
     /// # Errors
     /// `NoSession`, `NotPermitted`, `Unknown` role, `Known`, `Full`, tested in this order; or `Memory`. The policy is

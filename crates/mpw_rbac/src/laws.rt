@@ -4,8 +4,8 @@ ghost use Rattle.std.specs.List.{list_all};
 ghost use Rattle.mpw_geom.specs.Names.{contains_name};
 ghost use Rattle.mpw_roles.specs.Hierarchy.{with_pair};
 ghost use Rattle.mpw_separation.specs.Set.{SeparationSet};
-ghost use Rattle.mpw_rbac.specs.Laws.{KeepsAuthorization, KeepsSound, DeniesRightly, IsLeastStatic, IsLeastDynamic, AddsNoActive};
-ghost use Rattle.mpw_rbac.specs.Policy.{Policy as PolicyState, new_policy, is_user, authorized, acting, assigned_roles, assigned_lists, session_of, permits, session_permits, trim};
+ghost use Rattle.mpw_rbac.specs.Laws.{IsPart, PermitsNoLess, KeepsAuthorization, KeepsSound, DeniesRightly, IsLeastStatic, IsLeastDynamic, AddsNoActive};
+ghost use Rattle.mpw_rbac.specs.Policy.{Policy as PolicyState, new_policy, is_user, authorized, acting, assigned_roles, assigned_lists, session_of, permits, trim};
 ghost use Rattle.mpw_rbac.specs.Rows as rows;
 ghost use Rattle.mpw_rbac.specs.Sound.{active_authorized, sets_hold, Sound};
 ghost use Rattle.mpw_rbac.specs.declared.permission.Grant.{Grant};
@@ -73,7 +73,7 @@ pub fn ended_sessions_permit_nothing()
 
 /// More active roles never permit less.
 pub fn more_active_roles_never_permit_less()
-    ensures { (policy : PolicyState) (user : List ℕ) (few many : List (List ℕ)) (operation : Operation) (object : Object) → ((role : List ℕ) → contains_name few role ≡ true → contains_name many role ≡ true) → session_permits policy (record { user = user; active = few }) operation object ≡ true → session_permits policy (record { user = user; active = many }) operation object ≡ true }
+    ensures { (policy : PolicyState) (user : List ℕ) (few many : List (List ℕ)) (operation : Operation) (object : Object) → IsPart few many → PermitsNoLess policy user few many operation object }
 {}
 
 /// A request is denied for want of a permission only where the session has no such permission: a request of a session never

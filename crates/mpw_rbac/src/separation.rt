@@ -1,10 +1,13 @@
 //! The administrative requests of separation of duty.
-ghost use Rattle.std.specs.Prelude.{◌≡◌, [], ◌∷◌, map, IfErr, OnOk, OnErr, Ok, Err};
+ghost use Rattle.std.specs.Prelude.{◌≡◌, ◌⊎◌, [], ◌∷◌, map, IfErr, OnOk, OnErr, Ok, Err};
 ghost use Rattle.std.specs.List.{list_all};
 ghost use Rattle.std.specs.Option.{option_copied};
 ghost use Rattle.mpw_roles.specs.Hierarchy.{is_role, role_names};
 ghost use Rattle.mpw_separation.specs.Placed.{AreSetsPlaced};
+ghost use Rattle.mpw_separation.specs.Rows as set_rows;
 ghost use Rattle.mpw_separation.specs.Separation.{sets_of, least_broken, is_broken, has_set};
+ghost use Rattle.mpw_rbac.specs.Internal.Kinds.{other, kind_sets, bound_lists, told_broken};
+ghost use Rattle.mpw_rbac.specs.Internal.Kinds as kinds;
 ghost use Rattle.mpw_rbac.specs.Masked.{AreAuthorized, AreBelow, sessions_in, masks_in};
 ghost use Rattle.mpw_rbac.specs.Policy.{assigned_lists, active_lists};
 ghost use Rattle.mpw_rbac.specs.Rows.{IsFaultOf};
@@ -16,7 +19,7 @@ use crate::{Policy, PolicyFault, Refusal};
 use indexmap::IndexMap;
 use mpw_geom::Name;
 use mpw_roles::Roles;
-use mpw_separation::{Kind, PlacedSets, SeparationSet, lesser};
+use mpw_separation::{Kind, PlacedSets, SeparationSet, SetsFault, lesser};
 
 /// The least name of the sets of the kind that some seniors break: a look-up for each of these, and an `and` of eight words for
 /// each set.
@@ -110,6 +113,49 @@ fn breaks_a_session(set: &SeparationSet, roles: &Roles, sessions: &IndexMap<u32,
     false
 }
 
+/// Makes a set of the kind of these roles, for which the sets are placed.
+fn make(
+    sets: &mut PlacedSets,
+    kind: Kind,
+    roles: &Roles,
+    set: SeparationSet,
+) -> Result<(), SetsFault>
+    ensures ok { OnOk result (set_rows.make (sets_of kind sets.old.sets) set ≡ Ok (sets_of kind sets.new.sets)) }
+    ensures refused { IfErr result (λ fault. (fault ≡ SetsFault.Memory) ⊎ (set_rows.make (sets_of kind sets.old.sets) set ≡ Err fault)) }
+    ensures err { OnErr result (sets.new.sets ≡ sets.old.sets) }
+    ensures others { sets_of (other kind) sets.new.sets ≡ sets_of (other kind) sets.old.sets }
+    ensures placed { AreSetsPlaced (role_names roles.now) sets.old → AreSetsPlaced (role_names roles.now) sets.new }
+{
+    match kind {
+        Kind::Static => sets.make_ssd(roles, set),
+        Kind::Dynamic => sets.make_dsd(roles, set),
+    }
+}
+
+/// Takes a set of the kind away; the sets are placed for these roles. It takes no memory.
+fn remove(sets: &mut PlacedSets, kind: Kind, roles: &Roles, name: &Name) -> Result<(), SetsFault>
+    ensures ok { OnOk result (set_rows.remove (sets_of kind sets.old.sets) name.now ≡ Ok (sets_of kind sets.new.sets)) }
+    ensures refused { IfErr result (λ fault. set_rows.remove (sets_of kind sets.old.sets) name.now ≡ Err fault) }
+    ensures err { OnErr result (sets.new.sets ≡ sets.old.sets) }
+    ensures others { sets_of (other kind) sets.new.sets ≡ sets_of (other kind) sets.old.sets }
+    ensures placed { AreSetsPlaced (role_names roles.now) sets.old → AreSetsPlaced (role_names roles.now) sets.new }
+{
+    match kind {
+        Kind::Static => sets.remove_ssd(roles, name),
+        Kind::Dynamic => sets.remove_dsd(roles, name),
+    }
+}
+
+/// How a broken set of the kind is told.
+fn told_broken(kind: Kind, name: Name) -> Refusal
+    ensures { result ≡ told_broken kind name }
+{
+    match kind {
+        Kind::Static => Refusal::Ssd(name),
+        Kind::Dynamic => Refusal::Dsd(name),
+    }
+}
+
 impl Policy {
     /// Makes a static set (CreateSsdSet).
     ///
@@ -121,18 +167,7 @@ impl Policy {
         ensures refused { IfErr result (IsFaultOf (rows.ssd self.old conn set)) }
         ensures err { OnErr result (self.new ≡ self.old) }
     {
-        self.administers(conn)?;
-        if self.has_ssd(set.name()) {
-            return Err(PolicyFault::Refused(Refusal::Known));
-        }
-        if !self.are_roles(set.roles()) {
-            return Err(PolicyFault::Refused(Refusal::Unknown));
-        }
-        if self.is_broken_by_users(&set) {
-            return Err(PolicyFault::Refused(Refusal::Ssd(set.into_name())));
-        }
-        self.sets.make_ssd(self.permissions.roles(), set)?;
-        Ok(())
+        self.make_set(conn, Kind::Static, set)
     }
 
     /// Makes a dynamic set (CreateDsdSet).
@@ -145,18 +180,7 @@ impl Policy {
         ensures refused { IfErr result (IsFaultOf (rows.dsd self.old conn set)) }
         ensures err { OnErr result (self.new ≡ self.old) }
     {
-        self.administers(conn)?;
-        if self.has_dsd(set.name()) {
-            return Err(PolicyFault::Refused(Refusal::Known));
-        }
-        if !self.are_roles(set.roles()) {
-            return Err(PolicyFault::Refused(Refusal::Unknown));
-        }
-        if self.is_broken_by_sessions(&set) {
-            return Err(PolicyFault::Refused(Refusal::Dsd(set.into_name())));
-        }
-        self.sets.make_dsd(self.permissions.roles(), set)?;
-        Ok(())
+        self.make_set(conn, Kind::Dynamic, set)
     }
 
     /// Takes a static set away (DeleteSsdSet). It takes no memory.
@@ -168,9 +192,7 @@ impl Policy {
         ensures refused { IfErr result (IsFaultOf (rows.unssd self.old conn name.now)) }
         ensures err { OnErr result (self.new ≡ self.old) }
     {
-        self.administers(conn)?;
-        self.sets.remove_ssd(self.permissions.roles(), name)?;
-        Ok(())
+        self.remove_set(conn, Kind::Static, name)
     }
 
     /// Takes a dynamic set away (DeleteDsdSet). It takes no memory.
@@ -182,23 +204,45 @@ impl Policy {
         ensures refused { IfErr result (IsFaultOf (rows.undsd self.old conn name.now)) }
         ensures err { OnErr result (self.new ≡ self.old) }
     {
+        self.remove_set(conn, Kind::Dynamic, name)
+    }
+
+    /// Makes a set of the kind.
+    fn make_set(&mut self, conn: u32, kind: Kind, set: SeparationSet) -> Result<(), PolicyFault>
+        ensures ok { OnOk result (kinds.make_set kind self.old conn set ≡ Ok self.new) }
+        ensures refused { IfErr result (IsFaultOf (kinds.make_set kind self.old conn set)) }
+        ensures err { OnErr result (self.new ≡ self.old) }
+    {
         self.administers(conn)?;
-        self.sets.remove_dsd(self.permissions.roles(), name)?;
+        if self.has_set(kind, set.name()) {
+            return Err(PolicyFault::Refused(Refusal::Known));
+        }
+        if !self.are_roles(set.roles()) {
+            return Err(PolicyFault::Refused(Refusal::Unknown));
+        }
+        if self.is_broken(kind, &set) {
+            return Err(PolicyFault::Refused(told_broken(kind, set.into_name())));
+        }
+        make(&mut self.sets, kind, self.permissions.roles(), set)?;
         Ok(())
     }
 
-    /// Whether a static set has the name.
-    fn has_ssd(&self, name: &Name) -> bool
-        ensures { result ≡ has_set self.now.ssd name.now }
+    /// Takes a set of the kind away. It takes no memory.
+    fn remove_set(&mut self, conn: u32, kind: Kind, name: &Name) -> Result<(), PolicyFault>
+        ensures ok { OnOk result (kinds.remove_set kind self.old conn name.now ≡ Ok self.new) }
+        ensures refused { IfErr result (IsFaultOf (kinds.remove_set kind self.old conn name.now)) }
+        ensures err { OnErr result (self.new ≡ self.old) }
     {
-        self.sets.sets().contains(Kind::Static, name)
+        self.administers(conn)?;
+        remove(&mut self.sets, kind, self.permissions.roles(), name)?;
+        Ok(())
     }
 
-    /// Whether a dynamic set has the name.
-    fn has_dsd(&self, name: &Name) -> bool
-        ensures { result ≡ has_set self.now.dsd name.now }
+    /// Whether a set of the kind has the name.
+    fn has_set(&self, kind: Kind, name: &Name) -> bool
+        ensures { result ≡ has_set (kind_sets kind self.now) name.now }
     {
-        self.sets.sets().contains(Kind::Dynamic, name)
+        self.sets.sets().contains(kind, name)
     }
 
     /// Whether each of the names is a role.
@@ -212,17 +256,14 @@ impl Policy {
         )
     }
 
-    /// Whether some user breaks the set.
-    fn is_broken_by_users(&self, set: &SeparationSet) -> bool
-        ensures { result ≡ is_broken self.now.roles (assigned_lists self.now.users) set.now }
+    /// Whether some user breaks the static set, or some session the dynamic one.
+    fn is_broken(&self, kind: Kind, set: &SeparationSet) -> bool
+        ensures { result ≡ is_broken self.now.roles (bound_lists kind self.now) set.now }
     {
-        breaks_a_user(set, self.permissions.roles(), &self.users)
-    }
-
-    /// Whether some session breaks the set.
-    fn is_broken_by_sessions(&self, set: &SeparationSet) -> bool
-        ensures { result ≡ is_broken self.now.roles (active_lists self.now.sessions) set.now }
-    {
-        breaks_a_session(set, self.permissions.roles(), self.sessions.table())
+        let roles = self.permissions.roles();
+        match kind {
+            Kind::Static => breaks_a_user(set, roles, &self.users),
+            Kind::Dynamic => breaks_a_session(set, roles, self.sessions.table()),
+        }
     }
 }

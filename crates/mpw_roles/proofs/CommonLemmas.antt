@@ -58,7 +58,8 @@ count-split p (suc m) a n =
 both_bits : (a b : ℕ) → a < 2 → b < 2 → (eqb a 1 && eqb b 1) ≡ eqb (min a b) 1
 both_bits a b p q = elim (cases_eq a 1) [
   | inl one ↦ elim (cases_eq b 1) [
-    | inl also ↦ (λ t. eq-eqb a 1 one t && eq-eqb b 1 also t) ∙ sym (eq-eqb (min a b) 1 (omega arith))
+    | inl also ↦ (λ t. eq-eqb a 1 one t && eq-eqb b 1 also t)
+        ∙ sym (eq-eqb (min a b) 1 (omega arith))
     | inr other ↦ and_right (eqb a 1) (eqb b 1) (ne_eqb b 1 other)
         ∙ sym (ne_eqb (min a b) 1 (λ is. absurd (omega arith)))
   ]

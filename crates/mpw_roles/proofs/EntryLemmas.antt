@@ -1,15 +1,16 @@
 -- The table of roles by numbers, in the words of the hierarchy.
-use Rattle.std.proofs.Common.{◌≡◌, ℕ, zero, suc, ◌<◌, ◌≤◌, get_or, arith, refl, Option, Bool, true, false, cond, not, ◌||◌, ◌&&◌, List, [], ◌∷◌, ◌++◌, length, map, filter, eqb, eq-eqb, None, Some, sym, ap, ◌∙◌, true≢false}
+use Rattle.std.proofs.Common.{◌≡◌, ℕ, zero, suc, ◌<◌, ◌≤◌, get_or, arith, refl, Option, true, false, cond, not, ◌||◌, ◌&&◌, List, [], ◌∷◌, ◌++◌, length, map, filter, eqb, eq-eqb, None, Some, sym, ap, ◌∙◌, true≢false}
 use Rattle.std.specs.Prelude.{position, slice_get}
-use Rattle.std.specs.List.{list_all, list_any}
+use Rattle.std.specs.List.{list_all}
 use Rattle.mpw_geom.specs.Names.{name_eq, contains_name, without_name}
 use Rattle.mpw_roles.specs.Hierarchy.{Name, Hierarchy, role_names, is_role, immediate_juniors, with_juniors, entries_without, with_role, without_role, with_pair, without_pair}
 use Rattle.mpw_roles.specs.Order.{are_distinct}
 use Rattle.mpw_roles.specs.declared.pairs.Pair.{Pair}
 use Rattle.mpw_roles.specs.Internal.Table.{name_of, juniors_of, entry_of, entries_of, has_number, are_once, is_between, is_pair, is_end}
-use Rattle.mpw_roles.proofs.NumberLemmas.{or_later, eqb-same, eqb-back, name-number, contains-number, contains-unnumbered, place-number, place-unnumbered, distinct-numbered, has-more, has-filter}
+use Rattle.mpw_roles.proofs.NumberLemmas.{or_later, eqb-same, eqb-back, name-number, contains-number, contains-unnumbered, place-number, place-unnumbered, distinct-numbered}
+use Rattle.mpw_roles.proofs.PairLemmas.{juniors-none, juniors-there, juniors-more, past-head, same-head, juniors-less, juniors-without}
 use Rattle.mpw_roles.proofs.PositionLemmas.{item-there}
-use Rattle.mpw_roles.proofs.RoleLemmas.{refuted, and_parts, and_both, not_true, neither}
+use Rattle.mpw_roles.proofs.RoleLemmas.{refuted, and_parts, not_true}
 
 pub names-entries : (ns : List Name) (ps : List Pair) (os : List ℕ)
     → role_names (entries_of ns ps os) ≡ map (name_of ns) os
@@ -22,59 +23,14 @@ pub role-number : (ns : List Name) (ps : List Pair) (os : List ℕ)
     → (r : Name) (n : ℕ) → Some n ≡ position (name_eq r) ns
     → is_role (entries_of ns ps os) r ≡ has_number os n
 role-number ns ps os known once r n found =
-    ap (λ l. contains_name l r) (names-entries ns ps os) ∙ contains-number ns os known once r n found
+    ap (λ l. contains_name l r) (names-entries ns ps os)
+    ∙ contains-number ns os known once r n found
 
 pub role-unnumbered : (ns : List Name) (ps : List Pair) (os : List ℕ)
     → ((k : ℕ) → has_number os k ≡ true → k < length ns) → (r : Name)
     → position (name_eq r) ns ≡ None → is_role (entries_of ns ps os) r ≡ false
 role-unnumbered ns ps os known r none =
     ap (λ l. contains_name l r) (names-entries ns ps os) ∙ contains-unnumbered ns os known r none
-
--- a number that is no role's has no pairs
-pub juniors-none : (ps : List Pair) (os : List ℕ) (n : ℕ) → has_number os n ≡ false
-    → list_all (is_between os) ps ≡ true → juniors_of ps n ≡ []
-juniors-none [] os n none between = refl
-juniors-none (p ∷ ps) os n none between =
-    let both = and_parts (is_between os p) (list_all (is_between os) ps) between in
-    let ends = and_parts (has_number os p.senior) (has_number os p.junior) both.0 in
-    let other : eqb n p.senior ≡ false = refuted (eqb n p.senior) (λ is.
-    true≢false (sym ends.0 ∙ ap (has_number os) (sym (eqb-back n p.senior is)) ∙ none)) in
-    ap (λ b. map (λ (q : Pair). q.junior) (cond b
-    (p ∷ filter (λ (q : Pair). eqb n q.senior) ps) (filter (λ (q : Pair). eqb n q.senior) ps))) other
-    ∙ juniors-none ps os n none both.1
-
--- the juniors of roles are roles
-pub juniors-there : (ps : List Pair) (os : List ℕ) (n : ℕ) → list_all (is_between os) ps ≡ true
-    → (k : ℕ) → has_number (juniors_of ps n) k ≡ true → has_number os k ≡ true
-juniors-there [] os n between k there = absurd (true≢false (sym there))
-juniors-there (p ∷ ps) os n between k there =
-    let both = and_parts (is_between os p) (list_all (is_between os) ps) between in
-    let ends = and_parts (has_number os p.senior) (has_number os p.junior) both.0 in
-    elim (eqb n p.senior) as (λ b. has_number (map (λ (q : Pair). q.junior) (cond b
-    (p ∷ filter (λ (q : Pair). eqb n q.senior) ps) (filter (λ (q : Pair). eqb n q.senior) ps))) k
-    ≡ true → has_number os k ≡ true) [
-      | true ↦ λ now. elim (eqb k p.junior) as (λ b. eqb k p.junior ≡ b
-          → (b || has_number (juniors_of ps n) k) ≡ true → has_number os k ≡ true) [
-            | true ↦ λ here _. ap (has_number os) (eqb-back k p.junior here) ∙ ends.1
-            | false ↦ λ _ later. juniors-there ps os n both.1 k later
-          ] refl now
-      | false ↦ λ now. juniors-there ps os n both.1 k now
-    ] there
-
-pub juniors-more : (ps : List Pair) (p : Pair) (n : ℕ)
-    → juniors_of (ps ++ p ∷ []) n ≡ juniors_of ps n ++ cond (eqb n p.senior) (p.junior ∷ []) []
-juniors-more [] p n = elim (eqb n p.senior) as (λ b. map (λ (q : Pair). q.junior) (cond b (p ∷ []) [])
-    ≡ cond b (p.junior ∷ []) []) [ true ↦ refl | false ↦ refl ]
-juniors-more (q ∷ ps) p n = elim (eqb n q.senior) as (λ b.
-    map (λ (x : Pair). x.junior) (cond b
-    (q ∷ filter (λ (x : Pair). eqb n x.senior) (ps ++ p ∷ []))
-    (filter (λ (x : Pair). eqb n x.senior) (ps ++ p ∷ [])))
-    ≡ map (λ (x : Pair). x.junior) (cond b
-    (q ∷ filter (λ (x : Pair). eqb n x.senior) ps) (filter (λ (x : Pair). eqb n x.senior) ps))
-    ++ cond (eqb n p.senior) (p.junior ∷ []) []) [
-      | true ↦ ap (λ l. q.junior ∷ l) (juniors-more ps p n)
-      | false ↦ juniors-more ps p n
-    ]
 
 -- the immediate juniors of a role
 linked-there : (ns : List Name) (ps : List Pair) (os : List ℕ)
@@ -84,8 +40,10 @@ linked-there : (ns : List Name) (ps : List Pair) (os : List ℕ)
     ≡ cond (has_number os n) (map (name_of ns) (juniors_of ps n)) []
 linked-there ns ps [] known once r n found = refl
 linked-there ns ps (o ∷ os) known once r n found =
-    let rest = linked-there ns ps os (λ k there. known k (or_later (eqb k o) _ there)) once r n found in
-    ap (λ b. cond b (map (name_of ns) (juniors_of ps o)) (immediate_juniors (entries_of ns ps os) r))
+    let rest =
+    linked-there ns ps os (λ k there. known k (or_later (eqb k o) _ there)) once r n found in
+    ap (λ b. cond b (map (name_of ns) (juniors_of ps o))
+    (immediate_juniors (entries_of ns ps os) r))
     (name-number ns once r n found o (known o (ap (λ b. b || has_number os o) (eqb-same o))))
     ∙ elim (eqb n o) as (λ b. eqb n o ≡ b
     → cond b (map (name_of ns) (juniors_of ps o)) (immediate_juniors (entries_of ns ps os) r)
@@ -118,18 +76,6 @@ linked-unnumbered ns ps os known r none = stranger-linked (entries_of ns ps os) 
         → cond b e.1 (immediate_juniors es q) ≡ [])
         [ true ↦ λ is. absurd (true≢false is) | false ↦ λ is. stranger-linked es q is ] out
 
--- whether a pair was commanded
-pub pair-number : (ps : List Pair) (s j : ℕ)
-    → has_number (juniors_of ps s) j ≡ list_any (is_pair s j) ps
-pair-number [] s j = refl
-pair-number (p ∷ ps) s j = elim (eqb s p.senior) as (λ b. has_number
-    (map (λ (q : Pair). q.junior) (cond b (p ∷ filter (λ (q : Pair). eqb s q.senior) ps)
-    (filter (λ (q : Pair). eqb s q.senior) ps))) j
-    ≡ ((b && eqb j p.junior) || list_any (is_pair s j) ps)) [
-      | true ↦ ap (λ b. eqb j p.junior || b) (pair-number ps s j)
-      | false ↦ pair-number ps s j
-    ]
-
 -- the same roles with other pairs of one of them
 same-entries : (ns : List Name) (ps qs : List Pair) (os : List ℕ)
     → ((m : ℕ) → has_number os m ≡ true → juniors_of qs m ≡ juniors_of ps m)
@@ -151,7 +97,8 @@ with-juniors-entries : (ns : List Name) (ps qs : List Pair) (os : List ℕ)
 with-juniors-entries ns ps qs [] known names once r n found same = refl
 with-juniors-entries ns ps qs (o ∷ os) known names once r n found same =
     let p = and_parts (not (has_number os o)) (are_once os) once in
-    let rest = with-juniors-entries ns ps qs os (λ k there. known k (or_later (eqb k o) _ there)) names
+    let rest =
+    with-juniors-entries ns ps qs os (λ k there. known k (or_later (eqb k o) _ there)) names
     p.1 r n found same in
     let js = map (name_of ns) (juniors_of qs n) in
     ap (λ b. cond b ((name_of ns o, js) ∷ entries_of ns ps os)
@@ -206,7 +153,8 @@ without-numbered : (ns : List Name) → are_distinct ns ≡ true → (r : Name) 
     → without_name (map (name_of ns) ks) r ≡ map (name_of ns) (filter (λ k. not (eqb n k)) ks)
 without-numbered ns names r n found [] known = refl
 without-numbered ns names r n found (x ∷ xs) known =
-    let rest = without-numbered ns names r n found xs (λ k there. known k (or_later (eqb k x) _ there)) in
+    let rest =
+    without-numbered ns names r n found xs (λ k there. known k (or_later (eqb k x) _ there)) in
     ap (λ b. cond (not b) (name_of ns x ∷ without_name (map (name_of ns) xs) r)
     (without_name (map (name_of ns) xs) r))
     (name-number ns names r n found x (known x (ap (λ b. b || has_number xs x) (eqb-same x))))
@@ -217,47 +165,6 @@ without-numbered ns names r n found (x ∷ xs) known =
       | true ↦ rest
       | false ↦ ap (λ l. name_of ns x ∷ l) rest
     ]
-
-at-head : (p : Pair) (qs : List Pair) (s : ℕ) → eqb s p.senior ≡ true
-    → juniors_of (p ∷ qs) s ≡ p.junior ∷ juniors_of qs s
-at-head p qs s is = ap (λ b. map (λ (q : Pair). q.junior) (cond b
-    (p ∷ filter (λ (q : Pair). eqb s q.senior) qs) (filter (λ (q : Pair). eqb s q.senior) qs))) is
-
-past-head : (p : Pair) (qs : List Pair) (s : ℕ) → eqb s p.senior ≡ false
-    → juniors_of (p ∷ qs) s ≡ juniors_of qs s
-past-head p qs s is = ap (λ b. map (λ (q : Pair). q.junior) (cond b
-    (p ∷ filter (λ (q : Pair). eqb s q.senior) qs) (filter (λ (q : Pair). eqb s q.senior) qs))) is
-
-same-head : (p : Pair) (qs rs : List Pair) (s : ℕ) → juniors_of qs s ≡ juniors_of rs s
-    → juniors_of (p ∷ qs) s ≡ juniors_of (p ∷ rs) s
-same-head p qs rs s same = elim (eqb s p.senior) as (λ b. eqb s p.senior ≡ b
-    → juniors_of (p ∷ qs) s ≡ juniors_of (p ∷ rs) s) [
-      | true ↦ λ is. at-head p qs s is ∙ ap (λ l. p.junior ∷ l) same ∙ sym (at-head p rs s is)
-      | false ↦ λ is. past-head p qs s is ∙ same ∙ sym (past-head p rs s is)
-    ] refl
-
-juniors-less : (ps : List Pair) (s j : ℕ)
-    → juniors_of (filter (λ (p : Pair). not (is_pair s j p)) ps) s
-    ≡ filter (λ k. not (eqb j k)) (juniors_of ps s)
-juniors-less [] s j = refl
-juniors-less (p ∷ ps) s j = elim (eqb s p.senior) as (λ b. eqb s p.senior ≡ b
-    → juniors_of (cond (not (b && eqb j p.junior))
-    (p ∷ filter (λ (q : Pair). not (is_pair s j q)) ps)
-    (filter (λ (q : Pair). not (is_pair s j q)) ps)) s
-    ≡ filter (λ k. not (eqb j k)) (map (λ (q : Pair). q.junior) (cond b
-    (p ∷ filter (λ (q : Pair). eqb s q.senior) ps) (filter (λ (q : Pair). eqb s q.senior) ps)))) [
-      | true ↦ λ here. elim (eqb j p.junior) as (λ b. juniors_of (cond (not b)
-          (p ∷ filter (λ (q : Pair). not (is_pair s j q)) ps)
-          (filter (λ (q : Pair). not (is_pair s j q)) ps)) s
-          ≡ cond (not b) (p.junior ∷ filter (λ k. not (eqb j k)) (juniors_of ps s))
-          (filter (λ k. not (eqb j k)) (juniors_of ps s))) [
-            | true ↦ juniors-less ps s j
-            | false ↦ at-head p (filter (λ (q : Pair). not (is_pair s j q)) ps) s here
-                ∙ ap (λ l. p.junior ∷ l) (juniors-less ps s j)
-          ]
-      | false ↦ λ other. past-head p (filter (λ (q : Pair). not (is_pair s j q)) ps) s other
-          ∙ juniors-less ps s j
-    ] refl
 
 -- the place of a role
 pub place-found : (ns : List Name) (ps : List Pair) (os : List ℕ)
@@ -270,7 +177,8 @@ place-found ns ps os known names r n found =
 
 pub place-none : (ns : List Name) (ps : List Pair) (os : List ℕ)
     → ((k : ℕ) → has_number os k ≡ true → k < length ns) → (r : Name)
-    → position (name_eq r) ns ≡ None → None ≡ position (name_eq r) (role_names (entries_of ns ps os))
+    → position (name_eq r) ns ≡ None → None ≡ position (name_eq r)
+    (role_names (entries_of ns ps os))
 place-none ns ps os known r none =
     sym (ap (position (name_eq r)) (names-entries ns ps os) ∙ place-unnumbered ns os known r none)
 
@@ -318,33 +226,6 @@ without-pair-entries ns ps os known names once between a b s j at_a at_b =
           | false ↦ λ _. same-head p (filter (λ (q : Pair). not (is_pair s j q)) ps) ps m
               (others ps m apart)
         ] refl
-
--- a role less
-juniors-without : (ps : List Pair) (n m : ℕ) → eqb n m ≡ false
-    → juniors_of (filter (λ (p : Pair). not (is_end n p)) ps) m
-    ≡ filter (λ k. not (eqb n k)) (juniors_of ps m)
-juniors-without [] n m apart = refl
-juniors-without (p ∷ ps) n m apart =
-    let qs = filter (λ (q : Pair). not (is_end n q)) ps in
-    elim (eqb m p.senior) as (λ b. eqb m p.senior ≡ b
-    → juniors_of (cond (not (is_end n p)) (p ∷ qs) qs) m
-    ≡ filter (λ k. not (eqb n k)) (map (λ (q : Pair). q.junior) (cond b
-    (p ∷ filter (λ (q : Pair). eqb m q.senior) ps) (filter (λ (q : Pair). eqb m q.senior) ps)))) [
-      | true ↦ λ here.
-          let kept : eqb n p.senior ≡ false = ap (eqb n) (sym (eqb-back m p.senior here)) ∙ apart in
-          ap (λ b. juniors_of (cond (not (b || eqb n p.junior)) (p ∷ qs) qs) m) kept
-          ∙ elim (eqb n p.junior) as (λ b. juniors_of (cond (not b) (p ∷ qs) qs) m
-          ≡ cond (not b) (p.junior ∷ filter (λ k. not (eqb n k)) (juniors_of ps m))
-          (filter (λ k. not (eqb n k)) (juniors_of ps m))) [
-            | true ↦ juniors-without ps n m apart
-            | false ↦ at-head p qs m here ∙ ap (λ l. p.junior ∷ l) (juniors-without ps n m apart)
-          ]
-      | false ↦ λ other. elim (is_end n p) as (λ b. juniors_of (cond (not b) (p ∷ qs) qs) m
-          ≡ filter (λ k. not (eqb n k)) (juniors_of ps m)) [
-            | true ↦ juniors-without ps n m apart
-            | false ↦ past-head p qs m other ∙ juniors-without ps n m apart
-          ]
-    ] refl
 
 pub without-role-entries : (ns : List Name) (ps : List Pair) (os : List ℕ)
     → ((k : ℕ) → has_number os k ≡ true → k < length ns)
@@ -402,64 +283,13 @@ pub with-role-entries : (ns : List Name) (ps : List Pair) (os : List ℕ) (r : N
     → list_all (is_between os) ps ≡ true → has_number os n ≡ false → name_of ns n ≡ r
     → with_role (entries_of ns ps os) r ≡ entries_of ns ps (os ++ n ∷ [])
 with-role-entries ns ps os r n between new is = sym (split os
-    ∙ (λ t. entries_of ns ps os ++ (is t, map (name_of ns) (juniors-none ps os n new between t)) ∷ []))
+    ∙ (λ t. entries_of ns ps os ++ (is t, map (name_of ns) (juniors-none ps os n new between t))
+    ∷ []))
   where
     split : (ks : List ℕ) → entries_of ns ps (ks ++ n ∷ []) ≡ entries_of ns ps ks
         ++ entry_of ns ps n ∷ []
     split [] = refl
     split (k ∷ ks) = ap (λ l. entry_of ns ps k ∷ l) (split ks)
-
--- what the pairs of a table keep
-pub between-more : (ps : List Pair) (os : List ℕ) (n : ℕ) → list_all (is_between os) ps ≡ true
-    → list_all (is_between (os ++ n ∷ [])) ps ≡ true
-between-more [] os n between = refl
-between-more (p ∷ ps) os n between =
-    let both = and_parts (is_between os p) (list_all (is_between os) ps) between in
-    let ends = and_parts (has_number os p.senior) (has_number os p.junior) both.0 in
-    and_both (is_between (os ++ n ∷ []) p) _
-    (and_both (has_number (os ++ n ∷ []) p.senior) _ (still p.senior ends.0) (still p.junior ends.1))
-    (between-more ps os n both.1)
-  where
-    still : (k : ℕ) → has_number os k ≡ true → has_number (os ++ n ∷ []) k ≡ true
-    still k there = has-more os n k ∙ ap (λ b. b || eqb k n) there
-
-pub between-pair : (ps : List Pair) (os : List ℕ) (p : Pair) → list_all (is_between os) ps ≡ true
-    → is_between os p ≡ true → list_all (is_between os) (ps ++ p ∷ []) ≡ true
-between-pair [] os p between is = and_both (is_between os p) true is refl
-between-pair (q ∷ ps) os p between is =
-    let both = and_parts (is_between os q) (list_all (is_between os) ps) between in
-    and_both (is_between os q) _ both.0 (between-pair ps os p both.1 is)
-
-pub between-less : (f : Pair → Bool) (ps : List Pair) (os : List ℕ)
-    → list_all (is_between os) ps ≡ true → list_all (is_between os) (filter f ps) ≡ true
-between-less f [] os between = refl
-between-less f (p ∷ ps) os between =
-    let both = and_parts (is_between os p) (list_all (is_between os) ps) between in
-    let rest = between-less f ps os both.1 in
-    elim (f p) as (λ b. list_all (is_between os) (cond b (p ∷ filter f ps) (filter f ps)) ≡ true)
-    [ true ↦ and_both (is_between os p) _ both.0 rest | false ↦ rest ]
-
-pub between-left : (ps : List Pair) (os : List ℕ) (n : ℕ) → list_all (is_between os) ps ≡ true
-    → list_all (is_between (filter (λ o. not (eqb n o)) os))
-    (filter (λ (p : Pair). not (is_end n p)) ps) ≡ true
-between-left [] os n between = refl
-between-left (p ∷ ps) os n between =
-    let left = filter (λ o. not (eqb n o)) os in
-    let qs = filter (λ (q : Pair). not (is_end n q)) ps in
-    let both = and_parts (is_between os p) (list_all (is_between os) ps) between in
-    let ends = and_parts (has_number os p.senior) (has_number os p.junior) both.0 in
-    let rest = between-left ps os n both.1 in
-    elim (is_end n p) as (λ b. is_end n p ≡ b
-    → list_all (is_between left) (cond (not b) (p ∷ qs) qs) ≡ true) [
-      | true ↦ λ _. rest
-      | false ↦ λ apart.
-          let no_end = neither (eqb n p.senior) (eqb n p.junior) apart in
-          and_both (is_between left p) _
-          (and_both (has_number left p.senior) _
-          (has-filter n os p.senior ∙ (λ t. ends.0 t && not (no_end.0 t)))
-          (has-filter n os p.junior ∙ (λ t. ends.1 t && not (no_end.1 t))))
-          rest
-    ] refl
 
 -- the name at a place
 pub name-at-place : (ns : List Name) (ps : List Pair) (os : List ℕ) (i n : ℕ) (r : Option Name)
@@ -470,7 +300,8 @@ name-at-place ns ps (o ∷ os) zero n r known inside at is =
     let within : n < length ns = known n (ap (λ b. b || has_number os n) (eq-eqb n o (sym at))) in
     is ∙ item-there ns n (name_of ns n) [] within refl ∙ ap (λ k. Some (name_of ns k)) (sym at)
 name-at-place ns ps (o ∷ os) (suc i) n r known inside at is =
-    name-at-place ns ps os i n r (λ k there. known k (or_later (eqb k o) _ there)) (omega arith) at is
+    name-at-place ns ps os i n r (λ k there. known k (or_later (eqb k o) _ there)) (omega arith) at
+    is
 
 pub no-name-at : (ns : List Name) (ps : List Pair) (os : List ℕ) (i : ℕ) → length os ≤ i
     → None ≡ slice_get (role_names (entries_of ns ps os)) i

@@ -7,6 +7,7 @@ pub mod MaskLemmas
 pub mod MaskedLemmas
 pub mod NamedLemmas
 pub mod NumberLemmas
+pub mod PairLemmas
 pub mod PlacesLemmas
 pub mod TableLemmas
 pub mod BitLemmas

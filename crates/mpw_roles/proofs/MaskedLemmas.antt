@@ -67,7 +67,8 @@ masked-alone ns ps os ms table long own =
                 (sym (lt-ltb q (length h) there))
             | inr past ↦
                 ne_eqb q p (λ is. absurd (omega (arith, is, inside, past)))
-                ∙ ap (λ b. b && at_least h (name_at h p) (name_at h q)) (sym (le-ltb q (length h) past))
+                ∙ ap (λ b. b && at_least h (name_at h p) (name_at h q))
+                (sym (le-ltb q (length h) past))
           ];
     }
   where

@@ -181,7 +181,8 @@ common-below h seniors names own below is apart at_own at_below =
     ∙ (λ t. (lt-ltb i (length rs) within t && contains_name names (name_at h i))
     && (lt-ltb i (length h) (omega arith) t && is_below h seniors (name_at h i))) in
     let past : (i : ℕ) → 0 + length rs ≤ i → q i ≡ false = λ i beyond.
-    and_right (has own i) (has below i) (at_below i ∙ ap (λ b. b && is_below h seniors (name_at h i))
+    and_right (has own i) (has below i)
+    (at_below i ∙ ap (λ b. b && is_below h seniors (name_at h i))
     (le-ltb i (length h) (omega arith))) in
     let zs = filter p rs in
     let shared : IsIntersection name_eq names (roles_below h seniors) zs = λ r.

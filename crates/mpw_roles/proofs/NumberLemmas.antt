@@ -187,7 +187,8 @@ pub has-filter : (n : ℕ) (os : List ℕ) (k : ℕ)
     → has_number (filter (λ o. not (eqb n o)) os) k ≡ (has_number os k && not (eqb n k))
 has-filter n [] k = refl
 has-filter n (o ∷ os) k = elim (eqb n o) as (λ b. eqb n o ≡ b
-    → has_number (cond (not b) (o ∷ filter (λ m. not (eqb n m)) os) (filter (λ m. not (eqb n m)) os)) k
+    → has_number (cond (not b) (o ∷ filter (λ m. not (eqb n m)) os)
+    (filter (λ m. not (eqb n m)) os)) k
     ≡ ((eqb k o || has_number os k) && not (eqb n k))) [
       | true ↦ λ gone. elim (eqb k o) as (λ b. eqb k o ≡ b
           → has_number (filter (λ m. not (eqb n m)) os) k

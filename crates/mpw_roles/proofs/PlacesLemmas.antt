@@ -235,6 +235,13 @@ item-cons (y ∷ ys) zero x inside at = ap (λ z. z ∷ ys) (sym at)
 item-cons (y ∷ ys) (suc i) x inside at =
     rw add-one (item-cons ys i x (omega arith) at ∙ rw add-one refl)
 
+-- what was told of the items so far, and of those left, with the next one said apart
+pub next-item : (xs : List Name) (i : ℕ) (x : Name) → i < length xs → x ≡ get_or xs i x
+    → (is_told : List Name → Bool) (so_far all : Bool) → (so_far || is_told (drop i xs)) ≡ all
+    → (so_far || is_told (x ∷ drop (i + 1) xs)) ≡ all
+next-item xs i x inside at is_told so_far all is =
+    ap (λ l. so_far || is_told l) (sym (item-cons xs i x inside at)) ∙ is
+
 pub same-role : (h k : Hierarchy) (r : Name) → role_names h ≡ role_names k
     → is_role h r ≡ is_role k r
 same-role h k r names = ap (λ l. contains_name l r) names

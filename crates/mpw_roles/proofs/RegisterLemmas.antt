@@ -16,7 +16,8 @@ pub name-next : (xs ys : List Name) (n : Name) → are_distinct (xs ++ n ∷ ys)
 name-next [] ys n once = refl
 name-next (x ∷ xs) ys n once =
     let p = and_parts (not (contains_name (xs ++ n ∷ ys) x)) (are_distinct (xs ++ n ∷ ys)) once in
-    let none = sym (contains-append xs (n ∷ ys) x) ∙ not_true (contains_name (xs ++ n ∷ ys) x) p.0 in
+    let none =
+    sym (contains-append xs (n ∷ ys) x) ∙ not_true (contains_name (xs ++ n ∷ ys) x) p.0 in
     let apart = (neither (name_eq x n) (contains_name ys x)
     (neither (contains_name xs x) (contains_name (n ∷ ys) x) none).1).0 in
     (λ i. name_eq-apart x n apart i || name-next xs ys n p.1 i)

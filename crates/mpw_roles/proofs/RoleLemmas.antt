@@ -104,7 +104,8 @@ pub not_true : (a : Bool) → not a ≡ true → a ≡ false
 not_true true e = absurd (true≢false (sym e))
 not_true false e = refl
 
-pub distinct-append : (xs : List Name) (n : Name) → are_distinct xs ≡ true → contains_name xs n ≡ false
+pub distinct-append : (xs : List Name) (n : Name) → are_distinct xs ≡ true
+    → contains_name xs n ≡ false
     → are_distinct (xs ++ n ∷ []) ≡ true
 distinct-append [] n once new = refl
 distinct-append (x ∷ xs) n once new =

@@ -1,4 +1,5 @@
 use Rattle.mpw_rbac.proofs.ActiveLemmas as active
+use Rattle.mpw_rbac.proofs.RowTests.{AddUser, DeleteUser, AddRole, DeleteRole, Assign, Deassign, AddGrant, Revoke, Inherit, Uninherit, MakeStatic, MakeDynamic, RemoveStatic, RemoveDynamic}
 use Rattle.mpw_rbac.proofs.laws.only_activation_adds_active_roles.Goals as goal
 
 pub returns : goal.returns
@@ -6,18 +7,18 @@ returns c = record {
   end_session = active.adds-end_session;
   end_sessions = active.adds-end_sessions;
   close_session = active.adds-close_session;
-  adduser = active.adds-adduser;
-  deluser = active.adds-deluser;
-  addrole = active.adds-addrole;
-  delrole = active.adds-delrole;
-  assign = active.adds-assign;
-  deassign = active.adds-deassign;
-  grant = active.adds-grant;
-  revoke = active.adds-revoke;
-  inherit = active.adds-inherit;
-  uninherit = active.adds-uninherit;
-  ssd = active.adds-ssd;
-  dsd = active.adds-dsd;
-  unssd = active.adds-unssd;
-  undsd = active.adds-undsd;
+  adduser = λ conn user digest. active.adds-administration conn (AddUser user digest);
+  deluser = λ conn user. active.adds-administration conn (DeleteUser user);
+  addrole = λ conn role. active.adds-administration conn (AddRole role);
+  delrole = λ conn role. active.adds-administration conn (DeleteRole role);
+  assign = λ conn user role. active.adds-administration conn (Assign user role);
+  deassign = λ conn user role. active.adds-administration conn (Deassign user role);
+  grant = λ conn grant. active.adds-administration conn (AddGrant grant);
+  revoke = λ conn grant. active.adds-administration conn (Revoke grant);
+  inherit = λ conn senior junior. active.adds-administration conn (Inherit senior junior);
+  uninherit = λ conn senior junior. active.adds-administration conn (Uninherit senior junior);
+  ssd = λ conn set. active.adds-administration conn (MakeStatic set);
+  dsd = λ conn set. active.adds-administration conn (MakeDynamic set);
+  unssd = λ conn name. active.adds-administration conn (RemoveStatic name);
+  undsd = λ conn name. active.adds-administration conn (RemoveDynamic name);
 }

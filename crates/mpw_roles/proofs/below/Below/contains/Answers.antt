@@ -22,7 +22,8 @@ returns-in-Some c =
     (c.contains.ensures
     ∙ sym (mark-at (length h) c.self.inside.mask c.in-Some.place (omega (arith, length-names h)))
     ∙ read-first h ms r c.in-Some.place inside (omega (arith, length-names h)) found.1 found.2
-    ∙ contains-marked_names h ms r (names-apart (role_names h) c.in-Some.ensures.once) (omega arith))
+    ∙ contains-marked_names h ms r (names-apart (role_names h) c.in-Some.ensures.once)
+    (omega arith))
 
 pub returns-in-None : goal.returns-in-None
 returns-in-None c =
@@ -32,4 +33,5 @@ returns-in-None c =
     let long = length-marks_from 0 (length h) c.self.inside.mask in
     let none : is_role h r ≡ false = sym c.in-None.ensures.found in
     rw (← c.self.view_is) (sym (is_marked-none h ms r none)
-    ∙ contains-marked_names h ms r (names-apart (role_names h) c.in-None.ensures.once) (omega arith))
+    ∙ contains-marked_names h ms r (names-apart (role_names h) c.in-None.ensures.once)
+    (omega arith))

@@ -4,7 +4,8 @@ use Rattle.std.proofs.lemmas.Result.{err_from_is_err_and}
 use Rattle.mpw_geom.proofs.Linked.{or_cases}
 use Rattle.mpw_roles.specs.Hierarchy.{with_role, is_role}
 use Rattle.mpw_roles.specs.Internal.Table.{IsTable, name_of, entries_of, has_number}
-use Rattle.mpw_roles.proofs.EntryLemmas.{juniors-there, more-names, role-number, between-more, with-role-entries}
+use Rattle.mpw_roles.proofs.EntryLemmas.{more-names, role-number, with-role-entries}
+use Rattle.mpw_roles.proofs.PairLemmas.{juniors-there, between-more}
 use Rattle.mpw_roles.proofs.NumberLemmas.{eqb-back, has-more, once-more, name-numbered, number-within}
 use Rattle.mpw_roles.proofs.table.Table.add.Goals.{After-numbered, In_ok-number}
 use Rattle.mpw_roles.proofs.table.Table.add.Goals as goal
@@ -35,7 +36,8 @@ returns-in_err-push-clause-err c =
 
 -- the number is that of a name, and none of the roles'
 number : (c : In_ok-number) → entries_of c.numbered.new.names c.self.inside.pairs.items
-    c.self.inside.order.items ≡ c.args.self.now → (name_of c.numbered.new.names c.in_ok-number.number ≡ c.args.role)
+    c.self.inside.order.items ≡ c.args.self.now
+    → (name_of c.numbered.new.names c.in_ok-number.number ≡ c.args.role)
     × (c.in_ok-number.number < length c.numbered.new.names)
     × (has_number c.self.inside.order.items c.in_ok-number.number ≡ false)
 number c old =
@@ -49,7 +51,8 @@ number c old =
     (let inside = inv.known k there in omega (arith, inside, longer)) in (
       sym (name-numbered ns c.args.role n found),
       number-within ns c.args.role n found,
-      sym (role-number ns in'.pairs.items in'.order.items known c.numbered.ensures.once c.args.role n
+      sym (role-number ns in'.pairs.items in'.order.items known c.numbered.ensures.once c.args.role
+          n
           found)
           ∙ ap (λ h. is_role h c.args.role) old
           ∙ c.requires,
@@ -68,10 +71,11 @@ invariant_of-self-2 c =
     subst (IsTable ns in'.pairs.items) (sym c.in_ok-push.ensures.items) (record {
       names_once = c.numbered.ensures.once;
       once = once-more os n inv.once is.2;
-      known = λ k there. elim (or_cases (has_number os k) (eqb k n) (sym (has-more os n k) ∙ there)) [
-        | inl old ↦ let inside = inv.known k old in omega (arith, inside, longer)
-        | inr new ↦ let same_number = eqb-back k n new in omega (arith, same_number, is.1)
-      ];
+      known =
+          λ k there. elim (or_cases (has_number os k) (eqb k n) (sym (has-more os n k) ∙ there)) [
+            | inl old ↦ let inside = inv.known k old in omega (arith, inside, longer)
+            | inr new ↦ let same_number = eqb-back k n new in omega (arith, same_number, is.1)
+          ];
       between = between-more in'.pairs.items os n inv.between;
     })
 

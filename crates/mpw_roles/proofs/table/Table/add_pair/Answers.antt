@@ -3,7 +3,8 @@ use Rattle.std.proofs.Common.{◌≡◌, ◌∙◌, sym, ap, subst, true, true�
 use Rattle.mpw_roles.specs.Hierarchy.{with_pair}
 use Rattle.mpw_roles.specs.Internal.Table.{IsTable, entries_of, has_number}
 use Rattle.mpw_roles.specs.declared.pairs.Pair.{Pair}
-use Rattle.mpw_roles.proofs.EntryLemmas.{role-number, role-unnumbered, between-pair, with-pair-entries}
+use Rattle.mpw_roles.proofs.EntryLemmas.{role-number, role-unnumbered, with-pair-entries}
+use Rattle.mpw_roles.proofs.PairLemmas.{between-pair}
 use Rattle.mpw_roles.proofs.NumberLemmas.{name-numbered}
 use Rattle.mpw_roles.proofs.RoleLemmas.{and_both}
 use Rattle.mpw_roles.proofs.table.Table.add_pair.Goals as goal
@@ -40,7 +41,8 @@ invariant_of-self-2 c =
       names_once = inv.names_once;
       once = inv.once;
       known = inv.known;
-      between = between-pair ps os p inv.between (and_both (has_number os p.senior) _ senior junior);
+      between =
+          between-pair ps os p inv.between (and_both (has_number os p.senior) _ senior junior);
     })
 
 pub returns-clause-ok : goal.returns-clause-ok

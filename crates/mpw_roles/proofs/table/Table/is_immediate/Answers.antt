@@ -3,7 +3,8 @@ use Rattle.std.proofs.Common.{◌∙◌, sym, ap}
 use Rattle.std.specs.List.{list_any}
 use Rattle.mpw_geom.specs.Names.{contains_name}
 use Rattle.mpw_roles.specs.Internal.Table.{is_pair, juniors_of}
-use Rattle.mpw_roles.proofs.EntryLemmas.{linked-number, linked-unnumbered, pair-number, juniors-there}
+use Rattle.mpw_roles.proofs.EntryLemmas.{linked-number, linked-unnumbered}
+use Rattle.mpw_roles.proofs.PairLemmas.{pair-number, juniors-there}
 use Rattle.mpw_roles.proofs.NumberLemmas.{contains-number, contains-unnumbered}
 use Rattle.mpw_roles.proofs.table.Table.is_immediate.Goals as goal
 

@@ -35,7 +35,8 @@ returns-in-Some-clause-once c = let in' = c.self.inside in let inv = c.self.inva
 
 pub returns-in-None-clause-place : goal.returns-in-None-clause-place
 returns-in-None-clause-place c = let in' = c.self.inside in
-    rw (← c.self.view_is) (place-none in'.names in'.pairs.items in'.order.items c.self.invariant.known
+    rw (← c.self.view_is) (place-none in'.names in'.pairs.items in'.order.items
+    c.self.invariant.known
     c.args.role.now (sym c.in-None.ensures.number))
 
 pub returns-in-None-clause-found : goal.returns-in-None-clause-found

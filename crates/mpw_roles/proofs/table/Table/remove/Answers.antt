@@ -3,7 +3,8 @@ use Rattle.std.proofs.Common.{◌∙◌, sym, ap, subst, not, eqb, true≢false,
 use Rattle.mpw_roles.specs.Hierarchy.{without_role}
 use Rattle.mpw_roles.specs.Internal.Table.{IsTable, entries_of, has_number, is_end}
 use Rattle.mpw_roles.specs.declared.pairs.Pair.{Pair}
-use Rattle.mpw_roles.proofs.EntryLemmas.{role-unnumbered, juniors-there, between-left, without-role-entries}
+use Rattle.mpw_roles.proofs.EntryLemmas.{role-unnumbered, without-role-entries}
+use Rattle.mpw_roles.proofs.PairLemmas.{juniors-there, between-left}
 use Rattle.mpw_roles.proofs.NumberLemmas.{has-filter, once-filter}
 use Rattle.mpw_roles.proofs.RoleLemmas.{and_parts}
 use Rattle.mpw_roles.proofs.table.Table.remove.Goals as goal

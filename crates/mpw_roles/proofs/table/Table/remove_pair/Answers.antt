@@ -3,7 +3,8 @@ use Rattle.std.proofs.Common.{◌∙◌, sym, ap, subst, not, true≢false}
 use Rattle.mpw_roles.specs.Hierarchy.{without_pair}
 use Rattle.mpw_roles.specs.Internal.Table.{IsTable, entries_of, is_pair}
 use Rattle.mpw_roles.specs.declared.pairs.Pair.{Pair}
-use Rattle.mpw_roles.proofs.EntryLemmas.{role-unnumbered, between-less, without-pair-entries}
+use Rattle.mpw_roles.proofs.EntryLemmas.{role-unnumbered, without-pair-entries}
+use Rattle.mpw_roles.proofs.PairLemmas.{between-less}
 use Rattle.mpw_roles.proofs.table.Table.remove_pair.Goals as goal
 
 pub returns-in_default : goal.returns-in_default
@@ -28,7 +29,8 @@ invariant_of-self c =
       names_once = inv.names_once;
       once = inv.once;
       known = inv.known;
-      between = between-less (λ (p : Pair). not (is_pair c.in-Some.senior c.in-Some-number.junior p))
+      between =
+          between-less (λ (p : Pair). not (is_pair c.in-Some.senior c.in-Some-number.junior p))
           in'.pairs.items in'.order.items inv.between;
     })
 

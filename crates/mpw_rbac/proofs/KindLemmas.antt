@@ -1,0 +1,118 @@
+-- The rows of a set of either kind, and what they leave.
+use Rattle.std.proofs.Common.{[], ◌≡◌, ℕ, Bool, true, false, cond, not, ◌⊎◌, inl, inr, List, ◌∷◌, ◌++◌, length, Ok, Err, Some, None, refl, sym, ap, subst, ◌∙◌}
+use Rattle.std.specs.Prelude.{nat_lt}
+use Rattle.std.specs.List.{list_all}
+use Rattle.mpw_roles.specs.Decided.{decided}
+use Rattle.mpw_roles.specs.Hierarchy.{Name, is_role}
+use Rattle.mpw_separation.specs.declared.fault.SetsFault.{SetsFault}
+use Rattle.mpw_separation.specs.declared.fault.SetsFault.TheVariants as set_faults
+use Rattle.mpw_separation.specs.declared.set.Kind.{Kind}
+use Rattle.mpw_separation.specs.declared.set.Kind.TheVariants.{Static, Dynamic}
+use Rattle.mpw_separation.specs.Rows.{make}
+use Rattle.mpw_separation.specs.Separation.{Sets, sets_of, least_broken, is_broken, has_set, without_set}
+use Rattle.mpw_separation.specs.Set.{SeparationSet}
+use Rattle.mpw_rbac.specs.declared.refusal.Refusal.TheVariants.{Full}
+use Rattle.mpw_rbac.specs.Internal.Fault.{fault_of_sets}
+use Rattle.mpw_rbac.specs.Internal.Kinds.{other, kind_sets, sets_with, with_sets, bound_lists, told_broken, make_set}
+use Rattle.mpw_rbac.specs.Laws.{KeepsSound}
+use Rattle.mpw_rbac.specs.Policy.{Policy}
+use Rattle.mpw_rbac.specs.Rows as rows
+use Rattle.mpw_rbac.specs.Sound.{Sound, sets_hold}
+use Rattle.mpw_rbac.proofs.HolderLemmas.{least-new}
+use Rattle.mpw_rbac.proofs.KeepLemmas.{keep-unssd, keep-undsd}
+use Rattle.mpw_rbac.proofs.LawLemmas.{sound-ssd, sound-dsd}
+use Rattle.mpw_rbac.proofs.RowFacts.{administered-facts}
+
+-- sets of which those of one kind have changed
+pub changed-sets : (kind : Kind) (old new : Sets) (left : List SeparationSet)
+    → sets_of kind new ≡ left → sets_of (other kind) new ≡ sets_of (other kind) old
+    → new ≡ sets_with kind old left
+changed-sets Static old new left is others = λ i. record { ssd = is i; dsd = others i }
+changed-sets Dynamic old new left is others = λ i. record { ssd = others i; dsd = is i }
+
+pub kind-holds : (kind : Kind) (p : Policy) → Sound p
+    → sets_hold p.roles (kind_sets kind p) (bound_lists kind p) ≡ true
+kind-holds Static p s = s.static
+kind-holds Dynamic p s = s.dynamic
+
+pub sound-made : (kind : Kind) (conn : ℕ) (set : SeparationSet)
+    → KeepsSound (λ p. make_set kind p conn set)
+sound-made Static conn set = sound-ssd conn set
+sound-made Dynamic conn set = sound-dsd conn set
+
+pub sound-removed : (kind : Kind) (p : Policy) (name : Name) → Sound p
+    → Sound (with_sets kind p (without_set (kind_sets kind p) name))
+sound-removed Static p name s = keep-unssd p name s
+sound-removed Dynamic p name s = keep-undsd p name s
+
+-- a new name is refused only where there is no room
+full-fault : (sets : List SeparationSet) (set : SeparationSet) (fault : SetsFault)
+    → has_set sets set.name ≡ false → make sets set ≡ Err fault → (nat_lt (length sets) 64 ≡ false)
+    × (fault ≡ set_faults.Full)
+full-fault sets set fault new e = by (has_set sets set.name) (nat_lt (length sets) 64) new e
+  where
+    by : (x y : Bool) → x ≡ false → decided ((not x, set_faults.Known) ∷ (y, set_faults.Full) ∷ [])
+        (sets ++ set ∷ []) ≡ Err fault → (y ≡ false) × (fault ≡ set_faults.Full)
+    by true y n f = cc
+    by false true n f = cc
+    by false false n f = (refl, cc)
+
+-- what the row of a new set answers, by whether the set is broken
+pub record TellsSet (kind : Kind) (p : Policy) (conn : ℕ) (set : SeparationSet) : Type 0 where
+  pub made : is_broken p.roles (bound_lists kind p) set ≡ false
+      → nat_lt (length (kind_sets kind p)) 64 ≡ true
+      → make_set kind p conn set ≡ Ok (with_sets kind p (kind_sets kind p ++ set ∷ []))
+  pub broken : is_broken p.roles (bound_lists kind p) set ≡ true
+      → make_set kind p conn set ≡ Err (told_broken kind set.name)
+  pub refused : is_broken p.roles (bound_lists kind p) set ≡ false → (fault : SetsFault)
+      → (fault ≡ set_faults.Memory) ⊎ (make (kind_sets kind p) set ≡ Err fault)
+      → rows.IsFaultOf (make_set kind p conn set) (fault_of_sets fault)
+
+-- a new name, and roles that are there
+module _ (kind : Kind) (p : Policy) (conn : ℕ) (set : SeparationSet)
+    (ok : rows.administered p conn ≡ Ok p) (s : Sound p)
+    (new : has_set (kind_sets kind p) set.name ≡ false)
+    (known : list_all (is_role p.roles) set.roles ≡ true) where
+  least : (b : Bool) → is_broken p.roles (bound_lists kind p) set ≡ b
+      → least_broken p.roles (kind_sets kind p ++ set ∷ []) (bound_lists kind p)
+      ≡ cond b (Some set.name) None
+  least b is = least-new p.roles (kind_sets kind p) set (bound_lists kind p) (kind-holds kind p s)
+      ∙ ap (λ x. cond x (Some set.name) None) is
+
+  set-made : is_broken p.roles (bound_lists kind p) set ≡ false
+      → nat_lt (length (kind_sets kind p)) 64 ≡ true
+      → make_set kind p conn set ≡ Ok (with_sets kind p (kind_sets kind p ++ set ∷ []))
+  set-made apart room =
+      let f = administered-facts p conn ok in
+      let none : least_broken p.roles (kind_sets kind p ++ set ∷ []) (bound_lists kind p) ≡ None =
+      least false apart in
+      rw (f.0, f.1, new, known, none, room)
+
+  set-broken : is_broken p.roles (bound_lists kind p) set ≡ true
+      → make_set kind p conn set ≡ Err (told_broken kind set.name)
+  set-broken broken =
+      let f = administered-facts p conn ok in
+      let some : least_broken p.roles (kind_sets kind p ++ set ∷ []) (bound_lists kind p)
+      ≡ Some set.name = least true broken in
+      rw (f.0, f.1, new, known, some)
+
+  set-full : is_broken p.roles (bound_lists kind p) set ≡ false
+      → nat_lt (length (kind_sets kind p)) 64 ≡ false → make_set kind p conn set ≡ Err Full
+  set-full apart full =
+      let f = administered-facts p conn ok in
+      let none : least_broken p.roles (kind_sets kind p ++ set ∷ []) (bound_lists kind p) ≡ None =
+      least false apart in
+      rw (f.0, f.1, new, known, none, full)
+
+  set-refused : is_broken p.roles (bound_lists kind p) set ≡ false → (fault : SetsFault)
+      → (fault ≡ set_faults.Memory) ⊎ (make (kind_sets kind p) set ≡ Err fault)
+      → rows.IsFaultOf (make_set kind p conn set) (fault_of_sets fault)
+  set-refused apart fault (inl memory) =
+      subst (λ f. rows.IsFaultOf (make_set kind p conn set) (fault_of_sets f)) (sym memory) tt
+  set-refused apart fault (inr refused) =
+      let is = full-fault (kind_sets kind p) set fault new refused in
+      subst (λ f. rows.IsFaultOf (make_set kind p conn set) (fault_of_sets f)) (sym is.1)
+      (set-full apart is.0)
+
+  pub tells-set : TellsSet kind p conn set
+  tells-set = record { made = set-made; broken = set-broken; refused = set-refused }

@@ -1,0 +1,69 @@
+-- What private functions and proofs need of separation: the rows of a set of either kind.
+use Rattle.std.specs.Prelude.{ℕ, not, List, [], ◌∷◌, ◌++◌, length, nat_lt, Result}
+use Rattle.std.specs.List.{list_all}
+use Rattle.mpw_roles.specs.Decided.{decided}
+use Rattle.mpw_roles.specs.Hierarchy.{Name, is_role}
+use Rattle.mpw_separation.specs.declared.set.Kind.{Kind}
+use Rattle.mpw_separation.specs.declared.set.Kind.TheVariants.{Static, Dynamic}
+use Rattle.mpw_separation.specs.Separation.{Sets, max_sets, sets_of, least_broken, has_set, without_set}
+use Rattle.mpw_separation.specs.Set.{SeparationSet}
+use Rattle.mpw_rbac.specs.declared.refusal.Refusal.{Refusal}
+use Rattle.mpw_rbac.specs.declared.refusal.Refusal.TheVariants.{Ssd, Dsd, Known, Unknown, Full}
+use Rattle.mpw_rbac.specs.Policy.{Policy, policy_of, assigned_lists, active_lists}
+use Rattle.mpw_rbac.specs.Rows as rows
+
+-- the other kind
+abbrev pub other : Kind → Kind
+other Static = Dynamic
+other Dynamic = Static
+
+-- the sets of both kinds, and those of one
+abbrev pub all_sets : Policy → Sets
+all_sets policy = record { ssd = policy.ssd; dsd = policy.dsd }
+
+abbrev pub kind_sets : Kind → Policy → List SeparationSet
+kind_sets kind policy = sets_of kind (all_sets policy)
+
+-- with other sets of the kind
+abbrev pub sets_with : Kind → Sets → List SeparationSet → Sets
+sets_with Static sets new = record sets { ssd = new }
+sets_with Dynamic sets new = record sets { dsd = new }
+
+abbrev pub with_sets : Kind → Policy → List SeparationSet → Policy
+with_sets kind policy new =
+    policy_of policy.users policy.roles policy.granted (sets_with kind (all_sets policy) new)
+    policy.sessions
+
+-- whom the sets of the kind bind: the users' assigned roles, or the sessions' active ones
+abbrev pub bound_lists : Kind → Policy → List (List Name)
+bound_lists Static policy = assigned_lists policy.users
+bound_lists Dynamic policy = active_lists policy.sessions
+
+-- how a broken set of the kind is told
+abbrev pub told_broken : Kind → Name → Refusal
+told_broken Static name = Ssd name
+told_broken Dynamic name = Dsd name
+
+-- a set of the kind is made
+abbrev pub make_set : Kind → Policy → ℕ → SeparationSet → Result Policy Refusal
+make_set kind policy conn set =
+    let sets = kind_sets kind policy ++ set ∷ [] in
+    decided
+    (rows.in_session policy conn
+    ∷ rows.administers policy conn
+    ∷ (not (has_set (kind_sets kind policy) set.name), Known)
+    ∷ (list_all (is_role policy.roles) set.roles, Unknown)
+    ∷ rows.none_broken (told_broken kind) (least_broken policy.roles sets (bound_lists kind policy))
+    ∷ (nat_lt (length (kind_sets kind policy)) max_sets, Full)
+    ∷ [])
+    (with_sets kind policy sets)
+
+-- a set of the kind goes
+abbrev pub remove_set : Kind → Policy → ℕ → Name → Result Policy Refusal
+remove_set kind policy conn name =
+    decided
+    (rows.in_session policy conn
+    ∷ rows.administers policy conn
+    ∷ (has_set (kind_sets kind policy) name, Unknown)
+    ∷ [])
+    (with_sets kind policy (without_set (kind_sets kind policy) name))
