@@ -1,9 +1,14 @@
 -- Which rows administer, and which tell no set of separation of duty.
-use Rattle.std.proofs.Common.{◌≡◌, ℕ, false, List, sym, ◌∙◌, true≢false}
+use Rattle.std.proofs.Common.{◌≡◌, ℕ, false, List, Err}
+use Rattle.mpw_roles.specs.Hierarchy.{Name}
+use Rattle.mpw_separation.specs.declared.set.Kind.{Kind}
+use Rattle.mpw_separation.specs.declared.set.Kind.TheVariants.{Dynamic}
 use Rattle.mpw_rbac.specs.Accepted.{NeedsAdministration, NeedsNoPermission, TellsNoStatic, TellsNoDynamic}
 use Rattle.mpw_rbac.specs.declared.refusal.Refusal.TheVariants.{NotPermitted, Ssd, Dsd}
+use Rattle.mpw_rbac.specs.Internal.Kinds.{set_refusal}
+use Rattle.mpw_rbac.specs.Policy.{Policy}
 use Rattle.mpw_rbac.specs.Rows as rows
-use Rattle.mpw_rbac.proofs.Denying.{none-denied, permission-plain, dsd-permission, ssd-plain, dsd-plain, dsd-static, ssd-dynamic, admin-static, admin-dynamic, activation-static, activation-permission, none-tells, none-tells-opened, none-tells-closed, none-tells-dropped, none-tells-activated}
+use Rattle.mpw_rbac.proofs.Denying.{none-denied, permission-plain, kind-permission, ssd-plain, dsd-plain, dsd-static, activation-static, activation-permission, kind-plain, kind-admin, none-of_kind, none-tells, none-tells-opened, none-tells-closed, none-tells-dropped, none-tells-activated}
 use Rattle.mpw_rbac.proofs.RowLemmas.{all-pass}
 use Rattle.mpw_rbac.proofs.RowTests as row
 
@@ -15,31 +20,19 @@ administers conn request p q is =
     (all-pass (row.administer-tests p conn (row.tests-of request p)) (row.next-of request p) q
     is).1.0
 
-pub no_static : (conn : ℕ) (request : row.Administration) → row.tests_static request ≡ false
-    → TellsNoStatic (row.row-of request conn)
-no_static conn request none p told is =
-    let f = ssd-plain told in
-    none-denied (Ssd told) (row.administer-tests p conn (row.tests-of request p))
+pub no_sets : (kind : Kind) (conn : ℕ) (request : row.Administration)
+    → row.tests_kind kind request ≡ false → (p : Policy) (name : Name)
+    → row.row-of request conn p ≡ Err (set_refusal kind name) → ⊥
+no_sets kind conn request none p name is =
+    let f = kind-plain kind name in
+    none-denied (set_refusal kind name) (row.administer-tests p conn (row.tests-of request p))
     (row.next-of request p) (
       f.5,
       (
-        admin-static told,
-        none-tells (Ssd told) f request
-            (λ some. absurd (true≢false (sym some ∙ none))) (λ _. dsd-static told) p,
-      ),
-    ) is
-
-pub no_dynamic : (conn : ℕ) (request : row.Administration) → row.tests_dynamic request ≡ false
-    → TellsNoDynamic (row.row-of request conn)
-no_dynamic conn request none p told is =
-    let f = dsd-plain told in
-    none-denied (Dsd told) (row.administer-tests p conn (row.tests-of request p))
-    (row.next-of request p) (
-      f.5,
-      (
-        admin-dynamic told,
-        none-tells (Dsd told) f request
-            (λ _. ssd-dynamic told) (λ some. absurd (true≢false (sym some ∙ none))) p,
+        kind-admin kind name,
+        none-tells (set_refusal kind name) f
+            request
+            (λ other. none-of_kind kind other name request none) p,
       ),
     ) is
 
@@ -79,7 +72,7 @@ pub no_permission-activate : (conn : ℕ) (role : List ℕ)
 no_permission-activate conn role p operation object is =
     none-tells-activated (NotPermitted operation object) (permission-plain operation object) conn
     role
-    (activation-permission role operation object) (dsd-permission operation object) p is
+    (activation-permission role operation object) (kind-permission Dynamic operation object) p is
 
 pub no_static-drop_role : (conn : ℕ) (role : List ℕ)
     → TellsNoStatic (λ p. rows.drop_role p conn role)

@@ -12,16 +12,14 @@ use Rattle.mpw_separation.specs.declared.set.Kind.TheVariants.{Static, Dynamic}
 use Rattle.mpw_separation.specs.Separation.{broken_names, has_set}
 use Rattle.mpw_separation.specs.Set.{SeparationSet}
 use Rattle.mpw_geom.proofs.LeastLemmas.{least-is}
-use Rattle.mpw_rbac.specs.Internal.Kinds.{kind_sets, with_sets, bound_lists, told_broken, make_set}
+use Rattle.mpw_rbac.specs.Internal.Kinds.{kind_sets, with_sets, bound_lists, set_refusal, make_set}
 use Rattle.mpw_rbac.specs.Laws.{DeniesRightly, IsLeastStatic, IsLeastDynamic}
 use Rattle.mpw_rbac.specs.declared.session.Identity.{Identity}
 use Rattle.mpw_rbac.specs.Policy.{Policy, identity_of, authorized, assigned_roles, is_user, assigned_lists}
 use Rattle.mpw_rbac.specs.Rows as rows
 use Rattle.mpw_rbac.specs.declared.permission.Grant.{Grant}
 use Rattle.mpw_rbac.specs.declared.permission.Object.{Object}
-use Rattle.mpw_rbac.specs.declared.permission.Object.TheVariants.{Desk}
 use Rattle.mpw_rbac.specs.declared.permission.Operation.{Operation}
-use Rattle.mpw_rbac.specs.declared.permission.Operation.TheVariants.{Admin}
 use Rattle.mpw_rbac.specs.declared.refusal.Refusal.{Refusal}
 use Rattle.mpw_rbac.specs.declared.refusal.Refusal.TheVariants.{NoSession, NotPermitted, NotAuthorized, Unknown, Known, Full, Loop, Ssd, Dsd}
 use Rattle.mpw_rbac.specs.Sound.{sets_hold}
@@ -29,14 +27,14 @@ use Rattle.mpw_rbac.proofs.AcceptedLemmas.{no_permission-open_session, no_permis
 use Rattle.mpw_rbac.proofs.LawLemmas.{static-holds}
 use Rattle.mpw_rbac.proofs.RowLemmas.{AllPass}
 use Rattle.mpw_rbac.proofs.RowTests as row
-use Rattle.mpw_rbac.proofs.Denying.{refused, refusal-same, IsPlain, NoneDenies, none-denied, admin-denied, permission-plain, activation-plain, ssd-plain, dsd-plain, ssd-permission, dsd-permission, dsd-activation, dsd-static, ssd-dynamic, admin-static, admin-dynamic, activation-dynamic, none-tells}
+use Rattle.mpw_rbac.proofs.Denying.{refused, refusal-same, NoneDenies, none-denied, admin-denied, permission-plain, activation-plain, ssd-plain, dsd-plain, kind-permission, dsd-activation, dsd-static, ssd-dynamic, admin-static, admin-dynamic, activation-dynamic, kind-plain, kind-admin, none-tells}
 
 denies-administration : (conn : ℕ) (request : row.Administration)
     → DeniesRightly conn (row.row-of request conn)
 denies-administration conn request p op obj is =
     admin-denied p conn op obj (row.tests-of request p) (row.next-of request p)
-    (none-tells (NotPermitted op obj) (permission-plain op obj) request (λ _. ssd-permission op obj)
-    (λ _. dsd-permission op obj) p) is
+    (none-tells (NotPermitted op obj) (permission-plain op obj) request
+    (λ kind _. kind-permission kind op obj) p) is
 
 pub denies-adduser : (conn : ℕ) (user digest : List ℕ)
     → DeniesRightly conn (λ p. rows.adduser p conn user digest)
@@ -113,18 +111,10 @@ passed-before denial (x ∷ xs) later next none is =
       | false ↦ λ e. absurd (none.0 (refusal-same x.1 denial e))
     ] is
 
--- what is told of a broken set of a kind
-kind-plain : (kind : Kind) (name : Name) → IsPlain (told_broken kind name)
-kind-plain Static name = ssd-plain name
-kind-plain Dynamic name = dsd-plain name
-
-kind-admin : (kind : Kind) (name : Name) → NotPermitted Admin Desk ≡ told_broken kind name → ⊥
-kind-admin Static name = admin-static name
-kind-admin Dynamic name = admin-dynamic name
-
+-- the name of a broken set of a kind is told
 told-named : (kind : Kind) (o : Option Name) (name : Name)
-    → (rows.none_broken (told_broken kind) o).0 ≡ false
-    → (rows.none_broken (told_broken kind) o).1 ≡ told_broken kind name → o ≡ Some name
+    → (rows.none_broken (set_refusal kind) o).0 ≡ false
+    → (rows.none_broken (set_refusal kind) o).1 ≡ set_refusal kind name → o ≡ Some name
 told-named kind None name is told = absurd (true≢false is)
 told-named Static (Some n) name is told = cc
 told-named Dynamic (Some n) name is told = cc
@@ -133,8 +123,8 @@ abbrev kind_names : Kind → Policy → List Name
 kind_names kind p = broken_names p.roles (kind_sets kind p) (bound_lists kind p)
 
 least-told : (kind : Kind) (names : List Name) (name : Name)
-    → ((rows.none_broken (told_broken kind) (least_name names)).0 ≡ false)
-    × ((rows.none_broken (told_broken kind) (least_name names)).1 ≡ told_broken kind name)
+    → ((rows.none_broken (set_refusal kind) (least_name names)).0 ≡ false)
+    × ((rows.none_broken (set_refusal kind) (least_name names)).1 ≡ set_refusal kind name)
     → IsLeast names (Some name)
 least-told kind names name told =
     subst (IsLeast names) (told-named kind (least_name names) name told.0 told.1) (least-is names)
@@ -206,7 +196,7 @@ least-activate p conn role name is =
 
 -- a set that is made
 least-made : (kind : Kind) (p : Policy) (conn : ℕ) (set : SeparationSet) (name : Name)
-    → make_set kind p conn set ≡ Err (told_broken kind name)
+    → make_set kind p conn set ≡ Err (set_refusal kind name)
     → IsLeast (broken_names p.roles (kind_sets kind p ++ set ∷ []) (bound_lists kind p)) (Some name)
 least-made kind p conn set name is =
     let f = kind-plain kind name in
@@ -216,7 +206,7 @@ least-made kind p conn set name is =
     ∷ (not (has_set (kind_sets kind p) set.name), Known)
     ∷ (list_all (is_role p.roles) set.roles, Unknown) ∷ [] in
     least-told kind names name
-    (told-by (told_broken kind name) before (rows.none_broken (told_broken kind) (least_name names))
+    (told-by (set_refusal kind name) before (rows.none_broken (set_refusal kind) (least_name names))
     ((nat_lt (length (kind_sets kind p)) 64, Full) ∷ []) (with_sets kind p sets)
     (f.5, (kind-admin kind name, (f.0, (f.1, tt)))) (f.2, tt) is)
 

@@ -1,11 +1,14 @@
 -- What tests deny, and what no denial is.
-use Rattle.std.proofs.Common.{[], ◌≡◌, ℕ, Bool, true, false, cond, ◌||◌, ◌&&◌, inl, inr, List, ◌∷◌, Option, None, Some, Result, Err, refl, ap}
+use Rattle.std.proofs.Common.{[], ◌≡◌, ℕ, Bool, true, false, cond, ◌||◌, ◌&&◌, inl, inr, List, ◌∷◌, Option, None, Some, Result, Err, refl, sym, ap, ◌∙◌, true≢false}
 use Rattle.std.specs.List.{list_any}
 use Rattle.mpw_geom.specs.Names.{contains_name}
 use Rattle.mpw_roles.specs.Decided.{decided}
 use Rattle.mpw_roles.specs.Hierarchy.{Name}
 use Rattle.mpw_roles.specs.Order.{roles_below}
 use Rattle.mpw_roles.proofs.CallerLemmas.{or_cases, or_right, roles_below-grows}
+use Rattle.mpw_separation.specs.declared.set.Kind.{Kind}
+use Rattle.mpw_separation.specs.declared.set.Kind.TheVariants.{Static, Dynamic}
+use Rattle.mpw_rbac.specs.Internal.Kinds.{set_refusal}
 use Rattle.mpw_rbac.specs.Grant.{operation_eq, object_eq}
 use Rattle.mpw_rbac.specs.Laws.{IsPart, PermitsNoLess}
 use Rattle.mpw_rbac.specs.Policy.{Policy, permits, is_granted_to}
@@ -97,15 +100,12 @@ ssd-plain name = (λ e. cc, λ e. cc, λ e. cc, λ e. cc, λ e. cc, λ e. cc)
 pub dsd-plain : (name : Name) → IsPlain (Dsd name)
 dsd-plain name = (λ e. cc, λ e. cc, λ e. cc, λ e. cc, λ e. cc, λ e. cc)
 
-pub ssd-permission : (operation : Operation) (object : Object) (o : Option Name)
-    → (rows.none_broken Ssd o).1 ≡ NotPermitted operation object → ⊥
-ssd-permission operation object None e = cc
-ssd-permission operation object (Some n) e = cc
-
-pub dsd-permission : (operation : Operation) (object : Object) (o : Option Name)
-    → (rows.none_broken Dsd o).1 ≡ NotPermitted operation object → ⊥
-dsd-permission operation object None e = cc
-dsd-permission operation object (Some n) e = cc
+pub kind-permission : (kind : Kind) (operation : Operation) (object : Object) (o : Option Name)
+    → (rows.none_broken (set_refusal kind) o).1 ≡ NotPermitted operation object → ⊥
+kind-permission Static operation object None e = cc
+kind-permission Static operation object (Some n) e = cc
+kind-permission Dynamic operation object None e = cc
+kind-permission Dynamic operation object (Some n) e = cc
 
 pub dsd-activation : (role : Name) (o : Option Name)
     → (rows.none_broken Dsd o).1 ≡ NotAuthorized role
@@ -137,30 +137,47 @@ pub activation-permission : (role : Name) (operation : Operation) (object : Obje
     → NotAuthorized role ≡ NotPermitted operation object → ⊥
 activation-permission role operation object e = cc
 
+-- what is told of a broken set of a kind
+pub kind-plain : (kind : Kind) (name : Name) → IsPlain (set_refusal kind name)
+kind-plain Static name = ssd-plain name
+kind-plain Dynamic name = dsd-plain name
+
+pub kind-admin : (kind : Kind) (name : Name) → NotPermitted Admin Desk ≡ set_refusal kind name → ⊥
+kind-admin Static name = admin-static name
+kind-admin Dynamic name = admin-dynamic name
+
+-- the sets of a kind tell no such denial
+abbrev pub NoneOfKind : Kind → Refusal → Type 0
+NoneOfKind kind denial = (o : Option Name) → (rows.none_broken (set_refusal kind) o).1 ≡ denial → ⊥
+
+-- a request that doesn't test the one kind tells none of it by the other
+pub none-of_kind : (told kind : Kind) (name : Name) (request : row.Administration)
+    → row.tests_kind told request ≡ false → row.tests_kind kind request ≡ true
+    → NoneOfKind kind (set_refusal told name)
+none-of_kind Static Static name request none some = absurd (true≢false (sym some ∙ none))
+none-of_kind Static Dynamic name request none some = dsd-static name
+none-of_kind Dynamic Static name request none some = ssd-dynamic name
+none-of_kind Dynamic Dynamic name request none some = absurd (true≢false (sym some ∙ none))
+
 -- an administrative request tells no denial but of what it tests
 pub none-tells : (denial : Refusal) → IsPlain denial → (request : row.Administration)
-    → (row.tests_static request ≡ true → (o : Option Name)
-    → (rows.none_broken Ssd o).1 ≡ denial → ⊥)
-    → (row.tests_dynamic request ≡ true → (o : Option Name)
-    → (rows.none_broken Dsd o).1 ≡ denial → ⊥) → (p : Policy)
+    → ((kind : Kind) → row.tests_kind kind request ≡ true → NoneOfKind kind denial) → (p : Policy)
     → NoneDenies denial (row.tests-of request p)
-none-tells denial f (row.AddUser user digest) static dynamic p = (f.0, (f.2, tt))
-none-tells denial f (row.DeleteUser user) static dynamic p = (f.1, tt)
-none-tells denial f (row.AddRole role) static dynamic p = (f.0, (f.2, tt))
-none-tells denial f (row.DeleteRole role) static dynamic p = (f.1, (f.3, tt))
-none-tells denial f (row.Assign user role) static dynamic p = (f.1, (f.0, (static refl _, tt)))
-none-tells denial f (row.Deassign user role) static dynamic p = (f.1, tt)
-none-tells denial f (row.AddGrant new) static dynamic p = (f.1, (f.0, (f.2, tt)))
-none-tells denial f (row.Revoke old) static dynamic p = (f.1, tt)
-none-tells denial f (row.Inherit senior junior) static dynamic p =
-    (f.1, (f.0, (f.4, (static refl _, (dynamic refl _, tt)))))
-none-tells denial f (row.Uninherit senior junior) static dynamic p = (f.1, tt)
-none-tells denial f (row.MakeStatic set) static dynamic p =
-    (f.0, (f.1, (static refl _, (f.2, tt))))
-none-tells denial f (row.MakeDynamic set) static dynamic p =
-    (f.0, (f.1, (dynamic refl _, (f.2, tt))))
-none-tells denial f (row.RemoveStatic name) static dynamic p = (f.1, tt)
-none-tells denial f (row.RemoveDynamic name) static dynamic p = (f.1, tt)
+none-tells denial f (row.AddUser user digest) sets p = (f.0, (f.2, tt))
+none-tells denial f (row.DeleteUser user) sets p = (f.1, tt)
+none-tells denial f (row.AddRole role) sets p = (f.0, (f.2, tt))
+none-tells denial f (row.DeleteRole role) sets p = (f.1, (f.3, tt))
+none-tells denial f (row.Assign user role) sets p = (f.1, (f.0, (sets Static refl _, tt)))
+none-tells denial f (row.Deassign user role) sets p = (f.1, tt)
+none-tells denial f (row.AddGrant new) sets p = (f.1, (f.0, (f.2, tt)))
+none-tells denial f (row.Revoke old) sets p = (f.1, tt)
+none-tells denial f (row.Inherit senior junior) sets p =
+    (f.1, (f.0, (f.4, (sets Static refl _, (sets Dynamic refl _, tt)))))
+none-tells denial f (row.Uninherit senior junior) sets p = (f.1, tt)
+none-tells denial f (row.MakeStatic set) sets p = (f.0, (f.1, (sets Static refl _, (f.2, tt))))
+none-tells denial f (row.MakeDynamic set) sets p = (f.0, (f.1, (sets Dynamic refl _, (f.2, tt))))
+none-tells denial f (row.RemoveStatic name) sets p = (f.1, tt)
+none-tells denial f (row.RemoveDynamic name) sets p = (f.1, tt)
 
 -- nor does a request of a session's own roles
 pub none-tells-opened : (denial : Refusal) → (Opened ≡ denial → ⊥) → (Login ≡ denial → ⊥)

@@ -1,14 +1,19 @@
 -- What an accepted row leaves keeps its tables.
-use Rattle.std.proofs.Common.{[], ℕ, true, not, refl, List, ◌∷◌, ◌++◌, arith}
+use Rattle.std.proofs.Common.{[], ◌≡◌, ◌≤◌, ℕ, Ok, true, not, refl, List, ◌∷◌, ◌++◌, length, arith}
+use Rattle.std.specs.List.{list_all}
 use Rattle.mpw_geom.specs.Names.{name_eq, without_name}
-use Rattle.mpw_roles.specs.Hierarchy.{is_role, immediate_juniors, with_role, with_juniors}
+use Rattle.mpw_roles.specs.Decided.{decided}
+use Rattle.mpw_roles.specs.Hierarchy.{Name, is_role, immediate_juniors, with_role, with_juniors}
 use Rattle.mpw_roles.proofs.CallerLemmas.{roles-with_role}
+use Rattle.mpw_separation.specs.Separation.{without_set}
 use Rattle.mpw_separation.specs.Set.{SeparationSet}
 use Rattle.mpw_rbac.specs.declared.permission.Grant.{Grant}
-use Rattle.mpw_rbac.specs.Existing.{KeepsTables}
+use Rattle.mpw_rbac.specs.declared.session.Session.{Session}
+use Rattle.mpw_rbac.specs.Existing.{AreTablesSound, KeepsTables}
 use Rattle.mpw_rbac.specs.Grant.{grant_eq}
-use Rattle.mpw_rbac.specs.Policy.{assigned_roles, trim}
+use Rattle.mpw_rbac.specs.Policy.{Policy, assigned_roles, trim}
 use Rattle.mpw_rbac.specs.Rows as rows
+use Rattle.mpw_rbac.specs.Sound.{Sound}
 use Rattle.mpw_rbac.proofs.ExistingLemmas as there
 use Rattle.mpw_rbac.proofs.LawLemmas as law
 use Rattle.mpw_rbac.proofs.RowLemmas.{all-pass}
@@ -135,79 +140,83 @@ kept-revoke conn old p q is k =
     (all-filter _ (λ other. not (grant_eq old other)) p.granted k.names.grants)
     (grind (arith, k.limits, there.fewer (λ other. not (grant_eq old other)) p.granted))
 
+-- a row of pairs gives one role other juniors
+of-juniors : (p : Policy) (senior : Name) (juniors : List Name) (sessions : List (ℕ × Session))
+    (tests : List rows.Test) (q : Policy)
+    → decided tests (record p {
+      roles = with_juniors p.roles senior juniors;
+      sessions = sessions;
+    }) ≡ Ok q → Sound q → list_all (is_role p.roles) juniors ≡ true → AreTablesSound p
+    → AreTablesSound q
+of-juniors p senior juniors sessions tests q is sound known k =
+    let h = with_juniors p.roles senior juniors in
+    let more = there.same-roles p.roles senior juniors in
+    kept tests (record p { roles = h; sessions = sessions }) q is sound
+    (there.assigns-more p.roles h more p.users k.names.assignments)
+    (there.leads-juniors p.roles senior juniors k.names.pairs known)
+    (there.grants-more p.roles h more p.granted k.names.grants)
+    (grind (arith, k.limits, there.same-pairs p.roles senior juniors))
+
 pub kept-inherit : (conn : ℕ) (senior junior : List ℕ)
     → KeepsTables (λ p. rows.inherit p conn senior junior)
 kept-inherit conn senior junior p q is k =
-    let t = all-pass (row.administer-tests p conn (row.inherit-tests p senior junior))
-    (row.inherited p senior junior) q is in
-    let juniors = immediate_juniors p.roles senior ++ junior ∷ [] in
-    let more = there.same-roles p.roles senior juniors in
-    kept (row.administer-tests p conn (row.inherit-tests p senior junior))
-    (row.inherited p senior junior) q is (law.sound-inherit conn senior junior p q is k.sound)
-    (there.assigns-more p.roles (with_juniors p.roles senior juniors) more p.users
-    k.names.assignments)
-    (there.leads-juniors p.roles senior juniors k.names.pairs
+    let tests = row.administer-tests p conn (row.inherit-tests p senior junior) in
+    let t = all-pass tests (row.inherited p senior junior) q is in
+    of-juniors p senior (immediate_juniors p.roles senior ++ junior ∷ []) p.sessions tests q is
+    (law.sound-inherit conn senior junior p q is k.sound)
     (all-append (is_role p.roles) (immediate_juniors p.roles senior) (junior ∷ [])
     (there.roles-linked p.roles p.roles senior k.names.pairs)
     (both (is_role p.roles junior) true
-    (parts (is_role p.roles senior) (is_role p.roles junior) t.1.1.0).1 refl)))
-    (there.grants-more p.roles (with_juniors p.roles senior juniors) more p.granted k.names.grants)
-    (grind (arith, k.limits, there.same-pairs p.roles senior juniors))
+    (parts (is_role p.roles senior) (is_role p.roles junior) t.1.1.0).1 refl)) k
 
 pub kept-uninherit : (conn : ℕ) (senior junior : List ℕ)
     → KeepsTables (λ p. rows.uninherit p conn senior junior)
 kept-uninherit conn senior junior p q is k =
-    let juniors = without_name (immediate_juniors p.roles senior) junior in
-    let more = there.same-roles p.roles senior juniors in
-    kept (row.administer-tests p conn (row.uninherit-tests p senior junior))
-    (trim (row.uninherited p senior junior)) q is
+    of-juniors p senior (without_name (immediate_juniors p.roles senior) junior)
+    (trim (row.uninherited p senior junior)).sessions
+    (row.administer-tests p conn (row.uninherit-tests p senior junior)) q is
     (law.sound-uninherit conn senior junior p q is k.sound)
-    (there.assigns-more p.roles (with_juniors p.roles senior juniors) more p.users
-    k.names.assignments)
-    (there.leads-juniors p.roles senior juniors k.names.pairs
     (there.all-without p.roles (immediate_juniors p.roles senior) junior
-    (there.roles-linked p.roles p.roles senior k.names.pairs)))
-    (there.grants-more p.roles (with_juniors p.roles senior juniors) more p.granted k.names.grants)
-    (grind (arith, k.limits, there.same-pairs p.roles senior juniors))
+    (there.roles-linked p.roles p.roles senior k.names.pairs)) k
+
+-- a row of sets leaves the other tables as they are
+of-sets : (p : Policy) (ssd dsd : List SeparationSet) (tests : List rows.Test) (q : Policy)
+    → decided tests (record p { ssd = ssd; dsd = dsd }) ≡ Ok q → Sound q → length ssd ≤ 64
+    → length dsd ≤ 64 → AreTablesSound p → AreTablesSound q
+of-sets p ssd dsd tests q is sound static dynamic k =
+    kept tests (record p { ssd = ssd; dsd = dsd }) q is sound k.names.assignments k.names.pairs
+    k.names.grants (grind (arith, k.limits, static, dynamic))
 
 pub kept-ssd : (conn : ℕ) (set : SeparationSet) → KeepsTables (λ p. rows.ssd p conn set)
 kept-ssd conn set p q is k =
-    let t =
-    all-pass (row.administer-tests p conn (row.ssd-tests p set)) (row.ssd_made p set) q is in
-    kept (row.administer-tests p conn (row.ssd-tests p set)) (row.ssd_made p set) q is
-    (law.sound-ssd conn set p q is k.sound)
-    (k.names.assignments) (k.names.pairs) (k.names.grants)
-    (grind (arith, k.limits, there.one_more p.ssd set 64 t.1.1.1.1.1.0))
+    let tests = row.administer-tests p conn (row.ssd-tests p set) in
+    let t = all-pass tests (row.ssd_made p set) q is in
+    of-sets p (p.ssd ++ set ∷ []) p.dsd tests q is (law.sound-ssd conn set p q is k.sound)
+    (there.one_more p.ssd set 64 t.1.1.1.1.1.0) k.limits.dynamic k
 
 pub kept-dsd : (conn : ℕ) (set : SeparationSet) → KeepsTables (λ p. rows.dsd p conn set)
 kept-dsd conn set p q is k =
-    let t =
-    all-pass (row.administer-tests p conn (row.dsd-tests p set)) (row.dsd_made p set) q is in
-    kept (row.administer-tests p conn (row.dsd-tests p set)) (row.dsd_made p set) q is
-    (law.sound-dsd conn set p q is k.sound)
-    (k.names.assignments) (k.names.pairs) (k.names.grants)
-    (grind (arith, k.limits, there.one_more p.dsd set 64 t.1.1.1.1.1.0))
+    let tests = row.administer-tests p conn (row.dsd-tests p set) in
+    let t = all-pass tests (row.dsd_made p set) q is in
+    of-sets p p.ssd (p.dsd ++ set ∷ []) tests q is (law.sound-dsd conn set p q is k.sound)
+    k.limits.static (there.one_more p.dsd set 64 t.1.1.1.1.1.0) k
+
+fewer-sets : (sets : List SeparationSet) (name : Name) → length sets ≤ 64
+    → length (without_set sets name) ≤ 64
+fewer-sets sets name fit = omega (
+  arith,
+  there.fewer (λ (set : SeparationSet). not (name_eq name set.name)) sets,
+  fit,
+)
 
 pub kept-unssd : (conn : ℕ) (name : List ℕ) → KeepsTables (λ p. rows.unssd p conn name)
-kept-unssd conn name p q is k =
-    kept (row.administer-tests p conn (row.unssd-tests p name)) (row.ssd_removed p name) q is
-    (law.sound-unssd conn name p q is k.sound)
-    (k.names.assignments) (k.names.pairs) (k.names.grants)
-    (grind (
-      arith,
-      k.limits,
-      there.fewer (λ (set : SeparationSet). not (name_eq name set.name))
-          p.ssd,
-    ))
+kept-unssd conn name p q is k = of-sets p (without_set p.ssd name) p.dsd
+    (row.administer-tests p conn (row.unssd-tests p name)) q is
+    (law.sound-unssd conn name p q is k.sound) (fewer-sets p.ssd name k.limits.static)
+    k.limits.dynamic k
 
 pub kept-undsd : (conn : ℕ) (name : List ℕ) → KeepsTables (λ p. rows.undsd p conn name)
-kept-undsd conn name p q is k =
-    kept (row.administer-tests p conn (row.undsd-tests p name)) (row.dsd_removed p name) q is
-    (law.sound-undsd conn name p q is k.sound)
-    (k.names.assignments) (k.names.pairs) (k.names.grants)
-    (grind (
-      arith,
-      k.limits,
-      there.fewer (λ (set : SeparationSet). not (name_eq name set.name))
-          p.dsd,
-    ))
+kept-undsd conn name p q is k = of-sets p p.ssd (without_set p.dsd name)
+    (row.administer-tests p conn (row.undsd-tests p name)) q is
+    (law.sound-undsd conn name p q is k.sound) k.limits.static
+    (fewer-sets p.dsd name k.limits.dynamic) k

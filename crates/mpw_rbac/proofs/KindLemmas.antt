@@ -13,7 +13,7 @@ use Rattle.mpw_separation.specs.Separation.{Sets, sets_of, least_broken, is_brok
 use Rattle.mpw_separation.specs.Set.{SeparationSet}
 use Rattle.mpw_rbac.specs.declared.refusal.Refusal.TheVariants.{Full}
 use Rattle.mpw_rbac.specs.Internal.Fault.{fault_of_sets}
-use Rattle.mpw_rbac.specs.Internal.Kinds.{other, kind_sets, sets_with, with_sets, bound_lists, told_broken, make_set}
+use Rattle.mpw_rbac.specs.Internal.Kinds.{other, kind_sets, sets_with, with_sets, bound_lists, set_refusal, make_set}
 use Rattle.mpw_rbac.specs.Laws.{KeepsSound}
 use Rattle.mpw_rbac.specs.Policy.{Policy}
 use Rattle.mpw_rbac.specs.Rows as rows
@@ -63,7 +63,7 @@ pub record TellsSet (kind : Kind) (p : Policy) (conn : ℕ) (set : SeparationSet
       → nat_lt (length (kind_sets kind p)) 64 ≡ true
       → make_set kind p conn set ≡ Ok (with_sets kind p (kind_sets kind p ++ set ∷ []))
   pub broken : is_broken p.roles (bound_lists kind p) set ≡ true
-      → make_set kind p conn set ≡ Err (told_broken kind set.name)
+      → make_set kind p conn set ≡ Err (set_refusal kind set.name)
   pub refused : is_broken p.roles (bound_lists kind p) set ≡ false → (fault : SetsFault)
       → (fault ≡ set_faults.Memory) ⊎ (make (kind_sets kind p) set ≡ Err fault)
       → rows.IsFaultOf (make_set kind p conn set) (fault_of_sets fault)
@@ -89,7 +89,7 @@ module _ (kind : Kind) (p : Policy) (conn : ℕ) (set : SeparationSet)
       rw (f.0, f.1, new, known, none, room)
 
   set-broken : is_broken p.roles (bound_lists kind p) set ≡ true
-      → make_set kind p conn set ≡ Err (told_broken kind set.name)
+      → make_set kind p conn set ≡ Err (set_refusal kind set.name)
   set-broken broken =
       let f = administered-facts p conn ok in
       let some : least_broken p.roles (kind_sets kind p ++ set ∷ []) (bound_lists kind p)

@@ -106,159 +106,141 @@ pub sound-drop_role : (conn : ℕ) (role : List ℕ) → KeepsSound (λ p. rows.
 sound-drop_role conn role p q is s =
     sound (row.drop-tests p conn role) (row.dropped p conn role) q is (keep.keep-drop p conn role s)
 
--- what an administrative request asks for, where its tests have passed
+-- an administrative request, from what it leaves where its tests have passed
 abbrev Passed : ℕ → row.Administration → Policy → Type 0
 Passed conn request p = AllPass (row.administer-tests p conn (row.tests-of request p))
 
-authorized-next : (conn : ℕ) (request : row.Administration) (p : Policy) → Passed conn request p
-    → active_authorized p ≡ true → active_authorized (row.next-of request p) ≡ true
-authorized-next conn (row.AddUser user digest) p t s = sound-adduser p user digest s
-authorized-next conn (row.DeleteUser user) p t s = trimmed.trim-authorized (row.user_deleted p user)
-authorized-next conn (row.AddRole role) p t s = sound-addrole p role s
-authorized-next conn (row.DeleteRole role) p t s =
-    trimmed.trim-authorized (rows.without_role_of p role)
-authorized-next conn (row.Assign user role) p t s = sound-assign p user role s
-authorized-next conn (row.Deassign user role) p t s =
-    trimmed.trim-authorized (row.deassigned p user role)
-authorized-next conn (row.Inherit senior junior) p t s =
-    trimmed.authorized-inherit p senior junior
-    (parts (is_role p.roles senior) (is_role p.roles junior) t.1.1.0).0 s
-authorized-next conn (row.Uninherit senior junior) p t s =
-    trimmed.trim-authorized (row.uninherited p senior junior)
-authorized-next conn request p t s = s
-
-sound-next : (conn : ℕ) (request : row.Administration) (p : Policy) → Passed conn request p
-    → Sound p → Sound (row.next-of request p)
-sound-next conn (row.AddUser user digest) p t s = keep.keep-adduser p user digest s
-sound-next conn (row.DeleteUser user) p t s = trimmed.keep-deluser p user s
-sound-next conn (row.AddRole role) p t s = keep.keep-addrole p role s
-sound-next conn (row.DeleteRole role) p t s =
-    let unused = keep.unused (not_true (uses_role p.ssd role || uses_role p.dsd role) t.1.1.1.0) in
-    trimmed.keep-delrole p role unused.0 unused.1 s
-sound-next conn (row.Assign user role) p t s =
-    keep.keep-assign p user role (static-holds (row.assigned p user role) t.1.1.1.1.0) s
-sound-next conn (row.Deassign user role) p t s = trimmed.keep-deassign p user role s
-sound-next conn (row.AddGrant new) p t s = keep.keep-granted p (row.grant_added p new).granted s
-sound-next conn (row.Revoke old) p t s = keep.keep-granted p (row.grant_revoked p old).granted s
-sound-next conn (row.Inherit senior junior) p t s =
-    trimmed.keep-inherit p senior junior
-    (parts (is_role p.roles senior) (is_role p.roles junior) t.1.1.0).0
-    (static-holds (row.inherited p senior junior) t.1.1.1.1.1.0)
-    (dynamic-holds (row.inherited p senior junior) t.1.1.1.1.1.1.0) s
-sound-next conn (row.Uninherit senior junior) p t s =
-    trimmed.keep-uninherit p senior junior t.1.1.0 s
-sound-next conn (row.MakeStatic set) p t s = keep.keep-ssd p conn set t.0 t.1.1.1.0
-    (static-holds (row.ssd_made p set) t.1.1.1.1.0) s
-sound-next conn (row.MakeDynamic set) p t s = keep.keep-dsd p conn set t.0 t.1.1.1.0
-    (dynamic-holds (row.dsd_made p set) t.1.1.1.1.0) s
-sound-next conn (row.RemoveStatic name) p t s = keep.keep-unssd p name s
-sound-next conn (row.RemoveDynamic name) p t s = keep.keep-undsd p name s
-
-keeps-administration : (conn : ℕ) (request : row.Administration)
+request-keeps : (conn : ℕ) (request : row.Administration)
+    → ((p : Policy) → Passed conn request p → active_authorized p ≡ true
+    → active_authorized (row.next-of request p) ≡ true)
     → KeepsAuthorization (row.row-of request conn)
-keeps-administration conn request p q is s =
+request-keeps conn request left p q is s =
     let tests = row.administer-tests p conn (row.tests-of request p) in
     let next = row.next-of request p in
-    keeps tests next q is (authorized-next conn request p (all-pass tests next q is) s)
+    keeps tests next q is (left p (all-pass tests next q is) s)
 
-sound-administration : (conn : ℕ) (request : row.Administration)
+request-sound : (conn : ℕ) (request : row.Administration)
+    → ((p : Policy) → Passed conn request p → Sound p → Sound (row.next-of request p))
     → KeepsSound (row.row-of request conn)
-sound-administration conn request p q is s =
+request-sound conn request left p q is s =
     let tests = row.administer-tests p conn (row.tests-of request p) in
     let next = row.next-of request p in
-    sound tests next q is (sound-next conn request p (all-pass tests next q is) s)
+    sound tests next q is (left p (all-pass tests next q is) s)
 
--- each of them by its name
 pub keeps-adduser : (conn : ℕ) (user digest : List ℕ)
     → KeepsAuthorization (λ p. rows.adduser p conn user digest)
-keeps-adduser conn user digest = keeps-administration conn (row.AddUser user digest)
+keeps-adduser conn user digest =
+    request-keeps conn (row.AddUser user digest) (λ p t. sound-adduser p user digest)
 
 pub sound-adduser_row : (conn : ℕ) (user digest : List ℕ)
     → KeepsSound (λ p. rows.adduser p conn user digest)
-sound-adduser_row conn user digest = sound-administration conn (row.AddUser user digest)
+sound-adduser_row conn user digest =
+    request-sound conn (row.AddUser user digest) (λ p t. keep.keep-adduser p user digest)
 
 pub keeps-deluser : (conn : ℕ) (user : List ℕ) → KeepsAuthorization (λ p. rows.deluser p conn user)
-keeps-deluser conn user = keeps-administration conn (row.DeleteUser user)
+keeps-deluser conn user = request-keeps conn (row.DeleteUser user)
+    (λ p t s. trimmed.trim-authorized (row.user_deleted p user))
 
 pub sound-deluser : (conn : ℕ) (user : List ℕ) → KeepsSound (λ p. rows.deluser p conn user)
-sound-deluser conn user = sound-administration conn (row.DeleteUser user)
+sound-deluser conn user =
+    request-sound conn (row.DeleteUser user) (λ p t. trimmed.keep-deluser p user)
 
 pub keeps-addrole : (conn : ℕ) (role : List ℕ) → KeepsAuthorization (λ p. rows.addrole p conn role)
-keeps-addrole conn role = keeps-administration conn (row.AddRole role)
+keeps-addrole conn role = request-keeps conn (row.AddRole role) (λ p t. sound-addrole p role)
 
 pub sound-addrole_row : (conn : ℕ) (role : List ℕ) → KeepsSound (λ p. rows.addrole p conn role)
-sound-addrole_row conn role = sound-administration conn (row.AddRole role)
+sound-addrole_row conn role =
+    request-sound conn (row.AddRole role) (λ p t. keep.keep-addrole p role)
 
 pub keeps-delrole : (conn : ℕ) (role : List ℕ) → KeepsAuthorization (λ p. rows.delrole p conn role)
-keeps-delrole conn role = keeps-administration conn (row.DeleteRole role)
+keeps-delrole conn role = request-keeps conn (row.DeleteRole role)
+    (λ p t s. trimmed.trim-authorized (rows.without_role_of p role))
 
 pub sound-delrole : (conn : ℕ) (role : List ℕ) → KeepsSound (λ p. rows.delrole p conn role)
-sound-delrole conn role = sound-administration conn (row.DeleteRole role)
+sound-delrole conn role = request-sound conn (row.DeleteRole role) (λ p t.
+    let unused = keep.unused (not_true (uses_role p.ssd role || uses_role p.dsd role) t.1.1.1.0) in
+    trimmed.keep-delrole p role unused.0 unused.1)
 
 pub keeps-assign : (conn : ℕ) (user role : List ℕ)
     → KeepsAuthorization (λ p. rows.assign p conn user role)
-keeps-assign conn user role = keeps-administration conn (row.Assign user role)
+keeps-assign conn user role =
+    request-keeps conn (row.Assign user role) (λ p t. sound-assign p user role)
 
 pub sound-assign_row : (conn : ℕ) (user role : List ℕ)
     → KeepsSound (λ p. rows.assign p conn user role)
-sound-assign_row conn user role = sound-administration conn (row.Assign user role)
+sound-assign_row conn user role = request-sound conn (row.Assign user role)
+    (λ p t. keep.keep-assign p user role (static-holds (row.assigned p user role) t.1.1.1.1.0))
 
 pub keeps-deassign : (conn : ℕ) (user role : List ℕ)
     → KeepsAuthorization (λ p. rows.deassign p conn user role)
-keeps-deassign conn user role = keeps-administration conn (row.Deassign user role)
+keeps-deassign conn user role = request-keeps conn (row.Deassign user role)
+    (λ p t s. trimmed.trim-authorized (row.deassigned p user role))
 
 pub sound-deassign : (conn : ℕ) (user role : List ℕ)
     → KeepsSound (λ p. rows.deassign p conn user role)
-sound-deassign conn user role = sound-administration conn (row.Deassign user role)
+sound-deassign conn user role =
+    request-sound conn (row.Deassign user role) (λ p t. trimmed.keep-deassign p user role)
 
 pub keeps-grant : (conn : ℕ) (new : Grant) → KeepsAuthorization (λ p. rows.grant p conn new)
-keeps-grant conn new = keeps-administration conn (row.AddGrant new)
+keeps-grant conn new = request-keeps conn (row.AddGrant new) (λ p t s. s)
 
 pub sound-grant : (conn : ℕ) (new : Grant) → KeepsSound (λ p. rows.grant p conn new)
-sound-grant conn new = sound-administration conn (row.AddGrant new)
+sound-grant conn new = request-sound conn (row.AddGrant new)
+    (λ p t. keep.keep-granted p (row.grant_added p new).granted)
 
 pub keeps-revoke : (conn : ℕ) (old : Grant) → KeepsAuthorization (λ p. rows.revoke p conn old)
-keeps-revoke conn old = keeps-administration conn (row.Revoke old)
+keeps-revoke conn old = request-keeps conn (row.Revoke old) (λ p t s. s)
 
 pub sound-revoke : (conn : ℕ) (old : Grant) → KeepsSound (λ p. rows.revoke p conn old)
-sound-revoke conn old = sound-administration conn (row.Revoke old)
+sound-revoke conn old = request-sound conn (row.Revoke old)
+    (λ p t. keep.keep-granted p (row.grant_revoked p old).granted)
 
 pub keeps-inherit : (conn : ℕ) (senior junior : List ℕ)
     → KeepsAuthorization (λ p. rows.inherit p conn senior junior)
-keeps-inherit conn senior junior = keeps-administration conn (row.Inherit senior junior)
+keeps-inherit conn senior junior = request-keeps conn (row.Inherit senior junior)
+    (λ p t. trimmed.authorized-inherit p senior junior
+    (parts (is_role p.roles senior) (is_role p.roles junior) t.1.1.0).0)
 
 pub sound-inherit : (conn : ℕ) (senior junior : List ℕ)
     → KeepsSound (λ p. rows.inherit p conn senior junior)
-sound-inherit conn senior junior = sound-administration conn (row.Inherit senior junior)
+sound-inherit conn senior junior = request-sound conn (row.Inherit senior junior)
+    (λ p t. trimmed.keep-inherit p senior junior
+    (parts (is_role p.roles senior) (is_role p.roles junior) t.1.1.0).0
+    (static-holds (row.inherited p senior junior) t.1.1.1.1.1.0)
+    (dynamic-holds (row.inherited p senior junior) t.1.1.1.1.1.1.0))
 
 pub keeps-uninherit : (conn : ℕ) (senior junior : List ℕ)
     → KeepsAuthorization (λ p. rows.uninherit p conn senior junior)
-keeps-uninherit conn senior junior = keeps-administration conn (row.Uninherit senior junior)
+keeps-uninherit conn senior junior = request-keeps conn (row.Uninherit senior junior)
+    (λ p t s. trimmed.trim-authorized (row.uninherited p senior junior))
 
 pub sound-uninherit : (conn : ℕ) (senior junior : List ℕ)
     → KeepsSound (λ p. rows.uninherit p conn senior junior)
-sound-uninherit conn senior junior = sound-administration conn (row.Uninherit senior junior)
+sound-uninherit conn senior junior = request-sound conn (row.Uninherit senior junior)
+    (λ p t. trimmed.keep-uninherit p senior junior t.1.1.0)
 
 pub keeps-ssd : (conn : ℕ) (set : SeparationSet) → KeepsAuthorization (λ p. rows.ssd p conn set)
-keeps-ssd conn set = keeps-administration conn (row.MakeStatic set)
+keeps-ssd conn set = request-keeps conn (row.MakeStatic set) (λ p t s. s)
 
 pub sound-ssd : (conn : ℕ) (set : SeparationSet) → KeepsSound (λ p. rows.ssd p conn set)
-sound-ssd conn set = sound-administration conn (row.MakeStatic set)
+sound-ssd conn set = request-sound conn (row.MakeStatic set)
+    (λ p t. keep.keep-ssd p conn set t.0 t.1.1.1.0 (static-holds (row.ssd_made p set) t.1.1.1.1.0))
 
 pub keeps-dsd : (conn : ℕ) (set : SeparationSet) → KeepsAuthorization (λ p. rows.dsd p conn set)
-keeps-dsd conn set = keeps-administration conn (row.MakeDynamic set)
+keeps-dsd conn set = request-keeps conn (row.MakeDynamic set) (λ p t s. s)
 
 pub sound-dsd : (conn : ℕ) (set : SeparationSet) → KeepsSound (λ p. rows.dsd p conn set)
-sound-dsd conn set = sound-administration conn (row.MakeDynamic set)
+sound-dsd conn set = request-sound conn (row.MakeDynamic set)
+    (λ p t. keep.keep-dsd p conn set t.0 t.1.1.1.0 (dynamic-holds (row.dsd_made p set) t.1.1.1.1.0))
 
 pub keeps-unssd : (conn : ℕ) (name : List ℕ) → KeepsAuthorization (λ p. rows.unssd p conn name)
-keeps-unssd conn name = keeps-administration conn (row.RemoveStatic name)
+keeps-unssd conn name = request-keeps conn (row.RemoveStatic name) (λ p t s. s)
 
 pub sound-unssd : (conn : ℕ) (name : List ℕ) → KeepsSound (λ p. rows.unssd p conn name)
-sound-unssd conn name = sound-administration conn (row.RemoveStatic name)
+sound-unssd conn name = request-sound conn (row.RemoveStatic name) (λ p t. keep.keep-unssd p name)
 
 pub keeps-undsd : (conn : ℕ) (name : List ℕ) → KeepsAuthorization (λ p. rows.undsd p conn name)
-keeps-undsd conn name = keeps-administration conn (row.RemoveDynamic name)
+keeps-undsd conn name = request-keeps conn (row.RemoveDynamic name) (λ p t s. s)
 
 pub sound-undsd : (conn : ℕ) (name : List ℕ) → KeepsSound (λ p. rows.undsd p conn name)
-sound-undsd conn name = sound-administration conn (row.RemoveDynamic name)
+sound-undsd conn name = request-sound conn (row.RemoveDynamic name) (λ p t. keep.keep-undsd p name)

@@ -6,6 +6,8 @@ use Rattle.mpw_geom.specs.Names.{name_eq, contains_name, without_name}
 use Rattle.mpw_roles.specs.Decided.{decided}
 use Rattle.mpw_roles.specs.Hierarchy.{Name, is_role, is_immediate, with_role, with_pair, without_pair}
 use Rattle.mpw_roles.specs.Order.{at_least}
+use Rattle.mpw_separation.specs.declared.set.Kind.{Kind}
+use Rattle.mpw_separation.specs.declared.set.Kind.TheVariants.{Static, Dynamic}
 use Rattle.mpw_separation.specs.Separation.{has_set, without_set, uses_role}
 use Rattle.mpw_separation.specs.Set.{SeparationSet}
 use Rattle.mpw_rbac.specs.Grant.{grant_eq}
@@ -193,14 +195,10 @@ next-of (RemoveDynamic name) p = dsd_removed p name
 abbrev pub row-of : Administration → ℕ → Policy → Result Policy Refusal
 row-of request conn p = decided (administer-tests p conn (tests-of request p)) (next-of request p)
 
--- which of them test the static sets, and which the dynamic ones
-abbrev pub tests_static : Administration → Bool
-tests_static (Assign user role) = true
-tests_static (Inherit senior junior) = true
-tests_static (MakeStatic set) = true
-tests_static request = false
-
-abbrev pub tests_dynamic : Administration → Bool
-tests_dynamic (Inherit senior junior) = true
-tests_dynamic (MakeDynamic set) = true
-tests_dynamic request = false
+-- whether it tests the sets of a kind
+abbrev pub tests_kind : Kind → Administration → Bool
+tests_kind Static (Assign user role) = true
+tests_kind Static (MakeStatic set) = true
+tests_kind Dynamic (MakeDynamic set) = true
+tests_kind kind (Inherit senior junior) = true
+tests_kind kind request = false

@@ -9,7 +9,8 @@ use Rattle.mpw_rbac.specs.declared.policy.Policy.TheInside.{Inside}
 use Rattle.mpw_rbac.proofs.PlacedLemmas.{placed-after}
 
 abbrev pub shown : Inside → Policy
-shown p = policy_of p.users.users p.permissions.roles p.permissions.granted p.sets.sets p.sessions.sessions
+shown p = policy_of p.users.users p.permissions.roles p.permissions.granted p.sets.sets
+    p.sessions.sessions
 
 abbrev IsKept : Inside → KeptSets → Type 0
 IsKept p sets = IsPolicy p.users p.permissions.roles p.permissions.granted sets p.sessions

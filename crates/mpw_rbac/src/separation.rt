@@ -6,7 +6,7 @@ ghost use Rattle.mpw_roles.specs.Hierarchy.{is_role, role_names};
 ghost use Rattle.mpw_separation.specs.Placed.{AreSetsPlaced};
 ghost use Rattle.mpw_separation.specs.Rows as set_rows;
 ghost use Rattle.mpw_separation.specs.Separation.{sets_of, least_broken, is_broken, has_set};
-ghost use Rattle.mpw_rbac.specs.Internal.Kinds.{other, kind_sets, bound_lists, told_broken};
+ghost use Rattle.mpw_rbac.specs.Internal.Kinds.{other, kind_sets, bound_lists, set_refusal};
 ghost use Rattle.mpw_rbac.specs.Internal.Kinds as kinds;
 ghost use Rattle.mpw_rbac.specs.Masked.{AreAuthorized, AreBelow, sessions_in, masks_in};
 ghost use Rattle.mpw_rbac.specs.Policy.{assigned_lists, active_lists};
@@ -147,8 +147,8 @@ fn remove(sets: &mut PlacedSets, kind: Kind, roles: &Roles, name: &Name) -> Resu
 }
 
 /// How a broken set of the kind is told.
-fn told_broken(kind: Kind, name: Name) -> Refusal
-    ensures { result ≡ told_broken kind name }
+fn set_refusal(kind: Kind, name: Name) -> Refusal
+    ensures { result ≡ set_refusal kind name }
 {
     match kind {
         Kind::Static => Refusal::Ssd(name),
@@ -221,7 +221,7 @@ impl Policy {
             return Err(PolicyFault::Refused(Refusal::Unknown));
         }
         if self.is_broken(kind, &set) {
-            return Err(PolicyFault::Refused(told_broken(kind, set.into_name())));
+            return Err(PolicyFault::Refused(set_refusal(kind, set.into_name())));
         }
         make(&mut self.sets, kind, self.permissions.roles(), set)?;
         Ok(())

@@ -40,9 +40,9 @@ bound_lists Static policy = assigned_lists policy.users
 bound_lists Dynamic policy = active_lists policy.sessions
 
 -- how a broken set of the kind is told
-abbrev pub told_broken : Kind → Name → Refusal
-told_broken Static name = Ssd name
-told_broken Dynamic name = Dsd name
+abbrev pub set_refusal : Kind → Name → Refusal
+set_refusal Static name = Ssd name
+set_refusal Dynamic name = Dsd name
 
 -- a set of the kind is made
 abbrev pub make_set : Kind → Policy → ℕ → SeparationSet → Result Policy Refusal
@@ -53,7 +53,7 @@ make_set kind policy conn set =
     ∷ rows.administers policy conn
     ∷ (not (has_set (kind_sets kind policy) set.name), Known)
     ∷ (list_all (is_role policy.roles) set.roles, Unknown)
-    ∷ rows.none_broken (told_broken kind) (least_broken policy.roles sets (bound_lists kind policy))
+    ∷ rows.none_broken (set_refusal kind) (least_broken policy.roles sets (bound_lists kind policy))
     ∷ (nat_lt (length (kind_sets kind policy)) max_sets, Full)
     ∷ [])
     (with_sets kind policy sets)

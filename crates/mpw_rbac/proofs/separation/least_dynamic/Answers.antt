@@ -29,7 +29,8 @@ loop-index-preserved c =
 pub returns : goal.returns
 returns c =
     let end : length c.args.sessions.now.entries ≤ c.loop-index.index = omega arith in
-    let all = least-all active_in c.args.roles.now c.args.sets.now.sets.dsd c.args.sessions.now.entries
+    let all =
+    least-all active_in c.args.roles.now c.args.sets.now.sets.dsd c.args.sessions.now.entries
     c.loop-index.index (option_copied c.loop-index.least) end c.loop-index.invariant in
     all ∙ ap (least_broken c.args.roles.now c.args.sets.now.sets.dsd)
     (active-lists c.args.sessions.now.entries)

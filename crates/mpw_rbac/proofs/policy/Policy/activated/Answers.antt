@@ -12,7 +12,8 @@ pub returns-clause-acting : goal.returns-clause-acting
 returns-clause-acting c = λ place.
     let in' = c.self.inside in
     let h = in'.permissions.roles in
-    let p = policy_of in'.users.users h in'.permissions.granted in'.sets.sets in'.sessions.sessions in
+    let p =
+    policy_of in'.users.users h in'.permissions.granted in'.sets.sets in'.sessions.sessions in
     let role = c.args.role.now in
     let before = rows.active_roles p c.args.conn in
     let found : c.in-Some.session.now.active ≡ before =

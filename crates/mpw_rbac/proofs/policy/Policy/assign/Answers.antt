@@ -31,13 +31,15 @@ tested c =
       known,
       sym c.is_role.ensures ∙ c.if-not-is_role.false,
       sym c.is_assigned.ensures ∙ c.if-is_assigned.false,
-      assign-same p c.args.user.now c.args.role.now (subst Sound c.self.view_is c.self.invariant.sound)
+      assign-same p c.args.user.now c.args.role.now
+          (subst Sound c.self.view_is c.self.invariant.sound)
           known
           ∙ ap (λ l. least_broken p.roles p.ssd (l ∷ [])) (sym asked),
     )
 
 -- the row, and that the policy that it leaves is sound
-accepted : (c : In_ok-users) → Sound (record (shown c.self.inside) { users = c.in_ok-users.users.users })
+accepted : (c : In_ok-users) → Sound
+    (record (shown c.self.inside) { users = c.in_ok-users.users.users })
     × (rows.assign c.args.self.now c.args.conn c.args.user.now c.args.role.now
     ≡ Ok (record (shown c.self.inside) { users = c.in_ok-users.users.users }))
 accepted c =

@@ -18,7 +18,10 @@ use Rattle.mpw_rbac.proofs.policy.Policy.deassign.Goals as goal
 -- that the role is assigned, and what is left
 left : (c : After-trim)
     → (contains_name (assigned_roles c.args.self.now c.args.user.now) c.args.role.now ≡ true)
-    × (record (shown c.self.inside) { users = c.in_ok-users.users.users; sessions = c.trim.new.self.sessions }
+    × (record (shown c.self.inside) {
+      users = c.in_ok-users.users.users;
+      sessions = c.trim.new.self.sessions;
+    }
     ≡ trim (rows.with_assigned c.args.self.now c.args.user.now
     (without_name (assigned_roles c.args.self.now c.args.user.now) c.args.role.now)))
 left c =
@@ -35,7 +38,8 @@ left c =
     (c.in_ok-copy.ensures i) (c.in_ok-assigned.ensures i))
     ∙ insert-present name_eq q.users user _ (assigned-user q user role there) in
     let sessions = c.trim.ensures.kept ∙ (λ i. kept_sessions
-    (users_and_roles (assigned i) ((c.roles-roles.ensures ∙ ap (λ (p : Policy). p.roles) c.self.view_is) i))
+    (users_and_roles (assigned i) ((c.roles-roles.ensures
+    ∙ ap (λ (p : Policy). p.roles) c.self.view_is) i))
     (c.self.view_is i).sessions) in (
       there,
       λ i. record (c.self.view_is i) { users = assigned i; sessions = sessions i },

@@ -42,7 +42,8 @@ invariant_of-self-2 c = record {
   sound = (accepted (goal.at.invariant_of-self-2 c).In_ok-insert).0;
   authorized = c.self.invariant.authorized;
   acting = c.in_ok-insert.ensures.acting c.self.inside.permissions.roles c.self.invariant.acting
-      (subst (λ (q : Policy). IsBelow q.roles c.in_ok-active.active.session.active c.in_ok-active.active.acting)
+      (subst (λ (q : Policy). IsBelow q.roles c.in_ok-active.active.session.active
+      c.in_ok-active.active.acting)
       (sym c.self.view_is) c.in_ok-active.ensures.acting);
   placed = c.self.invariant.placed;
 }

@@ -6,7 +6,7 @@ use Rattle.mpw_roles.specs.Hierarchy.{is_role}
 use Rattle.mpw_separation.specs.Rows.{make}
 use Rattle.mpw_separation.specs.Separation.{sets_of, has_set}
 use Rattle.mpw_separation.specs.declared.fault.SetsFault.TheVariants as set_faults
-use Rattle.mpw_rbac.specs.Internal.Kinds.{other, all_sets, kind_sets, with_sets, told_broken, make_set}
+use Rattle.mpw_rbac.specs.Internal.Kinds.{other, all_sets, kind_sets, with_sets, set_refusal, make_set}
 use Rattle.mpw_rbac.specs.Policy.{Policy, policy_of}
 use Rattle.mpw_rbac.specs.Sound.{Sound}
 use Rattle.mpw_rbac.proofs.KindLemmas.{TellsSet, tells-set, changed-sets, sound-made}
@@ -59,7 +59,7 @@ pub returns-then-is_broken-clause-refused : goal.returns-then-is_broken-clause-r
 returns-then-is_broken-clause-refused c =
     (row (goal.at.returns-then-is_broken-clause-refused c).After-is_broken).broken
     (sym c.is_broken.ensures ∙ c.if-is_broken.true)
-    ∙ ap Err (ap (told_broken c.args.kind) (sym c.into_name.ensures) ∙ sym c.told_broken.ensures)
+    ∙ ap Err (ap (set_refusal c.args.kind) (sym c.into_name.ensures) ∙ sym c.set_refusal.ensures)
 
 pub returns-in_err-make-clause-refused : goal.returns-in_err-make-clause-refused
 returns-in_err-make-clause-refused c =

@@ -16,7 +16,8 @@ use Rattle.mpw_rbac.proofs.policy.Policy.uninherit.Goals.{After-trim}
 use Rattle.mpw_rbac.proofs.policy.Policy.uninherit.Goals as goal
 
 -- that the pair was there, and what is left
-left : (c : After-trim) → (is_immediate (shown c.self.inside).roles c.args.senior.now c.args.junior.now ≡ true)
+left : (c : After-trim) → (is_immediate (shown c.self.inside).roles c.args.senior.now
+    c.args.junior.now ≡ true)
     × (policy_of c.in_ok-users.users.users c.in_ok-permissions.permissions.roles
     c.in_ok-permissions.permissions.granted c.self.inside.sets.sets c.trim.new.self.sessions
     ≡ trim (record (shown c.self.inside) {
@@ -44,7 +45,8 @@ invariant_of-self c =
       authorized = subst (λ h. AreAuthorized h c.in_ok-users.users) c.roles-roles.ensures
           c.in_ok-users.ensures.masks;
       acting = subst (λ h. AreActing h c.trim.new.self) c.roles-roles.ensures c.trim.ensures.acting;
-      placed = subst (λ names. AreSetsPlaced names in'.sets) (sym (names-uninherited in'.permissions.roles c.args.senior.now c.args.junior.now
+      placed = subst (λ names. AreSetsPlaced names in'.sets)
+          (sym (names-uninherited in'.permissions.roles c.args.senior.now c.args.junior.now
           c.in_ok-permissions.permissions.roles c.in_ok-permissions.ensures.ok))
           c.self.invariant.placed;
     }
