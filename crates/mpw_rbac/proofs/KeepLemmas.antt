@@ -6,11 +6,14 @@ use Rattle.std.specs.Option.{option_map_or}
 use Rattle.mpw_geom.specs.Names.{name_eq, contains_name, without_name}
 use Rattle.mpw_roles.specs.Hierarchy.{Name, Hierarchy, is_role, with_role}
 use Rattle.mpw_roles.proofs.CallerLemmas.{roles-with_role}
+use Rattle.mpw_separation.specs.declared.set.Kind.{Kind}
+use Rattle.mpw_separation.specs.declared.set.Kind.TheVariants.{Static, Dynamic}
 use Rattle.mpw_separation.specs.Separation.{breaks, is_broken, without_set}
 use Rattle.mpw_separation.specs.Set.{SeparationSet}
 use Rattle.mpw_rbac.specs.declared.permission.Grant.{Grant}
 use Rattle.mpw_rbac.specs.declared.session.User.{User}
 use Rattle.mpw_rbac.specs.declared.session.Session.{Session}
+use Rattle.mpw_rbac.specs.Internal.Kinds.{kind_sets, with_sets, bound_lists}
 use Rattle.mpw_rbac.specs.Policy.{Policy, is_user, authorized, assigned_roles, assigned_lists, active_lists, session_of}
 use Rattle.mpw_rbac.specs.Rows as rows
 use Rattle.mpw_rbac.specs.Sound.{is_authorized_session, active_authorized, sets_hold, is_proper, Sound}
@@ -194,71 +197,64 @@ some-user p conn is sound none = by p.sessions is sound
         (list_all (contains_name (authorized p e.1.user)) e.1.active) first).0 in
         true≢false (sym user ∙ ap (λ (us : List (Name × User)). has_key name_eq us e.1.user) none)
 
-pub keep-ssd : (p : Policy) (conn : ℕ) (set : SeparationSet) → is_some (session_of p conn) ≡ true
-    → list_all (is_role p.roles) set.roles ≡ true
-    → sets_hold p.roles (p.ssd ++ set ∷ []) (assigned_lists p.users) ≡ true
-    → Sound p → Sound (record p { ssd = p.ssd ++ set ∷ [] })
-keep-ssd p conn set there roles static s =
-    let apart = not_true (is_broken p.roles (assigned_lists p.users) set)
-    (all-last (λ (x : SeparationSet). not (is_broken p.roles (assigned_lists p.users) x)) p.ssd
-    set static) in
-    let positive =
-    somebody-positive p.roles roles_of p.users set (some-user p conn there s.sessions) apart in
-    record {
-      sessions = s.sessions;
-      static = static;
-      dynamic = s.dynamic;
-      static_proper = all-append (is_proper p.roles) p.ssd (set ∷ []) s.static_proper
-          (both (is_proper p.roles set) true (both (nat_lt 0 set.cardinality) _ positive roles)
-          refl);
-      dynamic_proper = s.dynamic_proper;
-    }
+-- the sets of one kind
+pub kind-holds : (kind : Kind) (p : Policy) → Sound p
+    → sets_hold p.roles (kind_sets kind p) (bound_lists kind p) ≡ true
+kind-holds Static p s = s.static
+kind-holds Dynamic p s = s.dynamic
 
-pub keep-dsd : (p : Policy) (conn : ℕ) (set : SeparationSet) → is_some (session_of p conn) ≡ true
-    → list_all (is_role p.roles) set.roles ≡ true
-    → sets_hold p.roles (p.dsd ++ set ∷ []) (active_lists p.sessions) ≡ true
-    → Sound p → Sound (record p { dsd = p.dsd ++ set ∷ [] })
-keep-dsd p conn set there roles dynamic s =
-    let apart = not_true (is_broken p.roles (active_lists p.sessions) set)
-    (all-last (λ (x : SeparationSet). not (is_broken p.roles (active_lists p.sessions) x)) p.dsd
-    set dynamic) in
-    let positive =
-    somebody-positive p.roles active_of p.sessions set (some-session p conn there) apart in
-    record {
-      sessions = s.sessions;
-      static = s.static;
-      dynamic = dynamic;
-      static_proper = s.static_proper;
-      dynamic_proper = all-append (is_proper p.roles) p.dsd (set ∷ []) s.dynamic_proper
-          (both (is_proper p.roles set) true (both (nat_lt 0 set.cardinality) _ positive roles)
-          refl);
-    }
+kind-proper : (kind : Kind) (p : Policy) → Sound p
+    → list_all (is_proper p.roles) (kind_sets kind p) ≡ true
+kind-proper Static p s = s.static_proper
+kind-proper Dynamic p s = s.dynamic_proper
 
-pub keep-unssd : (p : Policy) (name : Name) → Sound p
-    → Sound (record p { ssd = without_set p.ssd name })
-keep-unssd p name s = record {
+keep-kind : (kind : Kind) (p : Policy) (sets : List SeparationSet)
+    → sets_hold p.roles sets (bound_lists kind p) ≡ true
+    → list_all (is_proper p.roles) sets ≡ true → Sound p → Sound (with_sets kind p sets)
+keep-kind Static p sets hold proper s = record {
   sessions = s.sessions;
-  static = all-filter (λ (set : SeparationSet).
-      not (is_broken p.roles (assigned_lists p.users) set))
-      (λ (set : SeparationSet). not (name_eq name set.name)) p.ssd s.static;
+  static = hold;
   dynamic = s.dynamic;
-  static_proper = all-filter (is_proper p.roles)
-      (λ (set : SeparationSet). not (name_eq name set.name)) p.ssd s.static_proper;
+  static_proper = proper;
   dynamic_proper = s.dynamic_proper;
 }
-
-pub keep-undsd : (p : Policy) (name : Name) → Sound p
-    → Sound (record p { dsd = without_set p.dsd name })
-keep-undsd p name s = record {
+keep-kind Dynamic p sets hold proper s = record {
   sessions = s.sessions;
   static = s.static;
-  dynamic = all-filter (λ (set : SeparationSet).
-      not (is_broken p.roles (active_lists p.sessions) set))
-      (λ (set : SeparationSet). not (name_eq name set.name)) p.dsd s.dynamic;
+  dynamic = hold;
   static_proper = s.static_proper;
-  dynamic_proper = all-filter (is_proper p.roles)
-      (λ (set : SeparationSet). not (name_eq name set.name)) p.dsd s.dynamic_proper;
+  dynamic_proper = proper;
 }
+
+positive : (kind : Kind) (p : Policy) (conn : ℕ) (set : SeparationSet)
+    → is_some (session_of p conn) ≡ true → Sound p
+    → is_broken p.roles (bound_lists kind p) set ≡ false → nat_lt 0 set.cardinality ≡ true
+positive Static p conn set there s =
+    somebody-positive p.roles roles_of p.users set (some-user p conn there s.sessions)
+positive Dynamic p conn set there s =
+    somebody-positive p.roles active_of p.sessions set (some-session p conn there)
+
+pub keep-made : (kind : Kind) (p : Policy) (conn : ℕ) (set : SeparationSet)
+    → is_some (session_of p conn) ≡ true → list_all (is_role p.roles) set.roles ≡ true
+    → sets_hold p.roles (kind_sets kind p ++ set ∷ []) (bound_lists kind p) ≡ true → Sound p
+    → Sound (with_sets kind p (kind_sets kind p ++ set ∷ []))
+keep-made kind p conn set there roles hold s =
+    let apart = not_true (is_broken p.roles (bound_lists kind p) set)
+    (all-last (λ (x : SeparationSet). not (is_broken p.roles (bound_lists kind p) x))
+    (kind_sets kind p) set hold) in
+    keep-kind kind p (kind_sets kind p ++ set ∷ []) hold
+    (all-append (is_proper p.roles) (kind_sets kind p) (set ∷ []) (kind-proper kind p s)
+    (both (is_proper p.roles set) true (both (nat_lt 0 set.cardinality) _
+    (positive kind p conn set there s apart) roles) refl)) s
+
+pub keep-removed : (kind : Kind) (p : Policy) (name : Name) → Sound p
+    → Sound (with_sets kind p (without_set (kind_sets kind p) name))
+keep-removed kind p name s =
+    let other = λ (set : SeparationSet). not (name_eq name set.name) in
+    keep-kind kind p (without_set (kind_sets kind p) name)
+    (all-filter (λ (set : SeparationSet). not (is_broken p.roles (bound_lists kind p) set)) other
+    (kind_sets kind p) (kind-holds kind p s))
+    (all-filter (is_proper p.roles) other (kind_sets kind p) (kind-proper kind p s)) s
 
 pub keep-granted : (p : Policy) (granted : List Grant) → Sound p
     → Sound (record p { granted = granted })

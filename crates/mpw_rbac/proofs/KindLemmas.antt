@@ -3,13 +3,13 @@ use Rattle.std.proofs.Common.{[], ◌≡◌, ℕ, Bool, true, false, cond, not, 
 use Rattle.std.specs.Prelude.{nat_lt}
 use Rattle.std.specs.List.{list_all}
 use Rattle.mpw_roles.specs.Decided.{decided}
-use Rattle.mpw_roles.specs.Hierarchy.{Name, is_role}
+use Rattle.mpw_roles.specs.Hierarchy.{is_role}
 use Rattle.mpw_separation.specs.declared.fault.SetsFault.{SetsFault}
 use Rattle.mpw_separation.specs.declared.fault.SetsFault.TheVariants as set_faults
 use Rattle.mpw_separation.specs.declared.set.Kind.{Kind}
 use Rattle.mpw_separation.specs.declared.set.Kind.TheVariants.{Static, Dynamic}
 use Rattle.mpw_separation.specs.Rows.{make}
-use Rattle.mpw_separation.specs.Separation.{Sets, sets_of, least_broken, is_broken, has_set, without_set}
+use Rattle.mpw_separation.specs.Separation.{Sets, sets_of, least_broken, is_broken, has_set}
 use Rattle.mpw_separation.specs.Set.{SeparationSet}
 use Rattle.mpw_rbac.specs.declared.refusal.Refusal.TheVariants.{Full}
 use Rattle.mpw_rbac.specs.Internal.Fault.{fault_of_sets}
@@ -17,9 +17,9 @@ use Rattle.mpw_rbac.specs.Internal.Kinds.{other, kind_sets, sets_with, with_sets
 use Rattle.mpw_rbac.specs.Laws.{KeepsSound}
 use Rattle.mpw_rbac.specs.Policy.{Policy}
 use Rattle.mpw_rbac.specs.Rows as rows
-use Rattle.mpw_rbac.specs.Sound.{Sound, sets_hold}
+use Rattle.mpw_rbac.specs.Sound.{Sound}
 use Rattle.mpw_rbac.proofs.HolderLemmas.{least-new}
-use Rattle.mpw_rbac.proofs.KeepLemmas.{keep-unssd, keep-undsd}
+use Rattle.mpw_rbac.proofs.KeepLemmas.{kind-holds}
 use Rattle.mpw_rbac.proofs.LawLemmas.{sound-ssd, sound-dsd}
 use Rattle.mpw_rbac.proofs.RowFacts.{administered-facts}
 
@@ -30,20 +30,10 @@ pub changed-sets : (kind : Kind) (old new : Sets) (left : List SeparationSet)
 changed-sets Static old new left is others = λ i. record { ssd = is i; dsd = others i }
 changed-sets Dynamic old new left is others = λ i. record { ssd = others i; dsd = is i }
 
-pub kind-holds : (kind : Kind) (p : Policy) → Sound p
-    → sets_hold p.roles (kind_sets kind p) (bound_lists kind p) ≡ true
-kind-holds Static p s = s.static
-kind-holds Dynamic p s = s.dynamic
-
 pub sound-made : (kind : Kind) (conn : ℕ) (set : SeparationSet)
     → KeepsSound (λ p. make_set kind p conn set)
 sound-made Static conn set = sound-ssd conn set
 sound-made Dynamic conn set = sound-dsd conn set
-
-pub sound-removed : (kind : Kind) (p : Policy) (name : Name) → Sound p
-    → Sound (with_sets kind p (without_set (kind_sets kind p) name))
-sound-removed Static p name s = keep-unssd p name s
-sound-removed Dynamic p name s = keep-undsd p name s
 
 -- a new name is refused only where there is no room
 full-fault : (sets : List SeparationSet) (set : SeparationSet) (fault : SetsFault)

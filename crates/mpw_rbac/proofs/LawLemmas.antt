@@ -2,6 +2,7 @@
 use Rattle.std.proofs.Common.{◌≡◌, ℕ, Ok, true, ◌||◌, refl, subst, List, [], ◌∷◌}
 use Rattle.mpw_roles.specs.Decided.{decided}
 use Rattle.mpw_roles.specs.Hierarchy.{is_role}
+use Rattle.mpw_separation.specs.declared.set.Kind.TheVariants.{Static, Dynamic}
 use Rattle.mpw_separation.specs.Separation.{least_broken, uses_role}
 use Rattle.mpw_separation.specs.Set.{SeparationSet}
 use Rattle.mpw_rbac.specs.Policy.{Policy, new_policy, assigned_lists, active_lists}
@@ -224,23 +225,27 @@ keeps-ssd conn set = request-keeps conn (row.MakeStatic set) (λ p t s. s)
 
 pub sound-ssd : (conn : ℕ) (set : SeparationSet) → KeepsSound (λ p. rows.ssd p conn set)
 sound-ssd conn set = request-sound conn (row.MakeStatic set)
-    (λ p t. keep.keep-ssd p conn set t.0 t.1.1.1.0 (static-holds (row.ssd_made p set) t.1.1.1.1.0))
+    (λ p t. keep.keep-made Static p conn set t.0 t.1.1.1.0
+    (static-holds (row.ssd_made p set) t.1.1.1.1.0))
 
 pub keeps-dsd : (conn : ℕ) (set : SeparationSet) → KeepsAuthorization (λ p. rows.dsd p conn set)
 keeps-dsd conn set = request-keeps conn (row.MakeDynamic set) (λ p t s. s)
 
 pub sound-dsd : (conn : ℕ) (set : SeparationSet) → KeepsSound (λ p. rows.dsd p conn set)
 sound-dsd conn set = request-sound conn (row.MakeDynamic set)
-    (λ p t. keep.keep-dsd p conn set t.0 t.1.1.1.0 (dynamic-holds (row.dsd_made p set) t.1.1.1.1.0))
+    (λ p t. keep.keep-made Dynamic p conn set t.0 t.1.1.1.0
+    (dynamic-holds (row.dsd_made p set) t.1.1.1.1.0))
 
 pub keeps-unssd : (conn : ℕ) (name : List ℕ) → KeepsAuthorization (λ p. rows.unssd p conn name)
 keeps-unssd conn name = request-keeps conn (row.RemoveStatic name) (λ p t s. s)
 
 pub sound-unssd : (conn : ℕ) (name : List ℕ) → KeepsSound (λ p. rows.unssd p conn name)
-sound-unssd conn name = request-sound conn (row.RemoveStatic name) (λ p t. keep.keep-unssd p name)
+sound-unssd conn name =
+    request-sound conn (row.RemoveStatic name) (λ p t. keep.keep-removed Static p name)
 
 pub keeps-undsd : (conn : ℕ) (name : List ℕ) → KeepsAuthorization (λ p. rows.undsd p conn name)
 keeps-undsd conn name = request-keeps conn (row.RemoveDynamic name) (λ p t s. s)
 
 pub sound-undsd : (conn : ℕ) (name : List ℕ) → KeepsSound (λ p. rows.undsd p conn name)
-sound-undsd conn name = request-sound conn (row.RemoveDynamic name) (λ p t. keep.keep-undsd p name)
+sound-undsd conn name =
+    request-sound conn (row.RemoveDynamic name) (λ p t. keep.keep-removed Dynamic p name)

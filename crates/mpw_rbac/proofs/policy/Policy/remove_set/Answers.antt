@@ -4,7 +4,8 @@ use Rattle.mpw_separation.specs.Separation.{sets_of, without_set}
 use Rattle.mpw_rbac.specs.Internal.Kinds.{all_sets, kind_sets}
 use Rattle.mpw_rbac.specs.Policy.{policy_of}
 use Rattle.mpw_rbac.specs.Sound.{Sound}
-use Rattle.mpw_rbac.proofs.KindLemmas.{changed-sets, sound-removed}
+use Rattle.mpw_rbac.proofs.KeepLemmas.{keep-removed}
+use Rattle.mpw_rbac.proofs.KindLemmas.{changed-sets}
 use Rattle.mpw_rbac.proofs.RowFacts.{removed-set}
 use Rattle.mpw_rbac.proofs.Shown.{shown, with-sets}
 use Rattle.mpw_rbac.proofs.policy.Policy.remove_set.Goals as goal
@@ -21,4 +22,4 @@ invariant_of-self-2 c =
     with-sets c.self.inside c.roles.result.now sets c.self.invariant c.roles.ensures
     c.in_ok-remove.ensures.placed
     (subst Sound (λ i. policy_of p.users p.roles p.granted (sym left i) p.sessions)
-    (sound-removed kind p name c.self.invariant.sound))
+    (keep-removed kind p name c.self.invariant.sound))
