@@ -10,10 +10,5 @@ use mpw_words::is_near;
 pub fn all_near(rectangles: &[Rectangle]) -> bool
     ensures { result ≡ true → All (λ r. IsBoxInPlane r.area) rectangles.now }
 {
-    for rectangle in rectangles {
-        if !is_near(&rectangle.area) {
-            return false;
-        }
-    }
-    true
+    rectangles.iter().all(|rectangle| is_near(&rectangle.area))
 }

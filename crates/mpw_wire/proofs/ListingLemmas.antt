@@ -21,14 +21,13 @@ pub record IsWritten {X : Type 0} (text_of : X → List ℕ) (old new : Option (
   pub failures : failed' ≡ failed
 
 -- one item more
-pub written_more : {X : Type 0} (text_of : X → List ℕ) (old mid new : Option (List ℕ))
-    (failed mid' failed' : ℕ) (items left rest : List X) (item : X) (told : Option WireFault)
-    → told ≡ None → IsWritten text_of old mid failed mid' items left → left ≡ item ∷ rest
-    → WritesKnown mid new mid' failed' told (text_of item)
+pub written_more : {X : Type 0} {text_of : X → List ℕ} {old mid new : Option (List ℕ)}
+    {failed mid' failed' : ℕ} {items left rest : List X} {item : X}
+    → IsWritten text_of old mid failed mid' items left → left ≡ item ∷ rest
+    → WritesKnown mid new mid' failed' None (text_of item)
     → IsWritten text_of old new failed failed' items rest
-written_more text_of old mid new failed mid' failed' items left rest item told e so_far is w =
-    let whole : WritesKnown mid new mid' failed' None (text_of item) =
-    subst (λ x. WritesKnown mid new mid' failed' x (text_of item)) e w in
+written_more {text_of = text_of} {old = old} {mid = mid} {new = new} {rest = rest} {item = item}
+    so_far is w =
     record {
       written = so_far.written ++ item ∷ [];
       parts = so_far.parts ∙ ap (λ xs. so_far.written ++ xs) is
@@ -37,24 +36,21 @@ written_more text_of old mid new failed mid' failed' items left rest item told e
           (sym (append-nil (text_of item)))
           ∙ sym (flat_map-append text_of so_far.written (item ∷ [])))
           (Appends-trans old mid new (flat_map text_of so_far.written) (text_of item) so_far.text
-          whole.0);
-      failures = whole.1 ∙ so_far.failures;
+          w.0);
+      failures = w.1 ∙ so_far.failures;
     }
 
 -- the writing stopped in an item
-pub written_stop : {X A : Type 0} (text_of : X → List ℕ) (old mid new : Option (List ℕ))
-    (failed mid' failed' : ℕ) (items left rest : List X) (item : X) (fault : WireFault)
-    (told : Option WireFault) (result : Result A WireFault)
-    → told ≡ Some fault → IsErrAnd result (λ e. e ≡ fault)
+pub written_stop : {X A : Type 0} {text_of : X → List ℕ} {old mid : Option (List ℕ)}
+    {failed mid' : ℕ} {items left rest : List X} {item : X} (new : Option (List ℕ)) (failed' : ℕ)
+    (fault : WireFault) (result : Result A WireFault) → IsErrAnd result (λ e. e ≡ fault)
     → IsWritten text_of old mid failed mid' items left → left ≡ item ∷ rest
-    → WritesKnown mid new mid' failed' told (text_of item)
+    → WritesKnown mid new mid' failed' (Some fault) (text_of item)
     → WritesKnown old new failed failed' (fault_of result) (flat_map text_of items)
-written_stop text_of old mid new failed mid' failed' items left rest item fault told result e h
-    so_far is w =
-    let here : WritesKnown mid new mid' failed' (Some fault) (text_of item) =
-    subst (λ x. WritesKnown mid new mid' failed' x (text_of item)) e w in
+written_stop {text_of = text_of} {old = old} {mid = mid} {failed = failed} {mid' = mid'}
+    {items = items} {rest = rest} {item = item} new failed' fault result h so_far is w =
     let stopped =
-    Writes-stop mid new mid' failed' fault (text_of item) (flat_map text_of rest) here in
+    Writes-stop mid new mid' failed' fault (text_of item) (flat_map text_of rest) w in
     let all = Writes-then old mid new failed mid' failed' (Some fault)
     (flat_map text_of so_far.written) _ so_far.text so_far.failures stopped in
     let parts : flat_map text_of so_far.written ++ (text_of item ++ flat_map text_of rest)

@@ -6,7 +6,6 @@ use Rattle.mpw_wire.specs.declared.fault.WireFault.{WireFault}
 use Rattle.mpw_wire.specs.declared.fault.WireFault.TheVariants.{Read, Write, Memory}
 use Rattle.mpw_wire.specs.declared.read.Asked.{Asked}
 use Rattle.mpw_wire.specs.declared.read.Asked.TheVariants as asked
-use Rattle.mpw_wire.specs.declared.line.Taken.TheVariants as taken
 use Rattle.mpw_requests.specs.declared.request.Request.{Request}
 use Rattle.mpw_requests.specs.declared.request.Request.TheVariants.{Layout, Wafer}
 use Rattle.mpw_requests.specs.declared.layouts.LayoutRequest.TheVariants.{Submit}

@@ -18,49 +18,8 @@ mod random;
 mod shelves;
 mod walks;
 
-use anyhow::{Result, bail};
+use anyhow::Result;
 use mpw_hier::Shelf;
-use mpw_samples::text_of_library;
-
-/// Commands over the shelf.
-fn answer_shelf(
-    rt: &(impl Print + AllocGlobal),
-    shelf: &mut Shelf,
-    words: &[&str],
-    notation: &str,
-) -> Result<()> {
-    let bytes = text_of_library(rt.alloc(), notation)?;
-    match words {
-        ["submit", cell, top] => shelves::submit(rt, shelf, cell, top, &bytes),
-        ["fill", cell, count] => shelves::fill(rt, shelf, cell, count, &bytes),
-        ["again", cell, count] => shelves::again(rt, shelf, cell, count, &bytes),
-        ["same", first, second] => shelves::same(rt, shelf, first, second),
-        ["apart", cell, top] => shelves::apart(rt, shelf, cell, top, &bytes),
-        ["cells"] => shelves::cells(rt, shelf),
-        ["new"] => {
-            *shelf = Shelf::new(rt.alloc());
-            Ok(())
-        }
-        ["copy"] => {
-            *shelf = shelf.copy(rt.alloc())?;
-            Ok(())
-        }
-        _ => bail!("a command"),
-    }
-}
-
-fn answer_words(
-    rt: &(impl Print + AllocGlobal),
-    shelf: &mut Shelf,
-    words: &[&str],
-    notation: &str,
-) -> Result<()> {
-    match words {
-        ["outside", top] => shelves::outside(rt, top, notation),
-        ["walks", count] => walks::compared(rt, count),
-        _ => answer_shelf(rt, shelf, words, notation),
-    }
-}
 
 /// Answers a line.
 fn answer(rt: &(impl Print + AllocGlobal), shelf: &mut Shelf, line: &str) -> Result<()> {
@@ -78,7 +37,11 @@ fn answer(rt: &(impl Print + AllocGlobal), shelf: &mut Shelf, line: &str) -> Res
     }
     let (command, notation) = line.split_once('|').unwrap_or((line, ""));
     let words: Vec<&str> = command.split_whitespace().collect(rt.alloc())?;
-    answer_words(rt, shelf, &words, notation)
+    match words.as_slice() {
+        ["outside", top] => shelves::outside(rt, top, notation),
+        ["walks", count] => walks::compared(rt, count),
+        words => shelves::answer(rt, shelf, words, notation),
+    }
 }
 
 fn main(rt: HostRuntime) -> Result<()> {

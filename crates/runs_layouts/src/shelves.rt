@@ -20,7 +20,7 @@ fn print_shown(rt: &impl Print, shelf: &Shelf, number: u32) -> Result<()> {
 }
 
 /// Prints what the submission shows, or why there is none.
-pub fn submit(
+fn submit(
     rt: &(impl Print + AllocGlobal),
     shelf: &mut Shelf,
     cell: &str,
@@ -34,7 +34,7 @@ pub fn submit(
 }
 
 /// Submits to so many cells, and prints what the last one shows.
-pub fn fill(
+fn fill(
     rt: &(impl Print + AllocGlobal),
     shelf: &mut Shelf,
     cell: &str,
@@ -50,7 +50,7 @@ pub fn fill(
 }
 
 /// Submits so many times to a cell, and prints what the last one shows.
-pub fn again(
+fn again(
     rt: &(impl Print + AllocGlobal),
     shelf: &mut Shelf,
     cell: &str,
@@ -69,7 +69,7 @@ fn told(same: bool) -> &'static str {
 }
 
 /// Prints whether two submissions, and their libraries, are the same by value.
-pub fn same(rt: &impl Print, shelf: &Shelf, first: &str, second: &str) -> Result<()> {
+fn same(rt: &impl Print, shelf: &Shelf, first: &str, second: &str) -> Result<()> {
     let (Some(a), Some(b)) = (shelf.get(number(first)?), shelf.get(number(second)?)) else {
         bail!("two submissions");
     };
@@ -79,7 +79,7 @@ pub fn same(rt: &impl Print, shelf: &Shelf, first: &str, second: &str) -> Result
 }
 
 /// Submits to a copy of the shelf, and prints whether it is the same as the shelf before and behind that.
-pub fn apart(
+fn apart(
     rt: &(impl Print + AllocGlobal),
     shelf: &Shelf,
     cell: &str,
@@ -111,7 +111,7 @@ fn print_names(rt: &impl Print, names: &[Name]) -> Result<()> {
 }
 
 /// Prints the cells that have a submission.
-pub fn cells(rt: &(impl Print + AllocGlobal), shelf: &Shelf) -> Result<()> {
+fn cells(rt: &(impl Print + AllocGlobal), shelf: &Shelf) -> Result<()> {
     let names = shelf.cells(rt.alloc())?;
     print_names(rt, names.as_slice())
 }
@@ -124,5 +124,32 @@ pub fn outside(rt: &(impl Print + AllocGlobal), top: &str, notation: &str) -> Re
     match Outline::new(alloc, &library, &top) {
         Ok(outline) => print_names(rt, outline.names.as_slice()),
         Err(fault) => Ok(println!(rt; "    {fault}")?),
+    }
+}
+
+/// Commands over the shelf.
+pub fn answer(
+    rt: &(impl Print + AllocGlobal),
+    shelf: &mut Shelf,
+    words: &[&str],
+    notation: &str,
+) -> Result<()> {
+    let bytes = text_of_library(rt.alloc(), notation)?;
+    match words {
+        ["submit", cell, top] => submit(rt, shelf, cell, top, &bytes),
+        ["fill", cell, count] => fill(rt, shelf, cell, count, &bytes),
+        ["again", cell, count] => again(rt, shelf, cell, count, &bytes),
+        ["same", first, second] => same(rt, shelf, first, second),
+        ["apart", cell, top] => apart(rt, shelf, cell, top, &bytes),
+        ["cells"] => cells(rt, shelf),
+        ["new"] => {
+            *shelf = Shelf::new(rt.alloc());
+            Ok(())
+        }
+        ["copy"] => {
+            *shelf = shelf.copy(rt.alloc())?;
+            Ok(())
+        }
+        _ => bail!("a command"),
     }
 }

@@ -34,12 +34,7 @@ fn is_filled(marker: &Marker) -> bool
 fn all_filled(markers: &[Marker]) -> bool
     ensures { result ≡ true → All IsFilled markers.now }
 {
-    for marker in markers {
-        if !is_filled(marker) {
-            return false;
-        }
-    }
-    true
+    markers.iter().all(is_filled)
 }
 
 /// The numbers, which are to be ascending.
@@ -68,12 +63,7 @@ fn has_area(rectangle: &Rectangle) -> bool
 fn all_have_area(rectangles: &[Rectangle]) -> bool
     ensures { result ≡ true → All (λ r. HasArea r.area) rectangles.now }
 {
-    for rectangle in rectangles {
-        if !has_area(rectangle) {
-            return false;
-        }
-    }
-    true
+    rectangles.iter().all(has_area)
 }
 
 /// Whether the box's first corner is its lower left one.
@@ -86,12 +76,7 @@ fn is_ordered(b: &Box2) -> bool
 fn all_ordered(boxes: &[Box2]) -> bool
     ensures { result ≡ true → All IsOrdered boxes.now }
 {
-    for b in boxes {
-        if !is_ordered(b) {
-            return false;
-        }
-    }
-    true
+    boxes.iter().all(is_ordered)
 }
 
 /// The origins that the boxes meet; the rectangles are to have area, and the boxes to be ordered.

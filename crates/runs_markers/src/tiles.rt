@@ -1,10 +1,10 @@
 //! The lists that the lines make, and the last book.
 
 use crate::asked::{met, tile};
-use crate::words::{key, print};
+use crate::words::key;
 use anyhow::{Result, bail};
 use mpw_markers::{Book, Marker, TileMarkers, stitch};
-use mpw_words::numbers;
+use mpw_words::{numbers, print_marker};
 use std::alloc::Global;
 use std::mem;
 
@@ -63,7 +63,7 @@ impl Tiles {
         self.close(rt.alloc())?;
         self.book = stitch(rt.alloc(), self.lists.as_slice())?;
         for marker in self.book.as_slice() {
-            print(rt, marker)?;
+            print_marker(rt, marker)?;
         }
         Ok(())
     }
@@ -71,7 +71,7 @@ impl Tiles {
     /// Prints the book's marker of the key.
     pub fn find(&self, rt: &impl Print, words: &[&str]) -> Result<()> {
         match self.book.find(&key(words)?) {
-            Some(marker) => print(rt, marker),
+            Some(marker) => print_marker(rt, marker),
             None => Ok(println!(rt; "    none")?),
         }
     }

@@ -1,6 +1,5 @@
-use Rattle.std.proofs.Common.{ap, subst}
+use Rattle.std.proofs.Common.{subst}
 use Rattle.std.specs.List.{flat_map}
-use Rattle.mpw_replies.specs.Shapes.{line_of}
 use Rattle.mpw_wire.specs.Reply.{listed_text}
 use Rattle.mpw_wire.specs.Writing.{WritesKnown, fault_of}
 use Rattle.mpw_wire.proofs.ListingLemmas.{written_more, written_stop}
@@ -8,9 +7,7 @@ use Rattle.mpw_wire.proofs.shape.write_shapes.Goals as goal
 
 pub loop-shape-preserved : goal.loop-shape-preserved
 loop-shape-preserved g c =
-    written_more listed_text _ _ _ _ _ _ _ _ _ (line_of c.in-Some.shape) _
-    (ap fault_of c.in_ok-write_shape.was) c.loop-shape.invariant c.in-Some.ensures.some
-    c.write_shape.ensures
+    written_more c.loop-shape.invariant c.in-Some.ensures.some c.in_ok-write_shape.ensures
 
 pub returns-in_err-write_shape : goal.returns-in_err-write_shape
 returns-in_err-write_shape g c =
@@ -19,6 +16,5 @@ returns-in_err-write_shape g c =
     (g.W.Sink.failures c.write_shape.new.writer) (fault_of c.from_residual.result)
     (flat_map listed_text lines))
     c.views-views.ensures
-    (written_stop listed_text _ _ _ _ _ _ _ _ _ (line_of c.in-Some.shape)
-    c.in_err-write_shape.field-0.0 _ c.from_residual.result (ap fault_of c.in_err-write_shape.was)
-    c.from_residual.ensures.1 c.loop-shape.invariant c.in-Some.ensures.some c.write_shape.ensures)
+    (written_stop _ _ _ _ c.from_residual.ensures.1 c.loop-shape.invariant c.in-Some.ensures.some
+    c.in_err-write_shape.ensures)

@@ -1,7 +1,0 @@
-use Rattle.std.proofs.Common.{take}
-use Rattle.std.specs.Prelude.{All}
-use Rattle.mpw_markers.specs.Markers.{IsFilled}
-use Rattle.runs_markers.proofs.asked.all_filled.Given as goal
-
-abbrev pub invariant-loop-marker : goal.invariant-loop-marker
-invariant-loop-marker l = All IsFilled (take l.marker-index l.markers)
