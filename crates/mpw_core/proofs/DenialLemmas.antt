@@ -7,6 +7,7 @@ use Rattle.mpw_rbac.specs.declared.permission.Operation.{Operation}
 use Rattle.mpw_rbac.specs.declared.refusal.Refusal.{Refusal}
 use Rattle.mpw_rbac.specs.declared.refusal.Refusal.TheVariants as refusal
 use Rattle.mpw_rbac.specs.declared.session.Identity.{Identity}
+use Rattle.mpw_rbac.specs.Laws.{DeniesRightly}
 use Rattle.mpw_rbac.specs.Policy.{Policy, authorized, permits}
 use Rattle.mpw_rbac.specs.Rows as rows
 use Rattle.mpw_rbac.proofs.DenialLemmas as law
@@ -97,45 +98,26 @@ denied-row s connection request kept w x is e =
     denied-policy_outcome s (row_of s.policy connection request) (reply.Denied w) x is
     (ap (λ (o : Outcome). o.response) (sym same) ∙ e)
 
-lacks-row : (p : Policy) (connection : ℕ) (request : PolicyRequest) (operation : Operation)
-    (object : Object) → row_of p connection request ≡ Err (refusal.NotPermitted operation object)
-    → permits p connection operation object ≡ false
-lacks-row p connection (Open user digest) operation object e =
-    law.denies-open_session connection user digest p operation object e
-lacks-row p connection Close operation object e =
-    law.denies-close_session connection p operation object e
-lacks-row p connection (Activate role) operation object e =
-    law.denies-activation connection role p operation object e
-lacks-row p connection (DropRole role) operation object e =
-    law.denies-drop_role connection role p operation object e
-lacks-row p connection (AddUser user digest) operation object e =
-    law.denies-adduser connection user digest p operation object e
-lacks-row p connection (AddRole role) operation object e =
-    law.denies-addrole connection role p operation object e
-lacks-row p connection (Assign user role) operation object e =
-    law.denies-assign connection user role p operation object e
-lacks-row p connection (Grant grant) operation object e =
-    law.denies-grant connection grant p operation object e
-lacks-row p connection (Revoke grant) operation object e =
-    law.denies-revoke connection grant p operation object e
-lacks-row p connection (DelUser user) operation object e =
-    law.denies-deluser connection user p operation object e
-lacks-row p connection (DelRole role) operation object e =
-    law.denies-delrole connection role p operation object e
-lacks-row p connection (Deassign user role) operation object e =
-    law.denies-deassign connection user role p operation object e
-lacks-row p connection (Inherit senior junior) operation object e =
-    law.denies-inherit connection senior junior p operation object e
-lacks-row p connection (Uninherit senior junior) operation object e =
-    law.denies-uninherit connection senior junior p operation object e
-lacks-row p connection (Ssd set) operation object e =
-    law.denies-ssd connection set p operation object e
-lacks-row p connection (Dsd set) operation object e =
-    law.denies-dsd connection set p operation object e
-lacks-row p connection (UnSsd name) operation object e =
-    law.denies-unssd connection name p operation object e
-lacks-row p connection (UnDsd name) operation object e =
-    law.denies-undsd connection name p operation object e
+lacks-row : (connection : ℕ) (request : PolicyRequest)
+    → DeniesRightly connection (λ p. row_of p connection request)
+lacks-row connection (Open user digest) = law.denies-open_session connection user digest
+lacks-row connection Close = law.denies-close_session connection
+lacks-row connection (Activate role) = law.denies-activation connection role
+lacks-row connection (DropRole role) = law.denies-drop_role connection role
+lacks-row connection (AddUser user digest) = law.denies-adduser connection user digest
+lacks-row connection (AddRole role) = law.denies-addrole connection role
+lacks-row connection (Assign user role) = law.denies-assign connection user role
+lacks-row connection (Grant grant) = law.denies-grant connection grant
+lacks-row connection (Revoke grant) = law.denies-revoke connection grant
+lacks-row connection (DelUser user) = law.denies-deluser connection user
+lacks-row connection (DelRole role) = law.denies-delrole connection role
+lacks-row connection (Deassign user role) = law.denies-deassign connection user role
+lacks-row connection (Inherit senior junior) = law.denies-inherit connection senior junior
+lacks-row connection (Uninherit senior junior) = law.denies-uninherit connection senior junior
+lacks-row connection (Ssd set) = law.denies-ssd connection set
+lacks-row connection (Dsd set) = law.denies-dsd connection set
+lacks-row connection (UnSsd name) = law.denies-unssd connection name
+lacks-row connection (UnDsd name) = law.denies-undsd connection name
 
 permission-ended : (e : Ending) (operation : Operation) (object : Object)
     → ended_by e ≡ reply.Denied (denial.Permission operation object)
@@ -158,12 +140,10 @@ module _ (shelves : LayoutsDenyWhatIsLacked) (wafers : WafersDenyWhatIsLacked)
       (object : Object) → (outcome_of s connection request).response ≡ response.Told
       (reply.Denied (denial.Permission operation object))
       → permits s.policy connection operation object ≡ false
-  lacks-request s connection (ask.Policy request) operation object e = lacks-row s.policy connection
-      request
-      operation object (denied-policy_outcome s
+  lacks-request s connection (ask.Policy request) operation object e =
+      lacks-row connection request s.policy operation object (denied-policy_outcome s
       (row_of s.policy connection request) (reply.Denied (denial.Permission operation object))
-      (refusal.NotPermitted operation object)
-      refl e)
+      (refusal.NotPermitted operation object) refl e)
   lacks-request s connection ask.Whoami operation object e =
       absurd (law.denies-whoami s.policy connection operation object
       (denied-query_outcome s (rows.whoami s.policy connection)

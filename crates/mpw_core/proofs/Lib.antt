@@ -1,5 +1,5 @@
 pub mod AnswerLemmas
-pub mod AuthorizationLemmas
+pub mod SoundLemmas
 pub mod HistoryLemmas
 pub mod RefusalLemmas
 pub mod DenialLemmas
@@ -9,11 +9,11 @@ pub mod GoingOnLemmas
 mod ReadableLemmas
 mod KeptLemmas
 mod NeedLemmas
-mod PolicyReplies
 mod RunLemmas
 mod OutcomeLemmas
 mod PlacingLemmas
 mod ReadyLemmas
+mod SetLemmas
 mod SettlingLemmas
 mod TrailLemmas
 mod PlaceLemmas

@@ -34,9 +34,8 @@ use Rattle.mpw_core.specs.declared.event.Event.TheVariants as event
 use Rattle.mpw_core.specs.declared.event.Response.TheVariants as response
 use Rattle.mpw_core.specs.Permissions.{Has, session, permission, policy_need, layout_need, wafer_need, run_need, sign_off_need, need_of}
 use Rattle.mpw_core.specs.PolicyRows.{row_of}
-use Rattle.mpw_core.specs.Step.{State, Outcome, reply_of, query_outcome, trail_outcome, identity_lines, outcome_of, event_outcome, step, response_of}
+use Rattle.mpw_core.specs.Step.{State, Outcome, reply_of, policy_outcome, query_outcome, trail_outcome, identity_lines, outcome_of, event_outcome, step, response_of}
 use Rattle.mpw_core.proofs.DenialLemmas.{inside}
-use Rattle.mpw_core.proofs.PolicyReplies.{acceptance-policy_outcome}
 use Rattle.mpw_core.proofs.ReadableLemmas.{never_ok, told_refusal, ended_negative}
 use Rattle.mpw_core.proofs.RefusalLemmas.{settlement-ok}
 
@@ -64,6 +63,13 @@ had policy connection operation object behind value e =
     (test_holds _ _ _ first.0 (test_holds _ _ _ first.0 first.1).1).0
 
 -- ---- requests of the policy
+
+-- what is accepted is what its row leaves
+acceptance-policy_outcome : (s : State) (row : Result Policy Refusal) (lines : List Listed)
+    → (policy_outcome s row).response ≡ response.Told (reply.Ok lines) → (q : Policy) × (row ≡ Ok q)
+acceptance-policy_outcome s (Ok q) lines e = (q, refl)
+acceptance-policy_outcome s (Err r) lines e =
+    absurd (never_ok (reply_of r) (told_refusal r) lines (inside e))
 
 policy-had : (p : Policy) (connection : ℕ) (request : PolicyRequest) (q : Policy)
     → row_of p connection request ≡ Ok q → Has p connection (policy_need request)

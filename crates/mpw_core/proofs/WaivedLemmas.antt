@@ -1,6 +1,6 @@
 -- What holds of a run's phase with its waivers, where each way in which a request or an event leaves them keeps it,
 -- holds in every state.
-use Rattle.std.proofs.Common.{ℕ, Bool, true, false, List, [], ◌∷◌, length, Option, None, Some, Result, Ok, Err}
+use Rattle.std.proofs.Common.{ℕ, Bool, true, false, List, [], length, Option, None, Some, Result, Ok, Err}
 use Rattle.std.specs.Prelude.{◌==◌, slice_get, slice_set, nat_lt, if◌then◌else◌}
 use Rattle.mpw_tiles.specs.Plan.{tiles}
 use Rattle.mpw_markers.specs.declared.marker.Marker.{Marker}

@@ -1,4 +1,4 @@
-use Rattle.mpw_core.proofs.AuthorizationLemmas.{sound-history}
+use Rattle.mpw_core.proofs.SoundLemmas.{sound-history}
 use Rattle.mpw_core.proofs.laws.every_state_keeps_separation.Goals as goal
 
 pub returns : goal.returns

@@ -1,19 +1,20 @@
-use Rattle.std.proofs.Common.{◌≡◌, ℕ, false, Err, true≢false}
+use Rattle.std.proofs.Common.{◌≡◌, ℕ, false, Err, refl, true≢false}
 use Rattle.mpw_rbac.specs.declared.permission.Object.{Object}
 use Rattle.mpw_rbac.specs.declared.permission.Operation.{Operation}
 use Rattle.mpw_rbac.specs.declared.refusal.Refusal.TheVariants as refusal
 use Rattle.mpw_rbac.specs.Policy.{Policy}
 use Rattle.mpw_requests.specs.declared.policy.PolicyRequest.{PolicyRequest}
 use Rattle.mpw_requests.specs.declared.policy.PolicyRequest.TheVariants.{Open, Close, Activate, DropRole, AddUser, DelUser, AddRole, DelRole, Assign, Deassign, Grant, Revoke, Inherit, Uninherit, Ssd, Dsd, UnSsd, UnDsd}
+use Rattle.mpw_replies.specs.declared.reply.Denial.TheVariants as denial
 use Rattle.mpw_core.specs.PolicyRows.{row_of}
 use Rattle.mpw_core.specs.Requested.{is_administration}
-use Rattle.mpw_core.proofs.PolicyReplies.{permission-row}
+use Rattle.mpw_core.proofs.DenialLemmas.{denied-row}
 use Rattle.mpw_core.proofs.laws.own_requests_are_never_denied_a_permission.Goals as goal
 
 pub returns : goal.returns
 returns c = λ s connection request kept operation object is e. never connection request is s.policy
-    operation
-    object (permission-row s connection request kept operation object e)
+    operation object (denied-row s connection request kept (denial.Permission operation object)
+    (refusal.NotPermitted operation object) refl e)
   where
     never : (connection : ℕ) (request : PolicyRequest) → is_administration request ≡ false
         → (p : Policy) (operation : Operation) (object : Object)

@@ -1,141 +1,71 @@
-use Rattle.std.proofs.Common.{◌≡◌, ℕ, List, Err}
+use Rattle.std.proofs.Common.{ℕ, refl}
 use Rattle.mpw_rbac.specs.declared.refusal.Refusal.TheVariants as refusal
-use Rattle.mpw_rbac.specs.Laws.{IsLeastStatic, IsLeastDynamic}
-use Rattle.mpw_rbac.specs.Policy.{Policy}
 use Rattle.mpw_requests.specs.declared.policy.PolicyRequest.{PolicyRequest}
 use Rattle.mpw_requests.specs.declared.policy.PolicyRequest.TheVariants.{Open, Close, Activate, DropRole, AddUser, DelUser, AddRole, DelRole, Assign, Deassign, Grant, Revoke, Inherit, Uninherit, Ssd, Dsd, UnSsd, UnDsd}
+use Rattle.mpw_replies.specs.declared.reply.Denial.TheVariants as denial
 use Rattle.mpw_core.specs.PolicyRows.{row_of}
 use Rattle.mpw_core.specs.Requested.{requested_policy}
-use Rattle.mpw_core.proofs.PolicyReplies.{ssd-row, dsd-row}
+use Rattle.mpw_core.proofs.DenialLemmas.{denied-row}
+use Rattle.mpw_core.proofs.SetLemmas.{TellsRightly, tells_none}
 use Rattle.mpw_core.proofs.laws.sets_are_denied_for_what_was_asked.Goals as goal
 
 pub returns : goal.returns
-returns c = record {
-  ssd = λ s connection request kept name e. static connection request s.policy name
-      (ssd-row s connection request kept name e);
-  dsd = λ s connection request kept name e. dynamic connection request
-      s.policy name (dsd-row s connection request kept name e);
-}
-  where
-    static : (connection : ℕ) (request : PolicyRequest) (p : Policy) (told : List ℕ)
-        → row_of p connection request ≡ Err (refusal.Ssd told)
-        → IsLeastStatic (requested_policy p connection request) told
-    static connection (Open user digest) p told is =
-        absurd (c.sets_are_told_where_they_are_tested.ensures.open_session_static connection user
-        digest p
-        told is)
-    static connection Close p told is =
-        absurd (c.sets_are_told_where_they_are_tested.ensures.close_session_static connection p told
-        is)
-    static connection (Activate role) p told is =
-        absurd (c.sets_are_told_where_they_are_tested.ensures.activate_static connection role p told
-        is)
-    static connection (DropRole role) p told is =
-        absurd (c.sets_are_told_where_they_are_tested.ensures.drop_role_static connection role p
-        told is)
-    static connection (AddUser user digest) p told is =
-        absurd (c.sets_are_told_where_they_are_tested.ensures.adduser_static connection user digest
-        p told
-        is)
-    static connection (DelUser user) p told is =
-        absurd (c.sets_are_told_where_they_are_tested.ensures.deluser_static connection user p told
-        is)
-    static connection (AddRole role) p told is =
-        absurd (c.sets_are_told_where_they_are_tested.ensures.addrole_static connection role p told
-        is)
-    static connection (DelRole role) p told is =
-        absurd (c.sets_are_told_where_they_are_tested.ensures.delrole_static connection role p told
-        is)
-    static connection (Assign user role) p told is =
-        c.denied_only_for_the_least_broken_set.ensures.assign
-        p connection user role told is
-    static connection (Deassign user role) p told is =
-        absurd (c.sets_are_told_where_they_are_tested.ensures.deassign_static connection user role p
-        told
-        is)
-    static connection (Grant grant) p told is =
-        absurd (c.sets_are_told_where_they_are_tested.ensures.grant_static connection grant p told
-        is)
-    static connection (Revoke grant) p told is =
-        absurd (c.sets_are_told_where_they_are_tested.ensures.revoke_static connection grant p told
-        is)
-    static connection (Inherit senior junior) p told is =
-        c.denied_only_for_the_least_broken_set.ensures.inherit_static p connection senior junior
-        told is
-    static connection (Uninherit senior junior) p told is =
-        absurd (c.sets_are_told_where_they_are_tested.ensures.uninherit_static connection senior
-        junior p
-        told is)
-    static connection (Ssd set) p told is = c.denied_only_for_the_least_broken_set.ensures.ssd p
-        connection set
-        told is
-    static connection (Dsd set) p told is =
-        absurd (c.sets_are_told_where_they_are_tested.ensures.dsd_static connection set p told is)
-    static connection (UnSsd name) p told is =
-        absurd (c.sets_are_told_where_they_are_tested.ensures.unssd_static connection name p told
-        is)
-    static connection (UnDsd name) p told is =
-        absurd (c.sets_are_told_where_they_are_tested.ensures.undsd_static connection name p told
-        is)
-
-    dynamic : (connection : ℕ) (request : PolicyRequest) (p : Policy) (told : List ℕ)
-        → row_of p connection request ≡ Err (refusal.Dsd told)
-        → IsLeastDynamic (requested_policy p connection request) told
-    dynamic connection (Open user digest) p told is =
-        absurd (c.sets_are_told_where_they_are_tested.ensures.open_session_dynamic connection user
-        digest
-        p told is)
-    dynamic connection Close p told is =
-        absurd (c.sets_are_told_where_they_are_tested.ensures.close_session_dynamic connection p
-        told is)
-    dynamic connection (Activate role) p told is =
-        c.denied_only_for_the_least_broken_set.ensures.activate
-        p connection role told is
-    dynamic connection (DropRole role) p told is =
-        absurd (c.sets_are_told_where_they_are_tested.ensures.drop_role_dynamic connection role p
-        told is)
-    dynamic connection (AddUser user digest) p told is =
-        absurd (c.sets_are_told_where_they_are_tested.ensures.adduser_dynamic connection user digest
-        p
-        told is)
-    dynamic connection (DelUser user) p told is =
-        absurd (c.sets_are_told_where_they_are_tested.ensures.deluser_dynamic connection user p told
-        is)
-    dynamic connection (AddRole role) p told is =
-        absurd (c.sets_are_told_where_they_are_tested.ensures.addrole_dynamic connection role p told
-        is)
-    dynamic connection (DelRole role) p told is =
-        absurd (c.sets_are_told_where_they_are_tested.ensures.delrole_dynamic connection role p told
-        is)
-    dynamic connection (Assign user role) p told is =
-        absurd (c.sets_are_told_where_they_are_tested.ensures.assign_dynamic connection user role p
-        told
-        is)
-    dynamic connection (Deassign user role) p told is =
-        absurd (c.sets_are_told_where_they_are_tested.ensures.deassign_dynamic connection user role
-        p told
-        is)
-    dynamic connection (Grant grant) p told is =
-        absurd (c.sets_are_told_where_they_are_tested.ensures.grant_dynamic connection grant p told
-        is)
-    dynamic connection (Revoke grant) p told is =
-        absurd (c.sets_are_told_where_they_are_tested.ensures.revoke_dynamic connection grant p told
-        is)
-    dynamic connection (Inherit senior junior) p told is =
-        c.denied_only_for_the_least_broken_set.ensures.inherit_dynamic p connection senior junior
-        told is
-    dynamic connection (Uninherit senior junior) p told is =
-        absurd (c.sets_are_told_where_they_are_tested.ensures.uninherit_dynamic connection senior
-        junior p
-        told is)
-    dynamic connection (Ssd set) p told is =
-        absurd (c.sets_are_told_where_they_are_tested.ensures.ssd_dynamic connection set p told is)
-    dynamic connection (Dsd set) p told is = c.denied_only_for_the_least_broken_set.ensures.dsd p
-        connection set
-        told is
-    dynamic connection (UnSsd name) p told is =
-        absurd (c.sets_are_told_where_they_are_tested.ensures.unssd_dynamic connection name p told
-        is)
-    dynamic connection (UnDsd name) p told is =
-        absurd (c.sets_are_told_where_they_are_tested.ensures.undsd_dynamic connection name p told
-        is)
+returns c =
+    let told = c.sets_are_told_where_they_are_tested.ensures in
+    let least = c.denied_only_for_the_least_broken_set.ensures in
+    let each : (connection : ℕ) (request : PolicyRequest) → TellsRightly
+    (λ p. row_of p connection request) (λ p. requested_policy p connection request) =
+    λ connection. elim [
+      | Open user digest ↦ tells_none _ _ (told.open_session_static connection user digest)
+          (told.open_session_dynamic connection user digest)
+      | Close ↦ tells_none _ _ (told.close_session_static connection)
+          (told.close_session_dynamic connection)
+      | Activate role ↦ record {
+        static = λ p name is. absurd (told.activate_static connection role p name is);
+        dynamic = λ p name is. least.activate p connection role name is;
+      }
+      | DropRole role ↦ tells_none _ _ (told.drop_role_static connection role)
+          (told.drop_role_dynamic connection role)
+      | AddUser user digest ↦ tells_none _ _ (told.adduser_static connection user digest)
+          (told.adduser_dynamic connection user digest)
+      | DelUser user ↦ tells_none _ _ (told.deluser_static connection user)
+          (told.deluser_dynamic connection user)
+      | AddRole role ↦ tells_none _ _ (told.addrole_static connection role)
+          (told.addrole_dynamic connection role)
+      | DelRole role ↦ tells_none _ _ (told.delrole_static connection role)
+          (told.delrole_dynamic connection role)
+      | Assign user role ↦ record {
+        static = λ p name is. least.assign p connection user role name is;
+        dynamic = λ p name is. absurd (told.assign_dynamic connection user role p name is);
+      }
+      | Deassign user role ↦ tells_none _ _ (told.deassign_static connection user role)
+          (told.deassign_dynamic connection user role)
+      | Grant grant ↦ tells_none _ _ (told.grant_static connection grant)
+          (told.grant_dynamic connection grant)
+      | Revoke grant ↦ tells_none _ _ (told.revoke_static connection grant)
+          (told.revoke_dynamic connection grant)
+      | Inherit senior junior ↦ record {
+        static = λ p name is. least.inherit_static p connection senior junior name is;
+        dynamic = λ p name is. least.inherit_dynamic p connection senior junior name is;
+      }
+      | Uninherit senior junior ↦ tells_none _ _ (told.uninherit_static connection senior junior)
+          (told.uninherit_dynamic connection senior junior)
+      | Ssd set ↦ record {
+        static = λ p name is. least.ssd p connection set name is;
+        dynamic = λ p name is. absurd (told.ssd_dynamic connection set p name is);
+      }
+      | Dsd set ↦ record {
+        static = λ p name is. absurd (told.dsd_static connection set p name is);
+        dynamic = λ p name is. least.dsd p connection set name is;
+      }
+      | UnSsd name ↦ tells_none _ _ (told.unssd_static connection name)
+          (told.unssd_dynamic connection name)
+      | UnDsd name ↦ tells_none _ _ (told.undsd_static connection name)
+          (told.undsd_dynamic connection name)
+    ] in
+    record {
+      ssd = λ s connection request kept name e. (each connection request).static s.policy name
+          (denied-row s connection request kept (denial.Ssd name) (refusal.Ssd name) refl e);
+      dsd = λ s connection request kept name e. (each connection request).dynamic s.policy name
+          (denied-row s connection request kept (denial.Dsd name) (refusal.Dsd name) refl e);
+    }

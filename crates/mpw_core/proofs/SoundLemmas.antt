@@ -1,7 +1,7 @@
--- What each request of the policy keeps of authorization and separation, every history keeps.
-use Rattle.std.proofs.Common.{◌≡◌, ℕ, true, List}
-use Rattle.mpw_rbac.specs.Sound.{active_authorized, Sound}
-use Rattle.mpw_rbac.specs.Laws.{KeepsAuthorization, KeepsSound}
+-- What each request of the policy keeps, every history keeps: active roles are authorized, and the sets of separation hold.
+use Rattle.std.proofs.Common.{ℕ, List}
+use Rattle.mpw_rbac.specs.Sound.{Sound}
+use Rattle.mpw_rbac.specs.Laws.{KeepsSound}
 use Rattle.mpw_rbac.proofs.LawLemmas as law
 use Rattle.mpw_requests.specs.declared.policy.PolicyRequest.{PolicyRequest}
 use Rattle.mpw_requests.specs.declared.policy.PolicyRequest.TheVariants.{Open, Close, Activate, DropRole, AddUser, DelUser, AddRole, DelRole, Assign, Deassign, Grant, Revoke, Inherit, Uninherit, Ssd, Dsd, UnSsd, UnDsd}
@@ -11,35 +11,6 @@ use Rattle.mpw_core.specs.PolicyRows.{row_of}
 use Rattle.mpw_core.specs.Step.{new_state}
 use Rattle.mpw_core.proofs.KeptLemmas.{kept-history}
 
--- every active role is authorized
-keeps-row : (connection : ℕ) (request : PolicyRequest)
-    → KeepsAuthorization (λ p. row_of p connection request)
-keeps-row connection (Open user digest) = law.keeps-open_session connection user digest
-keeps-row connection Close = law.keeps-close_session connection
-keeps-row connection (Activate role) = law.keeps-activate connection role
-keeps-row connection (AddUser user digest) = law.keeps-adduser connection user digest
-keeps-row connection (AddRole role) = law.keeps-addrole connection role
-keeps-row connection (Assign user role) = law.keeps-assign connection user role
-keeps-row connection (Grant grant) = law.keeps-grant connection grant
-keeps-row connection (Revoke grant) = law.keeps-revoke connection grant
-keeps-row connection (DropRole role) = law.keeps-drop_role connection role
-keeps-row connection (DelUser user) = law.keeps-deluser connection user
-keeps-row connection (DelRole role) = law.keeps-delrole connection role
-keeps-row connection (Deassign user role) = law.keeps-deassign connection user role
-keeps-row connection (Inherit senior junior) = law.keeps-inherit connection senior junior
-keeps-row connection (Uninherit senior junior) = law.keeps-uninherit connection senior junior
-keeps-row connection (Ssd set) = law.keeps-ssd connection set
-keeps-row connection (Dsd set) = law.keeps-dsd connection set
-keeps-row connection (UnSsd name) = law.keeps-unssd connection name
-keeps-row connection (UnDsd name) = law.keeps-undsd connection name
-
-pub keeps-history : (officer digest : List ℕ) (calls : List Call)
-    → active_authorized (state_after (new_state officer digest) calls).policy ≡ true
-keeps-history officer digest calls =
-    kept-history (λ p. active_authorized p ≡ true) keeps-row law.keeps-end_session
-    law.keeps-end_sessions officer digest calls (law.keeps-new_desk officer digest)
-
--- and the sets of separation hold
 sound-row : (connection : ℕ) (request : PolicyRequest)
     → KeepsSound (λ p. row_of p connection request)
 sound-row connection (Open user digest) = law.sound-open_session connection user digest
