@@ -1,6 +1,6 @@
 -- Why parts don't follow on: a tile that none has, or that more than one has.
-use Rattle.std.proofs.Common.{◌≡◌, ◌∙◌, ◌<◌, ◌≤◌, ◌+◌, ◌-◌, ◌⊎◌, inl, inr, ℕ, Bool, true, false, cond, List, [], ◌∷◌, ◌++◌, length, take, drop, get_or, refl, sym, ap, subst, arith, rules, append_assoc}
-use Rattle.std.specs.Prelude.{All, ◌&&◌, nat_le, nat_lt}
+use Rattle.std.proofs.Common.{◌≡◌, ◌∙◌, ◌<◌, ◌≤◌, ◌+◌, inl, inr, ℕ, Bool, true, false, cond, List, [], ◌∷◌, ◌++◌, length, take, drop, get_or, refl, sym, ap, subst, arith, rules, append_assoc}
+use Rattle.std.specs.Prelude.{All, nat_lt}
 use Rattle.std.specs.List.Sorted.{IsPermutation, IsSortedByKey}
 use Rattle.std.specs.Fn.{Called, ComputesKey}
 use Rattle.std.specs.Ordering.{nat_cmp, is_lt}

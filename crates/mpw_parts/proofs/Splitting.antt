@@ -1,13 +1,11 @@
 -- Words, fields and lines that were put one behind another are taken apart again.
-use Rattle.std.proofs.Common.{◌≡◌, ◌≤◌, ◌<◌, ◌+◌, ◌-◌, ◌==◌, ℕ, Bool, true, false, ◌&&◌, not, leb, cond, List, [], ◌∷◌, ◌++◌, length, take, map, refl, ap, sym, ◌∙◌, subst, arith, append-nil, append_assoc, true≢false}
-use Rattle.std.specs.List.{All, list_all, slice_split, flat_map}
+use Rattle.std.proofs.Common.{◌≡◌, ◌≤◌, ◌<◌, ◌-◌, ◌==◌, ℕ, true, false, cond, List, [], ◌∷◌, ◌++◌, length, take, refl, ap, ◌∙◌, arith, append-nil, append_assoc}
+use Rattle.std.specs.List.{All, slice_split, flat_map}
 use Rattle.std.proofs.lemmas.List.{length_push}
 use Rattle.std.proofs.lemmas.List.Elements.{All-cons, All-head, All-tail, All-append, All-weaker, All-nil}
-use Rattle.std.proofs.lemmas.List.Sums.{AllPass-from_list_all}
 use Rattle.std.proofs.lemmas.List.Splits.{slice_split_at, slice_split_none}
-use Rattle.std.proofs.lemmas.List.Concat.{flat_map-append}
 use Rattle.std.proofs.lemmas.Bool.Decides.{nat_tests}
-use Rattle.mpw_text.specs.Text.{is_last_empty, without_last_empty, lines_of, words_of}
+use Rattle.mpw_text.specs.Text.{is_last_empty, without_last_empty, lines_of}
 use Rattle.mpw_parts.specs.Text.{ended}
 
 -- no byte of the word is the separator

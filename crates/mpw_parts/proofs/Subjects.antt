@@ -1,5 +1,5 @@
 -- Checks that have no difference.
-use Rattle.std.proofs.Common.{◌≡◌, ◌∙◌, ◌==◌, ℕ, Bool, true, false, not, cond, Some, None, refl, sym, ap, rules}
+use Rattle.std.proofs.Common.{◌≡◌, ◌∙◌, ◌==◌, Bool, true, false, not, cond, Some, None, refl, sym, ap, rules}
 use Rattle.std.proofs.lemmas.Bool.Decides.{nat_tests}
 use Rattle.mpw_geom.specs.Names.{name_eq}
 use Rattle.mpw_geom.proofs.Linked.{same_name}

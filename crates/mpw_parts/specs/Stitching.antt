@@ -1,6 +1,6 @@
 -- Parts put together.
 use Rattle.std.specs.Prelude.{◌≡◌, ◌<◌, ◌≤◌, ◌+◌, ◌==◌, ◌&&◌, ◌⊎◌, not, nat_le, nat_lt, ℕ, Bool, List, [], ◌∷◌, codes, length, slice_get, slice_index_or, All, Contains, Option, None, Some, if◌then◌else◌}
-use Rattle.std.specs.List.{flat_map, count_by, AllPairs}
+use Rattle.std.specs.List.{flat_map, count_by}
 use Rattle.std.specs.List.Sorted.{IsPermutation}
 use Rattle.mpw_geom.specs.Names.{name_eq}
 use Rattle.mpw_markers.specs.declared.marker.Marker.{Marker}

@@ -1,4 +1,4 @@
-use Rattle.std.proofs.Common.{rules, ◌≡◌, inl}
+use Rattle.std.proofs.Common.{rules, inl}
 use Rattle.std.proofs.lemmas.Result.{IfOk-weaker}
 use Rattle.mpw_firm.specs.Commands.{IsOfCheck}
 use Rattle.mpw_firm.proofs.options.read_options.Goals as goal

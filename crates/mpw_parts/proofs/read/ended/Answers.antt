@@ -1,4 +1,4 @@
-use Rattle.std.proofs.Common.{◌≡◌, ◌∙◌, ◌-◌, sym, ap, subst, map, take, length, cond, Bor, List, Option, None, option_map, IfOk}
+use Rattle.std.proofs.Common.{◌≡◌, ◌∙◌, ◌-◌, sym, ap, subst, map, take, length, cond, None, option_map, IfOk}
 use Rattle.mpw_parts.specs.Reading.{all_of, tile_of, tiles_of}
 use Rattle.mpw_parts.proofs.Ending.{front_lines}
 use Rattle.mpw_parts.proofs.read.ended.Goals as goal

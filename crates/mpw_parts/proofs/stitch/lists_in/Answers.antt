@@ -1,11 +1,10 @@
-use Rattle.std.proofs.Common.{◌≡◌, ◌+◌, ◌++◌, ◌≤◌, length, rules, arith, ap, sym, subst, ◌∙◌, true, false}
+use Rattle.std.proofs.Common.{◌≡◌, ◌+◌, ◌++◌, ◌≤◌, length, rules, arith, ap, sym, subst, ◌∙◌}
 use Rattle.std.proofs.lemmas.Bool.{false≢true}
 use Rattle.std.proofs.lemmas.List.{take_all}
 use Rattle.mpw_parts.specs.Parts.{Found}
-use Rattle.mpw_parts.specs.Stitching.{BeginsAt, FollowOn, IsOfTiles}
+use Rattle.mpw_parts.specs.Stitching.{BeginsAt, FollowOn}
 use Rattle.mpw_parts.proofs.Following.{lists_more, stays_within}
 use Rattle.mpw_parts.proofs.Faults.{fault_here, ends_early}
-use Rattle.mpw_parts.specs.Internal.Stitching.{fault_at}
 use Rattle.mpw_parts.proofs.stitch.lists_in.Goals as goal
 
 pub loop-part-preserved : goal.loop-part-preserved

@@ -1,6 +1,3 @@
-use Rattle.std.proofs.Common.{subst, sym}
-use Rattle.std.specs.Prelude.{All}
-use Rattle.mpw_parts.specs.Parts.{Found}
 use Rattle.mpw_parts.proofs.Faults.{own_tiles}
 use Rattle.mpw_parts.proofs.stitch.lists_of.Goals as goal
 
