@@ -1,14 +1,11 @@
 //! A script: one connection over a new desk.
-ghost use Rattle.std.specs.Prelude.{◌≡◌, IfOk};
-ghost use Rattle.mpw_core.specs.History.{new_desk};
+ghost use Rattle.std.specs.Prelude.{◌≡◌};
 ghost use Rattle.mpw_script.specs.Script.{ServesScript, fault_told};
 ghost use Rattle.mpw_wire.specs.Reading.{read_failures};
 ghost use Rattle.mpw_serve.specs.Serving.{LeavesNothingPending, write_failures};
 
 use crate::settings::Settings;
 use mpw_core::{Core, NoKeeper};
-use mpw_geom::Name;
-use mpw_rbac::Digest;
 use mpw_serve::{Progress, Served, serve_core};
 use mpw_wire::{Sink, Source};
 use std::alloc::{AllocError, Global};
@@ -16,17 +13,6 @@ use std::thread::Threads;
 
 /// The connection of a script.
 const CONNECTION: u32 = 1;
-
-/// A new desk. It stands behind a pointer, so that to let it go is one step.
-fn boxed_core(alloc: Global, officer: Name, digest: Digest) -> Result<Box<Core>, AllocError>
-    ensures { IfOk result (λ core. core.value ≡ new_desk officer digest) }
-{
-    let core = Core::new(alloc, officer, digest)?;
-    match Box::new(alloc, core) {
-        Ok(core) => Ok(core),
-        Err(_) => Err(AllocError),
-    }
-}
 
 /// Serves the reader to the writer as connection 1 of a new desk. A run is worked off in as many threads as there are
 /// processors, and progress is told meanwhile; it takes part in no clause.
@@ -47,7 +33,7 @@ pub fn serve_script<R: Source, W: Sink, P: Progress>(
     ensures handed { LeavesNothingPending (fault_told result) (W.pending writer.old) (W.pending writer.new) }
 {
     let Settings::Script { officer, digest } = settings;
-    let mut core = boxed_core(alloc, officer, digest)?;
+    let mut core = Core::new_boxed(alloc, officer, digest)?;
     Ok(serve_core(
         rt,
         alloc,

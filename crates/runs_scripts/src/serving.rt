@@ -33,16 +33,7 @@ pub struct Served {
 /// A new desk. It stands behind a pointer, so that to let it go is one step wherever it is held.
 pub fn new_desk(alloc: Global) -> Result<Box<Core>, AllocError> {
     match Name::read(alloc, b"root") {
-        Ok(officer) => boxed(alloc, officer),
-        Err(_) => Err(AllocError),
-    }
-}
-
-/// A new desk of that officer.
-fn boxed(alloc: Global, officer: Name) -> Result<Box<Core>, AllocError> {
-    let core = Core::new(alloc, officer, digest_of(b"abc"))?;
-    match Box::new(alloc, core) {
-        Ok(core) => Ok(core),
+        Ok(officer) => Core::new_boxed(alloc, officer, digest_of(b"abc")),
         Err(_) => Err(AllocError),
     }
 }
