@@ -1,8 +1,9 @@
 #!/usr/bin/env python3
 """Compares what the programs print for the examples with what is expected, and tells which differ.
 
-  examples/check.py            NAME.gds under NAME.deck by mpw check, for each NAME.markers; and what
-                               failed.awk tells of NAME.txt with NAME.replies, for each NAME.failed
+  examples/check.py            NAME.gds under NAME.deck by mpw check, for each NAME.markers and for each
+                               NAME.fault, which is told on the standard error; and what failed.awk
+                               tells of NAME.txt with NAME.replies, for each NAME.failed
   examples/check.py --desk     then also NAME.txt by mpw script, for each NAME.replies
 
 The exit status is 0 where all are the same, else 1. A program that isn't built is proved and built
@@ -25,6 +26,14 @@ def of_check(name, expected):
     words = [MPW, "check", "--deck", f"{name}.deck", "--top", "TOP", f"{name}.gds"]
     ended = subprocess.run(words, stdout=subprocess.PIPE, stderr=subprocess.DEVNULL)
     return ended.stdout, ended.returncode, 0 if expected == b"OK 0\n" else 1
+
+
+def of_fault(name, _):
+    """What mpw check tells of a deck or a library with a fault, and its status, which has to be 4."""
+    name = os.path.basename(name)
+    words = [MPW, "check", "--deck", f"{name}.deck", "--top", "TOP", f"{name}.gds"]
+    ended = subprocess.run(words, cwd=HERE, stdout=subprocess.DEVNULL, stderr=subprocess.PIPE)
+    return ended.stderr, ended.returncode, 4
 
 
 def of_failed(name, _):
@@ -59,7 +68,7 @@ def is_same(path, run):
 def main(words):
     if words not in ([], ["--desk"]):
         sys.exit(__doc__)
-    kinds = [("markers", of_check), ("failed", of_failed)] + [("replies", of_script)] * len(words)
+    kinds = [("markers", of_check), ("fault", of_fault), ("failed", of_failed)] + [("replies", of_script)] * len(words)
     told = []
     for kind, run in kinds:
         for path in sorted(glob.glob(os.path.join(HERE, f"*.{kind}"))):

@@ -1,5 +1,6 @@
 -- What is read satisfies what elements do.
-use Rattle.std.proofs.Common.{◌≡◌, ℕ, zero, suc, ◌+◌, ◌-◌, ◌*◌, ◌/◌, ◌%◌, ◌^◌, ◌<◌, ◌≤◌, Bool, true, false, cond, not, ◌&&◌, ltb, leb, eqb, ℤ, pos, negsuc, List, [], ◌∷◌, length, take, drop, map, Ok, Err, refl, sym, ap, subst, ◌∙◌, inl, inr, arith, length-take}
+use Rattle.std.proofs.Common.{◌≡◌, ℕ, zero, suc, ◌+◌, ◌-◌, ◌*◌, ◌/◌, ◌%◌, ◌^◌, ◌<◌, ◌≤◌, Bool, true, false, cond, not, ◌&&◌, ltb, leb, eqb, ℤ, pos, negsuc}
+use Rattle.std.proofs.Common.{List, [], ◌∷◌, length, take, drop, map, Ok, Err, refl, sym, ap, subst, ◌∙◌, inl, inr, arith, length-take}
 use Rattle.std.specs.Prelude.{unsigned_abs, int_div}
 use Rattle.std.specs.List.{dedup, dedup_from, range_with_len, AllByRecursion}
 use Rattle.std.specs.Ordering.{int_eq}

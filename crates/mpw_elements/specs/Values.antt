@@ -1,5 +1,7 @@
 -- What the data of a record tells, and the faults of a value, at its record.
-use Rattle.std.specs.Prelude.{ℕ, zero, suc, ◌+◌, ◌-◌, ◌*◌, ◌/◌, ◌%◌, ◌&&◌, ◌||◌, ◌==◌, not, nat_lt, nat_le, Bool, true, false, ℤ, pos, ◌-ℤ◌, ◌*ℤ◌, unsigned_abs, int_div, int_rem, List, [], ◌∷◌, length, take, drop, map, slice_index_or, bit_and, Option, Some, None, Result, Ok, Err, if◌then◌else◌, neg_ℤ}
+use Rattle.std.specs.Prelude.{ℕ, zero, suc, ◌+◌, ◌-◌, ◌*◌, ◌/◌, ◌%◌, ◌&&◌, ◌||◌, ◌==◌, not, nat_lt, nat_le, Bool, true, false, bit_and, if◌then◌else◌}
+use Rattle.std.specs.Prelude.{ℤ, pos, neg_ℤ, ◌-ℤ◌, ◌*ℤ◌, unsigned_abs, int_div, int_rem}
+use Rattle.std.specs.Prelude.{List, [], ◌∷◌, length, take, drop, map, slice_index_or, Option, Some, None, Result, Ok, Err}
 use Rattle.std.specs.Int.{w32, cast_signed}
 use Rattle.std.specs.List.{dedup, list_all, range_with_len}
 use Rattle.std.specs.Ordering.{int_eq}

@@ -33,7 +33,9 @@ fn text(part: Part) -> &'static str
         Part::LayerColours =>
             "</title>\n<style>\n.l{opacity:.6}\n.l0{fill:#4e79a7}\n.l1{fill:#f28e2b}\n.l2{fill:#59a14f}\n.l3{fill:#b07aa1}\n.l4{fill:#edc948}\n.l5{fill:#76b7b2}\n.l6{fill:#9c755f}\n.l7{fill:#17becf}\n.l8{fill:#bcbd22}\n.l9{fill:#8cd17d}\n.l10{fill:#9ecae1}\n.l11{fill:#79706e}\n",
         Part::RuleColours =>
-            ".m{fill-opacity:.2;stroke-linejoin:round}\n.m0{fill:#d00000;stroke:#d00000}\n.m1{fill:#0000d0;stroke:#0000d0}\n.m2{fill:#b000b0;stroke:#b000b0}\n.m3{fill:#000000;stroke:#000000}\n.m4{fill:#007000;stroke:#007000}\n.m5{fill:#804000;stroke:#804000}\n</style>\n<rect width=\"100%\" height=\"100%\" fill=\"#fff\"/>\n",
+            ".m{fill-opacity:.2;stroke-linejoin:round}\n.m0{fill:#d00000;stroke:#d00000}\n.m1{fill:#0000d0;stroke:#0000d0}\n\
+            .m2{fill:#b000b0;stroke:#b000b0}\n.m3{fill:#000000;stroke:#000000}\n.m4{fill:#007000;stroke:#007000}\n\
+            .m5{fill:#804000;stroke:#804000}\n</style>\n<rect width=\"100%\" height=\"100%\" fill=\"#fff\"/>\n",
         Part::End => "</g>\n</svg>\n",
     }
 }
