@@ -143,7 +143,9 @@ pub fn lines_are_of_readable_cells()
 /// A denial of a permission, whatever the request, names one that the connection's session lacks. A denial of an
 /// activation names the role that was asked for, and the session's user is not authorized for it.
 pub fn denials_name_what_the_session_lacks()
-    ensures permission { (state : State) (connection : ℕ) (request : AnyRequest) (kept : Bool) (operation : Operation) (object : Object) → response_of state (event.Ask connection request) kept ≡ response.Told (Reply.Denied (denial.Permission operation object)) → permits state.policy connection operation object ≡ false }
+    ensures permission { (state : State) (connection : ℕ) (request : AnyRequest) (kept : Bool) (operation : Operation) (object : Object) →
+        response_of state (event.Ask connection request) kept ≡ response.Told (Reply.Denied (denial.Permission operation object)) →
+        permits state.policy connection operation object ≡ false }
     ensures activation { (state : State) (connection : ℕ) (role other : List ℕ) (kept : Bool) → response_of state (event.Ask connection (ask.Policy (Request.Activate role))) kept ≡ response.Told (Reply.Denied (denial.Activation other)) →
         (other ≡ role) × (contains_name (authorized state.policy (user_of state.policy connection)) role ≡ false) }
 {
@@ -196,7 +198,9 @@ pub fn sets_are_denied_for_what_was_asked()
 
 /// `open`, `close`, `activate` and `drop` are never denied for want of a permission.
 pub fn own_requests_are_never_denied_a_permission()
-    ensures { (state : State) (connection : ℕ) (request : AnyPolicyRequest) (kept : Bool) (operation : Operation) (object : Object) → is_administration request ≡ false → response_of state (event.Ask connection (ask.Policy request)) kept ≡ response.Told (Reply.Denied (denial.Permission operation object)) → ⊥ }
+    ensures { (state : State) (connection : ℕ) (request : AnyPolicyRequest) (kept : Bool) (operation : Operation) (object : Object) →
+        is_administration request ≡ false →
+        response_of state (event.Ask connection (ask.Policy request)) kept ≡ response.Told (Reply.Denied (denial.Permission operation object)) → ⊥ }
 {
     own_requests_need_no_permission();
 }
@@ -238,7 +242,9 @@ pub fn waivers_are_signed_apart()
 pub fn denials_to_sign_are_true()
     ensures submitter { (state : State) (connection : ℕ) (request : AnySignOffRequest) (kept : Bool) (cell : List ℕ) → response_of state (event.Ask connection (ask.SignOff request)) kept ≡ response.Told (Reply.Denied (denial.Submitter cell)) →
         (name : MarkerName) × (request ≡ sign.Sign name) × IsSubmitter state.policy state.run connection name cell }
-    ensures asker { (state : State) (connection : ℕ) (request : AnySignOffRequest) (kept : Bool) → response_of state (event.Ask connection (ask.SignOff request)) kept ≡ response.Told (Reply.Denied denial.Asker) → (name : MarkerName) × (request ≡ sign.Sign name) × IsAsker state.policy state.run state.waivers connection name }
+    ensures asker { (state : State) (connection : ℕ) (request : AnySignOffRequest) (kept : Bool) →
+        response_of state (event.Ask connection (ask.SignOff request)) kept ≡ response.Told (Reply.Denied denial.Asker) →
+        (name : MarkerName) × (request ≡ sign.Sign name) × IsAsker state.policy state.run state.waivers connection name }
 {
     denials_of_separation_are_true();
 }

@@ -98,7 +98,10 @@ fn others(
 
 /// Adds the mask of an object to those of all others, where it isn't empty.
 fn keep(masks: &mut Vec<(Object, Mask)>, object: &Object, mask: &Mask) -> Result<(), AllocError>
-    ensures { OnOk result ((all : List (ObjectState × MaskState)) → masks.old.items ≡ filter (λ (entry : ObjectState × MaskState). not (object_eq object.now entry.0)) all → (other : ObjectState) (place : ℕ) → holds_in masks.new.items other place ≡ (if object_eq object.now other then has mask.now place else holds_in all other place)) }
+    ensures { OnOk result ((all : List (ObjectState × MaskState)) →
+        masks.old.items ≡ filter (λ (entry : ObjectState × MaskState). not (object_eq object.now entry.0)) all →
+        (other : ObjectState) (place : ℕ) → holds_in masks.new.items other place ≡
+        (if object_eq object.now other then has mask.now place else holds_in all other place)) }
 {
     if !mask.meets(mask) {
         return Ok(());

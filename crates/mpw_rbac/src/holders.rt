@@ -12,7 +12,8 @@ ghost use Rattle.mpw_rbac.specs.Internal.Holders.{holds, holds_within, IsHeld, A
 ghost use Rattle.mpw_rbac.specs.declared.permission.Grant.{Grant as GrantState};
 ghost use Rattle.mpw_rbac.specs.declared.permission.Object.{Object as ObjectState};
 
-use crate::grants::{Block, Grants};
+use crate::block::Block;
+use crate::grants::Grants;
 use crate::group::{GROUPS, Group, Place};
 use crate::{Grant, Object, Operation};
 use mpw_roles::{Mask, Roles};

@@ -9,6 +9,7 @@ mod accepted;
 mod access;
 mod active;
 mod admin;
+mod block;
 mod bucket;
 mod grants;
 mod group;

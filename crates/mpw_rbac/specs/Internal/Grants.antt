@@ -3,7 +3,7 @@ use Rattle.std.specs.Prelude.{◌≡◌, ℕ, ◌%◌, true, not, List, filter}
 use Rattle.std.specs.List.{list_all}
 use Rattle.mpw_roles.specs.Mask.{has}
 use Rattle.mpw_roles.specs.declared.mask.Mask.{Mask}
-use Rattle.mpw_rbac.specs.declared.grants.Slots.{Slots}
+use Rattle.mpw_rbac.specs.declared.block.Slots.{Slots}
 use Rattle.mpw_rbac.specs.declared.permission.Grant.{Grant}
 use Rattle.mpw_rbac.specs.Grant.{grant_eq}
 use Rattle.mpw_rbac.specs.Internal.Holders.{hash, name_hash}

@@ -2,7 +2,7 @@
 use Rattle.std.proofs.Common.{rules, not}
 use Rattle.std.proofs.lemmas.Fn.{filter_same}
 use Rattle.mpw_rbac.specs.Grant.{grant_eq}
-use Rattle.mpw_rbac.proofs.grants.take_back.Goals as goal
+use Rattle.mpw_rbac.proofs.block.take_back.Goals as goal
 
 pub returns : goal.returns
 returns c = filter_same _ (λ other. not (grant_eq c.args.grant.now other)) _

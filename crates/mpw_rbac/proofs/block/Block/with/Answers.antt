@@ -2,7 +2,7 @@
 use Rattle.std.proofs.Common.{◌≡◌, ◌∙◌, sym, subst, [], ◌∷◌, ◌++◌}
 use Rattle.mpw_rbac.specs.Internal.Grants.{AreCovered, object_slot, role_slot}
 use Rattle.mpw_rbac.proofs.BlockLemmas.{covered-more}
-use Rattle.mpw_rbac.proofs.grants.Block.with.Goals as goal
+use Rattle.mpw_rbac.proofs.block.Block.with.Goals as goal
 
 pub of-requires : goal.of-requires
 of-requires c =

@@ -5,7 +5,7 @@ use Rattle.mpw_rbac.specs.Internal.Grants.{AreCovered}
 use Rattle.mpw_rbac.specs.Rows.{ungranted}
 use Rattle.mpw_rbac.specs.declared.permission.Grant.{Grant}
 use Rattle.mpw_rbac.proofs.BlockLemmas.{covered-less}
-use Rattle.mpw_rbac.proofs.grants.Block.ungranted.Goals as goal
+use Rattle.mpw_rbac.proofs.block.Block.ungranted.Goals as goal
 
 pub of-requires : goal.of-requires
 of-requires c =

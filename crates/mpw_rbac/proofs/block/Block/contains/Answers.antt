@@ -4,7 +4,7 @@ use Rattle.std.specs.List.{list_any}
 use Rattle.mpw_roles.specs.Mask.{has}
 use Rattle.mpw_rbac.specs.Grant.{grant_eq}
 use Rattle.mpw_rbac.proofs.BlockLemmas.{no-object, no-role}
-use Rattle.mpw_rbac.proofs.grants.Block.contains.Goals as goal
+use Rattle.mpw_rbac.proofs.block.Block.contains.Goals as goal
 
 pub returns-then-not-contains : goal.returns-then-not-contains
 returns-then-not-contains c =

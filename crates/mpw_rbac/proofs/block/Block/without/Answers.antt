@@ -3,7 +3,7 @@ use Rattle.std.proofs.Common.{◌≡◌, ◌∙◌, sym, ap, subst, not}
 use Rattle.mpw_rbac.specs.Grant.{grant_eq}
 use Rattle.mpw_rbac.specs.Internal.Grants.{AreCovered, without_grant}
 use Rattle.mpw_rbac.proofs.BlockLemmas.{covered-less, without-none}
-use Rattle.mpw_rbac.proofs.grants.Block.without.Goals as goal
+use Rattle.mpw_rbac.proofs.block.Block.without.Goals as goal
 
 pub returns-then-not-contains : goal.returns-then-not-contains
 returns-then-not-contains c = c.in_ok-same.ensures ∙ without-none c.args.self.now c.args.grant.now
