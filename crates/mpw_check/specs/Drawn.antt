@@ -11,7 +11,7 @@ use Rattle.mpw_library.specs.declared.structures.Structure.{Structure}
 use Rattle.mpw_library.specs.Grammar.{library_of}
 use Rattle.mpw_library.specs.Places.{place_of}
 use Rattle.mpw_tiles.specs.Snapshots.{Snapshot}
-use Rattle.mpw_walk.specs.Roots.{unmoved_root}
+use Rattle.mpw_walk.specs.Roots.{root_at_origin}
 use Rattle.mpw_check.specs.declared.fault.CheckFault.{CheckFault}
 use Rattle.mpw_check.specs.declared.fault.CheckFault.TheVariants as faults
 
@@ -26,7 +26,7 @@ drawn_shelf top library = numbered [] (offered top library) ∷ []
 
 abbrev pub drawn : Deck → List ℕ → List Structure → Snapshot
 drawn deck top library =
-    record { deck = deck; roots = unmoved_root 0 ∷ []; shelf = drawn_shelf top library }
+    record { deck = deck; roots = root_at_origin 0 ∷ []; shelf = drawn_shelf top library }
 
 -- Such a library under a deck, as it is checked.
 pub record IsDrawn (deck : Deck) (top : List ℕ) (library : List Structure) (snapshot : Snapshot) :

@@ -5,14 +5,14 @@ ghost use Rattle.mpw_check.specs.Tiled.{MarkersAreTheLibrarys};
 
 use mpw_job::{answers_make_the_layout, no_shapes_no_markers};
 use mpw_markers::lists_determine_the_book;
-use mpw_walk::unmoved_roots_show_their_submission;
+use mpw_walk::roots_at_origin_show_their_submission;
 
 /// The markers of what [`crate::read_layout`] gives are those of the flat list of the library's top, by itself, under the
 /// deck's rules: no placing, no tile and no shelf of others has a part in them.
 pub fn markers_are_the_librarys()
     ensures { MarkersAreTheLibrarys }
 {
-    unmoved_roots_show_their_submission();
+    roots_at_origin_show_their_submission();
 }
 
 /// The lists of tiles, and behind them those of the tiles that follow, are the lists of all these tiles. A law: the function does

@@ -4,7 +4,7 @@ ghost use Rattle.std.specs.Prelude.{◌≡◌, ◌∷◌, [], IfOk, IfErr};
 ghost use Rattle.mpw_hier.specs.Outline.{IsOutline};
 ghost use Rattle.mpw_library.specs.Library.{IsLibrary};
 ghost use Rattle.mpw_tiles.specs.Snapshots.{AreRoots};
-ghost use Rattle.mpw_walk.specs.Roots.{unmoved_root};
+ghost use Rattle.mpw_walk.specs.Roots.{root_at_origin};
 ghost use Rattle.mpw_check.specs.Drawn.{offered, drawn_shelf, IsDrawn, IsDrawnFrom, IsOfTop, IsOfText};
 ghost use Rattle.mpw_check.specs.Internal.Drawn.{IsShelved, told};
 
@@ -15,7 +15,7 @@ use mpw_geom::{Name, Orient, Placing, Point};
 use mpw_hier::{Bindings, HierFault, Outline, Shelf, Submission, shelves_have_their_numbers};
 use mpw_library::{Library, read_library};
 use mpw_tiles::Snapshot;
-use mpw_walk::{Root, unmoved_roots_show_their_submission};
+use mpw_walk::{Root, roots_at_origin_show_their_submission};
 use std::alloc::{AllocError, Global};
 
 /// The outline of a library, whose top shows no name outside it.
@@ -78,7 +78,7 @@ fn shelf_of(alloc: Global, library: Library, top: &Name) -> Result<Shelf, CheckF
 
 /// The first submission of a shelf, where it was drawn.
 fn root() -> Root
-    ensures { result ≡ unmoved_root 0 }
+    ensures { result ≡ root_at_origin 0 }
 {
     let by = Point { x: 0, y: 0 };
     let orient = Orient::R0;
@@ -91,8 +91,8 @@ fn root() -> Root
 
 /// What is checked of a shelf that has a top alone.
 fn snapshot_of(alloc: Global, deck: Deck, shelf: Shelf) -> Result<Snapshot, AllocError>
-    requires { AreRoots shelf (unmoved_root 0 ∷ []) }
-    ensures { IfOk result (λ s. s ≡ record { deck = deck; roots = unmoved_root 0 ∷ []; shelf = shelf }) }
+    requires { AreRoots shelf (root_at_origin 0 ∷ []) }
+    ensures { IfOk result (λ s. s ≡ record { deck = deck; roots = root_at_origin 0 ∷ []; shelf = shelf }) }
 {
     let mut roots = Vec::new(alloc);
     roots.push(root())?;
@@ -105,7 +105,7 @@ fn draw(alloc: Global, deck: Deck, library: Library, top: &Name) -> Result<Snaps
     ensures ok { IfOk result (IsDrawn deck top.now library) }
     ensures faults { IfErr result (IsOfTop top.now library) }
 {
-    unmoved_roots_show_their_submission();
+    roots_at_origin_show_their_submission();
     shelves_have_their_numbers();
     let shelf = shelf_of(alloc, library, top)?;
     shelf.is_shelf();

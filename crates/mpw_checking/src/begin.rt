@@ -24,8 +24,8 @@ fn rest(phase: &Phase) -> Result<(), Fault>
 {
     match phase {
         Phase::Idle => Ok(()),
-        Phase::Cutting(_) => Err(Fault::refused(Code::Running)),
-        Phase::Checking(_) => Err(Fault::refused(Code::Running)),
+        Phase::Cutting(_) => Err(Fault::from_code(Code::Running)),
+        Phase::Checking(_) => Err(Fault::from_code(Code::Running)),
         Phase::Finished(_) => Ok(()),
     }
 }
@@ -36,7 +36,7 @@ fn deck(deck: &Option<Deck>) -> Result<Deck, Fault>
 {
     match deck {
         Some(deck) => Ok(deck.copy()?),
-        None => Err(Fault::refused(Code::NoDeck)),
+        None => Err(Fault::from_code(Code::NoDeck)),
     }
 }
 
@@ -73,14 +73,14 @@ fn plan(snapshot: Snapshot) -> Result<Planned, Fault>
     ensures { Answers (λ planned. planned) result (row.planning snapshot) }
 {
     if shape_count(&snapshot) == 0 {
-        return Err(Fault::refused(Code::Empty));
+        return Err(Fault::from_code(Code::Empty));
     }
     match Planned::of(snapshot) {
         Some(planned) => {
             planned.is_planned();
             Ok(planned)
         }
-        None => Err(Fault::refused(Code::Tiles)),
+        None => Err(Fault::from_code(Code::Tiles)),
     }
 }
 

@@ -26,10 +26,10 @@ fn goes_on(phase: &Phase) -> Result<(), Fault>
     ensures { Answers (λ x. x) result (row.going_on phase.now) }
 {
     match phase {
-        Phase::Idle => Err(Fault::refused(Code::NoRun)),
+        Phase::Idle => Err(Fault::from_code(Code::NoRun)),
         Phase::Cutting(_) => Ok(()),
         Phase::Checking(_) => Ok(()),
-        Phase::Finished(_) => Err(Fault::refused(Code::NoRun)),
+        Phase::Finished(_) => Err(Fault::from_code(Code::NoRun)),
     }
 }
 
@@ -87,9 +87,9 @@ fn findings(phase: &Phase) -> Result<&Checked, Fault>
     ensures { Answers (λ f. f.now) result (row.finished_run phase.now) }
 {
     match phase {
-        Phase::Idle => Err(Fault::refused(Code::NotFinished)),
-        Phase::Cutting(_) => Err(Fault::refused(Code::NotFinished)),
-        Phase::Checking(_) => Err(Fault::refused(Code::NotFinished)),
+        Phase::Idle => Err(Fault::from_code(Code::NotFinished)),
+        Phase::Cutting(_) => Err(Fault::from_code(Code::NotFinished)),
+        Phase::Checking(_) => Err(Fault::from_code(Code::NotFinished)),
         Phase::Finished(checked) => Ok(checked),
     }
 }

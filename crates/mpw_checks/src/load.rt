@@ -19,16 +19,6 @@ pub(crate) struct Load {
     pub(crate) extent: Box2,
 }
 
-/// The least box about both.
-fn joined(a: &Box2, b: &Box2) -> Box2 {
-    Box2 {
-        x0: a.x0.min(b.x0),
-        y0: a.y0.min(b.y0),
-        x1: a.x1.max(b.x1),
-        y1: a.y1.max(b.y1),
-    }
-}
-
 /// How many of those in the whole width a part of it has.
 fn share(count: u64, part: u64, whole: u64) -> u64 {
     count
@@ -49,7 +39,7 @@ impl Load {
         };
         for b in boxes {
             heights = heights.saturating_add(b.y0.abs_diff(b.y1));
-            extent = joined(&extent, b);
+            extent = extent.join(*b);
         }
         Load {
             count: boxes.len() as u64,
@@ -63,7 +53,7 @@ impl Load {
         Load {
             count: self.count.saturating_add(other.count),
             heights: self.heights.saturating_add(other.heights),
-            extent: joined(&self.extent, &other.extent),
+            extent: self.extent.join(other.extent),
         }
     }
 

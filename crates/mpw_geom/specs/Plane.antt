@@ -67,3 +67,21 @@ box_between p q = record {
   x1 = int_max p.x q.x;
   y1 = int_max p.y q.y;
 }
+
+-- the least box that holds both
+abbrev pub joined : Box2 → Box2 → Box2
+joined a b = record {
+  x0 = int_min a.x0 b.x0;
+  y0 = int_min a.y0 b.y0;
+  x1 = int_max a.x1 b.x1;
+  y1 = int_max a.y1 b.y1;
+}
+
+-- what the two boxes share; where they share no point, its corners are out of order
+abbrev pub intersection : Box2 → Box2 → Box2
+intersection a b = record {
+  x0 = int_max a.x0 b.x0;
+  y0 = int_max a.y0 b.y0;
+  x1 = int_min a.x1 b.x1;
+  y1 = int_min a.y1 b.y1;
+}

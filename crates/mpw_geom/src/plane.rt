@@ -2,7 +2,7 @@
 
 ghost use Rattle.std.specs.Prelude.{◌≡◌, ◌↔◌, IsTrue, int_le, ◌≤ℤ◌, pos};
 ghost use Rattle.std.specs.Int.{int_max, int_min};
-ghost use Rattle.mpw_geom.specs.Plane.{box_between, has_point};
+ghost use Rattle.mpw_geom.specs.Plane.{box_between, has_point, intersection, joined};
 ghost use Rattle.mpw_geom.specs.declared.plane.Point.{Point};
 
 /// A point, in nm.
@@ -53,6 +53,30 @@ impl Box2 {
             y0: p.y.min(q.y),
             x1: p.x.max(q.x),
             y1: p.y.max(q.y),
+        }
+    }
+
+    /// The least box that holds both (KLayout's `Box#join`).
+    pub fn join(self, other: Box2) -> Box2
+        ensures { result ≡ joined self other }
+    {
+        Box2 {
+            x0: self.x0.min(other.x0),
+            y0: self.y0.min(other.y0),
+            x1: self.x1.max(other.x1),
+            y1: self.y1.max(other.y1),
+        }
+    }
+
+    /// What the two boxes share; where they share no point, its corners are out of order.
+    pub fn intersection(self, other: Box2) -> Box2
+        ensures { result ≡ intersection self other }
+    {
+        Box2 {
+            x0: self.x0.max(other.x0),
+            y0: self.y0.max(other.y0),
+            x1: self.x1.min(other.x1),
+            y1: self.y1.min(other.y1),
         }
     }
 

@@ -8,13 +8,13 @@ use Rattle.std.proofs.lemmas.List.{map-append}
 use Rattle.mpw_geom.proofs.Boxes.{same_box}
 use Rattle.mpw_geom.specs.declared.plane.Box2.{Box2}
 use Rattle.mpw_geom.specs.declared.plane.Point.{Point}
-use Rattle.mpw_geom.specs.Plane.{box_between}
+use Rattle.mpw_geom.specs.Plane.{box_between, joined}
 use Rattle.mpw_geom.specs.Placing.{placed_point, oriented_point}
 use Rattle.mpw_elements.specs.declared.element.Reference.{Reference}
 use Rattle.mpw_hier.specs.declared.size_array.WideBox.{WideBox}
 use Rattle.mpw_hier.specs.declared.size_array.WidePoint.{WidePoint}
 use Rattle.mpw_hier.specs.Items.{instance, row_of, instances}
-use Rattle.mpw_hier.specs.Boxes.{joined, hull, hull_of, placed_box}
+use Rattle.mpw_hier.specs.Boxes.{hull, hull_of, placed_box}
 use Rattle.mpw_hier.specs.Internal.SizeParts.{array_extent}
 use Rattle.mpw_hier.proofs.Hulls.{hull_assoc}
 

@@ -6,13 +6,13 @@ use Rattle.std.proofs.lemmas.Int.{ints, clamps}
 use Rattle.mpw_geom.specs.declared.plane.Box2.{Box2}
 use Rattle.mpw_geom.specs.declared.plane.Point.{Point}
 use Rattle.mpw_geom.specs.declared.placing.Placing.{Placing}
-use Rattle.mpw_geom.specs.Plane.{IsOrdered}
+use Rattle.mpw_geom.specs.Plane.{IsOrdered, joined}
 use Rattle.mpw_elements.specs.declared.element.Element.{Element}
 use Rattle.mpw_elements.specs.declared.element.Element.TheVariants as elements
 use Rattle.mpw_elements.specs.declared.element.Reference.{Reference}
 use Rattle.mpw_shapes.specs.Path.{wire_boxes}
 use Rattle.mpw_hier.specs.Items.{Item, placed_again, placed_item, placed_items, instances}
-use Rattle.mpw_hier.specs.Boxes.{joined, hull, hull_of, hull_of_points, has_area, element_box, placed_box, item_box, extent_of}
+use Rattle.mpw_hier.specs.Boxes.{hull, hull_of, hull_of_points, has_area, element_box, placed_box, item_box, extent_of}
 use Rattle.mpw_hier.specs.Internal.SizeParts.{array_extent}
 use Rattle.mpw_hier.proofs.Hulls.{hull_assoc}
 use Rattle.mpw_hier.proofs.Placings.{again_box, placed_ordered, placed_joined, unmoved, unmoved_box}

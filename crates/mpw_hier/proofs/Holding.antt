@@ -4,7 +4,8 @@ use Rattle.std.proofs.lemmas.Int.{ints, clamps}
 use Rattle.std.proofs.lemmas.List.Elements.{All-nil, All-cons, All-head, All-tail, All-weaker}
 use Rattle.mpw_geom.specs.declared.plane.Box2.{Box2}
 use Rattle.mpw_hier.specs.Items.{Item}
-use Rattle.mpw_hier.specs.Boxes.{joined, hull, item_box, extent_of}
+use Rattle.mpw_hier.specs.Boxes.{hull, item_box, extent_of}
+use Rattle.mpw_geom.specs.Plane.{joined}
 use Rattle.mpw_hier.specs.Holding.{IsInside, IsHeld, ExtentsHoldItems, ExtentsAreLeast}
 
 pub inside_itself : (b : Box2) → IsInside b b

@@ -1,10 +1,11 @@
 -- Least boxes that hold others.
-use Rattle.std.proofs.Common.{◌≡◌, ℤ, w64, SFits, to_z, of_z, Option, Some, None, refl, ap, sym, ◌∙◌, arith}
+use Rattle.std.proofs.Common.{◌≡◌, ℤ, Option, Some, None, refl, ap, sym, ◌∙◌, arith}
 use Rattle.std.specs.Int.{int_min, int_max}
-use Rattle.std.proofs.lemmas.Int.{ints, clamps, to_z-of_z}
+use Rattle.std.proofs.lemmas.Int.{ints, clamps}
 use Rattle.mpw_geom.proofs.Boxes.{same_box}
 use Rattle.mpw_geom.specs.declared.plane.Box2.{Box2}
-use Rattle.mpw_hier.specs.Boxes.{joined, hull}
+use Rattle.mpw_geom.specs.Plane.{joined}
+use Rattle.mpw_hier.specs.Boxes.{hull}
 
 min_assoc : (a b c : ℤ) → int_min (int_min a b) c ≡ int_min a (int_min b c)
 min_assoc a b c = omega (arith, ints, clamps)
@@ -48,9 +49,3 @@ hull_none (Some a) = refl
 pub hull_swap : (a b c : Option Box2) → hull a (hull b c) ≡ hull b (hull a c)
 hull_swap a b c =
     sym (hull_assoc a b c) ∙ ap (λ o. hull o c) (hull_comm a b) ∙ hull_assoc b a c
-
--- what a sum, a least or a greatest of numbers that fit is, as code shows it
-pub fitting : (f : ℤ → ℤ → ℤ) (a b r : ℤ) → SFits w64 a → SFits w64 b → SFits w64 r
-    → r ≡ f (to_z w64 (of_z w64 a)) (to_z w64 (of_z w64 b)) → to_z w64 (of_z w64 r) ≡ f a b
-fitting f a b r h k m e =
-    rw (to_z-of_z w64 r m, e, to_z-of_z w64 a h, to_z-of_z w64 b k) refl

@@ -4,8 +4,8 @@ use Rattle.std.specs.Prelude.{int_le}
 use Rattle.std.proofs.lemmas.Bool.{false_from_ne_true, false≢true}
 use Rattle.std.proofs.lemmas.Int.{ints, clamps}
 use Rattle.mpw_geom.specs.declared.plane.Box2.{Box2}
-use Rattle.mpw_geom.specs.Plane.{IsOrdered}
-use Rattle.mpw_hier.specs.Boxes.{joined, hull, is_near, is_box_near}
+use Rattle.mpw_geom.specs.Plane.{IsOrdered, joined}
+use Rattle.mpw_hier.specs.Boxes.{hull, is_near, is_box_near}
 use Rattle.mpw_hier.specs.Sizes.{IsExtentNear}
 use Rattle.mpw_hier.specs.Internal.Sizes.{IsExtentFar}
 

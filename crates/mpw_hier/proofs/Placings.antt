@@ -8,10 +8,10 @@ use Rattle.mpw_geom.specs.declared.plane.Orient.{Orient}
 use Rattle.mpw_geom.specs.declared.plane.Orient.TheVariants.{R0, R90, R180, R270, M0, M90, M180, M270}
 use Rattle.mpw_geom.specs.declared.plane.Point.{Point}
 use Rattle.mpw_geom.specs.declared.placing.Placing.{Placing}
-use Rattle.mpw_geom.specs.Plane.{IsOrdered, box_between}
+use Rattle.mpw_geom.specs.Plane.{IsOrdered, box_between, joined}
 use Rattle.mpw_geom.specs.Placing.{is_mirrored, quarter_turns, times, by_orient, mirrored_point, turned_point, moved_point, oriented_point, placed_point}
 use Rattle.mpw_hier.specs.Items.{mirrored, turned, placed_again}
-use Rattle.mpw_hier.specs.Boxes.{joined, placed_box}
+use Rattle.mpw_hier.specs.Boxes.{placed_box}
 
 -- ---- points
 

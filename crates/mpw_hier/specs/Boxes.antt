@@ -4,22 +4,14 @@ use Rattle.std.specs.Int.{int_min, int_max}
 use Rattle.mpw_geom.specs.declared.plane.Box2.{Box2}
 use Rattle.mpw_geom.specs.declared.plane.Point.{Point}
 use Rattle.mpw_geom.specs.declared.placing.Placing.{Placing}
-use Rattle.mpw_geom.specs.Plane.{box_between}
+use Rattle.mpw_geom.specs.Plane.{box_between, joined}
 use Rattle.mpw_geom.specs.Placing.{placed_point}
 use Rattle.mpw_elements.specs.declared.element.Element.{Element}
 use Rattle.mpw_elements.specs.declared.element.Element.TheVariants as elements
 use Rattle.mpw_shapes.specs.Path.{wire_boxes}
 use Rattle.mpw_hier.specs.Items.{Item}
 
--- The least box that holds two.
-abbrev pub joined : Box2 → Box2 → Box2
-joined a b = record {
-  x0 = int_min a.x0 b.x0;
-  y0 = int_min a.y0 b.y0;
-  x1 = int_max a.x1 b.x1;
-  y1 = int_max a.y1 b.y1;
-}
-
+-- The least box that holds two, where there are such.
 abbrev pub hull : Option Box2 → Option Box2 → Option Box2
 hull None b = b
 hull (Some a) None = Some a

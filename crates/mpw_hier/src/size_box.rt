@@ -1,24 +1,13 @@
 //! Least boxes that hold others. Nothing here takes memory.
 
 ghost use Rattle.std.specs.Prelude.{◌≡◌};
-ghost use Rattle.mpw_hier.specs.Boxes.{joined, hull, has_area, is_near, is_box_near};
+ghost use Rattle.mpw_hier.specs.Boxes.{hull, has_area, is_near, is_box_near};
+ghost use Rattle.mpw_geom.specs.Plane.{joined};
 
 use mpw_geom::Box2;
 
 /// How far from 0 a coordinate of an extent may lie, in nm.
 const MAX_COORDINATE: i128 = 1 << 30;
-
-/// The least box that holds two.
-pub fn join(a: Box2, b: Box2) -> Box2
-    ensures { result ≡ joined a b }
-{
-    Box2 {
-        x0: a.x0.min(b.x0),
-        y0: a.y0.min(b.y0),
-        x1: a.x1.max(b.x1),
-        y1: a.y1.max(b.y1),
-    }
-}
 
 /// The least box that holds two, where there are such.
 pub fn hull(a: Option<Box2>, b: Option<Box2>) -> Option<Box2>
@@ -27,7 +16,7 @@ pub fn hull(a: Option<Box2>, b: Option<Box2>) -> Option<Box2>
     match (a, b) {
         (None, b) => b,
         (a, None) => a,
-        (Some(a), Some(b)) => Some(join(a, b)),
+        (Some(a), Some(b)) => Some(a.join(b)),
     }
 }
 

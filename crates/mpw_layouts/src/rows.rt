@@ -34,13 +34,13 @@ fn fault_of(fault: HierFault) -> Fault
 {
     match fault {
         HierFault::Memory => Fault::Memory,
-        HierFault::NoTop => Fault::refused(Code::NoTop),
-        HierFault::Cycle => Fault::refused(Code::Cycle),
-        HierFault::NoCell => Fault::refused(Code::NoCell),
-        HierFault::Extent => Fault::refused(Code::Extent),
-        HierFault::Shapes => Fault::refused(Code::Shapes),
-        HierFault::Deep => Fault::refused(Code::Deep),
-        HierFault::Full => Fault::refused(Code::Full),
+        HierFault::NoTop => Fault::from_code(Code::NoTop),
+        HierFault::Cycle => Fault::from_code(Code::Cycle),
+        HierFault::NoCell => Fault::from_code(Code::NoCell),
+        HierFault::Extent => Fault::from_code(Code::Extent),
+        HierFault::Shapes => Fault::from_code(Code::Shapes),
+        HierFault::Deep => Fault::from_code(Code::Deep),
+        HierFault::Full => Fault::from_code(Code::Full),
     }
 }
 
@@ -51,7 +51,7 @@ fn read(alloc: Global, text: &LibraryText) -> Result<Library, Fault>
 {
     match text.library(alloc) {
         Ok(library) => Ok(library),
-        Err(ReadError::Fault(fault)) => Err(Fault::refused(Code::Read(fault))),
+        Err(ReadError::Fault(fault)) => Err(Fault::from_code(Code::Read(fault))),
         Err(ReadError::Memory) => Err(Fault::Memory),
     }
 }
@@ -285,7 +285,7 @@ fn present_number(shelf: &Shelf, cell: &Name) -> Result<u32, Fault>
     shelves_have_their_numbers();
     match shelf.present(cell) {
         Some(number) => Ok(number),
-        None => Err(Fault::refused(Code::NoCell)),
+        None => Err(Fault::from_code(Code::NoCell)),
     }
 }
 

@@ -2,14 +2,14 @@
 use Rattle.std.proofs.Common.{◌≡◌, ℕ, ◌+◌, ◌<◌, ◌≤◌, pos, List, [], ◌∷◌, ◌++◌, length, get_or, take, ◌⊎◌, inl, inr, refl, sym, subst, ap, ◌∙◌, arith, get_or-set_same, get_or-set_other}
 use Rattle.std.specs.Prelude.{Contains, All, ◌↔◌, slice_set}
 use Rattle.std.specs.List.Sorted.{IsPermutation}
-use Rattle.std.proofs.lemmas.Int.{ints}
+use Rattle.std.proofs.lemmas.Int.{ints, clamps}
 use Rattle.std.proofs.lemmas.List.Sorted.{Contains-permutation, IsPermutation-sym}
 use Rattle.std.proofs.lemmas.Bool.{cases_eq}
 use Rattle.std.proofs.lemmas.List.{take_more, take_all, get_or_default}
 use Rattle.std.proofs.lemmas.List.Elements.{Contains-get_or, Contains-append_left, Contains-append_right, Contains-append_cases, Contains-push, Contains-push_cases}
 use Rattle.std.proofs.Math.ListN.{length-set}
 use Rattle.mpw_geom.specs.declared.plane.Box2.{Box2}
-use Rattle.mpw_geom.specs.Plane.{IsOrdered, HasArea}
+use Rattle.mpw_geom.specs.Plane.{IsOrdered, HasArea, joined}
 use Rattle.mpw_origins.specs.declared.search.Rectangle.{Rectangle}
 use Rattle.mpw_origins.specs.declared.search.Item.{Item}
 use Rattle.mpw_markers.specs.Met.{IsAscending}
@@ -255,7 +255,7 @@ within_chain a b c f g = record {
   top = (let p = f.top in let q = g.top in omega (arith, ints));
 }
 
-pub within_more : (items : List Item) (n : ℕ) (hull new : Box2) → n < length items
+within_more : (items : List Item) (n : ℕ) (hull new : Box2) → n < length items
     → ((i : Item) → Contains (take n items) i → IsWithin i.area hull) → IsWithin hull new
     → IsWithin (get_or items n no_item).area new → (i : Item) → Contains (take (n + 1) items) i
     → IsWithin i.area new
@@ -265,6 +265,34 @@ within_more items n hull new l h f g i c =
       | inl d ↦ within_chain i.area hull new (h i d) f
       | inr e ↦ subst (λ (x : Item). IsWithin x.area new) e g
     ]
+
+-- an item's box was joined
+pub within_joined : (items : List Item) (n : ℕ) (hull new : Box2) → n < length items
+    → ((i : Item) → Contains (take n items) i → IsWithin i.area hull)
+    → new ≡ joined hull (get_or items n no_item).area → (i : Item) → Contains (take (n + 1) items) i
+    → IsWithin i.area new
+within_joined items n hull new l h e =
+    within_more items n hull new l h (subst (IsWithin hull) (sym e) first)
+    (subst (IsWithin area) (sym e) second)
+  where
+    area : Box2
+    area = (get_or items n no_item).area
+
+    first : IsWithin hull (joined hull area)
+    first = record {
+      left = omega (arith, ints, clamps);
+      right = omega (arith, ints, clamps);
+      bottom = omega (arith, ints, clamps);
+      top = omega (arith, ints, clamps);
+    }
+
+    second : IsWithin area (joined hull area)
+    second = record {
+      left = omega (arith, ints, clamps);
+      right = omega (arith, ints, clamps);
+      bottom = omega (arith, ints, clamps);
+      top = omega (arith, ints, clamps);
+    }
 
 pub within_all : (items : List Item) (n : ℕ) (hull : Box2) → length items ≤ n
     → ((i : Item) → Contains (take n items) i → IsWithin i.area hull) → (i : Item)

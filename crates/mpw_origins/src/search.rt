@@ -22,19 +22,6 @@ pub(crate) struct Item {
     pub area: Box2,
 }
 
-/// The least box that has both.
-fn joined(a: &Box2, b: &Box2) -> Box2
-    ensures first { IsWithin a.now result }
-    ensures second { IsWithin b.now result }
-{
-    Box2 {
-        x0: a.x0.min(b.x0),
-        y0: a.y0.min(b.y0),
-        x1: a.x1.max(b.x1),
-        y1: a.y1.max(b.y1),
-    }
-}
-
 /// A box in which all of them lie.
 pub(crate) fn hull(items: &[Item]) -> Box2
     ensures { (i : ItemValue) → Contains items.now i → IsWithin i.area result }
@@ -49,7 +36,7 @@ pub(crate) fn hull(items: &[Item]) -> Box2
         },
     };
     for item in items {
-        hull = joined(&hull, &item.area);
+        hull = hull.join(item.area);
     }
     hull
 }

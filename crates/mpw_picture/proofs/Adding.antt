@@ -9,7 +9,7 @@ use Rattle.mpw_region.proofs.Active.{kept_from, kept}
 use Rattle.mpw_region.proofs.Held.{Held-nil, Held-push_left, Held-push_new, Held-push_cases}
 use Rattle.mpw_geom.specs.declared.plane.Box2.{Box2}
 use Rattle.mpw_geom.specs.declared.plane.Layer.{Layer}
-use Rattle.mpw_geom.specs.Plane.{Square, has_square, HasArea, IsBoxInPlane}
+use Rattle.mpw_geom.specs.Plane.{Square, has_square, HasArea, IsBoxInPlane, intersection}
 use Rattle.mpw_geom.proofs.Tests.{SquareIn, SquareIn-from_test, test_from_SquareIn, test_from_le}
 use Rattle.mpw_hier.specs.Items.{Item}
 use Rattle.mpw_tiles.specs.declared.listing.Rectangle.{Rectangle}
@@ -20,7 +20,7 @@ use Rattle.mpw_tiles.specs.Snapshots.{Snapshot, shown}
 use Rattle.mpw_hier.specs.Boxes.{item_box}
 use Rattle.mpw_walk.specs.Window.{do_meet, is_met, items_met}
 use Rattle.mpw_picture.specs.Drawn.{LiesIn, ShowShapes}
-use Rattle.mpw_picture.specs.Internal.Adding.{clipped, AddsIn}
+use Rattle.mpw_picture.specs.Internal.Adding.{AddsIn}
 use Rattle.mpw_tiles.specs.Placed.{IsSquareInPlane}
 use Rattle.mpw_tiles.proofs.Added.{either, none_more, next_more, same_more}
 use Rattle.mpw_tiles.proofs.Showing.{rectangle_of}
@@ -67,16 +67,16 @@ in_plane w s plane u =
       top = omega (arith, ints);
     }
 
-clipped_in : (w b : Box2) (s : Square) → SquareIn w s → SquareIn b s → SquareIn (clipped w b) s
-clipped_in w b s h k = record {
+intersection_in : (w b : Box2) (s : Square) → SquareIn w s → SquareIn b s → SquareIn (intersection w b) s
+intersection_in w b s h k = record {
   left = omega (arith, ints, clamps);
   right = omega (arith, ints, clamps);
   bottom = omega (arith, ints, clamps);
   top = omega (arith, ints, clamps);
 }
 
-clipped_out : (w b : Box2) (s : Square) → SquareIn (clipped w b) s → SquareIn b s
-clipped_out w b s h = record {
+intersection_out : (w b : Box2) (s : Square) → SquareIn (intersection w b) s → SquareIn b s
+intersection_out w b s h = record {
   left = omega (arith, ints, clamps);
   right = omega (arith, ints, clamps);
   bottom = omega (arith, ints, clamps);
@@ -88,15 +88,15 @@ some_area b s h = record { width = omega (arith, ints); height = omega (arith, i
 
 -- one that has no area there adds nothing
 pub adds_missed : (w : Box2) (r : Rectangle) (area : Box2) (old : List Rectangle)
-    → area ≡ clipped w r.area → (HasArea area → ⊥) → AddsIn w old old (HasSquareOf r)
+    → area ≡ intersection w r.area → (HasArea area → ⊥) → AddsIn w old old (HasSquareOf r)
 adds_missed w r area old e none =
     adds_none w old (HasSquareOf r) (λ s layer origin u p.
-    none (subst HasArea (sym e) (some_area (clipped w r.area) s
-    (clipped_in w r.area s (SquareIn-from_test w s u) (SquareIn-from_test r.area s p.has)))))
+    none (subst HasArea (sym e) (some_area (intersection w r.area) s
+    (intersection_in w r.area s (SquareIn-from_test w s u) (SquareIn-from_test r.area s p.has)))))
 
-clipped_lies : (w b : Box2) (own : Layer) (number : ℕ) → HasArea (clipped w b)
-    → LiesIn w (rectangle_of (clipped w b) own number)
-clipped_lies w b own number h = record {
+intersection_lies : (w b : Box2) (own : Layer) (number : ℕ) → HasArea (intersection w b)
+    → LiesIn w (rectangle_of (intersection w b) own number)
+intersection_lies w b own number h = record {
   some = h;
   left = omega (arith, ints, clamps);
   bottom = omega (arith, ints, clamps);
@@ -104,18 +104,18 @@ clipped_lies w b own number h = record {
   top = omega (arith, ints, clamps);
 }
 
-adds_clipped : (w : Box2) (r : Rectangle) (old : List Rectangle) → HasArea (clipped w r.area)
-    → AddsIn w old (old ++ rectangle_of (clipped w r.area) r.layer r.origin ∷ []) (HasSquareOf r)
-adds_clipped w r old some = record {
+adds_intersection : (w : Box2) (r : Rectangle) (old : List Rectangle) → HasArea (intersection w r.area)
+    → AddsIn w old (old ++ rectangle_of (intersection w r.area) r.layer r.origin ∷ []) (HasSquareOf r)
+adds_intersection w r old some = record {
   squares = λ s layer origin u. (to s layer origin u, from s layer origin u);
   inside = λ x c. elim (Contains-push_cases old piece x c) [
     | inl k ↦ inl k
-    | inr e ↦ inr (subst (LiesIn w) e (clipped_lies w r.area r.layer r.origin some))
+    | inr e ↦ inr (subst (LiesIn w) e (intersection_lies w r.area r.layer r.origin some))
   ];
 }
   where
     piece : Rectangle
-    piece = rectangle_of (clipped w r.area) r.layer r.origin
+    piece = rectangle_of (intersection w r.area) r.layer r.origin
 
     to : (s : Square) (layer : Layer) (origin : ℕ) → has_square w s ≡ true
         → IsListed (old ++ piece ∷ []) layer origin s
@@ -127,7 +127,7 @@ adds_clipped w r old some = record {
             on_layer = p.on_layer;
             of_origin = p.of_origin;
             has = test_from_SquareIn r.area s
-                (clipped_out w r.area s (SquareIn-from_test (clipped w r.area) s p.has));
+                (intersection_out w r.area s (SquareIn-from_test (intersection w r.area) s p.has));
           })
         ]
 
@@ -140,18 +140,18 @@ adds_clipped w r old some = record {
         Held-push_new (λ (x : Rectangle). HasSquareOf x layer origin s) old piece (record {
           on_layer = p.on_layer;
           of_origin = p.of_origin;
-          has = test_from_SquareIn (clipped w r.area) s
-              (clipped_in w r.area s (SquareIn-from_test w s u)
+          has = test_from_SquareIn (intersection w r.area) s
+              (intersection_in w r.area s (SquareIn-from_test w s u)
               (SquareIn-from_test r.area s p.has));
         })
 
 pub adds_pushed : (w : Box2) (r : Rectangle) (area : Box2) (old new : List Rectangle)
-    → area ≡ clipped w r.area → HasArea area
+    → area ≡ intersection w r.area → HasArea area
     → new ≡ old ++ rectangle_of area r.layer r.origin ∷ [] → AddsIn w old new (HasSquareOf r)
 adds_pushed w r area old new e some is =
     subst (λ xs. AddsIn w old xs (HasSquareOf r))
     (sym (is ∙ ap (λ b. old ++ rectangle_of b r.layer r.origin ∷ []) e))
-    (adds_clipped w r old (subst HasArea e some))
+    (adds_intersection w r old (subst HasArea e some))
 
 -- ---- what a walk within the window leaves out
 

@@ -9,24 +9,12 @@ ghost use Rattle.mpw_walk.specs.Turns.{given};
 ghost use Rattle.mpw_walk.specs.Way.{item_of};
 ghost use Rattle.mpw_picture.specs.Drawn.{ShowShapes};
 ghost use Rattle.mpw_tiles.specs.Internal.Listing.{HasPlacedSquare};
-ghost use Rattle.mpw_picture.specs.Internal.Adding.{clipped, AddsIn};
+ghost use Rattle.mpw_picture.specs.Internal.Adding.{AddsIn};
 
 use mpw_geom::{Box2, Layer, Placing};
 use mpw_tiles::{Rectangle, Snapshot, layer_of, placed_area, squares_lie_in_boxes};
 use mpw_walk::{Placed, Walk};
 use std::alloc::{AllocError, Global};
-
-/// What two boxes share.
-fn clipped(window: &Box2, area: &Box2) -> Box2
-    ensures { result ≡ clipped window.now area.now }
-{
-    Box2 {
-        x0: window.x0.max(area.x0),
-        y0: window.y0.max(area.y0),
-        x1: window.x1.min(area.x1),
-        y1: window.y1.min(area.y1),
-    }
-}
 
 /// Whether a box has area.
 fn has_area(area: &Box2) -> bool
@@ -43,7 +31,7 @@ fn add_rectangle(
 ) -> Result<(), AllocError>
     ensures ok { OnOk result (AddsIn window.now rectangles.old.items rectangles.new.items (HasSquareOf rectangle.now)) }
 {
-    let area = clipped(window, &rectangle.area);
+    let area = window.intersection(rectangle.area);
     if has_area(&area) {
         rectangles.push(Rectangle {
             area,

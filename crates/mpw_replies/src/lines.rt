@@ -122,7 +122,7 @@ impl Lines {
     }
 
     /// What is kept of the lines. It takes no memory.
-    pub fn kept(&self) -> Kept<'_>
+    pub fn contents(&self) -> Kept<'_>
         ensures { kept_lines result ≡ self.now }
     {
         match &self.told {
@@ -135,7 +135,7 @@ impl Lines {
     pub fn len(&self) -> usize
         ensures { result ≡ length self.now }
     {
-        match self.kept() {
+        match self.contents() {
             Kept::Stored(lines) => lines.len(),
             Kept::Shapes(listing) => listing.len(),
             Kept::Markers(listing) => listing.len(),

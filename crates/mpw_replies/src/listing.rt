@@ -87,7 +87,7 @@ impl ShapeListing {
     {
         shelf.is_shelf();
         shelves_have_their_numbers();
-        let root = Root::unmoved(&shelf, number);
+        let root = Root::at_origin(&shelf, number);
         let count = count_lines(&shelf, slice::from_ref(&root), &seen);
         ShapeListing {
             shelf,

@@ -41,7 +41,7 @@ pub enum Fault {
 
 impl Fault {
     /// The fault of a refusal.
-    pub fn refused(code: Code) -> Fault
+    pub fn from_code(code: Code) -> Fault
         ensures { result ≡ Fault.Told (Ending.Refused code) }
     {
         Fault::Told(Ending::Refused(code))

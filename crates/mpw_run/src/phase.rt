@@ -84,7 +84,7 @@ impl Model for Checks {
 
 impl Checks {
     /// The snapshot with its plan.
-    pub fn planned(&self) -> &Planned
+    pub fn snapshot_with_plan(&self) -> &Planned
         ensures { result.now ≡ self.now.planned }
     {
         &self.planned

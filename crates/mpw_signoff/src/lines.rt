@@ -125,7 +125,13 @@ pub(crate) fn waiver_lines(
 {
     let mut lines = Vec::new(alloc);
     for place in 0..book.len() {
-        add_shown(&mut lines, rules, seen, &book[place], waivers.of(place))?;
+        add_shown(
+            &mut lines,
+            rules,
+            seen,
+            &book[place],
+            waivers.waiver_at(place),
+        )?;
     }
     Ok(lines)
 }

@@ -43,9 +43,9 @@ fn findings(phase: &Phase) -> Result<&Checked, Fault>
     ensures { Answers (λ f. f.now) result (row.finished_run phase.now) }
 {
     match phase {
-        Phase::Idle => Err(Fault::refused(Code::NotFinished)),
-        Phase::Cutting(_) => Err(Fault::refused(Code::NotFinished)),
-        Phase::Checking(_) => Err(Fault::refused(Code::NotFinished)),
+        Phase::Idle => Err(Fault::from_code(Code::NotFinished)),
+        Phase::Cutting(_) => Err(Fault::from_code(Code::NotFinished)),
+        Phase::Checking(_) => Err(Fault::from_code(Code::NotFinished)),
         Phase::Finished(checked) => Ok(checked),
     }
 }
@@ -62,10 +62,10 @@ fn full_marker<'a>(
 {
     let snapshot = checked.planned.snapshot();
     let Some(named) = named_in(snapshot.deck(), &checked.book, name) else {
-        return Err(Fault::refused(Code::NoMarker));
+        return Err(Fault::from_code(Code::NoMarker));
     };
     if !is_shown(policy, connection, snapshot.shelf(), named.marker)? {
-        return Err(Fault::refused(Code::NoMarker));
+        return Err(Fault::from_code(Code::NoMarker));
     }
     Ok(named)
 }
@@ -185,7 +185,7 @@ fn verdict_line(present: bool, waivers: &Waivers) -> Line
     if !present {
         return Line::Stale;
     }
-    match waivers.unsigned() {
+    match waivers.count_unsigned() {
         0 => Line::Clean,
         number => Line::Open(number),
     }

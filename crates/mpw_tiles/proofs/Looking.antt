@@ -1,8 +1,8 @@
 -- Snapshots: their extents, their plans, and windows that stand for them.
-use Rattle.std.proofs.Common.{◌≡◌, ℕ, w64, SFits, to_z, of_z, ◌+◌, ◌≤◌, ◌<◌, ◌^◌, true, List, [], ◌∷◌, length, get_or, drop, max, Option, Some, None, refl, sym, subst, ap, ◌∙◌, arith}
+use Rattle.std.proofs.Common.{◌≡◌, ℕ, ◌+◌, ◌≤◌, ◌<◌, ◌^◌, true, List, [], ◌∷◌, length, get_or, drop, max, Option, Some, None, refl, sym, subst, ap, ◌∙◌, arith}
 use Rattle.std.specs.Prelude.{IfOk, Result, Ok, Err, ℤ, All, IfSome, fold}
 use Rattle.std.specs.Int.{int_min, int_max}
-use Rattle.std.proofs.lemmas.Int.{ints, clamps, to_z-of_z}
+use Rattle.std.proofs.lemmas.Int.{ints, clamps}
 use Rattle.std.proofs.lemmas.List.{at_drop_more, drop_all}
 use Rattle.std.proofs.lemmas.List.Elements.{All-head, All-tail}
 use Rattle.mpw_geom.proofs.Boxes.{same_box}
@@ -16,7 +16,8 @@ use Rattle.mpw_deck.specs.declared.rule.Rule.{Rule}
 use Rattle.mpw_deck.specs.Decks.{Deck, IsRule, IsDeck}
 use Rattle.mpw_grid.specs.Laws.{WindowsReachNoFurther}
 use Rattle.mpw_hier.specs.declared.submission.Submission.{Submission}
-use Rattle.mpw_hier.specs.Boxes.{joined, hull, placed_box, is_box_near}
+use Rattle.mpw_hier.specs.Boxes.{hull, placed_box, is_box_near}
+use Rattle.mpw_hier.proofs.Hulls.{hull_assoc, hull_none}
 use Rattle.mpw_hier.proofs.Nearness.{close_box}
 use Rattle.mpw_walk.specs.declared.root.Root.{Root}
 use Rattle.mpw_walk.specs.Turns.{flat_roots}
@@ -30,11 +31,6 @@ use Rattle.mpw_tiles.specs.Plan.{Tiling, greatest_distance, plan_of, tiles, tile
 use Rattle.mpw_tiles.specs.Placed.{WindowsLieInPlane}
 use Rattle.mpw_tiles.specs.Internal.Placed.{nearest_point}
 use Rattle.mpw_tiles.proofs.Added.{added_to_none}
-
--- what a least or a greatest of numbers that fit is, as code shows it
-pub fitting : (f : ℤ → ℤ → ℤ) (a b r : ℤ) → SFits w64 a → SFits w64 b → SFits w64 r
-    → r ≡ f (to_z w64 (of_z w64 a)) (to_z w64 (of_z w64 b)) → to_z w64 (of_z w64 r) ≡ f a b
-fitting f a b r h k m e = rw (to_z-of_z w64 r m, e, to_z-of_z w64 a h, to_z-of_z w64 b k) refl
 
 -- what is near is not moved to the edge of the plane
 unmoved : (p q : Point) → is_box_near (box_between p q) ≡ true
@@ -60,24 +56,6 @@ area_is_box t b x0 y0 x1 y1 e f g h n =
     (placed_point t (record { x = b.x1; y = b.y1 })) n)
 
 -- ---- the extent of roots
-
-min_assoc : (a b c : ℤ) → int_min (int_min a b) c ≡ int_min a (int_min b c)
-min_assoc a b c = omega (arith, ints, clamps)
-
-max_assoc : (a b c : ℤ) → int_max (int_max a b) c ≡ int_max a (int_max b c)
-max_assoc a b c = omega (arith, ints, clamps)
-
-hull_assoc : (a b c : Option Box2) → hull (hull a b) c ≡ hull a (hull b c)
-hull_assoc None b c = refl
-hull_assoc (Some a) None c = refl
-hull_assoc (Some a) (Some b) None = refl
-hull_assoc (Some a) (Some b) (Some c) =
-    ap Some (same_box (joined (joined a b) c) (joined a (joined b c)) (min_assoc a.x0 b.x0 c.x0)
-    (min_assoc a.y0 b.y0 c.y0) (max_assoc a.x1 b.x1 c.x1) (max_assoc a.y1 b.y1 c.y1))
-
-hull_none : (a : Option Box2) → hull a None ≡ a
-hull_none None = refl
-hull_none (Some a) = refl
 
 pub hull_more : (ss : List Submission) (roots : List Root) (i : ℕ) (d : Root) (so_far : Option Box2)
     → i < length roots → hull so_far (roots_extent ss (drop i roots)) ≡ roots_extent ss roots

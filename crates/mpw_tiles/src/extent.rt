@@ -2,37 +2,14 @@
 
 ghost use Rattle.std.specs.Prelude.{◌≡◌, true, All, IfSome};
 ghost use Rattle.mpw_geom.specs.Plane.{IsOrdered};
-ghost use Rattle.mpw_hier.specs.Boxes.{joined, hull, placed_box, is_box_near};
+ghost use Rattle.mpw_hier.specs.Boxes.{hull, placed_box, is_box_near};
 ghost use Rattle.mpw_walk.specs.Roots.{root_extent, roots_extent};
 ghost use Rattle.mpw_walk.specs.Walk.{IsRoot};
 
 use crate::place::placed_area;
 use mpw_geom::Box2;
-use mpw_hier::{Shelf, extents_are_least_boxes};
+use mpw_hier::{Shelf, extents_are_least_boxes, hull};
 use mpw_walk::Root;
-
-/// The least box that holds both.
-fn joined(a: &Box2, b: &Box2) -> Box2
-    ensures { result ≡ joined a.now b.now }
-{
-    Box2 {
-        x0: a.x0.min(b.x0),
-        y0: a.y0.min(b.y0),
-        x1: a.x1.max(b.x1),
-        y1: a.y1.max(b.y1),
-    }
-}
-
-/// The least box that holds both, if there are any.
-fn hull(a: Option<Box2>, b: Option<Box2>) -> Option<Box2>
-    ensures { result ≡ hull a b }
-{
-    match (a, b) {
-        (Some(a), Some(b)) => Some(joined(&a, &b)),
-        (Some(a), None) => Some(a),
-        (None, b) => b,
-    }
-}
 
 /// The extent of a submission where it is placed; none where it shows nothing.
 fn root_extent(shelf: &Shelf, root: &Root) -> Option<Box2>

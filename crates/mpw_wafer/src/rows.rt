@@ -19,12 +19,12 @@ fn fault_of(fault: PlacingFault) -> Fault
     ensures { result ≡ fault_of fault }
 {
     match fault {
-        PlacingFault::NoCell => Fault::refused(Code::NoCell),
-        PlacingFault::Known => Fault::refused(Code::Known),
-        PlacingFault::Extent => Fault::refused(Code::Extent),
-        PlacingFault::Shapes => Fault::refused(Code::Shapes),
-        PlacingFault::Full => Fault::refused(Code::Full),
-        PlacingFault::Unknown => Fault::refused(Code::Unknown),
+        PlacingFault::NoCell => Fault::from_code(Code::NoCell),
+        PlacingFault::Known => Fault::from_code(Code::Known),
+        PlacingFault::Extent => Fault::from_code(Code::Extent),
+        PlacingFault::Shapes => Fault::from_code(Code::Shapes),
+        PlacingFault::Full => Fault::from_code(Code::Full),
+        PlacingFault::Unknown => Fault::from_code(Code::Unknown),
         PlacingFault::Memory => Fault::Memory,
     }
 }
@@ -92,7 +92,7 @@ pub(crate) fn deck(
     enter(policy, connection, Operation::Deck, Object::Desk)?;
     match text.deck(alloc) {
         Ok(deck) => Ok(deck),
-        Err(DeckError::Fault(fault)) => Err(Fault::refused(Code::Deck(fault))),
+        Err(DeckError::Fault(fault)) => Err(Fault::from_code(Code::Deck(fault))),
         Err(DeckError::Memory) => Err(Fault::Memory),
     }
 }

@@ -67,7 +67,7 @@ impl Waivers {
     }
 
     /// The waiver of the marker at a place, if there is one. Constant time.
-    pub fn of(&self, place: usize) -> Option<&Waiver>
+    pub fn waiver_at(&self, place: usize) -> Option<&Waiver>
         ensures { option_copied result ≡ waiver_at self.now place }
     {
         match self.places.get(place) {
@@ -78,7 +78,7 @@ impl Waivers {
 
     /// How many markers have no signed waiver. Linear in the markers.
     #[tactic(auto, unfolding(crate::specs::Waivers::unsigned))]
-    pub fn unsigned(&self) -> usize
+    pub fn count_unsigned(&self) -> usize
         ensures { result ≡ unsigned self.now }
     {
         self.places

@@ -8,13 +8,13 @@ use Rattle.mpw_geom.specs.declared.plane.Box2.{Box2}
 use Rattle.mpw_geom.specs.declared.plane.Orient.{Orient}
 use Rattle.mpw_geom.specs.declared.plane.Point.{Point}
 use Rattle.mpw_geom.specs.declared.placing.Placing.{Placing}
-use Rattle.mpw_geom.specs.Plane.{IsInPlane, box_between}
+use Rattle.mpw_geom.specs.Plane.{IsInPlane, box_between, joined}
 use Rattle.mpw_geom.specs.Placing.{is_mirrored, quarter_turns, times, mirrored_point, turned_point, oriented_point, placed_point}
 use Rattle.mpw_geom.proofs.Tests.{le_from_test, test_from_PointIn, PointIn-from_test, PointIn}
 use Rattle.mpw_geom.proofs.Turns.{placed_points}
 use Rattle.mpw_hier.specs.Items.{Item, placed_again, placed_item}
 use Rattle.mpw_hier.proofs.Placings.{again_point}
-use Rattle.mpw_hier.specs.Boxes.{joined, hull, element_box, placed_box, item_box, extent_of, is_near, is_box_near}
+use Rattle.mpw_hier.specs.Boxes.{hull, element_box, placed_box, item_box, extent_of, is_near, is_box_near}
 use Rattle.mpw_walk.specs.Near.{IsClose, IsClosePoint, IsCloseItem, corner_of}
 use Rattle.mpw_walk.specs.Frames.{IsShort, IsWithin}
 

@@ -20,7 +20,7 @@ use Rattle.mpw_hier.specs.Holding.{ExtentsAreJoined, ExtentsArePlaced}
 use Rattle.mpw_walk.specs.declared.root.Root.{Root}
 use Rattle.mpw_walk.specs.Turns.{flat_root, flat_roots}
 use Rattle.mpw_walk.specs.Walk.{IsRoot}
-use Rattle.mpw_walk.specs.Roots.{unmoved_root, roots_extent, roots_count}
+use Rattle.mpw_walk.specs.Roots.{root_at_origin, roots_extent, roots_count}
 use Rattle.mpw_walk.proofs.Placings.{same_placing, here}
 
 -- ---- where a submission was drawn
@@ -38,7 +38,7 @@ items_here (i ∷ is) =
     rw (one, items_here is) refl
 
 pub unmoved_shapes : (ss : List Submission) (number : ℕ)
-    → flat_roots ss (unmoved_root number ∷ []) ≡ flat ss number
+    → flat_roots ss (root_at_origin number ∷ []) ≡ flat ss number
 unfolding flat_roots
 unmoved_shapes ss number =
     append-nil (map (placed_item here) (flat ss number)) ∙ items_here (flat ss number)
@@ -49,7 +49,7 @@ near_here None h = tt
 near_here (Some box) h = h
 
 pub unmoved_fits : ShelvesAreLimited → ExtentsArePlaced → (ss : List Submission) → IsShelf ss
-    → (number : ℕ) → number < length ss → IsRoot ss (unmoved_root number)
+    → (number : ℕ) → number < length ss → IsRoot ss (root_at_origin number)
 unmoved_fits limits placed ss shelf number lt =
     let same : extent ss number ≡ option_map (placed_box here) (extent ss number) =
     sym (ap extent_of (items_here (flat ss number))) ∙ placed here (flat ss number) in

@@ -9,8 +9,8 @@ use Rattle.mpw_hier.specs.Values.{count, extent}
 use Rattle.mpw_walk.specs.declared.root.Root.{Root}
 
 -- A submission where it was drawn, neither turned nor moved.
-abbrev pub unmoved_root : ℕ → Root
-unmoved_root number = record {
+abbrev pub root_at_origin : ℕ → Root
+root_at_origin number = record {
   submission = number;
   placing = record { orient = R0; by = record { x = pos 0; y = pos 0 } };
 }

@@ -4,11 +4,11 @@ ghost use Rattle.std.specs.Prelude.{◌≡◌, ◌<◌, ◌↔◌, ◌∷◌, []
 ghost use Rattle.mpw_hier.specs.Boxes.{is_box_near, placed_box};
 ghost use Rattle.mpw_hier.specs.Values.{flat};
 ghost use Rattle.mpw_walk.specs.Frames.{IsWithin};
-ghost use Rattle.mpw_walk.specs.Roots.{unmoved_root};
+ghost use Rattle.mpw_walk.specs.Roots.{root_at_origin};
 ghost use Rattle.mpw_walk.specs.Turns.{flat_roots};
 ghost use Rattle.mpw_walk.specs.Walk.{IsRoot};
 
-use crate::laws::unmoved_roots_show_their_submission;
+use crate::laws::roots_at_origin_show_their_submission;
 use crate::root::Root;
 use mpw_geom::{Box2, Orient, Placing, Point};
 use mpw_hier::{Shelf, is_box_near};
@@ -50,14 +50,14 @@ fn is_placed_near(placing: Placing, b: Box2) -> bool
 
 impl Root {
     /// The submission of a number on the shelf where it was drawn, neither turned nor moved: a root of any walk over the shelf.
-    pub fn unmoved(shelf: &Shelf, submission: u32) -> Root
+    pub fn at_origin(shelf: &Shelf, submission: u32) -> Root
         requires { submission < length shelf.now }
-        ensures is { result ≡ unmoved_root submission }
+        ensures is { result ≡ root_at_origin submission }
         ensures root { IsRoot shelf.now result }
         ensures shapes { flat_roots shelf.now (result ∷ []) ≡ flat shelf.now submission }
     {
         shelf.is_shelf();
-        unmoved_roots_show_their_submission();
+        roots_at_origin_show_their_submission();
         Root {
             submission,
             placing: UNMOVED,

@@ -112,7 +112,7 @@ impl<'a> Frame<'a> {
     }
 
     /// The next shape, placed.
-    pub fn placed(&self) -> Placed<'a>
+    pub fn placed_element(&self) -> Placed<'a>
         requires shape { self.now.shape < length self.now.node.now.shapes.items }
         requires place { slice_index self.now.node.now.shapes.items self.now.shape < length self.now.elements.now }
         ensures { IsShape self.now result }

@@ -14,7 +14,7 @@ ghost use Rattle.mpw_hier.specs.declared.submission.Submission.{Submission};
 ghost use Rattle.mpw_walk.specs.Internal.Extents.{ExtentsAreWalked};
 ghost use Rattle.mpw_walk.specs.Missed.{RootsCarryTheirExtents, InstancesCarryTheirExtents, MissedRootsShowNothing, MissedInstancesShowNothing};
 ghost use Rattle.mpw_walk.specs.Internal.Named.{NamesAreWalked};
-ghost use Rattle.mpw_walk.specs.Roots.{unmoved_root, roots_extent, roots_count};
+ghost use Rattle.mpw_walk.specs.Roots.{root_at_origin, roots_extent, roots_count};
 ghost use Rattle.mpw_walk.specs.Turns.{given, flat_root, flat_roots, placed_root, root_turns, roots_turns};
 ghost use Rattle.mpw_walk.specs.Walk.{IsRoot};
 ghost use Rattle.mpw_walk.specs.Window.{do_meet};
@@ -41,9 +41,9 @@ pub fn roots_are_placed_again()
 {}
 
 /// A submission that is not moved is a root of any shelf that has it, and shows its own flat list.
-pub fn unmoved_roots_show_their_submission()
-    ensures fits { (ss : List Submission) → IsShelf ss → (number : ℕ) → number < length ss → IsRoot ss (unmoved_root number) }
-    ensures shapes { (ss : List Submission) (number : ℕ) → flat_roots ss (unmoved_root number ∷ []) ≡ flat ss number }
+pub fn roots_at_origin_show_their_submission()
+    ensures fits { (ss : List Submission) → IsShelf ss → (number : ℕ) → number < length ss → IsRoot ss (root_at_origin number) }
+    ensures shapes { (ss : List Submission) (number : ℕ) → flat_roots ss (root_at_origin number ∷ []) ≡ flat ss number }
 {
     shelves_have_their_numbers();
     extents_are_least_boxes();

@@ -18,8 +18,8 @@ mod window;
 pub use fit::all_fit;
 pub use laws::{
     missed_instances_show_nothing_met, roots_are_placed_again,
-    roots_show_what_their_submissions_do, roots_stay_roots, shapes_are_no_references,
-    shapes_come_from_the_shelf, turns_give_flat_lists, unmoved_roots_show_their_submission,
+    roots_at_origin_show_their_submission, roots_show_what_their_submissions_do, roots_stay_roots,
+    shapes_are_no_references, shapes_come_from_the_shelf, turns_give_flat_lists,
 };
 pub use root::{Placed, Root};
 pub use walk::Walk;

@@ -72,7 +72,7 @@ impl<'a> Way<'a> {
         ensures does { Does result self.old (self.old.frames.items ++ frame.now ∷ []) self.new }
     {
         names_are_walked();
-        let placed = frame.placed();
+        let placed = frame.placed_element();
         let next = Frame {
             shape: frame.shape + 1,
             ..*frame

@@ -28,7 +28,7 @@ fn write_stored<W: Sink>(writer: &mut W, lines: &[Line]) -> Result<(), WireFault
 fn write_lines<W: Sink>(writer: &mut W, lines: &Lines) -> Result<(), WireFault>
     ensures { Writes W.contents W.failures writer.old writer.new result (flat_map listed_text lines.now) }
 {
-    match lines.kept() {
+    match lines.contents() {
         Kept::Stored(lines) => write_stored(writer, lines),
         Kept::Shapes(listing) => write_shapes(writer, listing),
         Kept::Markers(listing) => write_markers(writer, listing),

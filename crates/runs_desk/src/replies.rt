@@ -108,7 +108,7 @@ fn tell_markers(rt: &impl Print, listing: &MarkerListing) -> Result<()> {
 /// Tells the lines of an accepted request's reply.
 fn tell_lines(rt: &impl Print, lines: &Lines) -> Result<()> {
     println!(rt; "    OK {}", lines.len())?;
-    match lines.kept() {
+    match lines.contents() {
         Kept::Stored(lines) => tell_stored(rt, lines),
         Kept::Markers(listing) => tell_markers(rt, listing),
         Kept::Shapes(_shapes) => bail!("shapes"),

@@ -110,7 +110,7 @@ impl Desk {
 
     pub fn list(&self, rt: &impl Print) -> Result<()> {
         for place in 0..self.waivers.len() {
-            if let Some(waiver) = self.waivers.of(place) {
+            if let Some(waiver) = self.waivers.waiver_at(place) {
                 print_waiver(rt, place, waiver)?;
             }
         }
@@ -118,7 +118,7 @@ impl Desk {
     }
 
     pub fn open(&self, rt: &impl Print) -> Result<()> {
-        let unsigned = self.waivers.unsigned();
+        let unsigned = self.waivers.count_unsigned();
         Ok(println!(rt; "    {unsigned} open")?)
     }
 }

@@ -1,21 +1,11 @@
 -- What private functions and proofs need of pictures: rectangles that are added to those of a window.
 use Rattle.std.specs.Prelude.{◌≡◌, ℕ, true, List, Contains, ◌⊎◌, ◌↔◌}
-use Rattle.std.specs.Int.{int_min, int_max}
 use Rattle.mpw_geom.specs.declared.plane.Box2.{Box2}
 use Rattle.mpw_geom.specs.declared.plane.Layer.{Layer}
 use Rattle.mpw_geom.specs.Plane.{Square, has_square}
 use Rattle.mpw_tiles.specs.declared.listing.Rectangle.{Rectangle}
 use Rattle.mpw_tiles.specs.Listing.{IsListed}
 use Rattle.mpw_picture.specs.Drawn.{LiesIn}
-
--- What two boxes share.
-abbrev pub clipped : Box2 → Box2 → Box2
-clipped window b = record {
-  x0 = int_max window.x0 b.x0;
-  y0 = int_max window.y0 b.y0;
-  x1 = int_min window.x1 b.x1;
-  y1 = int_min window.y1 b.y1;
-}
 
 -- Rectangles were added that lie in the window and have just its squares of P.
 pub record AddsIn (window : Box2) (old new : List Rectangle) (P : Layer → ℕ → Square → Type 0) :

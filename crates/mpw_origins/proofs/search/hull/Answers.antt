@@ -1,10 +1,9 @@
 use Rattle.mpw_origins.proofs.search.hull.Goals as goal
-use Rattle.mpw_origins.proofs.Filled.{within_more, within_all}
+use Rattle.mpw_origins.proofs.Filled.{within_joined, within_all}
 
 pub loop-item-preserved : goal.loop-item-preserved
-loop-item-preserved c = within_more c.args.items.now c.loop-item.item-index c.loop-item.hull
-    c.joined-hull.result c.loop-item-test.true c.loop-item.invariant c.joined-hull.ensures.first
-    c.joined-hull.ensures.second
+loop-item-preserved c = within_joined c.args.items.now c.loop-item.item-index c.loop-item.hull
+    c.join-hull.result c.loop-item-test.true c.loop-item.invariant c.join-hull.ensures
 
 pub returns : goal.returns
 returns c = within_all c.args.items.now c.loop-item.item-index c.loop-item.hull

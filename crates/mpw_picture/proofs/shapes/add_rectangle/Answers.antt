@@ -5,14 +5,14 @@ use Rattle.mpw_picture.proofs.shapes.add_rectangle.Goals as goal
 
 pub returns-in_ok-push : goal.returns-in_ok-push
 returns-in_ok-push c = record {
-  ok = adds_pushed c.args.window.now c.args.rectangle.now c.clipped-area.result
-      c.args.rectangles.now.items _ c.clipped-area.ensures
+  ok = adds_pushed c.args.window.now c.args.rectangle.now c.intersection-area.result
+      c.args.rectangles.now.items _ c.intersection-area.ensures
       (c.has_area.ensures.0 c.if-has_area.true) c.in_ok-push.ensures.items;
 }
 
 pub returns-else-has_area : goal.returns-else-has_area
 returns-else-has_area c = record {
-  ok = adds_missed c.args.window.now c.args.rectangle.now c.clipped-area.result
-      c.args.rectangles.now.items c.clipped-area.ensures
+  ok = adds_missed c.args.window.now c.args.rectangle.now c.intersection-area.result
+      c.args.rectangles.now.items c.intersection-area.ensures
       (λ h. false≢true (sym c.if-has_area.false ∙ c.has_area.ensures.1 h));
 }

@@ -11,4 +11,4 @@ returns-in-Stored g c =
     let lines = c.in-Stored.lines.now in
     Writes_same _ _ _ _ _ (flat_map line_text lines) _
     (sym (stored_text lines) ∙ ap (flat_map listed_text) (ap kept_lines (sym c.in-Stored.is)
-    ∙ c.kept.ensures)) c.write_stored.ensures
+    ∙ c.contents.ensures)) c.write_stored.ensures

@@ -8,4 +8,4 @@ returns-in-Trail c =
     c.len-in-Trail.ensures
     ∙ sym (numbered_length 1 c.in-Trail.trail.now.entries)
     ∙ ap (λ k. length (kept_lines k)) (sym c.in-Trail.is)
-    ∙ ap length c.kept.ensures
+    ∙ ap length c.contents.ensures

@@ -19,30 +19,30 @@ is_given-requires c =
     let law = c.names_are_walked.ensures in
     let v = c.args.self.now in
     let f = c.args.frame.now in
-    let placed = c.placed-placed.result in record {
+    let placed = c.placed_element-placed.result in record {
       element = (given_placeable law v f c.requires.way c.requires.shape placed
-          c.placed-placed.ensures).element;
-      near = given_near law v f c.requires.way c.requires.shape placed c.placed-placed.ensures;
-      short = given_short law v f c.requires.way c.requires.shape placed c.placed-placed.ensures;
+          c.placed_element-placed.ensures).element;
+      near = given_near law v f c.requires.way c.requires.shape placed c.placed_element-placed.ensures;
+      short = given_short law v f c.requires.way c.requires.shape placed c.placed_element-placed.ensures;
     }
 
 pub returns-then-not-is_given : goal.returns-then-not-is_given
 returns-then-not-is_given c =
     let over = passes_shape c.names_are_walked.ensures c.args.self.now c.args.frame.now
-    c.requires.way c.requires.shape c.placed-placed.result c.placed-placed.ensures
+    c.requires.way c.requires.shape c.placed_element-placed.result c.placed_element-placed.ensures
     c.push.new.self c.push.ensures (sym c.is_given.ensures ∙ c.if-not-is_given.true) in
     record { way = over.way; does = over.does }
 
 pub overflow_add-self : goal.overflow_add-self
 overflow_add-self c =
     let given = gives_shape c.names_are_walked.ensures c.args.self.now c.args.frame.now
-    c.requires.way c.requires.shape c.placed-placed.result c.placed-placed.ensures
+    c.requires.way c.requires.shape c.placed_element-placed.result c.placed_element-placed.ensures
     c.push.new.self c.push.ensures (sym c.is_given.ensures ∙ c.if-not-is_given.false) in
     omega (arith, given.way.few)
 
 pub returns : goal.returns
 returns c =
     let given = gives_shape c.names_are_walked.ensures c.args.self.now c.args.frame.now
-    c.requires.way c.requires.shape c.placed-placed.result c.placed-placed.ensures
+    c.requires.way c.requires.shape c.placed_element-placed.result c.placed_element-placed.ensures
     c.push.new.self c.push.ensures (sym c.is_given.ensures ∙ c.if-not-is_given.false) in
     record { way = given.way; does = given.does }

@@ -1,5 +1,5 @@
 use Rattle.mpw_walk.proofs.Roots.{unmoved_fits, unmoved_shapes}
-use Rattle.mpw_walk.proofs.laws.unmoved_roots_show_their_submission.Goals as goal
+use Rattle.mpw_walk.proofs.laws.roots_at_origin_show_their_submission.Goals as goal
 
 pub returns : goal.returns
 returns c = record {
