@@ -1,9 +1,11 @@
 #!/usr/bin/env python3
 """Runs a command, and then tells what each crate's proofs, tests, wrong bodies and programs took.
 
-  scripts/gate_times.py rt ci
+  scripts/gate_times.py rt ci [-- COMMAND..]
 
-The times are processor seconds of the checker's processes, read off /proc twice a second, so a little too small.
+The times are processor seconds of the checker's processes, read off /proc twice a second, so a little too small. The
+command behind -- is run where the first one passed. The last line is the first one's last, its verdict; where the second
+one failed, a line behind it says so.
 """
 import collections
 import glob
@@ -69,6 +71,8 @@ def hand_on(lines, kept):
 
 
 def main(words):
+    at = words.index("--") if "--" in words else len(words)
+    words, then = words[:at], words[at + 1:]
     began, spent, last = time.monotonic(), {}, []
     with subprocess.Popen(words, stdout=subprocess.PIPE, text=True, errors="replace") as ran:
         printing = threading.Thread(target=hand_on, args=(ran.stdout, last))
@@ -78,8 +82,13 @@ def main(words):
             time.sleep(0.5)
         printing.join()
     tell(spent, time.monotonic() - began)
+    status = ran.returncode
+    if then and status == 0:
+        status = subprocess.run(then, stdin=subprocess.DEVNULL).returncode
     print(*last)
-    return ran.returncode
+    if status != ran.returncode:
+        print(f"failed: {' '.join(then)}")
+    return status
 
 
 if __name__ == "__main__":
