@@ -6,7 +6,9 @@
 Needs crates/bench_job/out/bench_job. In each round each layout is run twice, on one thread and on as many as there are
 processors, by turns which of them first. Milliseconds are medians and, in brackets, the best; behind them stand the
 seconds of processor in the system and the page faults of the whole process, which tell what memory costs. The last two
-columns are how many times as fast all threads are, by medians and by bests. Let nothing else run beside.
+columns of ours are how many times as fast all threads are, by medians and by bests. In the same rounds threads.c, which `cc`
+builds, computes for as long as our jobs take on one thread, and then shared among threads in the same way; the last two
+columns are its ratios: what the machine gives to work of that length. Let nothing else run beside.
 """
 import os
 import re
@@ -18,7 +20,9 @@ import tempfile
 import runs
 
 HEADS = ['Layout', 'Tiles', 'Cut', 'Jobs, one thread', 'Jobs, all threads', 'Stitching', 'System, one', 'System, all',
-         'Faults, one', 'Faults, all', 'By medians', 'By bests']
+         'Faults, one', 'Faults, all', 'By medians', 'By bests', 'Computing in C, by medians', 'By bests']
+# The jobs' threads are twice the processors, so they are halved that often.
+HALVINGS = (2 * len(os.sched_getaffinity(0))).bit_length() - 1
 
 
 def timed(path, side, threads):
@@ -34,17 +38,32 @@ def timed(path, side, threads):
     return {**parts, 'tiles': tiles, 'system': usage.ru_stime * 1000, 'faults': usage.ru_minflt}
 
 
-def measured(paths, layouts, rounds):
-    """The figures of each round, by layout and by threads."""
-    found = {(layout, threads): [] for layout in layouts for threads in ('one', 'all')}
+def computed(program, steps, halvings):
+    """The milliseconds of that many steps of computing, on one thread where they are not halved."""
+    output = subprocess.run([program, str(steps), str(halvings)], stdout=subprocess.PIPE, text=True, check=True).stdout
+    return float(output.split()[0])
+
+
+def steps_for(program, milliseconds):
+    """How many steps take about that long on one thread."""
+    trial = 10 ** 7
+    return int(trial * milliseconds / min(computed(program, trial, 0) for _ in range(5)))
+
+
+def measured(program, paths, layouts, rounds):
+    """The figures of each round, by layout and by threads, and those of computing for as long."""
+    found = {(layout, threads): [] for layout in layouts for threads in ('one', 'all', 'computed one', 'computed all')}
+    steps = {it: steps_for(program, timed(paths[it], it[2], 'one')['jobs']) for it in layouts}
     for turn in range(rounds):
         for layout in layouts:
             for threads in (('one', 'all') if turn % 2 == 0 else ('all', 'one')):
                 found[layout, threads].append(timed(paths[layout], layout[2], threads))
+                halvings = HALVINGS if threads == 'all' else 0
+                found[layout, f'computed {threads}'].append({'jobs': computed(program, steps[layout], halvings)})
     return found
 
 
-def row(layout, one, every):
+def row(layout, one, every, computed_one, computed_all):
     def both(figures, part):
         values = [it[part] for it in figures]
         return f'{statistics.median(values):.1f} ({min(values):.1f})'
@@ -52,13 +71,14 @@ def row(layout, one, every):
     def middle(figures, part):
         return f'{statistics.median(it[part] for it in figures):.0f}'
 
-    def times(of):
+    def times(of, one=one, every=every):
         return f'{of(it["jobs"] for it in one) / of(it["jobs"] for it in every):.2f}'
 
     kind, count, side = layout
     return [f'{kind} {count}, side {side}', str(one[0]['tiles']), both(one + every, 'cut'), both(one, 'jobs'),
             both(every, 'jobs'), both(one + every, 'stitch'), middle(one, 'system'), middle(every, 'system'),
-            middle(one, 'faults'), middle(every, 'faults'), times(statistics.median), times(min)]
+            middle(one, 'faults'), middle(every, 'faults'), times(statistics.median), times(min),
+            times(statistics.median, computed_one, computed_all), times(min, computed_one, computed_all)]
 
 
 def main(words):
@@ -68,11 +88,15 @@ def main(words):
         paths = {layout: os.path.join(folder, '-'.join(map(str, layout))) for layout in asked}
         for kind, count, side in asked:
             runs.make(paths[kind, count, side], kind, count)
-        found = measured(paths, asked, rounds)
+        program = os.path.join(folder, 'computing')
+        source = os.path.join(os.path.dirname(os.path.abspath(__file__)), 'threads.c')
+        subprocess.run(['cc', '-O2', '-pthread', '-o', program, source], check=True)
+        found = measured(program, paths, asked, rounds)
     print('| ' + ' | '.join(HEADS) + ' |')
     print('|' + '-|' * len(HEADS))
     for layout in asked:
-        print('| ' + ' | '.join(row(layout, found[layout, 'one'], found[layout, 'all'])) + ' |')
+        figures = (found[layout, threads] for threads in ('one', 'all', 'computed one', 'computed all'))
+        print('| ' + ' | '.join(row(layout, *figures)) + ' |')
 
 
 if __name__ == '__main__':
