@@ -59,7 +59,7 @@ impl Orient {
     }
 
     /// The orientation that is this one and then `next`.
-    #[tactic(auto, using(crate::proofs::Turns::negations), unfolding(crate::specs::Placing::oriented_point, crate::specs::Placing::oriented_square))]
+    #[tactic(auto, unfolding(crate::specs::Placing::oriented_point, crate::specs::Placing::oriented_square))]
     pub fn then(self, next: Orient) -> Orient
         ensures points { (p : Point) → oriented_point result p ≡ oriented_point next (oriented_point self p) }
         ensures squares { (s : Square) → oriented_square result s ≡ oriented_square next (oriented_square self s) }
@@ -67,12 +67,12 @@ impl Orient {
         match next {
             Orient::R0 => self,
             Orient::R90 => self.turn(),
-            Orient::R180 => self.turn().turn(),
-            Orient::R270 => self.turn().turn().turn(),
+            Orient::R180 => self.turn_twice(),
+            Orient::R270 => self.turn_twice().turn(),
             Orient::M0 => self.mirror(),
             Orient::M90 => self.mirror().turn(),
-            Orient::M180 => self.mirror().turn().turn(),
-            Orient::M270 => self.mirror().turn().turn().turn(),
+            Orient::M180 => self.mirror().turn_twice(),
+            Orient::M270 => self.mirror().turn_twice().turn(),
         }
     }
 
@@ -91,6 +91,13 @@ impl Orient {
             Orient::M180 => Orient::M270,
             Orient::M270 => Orient::M0,
         }
+    }
+
+    fn turn_twice(self) -> Orient
+        ensures points { (p : Point) → oriented_point result p ≡ turned_point (turned_point (oriented_point self p)) }
+        ensures squares { (s : Square) → oriented_square result s ≡ turned_square (turned_square (oriented_square self s)) }
+    {
+        self.turn().turn()
     }
 
     #[tactic(auto, using(crate::proofs::Turns::negations), unfolding(crate::specs::Placing::oriented_point, crate::specs::Placing::oriented_square))]

@@ -43,7 +43,6 @@ pub enum Orient {
 }
 
 impl Box2 {
-    #[tactic(auto, unfolding(crate::specs::Plane::box_between))]
     /// The box that has the two points as opposite corners, in whichever order.
     pub fn between(p: Point, q: Point) -> Box2
         ensures { result ≡ box_between p q }
