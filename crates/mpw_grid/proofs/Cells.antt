@@ -99,8 +99,12 @@ unfolding rows
 counted_rows g n f k e =
     ap (λ (n : ℕ). n + 1) (counted g.side n g.extent.y0 g.extent.y1 f k e)
 
--- the sides that are counted of a grid as it is kept, up to a point of the grid that is seen: fewer than that one's columns or rows, and
--- few enough to be numbered
+-- fewer than the columns or rows of the grid, and few enough to be numbered
+pub record IsBelow (count : Cells → ℕ) (seen : Cells) (n : ℕ) : Type 0 where
+  pub within : n < count seen
+  pub numbered : n < 2 ^ 32
+
+-- the sides that are counted of a grid as it is kept, up to a point of the grid that is seen
 pub counted_below : (count : Cells → ℕ) (low : Cells → ℤ) (at : Point → ℤ)
     → ((g : Cells) (p : Point) → 1 ≤ g.side → has_point g.extent p ≡ true
     → sides_between g.side (low g) (at p) < count g) → ((g : Cells) → count g ≤ cells g)
@@ -108,7 +112,7 @@ pub counted_below : (count : Cells → ℕ) (low : Cells → ℤ) (at : Point �
     → IsGrid kept columns rows → has_point seen.extent p ≡ true → SFits w64 (low kept)
     → SFits w64 (at p)
     → n ≡ sides_between kept.side (to_z w64 (of_z w64 (low kept))) (to_z w64 (of_z w64 (at p)))
-    → (n < count seen) × (n < 2 ^ 32)
+    → IsBelow count seen n
 counted_below count low at found few kept seen p n columns rows is grid inside f k e =
     let here = counted kept.side n (low kept) (at p) f k e in
     let below : sides_between kept.side (low kept) (at p) < count kept = found kept p grid.side
@@ -116,7 +120,10 @@ counted_below count low at found few kept seen p n columns rows is grid inside f
     let q : count kept ≤ cells kept = few kept in
     let numbered = grid.few in
     let first : n < count kept = subst (λ (m : ℕ). m < count kept) (sym here) below in
-    (subst (λ (g : Cells). n < count g) is first, omega (arith, first, q, numbered))
+    record {
+      within = subst (λ (g : Cells). n < count g) is first;
+      numbered = omega (arith, first, q, numbered);
+    }
 
 in_found : (g : Cells) (p : Point) → 1 ≤ g.side → PointIn g.extent p
     → SquareIn (core_at g (sides_between g.side g.extent.x0 p.x)
