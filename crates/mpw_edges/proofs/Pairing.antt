@@ -142,7 +142,7 @@ above_in edges n e h c = All-contains (λ (x : Edge). (get_or edges 0 no_edge).y
     (drop n edges) e (h.above no_edge) c
 
 -- the band of the first list that ends first has no pairs above the other band
-pub past_from : (old new : List Run) (side : ℕ) (limits : Limits) (froms tos : List Edge) (m n : ℕ)
+past_from : (old new : List Run) (side : ℕ) (limits : Limits) (froms tos : List Edge) (m n : ℕ)
     → IsBand froms m → IsBand tos n → (get_or froms 0 no_edge).y1 ≤ℤ (get_or tos 0 no_edge).y1
     → Adds old new (IsPairOf side limits (take m froms) (take n tos))
     → Moves old (IsPairOf side limits froms tos) new (IsPairOf side limits (drop m froms) tos)
@@ -170,7 +170,7 @@ past_from old new side limits froms tos m n f t first g =
     whole line j (inr p) = held_drop (λ from. IsPairFrom side limits tos from line j) froms m p
 
 -- the same for the second list
-pub past_to : (old new : List Run) (side : ℕ) (limits : Limits) (froms tos : List Edge) (m n : ℕ)
+past_to : (old new : List Run) (side : ℕ) (limits : Limits) (froms tos : List Edge) (m n : ℕ)
     → IsBand froms m → IsBand tos n → (get_or tos 0 no_edge).y1 ≤ℤ (get_or froms 0 no_edge).y1
     → Adds old new (IsPairOf side limits (take m froms) (take n tos))
     → Moves old (IsPairOf side limits froms tos) new (IsPairOf side limits froms (drop n tos))
@@ -282,7 +282,7 @@ past_low_to runs side limits froms tos n h low =
     (Moves-start runs (IsPairOf side limits froms tos))
 
 -- bands that end together have no further pairs
-pub past_both : (old new : List Run) (side : ℕ) (limits : Limits) (froms tos : List Edge) (m n : ℕ)
+past_both : (old new : List Run) (side : ℕ) (limits : Limits) (froms tos : List Edge) (m n : ℕ)
     → IsBand froms m → IsBand tos n → (get_or froms 0 no_edge).y1 ≡ (get_or tos 0 no_edge).y1
     → Adds old new (IsPairOf side limits (take m froms) (take n tos))
     → Moves old (IsPairOf side limits froms tos) new
@@ -294,6 +294,27 @@ past_both old new side limits froms tos m n f t same g =
     let rows = (rows_in tos n to t d).1 in
     omega (arith, ints, above, rows, same))
     (past_from old new side limits froms tos m n f t (omega (arith, ints, same)) g)
+
+-- what the pairs of two bands leave to find, by which of the bands ends first
+pub record Passes (old new : List Run) (side : ℕ) (limits : Limits) (froms tos : List Edge)
+    (m n : ℕ) : Type 0 where
+  pub both : (get_or froms 0 no_edge).y1 ≡ (get_or tos 0 no_edge).y1
+      → Moves old (IsPairOf side limits froms tos) new
+      (IsPairOf side limits (drop m froms) (drop n tos))
+  pub from : (get_or froms 0 no_edge).y1 ≤ℤ (get_or tos 0 no_edge).y1
+      → Moves old (IsPairOf side limits froms tos) new (IsPairOf side limits (drop m froms) tos)
+  pub to : (get_or tos 0 no_edge).y1 ≤ℤ (get_or froms 0 no_edge).y1
+      → Moves old (IsPairOf side limits froms tos) new (IsPairOf side limits froms (drop n tos))
+
+pub past : (old new : List Run) (side : ℕ) (limits : Limits) (froms tos : List Edge) (m n : ℕ)
+    → IsBand froms m → IsBand tos n
+    → Adds old new (IsPairOf side limits (take m froms) (take n tos))
+    → Passes old new side limits froms tos m n
+past old new side limits froms tos m n f t g = record {
+  both = λ e. past_both old new side limits froms tos m n f t e g;
+  from = λ e. past_from old new side limits froms tos m n f t e g;
+  to = λ e. past_to old new side limits froms tos m n f t e g;
+}
 
 pub Moves-on : (old mid new : List Run) (P : Line → ℤ → Type 0) (side : ℕ) (limits : Limits)
     (froms tos F T : List Edge) (i j m n : ℕ) → F ≡ drop i froms → T ≡ drop j tos

@@ -2,6 +2,7 @@ use Rattle.std.proofs.Common.{◌≡◌, ℕ, ◌+◌, ◌≤◌, ℤ, pos, ◌-
 use Rattle.std.specs.Prelude.{◌↔◌, ◌⊎◌}
 use Rattle.std.proofs.lemmas.Int.{ints}
 use Rattle.mpw_geom.specs.declared.plane.Box2.{Box2}
+use Rattle.mpw_region.specs.Exchange.{exchanged_box}
 use Rattle.mpw_deck.specs.declared.rule.Rule.{Rule}
 use Rattle.mpw_deck.specs.declared.rule.Check.{Check}
 use Rattle.mpw_deck.specs.declared.rule.Check.TheVariants.{Width, Space, Separation, Enclosing}
@@ -10,7 +11,7 @@ use Rattle.mpw_edges.specs.declared.run.Axis.TheVariants.{V, H}
 use Rattle.mpw_edges.specs.declared.run.Piece.{Piece}
 use Rattle.mpw_edges.specs.Edges.{Squares, exchanged, IsRise, IsFall}
 use Rattle.mpw_edges.specs.Steps.{IsPair}
-use Rattle.mpw_edges.specs.Pieces.{HasVerticalStep, HasStep, IsPiece, exchanged_box}
+use Rattle.mpw_edges.specs.Pieces.{HasVerticalStep, HasStep, IsPiece}
 use Rattle.mpw_edges.specs.Laws.{widened, AreSameIn, other_axis, exchanged_piece}
 use Rattle.mpw_edges.proofs.Maximal.{run_of_piece, piece_of_run}
 

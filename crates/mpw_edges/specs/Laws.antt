@@ -1,12 +1,13 @@
 -- Laws of the definitions alone.
 use Rattle.std.specs.Prelude.{◌≡◌, ℕ, ◌+◌, ◌≤◌, ℤ, pos, ◌+ℤ◌, ◌-ℤ◌, ◌≤ℤ◌, ◌<ℤ◌, ◌↔◌}
 use Rattle.mpw_geom.specs.declared.plane.Box2.{Box2}
+use Rattle.mpw_region.specs.Exchange.{exchanged_box}
 use Rattle.mpw_deck.specs.declared.rule.Rule.{Rule}
 use Rattle.mpw_edges.specs.declared.run.Axis.{Axis}
 use Rattle.mpw_edges.specs.declared.run.Axis.TheVariants.{V, H}
 use Rattle.mpw_edges.specs.declared.run.Piece.{Piece}
 use Rattle.mpw_edges.specs.Edges.{Squares, exchanged}
-use Rattle.mpw_edges.specs.Pieces.{IsPiece, exchanged_box}
+use Rattle.mpw_edges.specs.Pieces.{IsPiece}
 
 abbrev pub other_axis : Axis → Axis
 other_axis V = H

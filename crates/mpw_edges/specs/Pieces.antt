@@ -5,6 +5,7 @@ use Rattle.std.specs.declared.cmp.Ordering.{Ordering}
 use Rattle.std.specs.declared.cmp.Ordering.TheVariants.{Less, Equal, Greater}
 use Rattle.mpw_geom.specs.declared.plane.Box2.{Box2}
 use Rattle.mpw_region.specs.declared.runs.Run.{Run}
+use Rattle.mpw_region.specs.Exchange.{exchanged_box}
 use Rattle.mpw_deck.specs.declared.rule.Rule.{Rule}
 use Rattle.mpw_edges.specs.declared.run.Axis.{Axis}
 use Rattle.mpw_edges.specs.declared.run.Axis.TheVariants.{V, H}
@@ -15,10 +16,6 @@ use Rattle.mpw_edges.specs.Steps.{IsPairStep}
 -- the point lies in the half-open core
 abbrev pub IsInCore : Box2 → ℤ → ℤ → Type 0
 IsInCore core x y = (core.x0 ≤ℤ x) × (x <ℤ core.x1) × (core.y0 ≤ℤ y) × (y <ℤ core.y1)
-
--- the box with its coordinates exchanged
-abbrev pub exchanged_box : Box2 → Box2
-exchanged_box b = record { x0 = b.y0; y0 = b.x0; x1 = b.y1; y1 = b.x1 }
 
 -- a pair step between vertical edges, whose lower left point lies in the core
 abbrev pub HasVerticalStep : Rule → Squares → Squares → Box2 → ℕ → ℤ → ℤ → ℤ → Type 0

@@ -12,7 +12,6 @@ ghost use Rattle.mpw_edges.specs.Pieces.{
   HasVerticalStep,
   IsPiece,
   ComesBefore,
-  exchanged_box,
   piece_of,
 };
 
@@ -20,7 +19,7 @@ use crate::edges::runs;
 use crate::run::{Axis, Piece};
 use mpw_deck::Rule;
 use mpw_geom::Box2;
-use mpw_region::{Bands, Run, join_runs};
+use mpw_region::{Bands, Run, exchanged_box, join_runs};
 use std::alloc::{AllocError, Global};
 
 /// The maximal runs of rows with a pair step between vertical edges of bands, whose boxes are given: the line
@@ -47,18 +46,6 @@ pub fn vertical_steps(
 {
     let found = runs(alloc, rule, first, second, core)?;
     join_runs(alloc, found)
-}
-
-/// The box with its coordinates exchanged.
-fn exchanged_box(b: &Box2) -> Box2
-    ensures { result ≡ exchanged_box b.now }
-{
-    Box2 {
-        x0: b.y0,
-        y0: b.x0,
-        x1: b.y1,
-        y1: b.x1,
-    }
 }
 
 /// The maximal runs of rows with a pair step of the rule on the axis inside the core.

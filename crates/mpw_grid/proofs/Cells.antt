@@ -1,11 +1,12 @@
 -- The cells of a grid: their numbers, and which core has a point.
-use Rattle.std.proofs.Common.{◌≡◌, ℕ, ◌+◌, ◌*◌, ◌/◌, ◌%◌, ◌≤◌, ◌<◌, ◌∙◌, sym, ap, subst, true, arith}
+use Rattle.std.proofs.Common.{◌≡◌, ℕ, ℤ, ◌+◌, ◌*◌, ◌/◌, ◌%◌, ◌^◌, ◌≤◌, ◌<◌, ◌∙◌, sym, ap, subst, true, arith, w64, SFits, to_z, of_z}
+use Rattle.std.proofs.lemmas.Int.{to_z-of_z}
 use Rattle.std.proofs.lemmas.Nat.{mul-add-lt, div-mul-add, mod-mul-add, div_below, mod_below}
 use Rattle.mpw_geom.specs.declared.plane.Box2.{Box2}
 use Rattle.mpw_geom.specs.declared.plane.Point.{Point}
 use Rattle.mpw_geom.specs.Plane.{has_point, has_square}
 use Rattle.mpw_geom.proofs.Tests.{PointIn, PointIn-from_test, SquareIn, SquareIn-from_test, test_from_SquareIn}
-use Rattle.mpw_grid.specs.Grid.{Cells, sides_between, columns, rows, cells, core_at, core_of, column_of, row_of, found_cell, square_at, IsOnlyCell}
+use Rattle.mpw_grid.specs.Grid.{Cells, sides_between, columns, rows, cells, core_at, core_of, column_of, row_of, found_cell, square_at, IsOnlyCell, IsGrid}
 use Rattle.mpw_grid.proofs.Intervals.{found_low, found_high, found_only, found_within}
 
 -- ---- numbers
@@ -79,19 +80,50 @@ pub found_rows : (g : Cells) (p : Point) → 1 ≤ g.side → has_point g.extent
     → sides_between g.side g.extent.y0 p.y < rows g
 found_rows g p h i = found_row g p h (PointIn-from_test g.extent p i)
 
--- the sides that are counted of a grid as it is kept, up to a point of the grid that is seen: fewer than that one's columns or rows, and
--- than its cells
-pub counted_below : (count : Cells → ℕ) (sides : Cells → Point → ℕ)
-    → ((g : Cells) (p : Point) → 1 ≤ g.side → has_point g.extent p ≡ true → sides g p < count g)
-    → ((g : Cells) → count g ≤ cells g) → (kept seen : Cells) (p : Point) (n : ℕ) → kept ≡ seen
-    → 1 ≤ kept.side → has_point seen.extent p ≡ true → n ≡ sides kept p
-    → (n < count seen) × (n < cells kept)
-counted_below count sides found few kept seen p n is side inside e =
-    let below : sides kept p < count kept = found kept p side
+-- sides that are counted between signed coordinates
+counted : (s n : ℕ) (a b : ℤ) → SFits w64 a → SFits w64 b
+    → n ≡ sides_between s (to_z w64 (of_z w64 a)) (to_z w64 (of_z w64 b)) → n ≡ sides_between s a b
+counted s n a b f k e = simp to_z-of_z at e
+
+pub counted_columns : (g : Cells) (n : ℕ) → SFits w64 g.extent.x0 → SFits w64 g.extent.x1
+    → n ≡ sides_between g.side (to_z w64 (of_z w64 g.extent.x0)) (to_z w64 (of_z w64 g.extent.x1))
+    → n + 1 ≡ columns g
+unfolding columns
+counted_columns g n f k e =
+    ap (λ (n : ℕ). n + 1) (counted g.side n g.extent.x0 g.extent.x1 f k e)
+
+pub counted_rows : (g : Cells) (n : ℕ) → SFits w64 g.extent.y0 → SFits w64 g.extent.y1
+    → n ≡ sides_between g.side (to_z w64 (of_z w64 g.extent.y0)) (to_z w64 (of_z w64 g.extent.y1))
+    → n + 1 ≡ rows g
+unfolding rows
+counted_rows g n f k e =
+    ap (λ (n : ℕ). n + 1) (counted g.side n g.extent.y0 g.extent.y1 f k e)
+
+-- fewer than the columns or rows of the grid, and few enough to be numbered
+pub record IsBelow (count : Cells → ℕ) (seen : Cells) (n : ℕ) : Type 0 where
+  pub within : n < count seen
+  pub numbered : n < 2 ^ 32
+
+-- the sides that are counted of a grid as it is kept, up to a point of the grid that is seen
+pub counted_below : (count : Cells → ℕ) (low : Cells → ℤ) (at : Point → ℤ)
+    → ((g : Cells) (p : Point) → 1 ≤ g.side → has_point g.extent p ≡ true
+    → sides_between g.side (low g) (at p) < count g) → ((g : Cells) → count g ≤ cells g)
+    → (kept seen : Cells) (p : Point) (n columns rows : ℕ) → kept ≡ seen
+    → IsGrid kept columns rows → has_point seen.extent p ≡ true → SFits w64 (low kept)
+    → SFits w64 (at p)
+    → n ≡ sides_between kept.side (to_z w64 (of_z w64 (low kept))) (to_z w64 (of_z w64 (at p)))
+    → IsBelow count seen n
+counted_below count low at found few kept seen p n columns rows is grid inside f k e =
+    let here = counted kept.side n (low kept) (at p) f k e in
+    let below : sides_between kept.side (low kept) (at p) < count kept = found kept p grid.side
     (subst (λ (g : Cells). has_point g.extent p ≡ true) (sym is) inside) in
     let q : count kept ≤ cells kept = few kept in
-    let here : n < count kept = subst (λ (m : ℕ). m < count kept) (sym e) below in
-    (subst (λ (g : Cells). n < count g) is here, omega (arith, here, q))
+    let numbered = grid.few in
+    let first : n < count kept = subst (λ (m : ℕ). m < count kept) (sym here) below in
+    record {
+      within = subst (λ (g : Cells). n < count g) is first;
+      numbered = omega (arith, first, q, numbered);
+    }
 
 in_found : (g : Cells) (p : Point) → 1 ≤ g.side → PointIn g.extent p
     → SquareIn (core_at g (sides_between g.side g.extent.x0 p.x)

@@ -5,13 +5,13 @@ use Rattle.std.specs.Int.{int_max}
 use Rattle.std.proofs.lemmas.Int.{ints, clamps}
 use Rattle.mpw_geom.proofs.Boxes.{same_box}
 use Rattle.mpw_geom.specs.declared.plane.Box2.{Box2}
-use Rattle.mpw_geom.specs.Plane.{Square, HasArea}
+use Rattle.mpw_geom.specs.Plane.{Square, HasArea, IsCoordinate}
 use Rattle.mpw_geom.proofs.Tests.{SquareIn-from_test, test_from_SquareIn}
 use Rattle.mpw_grid.specs.Grid.{Cells, columns, rows, cells, core_at, core_of, column_of, row_of, ShareSquare, IsGrid, IsBoxWithin}
 use Rattle.mpw_grid.proofs.Intervals.{begins_within}
 use Rattle.mpw_grid.proofs.Cells.{column_within, row_within}
 
-pub column_short : (g : Cells) (n k column : ℕ) → IsGrid g n k → column < columns g
+column_short : (g : Cells) (n k column : ℕ) → IsGrid g n k → column < columns g
     → column * g.side ≤ 2 ^ 49
 unfolding columns
 column_short g n k column h u =
@@ -20,7 +20,7 @@ column_short g n k column h u =
     let r = h.plane.x1.high in
     omega (arith, ints)
 
-pub row_short : (g : Cells) (n k row : ℕ) → IsGrid g n k → row < rows g → row * g.side ≤ 2 ^ 49
+row_short : (g : Cells) (n k row : ℕ) → IsGrid g n k → row < rows g → row * g.side ≤ 2 ^ 49
 unfolding rows
 row_short g n k row h u =
     let p = begins_within g.extent.y0 g.extent.y1 g.side row h.side h.ordered.y u in
@@ -28,26 +28,50 @@ row_short g n k row h u =
     let r = h.plane.y1.high in
     omega (arith, ints)
 
-pub columns_short : (g : Cells) (n k cell : ℕ) → IsGrid g n k → cell % n * g.side ≤ 2 ^ 49
-columns_short g n k cell h = subst (λ (m : ℕ). cell % m * g.side ≤ 2 ^ 49) (sym h.columns_are)
-    (column_short g n k (column_of g cell) h (column_within g cell))
+-- where a core begins along one axis, reckoned of a grid as it is kept: n sides from its lowest coordinate
+pub record Begins (low : Cells → ℤ) (place : Cells → ℕ → ℕ) (kept seen : Cells) (cell n : ℕ) :
+    Type 0 where
+  pub short : n * kept.side ≤ 2 ^ 49
+  pub plane : IsCoordinate (low kept)
+  pub is : low kept +ℤ pos (n * kept.side) ≡ low seen +ℤ pos (place seen cell * seen.side)
+  pub seen_short : place seen cell * seen.side ≤ 2 ^ 49
 
-pub rows_short : (g : Cells) (n k cell : ℕ) → IsGrid g n k → cell < cells g
-    → cell / n * g.side ≤ 2 ^ 49
-rows_short g n k cell h u = subst (λ (m : ℕ). cell / m * g.side ≤ 2 ^ 49) (sym h.columns_are)
-    (row_short g n k (row_of g cell) h (row_within g cell u))
+begins : (low : Cells → ℤ) (place : Cells → ℕ → ℕ) (kept seen : Cells) (cell n : ℕ) → kept ≡ seen
+    → n ≡ place kept cell → place kept cell * kept.side ≤ 2 ^ 49 → IsCoordinate (low kept)
+    → Begins low place kept seen cell n
+begins low place kept seen cell n is e h plane =
+    subst (λ (g : Cells). Begins low place kept g cell n) is (record {
+      short = subst (λ (m : ℕ). m * kept.side ≤ 2 ^ 49) (sym e) h;
+      plane = plane;
+      is = ap (λ (m : ℕ). low kept +ℤ pos (m * kept.side)) e;
+      seen_short = h;
+    })
 
--- where a core begins, by the columns that are kept
-pub left_is : (g : Cells) (n k cell : ℕ) (x : ℤ) → IsGrid g n k
-    → x ≡ g.extent.x0 +ℤ pos (cell % n * g.side)
-    → x ≡ g.extent.x0 +ℤ pos (column_of g cell * g.side)
-left_is g n k cell x h e =
-    e ∙ ap (λ (m : ℕ). g.extent.x0 +ℤ pos (cell % m * g.side)) h.columns_are
+abbrev pub BeginsLeft : (kept seen : Cells) (cell n : ℕ) → Type 0
+BeginsLeft = Begins (λ g. g.extent.x0) column_of
 
-pub bottom_is : (g : Cells) (n k cell : ℕ) (y : ℤ) → IsGrid g n k
-    → y ≡ g.extent.y0 +ℤ pos (cell / n * g.side) → y ≡ g.extent.y0 +ℤ pos (row_of g cell * g.side)
-bottom_is g n k cell y h e =
-    e ∙ ap (λ (m : ℕ). g.extent.y0 +ℤ pos (cell / m * g.side)) h.columns_are
+abbrev pub BeginsBelow : (kept seen : Cells) (cell n : ℕ) → Type 0
+BeginsBelow = Begins (λ g. g.extent.y0) row_of
+
+pub begins_left : (kept seen : Cells) (n k cell : ℕ) → kept ≡ seen → IsGrid kept n k
+    → BeginsLeft kept seen cell (cell % n)
+begins_left kept seen n k cell is h =
+    begins (λ g. g.extent.x0) column_of kept seen cell (cell % n) is
+    (ap (λ (m : ℕ). cell % m) h.columns_are)
+    (column_short kept n k (column_of kept cell) h (column_within kept cell)) h.plane.x0
+
+pub begins_below : (kept seen : Cells) (n k cell : ℕ) → kept ≡ seen → IsGrid kept n k
+    → cell < cells seen → BeginsBelow kept seen cell (cell / n)
+begins_below kept seen n k cell is h u =
+    begins (λ g. g.extent.y0) row_of kept seen cell (cell / n) is
+    (ap (λ (m : ℕ). cell / m) h.columns_are)
+    (row_short kept n k (row_of kept cell) h (row_within kept cell
+    (subst (λ (g : Cells). cell < cells g) (sym is) u))) h.plane.y0
+
+pub begins_at : (low : Cells → ℤ) (place : Cells → ℕ → ℕ) (kept seen : Cells) (cell n : ℕ) (z : ℤ)
+    → Begins low place kept seen cell n → z ≡ low kept +ℤ pos (n * kept.side)
+    → z ≡ low seen +ℤ pos (place seen cell * seen.side)
+begins_at low place kept seen cell n z b e = e ∙ b.is
 
 -- the core of a cell, by where it begins
 pub core_is : (g : Cells) (cell : ℕ) (b : Box2) (x y : ℤ)

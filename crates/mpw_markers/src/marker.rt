@@ -3,6 +3,7 @@
 ghost use Rattle.std.specs.Prelude.{◌≡◌, ◌==◌, [], length, IfOk, All};
 ghost use Rattle.mpw_markers.specs.Met.{IsAscending};
 ghost use Rattle.mpw_markers.specs.Markers.{line_of, line_of_key, key_of, box_of, IsFilled};
+ghost use Rattle.mpw_markers.specs.Internal.Runs.{marker_of};
 
 use crate::met::Met;
 use mpw_edges::Axis;
@@ -76,6 +77,22 @@ impl Key {
             x2: self.x2,
         }
     }
+
+    /// The marker of this key that meets these submissions.
+    pub(crate) fn with(&self, met: Met) -> Marker
+        ensures { result ≡ marker_of self.now met }
+    {
+        Marker {
+            rule: self.rule,
+            axis: self.axis,
+            side: self.side,
+            x1: self.x1,
+            x2: self.x2,
+            y0: self.y0,
+            y1: self.y1,
+            met,
+        }
+    }
 }
 
 impl Marker {
@@ -129,16 +146,8 @@ impl Marker {
         ensures same { IfOk result (λ marker. marker ≡ self.now) }
         ensures ascending { IsAscending self.now.met }
     {
-        Ok(Marker {
-            rule: self.rule,
-            axis: self.axis,
-            side: self.side,
-            x1: self.x1,
-            x2: self.x2,
-            y0: self.y0,
-            y1: self.y1,
-            met: self.met.copy()?,
-        })
+        let met = self.met.copy()?;
+        Ok(self.key().with(met))
     }
 }
 

@@ -6,7 +6,7 @@
 ghost use Rattle.std.specs.Prelude.{◌≡◌, ◌≤◌, ◌++◌, ◌<ℤ◌, ◌≤ℤ◌, ◌↔◌, length, IfOk, OnOk, All, Contains, IsTrue, MatchBool};
 ghost use Rattle.std.specs.List.{flat_map};
 ghost use Rattle.std.specs.List.Sorted.{IsPermutation};
-ghost use Rattle.mpw_markers.specs.Markers.{line_of, line_of_key, key_of, IsFilled};
+ghost use Rattle.mpw_markers.specs.Markers.{line_of, line_of_key, IsFilled};
 ghost use Rattle.mpw_markers.specs.Internal.Order.{AreInOrder};
 ghost use Rattle.mpw_markers.specs.Stitched.{IsJoined, IsStitched};
 ghost use Rattle.mpw_markers.specs.Internal.Runs.{lengthened, AreMetBy, IsFirstRun, AddsRun};
@@ -35,34 +35,12 @@ impl Key {
     }
 
     /// This run, lengthened to the end of the marker.
-    fn lengthened(&self, next: &Marker) -> Key
+    fn longer_key(&self, next: &Marker) -> Key
         ensures { result ≡ lengthened self.now next.now }
     {
         Key {
-            rule: self.rule,
-            axis: self.axis,
-            side: self.side,
-            x1: self.x1,
-            x2: self.x2,
-            y0: self.y0,
             y1: self.y1.max(next.y1),
-        }
-    }
-
-    /// The marker of this key that meets these submissions.
-    fn with(&self, met: Met) -> Marker
-        ensures key { key_of result ≡ self.now }
-        ensures met { result.met ≡ met }
-    {
-        Marker {
-            rule: self.rule,
-            axis: self.axis,
-            side: self.side,
-            x1: self.x1,
-            x2: self.x2,
-            y0: self.y0,
-            y1: self.y1,
-            met,
+            ..*self
         }
     }
 }
@@ -87,7 +65,7 @@ fn count_of(lists: &[TileMarkers]) -> usize {
 }
 
 /// The markers of all lists, one list after another.
-fn gathered(alloc: Global, lists: &[TileMarkers]) -> Result<Vec<Marker>, AllocError>
+fn all_markers(alloc: Global, lists: &[TileMarkers]) -> Result<Vec<Marker>, AllocError>
     ensures markers { IfOk result (λ v. v.items ≡ flat_map (λ list. list) lists.now) }
     ensures filled { IfOk result (λ v. All IsFilled v.items) }
 {
@@ -121,7 +99,7 @@ fn first_run(markers: &[Marker]) -> (usize, Key)
         if !run.reaches(marker) {
             return (count, run);
         }
-        run = run.lengthened(marker);
+        run = run.longer_key(marker);
     }
     (markers.len(), run)
 }
@@ -162,7 +140,7 @@ fn add_run(alloc: Global, book: &mut Vec<Marker>, markers: &[Marker]) -> Result<
 }
 
 /// The markers of all runs, in order.
-fn joined(alloc: Global, markers: &[Marker]) -> Result<Vec<Marker>, AllocError>
+fn join(alloc: Global, markers: &[Marker]) -> Result<Vec<Marker>, AllocError>
     requires filled { All IsFilled markers.now }
     requires ordered { AreInOrder markers.now }
     ensures { IfOk result (λ v. IsJoined (Contains markers.now) v.items) }
@@ -187,8 +165,8 @@ fn joined(alloc: Global, markers: &[Marker]) -> Result<Vec<Marker>, AllocError>
 pub fn stitch(alloc: Global, lists: &[TileMarkers]) -> Result<Book, AllocError>
     ensures { IfOk result (λ book. IsStitched lists.now book) }
 {
-    let all = gathered(alloc, lists)?;
+    let all = all_markers(alloc, lists)?;
     let all = in_order(all)?;
-    let markers = joined(alloc, all.as_slice())?;
+    let markers = join(alloc, all.as_slice())?;
     Book::from_vec(alloc, markers)
 }

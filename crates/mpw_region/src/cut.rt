@@ -44,8 +44,8 @@ pub fn bands(alloc: Global, boxes: &[Box2]) -> Result<Bands, AllocError>
     Ok(Bands::of(rows, columns))
 }
 
-/// The box with its coordinates exchanged.
-fn exchanged_box(b: &Box2) -> Box2
+/// The box with its coordinates exchanged. Takes no memory.
+pub fn exchanged_box(b: &Box2) -> Box2
     ensures { result ≡ exchanged_box b.now }
 {
     Box2 {
@@ -66,15 +66,15 @@ pub fn exchange(alloc: Global, boxes: &[Box2]) -> Result<Vec<Box2>, AllocError>
     boxes.iter().map(|b| exchanged_box(b)).collect(alloc)
 }
 
-/// Whether the box has squares.
-fn has_area(b: &Box2) -> bool
+/// Whether the box has squares. Takes no memory.
+pub fn has_area(b: &Box2) -> bool
     ensures { MatchBool result (HasArea b.now) (HasArea b.now → ⊥) }
 {
     b.x0 < b.x1 && b.y0 < b.y1
 }
 
 /// The boxes that have squares.
-fn filled(alloc: Global, boxes: &[Box2]) -> Result<Vec<Box2>, AllocError>
+fn boxes_with_area(alloc: Global, boxes: &[Box2]) -> Result<Vec<Box2>, AllocError>
     ensures { IfOk result (λ v. HoldsJust boxes.now HasArea v.items) }
 {
     let mut kept = Vec::with_capacity(alloc, boxes.len())?;
@@ -95,7 +95,7 @@ pub fn row_bands(alloc: Global, boxes: &[Box2]) -> Result<Vec<Box2>, AllocError>
     ensures squares { IfOk result (λ v. (i j : ℤ) → covers v.items i j ≡ covers boxes.now i j) }
     ensures banded { IfOk result (λ v. AreBands v.items) }
 {
-    let boxes = filled(alloc, boxes)?;
+    let boxes = boxes_with_area(alloc, boxes)?;
     sweep_up(alloc, boxes)
 }
 
@@ -118,7 +118,7 @@ fn add_next(out: &mut Vec<Box2>, sweep: &mut Sweep, next: i64) -> Result<(), All
 }
 
 /// A sweep of the boxes that has gone up to the lowest of their rows.
-fn begun(alloc: Global, boxes: Vec<Box2>) -> Result<Sweep, AllocError>
+fn sweep_of(alloc: Global, boxes: Vec<Box2>) -> Result<Sweep, AllocError>
     requires { All HasArea boxes.items }
     ensures sweeps { IfOk result (λ s. SweepsUp s []) }
     ensures moved { IfOk result (λ s. IsPermutation boxes.items s.boxes.items) }
@@ -136,7 +136,7 @@ fn sweep_up(alloc: Global, boxes: Vec<Box2>) -> Result<Vec<Box2>, AllocError>
     ensures banded { IfOk result (λ v. AreBands v.items) }
 {
     let mut out = Vec::with_capacity(alloc, boxes.len())?;
-    let mut sweep = begun(alloc, boxes)?;
+    let mut sweep = sweep_of(alloc, boxes)?;
     while let Some(next) = sweep.next_border() {
         add_next(&mut out, &mut sweep, next)?;
     }

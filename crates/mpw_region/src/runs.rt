@@ -35,7 +35,7 @@ impl Run {
     }
 
     /// This run, lengthened to the end of the next.
-    fn merged(&self, next: &Run) -> Run
+    fn merge(&self, next: &Run) -> Run
         ensures { result ≡ merged self.now next.now }
     {
         Run {
@@ -82,7 +82,7 @@ fn join(alloc: Global, first: Run, rest: &[Run]) -> Result<Vec<Run>, AllocError>
     let mut last = first;
     for run in rest {
         if last.reaches(run) {
-            last = last.merged(run);
+            last = last.merge(run);
         } else {
             joined.push(last)?;
             last = *run;

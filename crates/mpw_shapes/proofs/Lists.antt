@@ -1,11 +1,13 @@
 -- Lists of boxes.
-use Rattle.std.proofs.Common.{◌≡◌, refl, sym, ◌∙◌, ap, subst, ◌⊎◌, inl, inr, ℕ, zero, suc, ◌<◌, length, get_or, set, ◌≤ℤ◌, Bool, true, false, ◌||◌, List, [], ◌∷◌, ◌++◌, arith, All}
+use Rattle.std.proofs.Common.{◌≡◌, ◌<ℤ◌, refl, sym, ◌∙◌, ap, subst, ◌⊎◌, inl, inr, ℕ, zero, suc, ◌<◌, length, get_or, set, ◌≤ℤ◌, Bool, true, false, ◌||◌, List, [], ◌∷◌, ◌++◌, arith, All}
 use Rattle.std.specs.List.{list_any}
-use Rattle.std.proofs.lemmas.Int.{ints}
+use Rattle.std.proofs.lemmas.Int.{ints, clamps}
+use Rattle.std.proofs.lemmas.List.Elements.{All-set}
 use Rattle.std.proofs.lemmas.List.Folds.{list_any-append}
 use Rattle.std.proofs.lemmas.Bool.{false_from_ne_true, or_cases, or_left, or_right}
 use Rattle.mpw_geom.specs.declared.plane.Box2.{Box2}
-use Rattle.mpw_geom.specs.Plane.{Square, HasArea, any_has_square, has_square}
+use Rattle.mpw_geom.specs.Plane.{Square, HasArea, any_has_square, has_square, joined}
+use Rattle.mpw_geom.proofs.Boxes.{same_box}
 use Rattle.mpw_geom.proofs.Tests.{SquareIn-from_test, test_from_SquareIn, same_tests}
 use Rattle.mpw_shapes.proofs.Counts.{cases_lt_z}
 
@@ -40,7 +42,7 @@ pub any_push_empty : (boxes : List Box2) (b : Box2) (s : Square) → ((b.x1 ≤�
 any_push_empty boxes b s e = or_false (any_has_square boxes s) ∙ rw (empty_box b s e)
 
 -- a box with the rows of the box below it has the squares of both
-pub joined_boxes : (lower upper both : Box2) (s : Square) → HasArea lower → HasArea upper
+joined_boxes : (lower upper both : Box2) (s : Square) → HasArea lower → HasArea upper
     → lower.x0 ≡ upper.x0 → lower.x1 ≡ upper.x1 → lower.y1 ≡ upper.y0
     → both ≡ record { x0 = upper.x0; y0 = lower.y0; x1 = upper.x1; y1 = upper.y1 }
     → has_square both s ≡ (has_square lower s || has_square upper s)
@@ -82,7 +84,7 @@ joined_boxes lower upper both s a b e f g is =
           })
     ])
 
-pub joined_area : (lower upper both : Box2) → HasArea lower → HasArea upper → lower.y1 ≡ upper.y0
+joined_area : (lower upper both : Box2) → HasArea lower → HasArea upper → lower.y1 ≡ upper.y0
     → both ≡ record { x0 = upper.x0; y0 = lower.y0; x1 = upper.x1; y1 = upper.y1 } → HasArea both
 joined_area lower upper both a b g is =
     rw is (record { width = b.width; height = omega (arith, ints, a.height, b.height, g) })
@@ -110,12 +112,41 @@ list_any-set p (x ∷ xs) zero y d b h e = any_first p x xs y b e
 list_any-set p (x ∷ xs) (suc k) y d b h e =
     rw (list_any-set p xs k y d b (omega (arith, h)) e) (or_group (p x) (list_any p xs) b)
 
-pub any-set : (boxes : List Box2) (k : ℕ) (y d : Box2) (b : Bool) (s : Square) → k < length boxes
+any-set : (boxes : List Box2) (k : ℕ) (y d : Box2) (b : Bool) (s : Square) → k < length boxes
     → has_square y s ≡ (has_square (get_or boxes k d) s || b)
     → any_has_square (set boxes k y) s ≡ (any_has_square boxes s || b)
 unfolding any_has_square
 any-set boxes k y d b s h e = list_any-set (λ x. has_square x s) boxes k y d b h e
 
-pub area_at : (boxes : List Box2) (k : ℕ) (b : Box2) → All HasArea boxes → k < length boxes
+area_at : (boxes : List Box2) (k : ℕ) (b : Box2) → All HasArea boxes → k < length boxes
     → b ≡ get_or boxes k b → HasArea b
 area_at boxes k b all h e = subst HasArea (sym e) (all k b h)
+
+-- the least box that holds both, where one lies on the other and is as wide
+stacked_is : (lower upper both : Box2) → HasArea lower → HasArea upper → lower.x0 ≡ upper.x0
+    → lower.x1 ≡ upper.x1 → lower.y1 ≡ upper.y0 → both ≡ joined lower upper
+    → both ≡ record { x0 = upper.x0; y0 = lower.y0; x1 = upper.x1; y1 = upper.y1 }
+stacked_is lower upper both a b e f g is =
+    is ∙ same_box _ _ (omega (arith, ints, clamps, e)) (omega (arith, ints, clamps, a.height, g))
+    (omega (arith, ints, clamps, f)) (omega (arith, ints, clamps, b.height, g))
+
+-- in the place of a box stands one with the squares of another too
+pub record Stacks (boxes : List Box2) (k : ℕ) (upper both : Box2) : Type 0 where
+  pub squares : (s : Square)
+      → any_has_square (set boxes k both) s ≡ (any_has_square boxes s || has_square upper s)
+  pub area : All HasArea (set boxes k both)
+
+pub stacks : (boxes : List Box2) (k : ℕ) (lower upper both : Box2) → k < length boxes
+    → All HasArea boxes → lower ≡ get_or boxes k lower → upper.y0 <ℤ upper.y1
+    → lower.x0 ≡ upper.x0 → lower.x1 ≡ upper.x1 → lower.y1 ≡ upper.y0
+    → both ≡ joined lower upper → Stacks boxes k upper both
+stacks boxes k lower upper both h all at high e f g is =
+    let a = area_at boxes k lower all h at in
+    let b : HasArea upper =
+    record { width = omega (arith, ints, a.width, e, f); height = high } in
+    let i = stacked_is lower upper both a b e f g is in
+    record {
+      squares = λ s. any-set boxes k both lower (has_square upper s) s h
+          (rw (sym at) (joined_boxes lower upper both s a b e f g i));
+      area = All-set HasArea boxes k both (joined_area lower upper both a b g i) all;
+    }

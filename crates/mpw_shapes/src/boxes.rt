@@ -29,23 +29,15 @@ pub(crate) fn stack_box(boxes: &mut Vec<Box2>, b: Box2) -> Result<(), AllocError
     }
     let lower = boxes[count - 1];
     if b.y0 < b.y1 && is_continued_by(lower, b) {
-        boxes[count - 1] = joined(lower, b);
+        boxes[count - 1] = lower.join(b);
         return Ok(());
     }
     push_box(boxes, b)
 }
 
+/// Whether the second box lies on the first and is as wide.
 fn is_continued_by(lower: Box2, upper: Box2) -> bool
     ensures { IsTrue result ↔ ((lower.x0 ≡ upper.x0) × (lower.x1 ≡ upper.x1) × (lower.y1 ≡ upper.y0)) }
 {
     lower.x0 == upper.x0 && lower.x1 == upper.x1 && lower.y1 == upper.y0
-}
-
-fn joined(lower: Box2, upper: Box2) -> Box2
-    ensures { result ≡ record { x0 = upper.x0; y0 = lower.y0; x1 = upper.x1; y1 = upper.y1 } }
-{
-    Box2 {
-        y0: lower.y0,
-        ..upper
-    }
 }

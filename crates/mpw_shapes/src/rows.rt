@@ -35,7 +35,7 @@ impl State {
 
     /// The row with more turns round it.
     #[tactic(auto, unfolding(crate::specs::Internal::Rows::raised))]
-    fn raised(self, added: Added) -> State
+    fn raise(self, added: Added) -> State
         requires fits { FitsSigned w64 (self.winding +ℤ added.winding) }
         ensures { result ≡ raised added self }
     {
@@ -50,7 +50,7 @@ impl State {
         requires fits { FitsSigned w64 (self.winding +ℤ (turn_of edge).winding) }
         ensures { result ≡ past edge self }
     {
-        let after = self.raised(edge.turn());
+        let after = self.raise(edge.turn());
         if self.winding == 0 {
             State {
                 since: edge.x,
@@ -110,7 +110,7 @@ impl Gap {
     }
 
     /// The part of both gaps.
-    fn narrowed(self, other: Gap) -> Gap
+    fn intersection(self, other: Gap) -> Gap
         ensures one { (w : ℤ) → IsOutside self w → IsOutside result w }
         ensures other { (w : ℤ) → IsOutside other w → IsOutside result w }
     {
@@ -121,7 +121,7 @@ impl Gap {
     }
 
     /// The gap once this is added to the winding numbers.
-    fn raised(self, added: Added) -> Gap
+    fn raise(self, added: Added) -> Gap
         ensures { (w : ℤ) → FitsSigned w64 (w +ℤ added.winding) → IsOutside self w → IsOutside result (w +ℤ added.winding) }
     {
         Gap {
@@ -175,11 +175,11 @@ impl Rows {
     {
         match self {
             Rows::Alike(state) => {
-                *state = state.raised(added);
+                *state = state.raise(added);
             }
             Rows::Parted(halves) => {
                 halves.added = halves.added.plus(added);
-                halves.gap = halves.gap.raised(added);
+                halves.gap = halves.gap.raise(added);
             }
         }
     }
@@ -227,7 +227,7 @@ pub(crate) fn halves_of(alloc: Global, node: Rows) -> Result<Box<Halves>, AllocE
 }
 
 /// The node of two halves, to which nothing is still to be added. Takes O(1).
-pub(crate) fn joined(mut halves: Box<Halves>) -> Rows
+pub(crate) fn node_of(mut halves: Box<Halves>) -> Rows
     ensures states { (rows : List ℤ) (from to : ℕ) (row : ℤ) → state_at result rows from to row ≡ half_at halves.value.below halves.value.above rows from to row }
     ensures built { (rows : List ℤ) (from to : ℕ) → from + 1 < to → IsBuilt halves.value.below rows from (middle from to) → IsBuilt halves.value.above rows (middle from to) to → IsBuilt result rows from to }
     ensures reach { reach result ≤ℤ int_max (reach halves.value.below) (reach halves.value.above) }
@@ -239,6 +239,6 @@ pub(crate) fn joined(mut halves: Box<Halves>) -> Rows
         return Rows::Alike(below);
     }
     halves.added = Added::NONE;
-    halves.gap = halves.below.gap().narrowed(halves.above.gap());
+    halves.gap = halves.below.gap().intersection(halves.above.gap());
     Rows::Parted(halves)
 }

@@ -13,7 +13,7 @@ ghost use Rattle.mpw_shapes.specs.Internal.Turned.{IsClearIn, Turned};
 
 use crate::boxes::stack_box;
 use crate::edge::Edge;
-use crate::rows::{Rows, State, halves_of, joined};
+use crate::rows::{Rows, State, halves_of, node_of};
 use mpw_geom::Box2;
 use std::alloc::{AllocError, Global};
 use std::mem;
@@ -153,6 +153,6 @@ fn turn_halves(
     let mut halves = halves_of(alloc, whole)?;
     turn(alloc, &mut halves.below, rows, from, middle, edge, boxes)?;
     turn(alloc, &mut halves.above, rows, middle, to, edge, boxes)?;
-    *node = joined(halves);
+    *node = node_of(halves);
     Ok(())
 }

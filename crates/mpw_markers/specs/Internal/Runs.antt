@@ -7,9 +7,9 @@ use Rattle.mpw_markers.specs.Met.{IsAscending}
 use Rattle.mpw_markers.specs.Markers.{line_of_key, key_of, CoversRow, LiesIn}
 use Rattle.mpw_markers.specs.Order.{StandsBefore}
 
--- a marker of that key that meets nothing
-abbrev pub bare : Key → Marker
-bare k = record {
+-- the marker of that key that meets these submissions
+abbrev pub marker_of : Key → List ℕ → Marker
+marker_of k met = record {
   rule = k.rule;
   axis = k.axis;
   side = k.side;
@@ -17,20 +17,16 @@ bare k = record {
   x2 = k.x2;
   y0 = k.y0;
   y1 = k.y1;
-  met = [];
+  met = met;
 }
+
+-- a marker of that key that meets nothing
+abbrev pub bare : Key → Marker
+bare k = marker_of k []
 
 -- the run, lengthened to the end of the marker
 abbrev pub lengthened : Key → Marker → Key
-lengthened k m = record {
-  rule = k.rule;
-  axis = k.axis;
-  side = k.side;
-  x1 = k.x1;
-  x2 = k.x2;
-  y0 = k.y0;
-  y1 = int_max k.y1 m.y1;
-}
+lengthened k m = record k { y1 = int_max k.y1 m.y1 }
 
 -- the run has just the rows of the markers, and each lies in it
 pub record IsRunOf (markers : List Marker) (run : Key) : Type 0 where

@@ -1,5 +1,14 @@
-use Rattle.mpw_edges.proofs.Pairing.{past_low_from, past_low_to, past_from, past_to, past_both}
+use Rattle.mpw_edges.proofs.Pairing.{Passes, past, past_low_from, past_low_to}
 use Rattle.mpw_edges.proofs.pair.add_bands.Goals as goal
+use Rattle.mpw_edges.proofs.pair.add_bands.Goals.{In_ok-add_band_pairs}
+
+passes : (c : In_ok-add_band_pairs) → Passes c.args.runs.now.items
+    c.add_band_pairs.new.runs.items c.args.side c.args.limits.now c.args.froms.now c.args.tos.now
+    c.band_length-band.result c.band_length-other.result
+passes c =
+    past c.args.runs.now.items c.add_band_pairs.new.runs.items c.args.side c.args.limits.now
+    c.args.froms.now c.args.tos.now c.band_length-band.result c.band_length-other.result
+    c.band_length-band.ensures c.band_length-other.ensures c.in_ok-add_band_pairs.ensures
 
 pub returns-then-low-gt0-clause-moves : goal.returns-then-low-gt0-clause-moves
 returns-then-low-gt0-clause-moves c =
@@ -13,21 +22,15 @@ returns-then-lower-gt0-clause-moves c =
 
 pub returns-then-end_together-clause-moves : goal.returns-then-end_together-clause-moves
 returns-then-end_together-clause-moves c =
-    past_both c.args.runs.now.items c.add_band_pairs.new.runs.items c.args.side c.args.limits.now
-    c.args.froms.now c.args.tos.now c.band_length-band.result c.band_length-other.result
-    c.band_length-band.ensures c.band_length-other.ensures c.if-end_together.ensures
-    c.in_ok-add_band_pairs.ensures
+    (passes (goal.at.returns-then-end_together-clause-moves c).In_ok-add_band_pairs).both
+    c.if-end_together.ensures
 
 pub returns-then-ends_first-clause-moves : goal.returns-then-ends_first-clause-moves
 returns-then-ends_first-clause-moves c =
-    past_from c.args.runs.now.items c.add_band_pairs.new.runs.items c.args.side c.args.limits.now
-    c.args.froms.now c.args.tos.now c.band_length-band.result c.band_length-other.result
-    c.band_length-band.ensures c.band_length-other.ensures c.if-ends_first.ensures
-    c.in_ok-add_band_pairs.ensures
+    (passes (goal.at.returns-then-ends_first-clause-moves c).In_ok-add_band_pairs).from
+    c.if-ends_first.ensures
 
 pub returns-else-ends_first-clause-moves : goal.returns-else-ends_first-clause-moves
 returns-else-ends_first-clause-moves c =
-    past_to c.args.runs.now.items c.add_band_pairs.new.runs.items c.args.side c.args.limits.now
-    c.args.froms.now c.args.tos.now c.band_length-band.result c.band_length-other.result
-    c.band_length-band.ensures c.band_length-other.ensures c.if-ends_first.ensures
-    c.in_ok-add_band_pairs.ensures
+    (passes (goal.at.returns-else-ends_first-clause-moves c).In_ok-add_band_pairs).to
+    c.if-ends_first.ensures

@@ -8,9 +8,9 @@ loop-count-init c = started c.args.markers.now c.index-markers-0.result c.key-ru
 pub loop-count-preserved : goal.loop-count-preserved
 loop-count-preserved c =
     let is = c.if-not-reaches.ensures in
-    taken_in c.args.markers.now c.loop-count.count c.loop-count.run c.lengthened-run.result
+    taken_in c.args.markers.now c.loop-count.count c.loop-count.run c.longer_key-run.result
     c.index-markers-count.result c.loop-count.invariant c.loop-count-test.true
-    c.index-markers-count.is c.requires.filled is.0 is.1 c.lengthened-run.ensures
+    c.index-markers-count.is c.requires.filled is.0 is.1 c.longer_key-run.ensures
 
 pub returns-then-not-reaches : goal.returns-then-not-reaches
 returns-then-not-reaches c =

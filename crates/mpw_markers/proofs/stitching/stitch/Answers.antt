@@ -9,8 +9,8 @@ use Rattle.mpw_markers.proofs.Gathered.{same_parts}
 use Rattle.mpw_markers.proofs.Joins.{IsJoined-same}
 use Rattle.mpw_markers.proofs.stitching.stitch.Goals as goal
 
-pub joined-requires-clause-filled : goal.joined-requires-clause-filled
-joined-requires-clause-filled c =
+pub join-requires-clause-filled : goal.join-requires-clause-filled
+join-requires-clause-filled c =
     subst (λ (ms : List Marker). All IsFilled ms) (sym c.as_slice.ensures.value)
     (All-permutation IsFilled c.in_ok-all.all.items c.in_ok-all-2.all.items
     c.in_ok-all-2.ensures.moved c.in_ok-all.ensures.filled)

@@ -25,7 +25,7 @@ loop-run-preserved c =
     elim c.if-reaches.branch [
       | then-reaches w ↦
           let m = when_true _ _ w.if-reaches.true c.reaches.ensures in
-          let is = w.last-is ∙ w.merged-last.ensures in
+          let is = w.last-is ∙ w.merge-last.ensures in
           record {
             joins = rw (w.joined-is, is, more)
                 (Joins-merge c.loop-run.joined.items c.loop-run.last run _ joins m.0

@@ -110,13 +110,13 @@ turn_halves-returns t c =
     let below = rw c.deref_mut.ensures.value at c.in_ok-turn.ensures in
     let above =
     rw (c.deref_mut-2.ensures.value, c.deref_mut.ensures.value) at c.in_ok-turn-2.ensures in
-    let built = rw c.deref_mut-2.ensures.value at c.joined.ensures.built in
-    turned_halves rows from to c.args.edge c.args.node.now c.joined.result
+    let built = rw c.deref_mut-2.ensures.value at c.node_of.ensures.built in
+    turned_halves rows from to c.args.edge c.args.node.now c.node_of.result
     c.in_ok-halves.halves.value.below c.in_ok-halves.halves.value.above c.turn.new.node
     c.turn-2.new.node c.args.boxes.now.items c.turn.new.boxes.items c.turn-2.new.boxes.items
     c.requires.order c.requires.from_below c.requires.in_range
     (λ row. rw e at (c.in_ok-halves.ensures.states rows from to row))
-    (λ row. rw c.deref_mut-2.ensures.value at (c.joined.ensures.states rows from to row)) below
+    (λ row. rw c.deref_mut-2.ensures.value at (c.node_of.ensures.states rows from to row)) below
     above (built rows from to c.requires.order below.built above.built)
     (rw e at c.in_ok-halves.ensures.below) (rw e at c.in_ok-halves.ensures.above)
-    (rw c.deref_mut-2.ensures.value at c.joined.ensures.reach)
+    (rw c.deref_mut-2.ensures.value at c.node_of.ensures.reach)

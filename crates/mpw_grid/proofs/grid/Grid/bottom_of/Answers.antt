@@ -1,45 +1,26 @@
-use Rattle.std.proofs.Common.{◌<◌, sym, subst, arith}
+use Rattle.std.proofs.Common.{arith}
 use Rattle.std.proofs.lemmas.Int.{ints}
-use Rattle.mpw_grid.specs.Grid.{Cells, cells, row_of}
-use Rattle.mpw_grid.proofs.Cells.{row_within}
-use Rattle.mpw_grid.proofs.Cores.{rows_short, row_short, bottom_is}
+use Rattle.mpw_grid.specs.Grid.{row_of}
+use Rattle.mpw_grid.proofs.Cores.{begins_below, begins_at}
 use Rattle.mpw_grid.proofs.grid.Grid.bottom_of.Goals as goal
 
 pub distance-requires : goal.distance-requires
 distance-requires c =
-    let g : Cells = record { extent = c.self.inside.extent; side = c.self.inside.side } in
-    let u : c.args.cell < cells g = subst (λ (g : Cells). c.args.cell < cells g)
-    (sym c.self.view_is) c.requires in
-    let p = rows_short g c.self.inside.columns c.self.inside.rows c.args.cell c.self.invariant u in
+    let b = begins_below _ _ _ _ c.args.cell c.self.view_is c.self.invariant c.requires in
+    let s = b.short in
     omega arith
 
 pub overflow_add-result : goal.overflow_add-result
 overflow_add-result c =
-    let g : Cells = record { extent = c.self.inside.extent; side = c.self.inside.side } in
-    let u : c.args.cell < cells g = subst (λ (g : Cells). c.args.cell < cells g)
-    (sym c.self.view_is) c.requires in
-    let p = rows_short g c.self.inside.columns c.self.inside.rows c.args.cell c.self.invariant u in
-    let q = c.distance.ensures in
-    let l = c.self.invariant.plane.y0.low in
-    let r = c.self.invariant.plane.y0.high in
-    omega (arith, ints)
+    let b = begins_below _ _ _ _ c.args.cell c.self.view_is c.self.invariant c.requires in
+    omega (arith, ints, c.distance.ensures, b.short, b.plane.low, b.plane.high)
 
 pub returns-clause-place : goal.returns-clause-place
 returns-clause-place c =
-    let g : Cells = record { extent = c.self.inside.extent; side = c.self.inside.side } in
-    let u : c.args.cell < cells g = subst (λ (g : Cells). c.args.cell < cells g)
-    (sym c.self.view_is) c.requires in
-    let p = rows_short g c.self.inside.columns c.self.inside.rows c.args.cell c.self.invariant u in
-    let q = c.distance.ensures in
-    let l = c.self.invariant.plane.y0.low in
-    let r = c.self.invariant.plane.y0.high in
-    rw (← c.self.view_is) (bottom_is g c.self.inside.columns c.self.inside.rows c.args.cell _ c.self.invariant
-    (omega (arith, ints)))
+    let b = begins_below _ _ _ _ c.args.cell c.self.view_is c.self.invariant c.requires in
+    begins_at (λ g. g.extent.y0) row_of _ c.args.self.now c.args.cell _ _ b
+    (omega (arith, ints, c.distance.ensures, b.short, b.plane.low, b.plane.high))
 
 pub returns-clause-short : goal.returns-clause-short
 returns-clause-short c =
-    let g : Cells = record { extent = c.self.inside.extent; side = c.self.inside.side } in
-    let u : c.args.cell < cells g = subst (λ (g : Cells). c.args.cell < cells g)
-    (sym c.self.view_is) c.requires in
-    rw (← c.self.view_is) (row_short g c.self.inside.columns c.self.inside.rows (row_of g c.args.cell)
-    c.self.invariant (row_within g c.args.cell u))
+    (begins_below _ _ _ _ c.args.cell c.self.view_is c.self.invariant c.requires).seen_short

@@ -1,25 +1,15 @@
-use Rattle.std.proofs.Common.{◌<◌, arith, rules, w64, SFits}
-use Rattle.std.proofs.lemmas.Int.{to_z-of_z}
-use Rattle.mpw_grid.specs.Grid.{cells, rows, sides_between}
-use Rattle.mpw_grid.proofs.Cells.{counted_below, found_rows, rows_few}
+use Rattle.std.proofs.Common.{rules, arith}
+use Rattle.mpw_grid.specs.Grid.{rows}
+use Rattle.mpw_grid.proofs.Cells.{IsBelow, counted_below, found_rows, rows_few}
 use Rattle.mpw_grid.proofs.grid.Grid.row_at.Goals as goal
 
-below : (c : goal.After-sides_between) → (c.sides_between.result < rows c.args.self.now)
-    × (c.sides_between.result
-    < cells (record { extent = c.self.inside.extent; side = c.self.inside.side }))
+below : (c : goal.After-sides_between) → IsBelow rows c.args.self.now c.sides_between.result
 below c =
-    let f : SFits w64 c.self.inside.extent.y0 = search rules in
-    let k : SFits w64 c.args.p.y = search rules in
-    counted_below rows (λ g p. sides_between g.side g.extent.y0 p.y) found_rows rows_few
-    (record { extent = c.self.inside.extent; side = c.self.inside.side }) c.args.self.now c.args.p
-    c.sides_between.result c.self.view_is c.self.invariant.side c.requires
-    (simp to_z-of_z at c.sides_between.ensures)
+    counted_below rows (λ g. g.extent.y0) (λ p. p.y) found_rows rows_few _ _ c.args.p _ _ _
+    c.self.view_is c.self.invariant c.requires (search rules) (search rules) c.sides_between.ensures
 
 pub overflow_cast-result : goal.overflow_cast-result
-overflow_cast-result c =
-    let h = (below c).1 in
-    let few = c.self.invariant.few in
-    omega arith
+overflow_cast-result c = let h = (below c).numbered in omega arith
 
 pub returns-clause-within : goal.returns-clause-within
-returns-clause-within c = (below c).0
+returns-clause-within c = (below c).within

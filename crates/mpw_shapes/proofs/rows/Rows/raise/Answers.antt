@@ -5,8 +5,8 @@ use Rattle.mpw_shapes.specs.Internal.Rows.{reach, state_at, size_of}
 use Rattle.mpw_shapes.proofs.RowStates.{size_sum, within, added_within, fits_within, raised_again, reach_again, raised_winding}
 use Rattle.mpw_shapes.proofs.rows.Rows.raise.Goals as goal
 
-pub raised-requires : goal.raised-requires
-raised-requires c =
+pub raise-requires : goal.raise-requires
+raise-requires c =
     let e = ap reach c.in-Alike.is in
     let h : size_of c.in-Alike.state.winding ≤ℤ reach c.args.self.now = omega (arith, ints, e) in
     record {
@@ -24,11 +24,11 @@ plus-requires c =
     })
 
 pub returns-in-Alike-clause-states : goal.returns-in-Alike-clause-states
-returns-in-Alike-clause-states c = λ rows from to row. rw c.in-Alike.is c.raised.ensures
+returns-in-Alike-clause-states c = λ rows from to row. rw c.in-Alike.is c.raise.ensures
 
 pub returns-in-Alike-clause-reach : goal.returns-in-Alike-clause-reach
 returns-in-Alike-clause-reach c =
-    rw (c.raised.ensures, c.in-Alike.is, raised_winding)
+    rw (c.raise.ensures, c.in-Alike.is, raised_winding)
     (size_sum c.in-Alike.state.winding c.args.added.winding)
 
 pub returns-in-Parted-clause-states : goal.returns-in-Parted-clause-states
@@ -48,7 +48,7 @@ returns-in-Parted-clause-built c = λ rows from to built.
     let same = λ (row : ℤ). raised_again (state_at node rows from to row) _
     c.in-Parted.halves.value.added c.args.added c.plus.result
     (ap (λ (n : Rows). state_at n rows from to row) c.in-Parted.is) p in
-    let outside = λ (row : ℤ). c.raised-in-Parted.ensures (state_at node rows from to row).winding
+    let outside = λ (row : ℤ). c.raise-in-Parted.ensures (state_at node rows from to row).winding
     (fits_within _ _ _ (within node rows from to row) c.requires.room)
     (rw (c.deref-in-Parted.ensures, c.deref_mut.ensures.value, c.in-Parted.is) (t.3 row)) in
     rw (c.deref_mut-in-Parted.ensures.value, c.deref_mut.ensures.value)

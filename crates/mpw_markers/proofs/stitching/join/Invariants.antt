@@ -1,6 +1,6 @@
 use Rattle.std.proofs.Common.{◌-◌, length}
 use Rattle.mpw_markers.proofs.Joins.{Joins}
-use Rattle.mpw_markers.proofs.stitching.joined.Given as goal
+use Rattle.mpw_markers.proofs.stitching.join.Given as goal
 
 abbrev pub invariant-loop-start : goal.invariant-loop-start
 invariant-loop-start l = Joins l.markers l.start l.book.items

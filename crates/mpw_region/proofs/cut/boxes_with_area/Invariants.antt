@@ -1,7 +1,7 @@
 use Rattle.std.proofs.Common.{take}
 use Rattle.mpw_geom.specs.Plane.{HasArea}
 use Rattle.mpw_region.specs.Internal.Sweep.{HoldsJust}
-use Rattle.mpw_region.proofs.cut.filled.Given as goal
+use Rattle.mpw_region.proofs.cut.boxes_with_area.Given as goal
 
 abbrev pub invariant-loop-b : goal.invariant-loop-b
 invariant-loop-b l = HoldsJust (take l.b-index l.boxes) HasArea l.kept.items

@@ -4,7 +4,7 @@ use Rattle.std.proofs.lemmas.Int.{to_z-of_z}
 use Rattle.std.proofs.lemmas.List.Sorted.{All-permutation}
 use Rattle.mpw_geom.specs.Plane.{HasArea}
 use Rattle.mpw_region.proofs.Sweeping.{SweepsUp-start}
-use Rattle.mpw_region.proofs.cut.begun.Goals as goal
+use Rattle.mpw_region.proofs.cut.sweep_of.Goals as goal
 
 pub returns-clause-sweeps : goal.returns-clause-sweeps
 returns-clause-sweeps c =

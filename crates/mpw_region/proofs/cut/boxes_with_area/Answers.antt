@@ -2,8 +2,8 @@ use Rattle.std.proofs.lemmas.Bool.Decides.{when_true, when_false}
 use Rattle.mpw_geom.specs.Plane.{HasArea}
 use Rattle.mpw_geom.proofs.Squares.{no_box}
 use Rattle.mpw_region.proofs.Active.{HoldsJust-none, HoldsJust-push, HoldsJust-skip, HoldsJust-all}
-use Rattle.mpw_region.proofs.cut.filled.Goals as goal
-use Rattle.mpw_region.proofs.cut.filled.Goals.{then-has_area+in_ok-push, else-has_area}
+use Rattle.mpw_region.proofs.cut.boxes_with_area.Goals as goal
+use Rattle.mpw_region.proofs.cut.boxes_with_area.Goals.{then-has_area+in_ok-push, else-has_area}
 
 pub loop-b-init : goal.loop-b-init
 loop-b-init c = rw c.in_ok-kept.ensures.items (HoldsJust-none HasArea)

@@ -3,7 +3,7 @@ use Rattle.std.proofs.lemmas.List.{take_rest}
 use Rattle.mpw_markers.specs.declared.marker.Marker.{Marker}
 use Rattle.mpw_markers.specs.Internal.Runs.{AddsRun}
 use Rattle.mpw_markers.proofs.Joins.{Joins-more}
-use Rattle.mpw_markers.proofs.stitching.joined.Goals as goal
+use Rattle.mpw_markers.proofs.stitching.join.Goals as goal
 
 pub loop-start-preserved : goal.loop-start-preserved
 loop-start-preserved c =

@@ -3,7 +3,7 @@ use Rattle.std.specs.Prelude.{int_lt, if◌then◌else◌}
 use Rattle.std.proofs.lemmas.Int.{ints, clamps}
 use Rattle.mpw_shapes.specs.Internal.Rows.{IsOutside, middle, state_at}
 use Rattle.mpw_shapes.proofs.RowStates.{raised_none, size_none}
-use Rattle.mpw_shapes.proofs.rows.joined.Goals as goal
+use Rattle.mpw_shapes.proofs.rows.node_of.Goals as goal
 
 pub returns-2-clause-states : goal.returns-2-clause-states
 returns-2-clause-states c =
@@ -20,10 +20,10 @@ returns-2-clause-built c = λ rows from to less b a.
       b,
       a,
       λ row. rw raised_none (elim (int_lt row (get_or rows (middle from to) (pos 0))) as
-          (λ t. IsOutside c.narrowed.result (if t then state_at below rows from (middle from to) row
+          (λ t. IsOutside c.intersection.result (if t then state_at below rows from (middle from to) row
           else state_at above rows (middle from to) to row).winding) [
-            | true ↦ c.narrowed.ensures.one _ (one rows from (middle from to) b row)
-            | false ↦ c.narrowed.ensures.other _ (other rows (middle from to) to a row)
+            | true ↦ c.intersection.ensures.one _ (one rows from (middle from to) b row)
+            | false ↦ c.intersection.ensures.other _ (other rows (middle from to) to a row)
           ]),
     )
 

@@ -1,6 +1,6 @@
 use Rattle.std.proofs.Common.{inl, inr, arith}
 use Rattle.std.proofs.lemmas.Int.{ints, clamps}
-use Rattle.mpw_shapes.proofs.rows.Gap.narrowed.Goals as goal
+use Rattle.mpw_shapes.proofs.rows.Gap.intersection.Goals as goal
 
 pub returns-clause-one : goal.returns-clause-one
 returns-clause-one c = λ w h. elim h [

@@ -1,7 +1,7 @@
 use Rattle.std.proofs.Common.{◌≡◌, inl, inr, arith, rules, FitsSigned, ℤ, ◌+ℤ◌, ◌≤ℤ◌, to_z, of_z}
 use Rattle.std.specs.Int.{w64, saturate_signed}
 use Rattle.std.proofs.lemmas.Int.{ints}
-use Rattle.mpw_shapes.proofs.rows.Gap.raised.Goals as goal
+use Rattle.mpw_shapes.proofs.rows.Gap.raise.Goals as goal
 
 under : (a b w r : ℤ) → w ≤ℤ a → FitsSigned w64 (w +ℤ b) → r ≡ saturate_signed w64 (a +ℤ b)
     → (w +ℤ b) ≤ℤ r
