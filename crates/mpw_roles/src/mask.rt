@@ -1,6 +1,9 @@
 //! Sets of places, 512 at most, as the bits of eight words.
-ghost use Rattle.std.specs.Prelude.{◌≡◌, ℕ, ◌<◌, true, false, ◌||◌, ◌&&◌, ◌==◌, not};
+ghost use Rattle.std.specs.Prelude.{◌≡◌, ℕ, ◌≤◌, ◌<◌, true, false, ◌||◌, ◌&&◌, ◌==◌, not, length, OnOk};
 ghost use Rattle.mpw_roles.specs.Mask.{has, common};
+ghost use Rattle.mpw_roles.specs.Places.{mask_at};
+
+use std::alloc::AllocError;
 
 /// The number of words.
 const WORDS: usize = 8;
@@ -80,4 +83,20 @@ impl Mask {
         }
         count
     }
+}
+
+/// Makes room for a mask behind so many: one more, where there are no others yet.
+///
+/// # Errors
+/// Where there is no room. The masks are then as they were.
+pub fn reserve_mask(masks: &mut Vec<Mask>, count: usize) -> Result<(), AllocError>
+    requires { count ≤ length masks.old.items }
+    ensures ok { OnOk result (count < length masks.new.items) }
+    ensures same { (place : ℕ) → place < count → mask_at masks.new.items place ≡ mask_at masks.old.items place }
+    ensures long { count ≤ length masks.new.items }
+{
+    if masks.len() == count {
+        masks.push(Mask::new())?;
+    }
+    Ok(())
 }

@@ -1,7 +1,7 @@
 use Rattle.std.proofs.Common.{◌≡◌, ℕ, ◌||◌, drop}
 use Rattle.mpw_roles.specs.Mask.{has}
 use Rattle.mpw_roles.specs.Places.{is_place_below}
-use Rattle.mpw_roles.proofs.roles.joined.Given as goal
+use Rattle.mpw_roles.proofs.roles.union_of_masks.Given as goal
 
 -- the places so far and those to come are all
 abbrev pub invariant-loop-senior : goal.invariant-loop-senior

@@ -5,8 +5,8 @@ use Rattle.mpw_roles.specs.Internal.Table.{IsTable, entries_of, name_of, placed_
 use Rattle.mpw_roles.specs.Order.{are_distinct}
 use Rattle.mpw_roles.proofs.NumberLemmas.{distinct-numbered}
 use Rattle.mpw_roles.proofs.RenumberLemmas.{renumbered-entries, renumbered-table}
-use Rattle.mpw_roles.proofs.table.Table.renumbered.Goals.{In_ok-pairs}
-use Rattle.mpw_roles.proofs.table.Table.renumbered.Goals as goal
+use Rattle.mpw_roles.proofs.table.Table.copy_with_new_numbers.Goals.{In_ok-pairs}
+use Rattle.mpw_roles.proofs.table.Table.copy_with_new_numbers.Goals as goal
 
 pub of_names-requires : goal.of_names-requires
 of_names-requires c =

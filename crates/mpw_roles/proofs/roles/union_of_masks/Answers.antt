@@ -3,8 +3,8 @@ use Rattle.std.proofs.Common.{◌∙◌, ◌+◌, ◌||◌, sym, ap, drop}
 use Rattle.mpw_roles.specs.Mask.{has}
 use Rattle.mpw_roles.specs.Places.{is_place_below}
 use Rattle.mpw_roles.proofs.PlacesLemmas.{turn-role, turn-none, mask-found, next-item}
-use Rattle.mpw_roles.proofs.roles.joined.Goals as goal
-use Rattle.mpw_roles.proofs.roles.joined.Goals.{in-Some, in_default}
+use Rattle.mpw_roles.proofs.roles.union_of_masks.Goals as goal
+use Rattle.mpw_roles.proofs.roles.union_of_masks.Goals.{in-Some, in_default}
 
 pub loop-senior-preserved : goal.loop-senior-preserved
 loop-senior-preserved c = λ q.

@@ -6,7 +6,7 @@ use Rattle.mpw_roles.specs.Order.{are_distinct}
 use Rattle.mpw_roles.proofs.PositionLemmas.{position-any}
 use Rattle.mpw_roles.proofs.RegisterLemmas.{last-number}
 use Rattle.mpw_roles.proofs.RoleLemmas.{distinct-append}
-use Rattle.mpw_roles.proofs.table.numbered.Goals as goal
+use Rattle.mpw_roles.proofs.table.number_of.Goals as goal
 
 pub push-requires : goal.push-requires
 push-requires c = sym (position-any (name_eq c.args.name) c.args.names.now)
