@@ -96,7 +96,7 @@ fn join(masks: &mut Vec<Mask>, senior: usize, junior: &Mask)
 }
 
 /// The masks of users after one more pair of these roles: a copy of the masks.
-fn masks_joined(
+fn joined_masks(
     roles: &Roles,
     masks: &[Mask],
     senior: &Name,
@@ -182,7 +182,7 @@ impl Users {
     }
 
     /// The places of the roles that a user is authorized for; none where there is no such user.
-    pub(crate) fn authorized(&self, user: &Name) -> Mask
+    pub(crate) fn authorized_places(&self, user: &Name) -> Mask
         ensures { (h : Hierarchy) → AreAuthorized h self.now → IsBelow h (assigned_roles (users_and_roles self.now.users h) user.now) result }
     {
         mask_of(&self.roster, &self.masks, user)
@@ -209,13 +209,17 @@ impl Users {
     }
 
     /// The users without the assignments of a role.
-    pub(crate) fn unassigned(&self, roles: &Roles, role: &Name) -> Result<Users, AllocError>
+    pub(crate) fn without_assignments(
+        &self,
+        roles: &Roles,
+        role: &Name,
+    ) -> Result<Users, AllocError>
         ensures { IfOk result (AreUsers roles.now (unassigned self.now.users role.now)) }
     {
         let alloc = roles.allocator();
         Users::of(
             roles,
-            Arc::new(alloc, self.roster.unassigned(alloc, role)?)?,
+            Arc::new(alloc, self.roster.without_assignments(alloc, role)?)?,
         )
     }
 
@@ -228,7 +232,7 @@ impl Users {
 
     /// The same users after one more pair of these roles: whoever is authorized for the senior is for the junior's roles
     /// too. A copy of the masks.
-    pub(crate) fn joined(
+    pub(crate) fn with_joined_masks(
         &self,
         roles: &Roles,
         senior: &Name,
@@ -238,7 +242,7 @@ impl Users {
         requires senior { is_role roles.now senior.now ≡ true }
         ensures { IfOk result (AreUsers (with_pair roles.now senior.now junior.now) self.now.users) }
     {
-        let masks = masks_joined(roles, &self.masks, senior, junior)?;
+        let masks = joined_masks(roles, &self.masks, senior, junior)?;
         let roster = self.roster.clone()?;
         Ok(Users {
             roster,
