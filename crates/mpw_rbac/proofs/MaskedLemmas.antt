@@ -14,7 +14,7 @@ use Rattle.mpw_roles.specs.Places.{name_at, is_place_below, is_place_under, mask
 use Rattle.mpw_roles.specs.declared.mask.Mask.{Mask}
 use Rattle.mpw_roles.proofs.BitLemmas.{name-found}
 use Rattle.mpw_roles.proofs.HierarchyLemmas.{length-with_juniors, names-with_juniors}
-use Rattle.mpw_roles.proofs.PlacesLemmas.{order-with_pair}
+use Rattle.mpw_roles.proofs.PlacesLemmas.{order-with_pair, joined-bits}
 use Rattle.mpw_roles.proofs.PositionLemmas.{position-cons}
 use Rattle.mpw_rbac.specs.Masked.{IsBelow, AreBelow, sessions_in, masks_in}
 use Rattle.mpw_rbac.specs.Policy.{assigned_lists, assigned_roles, active_lists}
@@ -192,11 +192,6 @@ below-with_pair h s j there (x ∷ xs) b =
     gathered false true false true false = refl
     gathered false true false false false = refl
     gathered false false z w v = refl
-
-joined-bits : (f x y z : Bool) → ((f && x) || (y && (f && z))) ≡ (f && (x || (y && z)))
-joined-bits true x y z = refl
-joined-bits false x true z = refl
-joined-bits false x false z = refl
 
 pub are-joined : (h : Hierarchy) (s j : Name) (i : ℕ) (lists : List (List Name))
     (old new : List Mask) (m : Mask) → is_role h s ≡ true

@@ -20,7 +20,7 @@ ghost use Rattle.mpw_rbac.specs.Table.{has_key, value_at, without_key};
 use crate::User;
 use crate::roster::Roster;
 use mpw_geom::Name;
-use mpw_roles::{Mask, Roles};
+use mpw_roles::{Mask, Roles, join_masks};
 use std::alloc::{AllocError, Global};
 use std::marker::Model;
 use std::sync::Arc;
@@ -83,18 +83,6 @@ fn masks_with(
     Ok(next)
 }
 
-/// Each mask that has the place of the senior gets the junior's places.
-fn join(masks: &mut Vec<Mask>, senior: usize, junior: &Mask)
-    ensures joined { (k : ℕ) → k < length masks.old.items → (place : ℕ) → has (mask_at masks.new.items k) place ≡ (has (mask_at masks.old.items k) place || (has (mask_at masks.old.items k) senior && has junior.now place)) }
-    ensures long { length masks.new.items ≡ length masks.old.items }
-{
-    for k in 0..masks.len() {
-        if masks[k].contains(senior) {
-            masks[k].add(junior);
-        }
-    }
-}
-
 /// The masks of users after one more pair of these roles: a copy of the masks.
 fn joined_masks(
     roles: &Roles,
@@ -110,7 +98,7 @@ fn joined_masks(
     let Some(place) = roles.place(senior) else {
         return Ok(next);
     };
-    join(&mut next, place, &roles.mask(junior));
+    join_masks(&mut next, place, &roles.mask(junior));
     Ok(next)
 }
 

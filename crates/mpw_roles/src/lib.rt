@@ -24,6 +24,6 @@ mod table;
 pub use below::Below;
 pub use fault::RolesFault;
 pub use laws::order_is_chains;
-pub use mask::{Mask, reserve_mask};
+pub use mask::{Mask, join_masks, reserve_mask};
 pub use register::Register;
 pub use roles::{MAX_ROLES, Roles};

@@ -100,3 +100,15 @@ pub fn reserve_mask(masks: &mut Vec<Mask>, count: usize) -> Result<(), AllocErro
     }
     Ok(())
 }
+
+/// Each mask that has a place gets the places of another mask too.
+pub fn join_masks(masks: &mut [Mask], place: usize, added: &Mask)
+    ensures joined { (k : ℕ) → k < length masks.old → (other : ℕ) → has (mask_at masks.new k) other ≡ (has (mask_at masks.old k) other || (has (mask_at masks.old k) place && has added.now other)) }
+    ensures long { length masks.new ≡ length masks.old }
+{
+    for k in 0..masks.len() {
+        if masks[k].contains(place) {
+            masks[k].add(added);
+        }
+    }
+}
