@@ -224,7 +224,7 @@ fn push_cell(
     cell: &Name,
 ) -> Result<(), AllocError>
     requires { access.now.operation ≡ Read }
-    ensures { OnOk result (lines.new.items ≡ lines.old.items ++ row.readable_line access.now.policy shelf.now access.now.conn cell.now) }
+    ensures { OnOk result (lines.new.items ≡ lines.old.items ++ row.readable_line access.now.policy shelf.now access.now.connection cell.now) }
 {
     let object = Object::Cell(cell.copy()?);
     if !access.permits(&object) {

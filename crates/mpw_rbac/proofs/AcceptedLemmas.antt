@@ -14,18 +14,18 @@ use Rattle.mpw_rbac.proofs.RowTests as row
 
 -- ---- administrative requests
 
-pub administers : (conn : ℕ) (request : row.Administration)
-    → NeedsAdministration conn (row.row-of request conn)
-administers conn request p q is =
-    (all-pass (row.administer-tests p conn (row.tests-of request p)) (row.next-of request p) q
+pub administers : (connection : ℕ) (request : row.Administration)
+    → NeedsAdministration connection (row.row-of request connection)
+administers connection request p q is =
+    (all-pass (row.administer-tests p connection (row.tests-of request p)) (row.next-of request p) q
     is).1.0
 
-pub no_sets : (kind : Kind) (conn : ℕ) (request : row.Administration)
+pub no_sets : (kind : Kind) (connection : ℕ) (request : row.Administration)
     → row.tests_kind kind request ≡ false → (p : Policy) (name : Name)
-    → row.row-of request conn p ≡ Err (set_refusal kind name) → ⊥
-no_sets kind conn request none p name is =
+    → row.row-of request connection p ≡ Err (set_refusal kind name) → ⊥
+no_sets kind connection request none p name is =
     let f = kind-plain kind name in
-    none-denied (set_refusal kind name) (row.administer-tests p conn (row.tests-of request p))
+    none-denied (set_refusal kind name) (row.administer-tests p connection (row.tests-of request p))
     (row.next-of request p) (
       f.5,
       (
@@ -38,54 +38,65 @@ no_sets kind conn request none p name is =
 
 -- ---- requests of a session's own roles
 
-pub no_static-open_session : (conn : ℕ) (user digest : List ℕ)
-    → TellsNoStatic (λ p. rows.open_session p conn user digest)
-no_static-open_session conn user digest p told is =
-    none-tells-opened (Ssd told) (λ e. cc) (λ e. cc) conn user digest p is
+pub no_static-open_session : (connection : ℕ) (user digest : List ℕ)
+    → TellsNoStatic (λ p. rows.open_session p connection user digest)
+no_static-open_session connection user digest p told is =
+    none-tells-opened (Ssd told) (λ e. cc) (λ e. cc) connection user digest p is
 
-pub no_dynamic-open_session : (conn : ℕ) (user digest : List ℕ)
-    → TellsNoDynamic (λ p. rows.open_session p conn user digest)
-no_dynamic-open_session conn user digest p told is =
-    none-tells-opened (Dsd told) (λ e. cc) (λ e. cc) conn user digest p is
+pub no_dynamic-open_session : (connection : ℕ) (user digest : List ℕ)
+    → TellsNoDynamic (λ p. rows.open_session p connection user digest)
+no_dynamic-open_session connection user digest p told is =
+    none-tells-opened (Dsd told) (λ e. cc) (λ e. cc) connection user digest p is
 
-pub no_permission-open_session : (conn : ℕ) (user digest : List ℕ)
-    → NeedsNoPermission (λ p. rows.open_session p conn user digest)
-no_permission-open_session conn user digest p operation object is =
-    none-tells-opened (NotPermitted operation object) (λ e. cc) (λ e. cc) conn user digest p is
+pub no_permission-open_session : (connection : ℕ) (user digest : List ℕ)
+    → NeedsNoPermission (λ p. rows.open_session p connection user digest)
+no_permission-open_session connection user digest p operation object is =
+    none-tells-opened (NotPermitted operation object) (λ e. cc) (λ e. cc) connection user
+    digest p is
 
-pub no_static-close_session : (conn : ℕ) → TellsNoStatic (λ p. rows.close_session p conn)
-no_static-close_session conn p told is = none-tells-closed (Ssd told) (ssd-plain told) conn p is
+pub no_static-close_session : (connection : ℕ)
+    → TellsNoStatic (λ p. rows.close_session p connection)
+no_static-close_session connection p told is =
+    none-tells-closed (Ssd told) (ssd-plain told) connection p is
 
-pub no_dynamic-close_session : (conn : ℕ) → TellsNoDynamic (λ p. rows.close_session p conn)
-no_dynamic-close_session conn p told is = none-tells-closed (Dsd told) (dsd-plain told) conn p is
+pub no_dynamic-close_session : (connection : ℕ)
+    → TellsNoDynamic (λ p. rows.close_session p connection)
+no_dynamic-close_session connection p told is =
+    none-tells-closed (Dsd told) (dsd-plain told) connection p is
 
-pub no_permission-close_session : (conn : ℕ) → NeedsNoPermission (λ p. rows.close_session p conn)
-no_permission-close_session conn p operation object is =
-    none-tells-closed (NotPermitted operation object) (permission-plain operation object) conn p is
+pub no_permission-close_session : (connection : ℕ)
+    → NeedsNoPermission (λ p. rows.close_session p connection)
+no_permission-close_session connection p operation object is =
+    none-tells-closed (NotPermitted operation object) (permission-plain operation object)
+    connection p is
 
-pub no_static-activate : (conn : ℕ) (role : List ℕ) → TellsNoStatic (λ p. rows.activate p conn role)
-no_static-activate conn role p told is = none-tells-activated (Ssd told) (ssd-plain told) conn role
+pub no_static-activate : (connection : ℕ) (role : List ℕ)
+    → TellsNoStatic (λ p. rows.activate p connection role)
+no_static-activate connection role p told is =
+    none-tells-activated (Ssd told) (ssd-plain told) connection role
     (activation-static role told) (dsd-static told) p is
 
-pub no_permission-activate : (conn : ℕ) (role : List ℕ)
-    → NeedsNoPermission (λ p. rows.activate p conn role)
-no_permission-activate conn role p operation object is =
-    none-tells-activated (NotPermitted operation object) (permission-plain operation object) conn
+pub no_permission-activate : (connection : ℕ) (role : List ℕ)
+    → NeedsNoPermission (λ p. rows.activate p connection role)
+no_permission-activate connection role p operation object is =
+    none-tells-activated (NotPermitted operation object)
+    (permission-plain operation object) connection
     role
     (activation-permission role operation object) (kind-permission Dynamic operation object) p is
 
-pub no_static-drop_role : (conn : ℕ) (role : List ℕ)
-    → TellsNoStatic (λ p. rows.drop_role p conn role)
-no_static-drop_role conn role p told is =
-    none-tells-dropped (Ssd told) (ssd-plain told) conn role p is
+pub no_static-drop_role : (connection : ℕ) (role : List ℕ)
+    → TellsNoStatic (λ p. rows.drop_role p connection role)
+no_static-drop_role connection role p told is =
+    none-tells-dropped (Ssd told) (ssd-plain told) connection role p is
 
-pub no_dynamic-drop_role : (conn : ℕ) (role : List ℕ)
-    → TellsNoDynamic (λ p. rows.drop_role p conn role)
-no_dynamic-drop_role conn role p told is =
-    none-tells-dropped (Dsd told) (dsd-plain told) conn role p is
+pub no_dynamic-drop_role : (connection : ℕ) (role : List ℕ)
+    → TellsNoDynamic (λ p. rows.drop_role p connection role)
+no_dynamic-drop_role connection role p told is =
+    none-tells-dropped (Dsd told) (dsd-plain told) connection role p is
 
-pub no_permission-drop_role : (conn : ℕ) (role : List ℕ)
-    → NeedsNoPermission (λ p. rows.drop_role p conn role)
-no_permission-drop_role conn role p operation object is =
-    none-tells-dropped (NotPermitted operation object) (permission-plain operation object) conn role
+pub no_permission-drop_role : (connection : ℕ) (role : List ℕ)
+    → NeedsNoPermission (λ p. rows.drop_role p connection role)
+no_permission-drop_role connection role p operation object is =
+    none-tells-dropped (NotPermitted operation object) (permission-plain operation object)
+    connection role
     p is

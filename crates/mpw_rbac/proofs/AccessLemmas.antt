@@ -27,11 +27,12 @@ none-below : (h : Hierarchy) (names : List Name) → filter (is_below h []) name
 none-below h [] = refl
 none-below h (n ∷ ns) = none-below h ns
 
-pub permits-acting : (p : Policy) (conn : ℕ) (operation : Operation) (object : Object)
-    → list_any (is_granted_to (roles_below p.roles (rows.active_roles p conn)) operation object)
-    p.granted ≡ permits p conn operation object
-permits-acting p conn operation object =
-    elim (session_of p conn) as (λ o. list_any
+pub permits-acting : (p : Policy) (connection : ℕ) (operation : Operation) (object : Object)
+    → list_any
+    (is_granted_to (roles_below p.roles (rows.active_roles p connection)) operation object)
+    p.granted ≡ permits p connection operation object
+permits-acting p connection operation object =
+    elim (session_of p connection) as (λ o. list_any
     (is_granted_to (roles_below p.roles (option_map_or (λ (s : Session). s.active) o []))
     operation object) p.granted ≡ option_map_or
     (λ (s : Session). session_permits p s operation object) o false) [
@@ -41,6 +42,6 @@ permits-acting p conn operation object =
     ]
 
 -- where every session ended, nothing is permitted
-pub nothing-permitted : (p : Policy) (conn : ℕ) (operation : Operation) (object : Object)
-    → permits (rows.end_sessions p) conn operation object ≡ false
-nothing-permitted p conn operation object = refl
+pub nothing-permitted : (p : Policy) (connection : ℕ) (operation : Operation) (object : Object)
+    → permits (rows.end_sessions p) connection operation object ≡ false
+nothing-permitted p connection operation object = refl

@@ -76,16 +76,17 @@ stays : (p : Policy) (tests : List rows.Test) (next q : Policy) → decided test
 stays p tests next q is there =
     subst (λ (k : Policy). Stays p.sessions k.sessions) (decided-value tests next q is) there
 
-pub adds-end_session : (conn : ℕ) → AddsNoActive (λ p. Ok (rows.end_session p conn))
-adds-end_session conn p q is = stays p [] (rows.end_session p conn) q is
-    (stays-filter (λ (e : ℕ × Session). not (conn == e.0)) p.sessions)
+pub adds-end_session : (connection : ℕ) → AddsNoActive (λ p. Ok (rows.end_session p connection))
+adds-end_session connection p q is = stays p [] (rows.end_session p connection) q is
+    (stays-filter (λ (e : ℕ × Session). not (connection == e.0)) p.sessions)
 
 pub adds-end_sessions : AddsNoActive (λ p. Ok (rows.end_sessions p))
 adds-end_sessions p q is = stays p [] (rows.end_sessions p) q is refl
 
-pub adds-close_session : (conn : ℕ) → AddsNoActive (λ p. rows.close_session p conn)
-adds-close_session conn p q is = stays p (rows.in_session p conn ∷ []) (rows.end_session p conn) q
-    is (stays-filter (λ (e : ℕ × Session). not (conn == e.0)) p.sessions)
+pub adds-close_session : (connection : ℕ) → AddsNoActive (λ p. rows.close_session p connection)
+adds-close_session connection p q is =
+    stays p (rows.in_session p connection ∷ []) (rows.end_session p connection) q
+    is (stays-filter (λ (e : ℕ × Session). not (connection == e.0)) p.sessions)
 
 stays-of : (request : row.Administration) (p : Policy)
     → Stays p.sessions (row.next-of request p).sessions
@@ -95,8 +96,9 @@ stays-of (row.Deassign user role) p = stays-trim (row.deassigned p user role)
 stays-of (row.Uninherit senior junior) p = stays-trim (row.uninherited p senior junior)
 stays-of request p = stays-same p.sessions
 
-pub adds-administration : (conn : ℕ) (request : row.Administration)
-    → AddsNoActive (row.row-of request conn)
-adds-administration conn request p q is =
-    stays p (row.administer-tests p conn (row.tests-of request p)) (row.next-of request p) q is
+pub adds-administration : (connection : ℕ) (request : row.Administration)
+    → AddsNoActive (row.row-of request connection)
+adds-administration connection request p q is =
+    stays p (row.administer-tests p connection (row.tests-of request p))
+    (row.next-of request p) q is
     (stays-of request p)

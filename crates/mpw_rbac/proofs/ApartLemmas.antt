@@ -67,11 +67,11 @@ static-apart p s user known =
     unbroken found.1))
     p.ssd s.static
 
-pub dynamic-apart : (p : Policy) → Sound p → (conn : ℕ) (session : Session)
-    → session_of p conn ≡ Some session
+pub dynamic-apart : (p : Policy) → Sound p → (connection : ℕ) (session : Session)
+    → session_of p connection ≡ Some session
     → list_all (λ (set : SeparationSet).
     nat_lt (count_by (contains_name (acting p session)) set.roles) set.cardinality) p.dsd ≡ true
-dynamic-apart p s conn session at =
+dynamic-apart p s connection session at =
     all_imply (λ (set : SeparationSet). not (is_broken p.roles (active_lists p.sessions) set))
     (λ (set : SeparationSet). nat_lt (count_by (contains_name (acting p session)) set.roles)
     set.cardinality)
@@ -79,5 +79,5 @@ dynamic-apart p s conn session at =
     let unbroken = sym (any-map (λ (e : ℕ × Session). e.1.active) (λ l. breaks p.roles l set)
     p.sessions) ∙ not_true (is_broken p.roles (active_lists p.sessions) set) holds in
     fewer p.roles session.active set (entry-fails (λ a b. a == b)
-    (λ (x : Session). breaks p.roles x.active set) p.sessions conn session unbroken at))
+    (λ (x : Session). breaks p.roles x.active set) p.sessions connection session unbroken at))
     p.dsd s.dynamic

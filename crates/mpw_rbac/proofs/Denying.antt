@@ -67,17 +67,17 @@ none-denied denial (t ∷ ts) next none is =
       | false ↦ λ here. none.0 (refusal-same t.1 denial here)
     ] is
 
-pub admin-denied : (p : Policy) (conn : ℕ) (operation : Operation) (object : Object)
+pub admin-denied : (p : Policy) (connection : ℕ) (operation : Operation) (object : Object)
     (tests : List rows.Test) (next : Policy) → NoneDenies (NotPermitted operation object) tests
-    → decided (rows.in_session p conn ∷ rows.administers p conn ∷ tests) next
-    ≡ Err (NotPermitted operation object) → permits p conn operation object ≡ false
-admin-denied p conn operation object tests next none is =
-    by (rows.in_session p conn).0 (permits p conn Admin Desk) refl is
+    → decided (rows.in_session p connection ∷ rows.administers p connection ∷ tests) next
+    ≡ Err (NotPermitted operation object) → permits p connection operation object ≡ false
+admin-denied p connection operation object tests next none is =
+    by (rows.in_session p connection).0 (permits p connection Admin Desk) refl is
   where
-    by : (a b : Bool) → permits p conn Admin Desk ≡ b
+    by : (a b : Bool) → permits p connection Admin Desk ≡ b
         → cond a (cond b (decided tests next) (refused (NotPermitted Admin Desk)))
         (refused NoSession) ≡ refused (NotPermitted operation object)
-        → permits p conn operation object ≡ false
+        → permits p connection operation object ≡ false
     by true true e f = absurd (none-denied (NotPermitted operation object) tests next none f)
     by true false e f = cc
     by false b e f = cc
@@ -181,26 +181,28 @@ none-tells denial f (row.RemoveDynamic name) sets p = (f.1, tt)
 
 -- nor does a request of a session's own roles
 pub none-tells-opened : (denial : Refusal) → (Opened ≡ denial → ⊥) → (Login ≡ denial → ⊥)
-    → (conn : ℕ) (user digest : List ℕ) (p : Policy)
-    → rows.open_session p conn user digest ≡ refused denial → ⊥
-none-tells-opened denial opened login conn user digest p is =
-    none-denied denial (row.open-tests p conn user digest) (row.opened p conn user)
+    → (connection : ℕ) (user digest : List ℕ) (p : Policy)
+    → rows.open_session p connection user digest ≡ refused denial → ⊥
+none-tells-opened denial opened login connection user digest p is =
+    none-denied denial (row.open-tests p connection user digest) (row.opened p connection user)
     (opened, (login, tt)) is
 
-pub none-tells-closed : (denial : Refusal) → IsPlain denial → (conn : ℕ) (p : Policy)
-    → rows.close_session p conn ≡ refused denial → ⊥
-none-tells-closed denial f conn p is =
-    none-denied denial (rows.in_session p conn ∷ []) (rows.end_session p conn) (f.5, tt) is
+pub none-tells-closed : (denial : Refusal) → IsPlain denial → (connection : ℕ) (p : Policy)
+    → rows.close_session p connection ≡ refused denial → ⊥
+none-tells-closed denial f connection p is =
+    none-denied denial (rows.in_session p connection ∷ []) (rows.end_session p connection)
+    (f.5, tt) is
 
-pub none-tells-dropped : (denial : Refusal) → IsPlain denial → (conn : ℕ) (role : Name)
-    (p : Policy) → rows.drop_role p conn role ≡ refused denial → ⊥
-none-tells-dropped denial f conn role p is =
-    none-denied denial (row.drop-tests p conn role) (row.dropped p conn role) (f.5, (f.1, tt)) is
+pub none-tells-dropped : (denial : Refusal) → IsPlain denial → (connection : ℕ) (role : Name)
+    (p : Policy) → rows.drop_role p connection role ≡ refused denial → ⊥
+none-tells-dropped denial f connection role p is =
+    none-denied denial (row.drop-tests p connection role) (row.dropped p connection role)
+    (f.5, (f.1, tt)) is
 
-pub none-tells-activated : (denial : Refusal) → IsPlain denial → (conn : ℕ) (role : Name)
+pub none-tells-activated : (denial : Refusal) → IsPlain denial → (connection : ℕ) (role : Name)
     → (NotAuthorized role ≡ denial → ⊥)
     → ((o : Option Name) → (rows.none_broken Dsd o).1 ≡ denial → ⊥) → (p : Policy)
-    → rows.activate p conn role ≡ refused denial → ⊥
-none-tells-activated denial f conn role authorized dynamic p is =
-    none-denied denial (row.activate-tests p conn role) (row.activated p conn role)
+    → rows.activate p connection role ≡ refused denial → ⊥
+none-tells-activated denial f connection role authorized dynamic p is =
+    none-denied denial (row.activate-tests p connection role) (row.activated p connection role)
     (f.5, (authorized, (f.0, (dynamic _, tt)))) is

@@ -13,11 +13,12 @@ use Rattle.mpw_roles.specs.Order.{is_below, roles_below, are_distinct}
 use Rattle.mpw_roles.specs.Places.{name_at, is_place_below}
 use Rattle.mpw_roles.proofs.CallerLemmas.{same_name, name_eq-refl, contains-roles_below}
 use Rattle.mpw_rbac.specs.Grant.{operation_index, operation_eq, object_eq, grant_eq}
-use Rattle.mpw_rbac.specs.Internal.Holders.{Buckets, is_grant_of, is_place_granted, holds, grants_after, IsHeld, AreHeld, IsHeldAfter, AreHeldAfter}
+use Rattle.mpw_rbac.specs.Internal.Holders.{Buckets, is_grant_of, is_place_granted, holds, grants_after, IsHeld, AreHeld, IsHeldAfter, AreHeldAfter, AreMoreNames, ArePermissions}
 use Rattle.mpw_rbac.specs.Policy.{is_granted_to}
 use Rattle.mpw_rbac.specs.declared.permission.Grant.{Grant}
 use Rattle.mpw_rbac.specs.declared.permission.Object.{Object}
 use Rattle.mpw_rbac.specs.declared.permission.Operation.{Operation}
+use Rattle.mpw_rbac.proofs.NamedLemmas.{distinct-last, named-none, named-role}
 use Rattle.mpw_rbac.proofs.SeparationLemmas.{refuted, both, parts}
 use Rattle.mpw_rbac.proofs.HeldLemmas.{and_false, and_true, put-more, put-less, held-same, contains-at, strange, place-is, put_in, held-place, place_of, any-found, held-less}
 
@@ -100,6 +101,19 @@ all-held-role roles r granted tables none held = record {
   exact = λ operation inside. held-role roles r granted operation (get_or tables operation []) none
       (held.exact operation inside);
 }
+
+-- a role more that goes last, or none, changes no mask
+pub more-names : (old new : List Name) (granted : List Grant) (tables : List Buckets)
+    → are_distinct new ≡ true → AreMoreNames old new → ArePermissions old granted tables
+    → ArePermissions new granted tables
+more-names old new granted tables once (inl same) kept =
+    subst (λ l. ArePermissions l granted tables) (sym same) kept
+more-names old new granted tables once (inr (role, is)) kept =
+    let fresh = distinct-last old role (ap are_distinct (sym is) ∙ once) in
+    subst (λ l. ArePermissions l granted tables) (sym is) (
+      all-held-role old role granted tables (named-none old role granted fresh kept.1) kept.0,
+      named-role old role granted kept.1,
+    )
 
 -- a grant of another operation, or to no role, changes no mask
 unchanged : (more : Bool) (roles : List Name) (g : Grant) (operation : ℕ) (table : Buckets)

@@ -96,7 +96,8 @@ held-more roles done g operation old new step held = record {
 }
 
 -- one that isn't of the operation, or is to no role
-pub held-same : (roles : List Name) (done : List Grant) (g : Grant) (operation : ℕ) (table : Buckets)
+pub held-same : (roles : List Name) (done : List Grant) (g : Grant) (operation : ℕ)
+    (table : Buckets)
     → ((object : Object) (place : ℕ) → (nat_lt place (length roles)
     && is_grant_of operation object (get_or roles place []) g) ≡ false)
     → IsHeld roles done operation table → IsHeld roles (done ++ g ∷ []) operation table
@@ -266,7 +267,8 @@ less_in true a f false gone kept = and_true a ∙ sym (kept refl)
 less_in false a f t gone kept = refl
 
 -- one grant less
-pub held-less : (roles : List Name) (done : List Grant) (g : Grant) (operation : ℕ) (old new : Buckets)
+pub held-less : (roles : List Name) (done : List Grant) (g : Grant) (operation : ℕ)
+    (old new : Buckets)
     → ((object : Object) (place : ℕ) → holds new object place
     ≡ (holds old object place && not (nat_lt place (length roles)
     && is_grant_of operation object (get_or roles place []) g)))

@@ -44,12 +44,13 @@ keep-adduser p user digest s = record {
     new : Name × User
     new = (user, record { digest = digest; roles = [] })
 
-pub keep-open : (p : Policy) (conn : ℕ) (user : Name) → is_user p user ≡ true → Sound p
-    → Sound (record p { sessions = p.sessions ++ (conn, record { user = user; active = [] }) ∷ [] })
-keep-open p conn user there s =
-    let new : ℕ × Session = (conn, record { user = user; active = [] }) in
+pub keep-open : (p : Policy) (connection : ℕ) (user : Name) → is_user p user ≡ true → Sound p
+    → Sound (record
+    p { sessions = p.sessions ++ (connection, record { user = user; active = [] }) ∷ [] })
+keep-open p connection user there s =
+    let new : ℕ × Session = (connection, record { user = user; active = [] }) in
     record {
-      sessions = sound-open p conn user there s.sessions;
+      sessions = sound-open p connection user there s.sessions;
       static = s.static;
       dynamic = holds-proper p.roles p.roles (map active_of (p.sessions ++ new ∷ []))
           (active_lists p.sessions) p.dsd
@@ -63,15 +64,15 @@ keep-open p conn user there s =
       dynamic_proper = s.dynamic_proper;
     }
 
-pub keep-end : (p : Policy) (conn : ℕ) → Sound p → Sound (rows.end_session p conn)
-keep-end p conn s = record {
-  sessions = sound-end p conn s.sessions;
+pub keep-end : (p : Policy) (connection : ℕ) → Sound p → Sound (rows.end_session p connection)
+keep-end p connection s = record {
+  sessions = sound-end p connection s.sessions;
   static = s.static;
-  dynamic = holds-less p.roles p.roles (active_lists (rows.end_session p conn).sessions)
+  dynamic = holds-less p.roles p.roles (active_lists (rows.end_session p connection).sessions)
       (active_lists p.sessions)
-      (λ set. sessions-less p.roles p.roles set (rows.end_session p conn).sessions p.sessions
+      (λ set. sessions-less p.roles p.roles set (rows.end_session p connection).sessions p.sessions
       (any-filter (λ e. breaks p.roles (active_of e) set)
-      (λ (e : ℕ × Session). not (conn == e.0)) p.sessions)) p.dsd s.dynamic;
+      (λ (e : ℕ × Session). not (connection == e.0)) p.sessions)) p.dsd s.dynamic;
   static_proper = s.static_proper;
   dynamic_proper = s.dynamic_proper;
 }
@@ -121,13 +122,13 @@ keep-assign p user role static s = record {
   dynamic_proper = s.dynamic_proper;
 }
 
-pub keep-activate : (p : Policy) (conn : ℕ) (role : Name)
-    → contains_name (authorized p (rows.user_of p conn)) role ≡ true
+pub keep-activate : (p : Policy) (connection : ℕ) (role : Name)
+    → contains_name (authorized p (rows.user_of p connection)) role ≡ true
     → sets_hold p.roles p.dsd (active_lists
-    (rows.with_active p conn (rows.active_roles p conn ++ role ∷ [])).sessions) ≡ true
-    → Sound p → Sound (rows.with_active p conn (rows.active_roles p conn ++ role ∷ []))
-keep-activate p conn role there dynamic s = record {
-  sessions = sound-activate p conn role there s.sessions;
+    (rows.with_active p connection (rows.active_roles p connection ++ role ∷ [])).sessions) ≡ true
+    → Sound p → Sound (rows.with_active p connection (rows.active_roles p connection ++ role ∷ []))
+keep-activate p connection role there dynamic s = record {
+  sessions = sound-activate p connection role there s.sessions;
   static = s.static;
   dynamic = dynamic;
   static_proper = s.static_proper;
@@ -141,27 +142,28 @@ dropped role o = record {
   active = without_name (option_map_or (λ (s : Session). s.active) o []) role;
 }
 
-pub authorized-drop : (p : Policy) (conn : ℕ) (role : Name) → active_authorized p ≡ true
-    → active_authorized (rows.with_active p conn (without_name (rows.active_roles p conn) role))
+pub authorized-drop : (p : Policy) (connection : ℕ) (role : Name) → active_authorized p ≡ true
+    → active_authorized
+    (rows.with_active p connection (without_name (rows.active_roles p connection) role))
     ≡ true
-authorized-drop p conn role sound =
+authorized-drop p connection role sound =
     all-changed (λ a b. a == b) (dropped role) (is_authorized_session p) (λ s is.
     let t = parts (is_user p s.user) (list_all (contains_name (authorized p s.user)) s.active) is in
     both (is_user p s.user) _ t.0 (all-filter (contains_name (authorized p s.user))
-    (λ (o : Name). not (name_eq role o)) s.active t.1)) conn p.sessions sound
+    (λ (o : Name). not (name_eq role o)) s.active t.1)) connection p.sessions sound
 
-pub keep-drop : (p : Policy) (conn : ℕ) (role : Name) → Sound p
-    → Sound (rows.with_active p conn (without_name (rows.active_roles p conn) role))
-keep-drop p conn role s =
-    let q = rows.with_active p conn (without_name (rows.active_roles p conn) role) in
+pub keep-drop : (p : Policy) (connection : ℕ) (role : Name) → Sound p
+    → Sound (rows.with_active p connection (without_name (rows.active_roles p connection) role))
+keep-drop p connection role s =
+    let q = rows.with_active p connection (without_name (rows.active_roles p connection) role) in
     record {
-      sessions = authorized-drop p conn role s.sessions;
+      sessions = authorized-drop p connection role s.sessions;
       static = s.static;
       dynamic = holds-less p.roles p.roles (active_lists q.sessions) (active_lists p.sessions)
           (λ set. sessions-less p.roles p.roles set q.sessions p.sessions
           (any-changed (λ a b. a == b) (dropped role) (λ x. breaks p.roles x.active set)
           (λ x t. breaks-more p.roles p.roles (without_name x.active role) x.active set
-          (λ a b is. is) (λ r is. is) (without-part x.active role) t) conn p.sessions)) p.dsd
+          (λ a b is. is) (λ r is. is) (without-part x.active role) t) connection p.sessions)) p.dsd
           s.dynamic;
       static_proper = s.static_proper;
       dynamic_proper = s.dynamic_proper;
@@ -179,15 +181,17 @@ somebody-positive h f (x ∷ xs) set some apart =
     first true b e = absurd (true≢false e)
     first false b e = refl
 
-some-session : (p : Policy) (conn : ℕ) → is_some (session_of p conn) ≡ true → p.sessions ≡ [] → ⊥
-some-session p conn is none = true≢false
-    (sym is ∙ ap (λ (es : List (ℕ × Session)). is_some (value_at (λ a b. a == b) es conn)) none)
+some-session : (p : Policy) (connection : ℕ) → is_some (session_of p connection) ≡ true
+    → p.sessions ≡ [] → ⊥
+some-session p connection is none = true≢false
+    (sym is ∙ ap
+    (λ (es : List (ℕ × Session)). is_some (value_at (λ a b. a == b) es connection)) none)
 
-some-user : (p : Policy) (conn : ℕ) → is_some (session_of p conn) ≡ true
+some-user : (p : Policy) (connection : ℕ) → is_some (session_of p connection) ≡ true
     → active_authorized p ≡ true → p.users ≡ [] → ⊥
-some-user p conn is sound none = by p.sessions is sound
+some-user p connection is sound none = by p.sessions is sound
   where
-    by : (es : List (ℕ × Session)) → is_some (value_at (λ a b. a == b) es conn) ≡ true
+    by : (es : List (ℕ × Session)) → is_some (value_at (λ a b. a == b) es connection) ≡ true
         → list_all (λ (e : ℕ × Session). is_authorized_session p e.1) es ≡ true → ⊥
     by [] there all = true≢false (sym there)
     by (e ∷ es) there all =
@@ -226,26 +230,26 @@ keep-kind Dynamic p sets hold proper s = record {
   dynamic_proper = proper;
 }
 
-positive : (kind : Kind) (p : Policy) (conn : ℕ) (set : SeparationSet)
-    → is_some (session_of p conn) ≡ true → Sound p
+positive : (kind : Kind) (p : Policy) (connection : ℕ) (set : SeparationSet)
+    → is_some (session_of p connection) ≡ true → Sound p
     → is_broken p.roles (bound_lists kind p) set ≡ false → nat_lt 0 set.cardinality ≡ true
-positive Static p conn set there s =
-    somebody-positive p.roles roles_of p.users set (some-user p conn there s.sessions)
-positive Dynamic p conn set there s =
-    somebody-positive p.roles active_of p.sessions set (some-session p conn there)
+positive Static p connection set there s =
+    somebody-positive p.roles roles_of p.users set (some-user p connection there s.sessions)
+positive Dynamic p connection set there s =
+    somebody-positive p.roles active_of p.sessions set (some-session p connection there)
 
-pub keep-made : (kind : Kind) (p : Policy) (conn : ℕ) (set : SeparationSet)
-    → is_some (session_of p conn) ≡ true → list_all (is_role p.roles) set.roles ≡ true
+pub keep-made : (kind : Kind) (p : Policy) (connection : ℕ) (set : SeparationSet)
+    → is_some (session_of p connection) ≡ true → list_all (is_role p.roles) set.roles ≡ true
     → sets_hold p.roles (kind_sets kind p ++ set ∷ []) (bound_lists kind p) ≡ true → Sound p
     → Sound (with_sets kind p (kind_sets kind p ++ set ∷ []))
-keep-made kind p conn set there roles hold s =
+keep-made kind p connection set there roles hold s =
     let apart = not_true (is_broken p.roles (bound_lists kind p) set)
     (all-last (λ (x : SeparationSet). not (is_broken p.roles (bound_lists kind p) x))
     (kind_sets kind p) set hold) in
     keep-kind kind p (kind_sets kind p ++ set ∷ []) hold
     (all-append (is_proper p.roles) (kind_sets kind p) (set ∷ []) (kind-proper kind p s)
     (both (is_proper p.roles set) true (both (nat_lt 0 set.cardinality) _
-    (positive kind p conn set there s apart) roles) refl)) s
+    (positive kind p connection set there s apart) roles) refl)) s
 
 pub keep-removed : (kind : Kind) (p : Policy) (name : Name) → Sound p
     → Sound (with_sets kind p (without_set (kind_sets kind p) name))

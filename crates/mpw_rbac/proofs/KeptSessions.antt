@@ -49,30 +49,35 @@ of-sessions p sessions tests q is sound k =
     kept tests (record p { sessions = sessions }) q is sound k.names.assignments k.names.pairs
     k.names.grants (grind (arith, k.limits))
 
-pub kept-end_session : (conn : ℕ) → KeepsTables (λ p. Ok (rows.end_session p conn))
-kept-end_session conn p q is k = of-sessions p (rows.end_session p conn).sessions [] q is
-    (law.sound-end_session conn p q is k.sound) k
+pub kept-end_session : (connection : ℕ) → KeepsTables (λ p. Ok (rows.end_session p connection))
+kept-end_session connection p q is k =
+    of-sessions p (rows.end_session p connection).sessions [] q is
+    (law.sound-end_session connection p q is k.sound) k
 
 pub kept-end_sessions : KeepsTables (λ p. Ok (rows.end_sessions p))
 kept-end_sessions p q is k = of-sessions p [] [] q is (law.sound-end_sessions p q is k.sound) k
 
-pub kept-open_session : (conn : ℕ) (user digest : List ℕ)
-    → KeepsTables (λ p. rows.open_session p conn user digest)
-kept-open_session conn user digest p q is k =
-    of-sessions p (row.opened p conn user).sessions (row.open-tests p conn user digest) q is
-    (law.sound-open_session conn user digest p q is k.sound) k
+pub kept-open_session : (connection : ℕ) (user digest : List ℕ)
+    → KeepsTables (λ p. rows.open_session p connection user digest)
+kept-open_session connection user digest p q is k =
+    of-sessions p (row.opened p connection user).sessions
+    (row.open-tests p connection user digest) q is
+    (law.sound-open_session connection user digest p q is k.sound) k
 
-pub kept-close_session : (conn : ℕ) → KeepsTables (λ p. rows.close_session p conn)
-kept-close_session conn p q is k =
-    of-sessions p (rows.end_session p conn).sessions (rows.in_session p conn ∷ []) q is
-    (law.sound-close_session conn p q is k.sound) k
+pub kept-close_session : (connection : ℕ) → KeepsTables (λ p. rows.close_session p connection)
+kept-close_session connection p q is k =
+    of-sessions p (rows.end_session p connection).sessions (rows.in_session p connection ∷ []) q is
+    (law.sound-close_session connection p q is k.sound) k
 
-pub kept-activate : (conn : ℕ) (role : List ℕ) → KeepsTables (λ p. rows.activate p conn role)
-kept-activate conn role p q is k =
-    of-sessions p (row.activated p conn role).sessions (row.activate-tests p conn role) q is
-    (law.sound-activate_row conn role p q is k.sound) k
+pub kept-activate : (connection : ℕ) (role : List ℕ)
+    → KeepsTables (λ p. rows.activate p connection role)
+kept-activate connection role p q is k =
+    of-sessions p (row.activated p connection role).sessions
+    (row.activate-tests p connection role) q is
+    (law.sound-activate_row connection role p q is k.sound) k
 
-pub kept-drop_role : (conn : ℕ) (role : List ℕ) → KeepsTables (λ p. rows.drop_role p conn role)
-kept-drop_role conn role p q is k =
-    of-sessions p (row.dropped p conn role).sessions (row.drop-tests p conn role) q is
-    (law.sound-drop_role conn role p q is k.sound) k
+pub kept-drop_role : (connection : ℕ) (role : List ℕ)
+    → KeepsTables (λ p. rows.drop_role p connection role)
+kept-drop_role connection role p q is k =
+    of-sessions p (row.dropped p connection role).sessions (row.drop-tests p connection role) q is
+    (law.sound-drop_role connection role p q is k.sound) k

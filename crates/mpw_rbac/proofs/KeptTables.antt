@@ -9,6 +9,7 @@ use Rattle.mpw_separation.specs.Separation.{without_set}
 use Rattle.mpw_separation.specs.Set.{SeparationSet}
 use Rattle.mpw_rbac.specs.declared.permission.Grant.{Grant}
 use Rattle.mpw_rbac.specs.declared.session.Session.{Session}
+use Rattle.mpw_rbac.specs.declared.session.User.{User}
 use Rattle.mpw_rbac.specs.Existing.{AreTablesSound, KeepsTables}
 use Rattle.mpw_rbac.specs.Grant.{grant_eq}
 use Rattle.mpw_rbac.specs.Policy.{Policy, assigned_roles, trim}
@@ -21,13 +22,14 @@ use Rattle.mpw_rbac.proofs.RowTests as row
 use Rattle.mpw_rbac.proofs.SeparationLemmas.{parts, both, all-append, all-filter}
 use Rattle.mpw_rbac.proofs.KeptSessions.{kept}
 
-pub kept-adduser : (conn : ℕ) (user digest : List ℕ)
-    → KeepsTables (λ p. rows.adduser p conn user digest)
-kept-adduser conn user digest p q is k =
-    let t = all-pass (row.administer-tests p conn (row.adduser-tests p user))
+pub kept-adduser : (connection : ℕ) (user digest : List ℕ)
+    → KeepsTables (λ p. rows.adduser p connection user digest)
+kept-adduser connection user digest p q is k =
+    let t = all-pass (row.administer-tests p connection (row.adduser-tests p user))
     (row.user_added p user digest) q is in
-    kept (row.administer-tests p conn (row.adduser-tests p user)) (row.user_added p user digest) q
-    is (law.sound-adduser_row conn user digest p q is k.sound)
+    kept (row.administer-tests p connection (row.adduser-tests p user))
+    (row.user_added p user digest) q
+    is (law.sound-adduser_row connection user digest p q is k.sound)
     (all-append _ p.users ((user, record { digest = digest; roles = [] }) ∷ []) k.names.assignments
     refl)
     (k.names.pairs)
@@ -39,19 +41,22 @@ kept-adduser conn user digest p q is k =
           512 t.1.1.1.0,
     ))
 
-pub kept-deluser : (conn : ℕ) (user : List ℕ) → KeepsTables (λ p. rows.deluser p conn user)
-kept-deluser conn user p q is k =
-    kept (row.administer-tests p conn (row.deluser-tests p user)) (trim (row.user_deleted p user)) q
-    is (law.sound-deluser conn user p q is k.sound)
+pub kept-deluser : (connection : ℕ) (user : List ℕ)
+    → KeepsTables (λ p. rows.deluser p connection user)
+kept-deluser connection user p q is k =
+    kept (row.administer-tests p connection (row.deluser-tests p user))
+    (trim (row.user_deleted p user)) q
+    is (law.sound-deluser connection user p q is k.sound)
     (all-filter _ (λ e. not (name_eq user e.0)) p.users k.names.assignments) (k.names.pairs)
     (k.names.grants) (grind (arith, k.limits, there.fewer (λ e. not (name_eq user e.0)) p.users))
 
-pub kept-addrole : (conn : ℕ) (role : List ℕ) → KeepsTables (λ p. rows.addrole p conn role)
-kept-addrole conn role p q is k =
-    let t = all-pass (row.administer-tests p conn (row.addrole-tests p role))
+pub kept-addrole : (connection : ℕ) (role : List ℕ)
+    → KeepsTables (λ p. rows.addrole p connection role)
+kept-addrole connection role p q is k =
+    let t = all-pass (row.administer-tests p connection (row.addrole-tests p role))
     (row.role_added p role) q is in
-    kept (row.administer-tests p conn (row.addrole-tests p role)) (row.role_added p role) q is
-    (law.sound-addrole_row conn role p q is k.sound)
+    kept (row.administer-tests p connection (row.addrole-tests p role)) (row.role_added p role) q is
+    (law.sound-addrole_row connection role p q is k.sound)
     (there.assigns-more p.roles (with_role p.roles role) (roles-with_role p.roles role) p.users
     k.names.assignments)
     (all-append _ p.roles ((role, []) ∷ [])
@@ -61,10 +66,11 @@ kept-addrole conn role p q is k =
     k.names.grants)
     (grind (arith, k.limits, there.one_more p.roles (role, []) 512 t.1.1.1.0))
 
-pub kept-delrole : (conn : ℕ) (role : List ℕ) → KeepsTables (λ p. rows.delrole p conn role)
-kept-delrole conn role p q is k =
-    kept (row.administer-tests p conn (row.delrole-tests p role))
-    (trim (rows.without_role_of p role)) q is (law.sound-delrole conn role p q is k.sound)
+pub kept-delrole : (connection : ℕ) (role : List ℕ)
+    → KeepsTables (λ p. rows.delrole p connection role)
+kept-delrole connection role p q is k =
+    kept (row.administer-tests p connection (row.delrole-tests p role))
+    (trim (rows.without_role_of p role)) q is (law.sound-delrole connection role p q is k.sound)
     (there.assigns-left p.roles role p.users k.names.assignments)
     (there.leads-left p.roles role k.names.pairs)
     (there.grants-left p.roles role p.granted k.names.grants)
@@ -76,65 +82,56 @@ kept-delrole conn role p q is k =
       there.fewer (λ (g : Grant). not (name_eq role g.role)) p.granted,
     ))
 
-pub kept-assign : (conn : ℕ) (user role : List ℕ) → KeepsTables (λ p. rows.assign p conn user role)
-kept-assign conn user role p q is k =
-    let t = all-pass (row.administer-tests p conn (row.assign-tests p user role))
-    (row.assigned p user role) q is in
-    kept (row.administer-tests p conn (row.assign-tests p user role)) (row.assigned p user role) q
-    is (law.sound-assign_row conn user role p q is k.sound)
-    (there.assigns-with p.roles p.users user _ k.names.assignments
+-- a row of assignments gives one user other roles
+of-assigned : (p : Policy) (user : Name) (roles : List Name) (sessions : List (ℕ × Session))
+    (tests : List rows.Test) (q : Policy)
+    → decided tests (record (rows.with_assigned p user roles) { sessions = sessions }) ≡ Ok q
+    → Sound q → list_all (is_role p.roles) roles ≡ true → AreTablesSound p → AreTablesSound q
+of-assigned p user roles sessions tests q is sound known k =
+    let value : User = record { digest = rows.digest_of_user p user; roles = roles } in
+    kept tests (record (rows.with_assigned p user roles) { sessions = sessions }) q is sound
+    (there.assigns-with p.roles p.users user value k.names.assignments known)
+    k.names.pairs
+    k.names.grants
+    (grind (arith, k.limits, there.same-users p.users user value))
+
+pub kept-assign : (connection : ℕ) (user role : List ℕ)
+    → KeepsTables (λ p. rows.assign p connection user role)
+kept-assign connection user role p q is k =
+    let tests = row.administer-tests p connection (row.assign-tests p user role) in
+    let t = all-pass tests (row.assigned p user role) q is in
+    of-assigned p user (assigned_roles p user ++ role ∷ []) p.sessions tests q is
+    (law.sound-assign_row connection user role p q is k.sound)
     (all-append (is_role p.roles) (assigned_roles p user) (role ∷ [])
     (there.roles-assigned p.roles p.users user k.names.assignments)
-    (both (is_role p.roles role) true (parts _ (is_role p.roles role) t.1.1.0).1 refl)))
-    (k.names.pairs)
-    (k.names.grants)
-    (grind (
-      arith,
-      k.limits,
-      there.same-users p.users user
-          (record {
-            digest = rows.digest_of_user p user;
-            roles = assigned_roles p user ++ role
-                ∷ [];
-          }),
-    ))
+    (both (is_role p.roles role) true (parts _ (is_role p.roles role) t.1.1.0).1 refl)) k
 
-pub kept-deassign : (conn : ℕ) (user role : List ℕ)
-    → KeepsTables (λ p. rows.deassign p conn user role)
-kept-deassign conn user role p q is k =
-    kept (row.administer-tests p conn (row.deassign-tests p user role))
-    (trim (row.deassigned p user role)) q is (law.sound-deassign conn user role p q is k.sound)
-    (there.assigns-with p.roles p.users user _ k.names.assignments
+pub kept-deassign : (connection : ℕ) (user role : List ℕ)
+    → KeepsTables (λ p. rows.deassign p connection user role)
+kept-deassign connection user role p q is k =
+    of-assigned p user (without_name (assigned_roles p user) role)
+    (trim (row.deassigned p user role)).sessions
+    (row.administer-tests p connection (row.deassign-tests p user role)) q is
+    (law.sound-deassign connection user role p q is k.sound)
     (there.all-without p.roles (assigned_roles p user) role
-    (there.roles-assigned p.roles p.users user k.names.assignments)))
-    (k.names.pairs)
-    (k.names.grants)
-    (grind (
-      arith,
-      k.limits,
-      there.same-users p.users user
-          (record {
-            digest = rows.digest_of_user p user;
-            roles = without_name (assigned_roles p user)
-                role;
-          }),
-    ))
+    (there.roles-assigned p.roles p.users user k.names.assignments)) k
 
-pub kept-grant : (conn : ℕ) (new : Grant) → KeepsTables (λ p. rows.grant p conn new)
-kept-grant conn new p q is k =
-    let t = all-pass (row.administer-tests p conn (row.grant-tests p new)) (row.grant_added p new) q
+pub kept-grant : (connection : ℕ) (new : Grant) → KeepsTables (λ p. rows.grant p connection new)
+kept-grant connection new p q is k =
+    let t = all-pass (row.administer-tests p connection (row.grant-tests p new))
+    (row.grant_added p new) q
     is in
-    kept (row.administer-tests p conn (row.grant-tests p new)) (row.grant_added p new) q is
-    (law.sound-grant conn new p q is k.sound)
+    kept (row.administer-tests p connection (row.grant-tests p new)) (row.grant_added p new) q is
+    (law.sound-grant connection new p q is k.sound)
     (k.names.assignments) (k.names.pairs)
     (all-append _ p.granted (new ∷ []) k.names.grants
     (both (is_role p.roles new.role) true t.1.1.0 refl))
     (grind (arith, k.limits, there.one_more p.granted new 4096 t.1.1.1.1.0))
 
-pub kept-revoke : (conn : ℕ) (old : Grant) → KeepsTables (λ p. rows.revoke p conn old)
-kept-revoke conn old p q is k =
-    kept (row.administer-tests p conn (row.revoke-tests p old)) (row.grant_revoked p old) q is
-    (law.sound-revoke conn old p q is k.sound)
+pub kept-revoke : (connection : ℕ) (old : Grant) → KeepsTables (λ p. rows.revoke p connection old)
+kept-revoke connection old p q is k =
+    kept (row.administer-tests p connection (row.revoke-tests p old)) (row.grant_revoked p old) q is
+    (law.sound-revoke connection old p q is k.sound)
     (k.names.assignments)
     (k.names.pairs)
     (all-filter _ (λ other. not (grant_eq old other)) p.granted k.names.grants)
@@ -157,25 +154,25 @@ of-juniors p senior juniors sessions tests q is sound known k =
     (there.grants-more p.roles h more p.granted k.names.grants)
     (grind (arith, k.limits, there.same-pairs p.roles senior juniors))
 
-pub kept-inherit : (conn : ℕ) (senior junior : List ℕ)
-    → KeepsTables (λ p. rows.inherit p conn senior junior)
-kept-inherit conn senior junior p q is k =
-    let tests = row.administer-tests p conn (row.inherit-tests p senior junior) in
+pub kept-inherit : (connection : ℕ) (senior junior : List ℕ)
+    → KeepsTables (λ p. rows.inherit p connection senior junior)
+kept-inherit connection senior junior p q is k =
+    let tests = row.administer-tests p connection (row.inherit-tests p senior junior) in
     let t = all-pass tests (row.inherited p senior junior) q is in
     of-juniors p senior (immediate_juniors p.roles senior ++ junior ∷ []) p.sessions tests q is
-    (law.sound-inherit conn senior junior p q is k.sound)
+    (law.sound-inherit connection senior junior p q is k.sound)
     (all-append (is_role p.roles) (immediate_juniors p.roles senior) (junior ∷ [])
     (there.roles-linked p.roles p.roles senior k.names.pairs)
     (both (is_role p.roles junior) true
     (parts (is_role p.roles senior) (is_role p.roles junior) t.1.1.0).1 refl)) k
 
-pub kept-uninherit : (conn : ℕ) (senior junior : List ℕ)
-    → KeepsTables (λ p. rows.uninherit p conn senior junior)
-kept-uninherit conn senior junior p q is k =
+pub kept-uninherit : (connection : ℕ) (senior junior : List ℕ)
+    → KeepsTables (λ p. rows.uninherit p connection senior junior)
+kept-uninherit connection senior junior p q is k =
     of-juniors p senior (without_name (immediate_juniors p.roles senior) junior)
     (trim (row.uninherited p senior junior)).sessions
-    (row.administer-tests p conn (row.uninherit-tests p senior junior)) q is
-    (law.sound-uninherit conn senior junior p q is k.sound)
+    (row.administer-tests p connection (row.uninherit-tests p senior junior)) q is
+    (law.sound-uninherit connection senior junior p q is k.sound)
     (there.all-without p.roles (immediate_juniors p.roles senior) junior
     (there.roles-linked p.roles p.roles senior k.names.pairs)) k
 
@@ -187,18 +184,18 @@ of-sets p ssd dsd tests q is sound static dynamic k =
     kept tests (record p { ssd = ssd; dsd = dsd }) q is sound k.names.assignments k.names.pairs
     k.names.grants (grind (arith, k.limits, static, dynamic))
 
-pub kept-ssd : (conn : ℕ) (set : SeparationSet) → KeepsTables (λ p. rows.ssd p conn set)
-kept-ssd conn set p q is k =
-    let tests = row.administer-tests p conn (row.ssd-tests p set) in
+pub kept-ssd : (connection : ℕ) (set : SeparationSet) → KeepsTables (λ p. rows.ssd p connection set)
+kept-ssd connection set p q is k =
+    let tests = row.administer-tests p connection (row.ssd-tests p set) in
     let t = all-pass tests (row.ssd_made p set) q is in
-    of-sets p (p.ssd ++ set ∷ []) p.dsd tests q is (law.sound-ssd conn set p q is k.sound)
+    of-sets p (p.ssd ++ set ∷ []) p.dsd tests q is (law.sound-ssd connection set p q is k.sound)
     (there.one_more p.ssd set 64 t.1.1.1.1.1.0) k.limits.dynamic k
 
-pub kept-dsd : (conn : ℕ) (set : SeparationSet) → KeepsTables (λ p. rows.dsd p conn set)
-kept-dsd conn set p q is k =
-    let tests = row.administer-tests p conn (row.dsd-tests p set) in
+pub kept-dsd : (connection : ℕ) (set : SeparationSet) → KeepsTables (λ p. rows.dsd p connection set)
+kept-dsd connection set p q is k =
+    let tests = row.administer-tests p connection (row.dsd-tests p set) in
     let t = all-pass tests (row.dsd_made p set) q is in
-    of-sets p p.ssd (p.dsd ++ set ∷ []) tests q is (law.sound-dsd conn set p q is k.sound)
+    of-sets p p.ssd (p.dsd ++ set ∷ []) tests q is (law.sound-dsd connection set p q is k.sound)
     k.limits.static (there.one_more p.dsd set 64 t.1.1.1.1.1.0) k
 
 fewer-sets : (sets : List SeparationSet) (name : Name) → length sets ≤ 64
@@ -209,14 +206,14 @@ fewer-sets sets name fit = omega (
   fit,
 )
 
-pub kept-unssd : (conn : ℕ) (name : List ℕ) → KeepsTables (λ p. rows.unssd p conn name)
-kept-unssd conn name p q is k = of-sets p (without_set p.ssd name) p.dsd
-    (row.administer-tests p conn (row.unssd-tests p name)) q is
-    (law.sound-unssd conn name p q is k.sound) (fewer-sets p.ssd name k.limits.static)
+pub kept-unssd : (connection : ℕ) (name : List ℕ) → KeepsTables (λ p. rows.unssd p connection name)
+kept-unssd connection name p q is k = of-sets p (without_set p.ssd name) p.dsd
+    (row.administer-tests p connection (row.unssd-tests p name)) q is
+    (law.sound-unssd connection name p q is k.sound) (fewer-sets p.ssd name k.limits.static)
     k.limits.dynamic k
 
-pub kept-undsd : (conn : ℕ) (name : List ℕ) → KeepsTables (λ p. rows.undsd p conn name)
-kept-undsd conn name p q is k = of-sets p p.ssd (without_set p.dsd name)
-    (row.administer-tests p conn (row.undsd-tests p name)) q is
-    (law.sound-undsd conn name p q is k.sound) k.limits.static
+pub kept-undsd : (connection : ℕ) (name : List ℕ) → KeepsTables (λ p. rows.undsd p connection name)
+kept-undsd connection name p q is k = of-sets p p.ssd (without_set p.dsd name)
+    (row.administer-tests p connection (row.undsd-tests p name)) q is
+    (law.sound-undsd connection name p q is k.sound) k.limits.static
     (fewer-sets p.dsd name k.limits.dynamic) k

@@ -50,11 +50,14 @@ sound-new_desk officer digest = record {
   dynamic_proper = refl;
 }
 
-pub keeps-end_session : (conn : ℕ) → KeepsAuthorization (λ p. Ok (rows.end_session p conn))
-keeps-end_session conn p q is s = keeps [] (rows.end_session p conn) q is (sound-end p conn s)
+pub keeps-end_session : (connection : ℕ)
+    → KeepsAuthorization (λ p. Ok (rows.end_session p connection))
+keeps-end_session connection p q is s =
+    keeps [] (rows.end_session p connection) q is (sound-end p connection s)
 
-pub sound-end_session : (conn : ℕ) → KeepsSound (λ p. Ok (rows.end_session p conn))
-sound-end_session conn p q is s = sound [] (rows.end_session p conn) q is (keep.keep-end p conn s)
+pub sound-end_session : (connection : ℕ) → KeepsSound (λ p. Ok (rows.end_session p connection))
+sound-end_session connection p q is s =
+    sound [] (rows.end_session p connection) q is (keep.keep-end p connection s)
 
 pub keeps-end_sessions : KeepsAuthorization (λ p. Ok (rows.end_sessions p))
 keeps-end_sessions p q is s = keeps [] (rows.end_sessions p) q is refl
@@ -62,190 +65,215 @@ keeps-end_sessions p q is s = keeps [] (rows.end_sessions p) q is refl
 pub sound-end_sessions : KeepsSound (λ p. Ok (rows.end_sessions p))
 sound-end_sessions p q is s = sound [] (rows.end_sessions p) q is (keep.keep-end_all p s)
 
-pub keeps-open_session : (conn : ℕ) (user digest : List ℕ)
-    → KeepsAuthorization (λ p. rows.open_session p conn user digest)
-keeps-open_session conn user digest p q is s =
-    let t = all-pass (row.open-tests p conn user digest) (row.opened p conn user) q is in
-    keeps (row.open-tests p conn user digest) (row.opened p conn user) q is
-    (sound-open p conn user (login-user p user digest t.1.0) s)
+pub keeps-open_session : (connection : ℕ) (user digest : List ℕ)
+    → KeepsAuthorization (λ p. rows.open_session p connection user digest)
+keeps-open_session connection user digest p q is s =
+    let t = all-pass (row.open-tests p connection user digest)
+    (row.opened p connection user) q is in
+    keeps (row.open-tests p connection user digest) (row.opened p connection user) q is
+    (sound-open p connection user (login-user p user digest t.1.0) s)
 
-pub sound-open_session : (conn : ℕ) (user digest : List ℕ)
-    → KeepsSound (λ p. rows.open_session p conn user digest)
-sound-open_session conn user digest p q is s =
-    let t = all-pass (row.open-tests p conn user digest) (row.opened p conn user) q is in
-    sound (row.open-tests p conn user digest) (row.opened p conn user) q is
-    (keep.keep-open p conn user (login-user p user digest t.1.0) s)
+pub sound-open_session : (connection : ℕ) (user digest : List ℕ)
+    → KeepsSound (λ p. rows.open_session p connection user digest)
+sound-open_session connection user digest p q is s =
+    let t = all-pass (row.open-tests p connection user digest)
+    (row.opened p connection user) q is in
+    sound (row.open-tests p connection user digest) (row.opened p connection user) q is
+    (keep.keep-open p connection user (login-user p user digest t.1.0) s)
 
-pub keeps-close_session : (conn : ℕ) → KeepsAuthorization (λ p. rows.close_session p conn)
-keeps-close_session conn p q is s =
-    keeps (rows.in_session p conn ∷ []) (rows.end_session p conn) q is (sound-end p conn s)
+pub keeps-close_session : (connection : ℕ)
+    → KeepsAuthorization (λ p. rows.close_session p connection)
+keeps-close_session connection p q is s =
+    keeps (rows.in_session p connection ∷ []) (rows.end_session p connection) q is
+    (sound-end p connection s)
 
-pub sound-close_session : (conn : ℕ) → KeepsSound (λ p. rows.close_session p conn)
-sound-close_session conn p q is s =
-    sound (rows.in_session p conn ∷ []) (rows.end_session p conn) q is (keep.keep-end p conn s)
+pub sound-close_session : (connection : ℕ) → KeepsSound (λ p. rows.close_session p connection)
+sound-close_session connection p q is s =
+    sound (rows.in_session p connection ∷ []) (rows.end_session p connection) q is
+    (keep.keep-end p connection s)
 
-pub keeps-activate : (conn : ℕ) (role : List ℕ)
-    → KeepsAuthorization (λ p. rows.activate p conn role)
-keeps-activate conn role p q is s =
-    let t = all-pass (row.activate-tests p conn role) (row.activated p conn role) q is in
-    keeps (row.activate-tests p conn role) (row.activated p conn role) q is
-    (sound-activate p conn role t.1.0 s)
+pub keeps-activate : (connection : ℕ) (role : List ℕ)
+    → KeepsAuthorization (λ p. rows.activate p connection role)
+keeps-activate connection role p q is s =
+    let t = all-pass (row.activate-tests p connection role)
+    (row.activated p connection role) q is in
+    keeps (row.activate-tests p connection role) (row.activated p connection role) q is
+    (sound-activate p connection role t.1.0 s)
 
-pub sound-activate_row : (conn : ℕ) (role : List ℕ) → KeepsSound (λ p. rows.activate p conn role)
-sound-activate_row conn role p q is s =
-    let t = all-pass (row.activate-tests p conn role) (row.activated p conn role) q is in
-    sound (row.activate-tests p conn role) (row.activated p conn role) q is
-    (keep.keep-activate p conn role t.1.0 (dynamic-holds (row.activated p conn role) t.1.1.1.0)
+pub sound-activate_row : (connection : ℕ) (role : List ℕ)
+    → KeepsSound (λ p. rows.activate p connection role)
+sound-activate_row connection role p q is s =
+    let t = all-pass (row.activate-tests p connection role)
+    (row.activated p connection role) q is in
+    sound (row.activate-tests p connection role) (row.activated p connection role) q is
+    (keep.keep-activate p connection role t.1.0
+    (dynamic-holds (row.activated p connection role) t.1.1.1.0)
     s)
 
-pub keeps-drop_role : (conn : ℕ) (role : List ℕ)
-    → KeepsAuthorization (λ p. rows.drop_role p conn role)
-keeps-drop_role conn role p q is s = keeps (row.drop-tests p conn role) (row.dropped p conn role) q
-    is (keep.authorized-drop p conn role s)
+pub keeps-drop_role : (connection : ℕ) (role : List ℕ)
+    → KeepsAuthorization (λ p. rows.drop_role p connection role)
+keeps-drop_role connection role p q is s =
+    keeps (row.drop-tests p connection role) (row.dropped p connection role) q
+    is (keep.authorized-drop p connection role s)
 
-pub sound-drop_role : (conn : ℕ) (role : List ℕ) → KeepsSound (λ p. rows.drop_role p conn role)
-sound-drop_role conn role p q is s =
-    sound (row.drop-tests p conn role) (row.dropped p conn role) q is (keep.keep-drop p conn role s)
+pub sound-drop_role : (connection : ℕ) (role : List ℕ)
+    → KeepsSound (λ p. rows.drop_role p connection role)
+sound-drop_role connection role p q is s =
+    sound (row.drop-tests p connection role) (row.dropped p connection role) q is
+    (keep.keep-drop p connection role s)
 
 -- an administrative request, from what it leaves where its tests have passed
 abbrev Passed : ℕ → row.Administration → Policy → Type 0
-Passed conn request p = AllPass (row.administer-tests p conn (row.tests-of request p))
+Passed connection request p = AllPass (row.administer-tests p connection (row.tests-of request p))
 
-request-keeps : (conn : ℕ) (request : row.Administration)
-    → ((p : Policy) → Passed conn request p → active_authorized p ≡ true
+request-keeps : (connection : ℕ) (request : row.Administration)
+    → ((p : Policy) → Passed connection request p → active_authorized p ≡ true
     → active_authorized (row.next-of request p) ≡ true)
-    → KeepsAuthorization (row.row-of request conn)
-request-keeps conn request left p q is s =
-    let tests = row.administer-tests p conn (row.tests-of request p) in
+    → KeepsAuthorization (row.row-of request connection)
+request-keeps connection request left p q is s =
+    let tests = row.administer-tests p connection (row.tests-of request p) in
     let next = row.next-of request p in
     keeps tests next q is (left p (all-pass tests next q is) s)
 
-request-sound : (conn : ℕ) (request : row.Administration)
-    → ((p : Policy) → Passed conn request p → Sound p → Sound (row.next-of request p))
-    → KeepsSound (row.row-of request conn)
-request-sound conn request left p q is s =
-    let tests = row.administer-tests p conn (row.tests-of request p) in
+request-sound : (connection : ℕ) (request : row.Administration)
+    → ((p : Policy) → Passed connection request p → Sound p → Sound (row.next-of request p))
+    → KeepsSound (row.row-of request connection)
+request-sound connection request left p q is s =
+    let tests = row.administer-tests p connection (row.tests-of request p) in
     let next = row.next-of request p in
     sound tests next q is (left p (all-pass tests next q is) s)
 
-pub keeps-adduser : (conn : ℕ) (user digest : List ℕ)
-    → KeepsAuthorization (λ p. rows.adduser p conn user digest)
-keeps-adduser conn user digest =
-    request-keeps conn (row.AddUser user digest) (λ p t. sound-adduser p user digest)
+pub keeps-adduser : (connection : ℕ) (user digest : List ℕ)
+    → KeepsAuthorization (λ p. rows.adduser p connection user digest)
+keeps-adduser connection user digest =
+    request-keeps connection (row.AddUser user digest) (λ p t. sound-adduser p user digest)
 
-pub sound-adduser_row : (conn : ℕ) (user digest : List ℕ)
-    → KeepsSound (λ p. rows.adduser p conn user digest)
-sound-adduser_row conn user digest =
-    request-sound conn (row.AddUser user digest) (λ p t. keep.keep-adduser p user digest)
+pub sound-adduser_row : (connection : ℕ) (user digest : List ℕ)
+    → KeepsSound (λ p. rows.adduser p connection user digest)
+sound-adduser_row connection user digest =
+    request-sound connection (row.AddUser user digest) (λ p t. keep.keep-adduser p user digest)
 
-pub keeps-deluser : (conn : ℕ) (user : List ℕ) → KeepsAuthorization (λ p. rows.deluser p conn user)
-keeps-deluser conn user = request-keeps conn (row.DeleteUser user)
+pub keeps-deluser : (connection : ℕ) (user : List ℕ)
+    → KeepsAuthorization (λ p. rows.deluser p connection user)
+keeps-deluser connection user = request-keeps connection (row.DeleteUser user)
     (λ p t s. trimmed.trim-authorized (row.user_deleted p user))
 
-pub sound-deluser : (conn : ℕ) (user : List ℕ) → KeepsSound (λ p. rows.deluser p conn user)
-sound-deluser conn user =
-    request-sound conn (row.DeleteUser user) (λ p t. trimmed.keep-deluser p user)
+pub sound-deluser : (connection : ℕ) (user : List ℕ)
+    → KeepsSound (λ p. rows.deluser p connection user)
+sound-deluser connection user =
+    request-sound connection (row.DeleteUser user) (λ p t. trimmed.keep-deluser p user)
 
-pub keeps-addrole : (conn : ℕ) (role : List ℕ) → KeepsAuthorization (λ p. rows.addrole p conn role)
-keeps-addrole conn role = request-keeps conn (row.AddRole role) (λ p t. sound-addrole p role)
+pub keeps-addrole : (connection : ℕ) (role : List ℕ)
+    → KeepsAuthorization (λ p. rows.addrole p connection role)
+keeps-addrole connection role =
+    request-keeps connection (row.AddRole role) (λ p t. sound-addrole p role)
 
-pub sound-addrole_row : (conn : ℕ) (role : List ℕ) → KeepsSound (λ p. rows.addrole p conn role)
-sound-addrole_row conn role =
-    request-sound conn (row.AddRole role) (λ p t. keep.keep-addrole p role)
+pub sound-addrole_row : (connection : ℕ) (role : List ℕ)
+    → KeepsSound (λ p. rows.addrole p connection role)
+sound-addrole_row connection role =
+    request-sound connection (row.AddRole role) (λ p t. keep.keep-addrole p role)
 
-pub keeps-delrole : (conn : ℕ) (role : List ℕ) → KeepsAuthorization (λ p. rows.delrole p conn role)
-keeps-delrole conn role = request-keeps conn (row.DeleteRole role)
+pub keeps-delrole : (connection : ℕ) (role : List ℕ)
+    → KeepsAuthorization (λ p. rows.delrole p connection role)
+keeps-delrole connection role = request-keeps connection (row.DeleteRole role)
     (λ p t s. trimmed.trim-authorized (rows.without_role_of p role))
 
-pub sound-delrole : (conn : ℕ) (role : List ℕ) → KeepsSound (λ p. rows.delrole p conn role)
-sound-delrole conn role = request-sound conn (row.DeleteRole role) (λ p t.
+pub sound-delrole : (connection : ℕ) (role : List ℕ)
+    → KeepsSound (λ p. rows.delrole p connection role)
+sound-delrole connection role = request-sound connection (row.DeleteRole role) (λ p t.
     let unused = keep.unused (not_true (uses_role p.ssd role || uses_role p.dsd role) t.1.1.1.0) in
     trimmed.keep-delrole p role unused.0 unused.1)
 
-pub keeps-assign : (conn : ℕ) (user role : List ℕ)
-    → KeepsAuthorization (λ p. rows.assign p conn user role)
-keeps-assign conn user role =
-    request-keeps conn (row.Assign user role) (λ p t. sound-assign p user role)
+pub keeps-assign : (connection : ℕ) (user role : List ℕ)
+    → KeepsAuthorization (λ p. rows.assign p connection user role)
+keeps-assign connection user role =
+    request-keeps connection (row.Assign user role) (λ p t. sound-assign p user role)
 
-pub sound-assign_row : (conn : ℕ) (user role : List ℕ)
-    → KeepsSound (λ p. rows.assign p conn user role)
-sound-assign_row conn user role = request-sound conn (row.Assign user role)
+pub sound-assign_row : (connection : ℕ) (user role : List ℕ)
+    → KeepsSound (λ p. rows.assign p connection user role)
+sound-assign_row connection user role = request-sound connection (row.Assign user role)
     (λ p t. keep.keep-assign p user role (static-holds (row.assigned p user role) t.1.1.1.1.0))
 
-pub keeps-deassign : (conn : ℕ) (user role : List ℕ)
-    → KeepsAuthorization (λ p. rows.deassign p conn user role)
-keeps-deassign conn user role = request-keeps conn (row.Deassign user role)
+pub keeps-deassign : (connection : ℕ) (user role : List ℕ)
+    → KeepsAuthorization (λ p. rows.deassign p connection user role)
+keeps-deassign connection user role = request-keeps connection (row.Deassign user role)
     (λ p t s. trimmed.trim-authorized (row.deassigned p user role))
 
-pub sound-deassign : (conn : ℕ) (user role : List ℕ)
-    → KeepsSound (λ p. rows.deassign p conn user role)
-sound-deassign conn user role =
-    request-sound conn (row.Deassign user role) (λ p t. trimmed.keep-deassign p user role)
+pub sound-deassign : (connection : ℕ) (user role : List ℕ)
+    → KeepsSound (λ p. rows.deassign p connection user role)
+sound-deassign connection user role =
+    request-sound connection (row.Deassign user role) (λ p t. trimmed.keep-deassign p user role)
 
-pub keeps-grant : (conn : ℕ) (new : Grant) → KeepsAuthorization (λ p. rows.grant p conn new)
-keeps-grant conn new = request-keeps conn (row.AddGrant new) (λ p t s. s)
+pub keeps-grant : (connection : ℕ) (new : Grant)
+    → KeepsAuthorization (λ p. rows.grant p connection new)
+keeps-grant connection new = request-keeps connection (row.AddGrant new) (λ p t s. s)
 
-pub sound-grant : (conn : ℕ) (new : Grant) → KeepsSound (λ p. rows.grant p conn new)
-sound-grant conn new = request-sound conn (row.AddGrant new)
+pub sound-grant : (connection : ℕ) (new : Grant) → KeepsSound (λ p. rows.grant p connection new)
+sound-grant connection new = request-sound connection (row.AddGrant new)
     (λ p t. keep.keep-granted p (row.grant_added p new).granted)
 
-pub keeps-revoke : (conn : ℕ) (old : Grant) → KeepsAuthorization (λ p. rows.revoke p conn old)
-keeps-revoke conn old = request-keeps conn (row.Revoke old) (λ p t s. s)
+pub keeps-revoke : (connection : ℕ) (old : Grant)
+    → KeepsAuthorization (λ p. rows.revoke p connection old)
+keeps-revoke connection old = request-keeps connection (row.Revoke old) (λ p t s. s)
 
-pub sound-revoke : (conn : ℕ) (old : Grant) → KeepsSound (λ p. rows.revoke p conn old)
-sound-revoke conn old = request-sound conn (row.Revoke old)
+pub sound-revoke : (connection : ℕ) (old : Grant) → KeepsSound (λ p. rows.revoke p connection old)
+sound-revoke connection old = request-sound connection (row.Revoke old)
     (λ p t. keep.keep-granted p (row.grant_revoked p old).granted)
 
-pub keeps-inherit : (conn : ℕ) (senior junior : List ℕ)
-    → KeepsAuthorization (λ p. rows.inherit p conn senior junior)
-keeps-inherit conn senior junior = request-keeps conn (row.Inherit senior junior)
+pub keeps-inherit : (connection : ℕ) (senior junior : List ℕ)
+    → KeepsAuthorization (λ p. rows.inherit p connection senior junior)
+keeps-inherit connection senior junior = request-keeps connection (row.Inherit senior junior)
     (λ p t. trimmed.authorized-inherit p senior junior
     (parts (is_role p.roles senior) (is_role p.roles junior) t.1.1.0).0)
 
-pub sound-inherit : (conn : ℕ) (senior junior : List ℕ)
-    → KeepsSound (λ p. rows.inherit p conn senior junior)
-sound-inherit conn senior junior = request-sound conn (row.Inherit senior junior)
+pub sound-inherit : (connection : ℕ) (senior junior : List ℕ)
+    → KeepsSound (λ p. rows.inherit p connection senior junior)
+sound-inherit connection senior junior = request-sound connection (row.Inherit senior junior)
     (λ p t. trimmed.keep-inherit p senior junior
     (parts (is_role p.roles senior) (is_role p.roles junior) t.1.1.0).0
     (static-holds (row.inherited p senior junior) t.1.1.1.1.1.0)
     (dynamic-holds (row.inherited p senior junior) t.1.1.1.1.1.1.0))
 
-pub keeps-uninherit : (conn : ℕ) (senior junior : List ℕ)
-    → KeepsAuthorization (λ p. rows.uninherit p conn senior junior)
-keeps-uninherit conn senior junior = request-keeps conn (row.Uninherit senior junior)
+pub keeps-uninherit : (connection : ℕ) (senior junior : List ℕ)
+    → KeepsAuthorization (λ p. rows.uninherit p connection senior junior)
+keeps-uninherit connection senior junior = request-keeps connection (row.Uninherit senior junior)
     (λ p t s. trimmed.trim-authorized (row.uninherited p senior junior))
 
-pub sound-uninherit : (conn : ℕ) (senior junior : List ℕ)
-    → KeepsSound (λ p. rows.uninherit p conn senior junior)
-sound-uninherit conn senior junior = request-sound conn (row.Uninherit senior junior)
+pub sound-uninherit : (connection : ℕ) (senior junior : List ℕ)
+    → KeepsSound (λ p. rows.uninherit p connection senior junior)
+sound-uninherit connection senior junior = request-sound connection (row.Uninherit senior junior)
     (λ p t. trimmed.keep-uninherit p senior junior t.1.1.0)
 
-pub keeps-ssd : (conn : ℕ) (set : SeparationSet) → KeepsAuthorization (λ p. rows.ssd p conn set)
-keeps-ssd conn set = request-keeps conn (row.MakeStatic set) (λ p t s. s)
+pub keeps-ssd : (connection : ℕ) (set : SeparationSet)
+    → KeepsAuthorization (λ p. rows.ssd p connection set)
+keeps-ssd connection set = request-keeps connection (row.MakeStatic set) (λ p t s. s)
 
-pub sound-ssd : (conn : ℕ) (set : SeparationSet) → KeepsSound (λ p. rows.ssd p conn set)
-sound-ssd conn set = request-sound conn (row.MakeStatic set)
-    (λ p t. keep.keep-made Static p conn set t.0 t.1.1.1.0
+pub sound-ssd : (connection : ℕ) (set : SeparationSet) → KeepsSound (λ p. rows.ssd p connection set)
+sound-ssd connection set = request-sound connection (row.MakeStatic set)
+    (λ p t. keep.keep-made Static p connection set t.0 t.1.1.1.0
     (static-holds (row.ssd_made p set) t.1.1.1.1.0))
 
-pub keeps-dsd : (conn : ℕ) (set : SeparationSet) → KeepsAuthorization (λ p. rows.dsd p conn set)
-keeps-dsd conn set = request-keeps conn (row.MakeDynamic set) (λ p t s. s)
+pub keeps-dsd : (connection : ℕ) (set : SeparationSet)
+    → KeepsAuthorization (λ p. rows.dsd p connection set)
+keeps-dsd connection set = request-keeps connection (row.MakeDynamic set) (λ p t s. s)
 
-pub sound-dsd : (conn : ℕ) (set : SeparationSet) → KeepsSound (λ p. rows.dsd p conn set)
-sound-dsd conn set = request-sound conn (row.MakeDynamic set)
-    (λ p t. keep.keep-made Dynamic p conn set t.0 t.1.1.1.0
+pub sound-dsd : (connection : ℕ) (set : SeparationSet) → KeepsSound (λ p. rows.dsd p connection set)
+sound-dsd connection set = request-sound connection (row.MakeDynamic set)
+    (λ p t. keep.keep-made Dynamic p connection set t.0 t.1.1.1.0
     (dynamic-holds (row.dsd_made p set) t.1.1.1.1.0))
 
-pub keeps-unssd : (conn : ℕ) (name : List ℕ) → KeepsAuthorization (λ p. rows.unssd p conn name)
-keeps-unssd conn name = request-keeps conn (row.RemoveStatic name) (λ p t s. s)
+pub keeps-unssd : (connection : ℕ) (name : List ℕ)
+    → KeepsAuthorization (λ p. rows.unssd p connection name)
+keeps-unssd connection name = request-keeps connection (row.RemoveStatic name) (λ p t s. s)
 
-pub sound-unssd : (conn : ℕ) (name : List ℕ) → KeepsSound (λ p. rows.unssd p conn name)
-sound-unssd conn name =
-    request-sound conn (row.RemoveStatic name) (λ p t. keep.keep-removed Static p name)
+pub sound-unssd : (connection : ℕ) (name : List ℕ) → KeepsSound (λ p. rows.unssd p connection name)
+sound-unssd connection name =
+    request-sound connection (row.RemoveStatic name) (λ p t. keep.keep-removed Static p name)
 
-pub keeps-undsd : (conn : ℕ) (name : List ℕ) → KeepsAuthorization (λ p. rows.undsd p conn name)
-keeps-undsd conn name = request-keeps conn (row.RemoveDynamic name) (λ p t s. s)
+pub keeps-undsd : (connection : ℕ) (name : List ℕ)
+    → KeepsAuthorization (λ p. rows.undsd p connection name)
+keeps-undsd connection name = request-keeps connection (row.RemoveDynamic name) (λ p t s. s)
 
-pub sound-undsd : (conn : ℕ) (name : List ℕ) → KeepsSound (λ p. rows.undsd p conn name)
-sound-undsd conn name =
-    request-sound conn (row.RemoveDynamic name) (λ p t. keep.keep-removed Dynamic p name)
+pub sound-undsd : (connection : ℕ) (name : List ℕ) → KeepsSound (λ p. rows.undsd p connection name)
+sound-undsd connection name =
+    request-sound connection (row.RemoveDynamic name) (λ p t. keep.keep-removed Dynamic p name)

@@ -14,7 +14,7 @@ use Rattle.mpw_roles.specs.Places.{name_at, is_place_below, is_place_under, mask
 use Rattle.mpw_roles.specs.declared.mask.Mask.{Mask}
 use Rattle.mpw_roles.proofs.BitLemmas.{name-found}
 use Rattle.mpw_roles.proofs.HierarchyLemmas.{length-with_juniors, names-with_juniors}
-use Rattle.mpw_roles.proofs.PlacesLemmas.{order-with_pair}
+use Rattle.mpw_roles.proofs.PlacesLemmas.{order-with_pair, joined-bits}
 use Rattle.mpw_roles.proofs.PositionLemmas.{position-cons}
 use Rattle.mpw_rbac.specs.Masked.{IsBelow, AreBelow, sessions_in, masks_in}
 use Rattle.mpw_rbac.specs.Policy.{assigned_lists, assigned_roles, active_lists}
@@ -193,11 +193,6 @@ below-with_pair h s j there (x ∷ xs) b =
     gathered false true false false false = refl
     gathered false false z w v = refl
 
-joined-bits : (f x y z : Bool) → ((f && x) || (y && (f && z))) ≡ (f && (x || (y && z)))
-joined-bits true x y z = refl
-joined-bits false x true z = refl
-joined-bits false x false z = refl
-
 pub are-joined : (h : Hierarchy) (s j : Name) (i : ℕ) (lists : List (List Name))
     (old new : List Mask) (m : Mask) → is_role h s ≡ true
     → Some i ≡ position (name_eq s) (role_names h)
@@ -233,15 +228,15 @@ pub active-lists : (es : List (ℕ × Active)) → map active_in es ≡ active_l
 active-lists [] = refl
 active-lists (e ∷ es) = ap (λ (l : List (List Name)). e.1.session.active ∷ l) (active-lists es)
 
-abbrev same_conn : ℕ → ℕ → Bool
-same_conn a b = a == b
+abbrev same_connection : ℕ → ℕ → Bool
+same_connection a b = a == b
 
 abbrev pub AreActive : Hierarchy → List (ℕ × Active) → Type 0
 AreActive h es = AreBelow h (active_lists (sessions_in es)) (masks_in es)
 
-active-cons : (h : Hierarchy) (conn : ℕ) (a : Active) (es : List (ℕ × Active))
-    → IsBelow h a.session.active a.acting → AreActive h es → AreActive h ((conn, a) ∷ es)
-active-cons h conn a es here rest =
+active-cons : (h : Hierarchy) (connection : ℕ) (a : Active) (es : List (ℕ × Active))
+    → IsBelow h a.session.active a.acting → AreActive h es → AreActive h ((connection, a) ∷ es)
+active-cons h connection a es here rest =
     below-cons h a.session.active (active_lists (sessions_in es)) a.acting (masks_in es) here rest
 
 pub active-head : (h : Hierarchy) (e : ℕ × Active) (es : List (ℕ × Active)) → AreActive h (e ∷ es)
@@ -255,51 +250,58 @@ active-tail h e es w =
     below-tail h e.1.session.active (active_lists (sessions_in es)) e.1.acting (masks_in es) w
 
 -- the session of a connection
-pub session-found : (es : List (ℕ × Active)) (conn : ℕ)
-    → option_map (λ (a : Active). a.session) (lookup (same_conn conn) es) ≡ value_at same_conn
-    (sessions_in es) conn
-session-found [] conn = refl
-session-found (e ∷ es) conn = elim (conn == e.0) as
-    (λ b. option_map (λ (a : Active). a.session) (cond b (Some e.1) (lookup (same_conn conn) es))
-    ≡ cond b (Some e.1.session) (value_at same_conn (sessions_in es) conn)) [
+pub session-found : (es : List (ℕ × Active)) (connection : ℕ)
+    → option_map (λ (a : Active). a.session) (lookup (same_connection connection) es)
+    ≡ value_at same_connection
+    (sessions_in es) connection
+session-found [] connection = refl
+session-found (e ∷ es) connection = elim (connection == e.0) as
+    (λ b. option_map (λ (a : Active). a.session)
+    (cond b (Some e.1) (lookup (same_connection connection) es))
+    ≡ cond b (Some e.1.session) (value_at same_connection (sessions_in es) connection)) [
       | true ↦ refl
-      | false ↦ session-found es conn
+      | false ↦ session-found es connection
     ]
 
-pub acting-found : (h : Hierarchy) (es : List (ℕ × Active)) (conn : ℕ) (a : Active) → AreActive h es
-    → Some a ≡ lookup (same_conn conn) es → IsBelow h a.session.active a.acting
-acting-found h [] conn a w at = cc
-acting-found h (e ∷ es) conn a w at =
-    elim (conn == e.0) as (λ b. Some a ≡ cond b (Some e.1) (lookup (same_conn conn) es)
+pub acting-found : (h : Hierarchy) (es : List (ℕ × Active)) (connection : ℕ) (a : Active)
+    → AreActive h es
+    → Some a ≡ lookup (same_connection connection) es → IsBelow h a.session.active a.acting
+acting-found h [] connection a w at = cc
+acting-found h (e ∷ es) connection a w at =
+    elim (connection == e.0) as
+    (λ b. Some a ≡ cond b (Some e.1) (lookup (same_connection connection) es)
     → IsBelow h a.session.active a.acting) [
       | true ↦ λ is. let same : e.1 ≡ a = cc in
           subst (λ (x : Active). IsBelow h x.session.active x.acting) same (active-head h e es w)
-      | false ↦ λ later. acting-found h es conn a (active-tail h e es w) later
+      | false ↦ λ later. acting-found h es connection a (active-tail h e es w) later
     ] at
 
 -- another session, or one more
-pub sessions-insert : (es : List (ℕ × Active)) (conn : ℕ) (a : Active)
-    → sessions_in (insert_entry same_conn es conn a) ≡ insert_entry same_conn (sessions_in es) conn
+pub sessions-insert : (es : List (ℕ × Active)) (connection : ℕ) (a : Active)
+    → sessions_in (insert_entry same_connection es connection a)
+    ≡ insert_entry same_connection (sessions_in es) connection
     a.session
-sessions-insert [] conn a = refl
-sessions-insert (e ∷ es) conn a = elim (conn == e.0) as
-    (λ b. sessions_in (cond b ((e.0, a) ∷ es) (e ∷ insert_entry same_conn es conn a))
+sessions-insert [] connection a = refl
+sessions-insert (e ∷ es) connection a = elim (connection == e.0) as
+    (λ b. sessions_in (cond b ((e.0, a) ∷ es) (e ∷ insert_entry same_connection es connection a))
     ≡ cond b ((e.0, a.session) ∷ sessions_in es)
-    ((e.0, e.1.session) ∷ insert_entry same_conn (sessions_in es) conn a.session)) [
+    ((e.0, e.1.session) ∷ insert_entry same_connection (sessions_in es) connection a.session)) [
       | true ↦ refl
-      | false ↦ ap (λ (l : List (ℕ × Session)). (e.0, e.1.session) ∷ l) (sessions-insert es conn a)
+      | false ↦ ap (λ (l : List (ℕ × Session)). (e.0, e.1.session) ∷ l)
+          (sessions-insert es connection a)
     ]
 
-pub acting-insert : (h : Hierarchy) (es : List (ℕ × Active)) (conn : ℕ) (a : Active)
+pub acting-insert : (h : Hierarchy) (es : List (ℕ × Active)) (connection : ℕ) (a : Active)
     → AreActive h es → IsBelow h a.session.active a.acting
-    → AreActive h (insert_entry same_conn es conn a)
-acting-insert h [] conn a w here = active-cons h conn a [] here (below-nil h)
-acting-insert h (e ∷ es) conn a w here =
-    elim (conn == e.0) as (λ b. AreActive h
-    (cond b ((e.0, a) ∷ es) (e ∷ insert_entry same_conn es conn a))) [
+    → AreActive h (insert_entry same_connection es connection a)
+acting-insert h [] connection a w here = active-cons h connection a [] here (below-nil h)
+acting-insert h (e ∷ es) connection a w here =
+    elim (connection == e.0) as (λ b. AreActive h
+    (cond b ((e.0, a) ∷ es) (e ∷ insert_entry same_connection es connection a))) [
       | true ↦ active-cons h e.0 a es here (active-tail h e es w)
-      | false ↦ active-cons h e.0 e.1 (insert_entry same_conn es conn a) (active-head h e es w)
-          (acting-insert h es conn a (active-tail h e es w) here)
+      | false ↦ active-cons h e.0 e.1 (insert_entry same_connection es connection a)
+          (active-head h e es w)
+          (acting-insert h es connection a (active-tail h e es w) here)
     ]
 
 -- a session less

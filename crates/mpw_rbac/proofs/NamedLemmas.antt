@@ -7,13 +7,13 @@ use Rattle.mpw_roles.specs.Order.{are_distinct}
 use Rattle.mpw_roles.proofs.CallerLemmas.{contains-filter, name_eq-refl, same_name, or_right}
 use Rattle.mpw_roles.proofs.RoleLemmas.{contains-append}
 use Rattle.mpw_rbac.specs.Grant.{operation_eq, object_eq, grant_eq}
-use Rattle.mpw_rbac.specs.Internal.Holders.{are_to_roles}
+use Rattle.mpw_rbac.specs.Internal.Holders.{are_to_roles, grants_after}
 use Rattle.mpw_rbac.specs.Rows.{ungranted}
 use Rattle.mpw_rbac.specs.declared.permission.Grant.{Grant}
 use Rattle.mpw_rbac.proofs.SeparationLemmas.{refuted, both, parts}
 
 -- a grant more
-pub named-more : (roles : List Name) (granted : List Grant) (g : Grant)
+named-more : (roles : List Name) (granted : List Grant) (g : Grant)
     → are_to_roles roles granted ≡ true → contains_name roles g.role ≡ true
     → are_to_roles roles (granted ++ g ∷ []) ≡ true
 named-more roles [] g all one = both (contains_name roles g.role) true one refl
@@ -22,7 +22,7 @@ named-more roles (x ∷ xs) g all one =
     both (contains_name roles x.role) _ p.0 (named-more roles xs g p.1 one)
 
 -- fewer grants
-pub named-fewer : (roles : List Name) (k : Grant → Bool) (granted : List Grant)
+named-fewer : (roles : List Name) (k : Grant → Bool) (granted : List Grant)
     → are_to_roles roles granted ≡ true → are_to_roles roles (filter k granted) ≡ true
 named-fewer roles k [] all = refl
 named-fewer roles k (x ∷ xs) all =
@@ -31,6 +31,14 @@ named-fewer roles k (x ∷ xs) all =
       | true ↦ both (contains_name roles x.role) _ p.0 (named-fewer roles k xs p.1)
       | false ↦ named-fewer roles k xs p.1
     ]
+
+-- a grant more or less
+pub named-after : (more : Bool) (roles : List Name) (granted : List Grant) (g : Grant)
+    → are_to_roles roles granted ≡ true → (more ≡ true → contains_name roles g.role ≡ true)
+    → are_to_roles roles (grants_after more granted g) ≡ true
+named-after true roles granted g all one = named-more roles granted g all (one refl)
+named-after false roles granted g all _ =
+    named-fewer roles (λ other. not (grant_eq g other)) granted all
 
 -- a role more
 pub named-role : (roles : List Name) (r : Name) (granted : List Grant)

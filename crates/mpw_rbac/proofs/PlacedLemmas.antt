@@ -8,7 +8,10 @@ use Rattle.mpw_roles.proofs.CallerLemmas.{names-with_juniors, or_right}
 use Rattle.mpw_separation.specs.Placed.{KeptSets, AreSetsPlaced, IsBelow}
 use Rattle.mpw_separation.specs.Separation.{breaks, is_broken}
 use Rattle.mpw_separation.specs.Set.{SeparationSet}
+use Rattle.mpw_rbac.specs.Internal.Pairs.{pair_row}
 use Rattle.mpw_rbac.specs.declared.active.Active.{Active}
+use Rattle.mpw_rbac.specs.declared.hierarchy.PairChange.{PairChange}
+use Rattle.mpw_rbac.specs.declared.hierarchy.PairChange.TheVariants.{Inherit, Uninherit}
 use Rattle.mpw_rbac.proofs.MaskedLemmas.{AreActive, active-head, active-tail}
 use Rattle.mpw_rbac.proofs.RowFacts.{inherited-pair, uninherited-pair}
 
@@ -24,6 +27,12 @@ pub names-uninherited : (h : Hierarchy) (senior junior : Name) (after : Hierarch
 names-uninherited h senior junior after made =
     ap role_names (uninherited-pair h senior junior after made).1
     ∙ names-with_juniors h senior _
+
+pub names-changed : (change : PairChange) (h : Hierarchy) (senior junior : Name)
+    (after : Hierarchy) → pair_row change h senior junior ≡ Ok after
+    → role_names after ≡ role_names h
+names-changed Inherit = names-inherited
+names-changed Uninherit = names-uninherited
 
 -- a change of the sets keeps their masks
 pub placed-after : (h k : Hierarchy) → k ≡ h → (old new : KeptSets)

@@ -36,9 +36,10 @@ abbrev pub ok_policy : Policy → Result Policy Refusal
 ok_policy p = Ok p
 
 -- the two tests that every administrative request begins with
-pub administered-facts : (p : Policy) (conn : ℕ) → rows.administered p conn ≡ Ok p
-    → (is_some (session_of p conn) ≡ true) × (permits p conn Admin Desk ≡ true)
-administered-facts p conn ok = by (is_some (session_of p conn)) (permits p conn Admin Desk) ok
+pub administered-facts : (p : Policy) (connection : ℕ) → rows.administered p connection ≡ Ok p
+    → (is_some (session_of p connection) ≡ true) × (permits p connection Admin Desk ≡ true)
+administered-facts p connection ok =
+    by (is_some (session_of p connection)) (permits p connection Admin Desk) ok
   where
     by : (a b : Bool) → cond a (cond b (Ok p) (Err (NotPermitted Admin Desk))) (Err NoSession)
         ≡ Ok p → (a ≡ true) × (b ≡ true)
@@ -51,13 +52,13 @@ pub none-passes : (told : Name → Refusal) (o : Option Name) → o ≡ None
     → (rows.none_broken told o).0 ≡ true
 none-passes told o none = ap (λ n. (rows.none_broken told n).0) none
 
-module _ (p : Policy) (conn : ℕ) (ok : rows.administered p conn ≡ Ok p) where
+module _ (p : Policy) (connection : ℕ) (ok : rows.administered p connection ≡ Ok p) where
   pub adduser-ok : (user : Name) (digest : List ℕ) (users : List (Name × User))
       → is_user p user ≡ false → nat_lt (length p.users) 512 ≡ true
       → users ≡ insert_entry name_eq p.users user (record { digest = digest; roles = [] })
-      → rows.adduser p conn user digest ≡ Ok (record p { users = users })
+      → rows.adduser p connection user digest ≡ Ok (record p { users = users })
   adduser-ok user digest users new room is =
-      let f = administered-facts p conn ok in
+      let f = administered-facts p connection ok in
       rw (f.0, f.1, new, room) (ap (λ us. Ok (record p { users = us }))
       (sym (is ∙ insert-new name_eq p.users user _ new)))
 
@@ -70,9 +71,9 @@ module _ (p : Policy) (conn : ℕ) (ok : rows.administered p conn ≡ Ok p) wher
         digest = rows.digest_of_user p user;
         roles = assigned_roles p user ++ role
             ∷ [];
-      }) → rows.assign p conn user role ≡ Ok (record p { users = users })
+      }) → rows.assign p connection user role ≡ Ok (record p { users = users })
   assign-ok user role users known role_known new none is =
-      let f = administered-facts p conn ok in
+      let f = administered-facts p connection ok in
       let holds = none-passes Ssd (least_broken p.roles p.ssd
       (assigned_lists (rows.with_assigned p user (assigned_roles p user ++ role ∷ [])).users))
       none in
@@ -84,36 +85,36 @@ module _ (p : Policy) (conn : ℕ) (ok : rows.administered p conn ≡ Ok p) wher
       → contains_name (assigned_roles p user) role ≡ false
       → least_broken p.roles p.ssd (assigned_lists
       (rows.with_assigned p user (assigned_roles p user ++ role ∷ [])).users) ≡ Some name
-      → rows.assign p conn user role ≡ Err (Ssd name)
+      → rows.assign p connection user role ≡ Err (Ssd name)
   assign-broken user role name known role_known new some =
-      let f = administered-facts p conn ok in
+      let f = administered-facts p connection ok in
       rw (f.0, f.1, known, role_known, new, some)
 
   pub grant-ok : (new : Grant) (granted : List Grant) → is_role p.roles new.role ≡ true
       → list_any (grant_eq new) p.granted ≡ false → nat_lt (length p.granted) 4096 ≡ true
       → granted ≡ p.granted ++ new ∷ []
-      → rows.grant p conn new ≡ Ok (record p { granted = granted })
+      → rows.grant p connection new ≡ Ok (record p { granted = granted })
   grant-ok new granted role_known unknown room is =
-      let f = administered-facts p conn ok in
+      let f = administered-facts p connection ok in
       rw (f.0, f.1, role_known, unknown, room) (ap (λ gs. Ok (record p { granted = gs })) (sym is))
 
   pub revoke-ok : (old : Grant) (granted : List Grant) → list_any (grant_eq old) p.granted ≡ true
       → granted ≡ filter (λ other. not (grant_eq old other)) p.granted
-      → rows.revoke p conn old ≡ Ok (record p { granted = granted })
+      → rows.revoke p connection old ≡ Ok (record p { granted = granted })
   revoke-ok old granted known is =
-      let f = administered-facts p conn ok in
+      let f = administered-facts p connection ok in
       rw (f.0, f.1, known) (ap (λ gs. Ok (record p { granted = gs })) (sym is))
 
   pub delrole-ok : (role : Name) → is_role p.roles role ≡ true
       → (uses_role p.ssd role || uses_role p.dsd role) ≡ false
-      → rows.delrole p conn role ≡ Ok (trim (rows.without_role_of p role))
-  delrole-ok role known unused = let f = administered-facts p conn ok in
+      → rows.delrole p connection role ≡ Ok (trim (rows.without_role_of p role))
+  delrole-ok role known unused = let f = administered-facts p connection ok in
       rw (f.0, f.1, known, unused)
 
   pub deassign-ok : (user role : Name) → contains_name (assigned_roles p user) role ≡ true
-      → rows.deassign p conn user role ≡ Ok
+      → rows.deassign p connection user role ≡ Ok
       (trim (rows.with_assigned p user (without_name (assigned_roles p user) role)))
-  deassign-ok user role known = let f = administered-facts p conn ok in rw (f.0, f.1, known)
+  deassign-ok user role known = let f = administered-facts p connection ok in rw (f.0, f.1, known)
 
 -- what an accepted command leaves
 abbrev done : {A F : Type 0} → A → Result A F
@@ -166,12 +167,13 @@ inherited-tests h senior junior after e = by (is_role h senior && is_role h juni
     by false y z f = cc
 
 -- a pair that would break a set
-module _ (p : Policy) (conn : ℕ) (ok : rows.administered p conn ≡ Ok p) (senior junior name : Name)
+module _ (p : Policy) (connection : ℕ) (ok : rows.administered p connection ≡ Ok p)
+    (senior junior name : Name)
     (after : Hierarchy) (made : roles.inherit p.roles senior junior ≡ Ok after) where
   pub inherit-static : least_broken after p.ssd (assigned_lists p.users) ≡ Some name
-      → rows.inherit p conn senior junior ≡ Err (Ssd name)
+      → rows.inherit p connection senior junior ≡ Err (Ssd name)
   inherit-static broken =
-      let f = administered-facts p conn ok in
+      let f = administered-facts p connection ok in
       let t = inherited-tests p.roles senior junior after made in
       let some : least_broken (with_pair p.roles senior junior) p.ssd (assigned_lists p.users)
       ≡ Some name = ap (λ h. least_broken h p.ssd (assigned_lists p.users))
@@ -180,9 +182,9 @@ module _ (p : Policy) (conn : ℕ) (ok : rows.administered p conn ≡ Ok p) (sen
 
   pub inherit-dynamic : least_broken after p.ssd (assigned_lists p.users) ≡ None
       → least_broken after p.dsd (active_lists p.sessions) ≡ Some name
-      → rows.inherit p conn senior junior ≡ Err (Dsd name)
+      → rows.inherit p connection senior junior ≡ Err (Dsd name)
   inherit-dynamic kept broken =
-      let f = administered-facts p conn ok in
+      let f = administered-facts p connection ok in
       let t = inherited-tests p.roles senior junior after made in
       let pair = inherited-pair p.roles senior junior after made in
       let none : least_broken (with_pair p.roles senior junior) p.ssd (assigned_lists p.users)
@@ -255,12 +257,17 @@ assign-same p user role s known = least-changed name_eq (λ (u : User). u.roles)
           ++ role ∷ [];
     }) known s.static
 
-pub activate-same : (p : Policy) (conn : ℕ) (role : Name) → Sound p
-    → is_some (session_of p conn) ≡ true
+pub activate-same : (p : Policy) (connection : ℕ) (role : Name) → Sound p
+    → is_some (session_of p connection) ≡ true
     → least_broken p.roles p.dsd (active_lists
-    (rows.with_active p conn (rows.active_roles p conn ++ role ∷ [])).sessions) ≡ least_broken
-    p.roles p.dsd ((rows.active_roles p conn ++ role ∷ []) ∷ [])
-activate-same p conn role s there =
-    least-changed (λ a b. a == b) (λ (x : Session). x.active) p.roles p.dsd p.sessions conn
-    (record { user = rows.user_of p conn; active = rows.active_roles p conn ++ role ∷ [] })
-    (sym (is_some-value_at (λ a b. a == b) p.sessions conn) ∙ there) s.dynamic
+    (rows.with_active p connection (rows.active_roles p connection ++ role ∷ [])).sessions)
+    ≡ least_broken
+    p.roles p.dsd ((rows.active_roles p connection ++ role ∷ []) ∷ [])
+activate-same p connection role s there =
+    least-changed (λ a b. a == b) (λ (x : Session). x.active) p.roles p.dsd p.sessions connection
+    (record {
+      user = rows.user_of p connection;
+      active =
+          rows.active_roles p connection ++ role ∷ [];
+    })
+    (sym (is_some-value_at (λ a b. a == b) p.sessions connection) ∙ there) s.dynamic

@@ -31,34 +31,35 @@ added-role h role after ok = by (is_role h role) (nat_lt (length h) 512) ok
     by false false e = cc
 
 -- a session begins
-pub open-ok : (p : Policy) (conn : ℕ) (user : Name) (digest : List ℕ)
-    (sessions : List (ℕ × Session)) → is_some (session_of p conn) ≡ false
+pub open-ok : (p : Policy) (connection : ℕ) (user : Name) (digest : List ℕ)
+    (sessions : List (ℕ × Session)) → is_some (session_of p connection) ≡ false
     → rows.is_login p user digest ≡ true
-    → sessions ≡ insert_entry (λ a b. a == b) p.sessions conn (record { user = user; active = [] })
-    → rows.open_session p conn user digest ≡ Ok (record p { sessions = sessions })
-open-ok p conn user digest sessions closed login is =
-    let none : is_none (session_of p conn) ≡ true = by (session_of p conn) closed in
-    let new : has_key (λ a b. a == b) p.sessions conn ≡ false =
-    sym (is_some-value_at (λ a b. a == b) p.sessions conn) ∙ closed in
+    → sessions
+    ≡ insert_entry (λ a b. a == b) p.sessions connection (record { user = user; active = [] })
+    → rows.open_session p connection user digest ≡ Ok (record p { sessions = sessions })
+open-ok p connection user digest sessions closed login is =
+    let none : is_none (session_of p connection) ≡ true = by (session_of p connection) closed in
+    let new : has_key (λ a b. a == b) p.sessions connection ≡ false =
+    sym (is_some-value_at (λ a b. a == b) p.sessions connection) ∙ closed in
     rw (none, login) (ap (λ s. Ok (record p { sessions = s }))
-    (sym (is ∙ insert-new (λ a b. a == b) p.sessions conn _ new)))
+    (sym (is ∙ insert-new (λ a b. a == b) p.sessions connection _ new)))
   where
     by : (o : Option Session) → is_some o ≡ false → is_none o ≡ true
     by None e = refl
     by (Some s) e = cc
 
 -- where there is no session nothing ends
-pub end-absent : (p : Policy) (conn : ℕ) → is_some (session_of p conn) ≡ false
-    → rows.end_session p conn ≡ p
-end-absent p conn none = ap (λ s. record p { sessions = s }) (by p.sessions none)
+pub end-absent : (p : Policy) (connection : ℕ) → is_some (session_of p connection) ≡ false
+    → rows.end_session p connection ≡ p
+end-absent p connection none = ap (λ s. record p { sessions = s }) (by p.sessions none)
   where
-    by : (es : List (ℕ × Session)) → is_some (value_at (λ a b. a == b) es conn) ≡ false
-        → without_key (λ a b. a == b) es conn ≡ es
+    by : (es : List (ℕ × Session)) → is_some (value_at (λ a b. a == b) es connection) ≡ false
+        → without_key (λ a b. a == b) es connection ≡ es
     by [] n = refl
-    by (e ∷ es) n = elim (conn == e.0) as
-        (λ b. is_some (cond b (Some e.1) (value_at (λ a b. a == b) es conn)) ≡ false
-        → cond (not b) (e ∷ without_key (λ a b. a == b) es conn)
-        (without_key (λ a b. a == b) es conn) ≡ e ∷ es) [
+    by (e ∷ es) n = elim (connection == e.0) as
+        (λ b. is_some (cond b (Some e.1) (value_at (λ a b. a == b) es connection)) ≡ false
+        → cond (not b) (e ∷ without_key (λ a b. a == b) es connection)
+        (without_key (λ a b. a == b) es connection) ≡ e ∷ es) [
           | true ↦ λ there. cc
           | false ↦ λ later. ap (λ l. e ∷ l) (by es later)
         ] n
@@ -75,46 +76,53 @@ login-user p user digest login =
     by (Some u) e = refl
 
 -- a role becomes active
-pub activate-ok : (p : Policy) (conn : ℕ) (role : Name) (sessions : List (ℕ × Session))
-    → is_some (session_of p conn) ≡ true
-    → contains_name (authorized p (rows.user_of p conn)) role ≡ true
-    → contains_name (rows.active_roles p conn) role ≡ false
+pub activate-ok : (p : Policy) (connection : ℕ) (role : Name) (sessions : List (ℕ × Session))
+    → is_some (session_of p connection) ≡ true
+    → contains_name (authorized p (rows.user_of p connection)) role ≡ true
+    → contains_name (rows.active_roles p connection) role ≡ false
     → least_broken p.roles p.dsd (active_lists
-    (rows.with_active p conn (rows.active_roles p conn ++ role ∷ [])).sessions) ≡ None
-    → sessions ≡ insert_entry (λ a b. a == b) p.sessions conn
-    (record { user = rows.user_of p conn; active = rows.active_roles p conn ++ role ∷ [] })
-    → rows.activate p conn role ≡ Ok (record p { sessions = sessions })
-activate-ok p conn role sessions there may new none is =
+    (rows.with_active p connection (rows.active_roles p connection ++ role ∷ [])).sessions) ≡ None
+    → sessions ≡ insert_entry (λ a b. a == b) p.sessions connection
+    (record {
+      user = rows.user_of p connection;
+      active =
+          rows.active_roles p connection ++ role ∷ [];
+    })
+    → rows.activate p connection role ≡ Ok (record p { sessions = sessions })
+activate-ok p connection role sessions there may new none is =
     let holds = none-passes Dsd (least_broken p.roles p.dsd
-    (active_lists (rows.with_active p conn (rows.active_roles p conn ++ role ∷ [])).sessions))
+    (active_lists
+    (rows.with_active p connection (rows.active_roles p connection ++ role ∷ [])).sessions))
     none in
-    let known : has_key (λ a b. a == b) p.sessions conn ≡ true =
-    sym (is_some-value_at (λ a b. a == b) p.sessions conn) ∙ there in
+    let known : has_key (λ a b. a == b) p.sessions connection ≡ true =
+    sym (is_some-value_at (λ a b. a == b) p.sessions connection) ∙ there in
     rw (there, may, new, holds) (ap (λ s. Ok (record p { sessions = s }))
-    (sym (is ∙ insert-present (λ a b. a == b) p.sessions conn _ known)))
+    (sym (is ∙ insert-present (λ a b. a == b) p.sessions connection _ known)))
 
-pub activate-broken : (p : Policy) (conn : ℕ) (role name : Name)
-    → is_some (session_of p conn) ≡ true
-    → contains_name (authorized p (rows.user_of p conn)) role ≡ true
-    → contains_name (rows.active_roles p conn) role ≡ false
+pub activate-broken : (p : Policy) (connection : ℕ) (role name : Name)
+    → is_some (session_of p connection) ≡ true
+    → contains_name (authorized p (rows.user_of p connection)) role ≡ true
+    → contains_name (rows.active_roles p connection) role ≡ false
     → least_broken p.roles p.dsd (active_lists
-    (rows.with_active p conn (rows.active_roles p conn ++ role ∷ [])).sessions) ≡ Some name
-    → rows.activate p conn role ≡ Err (Dsd name)
-activate-broken p conn role name there may new some = rw (there, may, new, some)
+    (rows.with_active p connection (rows.active_roles p connection ++ role ∷ [])).sessions)
+    ≡ Some name
+    → rows.activate p connection role ≡ Err (Dsd name)
+activate-broken p connection role name there may new some = rw (there, may, new, some)
 
 -- and is active no longer
-pub drop-ok : (p : Policy) (conn : ℕ) (role : Name) (sessions : List (ℕ × Session))
-    → is_some (session_of p conn) ≡ true → contains_name (rows.active_roles p conn) role ≡ true
-    → sessions ≡ insert_entry (λ a b. a == b) p.sessions conn
+pub drop-ok : (p : Policy) (connection : ℕ) (role : Name) (sessions : List (ℕ × Session))
+    → is_some (session_of p connection) ≡ true
+    → contains_name (rows.active_roles p connection) role ≡ true
+    → sessions ≡ insert_entry (λ a b. a == b) p.sessions connection
     (record {
-      user = rows.user_of p conn;
-      active = without_name (rows.active_roles p conn) role;
-    }) → rows.drop_role p conn role ≡ Ok (record p { sessions = sessions })
-drop-ok p conn role sessions there active is =
-    let known : has_key (λ a b. a == b) p.sessions conn ≡ true =
-    sym (is_some-value_at (λ a b. a == b) p.sessions conn) ∙ there in
+      user = rows.user_of p connection;
+      active = without_name (rows.active_roles p connection) role;
+    }) → rows.drop_role p connection role ≡ Ok (record p { sessions = sessions })
+drop-ok p connection role sessions there active is =
+    let known : has_key (λ a b. a == b) p.sessions connection ≡ true =
+    sym (is_some-value_at (λ a b. a == b) p.sessions connection) ∙ there in
     rw (there, active) (ap (λ s. Ok (record p { sessions = s }))
-    (sym (is ∙ insert-present (λ a b. a == b) p.sessions conn _ known)))
+    (sym (is ∙ insert-present (λ a b. a == b) p.sessions connection _ known)))
 
 pub ok-value : (p q : Policy) → ok_policy p ≡ Ok q → p ≡ q
 ok-value p q e = cc

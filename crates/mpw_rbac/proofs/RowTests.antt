@@ -19,31 +19,35 @@ use Rattle.mpw_rbac.specs.declared.refusal.Refusal.{Refusal}
 use Rattle.mpw_rbac.specs.declared.refusal.Refusal.TheVariants.{Opened, Login, NotAuthorized, Unknown, Known, Full, Used, Loop}
 
 abbrev pub opened : Policy → ℕ → Name → Policy
-opened p conn user =
-    record p { sessions = p.sessions ++ (conn, record { user = user; active = [] }) ∷ [] }
+opened p connection user =
+    record p { sessions = p.sessions ++ (connection, record { user = user; active = [] }) ∷ [] }
 
 abbrev pub open-tests : Policy → ℕ → Name → List ℕ → List rows.Test
-open-tests p conn user digest =
-    (is_none (session_of p conn), Opened) ∷ (rows.is_login p user digest, Login) ∷ []
+open-tests p connection user digest =
+    (is_none (session_of p connection), Opened) ∷ (rows.is_login p user digest, Login) ∷ []
 
 abbrev pub activated : Policy → ℕ → Name → Policy
-activated p conn role = rows.with_active p conn (rows.active_roles p conn ++ role ∷ [])
+activated p connection role =
+    rows.with_active p connection (rows.active_roles p connection ++ role ∷ [])
 
 abbrev pub activate-tests : Policy → ℕ → Name → List rows.Test
-activate-tests p conn role = rows.in_session p conn
-    ∷ (contains_name (authorized p (rows.user_of p conn)) role, NotAuthorized role)
-    ∷ (not (contains_name (rows.active_roles p conn) role), Known)
-    ∷ rows.dsd_holds (activated p conn role) ∷ []
+activate-tests p connection role = rows.in_session p connection
+    ∷ (contains_name (authorized p (rows.user_of p connection)) role, NotAuthorized role)
+    ∷ (not (contains_name (rows.active_roles p connection) role), Known)
+    ∷ rows.dsd_holds (activated p connection role) ∷ []
 
 abbrev pub dropped : Policy → ℕ → Name → Policy
-dropped p conn role = rows.with_active p conn (without_name (rows.active_roles p conn) role)
+dropped p connection role =
+    rows.with_active p connection (without_name (rows.active_roles p connection) role)
 
 abbrev pub drop-tests : Policy → ℕ → Name → List rows.Test
-drop-tests p conn role =
-    rows.in_session p conn ∷ (contains_name (rows.active_roles p conn) role, Unknown) ∷ []
+drop-tests p connection role =
+    rows.in_session p connection
+    ∷ (contains_name (rows.active_roles p connection) role, Unknown) ∷ []
 
 abbrev pub administer-tests : Policy → ℕ → List rows.Test → List rows.Test
-administer-tests p conn tests = rows.in_session p conn ∷ rows.administers p conn ∷ tests
+administer-tests p connection tests =
+    rows.in_session p connection ∷ rows.administers p connection ∷ tests
 
 abbrev pub user_added : Policy → Name → List ℕ → Policy
 user_added p user digest =
@@ -193,7 +197,8 @@ next-of (RemoveStatic name) p = ssd_removed p name
 next-of (RemoveDynamic name) p = dsd_removed p name
 
 abbrev pub row-of : Administration → ℕ → Policy → Result Policy Refusal
-row-of request conn p = decided (administer-tests p conn (tests-of request p)) (next-of request p)
+row-of request connection p =
+    decided (administer-tests p connection (tests-of request p)) (next-of request p)
 
 -- whether it tests the sets of a kind
 abbrev pub tests_kind : Kind → Administration → Bool

@@ -169,58 +169,63 @@ sound-assign p user role sound =
     sound
 
 -- a session begins without active roles, and ends
-pub sound-open : (p : Policy) (conn : ℕ) (user : Name) → is_user p user ≡ true
+pub sound-open : (p : Policy) (connection : ℕ) (user : Name) → is_user p user ≡ true
     → active_authorized p ≡ true → active_authorized
-    (record p { sessions = p.sessions ++ (conn, record { user = user; active = [] }) ∷ [] }) ≡ true
-sound-open p conn user there sound =
-    all-append _ p.sessions ((conn, record { user = user; active = [] }) ∷ []) sound
+    (record p { sessions = p.sessions ++ (connection, record { user = user; active = [] }) ∷ [] })
+    ≡ true
+sound-open p connection user there sound =
+    all-append _ p.sessions ((connection, record { user = user; active = [] }) ∷ []) sound
     (and_both _ true (and_both (is_user p user) true there refl) refl)
 
-pub sound-end : (p : Policy) (conn : ℕ) → active_authorized p ≡ true
-    → active_authorized (rows.end_session p conn) ≡ true
-sound-end p conn sound = all-filter _ (λ (e : ℕ × Session). not (conn == e.0)) p.sessions sound
+pub sound-end : (p : Policy) (connection : ℕ) → active_authorized p ≡ true
+    → active_authorized (rows.end_session p connection) ≡ true
+sound-end p connection sound =
+    all-filter _ (λ (e : ℕ × Session). not (connection == e.0)) p.sessions sound
 
 abbrev is_kept : Policy → ℕ × Session → Bool
 is_kept p e = is_authorized_session p e.1
 
 -- an authorized role becomes active
-pub sound-activate : (p : Policy) (conn : ℕ) (role : Name)
-    → contains_name (authorized p (rows.user_of p conn)) role ≡ true → active_authorized p ≡ true
-    → active_authorized (rows.with_active p conn (rows.active_roles p conn ++ role ∷ [])) ≡ true
-sound-activate p conn role is sound = by p.sessions sound is
+pub sound-activate : (p : Policy) (connection : ℕ) (role : Name)
+    → contains_name (authorized p (rows.user_of p connection)) role ≡ true
+    → active_authorized p ≡ true
+    → active_authorized
+    (rows.with_active p connection (rows.active_roles p connection ++ role ∷ [])) ≡ true
+sound-activate p connection role is sound = by p.sessions sound is
   where
     by : (es : List (ℕ × Session)) → list_all (is_kept p) es ≡ true
         → contains_name (authorized p (option_map_or (λ (s : Session). s.user)
-        (value_at (λ a b. a == b) es conn) [])) role ≡ true
-        → list_all (is_kept p) (with_value (λ a b. a == b) es conn
+        (value_at (λ a b. a == b) es connection) [])) role ≡ true
+        → list_all (is_kept p) (with_value (λ a b. a == b) es connection
         (record {
           user = option_map_or (λ (s : Session). s.user)
-              (value_at (λ a b. a == b) es conn) [];
-          active = option_map_or (λ (s : Session). s.active) (value_at (λ a b. a == b) es conn) []
+              (value_at (λ a b. a == b) es connection) [];
+          active = option_map_or (λ (s : Session). s.active)
+              (value_at (λ a b. a == b) es connection) []
               ++ role ∷ [];
         })) ≡ true
     by [] all there = refl
     by (e ∷ es) all there =
         let parts = and_parts (is_kept p e) (list_all (is_kept p) es) all in
-        elim (conn == e.0) as (λ t. contains_name
+        elim (connection == e.0) as (λ t. contains_name
         (authorized p (option_map_or (λ (s : Session). s.user)
-        (cond t (Some e.1) (value_at (λ a b. a == b) es conn)) [])) role ≡ true
+        (cond t (Some e.1) (value_at (λ a b. a == b) es connection)) [])) role ≡ true
         → list_all (is_kept p)
         (cond t ((
           e.0,
           record {
             user = option_map_or (λ (s : Session). s.user)
-                (cond t (Some e.1) (value_at (λ a b. a == b) es conn)) [];
+                (cond t (Some e.1) (value_at (λ a b. a == b) es connection)) [];
             active = option_map_or (λ (s : Session). s.active)
-                (cond t (Some e.1) (value_at (λ a b. a == b) es conn)) [] ++ role ∷ [];
+                (cond t (Some e.1) (value_at (λ a b. a == b) es connection)) [] ++ role ∷ [];
           },
         ) ∷ es)
-        (e ∷ with_value (λ a b. a == b) es conn
+        (e ∷ with_value (λ a b. a == b) es connection
         (record {
           user = option_map_or (λ (s : Session). s.user)
-              (cond t (Some e.1) (value_at (λ a b. a == b) es conn)) [];
+              (cond t (Some e.1) (value_at (λ a b. a == b) es connection)) [];
           active = option_map_or (λ (s : Session). s.active)
-              (cond t (Some e.1) (value_at (λ a b. a == b) es conn)) [] ++ role ∷ [];
+              (cond t (Some e.1) (value_at (λ a b. a == b) es connection)) [] ++ role ∷ [];
         }))) ≡ true) [
           | true ↦ λ role_ok.
               let session = and_parts (is_user p e.1.user)

@@ -11,7 +11,8 @@ use Rattle.mpw_rbac.specs.Policy.{Policy, permits}
 
 -- where the row accepts, the connection's session may administer the desk
 abbrev pub NeedsAdministration : ℕ → (Policy → Result Policy Refusal) → Type 0
-NeedsAdministration conn row = (p q : Policy) → row p ≡ Ok q → permits p conn Admin Desk ≡ true
+NeedsAdministration connection row =
+    (p q : Policy) → row p ≡ Ok q → permits p connection Admin Desk ≡ true
 
 -- the row denies no permission
 abbrev pub NeedsNoPermission : (Policy → Result Policy Refusal) → Type 0

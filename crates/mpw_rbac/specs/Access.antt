@@ -5,5 +5,5 @@ use Rattle.mpw_rbac.specs.Policy.{Policy}
 
 pub record Access : Type 0 where
   pub policy : Policy
-  pub conn : ℕ
+  pub connection : ℕ
   pub operation : Operation

@@ -3,4 +3,5 @@ pub mod Fault
 pub mod Grants
 pub mod Holders
 pub mod Kinds
+pub mod Pairs
 pub mod Policy

@@ -34,9 +34,9 @@ PermitsNoLess policy user few many operation object =
 
 -- where a row denies a permission, the connection's session lacks it
 abbrev pub DeniesRightly : ℕ → (Policy → Result Policy Refusal) → Type 0
-DeniesRightly conn row =
+DeniesRightly connection row =
     (p : Policy) (operation : Operation) (object : Object)
-    → row p ≡ Err (NotPermitted operation object) → permits p conn operation object ≡ false
+    → row p ≡ Err (NotPermitted operation object) → permits p connection operation object ≡ false
 
 -- the name is the least of the static sets that some user of the policy breaks
 abbrev pub IsLeastStatic : Policy → Name → Type 0

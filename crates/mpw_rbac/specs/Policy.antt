@@ -62,7 +62,7 @@ authorized policy user = roles_below policy.roles (assigned_roles policy user)
 
 -- the session of a connection
 abbrev pub session_of : Policy → ℕ → Option Session
-session_of policy conn = value_at (λ a b. a == b) policy.sessions conn
+session_of policy connection = value_at (λ a b. a == b) policy.sessions connection
 
 -- the roles that act in a session: those at or below an active one (profile: an active role acts with its juniors)
 abbrev pub acting : Policy → Session → List Name
@@ -81,9 +81,9 @@ session_permits policy session operation object =
 
 -- A role of the connection's session acts that was granted the operation on the object.
 abbrev pub permits : Policy → ℕ → Operation → Object → Bool
-permits policy conn operation object =
+permits policy connection operation object =
     option_map_or (λ (session : Session). session_permits policy session operation object)
-    (session_of policy conn) false
+    (session_of policy connection) false
 
 -- a session with those of its active roles that its user is authorized for
 abbrev pub kept_roles : Policy → Session → Session

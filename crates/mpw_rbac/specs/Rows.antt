@@ -31,19 +31,20 @@ Test = Bool × Refusal
 
 -- the connection has a session
 abbrev pub in_session : Policy → ℕ → Test
-in_session policy conn = (is_some (session_of policy conn), NoSession)
+in_session policy connection = (is_some (session_of policy connection), NoSession)
 
 -- the session may do the operation
 abbrev pub is_permitted : Policy → ℕ → Operation → Object → Test
-is_permitted policy conn operation object =
-    (permits policy conn operation object, NotPermitted operation object)
+is_permitted policy connection operation object =
+    (permits policy connection operation object, NotPermitted operation object)
 
 abbrev pub administers : Policy → ℕ → Test
-administers policy conn = is_permitted policy conn Admin Desk
+administers policy connection = is_permitted policy connection Admin Desk
 
 -- the tests that every administrative request begins with
 abbrev pub administered : Policy → ℕ → Result Policy Refusal
-administered policy conn = decided (in_session policy conn ∷ administers policy conn ∷ []) policy
+administered policy connection =
+    decided (in_session policy connection ∷ administers policy connection ∷ []) policy
 
 -- a fault is want of memory, or the refusal of the row
 abbrev pub IsFaultOf : {A : Type 0} → Result A Refusal → PolicyFault → Type 0
@@ -72,18 +73,18 @@ is_login policy user digest = option_map_or (λ (u : User). pointwise nat_eq u.d
 
 -- create_session, without active roles
 abbrev pub open_session : Policy → ℕ → Name → List ℕ → Result Policy Refusal
-open_session policy conn user digest =
+open_session policy connection user digest =
     decided
-    ((is_none (session_of policy conn), Opened) ∷ (is_login policy user digest, Login) ∷ [])
+    ((is_none (session_of policy connection), Opened) ∷ (is_login policy user digest, Login) ∷ [])
     (record policy {
-      sessions = policy.sessions ++ (conn, record { user = user; active = [] })
+      sessions = policy.sessions ++ (connection, record { user = user; active = [] })
           ∷ [];
     })
 
 -- the connection's session ends, if it has one
 abbrev pub end_session : Policy → ℕ → Policy
-end_session policy conn =
-    record policy { sessions = without_key (λ a b. a == b) policy.sessions conn }
+end_session policy connection =
+    record policy { sessions = without_key (λ a b. a == b) policy.sessions connection }
 
 -- every session ends
 abbrev pub end_sessions : Policy → Policy
@@ -91,57 +92,61 @@ end_sessions policy = record policy { sessions = [] }
 
 -- delete_session
 abbrev pub close_session : Policy → ℕ → Result Policy Refusal
-close_session policy conn = decided (in_session policy conn ∷ []) (end_session policy conn)
+close_session policy connection =
+    decided (in_session policy connection ∷ []) (end_session policy connection)
 
 -- the user of a connection's session, and its active roles; neither where it has none
 abbrev pub user_of : Policy → ℕ → Name
-user_of policy conn = option_map_or (λ (s : Session). s.user) (session_of policy conn) []
+user_of policy connection =
+    option_map_or (λ (s : Session). s.user) (session_of policy connection) []
 
 abbrev pub active_roles : Policy → ℕ → List Name
-active_roles policy conn = option_map_or (λ (s : Session). s.active) (session_of policy conn) []
+active_roles policy connection =
+    option_map_or (λ (s : Session). s.active) (session_of policy connection) []
 
 -- the policy in which the session has these active roles
 abbrev pub with_active : Policy → ℕ → List Name → Policy
-with_active policy conn active =
+with_active policy connection active =
     record policy {
-      sessions = with_value (λ a b. a == b) policy.sessions conn
-          (record { user = user_of policy conn; active = active });
+      sessions = with_value (λ a b. a == b) policy.sessions connection
+          (record { user = user_of policy connection; active = active });
     }
 
 -- add_active_role
 abbrev pub activate : Policy → ℕ → Name → Result Policy Refusal
-activate policy conn role =
-    let next = with_active policy conn (active_roles policy conn ++ role ∷ []) in
+activate policy connection role =
+    let next = with_active policy connection (active_roles policy connection ++ role ∷ []) in
     decided
-    (in_session policy conn
-    ∷ (contains_name (authorized policy (user_of policy conn)) role, NotAuthorized role)
-    ∷ (not (contains_name (active_roles policy conn) role), Known)
+    (in_session policy connection
+    ∷ (contains_name (authorized policy (user_of policy connection)) role, NotAuthorized role)
+    ∷ (not (contains_name (active_roles policy connection) role), Known)
     ∷ dsd_holds next
     ∷ [])
     next
 
 -- drop_active_role
 abbrev pub drop_role : Policy → ℕ → Name → Result Policy Refusal
-drop_role policy conn role =
+drop_role policy connection role =
     decided
-    (in_session policy conn ∷ (contains_name (active_roles policy conn) role, Unknown) ∷ [])
-    (with_active policy conn (without_name (active_roles policy conn) role))
+    (in_session policy connection
+    ∷ (contains_name (active_roles policy connection) role, Unknown) ∷ [])
+    (with_active policy connection (without_name (active_roles policy connection) role))
 
 -- what the session is told of itself
 abbrev pub whoami : Policy → ℕ → Result Identity Refusal
-whoami policy conn =
-    decided (in_session policy conn ∷ [])
+whoami policy connection =
+    decided (in_session policy connection ∷ [])
     (identity_of policy (record {
-      user = user_of policy conn;
-      active = active_roles policy conn;
+      user = user_of policy connection;
+      active = active_roles policy connection;
     }))
 
 -- add_user, without assigned roles
 abbrev pub adduser : Policy → ℕ → Name → List ℕ → Result Policy Refusal
-adduser policy conn user digest =
+adduser policy connection user digest =
     decided
-    (in_session policy conn
-    ∷ administers policy conn
+    (in_session policy connection
+    ∷ administers policy connection
     ∷ (not (is_user policy user), Known)
     ∷ (nat_lt (length policy.users) max_users, Full)
     ∷ [])
@@ -149,17 +154,18 @@ adduser policy conn user digest =
 
 -- delete_user: the user's sessions end
 abbrev pub deluser : Policy → ℕ → Name → Result Policy Refusal
-deluser policy conn user =
+deluser policy connection user =
     decided
-    (in_session policy conn ∷ administers policy conn ∷ (is_user policy user, Unknown) ∷ [])
+    (in_session policy connection ∷ administers policy connection
+    ∷ (is_user policy user, Unknown) ∷ [])
     (trim (record policy { users = without_key name_eq policy.users user }))
 
 -- add_role
 abbrev pub addrole : Policy → ℕ → Name → Result Policy Refusal
-addrole policy conn role =
+addrole policy connection role =
     decided
-    (in_session policy conn
-    ∷ administers policy conn
+    (in_session policy connection
+    ∷ administers policy connection
     ∷ (not (is_role policy.roles role), Known)
     ∷ (nat_lt (length policy.roles) max_roles, Full)
     ∷ [])
@@ -183,10 +189,10 @@ without_role_of policy role = record policy {
 
 -- delete_role: a role of a set stays
 abbrev pub delrole : Policy → ℕ → Name → Result Policy Refusal
-delrole policy conn role =
+delrole policy connection role =
     decided
-    (in_session policy conn
-    ∷ administers policy conn
+    (in_session policy connection
+    ∷ administers policy connection
     ∷ (is_role policy.roles role, Unknown)
     ∷ (not (uses_role policy.ssd role || uses_role policy.dsd role), Used)
     ∷ [])
@@ -207,11 +213,11 @@ with_assigned policy user roles =
 
 -- assign_user
 abbrev pub assign : Policy → ℕ → Name → Name → Result Policy Refusal
-assign policy conn user role =
+assign policy connection user role =
     let next = with_assigned policy user (assigned_roles policy user ++ role ∷ []) in
     decided
-    (in_session policy conn
-    ∷ administers policy conn
+    (in_session policy connection
+    ∷ administers policy connection
     ∷ (is_user policy user && is_role policy.roles role, Unknown)
     ∷ (not (contains_name (assigned_roles policy user) role), Known)
     ∷ ssd_holds next
@@ -220,18 +226,18 @@ assign policy conn user role =
 
 -- deassign_user
 abbrev pub deassign : Policy → ℕ → Name → Name → Result Policy Refusal
-deassign policy conn user role =
+deassign policy connection user role =
     decided
-    (in_session policy conn ∷ administers policy conn
+    (in_session policy connection ∷ administers policy connection
     ∷ (contains_name (assigned_roles policy user) role, Unknown) ∷ [])
     (trim (with_assigned policy user (without_name (assigned_roles policy user) role)))
 
 -- grant_permission
 abbrev pub grant : Policy → ℕ → Grant → Result Policy Refusal
-grant policy conn new =
+grant policy connection new =
     decided
-    (in_session policy conn
-    ∷ administers policy conn
+    (in_session policy connection
+    ∷ administers policy connection
     ∷ (is_role policy.roles new.role, Unknown)
     ∷ (not (list_any (grant_eq new) policy.granted), Known)
     ∷ (nat_lt (length policy.granted) max_grants, Full)
@@ -240,19 +246,19 @@ grant policy conn new =
 
 -- revoke_permission
 abbrev pub revoke : Policy → ℕ → Grant → Result Policy Refusal
-revoke policy conn old =
+revoke policy connection old =
     decided
-    (in_session policy conn ∷ administers policy conn
+    (in_session policy connection ∷ administers policy connection
     ∷ (list_any (grant_eq old) policy.granted, Unknown) ∷ [])
     (record policy { granted = filter (λ other. not (grant_eq old other)) policy.granted })
 
 -- add_inheritance
 abbrev pub inherit : Policy → ℕ → Name → Name → Result Policy Refusal
-inherit policy conn senior junior =
+inherit policy connection senior junior =
     let next = record policy { roles = with_pair policy.roles senior junior } in
     decided
-    (in_session policy conn
-    ∷ administers policy conn
+    (in_session policy connection
+    ∷ administers policy connection
     ∷ (is_role policy.roles senior && is_role policy.roles junior, Unknown)
     ∷ (not (is_immediate policy.roles senior junior), Known)
     ∷ (not (at_least policy.roles junior senior), Loop)
@@ -263,19 +269,19 @@ inherit policy conn senior junior =
 
 -- delete_inheritance
 abbrev pub uninherit : Policy → ℕ → Name → Name → Result Policy Refusal
-uninherit policy conn senior junior =
+uninherit policy connection senior junior =
     decided
-    (in_session policy conn ∷ administers policy conn
+    (in_session policy connection ∷ administers policy connection
     ∷ (is_immediate policy.roles senior junior, Unknown) ∷ [])
     (trim (record policy { roles = without_pair policy.roles senior junior }))
 
 -- create_ssd_set
 abbrev pub ssd : Policy → ℕ → SeparationSet → Result Policy Refusal
-ssd policy conn set =
+ssd policy connection set =
     let next = record policy { ssd = policy.ssd ++ set ∷ [] } in
     decided
-    (in_session policy conn
-    ∷ administers policy conn
+    (in_session policy connection
+    ∷ administers policy connection
     ∷ (not (has_set policy.ssd set.name), Known)
     ∷ (list_all (is_role policy.roles) set.roles, Unknown)
     ∷ ssd_holds next
@@ -285,11 +291,11 @@ ssd policy conn set =
 
 -- create_dsd_set
 abbrev pub dsd : Policy → ℕ → SeparationSet → Result Policy Refusal
-dsd policy conn set =
+dsd policy connection set =
     let next = record policy { dsd = policy.dsd ++ set ∷ [] } in
     decided
-    (in_session policy conn
-    ∷ administers policy conn
+    (in_session policy connection
+    ∷ administers policy connection
     ∷ (not (has_set policy.dsd set.name), Known)
     ∷ (list_all (is_role policy.roles) set.roles, Unknown)
     ∷ dsd_holds next
@@ -299,14 +305,16 @@ dsd policy conn set =
 
 -- delete_ssd_set
 abbrev pub unssd : Policy → ℕ → Name → Result Policy Refusal
-unssd policy conn name =
+unssd policy connection name =
     decided
-    (in_session policy conn ∷ administers policy conn ∷ (has_set policy.ssd name, Unknown) ∷ [])
+    (in_session policy connection ∷ administers policy connection
+    ∷ (has_set policy.ssd name, Unknown) ∷ [])
     (record policy { ssd = without_set policy.ssd name })
 
 -- delete_dsd_set
 abbrev pub undsd : Policy → ℕ → Name → Result Policy Refusal
-undsd policy conn name =
+undsd policy connection name =
     decided
-    (in_session policy conn ∷ administers policy conn ∷ (has_set policy.dsd name, Unknown) ∷ [])
+    (in_session policy connection ∷ administers policy connection
+    ∷ (has_set policy.dsd name, Unknown) ∷ [])
     (record policy { dsd = without_set policy.dsd name })

@@ -16,7 +16,7 @@ use std::marker::Model;
 #[derive(Drop)]
 pub struct Access<'a> {
     policy: &'a Policy,
-    conn: u32,
+    connection: u32,
     operation: Operation,
     acting: Mask,
 }
@@ -30,15 +30,15 @@ impl<'a> Model for Access<'a> {
 
     ghost Value = { AccessState };
 
-    ghost view = { λ a. record { policy = a.policy.now; conn = a.conn; operation = a.operation } };
+    ghost view = { λ a. record { policy = a.policy.now; connection = a.connection; operation = a.operation } };
 
-    ghost invariant = { λ a. (place : ℕ) → has a.acting place ≡ is_place_below a.policy.now.roles (active_roles a.policy.now a.conn) place };
+    ghost invariant = { λ a. (place : ℕ) → has a.acting place ≡ is_place_below a.policy.now.roles (active_roles a.policy.now a.connection) place };
 }
 
 impl Access<'_> {
     /// Whether the session may do the operation to the object: what [`Policy::permits`] answers. It takes no memory.
     pub fn permits(&self, object: &Object) -> bool
-        ensures { result ≡ permits self.now.policy self.now.conn self.now.operation object.now }
+        ensures { result ≡ permits self.now.policy self.now.connection self.now.operation object.now }
     {
         self.policy
             .is_granted_to(&self.acting, self.operation, object)
@@ -48,22 +48,22 @@ impl Access<'_> {
 impl Policy {
     /// What the connection's session may do by one operation, to ask about many objects. A connection without a session
     /// may do nothing. It takes no memory.
-    pub fn access(&self, conn: u32, operation: Operation) -> Access<'_>
-        ensures { result ≡ record { policy = self.now; conn = conn; operation = operation } }
+    pub fn access(&self, connection: u32, operation: Operation) -> Access<'_>
+        ensures { result ≡ record { policy = self.now; connection = connection; operation = operation } }
     {
         Access {
             policy: self,
-            conn,
+            connection,
             operation,
-            acting: self.acting(conn),
+            acting: self.acting(connection),
         }
     }
 
     /// The places of the roles that act in the connection's session; none where it has no session.
-    fn acting(&self, conn: u32) -> Mask
-        ensures { (place : ℕ) → has result place ≡ is_place_below self.now.roles (active_roles self.now conn) place }
+    fn acting(&self, connection: u32) -> Mask
+        ensures { (place : ℕ) → has result place ≡ is_place_below self.now.roles (active_roles self.now connection) place }
     {
-        self.sessions.acting(conn)
+        self.sessions.acting(connection)
     }
 
     /// Whether the operation on the object was granted to one of the roles of a mask.

@@ -99,46 +99,46 @@ impl Sessions {
     }
 
     /// The session of a connection.
-    pub(crate) fn get(&self, conn: u32) -> Option<&Session>
-        ensures { option_copied result ≡ value_at (λ a b. a == b) self.now.sessions conn }
+    pub(crate) fn get(&self, connection: u32) -> Option<&Session>
+        ensures { option_copied result ≡ value_at (λ a b. a == b) self.now.sessions connection }
     {
-        match self.table.get(&conn) {
+        match self.table.get(&connection) {
             Some(active) => Some(&active.session),
             None => None,
         }
     }
 
     /// The places of the roles that act in the session of a connection; none where it has no session.
-    pub(crate) fn acting(&self, conn: u32) -> Mask
-        ensures { (h : Hierarchy) → AreActing h self.now → IsBelow h (option_map_or (λ (s : SessionState). s.active) (value_at (λ a b. a == b) self.now.sessions conn) []) result }
+    pub(crate) fn acting(&self, connection: u32) -> Mask
+        ensures { (h : Hierarchy) → AreActing h self.now → IsBelow h (option_map_or (λ (s : SessionState). s.active) (value_at (λ a b. a == b) self.now.sessions connection) []) result }
     {
-        match self.table.get(&conn) {
+        match self.table.get(&connection) {
             Some(active) => active.acting,
             None => Mask::new(),
         }
     }
 
     /// Another session of a connection; a new one goes last.
-    pub(crate) fn insert(&mut self, conn: u32, active: Active) -> Result<(), AllocError>
-        ensures ok { OnOk result (self.new.sessions ≡ insert_entry (λ a b. a == b) self.old.sessions conn active.session) }
+    pub(crate) fn insert(&mut self, connection: u32, active: Active) -> Result<(), AllocError>
+        ensures ok { OnOk result (self.new.sessions ≡ insert_entry (λ a b. a == b) self.old.sessions connection active.session) }
         ensures acting { OnOk result ((h : Hierarchy) → AreActing h self.old → IsBelow h active.session.active active.acting → AreActing h self.new) }
         ensures err { OnErr result (self.new ≡ self.old) }
     {
-        self.table.insert(conn, active)?;
+        self.table.insert(connection, active)?;
         Ok(())
     }
 
     /// The session of a connection goes, if it has one. It takes no memory.
-    pub(crate) fn remove(&mut self, conn: u32)
-        ensures sessions { self.new.sessions ≡ without_key (λ a b. a == b) self.old.sessions conn }
+    pub(crate) fn remove(&mut self, connection: u32)
+        ensures sessions { self.new.sessions ≡ without_key (λ a b. a == b) self.old.sessions connection }
         ensures acting { (h : Hierarchy) → AreActing h self.old → AreActing h self.new }
     {
         self.table.retain(
             |other: &u32, active: &mut Active| -> bool
-                ensures { (result ≡ not (conn == other.now)) × (active.new ≡ active.old) }
+                ensures { (result ≡ not (connection == other.now)) × (active.new ≡ active.old) }
             {
                 let _active = active;
-                *other != conn
+                *other != connection
             },
         );
     }
@@ -156,7 +156,7 @@ impl Sessions {
         ensures acting { AreActing roles.now self.new }
     {
         self.table.retain(
-            |_conn: &u32, active: &mut Active| -> bool
+            |_connection: &u32, active: &mut Active| -> bool
                 ensures { (result ≡ true) × (active.new.session ≡ active.old.session) × IsBelow roles.entry.now active.new.session.active active.new.acting }
             {
                 remask(roles, active);
@@ -173,7 +173,7 @@ impl Sessions {
         ensures acting { AreActing roles.now self.new }
     {
         self.table.retain(
-            |_conn: &u32, active: &mut Active| -> bool
+            |_connection: &u32, active: &mut Active| -> bool
                 ensures { IsTrimmed roles.entry.now users.entry.now active.old active.new result }
             { trim(users, roles, active) },
         );

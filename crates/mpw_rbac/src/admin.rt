@@ -22,12 +22,17 @@ impl Policy {
     ///
     /// # Errors
     /// `NoSession`, `NotPermitted`, `Known`, `Full`, tested in this order; or `Memory`. The policy is then as it was.
-    pub fn adduser(&mut self, conn: u32, user: Name, digest: Digest) -> Result<(), PolicyFault>
-        ensures ok { OnOk result (rows.adduser self.old conn user digest ≡ Ok self.new) }
-        ensures refused { IfErr result (IsFaultOf (rows.adduser self.old conn user digest)) }
+    pub fn adduser(
+        &mut self,
+        connection: u32,
+        user: Name,
+        digest: Digest,
+    ) -> Result<(), PolicyFault>
+        ensures ok { OnOk result (rows.adduser self.old connection user digest ≡ Ok self.new) }
+        ensures refused { IfErr result (IsFaultOf (rows.adduser self.old connection user digest)) }
         ensures err { OnErr result (self.new ≡ self.old) }
     {
-        self.administers(conn)?;
+        self.administers(connection)?;
         if self.is_user(&user) {
             return Err(PolicyFault::Refused(Refusal::Known));
         }
@@ -46,12 +51,12 @@ impl Policy {
     ///
     /// # Errors
     /// `NoSession`, `NotPermitted`, `Unknown` user, tested in this order; or `Memory`. The policy is then as it was.
-    pub fn deluser(&mut self, conn: u32, user: &Name) -> Result<(), PolicyFault>
-        ensures ok { OnOk result (rows.deluser self.old conn user.now ≡ Ok self.new) }
-        ensures refused { IfErr result (IsFaultOf (rows.deluser self.old conn user.now)) }
+    pub fn deluser(&mut self, connection: u32, user: &Name) -> Result<(), PolicyFault>
+        ensures ok { OnOk result (rows.deluser self.old connection user.now ≡ Ok self.new) }
+        ensures refused { IfErr result (IsFaultOf (rows.deluser self.old connection user.now)) }
         ensures err { OnErr result (self.new ≡ self.old) }
     {
-        self.administers(conn)?;
+        self.administers(connection)?;
         if !self.is_user(user) {
             return Err(PolicyFault::Refused(Refusal::Unknown));
         }
@@ -66,12 +71,12 @@ impl Policy {
     ///
     /// # Errors
     /// `NoSession`, `NotPermitted`, `Known`, `Full`, tested in this order; or `Memory`. The policy is then as it was.
-    pub fn addrole(&mut self, conn: u32, role: Name) -> Result<(), PolicyFault>
-        ensures ok { OnOk result (rows.addrole self.old conn role ≡ Ok self.new) }
-        ensures refused { IfErr result (IsFaultOf (rows.addrole self.old conn role)) }
+    pub fn addrole(&mut self, connection: u32, role: Name) -> Result<(), PolicyFault>
+        ensures ok { OnOk result (rows.addrole self.old connection role ≡ Ok self.new) }
+        ensures refused { IfErr result (IsFaultOf (rows.addrole self.old connection role)) }
         ensures err { OnErr result (self.new ≡ self.old) }
     {
-        self.administers(conn)?;
+        self.administers(connection)?;
         let permissions = with_role(&self.permissions, role)?;
         let roles = permissions.roles();
         let users = self.users.among(roles)?;
@@ -87,12 +92,12 @@ impl Policy {
     /// # Errors
     /// `NoSession`, `NotPermitted`, `Unknown` role, `Used` by a separation set, tested in this order; or `Memory`. The
     /// policy is then as it was.
-    pub fn delrole(&mut self, conn: u32, role: &Name) -> Result<(), PolicyFault>
-        ensures ok { OnOk result (rows.delrole self.old conn role.now ≡ Ok self.new) }
-        ensures refused { IfErr result (IsFaultOf (rows.delrole self.old conn role.now)) }
+    pub fn delrole(&mut self, connection: u32, role: &Name) -> Result<(), PolicyFault>
+        ensures ok { OnOk result (rows.delrole self.old connection role.now ≡ Ok self.new) }
+        ensures refused { IfErr result (IsFaultOf (rows.delrole self.old connection role.now)) }
         ensures err { OnErr result (self.new ≡ self.old) }
     {
-        self.administers(conn)?;
+        self.administers(connection)?;
         if !self.is_role(role) {
             return Err(PolicyFault::Refused(Refusal::Unknown));
         }
@@ -101,7 +106,7 @@ impl Policy {
         }
         let permissions = without_role(&self.permissions, role)?;
         let roles = permissions.roles();
-        let users = self.users.unassigned(roles, role)?;
+        let users = self.users.without_assignments(roles, role)?;
         self.sessions.trim(&users, roles);
         self.sets.place(roles);
         self.users = users;
@@ -114,12 +119,12 @@ impl Policy {
     /// # Errors
     /// `NoSession`, `NotPermitted`, `Unknown` user or role, `Known`, `Ssd`, tested in this order; or `Memory`. The policy
     /// is then as it was.
-    pub fn assign(&mut self, conn: u32, user: &Name, role: &Name) -> Result<(), PolicyFault>
-        ensures ok { OnOk result (rows.assign self.old conn user.now role.now ≡ Ok self.new) }
-        ensures refused { IfErr result (IsFaultOf (rows.assign self.old conn user.now role.now)) }
+    pub fn assign(&mut self, connection: u32, user: &Name, role: &Name) -> Result<(), PolicyFault>
+        ensures ok { OnOk result (rows.assign self.old connection user.now role.now ≡ Ok self.new) }
+        ensures refused { IfErr result (IsFaultOf (rows.assign self.old connection user.now role.now)) }
         ensures err { OnErr result (self.new ≡ self.old) }
     {
-        self.administers(conn)?;
+        self.administers(connection)?;
         if !self.is_user(user) || !self.is_role(role) {
             return Err(PolicyFault::Refused(Refusal::Unknown));
         }
@@ -142,12 +147,12 @@ impl Policy {
     /// # Errors
     /// `NoSession`, `NotPermitted`, `Unknown` assignment, tested in this order; or `Memory`. The policy is then as it
     /// was.
-    pub fn deassign(&mut self, conn: u32, user: &Name, role: &Name) -> Result<(), PolicyFault>
-        ensures ok { OnOk result (rows.deassign self.old conn user.now role.now ≡ Ok self.new) }
-        ensures refused { IfErr result (IsFaultOf (rows.deassign self.old conn user.now role.now)) }
+    pub fn deassign(&mut self, connection: u32, user: &Name, role: &Name) -> Result<(), PolicyFault>
+        ensures ok { OnOk result (rows.deassign self.old connection user.now role.now ≡ Ok self.new) }
+        ensures refused { IfErr result (IsFaultOf (rows.deassign self.old connection user.now role.now)) }
         ensures err { OnErr result (self.new ≡ self.old) }
     {
-        self.administers(conn)?;
+        self.administers(connection)?;
         if !self.is_assigned(user, role) {
             return Err(PolicyFault::Refused(Refusal::Unknown));
         }
@@ -206,23 +211,23 @@ impl Policy {
     /// # Errors
     /// `NoSession`, `NotPermitted`, `Unknown` role, `Known`, `Full`, tested in this order; or `Memory`. The policy is
     /// then as it was.
-    pub fn grant(&mut self, conn: u32, grant: Grant) -> Result<(), PolicyFault>
-        ensures ok { OnOk result (rows.grant self.old conn grant ≡ Ok self.new) }
-        ensures refused { IfErr result (IsFaultOf (rows.grant self.old conn grant)) }
+    pub fn grant(&mut self, connection: u32, grant: Grant) -> Result<(), PolicyFault>
+        ensures ok { OnOk result (rows.grant self.old connection grant ≡ Ok self.new) }
+        ensures refused { IfErr result (IsFaultOf (rows.grant self.old connection grant)) }
         ensures err { OnErr result (self.new ≡ self.old) }
     {
-        let permissions = self.permissions_with(conn, &grant)?;
+        let permissions = self.permissions_with(connection, &grant)?;
         self.permissions = permissions;
         Ok(())
     }
 
     /// The permissions after one more grant, where the session may make it.
-    fn permissions_with(&self, conn: u32, grant: &Grant) -> Result<Permissions, PolicyFault>
-        ensures ok { IfOk result (λ next. rows.grant self.now conn grant.now ≡ Ok (record self.now { granted = next.granted })) }
+    fn permissions_with(&self, connection: u32, grant: &Grant) -> Result<Permissions, PolicyFault>
+        ensures ok { IfOk result (λ next. rows.grant self.now connection grant.now ≡ Ok (record self.now { granted = next.granted })) }
         ensures same { IfOk result (λ next. next.roles ≡ self.now.roles) }
-        ensures refused { IfErr result (IsFaultOf (rows.grant self.now conn grant.now)) }
+        ensures refused { IfErr result (IsFaultOf (rows.grant self.now connection grant.now)) }
     {
-        self.administers(conn)?;
+        self.administers(connection)?;
         if !self.is_role(&grant.role) {
             return Err(PolicyFault::Refused(Refusal::Unknown));
         }
@@ -239,12 +244,12 @@ impl Policy {
     ///
     /// # Errors
     /// `NoSession`, `NotPermitted`, `Unknown` grant, tested in this order; or `Memory`. The policy is then as it was.
-    pub fn revoke(&mut self, conn: u32, grant: &Grant) -> Result<(), PolicyFault>
-        ensures ok { OnOk result (rows.revoke self.old conn grant.now ≡ Ok self.new) }
-        ensures refused { IfErr result (IsFaultOf (rows.revoke self.old conn grant.now)) }
+    pub fn revoke(&mut self, connection: u32, grant: &Grant) -> Result<(), PolicyFault>
+        ensures ok { OnOk result (rows.revoke self.old connection grant.now ≡ Ok self.new) }
+        ensures refused { IfErr result (IsFaultOf (rows.revoke self.old connection grant.now)) }
         ensures err { OnErr result (self.new ≡ self.old) }
     {
-        self.administers(conn)?;
+        self.administers(connection)?;
         if !self.has_grant(grant) {
             return Err(PolicyFault::Refused(Refusal::Unknown));
         }

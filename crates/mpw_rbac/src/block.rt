@@ -73,19 +73,19 @@ impl Model for Block {
 }
 
 /// The same grant.
-fn copied(grant: &Grant) -> Result<Grant, AllocError>
+fn copy_of(grant: &Grant) -> Result<Grant, AllocError>
     ensures { IfOk result (λ copy. copy ≡ grant.now) }
 {
     grant.clone()
 }
 
 /// The same grants, with room for one more.
-fn all_copied(alloc: Global, grants: &[Grant]) -> Result<Vec<Grant>, AllocError>
+fn copy_of_all(alloc: Global, grants: &[Grant]) -> Result<Vec<Grant>, AllocError>
     ensures { IfOk result (λ copy. copy.items ≡ grants.now) }
 {
     let mut copy = Vec::with_capacity(alloc, grants.len().saturating_add(1))?;
     for grant in grants {
-        copy.push(copied(grant)?)?;
+        copy.push(copy_of(grant)?)?;
     }
     Ok(copy)
 }
@@ -189,8 +189,8 @@ impl Block {
         objects.insert(slots.object);
         let mut roles = self.roles;
         roles.insert(slots.role);
-        let mut grants = all_copied(alloc, self.as_slice())?;
-        grants.push(copied(grant)?)?;
+        let mut grants = copy_of_all(alloc, self.as_slice())?;
+        grants.push(copy_of(grant)?)?;
         Block::of(alloc, grants, objects, roles)
     }
 
@@ -209,17 +209,17 @@ impl Block {
             return Ok(same);
         }
         let (objects, roles) = (self.objects, self.roles);
-        let mut grants = all_copied(alloc, self.as_slice())?;
+        let mut grants = copy_of_all(alloc, self.as_slice())?;
         take_back(&mut grants, grant);
         Block::of(alloc, grants, objects, roles)
     }
 
     /// The block without the grants to a role.
-    pub(crate) fn ungranted(&self, alloc: Global, role: &Name) -> Result<Block, AllocError>
+    pub(crate) fn without_grants_to(&self, alloc: Global, role: &Name) -> Result<Block, AllocError>
         ensures { IfOk result (λ block. block ≡ ungranted self.now role.now) }
     {
         let (objects, roles) = (self.objects, self.roles);
-        let mut grants = all_copied(alloc, self.as_slice())?;
+        let mut grants = copy_of_all(alloc, self.as_slice())?;
         ungrant(&mut grants, role);
         Block::of(alloc, grants, objects, roles)
     }

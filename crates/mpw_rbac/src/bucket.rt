@@ -39,7 +39,7 @@ pub(crate) fn hash(object: &Object) -> u64
 }
 
 /// The same object.
-pub(crate) fn copied(object: &Object) -> Result<Object, AllocError>
+pub(crate) fn copy_of(object: &Object) -> Result<Object, AllocError>
     ensures { IfOk result (λ copy. copy ≡ object.now) }
 {
     object.clone()
@@ -90,7 +90,7 @@ fn others(
     let mut left = Vec::with_capacity(alloc, masks.len())?;
     for (other, mask) in masks {
         if *object != *other {
-            left.push((copied(other)?, *mask))?;
+            left.push((copy_of(other)?, *mask))?;
         }
     }
     Ok(left)
@@ -106,7 +106,7 @@ fn keep(masks: &mut Vec<(Object, Mask)>, object: &Object, mask: &Mask) -> Result
     if !mask.meets(mask) {
         return Ok(());
     }
-    masks.push((copied(object)?, *mask))?;
+    masks.push((copy_of(object)?, *mask))?;
     Ok(())
 }
 

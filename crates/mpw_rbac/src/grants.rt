@@ -7,6 +7,7 @@ ghost use Rattle.std.specs.Prelude.{◌≡◌, ◌∷◌, ◌++◌, [], length, 
 ghost use Rattle.std.specs.List.{list_any, flat_map};
 ghost use Rattle.mpw_rbac.specs.Grant.{grant_eq};
 ghost use Rattle.mpw_rbac.specs.Internal.Grants.{AreSlots, without_grant};
+ghost use Rattle.mpw_rbac.specs.Internal.Holders.{grants_after};
 ghost use Rattle.mpw_rbac.specs.Rows.{ungranted};
 
 use crate::Grant;
@@ -83,7 +84,7 @@ fn is_among(blocks: &[Block], slots: Slots, grant: &Grant) -> bool
 }
 
 /// The same blocks, each by a count, with room for one more.
-fn blocks_copied(alloc: Global, blocks: &[Block]) -> Result<Vec<Block>, AllocError>
+fn copy_of_blocks(alloc: Global, blocks: &[Block]) -> Result<Vec<Block>, AllocError>
     ensures { IfOk result (λ copy. copy.items ≡ blocks.now) }
 {
     let mut copy = Vec::with_capacity(alloc, blocks.len().saturating_add(1))?;
@@ -111,12 +112,16 @@ fn blocks_without(
 }
 
 /// The blocks without the grants to a role.
-fn blocks_ungranted(alloc: Global, blocks: &[Block], role: &Name) -> Result<Vec<Block>, AllocError>
+fn blocks_without_grants_to(
+    alloc: Global,
+    blocks: &[Block],
+    role: &Name,
+) -> Result<Vec<Block>, AllocError>
     ensures { IfOk result (λ left. flat_map (λ block. block) left.items ≡ ungranted (flat_map (λ block. block) blocks.now) role.now) }
 {
     let mut left = Vec::with_capacity(alloc, blocks.len())?;
     for block in blocks {
-        keep(&mut left, block.ungranted(alloc, role)?)?;
+        keep(&mut left, block.without_grants_to(alloc, role)?)?;
     }
     Ok(left)
 }
@@ -181,7 +186,7 @@ impl Grants {
 
     /// The grants with one more: a copy of the last block, and where that is full a count for each other one.
     #[tactic(auto, using(crate::proofs::BlockLemmas::flat_last))]
-    pub(crate) fn with(&self, alloc: Global, grant: &Grant) -> Result<Grants, AllocError>
+    fn with(&self, alloc: Global, grant: &Grant) -> Result<Grants, AllocError>
         ensures { IfOk result (λ grants. grants ≡ self.now ++ grant.now ∷ []) }
     {
         if self.last.as_slice().len() < BLOCK {
@@ -189,7 +194,7 @@ impl Grants {
             let last = self.last.with(alloc, grant)?;
             return Ok(Grants::of(blocks, last));
         }
-        let mut blocks = blocks_copied(alloc, &self.blocks)?;
+        let mut blocks = copy_of_blocks(alloc, &self.blocks)?;
         blocks.push(self.last.copy()?)?;
         let last = Block::new(alloc)?.with(alloc, grant)?;
         Ok(Grants::of(Arc::new(alloc, blocks)?, last))
@@ -198,7 +203,7 @@ impl Grants {
     /// The grants without one: a copy of the last block where it stands there, and else of its block, and a count for each
     /// other one.
     #[tactic(auto, using(crate::proofs::BlockLemmas::filter_append))]
-    pub(crate) fn without(&self, alloc: Global, grant: &Grant) -> Result<Grants, AllocError>
+    fn without(&self, alloc: Global, grant: &Grant) -> Result<Grants, AllocError>
         ensures { IfOk result (λ grants. grants ≡ without_grant self.now grant.now) }
     {
         let slots = Slots::of(grant);
@@ -207,13 +212,29 @@ impl Grants {
         Ok(Grants::of(blocks, last))
     }
 
+    /// The grants with one more, or without one.
+    pub(crate) fn after(
+        &self,
+        alloc: Global,
+        grant: &Grant,
+        more: bool,
+    ) -> Result<Grants, AllocError>
+        ensures { IfOk result (λ grants. grants ≡ grants_after more self.now grant.now) }
+    {
+        if more {
+            self.with(alloc, grant)
+        } else {
+            self.without(alloc, grant)
+        }
+    }
+
     /// The grants without those to a role: a copy of each block.
     #[tactic(auto, using(crate::proofs::BlockLemmas::filter_append))]
-    pub(crate) fn ungranted(&self, alloc: Global, role: &Name) -> Result<Grants, AllocError>
+    pub(crate) fn without_grants_to(&self, alloc: Global, role: &Name) -> Result<Grants, AllocError>
         ensures { IfOk result (λ grants. grants ≡ ungranted self.now role.now) }
     {
-        let blocks = Arc::new(alloc, blocks_ungranted(alloc, &self.blocks, role)?)?;
-        let last = self.last.ungranted(alloc, role)?;
+        let blocks = Arc::new(alloc, blocks_without_grants_to(alloc, &self.blocks, role)?)?;
+        let last = self.last.without_grants_to(alloc, role)?;
         Ok(Grants::of(blocks, last))
     }
 }

@@ -84,7 +84,7 @@ fn no_masks(alloc: Global, empty: &Bucket) -> Result<Vec<Bucket>, AllocError>
 }
 
 /// The same buckets: a count for each.
-fn all_copied(alloc: Global, buckets: &[Bucket]) -> Result<Vec<Bucket>, AllocError>
+fn copy_of_all(alloc: Global, buckets: &[Bucket]) -> Result<Vec<Bucket>, AllocError>
     ensures { IfOk result (λ copy. copy.items ≡ buckets.now) }
 {
     let mut copy = Vec::with_capacity(alloc, buckets.len())?;
@@ -159,7 +159,7 @@ impl Group {
             write(alloc, buckets, place, object, mask)?;
             return Ok(());
         }
-        let mut buckets = all_copied(alloc, &self.buckets)?;
+        let mut buckets = copy_of_all(alloc, &self.buckets)?;
         write(alloc, &mut buckets, place, object, mask)?;
         self.buckets = Arc::new(alloc, buckets)?;
         Ok(())

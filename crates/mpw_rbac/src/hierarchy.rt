@@ -1,10 +1,11 @@
 //! The administrative requests of the role hierarchy.
-ghost use Rattle.std.specs.Prelude.{◌≡◌, [], ◌∷◌, map, IfOk, IfErr, OnOk, OnErr, Ok, Err};
+ghost use Rattle.std.specs.Prelude.{◌≡◌, ◌⊎◌, [], ◌∷◌, map, IfOk, IfErr, OnOk, OnErr, Ok, Err};
 ghost use Rattle.std.specs.Option.{option_copied};
 ghost use Rattle.mpw_separation.specs.Separation.{least_broken};
 ghost use Rattle.mpw_roles.specs.Hierarchy.{role_names};
 ghost use Rattle.mpw_roles.specs.Rows as hierarchy;
 ghost use Rattle.mpw_rbac.specs.Internal.Fault.{IsHierarchyFault};
+ghost use Rattle.mpw_rbac.specs.Internal.Pairs.{pair_row};
 ghost use Rattle.mpw_rbac.specs.Masked.{AreUsers};
 ghost use Rattle.mpw_rbac.specs.Policy.{assigned_lists, active_lists};
 ghost use Rattle.mpw_rbac.specs.Rows.{IsFaultOf, ungranted};
@@ -15,7 +16,16 @@ use crate::separation::{least_dynamic, least_static};
 use crate::users::Users;
 use crate::{Policy, PolicyFault, Refusal};
 use mpw_geom::Name;
-use mpw_roles::Roles;
+use mpw_roles::{Roles, RolesFault};
+
+/// What is done to an immediate pair of roles.
+#[derive(Clone, Copy)]
+pub(crate) enum PairChange {
+    /// The senior becomes an immediate senior of the junior.
+    Inherit,
+    /// The senior is that no longer.
+    Uninherit,
+}
 
 /// With one more role.
 pub(crate) fn with_role(permissions: &Permissions, role: Name) -> Result<Permissions, PolicyFault>
@@ -24,8 +34,8 @@ pub(crate) fn with_role(permissions: &Permissions, role: Name) -> Result<Permiss
     ensures refused { IfErr result (IsHierarchyFault (hierarchy.add permissions.now.roles role)) }
 {
     let mut roles = permissions.roles().copy()?;
-    roles.add(role.copy()?)?;
-    Ok(permissions.with_role(roles, &role)?)
+    roles.add(role)?;
+    Ok(permissions.with_roles(roles)?)
 }
 
 /// Without a role, and the grants to it.
@@ -42,34 +52,36 @@ pub(crate) fn without_role(
     Ok(permissions.without_role(roles, role)?)
 }
 
-/// With a pair more.
-fn with_pair(
-    permissions: &Permissions,
+/// Changes a pair of the roles.
+fn change_pair(
+    roles: &mut Roles,
+    change: PairChange,
     senior: &Name,
     junior: &Name,
-) -> Result<Permissions, PolicyFault>
-    ensures ok { IfOk result (λ next. hierarchy.inherit permissions.now.roles senior.now junior.now ≡ Ok next.roles) }
-    ensures same { IfOk result (λ next. next.granted ≡ permissions.now.granted) }
-    ensures refused { IfErr result (IsHierarchyFault (hierarchy.inherit permissions.now.roles senior.now junior.now)) }
+) -> Result<(), RolesFault>
+    ensures ok { OnOk result (pair_row change roles.old senior.now junior.now ≡ Ok roles.new) }
+    ensures refused { IfErr result (λ fault. (fault ≡ RolesFault.Memory) ⊎ (pair_row change roles.old senior.now junior.now ≡ Err fault)) }
 {
-    let mut roles = permissions.roles().copy()?;
-    roles.inherit(senior, junior)?;
-    Ok(permissions.with_pairs(roles)?)
+    match change {
+        PairChange::Inherit => roles.inherit(senior, junior),
+        PairChange::Uninherit => roles.uninherit(senior, junior),
+    }
 }
 
-/// With a pair less.
-fn without_pair(
+/// With a pair more, or less.
+fn with_changed_pair(
     permissions: &Permissions,
+    change: PairChange,
     senior: &Name,
     junior: &Name,
 ) -> Result<Permissions, PolicyFault>
-    ensures ok { IfOk result (λ next. hierarchy.uninherit permissions.now.roles senior.now junior.now ≡ Ok next.roles) }
+    ensures ok { IfOk result (λ next. pair_row change permissions.now.roles senior.now junior.now ≡ Ok next.roles) }
     ensures same { IfOk result (λ next. next.granted ≡ permissions.now.granted) }
-    ensures refused { IfErr result (IsHierarchyFault (hierarchy.uninherit permissions.now.roles senior.now junior.now)) }
+    ensures refused { IfErr result (IsHierarchyFault (pair_row change permissions.now.roles senior.now junior.now)) }
 {
     let mut roles = permissions.roles().copy()?;
-    roles.uninherit(senior, junior)?;
-    Ok(permissions.with_pairs(roles)?)
+    change_pair(&mut roles, change, senior, junior)?;
+    Ok(permissions.with_roles(roles)?)
 }
 
 impl Policy {
@@ -78,15 +90,22 @@ impl Policy {
     /// # Errors
     /// `NoSession`, `NotPermitted`, `Unknown` role, `Known`, `Loop`, `Ssd`, `Dsd`, tested in this order; or `Memory`. The
     /// policy is then as it was.
-    pub fn inherit(&mut self, conn: u32, senior: &Name, junior: &Name) -> Result<(), PolicyFault>
-        ensures ok { OnOk result (rows.inherit self.old conn senior.now junior.now ≡ Ok self.new) }
-        ensures refused { IfErr result (IsFaultOf (rows.inherit self.old conn senior.now junior.now)) }
+    pub fn inherit(
+        &mut self,
+        connection: u32,
+        senior: &Name,
+        junior: &Name,
+    ) -> Result<(), PolicyFault>
+        ensures ok { OnOk result (rows.inherit self.old connection senior.now junior.now ≡ Ok self.new) }
+        ensures refused { IfErr result (IsFaultOf (rows.inherit self.old connection senior.now junior.now)) }
         ensures err { OnErr result (self.new ≡ self.old) }
     {
-        self.administers(conn)?;
-        let next = with_pair(&self.permissions, senior, junior)?;
+        self.administers(connection)?;
+        let next = with_changed_pair(&self.permissions, PairChange::Inherit, senior, junior)?;
         let roles = next.roles();
-        let users = self.users.joined(self.permissions.roles(), senior, junior)?;
+        let users = self
+            .users
+            .with_joined_masks(self.permissions.roles(), senior, junior)?;
         if let Some(name) = self.broken_static(roles, &users) {
             return Err(PolicyFault::Refused(Refusal::Ssd(name.copy()?)));
         }
@@ -104,13 +123,23 @@ impl Policy {
     ///
     /// # Errors
     /// `NoSession`, `NotPermitted`, `Unknown` pair, tested in this order; or `Memory`. The policy is then as it was.
-    pub fn uninherit(&mut self, conn: u32, senior: &Name, junior: &Name) -> Result<(), PolicyFault>
-        ensures ok { OnOk result (rows.uninherit self.old conn senior.now junior.now ≡ Ok self.new) }
-        ensures refused { IfErr result (IsFaultOf (rows.uninherit self.old conn senior.now junior.now)) }
+    pub fn uninherit(
+        &mut self,
+        connection: u32,
+        senior: &Name,
+        junior: &Name,
+    ) -> Result<(), PolicyFault>
+        ensures ok { OnOk result (rows.uninherit self.old connection senior.now junior.now ≡ Ok self.new) }
+        ensures refused { IfErr result (IsFaultOf (rows.uninherit self.old connection senior.now junior.now)) }
         ensures err { OnErr result (self.new ≡ self.old) }
     {
-        self.administers(conn)?;
-        let permissions = without_pair(&self.permissions, senior, junior)?;
+        self.administers(connection)?;
+        let permissions = with_changed_pair(
+            &self.permissions,
+            PairChange::Uninherit,
+            senior,
+            junior,
+        )?;
         let roles = permissions.roles();
         let users = self.users.among(roles)?;
         self.sessions.trim(&users, roles);

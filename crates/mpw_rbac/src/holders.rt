@@ -206,7 +206,7 @@ impl SharedHolders {
 
     /// The holders of the operation with that place among all, after one grant more or less: buckets of their own where
     /// the grant is of the operation, and the same holders otherwise.
-    fn changed(
+    fn after(
         &self,
         roles: &Roles,
         operation: usize,
@@ -237,7 +237,7 @@ pub(crate) fn holders_after(
 {
     let mut next = Vec::with_capacity(roles.allocator(), OPERATIONS)?;
     for operation in 0..OPERATIONS {
-        next.push(all[operation].changed(roles, operation, grant, more)?)?;
+        next.push(all[operation].after(roles, operation, grant, more)?)?;
     }
     Ok(next)
 }

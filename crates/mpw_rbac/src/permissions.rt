@@ -13,7 +13,7 @@ ghost use Rattle.mpw_roles.specs.Order.{roles_below};
 ghost use Rattle.mpw_roles.specs.Places.{is_place_below};
 ghost use Rattle.mpw_rbac.specs.Grant.{grant_eq};
 ghost use Rattle.mpw_rbac.specs.Internal.Grants.{without_grant};
-ghost use Rattle.mpw_rbac.specs.Internal.Holders.{are_to_roles, AreHeld, AreHeldAfter};
+ghost use Rattle.mpw_rbac.specs.Internal.Holders.{are_to_roles, grants_after, AreHeld, AreHeldAfter, AreMoreNames};
 ghost use Rattle.mpw_rbac.specs.Policy.{is_granted_to};
 ghost use Rattle.mpw_rbac.specs.Rows.{ungranted};
 
@@ -139,9 +139,10 @@ impl Permissions {
         self.holders[place].of(object).meets(roles)
     }
 
-    /// The grants with one more role, which goes last: the masks stay, since nothing was granted to its name.
-    pub(crate) fn with_role(&self, roles: Roles, role: &Name) -> Result<Permissions, AllocError>
-        requires { role_names roles ≡ role_names self.now.roles ++ role.now ∷ [] }
+    /// The grants with other roles: the same ones in their order, and maybe one more that goes last. The masks stay, since they
+    /// hold places, and nothing was granted to a new name.
+    pub(crate) fn with_roles(&self, roles: Roles) -> Result<Permissions, AllocError>
+        requires { AreMoreNames (role_names self.now.roles) (role_names roles) }
         ensures { IfOk result (λ next. next ≡ record self.now { roles = roles }) }
     {
         roles.is_hierarchy();
@@ -155,15 +156,15 @@ impl Permissions {
         })
     }
 
-    /// The grants with the same roles in the same order, which have other pairs: the masks stay.
-    pub(crate) fn with_pairs(&self, roles: Roles) -> Result<Permissions, AllocError>
-        requires { role_names roles ≡ role_names self.now.roles }
-        ensures { IfOk result (λ next. next ≡ record self.now { roles = roles }) }
+    /// With one more grant to a role, or without a grant: a copy of a block of the grants, and of a bucket of the masks of its
+    /// operation.
+    fn after(&self, grant: &Grant, more: bool) -> Result<Permissions, AllocError>
+        requires { more ≡ true → is_role self.now.roles grant.now.role ≡ true }
+        ensures { IfOk result (λ next. next ≡ record self.now { granted = grants_after more self.now.granted grant.now }) }
     {
-        let alloc = roles.allocator();
-        let roles = Arc::new(alloc, roles)?;
-        let granted = self.granted.copy()?;
-        let holders = self.holders.clone()?;
+        let holders = shared_holders_after(&self.roles, &self.holders, grant, more)?;
+        let granted = self.granted.after(self.roles.allocator(), grant, more)?;
+        let roles = self.roles.clone()?;
         Ok(Permissions {
             roles,
             granted,
@@ -171,33 +172,19 @@ impl Permissions {
         })
     }
 
-    /// With one more grant to a role: a copy of a block of the grants, and of a bucket of the masks of its operation.
+    /// With one more grant to a role.
     pub(crate) fn with(&self, grant: &Grant) -> Result<Permissions, AllocError>
         requires { is_role self.now.roles grant.now.role ≡ true }
         ensures { IfOk result (λ next. next ≡ record self.now { granted = self.now.granted ++ grant.now ∷ [] }) }
     {
-        let holders = shared_holders_after(&self.roles, &self.holders, grant, true)?;
-        let granted = self.granted.with(self.roles.allocator(), grant)?;
-        let roles = self.roles.clone()?;
-        Ok(Permissions {
-            roles,
-            granted,
-            holders,
-        })
+        self.after(grant, true)
     }
 
-    /// Without a grant: a copy of a block of the grants, and of a bucket of the masks of its operation.
+    /// Without a grant.
     pub(crate) fn without(&self, grant: &Grant) -> Result<Permissions, AllocError>
         ensures { IfOk result (λ next. next ≡ record self.now { granted = without_grant self.now.granted grant.now }) }
     {
-        let holders = shared_holders_after(&self.roles, &self.holders, grant, false)?;
-        let granted = self.granted.without(self.roles.allocator(), grant)?;
-        let roles = self.roles.clone()?;
-        Ok(Permissions {
-            roles,
-            granted,
-            holders,
-        })
+        self.after(grant, false)
     }
 
     /// With other roles, and without the grants to a role.
@@ -206,7 +193,7 @@ impl Permissions {
         ensures { IfOk result (λ next. next ≡ record { roles = roles; granted = ungranted self.now.granted role.now }) }
     {
         let alloc = roles.allocator();
-        let granted = self.granted.ungranted(alloc, role)?;
+        let granted = self.granted.without_grants_to(alloc, role)?;
         let roles = Arc::new(alloc, roles)?;
         let left = Permissions::of(alloc, roles, granted)?;
         Ok(left)

@@ -64,10 +64,10 @@ impl Model for Policy {
 
 impl Policy {
     /// The session of a connection.
-    pub(crate) fn session(&self, conn: u32) -> Option<&Session>
-        ensures { option_copied result ≡ session_of self.now conn }
+    pub(crate) fn session(&self, connection: u32) -> Option<&Session>
+        ensures { option_copied result ≡ session_of self.now connection }
     {
-        self.sessions.get(conn)
+        self.sessions.get(connection)
     }
 
     /// A user's digest and assigned roles.
@@ -124,32 +124,32 @@ impl Policy {
 
     /// Whether some acting role of the connection's session was granted the operation on the object. It takes no
     /// memory, and costs a look-up of the session, one of the object, and an `and` of eight words.
-    pub fn permits(&self, conn: u32, operation: Operation, object: &Object) -> bool
-        ensures { result ≡ permits self.now conn operation object.now }
+    pub fn permits(&self, connection: u32, operation: Operation, object: &Object) -> bool
+        ensures { result ≡ permits self.now connection operation object.now }
     {
-        self.access(conn, operation).permits(object)
+        self.access(connection, operation).permits(object)
     }
 
     /// The tests that every administrative request begins with: a session, and the permission `admin desk`.
-    pub(crate) fn administers(&self, conn: u32) -> Result<(), PolicyFault>
-        ensures ok { OnOk result (administered self.now conn ≡ Ok self.now) }
-        ensures refused { IfErr result (IsFaultOf (administered self.now conn)) }
+    pub(crate) fn administers(&self, connection: u32) -> Result<(), PolicyFault>
+        ensures ok { OnOk result (administered self.now connection ≡ Ok self.now) }
+        ensures refused { IfErr result (IsFaultOf (administered self.now connection)) }
     {
-        if self.session(conn).is_none() {
+        if self.session(connection).is_none() {
             return Err(PolicyFault::Refused(Refusal::NoSession));
         }
-        if !self.permits(conn, Operation::Admin, &Object::Desk) {
+        if !self.permits(connection, Operation::Admin, &Object::Desk) {
             return Err(PolicyFault::Refused(Refusal::NotPermitted(Operation::Admin, Object::Desk)));
         }
         Ok(())
     }
 
     /// The user of the connection's session, if it has one.
-    pub fn user_of(&self, conn: u32) -> Option<&Name>
-        ensures some { IfSome result (λ user. user.now ≡ user_of self.now conn) }
-        ensures session { is_some result ≡ is_some (session_of self.now conn) }
+    pub fn user_of(&self, connection: u32) -> Option<&Name>
+        ensures some { IfSome result (λ user. user.now ≡ user_of self.now connection) }
+        ensures session { is_some result ≡ is_some (session_of self.now connection) }
     {
-        match self.session(conn) {
+        match self.session(connection) {
             Some(session) => Some(&session.user),
             None => None,
         }

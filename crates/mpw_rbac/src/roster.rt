@@ -65,7 +65,7 @@ impl SharedUser {
     }
 
     /// The user without an assignment.
-    fn unassigned(&self, alloc: Global, role: &Name) -> Result<SharedUser, AllocError>
+    fn without_assignment(&self, alloc: Global, role: &Name) -> Result<SharedUser, AllocError>
         ensures { IfOk result (λ shared. shared ≡ record self.now { roles = without_name self.now.roles role.now }) }
     {
         let mut roles = self.user.roles.copy()?;
@@ -101,7 +101,7 @@ impl Model for Roster {
 }
 
 /// The same users, with room for one more.
-fn values_copied(alloc: Global, values: &[SharedUser]) -> Result<Vec<SharedUser>, AllocError>
+fn copy_of_values(alloc: Global, values: &[SharedUser]) -> Result<Vec<SharedUser>, AllocError>
     ensures { IfOk result (λ copy. copy.items ≡ values.now) }
 {
     let mut copy = Vec::with_capacity(alloc, values.len().saturating_add(1))?;
@@ -112,7 +112,7 @@ fn values_copied(alloc: Global, values: &[SharedUser]) -> Result<Vec<SharedUser>
 }
 
 /// The users without the assignments of a role.
-fn values_unassigned(
+fn values_without_assignments(
     alloc: Global,
     values: &[SharedUser],
     role: &Name,
@@ -121,7 +121,7 @@ fn values_unassigned(
 {
     let mut copy = Vec::with_capacity(alloc, values.len())?;
     for value in values {
-        copy.push(value.unassigned(alloc, role)?)?;
+        copy.push(value.without_assignment(alloc, role)?)?;
     }
     Ok(copy)
 }
@@ -218,7 +218,7 @@ impl Roster {
         ensures { IfOk result (λ roster. roster ≡ self.now) }
     {
         let names = self.names.copy()?;
-        let values = values_copied(alloc, &self.values)?;
+        let values = copy_of_values(alloc, &self.values)?;
         Ok(Roster { names, values })
     }
 
@@ -228,7 +228,7 @@ impl Roster {
     {
         let value = SharedUser::new(alloc, value)?;
         let mut names = self.names.copy()?;
-        let mut values = values_copied(alloc, &self.values)?;
+        let mut values = copy_of_values(alloc, &self.values)?;
         put(alloc, &mut names, &mut values, user, value)?;
         Ok(Roster { names, values })
     }
@@ -240,7 +240,7 @@ impl Roster {
         let Some(place) = self.names.number(user) else {
             return self.copy(alloc);
         };
-        let mut values = values_copied(alloc, &self.values)?;
+        let mut values = copy_of_values(alloc, &self.values)?;
         drop(values.remove(place));
         let mut names = names_of(alloc, &self.names)?;
         names.remove(user);
@@ -249,11 +249,15 @@ impl Roster {
     }
 
     /// The users without the assignments of a role.
-    pub(crate) fn unassigned(&self, alloc: Global, role: &Name) -> Result<Roster, AllocError>
+    pub(crate) fn without_assignments(
+        &self,
+        alloc: Global,
+        role: &Name,
+    ) -> Result<Roster, AllocError>
         ensures { IfOk result (λ roster. roster ≡ unassigned self.now role.now) }
     {
         let names = self.names.copy()?;
-        let values = values_unassigned(alloc, &self.values, role)?;
+        let values = values_without_assignments(alloc, &self.values, role)?;
         Ok(Roster { names, values })
     }
 }

@@ -162,12 +162,12 @@ impl Policy {
     /// # Errors
     /// `NoSession`, `NotPermitted`, `Known`, `Unknown` role, `Ssd`, `Full`, tested in this order; or `Memory`. The policy
     /// is then as it was.
-    pub fn ssd(&mut self, conn: u32, set: SeparationSet) -> Result<(), PolicyFault>
-        ensures ok { OnOk result (rows.ssd self.old conn set ≡ Ok self.new) }
-        ensures refused { IfErr result (IsFaultOf (rows.ssd self.old conn set)) }
+    pub fn ssd(&mut self, connection: u32, set: SeparationSet) -> Result<(), PolicyFault>
+        ensures ok { OnOk result (rows.ssd self.old connection set ≡ Ok self.new) }
+        ensures refused { IfErr result (IsFaultOf (rows.ssd self.old connection set)) }
         ensures err { OnErr result (self.new ≡ self.old) }
     {
-        self.make_set(conn, Kind::Static, set)
+        self.make_set(connection, Kind::Static, set)
     }
 
     /// Makes a dynamic set (CreateDsdSet).
@@ -175,45 +175,50 @@ impl Policy {
     /// # Errors
     /// `NoSession`, `NotPermitted`, `Known`, `Unknown` role, `Dsd`, `Full`, tested in this order; or `Memory`. The policy
     /// is then as it was.
-    pub fn dsd(&mut self, conn: u32, set: SeparationSet) -> Result<(), PolicyFault>
-        ensures ok { OnOk result (rows.dsd self.old conn set ≡ Ok self.new) }
-        ensures refused { IfErr result (IsFaultOf (rows.dsd self.old conn set)) }
+    pub fn dsd(&mut self, connection: u32, set: SeparationSet) -> Result<(), PolicyFault>
+        ensures ok { OnOk result (rows.dsd self.old connection set ≡ Ok self.new) }
+        ensures refused { IfErr result (IsFaultOf (rows.dsd self.old connection set)) }
         ensures err { OnErr result (self.new ≡ self.old) }
     {
-        self.make_set(conn, Kind::Dynamic, set)
+        self.make_set(connection, Kind::Dynamic, set)
     }
 
     /// Takes a static set away (DeleteSsdSet). It takes no memory.
     ///
     /// # Errors
     /// `NoSession`, `NotPermitted`, `Unknown` set, tested in this order. The policy is then as it was.
-    pub fn unssd(&mut self, conn: u32, name: &Name) -> Result<(), PolicyFault>
-        ensures ok { OnOk result (rows.unssd self.old conn name.now ≡ Ok self.new) }
-        ensures refused { IfErr result (IsFaultOf (rows.unssd self.old conn name.now)) }
+    pub fn unssd(&mut self, connection: u32, name: &Name) -> Result<(), PolicyFault>
+        ensures ok { OnOk result (rows.unssd self.old connection name.now ≡ Ok self.new) }
+        ensures refused { IfErr result (IsFaultOf (rows.unssd self.old connection name.now)) }
         ensures err { OnErr result (self.new ≡ self.old) }
     {
-        self.remove_set(conn, Kind::Static, name)
+        self.remove_set(connection, Kind::Static, name)
     }
 
     /// Takes a dynamic set away (DeleteDsdSet). It takes no memory.
     ///
     /// # Errors
     /// `NoSession`, `NotPermitted`, `Unknown` set, tested in this order. The policy is then as it was.
-    pub fn undsd(&mut self, conn: u32, name: &Name) -> Result<(), PolicyFault>
-        ensures ok { OnOk result (rows.undsd self.old conn name.now ≡ Ok self.new) }
-        ensures refused { IfErr result (IsFaultOf (rows.undsd self.old conn name.now)) }
+    pub fn undsd(&mut self, connection: u32, name: &Name) -> Result<(), PolicyFault>
+        ensures ok { OnOk result (rows.undsd self.old connection name.now ≡ Ok self.new) }
+        ensures refused { IfErr result (IsFaultOf (rows.undsd self.old connection name.now)) }
         ensures err { OnErr result (self.new ≡ self.old) }
     {
-        self.remove_set(conn, Kind::Dynamic, name)
+        self.remove_set(connection, Kind::Dynamic, name)
     }
 
     /// Makes a set of the kind.
-    fn make_set(&mut self, conn: u32, kind: Kind, set: SeparationSet) -> Result<(), PolicyFault>
-        ensures ok { OnOk result (kinds.make_set kind self.old conn set ≡ Ok self.new) }
-        ensures refused { IfErr result (IsFaultOf (kinds.make_set kind self.old conn set)) }
+    fn make_set(
+        &mut self,
+        connection: u32,
+        kind: Kind,
+        set: SeparationSet,
+    ) -> Result<(), PolicyFault>
+        ensures ok { OnOk result (kinds.make_set kind self.old connection set ≡ Ok self.new) }
+        ensures refused { IfErr result (IsFaultOf (kinds.make_set kind self.old connection set)) }
         ensures err { OnErr result (self.new ≡ self.old) }
     {
-        self.administers(conn)?;
+        self.administers(connection)?;
         if self.has_set(kind, set.name()) {
             return Err(PolicyFault::Refused(Refusal::Known));
         }
@@ -228,12 +233,12 @@ impl Policy {
     }
 
     /// Takes a set of the kind away. It takes no memory.
-    fn remove_set(&mut self, conn: u32, kind: Kind, name: &Name) -> Result<(), PolicyFault>
-        ensures ok { OnOk result (kinds.remove_set kind self.old conn name.now ≡ Ok self.new) }
-        ensures refused { IfErr result (IsFaultOf (kinds.remove_set kind self.old conn name.now)) }
+    fn remove_set(&mut self, connection: u32, kind: Kind, name: &Name) -> Result<(), PolicyFault>
+        ensures ok { OnOk result (kinds.remove_set kind self.old connection name.now ≡ Ok self.new) }
+        ensures refused { IfErr result (IsFaultOf (kinds.remove_set kind self.old connection name.now)) }
         ensures err { OnErr result (self.new ≡ self.old) }
     {
-        self.administers(conn)?;
+        self.administers(connection)?;
         remove(&mut self.sets, kind, self.permissions.roles(), name)?;
         Ok(())
     }

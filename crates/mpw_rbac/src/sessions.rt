@@ -21,12 +21,12 @@ impl Policy {
     /// # Errors
     /// `Opened`, then `Login` where the user is unknown or the digest another; or `Memory`. The policy is then as it
     /// was.
-    pub fn open(&mut self, conn: u32, user: &Name, digest: &Digest) -> Result<(), PolicyFault>
-        ensures ok { OnOk result (rows.open_session self.old conn user.now digest.now ≡ Ok self.new) }
-        ensures refused { IfErr result (IsFaultOf (rows.open_session self.old conn user.now digest.now)) }
+    pub fn open(&mut self, connection: u32, user: &Name, digest: &Digest) -> Result<(), PolicyFault>
+        ensures ok { OnOk result (rows.open_session self.old connection user.now digest.now ≡ Ok self.new) }
+        ensures refused { IfErr result (IsFaultOf (rows.open_session self.old connection user.now digest.now)) }
         ensures err { OnErr result (self.new ≡ self.old) }
     {
-        if self.has_session(conn) {
+        if self.has_session(connection) {
             return Err(PolicyFault::Refused(Refusal::Opened));
         }
         if !self.is_login(user, digest) {
@@ -37,7 +37,7 @@ impl Policy {
             active: Names::new(self.sessions.allocator()),
         };
         let active = Active::new(self.permissions.roles(), session);
-        self.sessions.insert(conn, active)?;
+        self.sessions.insert(connection, active)?;
         Ok(())
     }
 
@@ -45,23 +45,23 @@ impl Policy {
     ///
     /// # Errors
     /// `NoSession`. The policy is then as it was.
-    pub fn close(&mut self, conn: u32) -> Result<(), PolicyFault>
-        ensures ok { OnOk result (rows.close_session self.old conn ≡ Ok self.new) }
-        ensures refused { IfErr result (IsFaultOf (rows.close_session self.old conn)) }
+    pub fn close(&mut self, connection: u32) -> Result<(), PolicyFault>
+        ensures ok { OnOk result (rows.close_session self.old connection ≡ Ok self.new) }
+        ensures refused { IfErr result (IsFaultOf (rows.close_session self.old connection)) }
         ensures err { OnErr result (self.new ≡ self.old) }
     {
-        if !self.has_session(conn) {
+        if !self.has_session(connection) {
             return Err(PolicyFault::Refused(Refusal::NoSession));
         }
-        self.end(conn);
+        self.end(connection);
         Ok(())
     }
 
     /// Ends the connection's session, if it has one. It takes no memory.
-    pub fn end(&mut self, conn: u32)
-        ensures { self.new ≡ end_session self.old conn }
+    pub fn end(&mut self, connection: u32)
+        ensures { self.new ≡ end_session self.old connection }
     {
-        self.sessions.remove(conn);
+        self.sessions.remove(connection);
     }
 
     /// Ends every session, as a desk does that begins anew. It takes no memory.
@@ -75,25 +75,25 @@ impl Policy {
     ///
     /// # Errors
     /// `NoSession`, `NotAuthorized`, `Known`, `Dsd`, tested in this order; or `Memory`. The policy is then as it was.
-    pub fn activate(&mut self, conn: u32, role: &Name) -> Result<(), PolicyFault>
-        ensures ok { OnOk result (rows.activate self.old conn role.now ≡ Ok self.new) }
-        ensures refused { IfErr result (IsFaultOf (rows.activate self.old conn role.now)) }
+    pub fn activate(&mut self, connection: u32, role: &Name) -> Result<(), PolicyFault>
+        ensures ok { OnOk result (rows.activate self.old connection role.now ≡ Ok self.new) }
+        ensures refused { IfErr result (IsFaultOf (rows.activate self.old connection role.now)) }
         ensures err { OnErr result (self.new ≡ self.old) }
     {
-        if !self.has_session(conn) {
+        if !self.has_session(connection) {
             return Err(PolicyFault::Refused(Refusal::NoSession));
         }
-        if !self.may_activate(conn, role) {
+        if !self.may_activate(connection, role) {
             return Err(PolicyFault::Refused(Refusal::NotAuthorized(role.copy()?)));
         }
-        if self.is_active(conn, role) {
+        if self.is_active(connection, role) {
             return Err(PolicyFault::Refused(Refusal::Known));
         }
-        let active = self.activated(conn, role)?;
+        let active = self.with_active_role(connection, role)?;
         if let Some(name) = self.broken_by_active(&active) {
             return Err(PolicyFault::Refused(Refusal::Dsd(name.copy()?)));
         }
-        self.sessions.insert(conn, active)?;
+        self.sessions.insert(connection, active)?;
         Ok(())
     }
 
@@ -101,19 +101,19 @@ impl Policy {
     ///
     /// # Errors
     /// `NoSession`, then `Unknown` where the role isn't active; or `Memory`. The policy is then as it was.
-    pub fn drop_role(&mut self, conn: u32, role: &Name) -> Result<(), PolicyFault>
-        ensures ok { OnOk result (rows.drop_role self.old conn role.now ≡ Ok self.new) }
-        ensures refused { IfErr result (IsFaultOf (rows.drop_role self.old conn role.now)) }
+    pub fn drop_role(&mut self, connection: u32, role: &Name) -> Result<(), PolicyFault>
+        ensures ok { OnOk result (rows.drop_role self.old connection role.now ≡ Ok self.new) }
+        ensures refused { IfErr result (IsFaultOf (rows.drop_role self.old connection role.now)) }
         ensures err { OnErr result (self.new ≡ self.old) }
     {
-        if !self.has_session(conn) {
+        if !self.has_session(connection) {
             return Err(PolicyFault::Refused(Refusal::NoSession));
         }
-        if !self.is_active(conn, role) {
+        if !self.is_active(connection, role) {
             return Err(PolicyFault::Refused(Refusal::Unknown));
         }
-        let active = self.dropped(conn, role)?;
-        self.sessions.insert(conn, active)?;
+        let active = self.without_active_role(connection, role)?;
+        self.sessions.insert(connection, active)?;
         Ok(())
     }
 
@@ -121,11 +121,11 @@ impl Policy {
     ///
     /// # Errors
     /// `NoSession`; or `Memory`.
-    pub fn whoami(&self, conn: u32) -> Result<Identity, PolicyFault>
-        ensures ok { IfOk result (λ identity. rows.whoami self.now conn ≡ Ok identity) }
-        ensures refused { IfErr result (IsFaultOf (rows.whoami self.now conn)) }
+    pub fn whoami(&self, connection: u32) -> Result<Identity, PolicyFault>
+        ensures ok { IfOk result (λ identity. rows.whoami self.now connection ≡ Ok identity) }
+        ensures refused { IfErr result (IsFaultOf (rows.whoami self.now connection)) }
     {
-        let Some(session) = self.session(conn) else {
+        let Some(session) = self.session(connection) else {
             return Err(PolicyFault::Refused(Refusal::NoSession));
         };
         let user = session.user.copy()?;
@@ -140,10 +140,10 @@ impl Policy {
     }
 
     /// Whether the connection has a session.
-    pub fn has_session(&self, conn: u32) -> bool
-        ensures { result ≡ is_some (session_of self.now conn) }
+    pub fn has_session(&self, connection: u32) -> bool
+        ensures { result ≡ is_some (session_of self.now connection) }
     {
-        self.session(conn).is_some()
+        self.session(connection).is_some()
     }
 
     /// Whether the user is known with this digest.
@@ -164,39 +164,39 @@ impl Policy {
     }
 
     /// Whether the user of the connection's session is authorized for the role.
-    fn may_activate(&self, conn: u32, role: &Name) -> bool
-        requires { is_some (session_of self.now conn) ≡ true }
-        ensures { result ≡ contains_name (authorized self.now (user_of self.now conn)) role.now }
+    fn may_activate(&self, connection: u32, role: &Name) -> bool
+        requires { is_some (session_of self.now connection) ≡ true }
+        ensures { result ≡ contains_name (authorized self.now (user_of self.now connection)) role.now }
     {
-        match self.session(conn) {
+        match self.session(connection) {
             Some(session) => self.is_authorized(&session.user, role),
             None => false,
         }
     }
 
     /// Whether the role is active in the connection's session.
-    fn is_active(&self, conn: u32, role: &Name) -> bool
-        ensures { result ≡ contains_name (active_roles self.now conn) role.now }
+    fn is_active(&self, connection: u32, role: &Name) -> bool
+        ensures { result ≡ contains_name (active_roles self.now connection) role.now }
     {
-        match self.session(conn) {
+        match self.session(connection) {
             Some(session) => session.active.contains(role),
             None => false,
         }
     }
 
     /// The connection's session with one more active role: its juniors act too.
-    fn activated(&self, conn: u32, role: &Name) -> Result<Active, AllocError>
-        requires { is_some (session_of self.now conn) ≡ true }
+    fn with_active_role(&self, connection: u32, role: &Name) -> Result<Active, AllocError>
+        requires { is_some (session_of self.now connection) ≡ true }
         ensures acting { IfOk result (λ next. IsBelow self.now.roles next.session.active next.acting) }
-        ensures session { IfOk result (λ next. next.session ≡ record { user = user_of self.now conn; active = active_roles self.now conn ++ role.now ∷ [] }) }
+        ensures session { IfOk result (λ next. next.session ≡ record { user = user_of self.now connection; active = active_roles self.now connection ++ role.now ∷ [] }) }
     {
-        let Some(session) = self.session(conn) else {
+        let Some(session) = self.session(connection) else {
             return Err(AllocError);
         };
         let user = session.user.copy()?;
         let mut active = session.active.copy()?;
         active.push(role.copy()?)?;
-        let mut acting = self.sessions.acting(conn);
+        let mut acting = self.sessions.acting(connection);
         acting.add(&self.permissions.roles().mask(role));
         Ok(Active {
             session: Session { user, active },
@@ -205,12 +205,12 @@ impl Policy {
     }
 
     /// The connection's session with one active role less.
-    fn dropped(&self, conn: u32, role: &Name) -> Result<Active, AllocError>
-        requires { is_some (session_of self.now conn) ≡ true }
+    fn without_active_role(&self, connection: u32, role: &Name) -> Result<Active, AllocError>
+        requires { is_some (session_of self.now connection) ≡ true }
         ensures acting { IfOk result (λ next. IsBelow self.now.roles next.session.active next.acting) }
-        ensures session { IfOk result (λ next. next.session ≡ record { user = user_of self.now conn; active = without_name (active_roles self.now conn) role.now }) }
+        ensures session { IfOk result (λ next. next.session ≡ record { user = user_of self.now connection; active = without_name (active_roles self.now connection) role.now }) }
     {
-        let Some(session) = self.session(conn) else {
+        let Some(session) = self.session(connection) else {
             return Err(AllocError);
         };
         let user = session.user.copy()?;
@@ -231,7 +231,7 @@ impl Policy {
     fn below_authorized(&self, user: &Name) -> Below<'_>
         ensures { result ≡ authorized self.now user.now }
     {
-        let authorized = self.users.authorized(user);
+        let authorized = self.users.authorized_places(user);
         self.permissions.roles().at_places(&authorized)
     }
 

@@ -10,24 +10,24 @@ ghost use Rattle.mpw_rbac.specs.declared.permission.Grant.{Grant};
 /// that each accepted request leaves do too.
 pub fn each_request_keeps_the_tables()
     ensures new_desk { (officer digest : List ℕ) → AreTablesSound (new_policy officer digest) }
-    ensures end_session { (conn : ℕ) → KeepsTables (λ p. Ok (rows.end_session p conn)) }
+    ensures end_session { (connection : ℕ) → KeepsTables (λ p. Ok (rows.end_session p connection)) }
     ensures end_sessions { KeepsTables (λ p. Ok (rows.end_sessions p)) }
-    ensures open_session { (conn : ℕ) (user digest : List ℕ) → KeepsTables (λ p. rows.open_session p conn user digest) }
-    ensures close_session { (conn : ℕ) → KeepsTables (λ p. rows.close_session p conn) }
-    ensures activate { (conn : ℕ) (role : List ℕ) → KeepsTables (λ p. rows.activate p conn role) }
-    ensures drop_role { (conn : ℕ) (role : List ℕ) → KeepsTables (λ p. rows.drop_role p conn role) }
-    ensures adduser { (conn : ℕ) (user digest : List ℕ) → KeepsTables (λ p. rows.adduser p conn user digest) }
-    ensures deluser { (conn : ℕ) (user : List ℕ) → KeepsTables (λ p. rows.deluser p conn user) }
-    ensures addrole { (conn : ℕ) (role : List ℕ) → KeepsTables (λ p. rows.addrole p conn role) }
-    ensures delrole { (conn : ℕ) (role : List ℕ) → KeepsTables (λ p. rows.delrole p conn role) }
-    ensures assign { (conn : ℕ) (user role : List ℕ) → KeepsTables (λ p. rows.assign p conn user role) }
-    ensures deassign { (conn : ℕ) (user role : List ℕ) → KeepsTables (λ p. rows.deassign p conn user role) }
-    ensures grant { (conn : ℕ) (grant : Grant) → KeepsTables (λ p. rows.grant p conn grant) }
-    ensures revoke { (conn : ℕ) (grant : Grant) → KeepsTables (λ p. rows.revoke p conn grant) }
-    ensures inherit { (conn : ℕ) (senior junior : List ℕ) → KeepsTables (λ p. rows.inherit p conn senior junior) }
-    ensures uninherit { (conn : ℕ) (senior junior : List ℕ) → KeepsTables (λ p. rows.uninherit p conn senior junior) }
-    ensures ssd { (conn : ℕ) (set : SeparationSet) → KeepsTables (λ p. rows.ssd p conn set) }
-    ensures dsd { (conn : ℕ) (set : SeparationSet) → KeepsTables (λ p. rows.dsd p conn set) }
-    ensures unssd { (conn : ℕ) (name : List ℕ) → KeepsTables (λ p. rows.unssd p conn name) }
-    ensures undsd { (conn : ℕ) (name : List ℕ) → KeepsTables (λ p. rows.undsd p conn name) }
+    ensures open_session { (connection : ℕ) (user digest : List ℕ) → KeepsTables (λ p. rows.open_session p connection user digest) }
+    ensures close_session { (connection : ℕ) → KeepsTables (λ p. rows.close_session p connection) }
+    ensures activate { (connection : ℕ) (role : List ℕ) → KeepsTables (λ p. rows.activate p connection role) }
+    ensures drop_role { (connection : ℕ) (role : List ℕ) → KeepsTables (λ p. rows.drop_role p connection role) }
+    ensures adduser { (connection : ℕ) (user digest : List ℕ) → KeepsTables (λ p. rows.adduser p connection user digest) }
+    ensures deluser { (connection : ℕ) (user : List ℕ) → KeepsTables (λ p. rows.deluser p connection user) }
+    ensures addrole { (connection : ℕ) (role : List ℕ) → KeepsTables (λ p. rows.addrole p connection role) }
+    ensures delrole { (connection : ℕ) (role : List ℕ) → KeepsTables (λ p. rows.delrole p connection role) }
+    ensures assign { (connection : ℕ) (user role : List ℕ) → KeepsTables (λ p. rows.assign p connection user role) }
+    ensures deassign { (connection : ℕ) (user role : List ℕ) → KeepsTables (λ p. rows.deassign p connection user role) }
+    ensures grant { (connection : ℕ) (grant : Grant) → KeepsTables (λ p. rows.grant p connection grant) }
+    ensures revoke { (connection : ℕ) (grant : Grant) → KeepsTables (λ p. rows.revoke p connection grant) }
+    ensures inherit { (connection : ℕ) (senior junior : List ℕ) → KeepsTables (λ p. rows.inherit p connection senior junior) }
+    ensures uninherit { (connection : ℕ) (senior junior : List ℕ) → KeepsTables (λ p. rows.uninherit p connection senior junior) }
+    ensures ssd { (connection : ℕ) (set : SeparationSet) → KeepsTables (λ p. rows.ssd p connection set) }
+    ensures dsd { (connection : ℕ) (set : SeparationSet) → KeepsTables (λ p. rows.dsd p connection set) }
+    ensures unssd { (connection : ℕ) (name : List ℕ) → KeepsTables (λ p. rows.unssd p connection name) }
+    ensures undsd { (connection : ℕ) (name : List ℕ) → KeepsTables (λ p. rows.undsd p connection name) }
 {}

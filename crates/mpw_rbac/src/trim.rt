@@ -30,7 +30,7 @@ pub(crate) fn keep(users: &Users, roles: &Roles, session: &mut Session) -> bool
     ensures user { result ≡ is_user (users_and_roles users.now.users roles.now) session.old.user }
     ensures kept { AreAuthorized roles.now users.now → session.new ≡ kept_roles (users_and_roles users.now.users roles.now) session.old }
 {
-    let below = roles.at_places(&users.authorized(&session.user));
+    let below = roles.at_places(&users.authorized_places(&session.user));
     keep_below(&below, &mut session.active, Names::new(roles.allocator()));
     users.contains(&session.user)
 }

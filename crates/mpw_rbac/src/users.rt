@@ -20,7 +20,7 @@ ghost use Rattle.mpw_rbac.specs.Table.{has_key, value_at, without_key};
 use crate::User;
 use crate::roster::Roster;
 use mpw_geom::Name;
-use mpw_roles::{Mask, Roles};
+use mpw_roles::{Mask, Roles, join_masks};
 use std::alloc::{AllocError, Global};
 use std::marker::Model;
 use std::sync::Arc;
@@ -83,20 +83,8 @@ fn masks_with(
     Ok(next)
 }
 
-/// Each mask that has the place of the senior gets the junior's places.
-fn join(masks: &mut Vec<Mask>, senior: usize, junior: &Mask)
-    ensures joined { (k : ℕ) → k < length masks.old.items → (place : ℕ) → has (mask_at masks.new.items k) place ≡ (has (mask_at masks.old.items k) place || (has (mask_at masks.old.items k) senior && has junior.now place)) }
-    ensures long { length masks.new.items ≡ length masks.old.items }
-{
-    for k in 0..masks.len() {
-        if masks[k].contains(senior) {
-            masks[k].add(junior);
-        }
-    }
-}
-
 /// The masks of users after one more pair of these roles: a copy of the masks.
-fn masks_joined(
+fn joined_masks(
     roles: &Roles,
     masks: &[Mask],
     senior: &Name,
@@ -110,7 +98,7 @@ fn masks_joined(
     let Some(place) = roles.place(senior) else {
         return Ok(next);
     };
-    join(&mut next, place, &roles.mask(junior));
+    join_masks(&mut next, place, &roles.mask(junior));
     Ok(next)
 }
 
@@ -182,7 +170,7 @@ impl Users {
     }
 
     /// The places of the roles that a user is authorized for; none where there is no such user.
-    pub(crate) fn authorized(&self, user: &Name) -> Mask
+    pub(crate) fn authorized_places(&self, user: &Name) -> Mask
         ensures { (h : Hierarchy) → AreAuthorized h self.now → IsBelow h (assigned_roles (users_and_roles self.now.users h) user.now) result }
     {
         mask_of(&self.roster, &self.masks, user)
@@ -209,13 +197,17 @@ impl Users {
     }
 
     /// The users without the assignments of a role.
-    pub(crate) fn unassigned(&self, roles: &Roles, role: &Name) -> Result<Users, AllocError>
+    pub(crate) fn without_assignments(
+        &self,
+        roles: &Roles,
+        role: &Name,
+    ) -> Result<Users, AllocError>
         ensures { IfOk result (AreUsers roles.now (unassigned self.now.users role.now)) }
     {
         let alloc = roles.allocator();
         Users::of(
             roles,
-            Arc::new(alloc, self.roster.unassigned(alloc, role)?)?,
+            Arc::new(alloc, self.roster.without_assignments(alloc, role)?)?,
         )
     }
 
@@ -228,7 +220,7 @@ impl Users {
 
     /// The same users after one more pair of these roles: whoever is authorized for the senior is for the junior's roles
     /// too. A copy of the masks.
-    pub(crate) fn joined(
+    pub(crate) fn with_joined_masks(
         &self,
         roles: &Roles,
         senior: &Name,
@@ -238,7 +230,7 @@ impl Users {
         requires senior { is_role roles.now senior.now ≡ true }
         ensures { IfOk result (AreUsers (with_pair roles.now senior.now junior.now) self.now.users) }
     {
-        let masks = masks_joined(roles, &self.masks, senior, junior)?;
+        let masks = joined_masks(roles, &self.masks, senior, junior)?;
         let roster = self.roster.clone()?;
         Ok(Users {
             roster,

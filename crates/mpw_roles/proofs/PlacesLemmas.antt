@@ -194,7 +194,7 @@ order-with_pair h s j there a b = both_ways _ _
     parts false true z e = inr (refl, e)
     parts false false z e = inr (e, absurd (true≢false (sym e)))
 
-joined-bits : (f x y z : Bool) → ((f && x) || (y && (f && z))) ≡ (f && (x || (y && z)))
+pub joined-bits : (f x y z : Bool) → ((f && x) || (y && (f && z))) ≡ (f && (x || (y && z)))
 joined-bits true x y z = refl
 joined-bits false x true z = refl
 joined-bits false x false z = refl

@@ -3,7 +3,7 @@
 ghost use Rattle.std.specs.Prelude.{◌≡◌};
 ghost use Rattle.mpw_roles.specs.declared.fault.RolesFault.TheVariants.{Memory};
 
-use std::alloc::{AllocError, AllocFailed};
+use std::alloc::AllocError;
 use thiserror::Error;
 
 /// Why a command on the hierarchy was refused.
@@ -27,14 +27,6 @@ impl From<AllocError> for RolesFault {
     ghost from_gives = { λ _ fault. fault ≡ Memory };
 
     fn from(_error: AllocError) -> RolesFault {
-        RolesFault::Memory
-    }
-}
-
-impl<T: Drop> From<AllocFailed<T>> for RolesFault {
-    ghost from_gives = { λ _ fault. fault ≡ Memory };
-
-    fn from(_error: AllocFailed<T>) -> RolesFault {
         RolesFault::Memory
     }
 }

@@ -17,12 +17,13 @@ mod register;
 mod remask;
 mod renumber;
 mod roles;
+mod room;
 mod settled;
 mod table;
 
 pub use below::Below;
 pub use fault::RolesFault;
 pub use laws::order_is_chains;
-pub use mask::Mask;
+pub use mask::{Mask, join_masks, reserve_mask};
 pub use register::Register;
 pub use roles::{MAX_ROLES, Roles};

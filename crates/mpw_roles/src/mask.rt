@@ -1,6 +1,9 @@
 //! Sets of places, 512 at most, as the bits of eight words.
-ghost use Rattle.std.specs.Prelude.{◌≡◌, ℕ, ◌<◌, true, false, ◌||◌, ◌&&◌, ◌==◌, not};
+ghost use Rattle.std.specs.Prelude.{◌≡◌, ℕ, ◌≤◌, ◌<◌, true, false, ◌||◌, ◌&&◌, ◌==◌, not, length, OnOk};
 ghost use Rattle.mpw_roles.specs.Mask.{has, common};
+ghost use Rattle.mpw_roles.specs.Places.{mask_at};
+
+use std::alloc::AllocError;
 
 /// The number of words.
 const WORDS: usize = 8;
@@ -79,5 +82,33 @@ impl Mask {
             count += (self.words[k] & other.words[k]).count_ones() as usize;
         }
         count
+    }
+}
+
+/// Makes room for a mask behind so many: one more, where there are no others yet.
+///
+/// # Errors
+/// Where there is no room. The masks are then as they were.
+pub fn reserve_mask(masks: &mut Vec<Mask>, count: usize) -> Result<(), AllocError>
+    requires { count ≤ length masks.old.items }
+    ensures ok { OnOk result (count < length masks.new.items) }
+    ensures same { (place : ℕ) → place < count → mask_at masks.new.items place ≡ mask_at masks.old.items place }
+    ensures long { count ≤ length masks.new.items }
+{
+    if masks.len() == count {
+        masks.push(Mask::new())?;
+    }
+    Ok(())
+}
+
+/// Each mask that has a place gets the places of another mask too.
+pub fn join_masks(masks: &mut [Mask], place: usize, added: &Mask)
+    ensures joined { (k : ℕ) → k < length masks.old → (other : ℕ) → has (mask_at masks.new k) other ≡ (has (mask_at masks.old k) other || (has (mask_at masks.old k) place && has added.now other)) }
+    ensures long { length masks.new ≡ length masks.old }
+{
+    for k in 0..masks.len() {
+        if masks[k].contains(place) {
+            masks[k].add(added);
+        }
     }
 }

@@ -6,6 +6,7 @@ ghost use Rattle.mpw_roles.specs.Places.{mask_at, IsMasked};
 ghost use Rattle.mpw_roles.specs.declared.pairs.Pair.{Pair as PairState};
 
 use crate::Mask;
+use crate::mask::join_masks;
 use crate::pairs::{Pair, place_of};
 
 /// Writes the mask of a role that has no juniors: its own place.
@@ -41,11 +42,7 @@ pub(crate) fn join_places(masks: &mut [Mask], senior: usize, junior: usize)
     ensures long { length masks.new ≡ length masks.old }
 {
     let added = masks[junior];
-    for role in 0..masks.len() {
-        if masks[role].contains(senior) {
-            masks[role].add(&added);
-        }
-    }
+    join_masks(masks, senior, &added);
 }
 
 /// The masks after one more pair.

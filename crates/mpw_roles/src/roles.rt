@@ -4,11 +4,13 @@ ghost use Rattle.mpw_geom.specs.Names.{name_eq, by_name};
 ghost use Rattle.mpw_roles.specs.Hierarchy.{Name as RoleName, Hierarchy, role_names, with_pair, is_role, is_immediate};
 ghost use Rattle.mpw_roles.specs.Mask.{has};
 ghost use Rattle.mpw_roles.specs.Order.{at_least, roles_below, IsHierarchy};
-ghost use Rattle.mpw_roles.specs.Places.{mask_at, is_place_under, is_place_below, is_place_of, IsMasked};
+ghost use Rattle.mpw_roles.specs.Places.{is_place_under, is_place_below, is_place_of, IsMasked};
 ghost use Rattle.mpw_roles.specs.Rows as rows;
 
+use crate::mask::reserve_mask;
 use crate::places::places_of;
 use crate::remask::{join_places, write_own};
+use crate::room::roomy_copy;
 use crate::table::Table;
 use crate::{Below, Mask, RolesFault};
 use mpw_geom::{Name, Names};
@@ -45,29 +47,6 @@ impl Model for Roles {
     ghost invariant = { λ roles. IsRoles roles.table roles.masks.items };
 }
 
-/// Makes room for the mask of one more role.
-fn reserve(masks: &mut Vec<Mask>, count: usize) -> Result<(), RolesFault>
-    requires { count ≤ length masks.old.items }
-    ensures ok { OnOk result (count < length masks.new.items) }
-    ensures memory { IfErr result (λ fault. fault ≡ RolesFault.Memory) }
-    ensures same { (place : ℕ) → place < count → mask_at masks.new.items place ≡ mask_at masks.old.items place }
-    ensures long { count ≤ length masks.new.items }
-{
-    if masks.len() == count {
-        masks.push(Mask::new())?;
-    }
-    Ok(())
-}
-
-/// The same masks, with room for one more.
-fn masks_copied(alloc: Global, masks: &[Mask]) -> Result<Vec<Mask>, AllocError>
-    ensures { IfOk result (λ copy. copy.items ≡ masks.now) }
-{
-    let mut copy = Vec::with_capacity(alloc, masks.len().saturating_add(1))?;
-    copy.extend_from_slice(masks)?;
-    Ok(copy)
-}
-
 /// The masks after a new pair of roles.
 fn join(table: &Table, masks: &mut [Mask], senior: &Name, junior: &Name)
     requires { length table.now ≤ length masks.old }
@@ -84,7 +63,7 @@ fn join(table: &Table, masks: &mut [Mask], senior: &Name, junior: &Name)
 }
 
 /// The masks of the roles among the seniors, joined.
-fn joined(table: &Table, masks: &[Mask], seniors: &[Name]) -> Mask
+fn union_of_masks(table: &Table, masks: &[Mask], seniors: &[Name]) -> Mask
     requires hierarchy { IsHierarchy table.now }
     requires masked { IsMasked table.now masks.now }
     ensures { (place : ℕ) → has result place ≡ is_place_below table.now seniors.now place }
@@ -144,7 +123,7 @@ impl Roles {
             return Err(RolesFault::Full);
         }
         let place = self.table.len();
-        reserve(&mut self.masks, place)?;
+        reserve_mask(&mut self.masks, place)?;
         self.table.add(role)?;
         write_own(&mut self.masks, place);
         Ok(())
@@ -246,7 +225,7 @@ impl Roles {
     pub fn mask_below(&self, seniors: &[Name]) -> Mask
         ensures { (place : ℕ) → has result place ≡ is_place_below self.now seniors.now place }
     {
-        joined(&self.table, &self.masks, seniors)
+        union_of_masks(&self.table, &self.masks, seniors)
     }
 
     /// The roles at or below some others, which need not be roles. It takes no memory, and costs a look-up for each of
@@ -300,7 +279,7 @@ impl Roles {
         ensures { IfOk result (λ roles. roles ≡ self.now) }
     {
         let table = self.table.copy()?;
-        let masks = masks_copied(self.table.allocator(), &self.masks)?;
+        let masks = roomy_copy(self.table.allocator(), &self.masks)?;
         Ok(Roles { table, masks })
     }
 

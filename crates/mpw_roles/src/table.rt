@@ -13,6 +13,7 @@ ghost use Rattle.mpw_roles.specs.Places.{IsMasked};
 use crate::pairs::{Pair, has_pair, place_of, without_ends, without_number, without_pair};
 use crate::remask::remask;
 use crate::renumber::{is_straight, names_with, numbers, placed_pairs};
+use crate::room::roomy_copy;
 use crate::{Mask, Register};
 use mpw_geom::Name;
 use std::alloc::{AllocError, Global};
@@ -50,7 +51,7 @@ impl Model for Table {
 }
 
 /// The number of a name, which gets one where it has none.
-fn numbered(names: &mut Register, alloc: Global, name: Name) -> Result<usize, AllocError>
+fn number_of(names: &mut Register, alloc: Global, name: Name) -> Result<usize, AllocError>
     ensures number { IfOk result (λ number. Some number ≡ position (name_eq name) names.new) }
     ensures once { are_distinct names.new ≡ true }
     ensures long { length names.old ≤ length names.new }
@@ -62,24 +63,6 @@ fn numbered(names: &mut Register, alloc: Global, name: Name) -> Result<usize, Al
     let number = names.len();
     names.push(alloc, name)?;
     Ok(number)
-}
-
-/// The same numbers, with room for one more.
-fn order_copied(alloc: Global, order: &[usize]) -> Result<Vec<usize>, AllocError>
-    ensures { IfOk result (λ copy. copy.items ≡ order.now) }
-{
-    let mut copy = Vec::with_capacity(alloc, order.len().saturating_add(1))?;
-    copy.extend_from_slice(order)?;
-    Ok(copy)
-}
-
-/// The same pairs, with room for one more.
-fn pairs_copied(alloc: Global, pairs: &[Pair]) -> Result<Vec<Pair>, AllocError>
-    ensures { IfOk result (λ copy. copy.items ≡ pairs.now) }
-{
-    let mut copy = Vec::with_capacity(alloc, pairs.len().saturating_add(1))?;
-    copy.extend_from_slice(pairs)?;
-    Ok(copy)
 }
 
 impl Table {
@@ -102,19 +85,19 @@ impl Table {
         ensures { IfOk result (λ table. table ≡ self.now) }
     {
         if is_straight(&self.order, self.names.len()) {
-            return self.shared();
+            return self.copy_with_same_numbers();
         }
-        self.renumbered()
+        self.copy_with_new_numbers()
     }
 
     /// The same roles with the same numbers: a copy of the numbers, and what a copy of the register costs.
-    fn shared(&self) -> Result<Table, AllocError>
+    fn copy_with_same_numbers(&self) -> Result<Table, AllocError>
         ensures { IfOk result (λ table. table ≡ self.now) }
     {
         let alloc = self.allocator();
         let names = self.names.copy()?;
-        let order = order_copied(alloc, &self.order)?;
-        let pairs = pairs_copied(alloc, &self.pairs)?;
+        let order = roomy_copy(alloc, &self.order)?;
+        let pairs = roomy_copy(alloc, &self.pairs)?;
         Ok(Table {
             names,
             order,
@@ -123,7 +106,7 @@ impl Table {
     }
 
     /// The same roles with other numbers, each its place: a hash for each role, and two look-ups for each pair.
-    fn renumbered(&self) -> Result<Table, AllocError>
+    fn copy_with_new_numbers(&self) -> Result<Table, AllocError>
         ensures { IfOk result (λ table. table ≡ self.now) }
     {
         let alloc = self.allocator();
@@ -206,7 +189,7 @@ impl Table {
         ensures err { OnErr result (self.new ≡ self.old) }
     {
         let alloc = *self.order.allocator();
-        let number = numbered(&mut self.names, alloc, role)?;
+        let number = number_of(&mut self.names, alloc, role)?;
         self.order.push(number)?;
         Ok(())
     }

@@ -2,7 +2,7 @@
 ghost use Rattle.std.specs.Prelude.{◌≡◌};
 ghost use Rattle.mpw_separation.specs.declared.fault.SetsFault.TheVariants.{Memory};
 
-use std::alloc::{AllocError, AllocFailed};
+use std::alloc::AllocError;
 use thiserror::Error;
 
 /// Why a command on the sets was refused.
@@ -22,14 +22,6 @@ impl From<AllocError> for SetsFault {
     ghost from_gives = { λ _ fault. fault ≡ Memory };
 
     fn from(_error: AllocError) -> SetsFault {
-        SetsFault::Memory
-    }
-}
-
-impl<T: Drop> From<AllocFailed<T>> for SetsFault {
-    ghost from_gives = { λ _ fault. fault ≡ Memory };
-
-    fn from(_error: AllocFailed<T>) -> SetsFault {
         SetsFault::Memory
     }
 }

@@ -2,11 +2,10 @@
 //!
 //! The masks are made for some roles, and whoever keeps the sets says so in an invariant. A change of the sets of a kind writes
 //! their masks anew; so must one of the roles that moves places or takes a set's role away.
-ghost use Rattle.std.specs.Prelude.{◌≡◌, ◌⊎◌, ◌≤◌, ◌<◌, ℕ, List, [], ◌∷◌, Ok, Err, IfOk, IfErr, OnOk, OnErr, length};
+ghost use Rattle.std.specs.Prelude.{◌≡◌, ◌⊎◌, ◌≤◌, ℕ, List, [], ◌∷◌, Ok, Err, IfOk, IfErr, OnOk, OnErr, length};
 ghost use Rattle.std.specs.Option.{option_copied};
 ghost use Rattle.mpw_roles.specs.Hierarchy.{Hierarchy, role_names};
 ghost use Rattle.mpw_roles.specs.Order.{IsHierarchy};
-ghost use Rattle.mpw_roles.specs.Places.{mask_at};
 ghost use Rattle.mpw_separation.specs.Placed.{ArePlaced, AreSetsPlaced, IsBelow, masks_of};
 ghost use Rattle.mpw_separation.specs.Rows as rows;
 ghost use Rattle.mpw_separation.specs.Separation.{sets_of, least_broken};
@@ -14,7 +13,7 @@ ghost use Rattle.mpw_separation.specs.Separation.{sets_of, least_broken};
 use crate::least::least_placed;
 use crate::{Kind, SeparationSet, Sets, SetsFault};
 use mpw_geom::Name;
-use mpw_roles::{Mask, Roles};
+use mpw_roles::{Mask, Roles, reserve_mask};
 use std::alloc::{AllocError, Global};
 use std::marker::Model;
 
@@ -42,19 +41,6 @@ impl Model for PlacedSets {
     ghost view = { λ kept. record { sets = kept.sets; ssd = kept.ssd.items; dsd = kept.dsd.items } };
 
     ghost invariant = { λ kept. AreLong kept.sets kept.ssd.items kept.dsd.items };
-}
-
-/// Makes room for the mask of one more set.
-fn reserve(masks: &mut Vec<Mask>, count: usize) -> Result<(), AllocError>
-    requires { count ≤ length masks.old.items }
-    ensures ok { OnOk result (count < length masks.new.items) }
-    ensures same { (place : ℕ) → place < count → mask_at masks.new.items place ≡ mask_at masks.old.items place }
-    ensures long { count ≤ length masks.new.items }
-{
-    if masks.len() == count {
-        masks.push(Mask::new())?;
-    }
-    Ok(())
 }
 
 /// Writes the masks of some sets: a look-up for each of their roles.
@@ -128,7 +114,7 @@ impl PlacedSets {
         ensures placed { AreSetsPlaced (role_names roles.now) self.old → AreSetsPlaced (role_names roles.now) self.new }
     {
         let count = self.sets.of_kind(Kind::Static).len();
-        reserve(&mut self.ssd, count)?;
+        reserve_mask(&mut self.ssd, count)?;
         self.sets.make_ssd(set)?;
         rewrite(roles, self.sets.of_kind(Kind::Static), &mut self.ssd);
         Ok(())
@@ -146,7 +132,7 @@ impl PlacedSets {
         ensures placed { AreSetsPlaced (role_names roles.now) self.old → AreSetsPlaced (role_names roles.now) self.new }
     {
         let count = self.sets.of_kind(Kind::Dynamic).len();
-        reserve(&mut self.dsd, count)?;
+        reserve_mask(&mut self.dsd, count)?;
         self.sets.make_dsd(set)?;
         rewrite(roles, self.sets.of_kind(Kind::Dynamic), &mut self.dsd);
         Ok(())

@@ -68,7 +68,7 @@ fn make(sets: &mut Vec<SeparationSet>, set: SeparationSet) -> Result<(), SetsFau
     if sets.len() >= MAX_SETS {
         return Err(SetsFault::Full);
     }
-    sets.push(set)?;
+    sets.push(set).map_err(AllocError::from)?;
     Ok(())
 }
 

@@ -15,7 +15,7 @@ use std::alloc::AllocError;
 /// Whether the submission of a number is of a cell that may be read: one look-up.
 fn may_see(access: &Access<'_>, shelf: &Shelf, number: u32) -> Result<bool, AllocError>
     requires { access.now.operation ≡ Read }
-    ensures { IfOk result (λ seen. seen ≡ is_seen (slice_get (seen_by access.now.policy access.now.conn shelf.now) number)) }
+    ensures { IfOk result (λ seen. seen ≡ is_seen (slice_get (seen_by access.now.policy access.now.connection shelf.now) number)) }
 {
     let Some(submission) = shelf.get(number) else {
         return Ok(false);

@@ -1,5 +1,5 @@
 -- The holders of a permission, by the places of their roles.
-use Rattle.std.specs.Prelude.{◌≡◌, ℕ, ◌<◌, ◌/◌, ◌%◌, Bool, true, false, not, ◌&&◌, ◌==◌, List, [], ◌∷◌, ◌++◌, length, filter, fold, nat_lt, slice_index_or, if◌then◌else◌}
+use Rattle.std.specs.Prelude.{◌≡◌, ◌⊎◌, ℕ, ◌<◌, ◌/◌, ◌%◌, Bool, true, false, not, ◌&&◌, ◌==◌, List, [], ◌∷◌, ◌++◌, length, filter, fold, nat_lt, slice_index_or, if◌then◌else◌}
 use Rattle.std.specs.Hash as fed
 use Rattle.std.specs.Hash.FoldHasher as folding
 use Rattle.std.specs.List.{list_any, list_all}
@@ -98,6 +98,10 @@ are_to_roles roles granted = list_all (λ (grant : Grant). contains_name roles g
 abbrev pub ArePermissions : List Name → List Grant → List Buckets → Type 0
 ArePermissions roles granted tables =
     AreHeld roles granted tables × (are_to_roles roles granted ≡ true)
+
+-- the same names in their order, and maybe one more behind them
+abbrev pub AreMoreNames : List Name → List Name → Type 0
+AreMoreNames old new = (new ≡ old) ⊎ ((name : Name) × (new ≡ old ++ name ∷ []))
 
 -- the roles, and the grants to them
 pub record Permissions : Type 0 where

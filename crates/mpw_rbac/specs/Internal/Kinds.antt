@@ -46,11 +46,11 @@ set_refusal Dynamic name = Dsd name
 
 -- a set of the kind is made
 abbrev pub make_set : Kind → Policy → ℕ → SeparationSet → Result Policy Refusal
-make_set kind policy conn set =
+make_set kind policy connection set =
     let sets = kind_sets kind policy ++ set ∷ [] in
     decided
-    (rows.in_session policy conn
-    ∷ rows.administers policy conn
+    (rows.in_session policy connection
+    ∷ rows.administers policy connection
     ∷ (not (has_set (kind_sets kind policy) set.name), Known)
     ∷ (list_all (is_role policy.roles) set.roles, Unknown)
     ∷ rows.none_broken (set_refusal kind) (least_broken policy.roles sets (bound_lists kind policy))
@@ -60,10 +60,10 @@ make_set kind policy conn set =
 
 -- a set of the kind goes
 abbrev pub remove_set : Kind → Policy → ℕ → Name → Result Policy Refusal
-remove_set kind policy conn name =
+remove_set kind policy connection name =
     decided
-    (rows.in_session policy conn
-    ∷ rows.administers policy conn
+    (rows.in_session policy connection
+    ∷ rows.administers policy connection
     ∷ (has_set (kind_sets kind policy) name, Unknown)
     ∷ [])
     (with_sets kind policy (without_set (kind_sets kind policy) name))

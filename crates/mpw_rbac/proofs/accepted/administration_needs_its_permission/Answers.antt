@@ -4,18 +4,18 @@ use Rattle.mpw_rbac.proofs.accepted.administration_needs_its_permission.Goals as
 
 pub returns : goal.returns
 returns c = record {
-  adduser = λ conn user digest. lemma.administers conn (AddUser user digest);
-  deluser = λ conn user. lemma.administers conn (DeleteUser user);
-  addrole = λ conn role. lemma.administers conn (AddRole role);
-  delrole = λ conn role. lemma.administers conn (DeleteRole role);
-  assign = λ conn user role. lemma.administers conn (Assign user role);
-  deassign = λ conn user role. lemma.administers conn (Deassign user role);
-  grant = λ conn grant. lemma.administers conn (AddGrant grant);
-  revoke = λ conn grant. lemma.administers conn (Revoke grant);
-  inherit = λ conn senior junior. lemma.administers conn (Inherit senior junior);
-  uninherit = λ conn senior junior. lemma.administers conn (Uninherit senior junior);
-  ssd = λ conn set. lemma.administers conn (MakeStatic set);
-  dsd = λ conn set. lemma.administers conn (MakeDynamic set);
-  unssd = λ conn name. lemma.administers conn (RemoveStatic name);
-  undsd = λ conn name. lemma.administers conn (RemoveDynamic name);
+  adduser = λ connection user digest. lemma.administers connection (AddUser user digest);
+  deluser = λ connection user. lemma.administers connection (DeleteUser user);
+  addrole = λ connection role. lemma.administers connection (AddRole role);
+  delrole = λ connection role. lemma.administers connection (DeleteRole role);
+  assign = λ connection user role. lemma.administers connection (Assign user role);
+  deassign = λ connection user role. lemma.administers connection (Deassign user role);
+  grant = λ connection grant. lemma.administers connection (AddGrant grant);
+  revoke = λ connection grant. lemma.administers connection (Revoke grant);
+  inherit = λ connection senior junior. lemma.administers connection (Inherit senior junior);
+  uninherit = λ connection senior junior. lemma.administers connection (Uninherit senior junior);
+  ssd = λ connection set. lemma.administers connection (MakeStatic set);
+  dsd = λ connection set. lemma.administers connection (MakeDynamic set);
+  unssd = λ connection name. lemma.administers connection (RemoveStatic name);
+  undsd = λ connection name. lemma.administers connection (RemoveDynamic name);
 }

@@ -13,28 +13,33 @@ returns c = record {
   activate_static = lemma.no_static-activate;
   drop_role_static = lemma.no_static-drop_role;
   drop_role_dynamic = lemma.no_dynamic-drop_role;
-  adduser_static = λ conn user digest. lemma.no_sets Static conn (AddUser user digest) refl;
-  adduser_dynamic = λ conn user digest. lemma.no_sets Dynamic conn (AddUser user digest) refl;
-  deluser_static = λ conn user. lemma.no_sets Static conn (DeleteUser user) refl;
-  deluser_dynamic = λ conn user. lemma.no_sets Dynamic conn (DeleteUser user) refl;
-  addrole_static = λ conn role. lemma.no_sets Static conn (AddRole role) refl;
-  addrole_dynamic = λ conn role. lemma.no_sets Dynamic conn (AddRole role) refl;
-  delrole_static = λ conn role. lemma.no_sets Static conn (DeleteRole role) refl;
-  delrole_dynamic = λ conn role. lemma.no_sets Dynamic conn (DeleteRole role) refl;
-  assign_dynamic = λ conn user role. lemma.no_sets Dynamic conn (Assign user role) refl;
-  deassign_static = λ conn user role. lemma.no_sets Static conn (Deassign user role) refl;
-  deassign_dynamic = λ conn user role. lemma.no_sets Dynamic conn (Deassign user role) refl;
-  grant_static = λ conn grant. lemma.no_sets Static conn (AddGrant grant) refl;
-  grant_dynamic = λ conn grant. lemma.no_sets Dynamic conn (AddGrant grant) refl;
-  revoke_static = λ conn grant. lemma.no_sets Static conn (Revoke grant) refl;
-  revoke_dynamic = λ conn grant. lemma.no_sets Dynamic conn (Revoke grant) refl;
-  uninherit_static = λ conn senior junior. lemma.no_sets Static conn (Uninherit senior junior) refl;
+  adduser_static =
+      λ connection user digest. lemma.no_sets Static connection (AddUser user digest) refl;
+  adduser_dynamic =
+      λ connection user digest. lemma.no_sets Dynamic connection (AddUser user digest) refl;
+  deluser_static = λ connection user. lemma.no_sets Static connection (DeleteUser user) refl;
+  deluser_dynamic = λ connection user. lemma.no_sets Dynamic connection (DeleteUser user) refl;
+  addrole_static = λ connection role. lemma.no_sets Static connection (AddRole role) refl;
+  addrole_dynamic = λ connection role. lemma.no_sets Dynamic connection (AddRole role) refl;
+  delrole_static = λ connection role. lemma.no_sets Static connection (DeleteRole role) refl;
+  delrole_dynamic = λ connection role. lemma.no_sets Dynamic connection (DeleteRole role) refl;
+  assign_dynamic = λ connection user role. lemma.no_sets Dynamic connection (Assign user role) refl;
+  deassign_static =
+      λ connection user role. lemma.no_sets Static connection (Deassign user role) refl;
+  deassign_dynamic =
+      λ connection user role. lemma.no_sets Dynamic connection (Deassign user role) refl;
+  grant_static = λ connection grant. lemma.no_sets Static connection (AddGrant grant) refl;
+  grant_dynamic = λ connection grant. lemma.no_sets Dynamic connection (AddGrant grant) refl;
+  revoke_static = λ connection grant. lemma.no_sets Static connection (Revoke grant) refl;
+  revoke_dynamic = λ connection grant. lemma.no_sets Dynamic connection (Revoke grant) refl;
+  uninherit_static =
+      λ connection senior junior. lemma.no_sets Static connection (Uninherit senior junior) refl;
   uninherit_dynamic =
-      λ conn senior junior. lemma.no_sets Dynamic conn (Uninherit senior junior) refl;
-  ssd_dynamic = λ conn set. lemma.no_sets Dynamic conn (MakeStatic set) refl;
-  dsd_static = λ conn set. lemma.no_sets Static conn (MakeDynamic set) refl;
-  unssd_static = λ conn name. lemma.no_sets Static conn (RemoveStatic name) refl;
-  unssd_dynamic = λ conn name. lemma.no_sets Dynamic conn (RemoveStatic name) refl;
-  undsd_static = λ conn name. lemma.no_sets Static conn (RemoveDynamic name) refl;
-  undsd_dynamic = λ conn name. lemma.no_sets Dynamic conn (RemoveDynamic name) refl;
+      λ connection senior junior. lemma.no_sets Dynamic connection (Uninherit senior junior) refl;
+  ssd_dynamic = λ connection set. lemma.no_sets Dynamic connection (MakeStatic set) refl;
+  dsd_static = λ connection set. lemma.no_sets Static connection (MakeDynamic set) refl;
+  unssd_static = λ connection name. lemma.no_sets Static connection (RemoveStatic name) refl;
+  unssd_dynamic = λ connection name. lemma.no_sets Dynamic connection (RemoveStatic name) refl;
+  undsd_static = λ connection name. lemma.no_sets Static connection (RemoveDynamic name) refl;
+  undsd_dynamic = λ connection name. lemma.no_sets Dynamic connection (RemoveDynamic name) refl;
 }

@@ -12,7 +12,7 @@ returns-then-not-meets c = λ all is other q.
 
 pub returns : goal.returns
 returns c = λ all is other q.
-    let made = c.in_ok-copied.field-0 in
+    let made = c.in_ok-copy_of.field-0 in
     ap (λ l. holds_in l other q) (c.in_ok-push.ensures.items
     ∙ ap (λ l. l ++ (made, c.args.mask.now) ∷ []) is)
-    ∙ in-put c.args.object.now made c.args.mask.now all c.in_ok-copied.ensures other q
+    ∙ in-put c.args.object.now made c.args.mask.now all c.in_ok-copy_of.ensures other q

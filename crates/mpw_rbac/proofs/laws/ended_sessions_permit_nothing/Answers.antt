@@ -3,4 +3,4 @@ use Rattle.mpw_rbac.proofs.AccessLemmas.{nothing-permitted}
 use Rattle.mpw_rbac.proofs.laws.ended_sessions_permit_nothing.Goals as goal
 
 pub returns : goal.returns
-returns c = record { sessions = λ p conn. refl; permits = nothing-permitted }
+returns c = record { sessions = λ p connection. refl; permits = nothing-permitted }

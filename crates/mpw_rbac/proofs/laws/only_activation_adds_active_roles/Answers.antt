@@ -7,18 +7,20 @@ returns c = record {
   end_session = active.adds-end_session;
   end_sessions = active.adds-end_sessions;
   close_session = active.adds-close_session;
-  adduser = λ conn user digest. active.adds-administration conn (AddUser user digest);
-  deluser = λ conn user. active.adds-administration conn (DeleteUser user);
-  addrole = λ conn role. active.adds-administration conn (AddRole role);
-  delrole = λ conn role. active.adds-administration conn (DeleteRole role);
-  assign = λ conn user role. active.adds-administration conn (Assign user role);
-  deassign = λ conn user role. active.adds-administration conn (Deassign user role);
-  grant = λ conn grant. active.adds-administration conn (AddGrant grant);
-  revoke = λ conn grant. active.adds-administration conn (Revoke grant);
-  inherit = λ conn senior junior. active.adds-administration conn (Inherit senior junior);
-  uninherit = λ conn senior junior. active.adds-administration conn (Uninherit senior junior);
-  ssd = λ conn set. active.adds-administration conn (MakeStatic set);
-  dsd = λ conn set. active.adds-administration conn (MakeDynamic set);
-  unssd = λ conn name. active.adds-administration conn (RemoveStatic name);
-  undsd = λ conn name. active.adds-administration conn (RemoveDynamic name);
+  adduser = λ connection user digest. active.adds-administration connection (AddUser user digest);
+  deluser = λ connection user. active.adds-administration connection (DeleteUser user);
+  addrole = λ connection role. active.adds-administration connection (AddRole role);
+  delrole = λ connection role. active.adds-administration connection (DeleteRole role);
+  assign = λ connection user role. active.adds-administration connection (Assign user role);
+  deassign = λ connection user role. active.adds-administration connection (Deassign user role);
+  grant = λ connection grant. active.adds-administration connection (AddGrant grant);
+  revoke = λ connection grant. active.adds-administration connection (Revoke grant);
+  inherit =
+      λ connection senior junior. active.adds-administration connection (Inherit senior junior);
+  uninherit =
+      λ connection senior junior. active.adds-administration connection (Uninherit senior junior);
+  ssd = λ connection set. active.adds-administration connection (MakeStatic set);
+  dsd = λ connection set. active.adds-administration connection (MakeDynamic set);
+  unssd = λ connection name. active.adds-administration connection (RemoveStatic name);
+  undsd = λ connection name. active.adds-administration connection (RemoveDynamic name);
 }

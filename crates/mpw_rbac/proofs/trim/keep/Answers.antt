@@ -13,6 +13,6 @@ returns-clause-kept c = λ right.
     let h = c.args.roles.now in
     let session = c.args.session.now in
     let roles = assigned_roles (users_and_roles c.args.users.now.users h) session.user in
-    let below = c.at_places-below.ensures roles (c.authorized.ensures h right) in
+    let below = c.at_places-below.ensures roles (c.authorized_places.ensures h right) in
     ap (λ l. record session { active = l })
     (c.keep_below.ensures ∙ ap (λ l. filter (contains_name l) session.active) below)

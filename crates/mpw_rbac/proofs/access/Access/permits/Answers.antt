@@ -10,6 +10,6 @@ pub returns : goal.returns
 returns c =
     let a = c.self.inside in
     let object = c.args.object.now in
-    c.is_granted_to.ensures (active_roles a.policy.now a.conn) c.self.invariant
-    ∙ permits-acting a.policy.now a.conn a.operation object
-    ∙ ap (λ (x : Access). permits x.policy x.conn x.operation object) c.self.view_is
+    c.is_granted_to.ensures (active_roles a.policy.now a.connection) c.self.invariant
+    ∙ permits-acting a.policy.now a.connection a.operation object
+    ∙ ap (λ (x : Access). permits x.policy x.connection x.operation object) c.self.view_is

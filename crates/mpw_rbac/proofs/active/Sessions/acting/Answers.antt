@@ -12,13 +12,14 @@ use Rattle.mpw_rbac.proofs.active.Sessions.acting.Goals as goal
 pub returns-in-Some : goal.returns-in-Some
 returns-in-Some c = λ h acts place.
     let es = c.self.inside.table.entries in
-    acting-found h es c.args.conn c.in-Some.active.now
+    acting-found h es c.args.connection c.in-Some.active.now
     (subst (AreActing h) (sym c.self.view_is) acts) c.in-Some.ensures.value place
     ∙ ap (λ (o : Option Session). is_place_below h (option_map_or (λ (s : Session). s.active) o [])
     place) (ap (option_map (λ (a : Active). a.session)) c.in-Some.ensures.value
-    ∙ session-found es c.args.conn)
+    ∙ session-found es c.args.connection)
     ∙ ap (λ (k : KeptSessions). is_place_below h
-    (option_map_or (λ (s : Session). s.active) (value_at (λ a b. a == b) k.sessions c.args.conn)
+    (option_map_or (λ (s : Session). s.active)
+    (value_at (λ a b. a == b) k.sessions c.args.connection)
     []) place) c.self.view_is
 
 pub returns-in-None : goal.returns-in-None
@@ -28,7 +29,8 @@ returns-in-None c = λ h acts place.
     ∙ none-below h place
     ∙ ap (λ (o : Option Session). is_place_below h (option_map_or (λ (s : Session). s.active) o [])
     place) (ap (option_map (λ (a : Active). a.session)) c.in-None.ensures.value
-    ∙ session-found es c.args.conn)
+    ∙ session-found es c.args.connection)
     ∙ ap (λ (k : KeptSessions). is_place_below h
-    (option_map_or (λ (s : Session). s.active) (value_at (λ a b. a == b) k.sessions c.args.conn)
+    (option_map_or (λ (s : Session). s.active)
+    (value_at (λ a b. a == b) k.sessions c.args.connection)
     []) place) c.self.view_is

@@ -9,13 +9,13 @@ pub returns-clause-ok : goal.returns-clause-ok
 returns-clause-ok c =
     let es = c.self.inside.table.entries in
     ap sessions_in c.in_ok-insert.ensures.entries
-    ∙ sessions-insert es c.args.conn c.args.active
-    ∙ ap (λ (k : KeptSessions). insert_entry (λ a b. a == b) k.sessions c.args.conn
+    ∙ sessions-insert es c.args.connection c.args.active
+    ∙ ap (λ (k : KeptSessions). insert_entry (λ a b. a == b) k.sessions c.args.connection
     c.args.active.session) c.self.view_is
 
 pub returns-clause-acting : goal.returns-clause-acting
 returns-clause-acting c = λ h acts here.
     let es = c.self.inside.table.entries in
     subst (AreActive h) (sym c.in_ok-insert.ensures.entries)
-    (acting-insert h es c.args.conn c.args.active
+    (acting-insert h es c.args.connection c.args.active
     (subst (AreActing h) (sym c.self.view_is) acts) here)

@@ -9,15 +9,16 @@ use Rattle.mpw_rbac.proofs.active.Sessions.remove.Goals as goal
 
 pub returns-clause-sessions : goal.returns-clause-sessions
 returns-clause-sessions c =
-    let left = filter-RetainsPairs _ (λ (e : ℕ × Active). not (c.args.conn == e.0)) _
+    let left = filter-RetainsPairs _ (λ (e : ℕ × Active). not (c.args.connection == e.0)) _
     (λ k v b w g call. search rules) _ _ c.retain.ensures.filtered in
     ap sessions_in left
-    ∙ sessions-filter (λ other. not (c.args.conn == other)) c.self.inside.table.entries
-    ∙ ap (λ (k : KeptSessions). without_key (λ a b. a == b) k.sessions c.args.conn) c.self.view_is
+    ∙ sessions-filter (λ other. not (c.args.connection == other)) c.self.inside.table.entries
+    ∙ ap (λ (k : KeptSessions). without_key (λ a b. a == b) k.sessions c.args.connection)
+    c.self.view_is
 
 pub returns-clause-acting : goal.returns-clause-acting
 returns-clause-acting c = λ h acts.
-    let left = filter-RetainsPairs _ (λ (e : ℕ × Active). not (c.args.conn == e.0)) _
+    let left = filter-RetainsPairs _ (λ (e : ℕ × Active). not (c.args.connection == e.0)) _
     (λ k v b w g call. search rules) _ _ c.retain.ensures.filtered in
-    subst (AreActive h) (sym left) (acting-filter h (λ other. not (c.args.conn == other))
+    subst (AreActive h) (sym left) (acting-filter h (λ other. not (c.args.connection == other))
     c.self.inside.table.entries (subst (AreActing h) (sym c.self.view_is) acts))

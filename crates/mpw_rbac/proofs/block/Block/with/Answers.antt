@@ -11,7 +11,7 @@ of-requires c =
     let old = in'.grants.value.items in
     let is : c.push.new.self.items ≡ old ++ grant ∷ [] =
     c.in_ok-push.ensures.items ∙ (λ i. (c.in_ok-grants.ensures ∙ c.as_slice.ensures
-    ∙ sym c.self.view_is) i ++ c.in_ok-copied.ensures i ∷ []) in
+    ∙ sym c.self.view_is) i ++ c.in_ok-copy_of.ensures i ∷ []) in
     subst (AreCovered c.insert.new.self c.insert-2.new.self) (sym is) (
       covered-more object_slot in'.objects c.insert.new.self old grant c.of-slots.result.object
           c.of-slots.ensures.slots.0 c.insert.ensures c.self.invariant.0,

@@ -8,4 +8,5 @@ use Rattle.mpw_rbac.proofs.policy.Policy.acting.Goals as goal
 pub returns : goal.returns
 returns c = λ place.
     c.acting.ensures c.self.inside.permissions.roles c.self.invariant.acting place
-    ∙ ap (λ (p : Policy). is_place_below p.roles (active_roles p c.args.conn) place) c.self.view_is
+    ∙ ap (λ (p : Policy). is_place_below p.roles (active_roles p c.args.connection) place)
+    c.self.view_is

@@ -17,13 +17,14 @@ use Rattle.mpw_rbac.proofs.policy.Policy.activate.Goals.{After-broken_by_active,
 use Rattle.mpw_rbac.proofs.policy.Policy.activate.Goals as goal
 
 -- the tests before that of the sets, and whom that asks about
-tested : (c : After-broken_by_active) → (is_some (session_of c.args.self.now c.args.conn) ≡ true)
-    × (contains_name (authorized c.args.self.now (rows.user_of c.args.self.now c.args.conn))
+tested : (c : After-broken_by_active)
+    → (is_some (session_of c.args.self.now c.args.connection) ≡ true)
+    × (contains_name (authorized c.args.self.now (rows.user_of c.args.self.now c.args.connection))
     c.args.role.now ≡ true)
-    × (contains_name (rows.active_roles c.args.self.now c.args.conn) c.args.role.now ≡ false)
+    × (contains_name (rows.active_roles c.args.self.now c.args.connection) c.args.role.now ≡ false)
     × (least_broken c.args.self.now.roles c.args.self.now.dsd
-    (active_lists (rows.with_active c.args.self.now c.args.conn
-    (rows.active_roles c.args.self.now c.args.conn ++ c.args.role.now ∷ [])).sessions)
+    (active_lists (rows.with_active c.args.self.now c.args.connection
+    (rows.active_roles c.args.self.now c.args.connection ++ c.args.role.now ∷ [])).sessions)
     ≡ least_broken c.args.self.now.roles c.args.self.now.dsd
     (c.in_ok-active.active.session.active ∷ []))
 tested c =
@@ -33,7 +34,7 @@ tested c =
       there,
       sym c.may_activate.ensures ∙ c.if-not-may_activate.false,
       sym c.is_active.ensures ∙ c.if-is_active.false,
-      activate-same p c.args.conn c.args.role.now
+      activate-same p c.args.connection c.args.role.now
           (subst Sound c.self.view_is c.self.invariant.sound) there
           ∙ ap (λ l. least_broken p.roles p.dsd (l ∷ [])) (sym asked),
     )
@@ -41,21 +42,26 @@ tested c =
 -- the row, and that the policy that it leaves is sound
 accepted : (c : In_ok-insert)
     → Sound (record (shown c.self.inside) { sessions = c.insert.new.self.sessions })
-    × (rows.activate c.args.self.now c.args.conn c.args.role.now
+    × (rows.activate c.args.self.now c.args.connection c.args.role.now
     ≡ Ok (record (shown c.self.inside) { sessions = c.insert.new.self.sessions }))
 accepted c =
     let q = c.args.self.now in
-    let conn = c.args.conn in
+    let connection = c.args.connection in
     let role = c.args.role.now in
     let sessions = c.insert.new.self.sessions in
     let t = tested (goal.at.In_ok-insert c).After-broken_by_active in
-    let is : sessions ≡ insert_entry (λ a b. a == b) q.sessions conn
-    (record { user = rows.user_of q conn; active = rows.active_roles q conn ++ role ∷ [] }) =
-    c.in_ok-insert.ensures.ok ∙ (λ i. insert_entry (λ a b. a == b) (c.self.view_is i).sessions conn
+    let is : sessions ≡ insert_entry (λ a b. a == b) q.sessions connection
+    (record {
+      user = rows.user_of q connection;
+      active =
+          rows.active_roles q connection ++ role ∷ [];
+    }) =
+    c.in_ok-insert.ensures.ok
+    ∙ (λ i. insert_entry (λ a b. a == b) (c.self.view_is i).sessions connection
     (c.in_ok-active.ensures.session i)) in
-    let row = activate-ok q conn role sessions t.0 t.1 t.2
+    let row = activate-ok q connection role sessions t.0 t.1 t.2
     (t.3 ∙ sym (c.in_default.ensures c.in_ok-active.ensures.acting)) is in
-    let sound = sound-activate_row conn role q (record q { sessions = sessions }) row
+    let sound = sound-activate_row connection role q (record q { sessions = sessions }) row
     (subst Sound c.self.view_is c.self.invariant.sound) in (
       subst (λ (p : Policy). Sound (record p { sessions = sessions })) (sym c.self.view_is) sound,
       row ∙ ap (λ (p : Policy). Ok (record p { sessions = sessions })) (sym c.self.view_is),
@@ -64,7 +70,7 @@ accepted c =
 pub returns-in-Some-clause-refused : goal.returns-in-Some-clause-refused
 returns-in-Some-clause-refused c =
     let t = tested (goal.at.returns-in-Some-clause-refused c).After-broken_by_active in
-    activate-broken c.args.self.now c.args.conn c.args.role.now c.in-Some.name.now t.0 t.1 t.2
+    activate-broken c.args.self.now c.args.connection c.args.role.now c.in-Some.name.now t.0 t.1 t.2
     (t.3 ∙ sym (c.in-Some.ensures c.in_ok-active.ensures.acting))
     ∙ ap (λ n. Err (Dsd n)) (sym c.in_ok-copy-2.ensures)
 

@@ -44,14 +44,15 @@ returns-clause-ok c =
     ∙ sym c.is_user.ensures ∙ c.if-is_user.false in
     let room : nat_lt (length p.users) 512 ≡ true = ap (λ (q : Policy). nat_lt (length q.users) 512)
     c.self.view_is ∙ sym c.has_room_for_user.ensures ∙ c.if-not-has_room_for_user.false in
-    let ok : rows.administered p c.args.conn ≡ Ok p =
-    subst (λ (q : Policy). rows.administered q c.args.conn ≡ Ok q) (sym c.self.view_is)
+    let ok : rows.administered p c.args.connection ≡ Ok p =
+    subst (λ (q : Policy). rows.administered q c.args.connection ≡ Ok q) (sym c.self.view_is)
     c.in_ok-administers.ensures.ok in
     let is : c.in_ok-users.users.users ≡ insert_entry name_eq p.users user
     (record { digest = c.args.digest; roles = [] }) =
     c.in_ok-users.ensures.same ∙ ap (λ rs. insert_entry name_eq p.users user
     (record { digest = c.args.digest; roles = rs })) c.new-roles.ensures in
-    rw (← c.self.view_is) (adduser-ok p c.args.conn ok user c.args.digest c.in_ok-users.users.users
+    rw (← c.self.view_is)
+    (adduser-ok p c.args.connection ok user c.args.digest c.in_ok-users.users.users
     new room is)
 
 pub with-requires : goal.with-requires

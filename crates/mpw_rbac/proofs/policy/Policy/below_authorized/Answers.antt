@@ -12,7 +12,8 @@ returns c =
     let h = in'.permissions.roles in
     let user = c.args.user.now in
     let seniors = assigned_roles (users_and_roles in'.users.users h) user in
-    c.at_places.ensures seniors (λ q. c.authorized-authorized.ensures h c.self.invariant.authorized
+    c.at_places.ensures seniors
+    (λ q. c.authorized_places-authorized.ensures h c.self.invariant.authorized
     q ∙ ap (λ k. is_place_below k seniors q) (sym c.roles.ensures))
     ∙ ap (λ k. roles_below k seniors) c.roles.ensures
     ∙ ap (λ (p : Policy). authorized p user) c.self.view_is

@@ -55,11 +55,11 @@ pub returns-clause-ok : goal.returns-clause-ok
 returns-clause-ok c =
     let p = shown c.self.inside in
     let is = left (goal.at.returns-clause-ok c).After-place in
-    let ok : rows.administered p c.args.conn ≡ Ok p =
-    subst (λ (q : Policy). rows.administered q c.args.conn ≡ Ok q) (sym c.self.view_is)
+    let ok : rows.administered p c.args.connection ≡ Ok p =
+    subst (λ (q : Policy). rows.administered q c.args.connection ≡ Ok q) (sym c.self.view_is)
     c.in_ok-administers.ensures.ok in
     let known : is_role p.roles c.args.role.now ≡ true =
     ap (λ (q : Policy). is_role q.roles c.args.role.now) c.self.view_is ∙ sym c.is_role.ensures
     ∙ c.if-not-is_role.false in
-    rw (← c.self.view_is) (delrole-ok p c.args.conn ok c.args.role.now known is.0
+    rw (← c.self.view_is) (delrole-ok p c.args.connection ok c.args.role.now known is.0
     ∙ ap Ok (sym is.1))

@@ -15,24 +15,26 @@ use Rattle.mpw_rbac.proofs.policy.Policy.drop_role.Goals as goal
 -- the row, and that the policy that it leaves is sound
 accepted : (c : In_ok-insert)
     → Sound (record (shown c.self.inside) { sessions = c.insert.new.self.sessions })
-    × (rows.drop_role c.args.self.now c.args.conn c.args.role.now
+    × (rows.drop_role c.args.self.now c.args.connection c.args.role.now
     ≡ Ok (record (shown c.self.inside) { sessions = c.insert.new.self.sessions }))
 accepted c =
     let q = c.args.self.now in
-    let conn = c.args.conn in
+    let connection = c.args.connection in
     let role = c.args.role.now in
     let left = c.insert.new.self.sessions in
-    let is : left ≡ insert_entry (λ a b. a == b) q.sessions conn
+    let is : left ≡ insert_entry (λ a b. a == b) q.sessions connection
     (record {
-      user = rows.user_of q conn;
-      active = without_name (rows.active_roles q conn) role;
+      user = rows.user_of q connection;
+      active = without_name (rows.active_roles q connection) role;
     }) =
-    c.in_ok-insert.ensures.ok ∙ (λ i. insert_entry (λ a b. a == b) (c.self.view_is i).sessions conn
+    c.in_ok-insert.ensures.ok
+    ∙ (λ i. insert_entry (λ a b. a == b) (c.self.view_is i).sessions connection
     (c.in_ok-active.ensures.session i)) in
-    let row = drop-ok q conn role left (sym c.has_session.ensures ∙ c.if-not-has_session.false)
+    let row =
+    drop-ok q connection role left (sym c.has_session.ensures ∙ c.if-not-has_session.false)
     (sym c.is_active.ensures ∙ c.if-not-is_active.false) is in (
       subst (λ (p : Policy). Sound (record p { sessions = left })) (sym c.self.view_is)
-          (sound-drop_role conn role q (record q { sessions = left }) row
+          (sound-drop_role connection role q (record q { sessions = left }) row
           (subst Sound c.self.view_is c.self.invariant.sound)),
       row ∙ ap (λ (p : Policy). Ok (record p { sessions = left })) (sym c.self.view_is),
     )

@@ -12,7 +12,7 @@ invariant_of-self c =
     in'.sessions.sessions in
     record {
       sound = subst (λ s. Sound (record p { sessions = s })) (sym c.remove.ensures.sessions)
-          (keep-end p c.args.conn c.self.invariant.sound);
+          (keep-end p c.args.connection c.self.invariant.sound);
       authorized = c.self.invariant.authorized;
       acting = c.remove.ensures.acting in'.permissions.roles c.self.invariant.acting;
       placed = c.self.invariant.placed;

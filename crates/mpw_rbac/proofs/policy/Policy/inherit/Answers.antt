@@ -70,11 +70,11 @@ invariant_of-self c =
 pub returns-clause-ok : goal.returns-clause-ok
 returns-clause-ok c =
     let p = shown c.self.inside in
-    let admin : rows.administered p c.args.conn ≡ Ok p =
-    subst (λ (q : Policy). rows.administered q c.args.conn ≡ Ok q) (sym c.self.view_is)
+    let admin : rows.administered p c.args.connection ≡ Ok p =
+    subst (λ (q : Policy). rows.administered q c.args.connection ≡ Ok q) (sym c.self.view_is)
     c.in_ok-administers.ensures.ok in
     let is = paired (goal.at.returns-clause-ok c).After-remask in
-    rw (← c.self.view_is) (inherit-ok p c.args.conn admin c.args.senior.now c.args.junior.now
+    rw (← c.self.view_is) (inherit-ok p c.args.connection admin c.args.senior.now c.args.junior.now
     c.in_ok-next.next.roles c.in_ok-next.ensures.ok is.0 is.1 ∙ ap Ok (sym is.2))
 
 pub returns-in-Some-clause-refused : goal.returns-in-Some-clause-refused
@@ -89,7 +89,8 @@ returns-in-Some-clause-refused c =
     let broken : least_broken next.roles p.ssd (assigned_lists p.users)
     ≡ Some c.in_ok-copy.field-0 = ap (λ h. least_broken h p.ssd (assigned_lists p.users))
     (sym c.roles-roles.ensures) ∙ sym c.in-Some.ensures ∙ ap Some (sym c.in_ok-copy.ensures) in
-    inherit-static p c.args.conn c.in_ok-administers.ensures.ok senior junior c.in_ok-copy.field-0
+    inherit-static p c.args.connection c.in_ok-administers.ensures.ok senior junior
+    c.in_ok-copy.field-0
     next.roles made broken
 
 pub returns-in-Some-broken_dynamic-clause-refused :
@@ -109,7 +110,7 @@ returns-in-Some-broken_dynamic-clause-refused c =
     ≡ Some c.in_ok-copy-2.field-0 = ap (λ h. least_broken h p.dsd (active_lists p.sessions))
     (sym c.roles-roles.ensures) ∙ sym c.in-Some-broken_dynamic.ensures
     ∙ ap Some (sym c.in_ok-copy-2.ensures) in
-    inherit-dynamic p c.args.conn c.in_ok-administers.ensures.ok senior junior
+    inherit-dynamic p c.args.connection c.in_ok-administers.ensures.ok senior junior
     c.in_ok-copy-2.field-0 next.roles made kept broken
 
 pub broken_static-requires-clause-users : goal.broken_static-requires-clause-users
@@ -124,12 +125,12 @@ broken_static-requires-clause-users c =
     (ap (λ h. with_pair h senior junior) c.roles.ensures ∙ sym pair.1 ∙ sym c.roles-roles.ensures)
     c.in_ok-users.ensures)
 
-pub joined-requires-clause-authorized : goal.joined-requires-clause-authorized
-joined-requires-clause-authorized c = subst (λ h. AreAuthorized h c.self.inside.users)
+pub with_joined_masks-requires-clause-authorized : goal.with_joined_masks-requires-clause-authorized
+with_joined_masks-requires-clause-authorized c = subst (λ h. AreAuthorized h c.self.inside.users)
     (sym c.roles.ensures) c.self.invariant.authorized
 
-pub joined-requires-clause-senior : goal.joined-requires-clause-senior
-joined-requires-clause-senior c =
+pub with_joined_masks-requires-clause-senior : goal.with_joined_masks-requires-clause-senior
+with_joined_masks-requires-clause-senior c =
     ap (λ h. is_role h c.args.senior.now) c.roles.ensures
     ∙ (inherited-pair c.self.inside.permissions.roles c.args.senior.now c.args.junior.now
     c.in_ok-next.next.roles c.in_ok-next.ensures.ok).0

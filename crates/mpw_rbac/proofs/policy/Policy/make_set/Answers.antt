@@ -16,10 +16,10 @@ use Rattle.mpw_rbac.proofs.policy.Policy.make_set.Goals.{After-is_broken, In_ok-
 use Rattle.mpw_rbac.proofs.policy.Policy.make_set.Goals as goal
 
 -- the row, behind its tests of the name and of the roles
-row : (c : After-is_broken) → TellsSet c.args.kind c.args.self.now c.args.conn c.args.set
+row : (c : After-is_broken) → TellsSet c.args.kind c.args.self.now c.args.connection c.args.set
 row c =
     let q = c.args.self.now in
-    tells-set c.args.kind q c.args.conn c.args.set c.in_ok-administers.ensures.ok
+    tells-set c.args.kind q c.args.connection c.args.set c.in_ok-administers.ensures.ok
     (subst Sound c.self.view_is c.self.invariant.sound)
     (ap (has_set (kind_sets c.args.kind q)) (sym c.name.ensures) ∙ sym c.has_set.ensures
     ∙ c.if-has_set.false)
@@ -34,7 +34,7 @@ left c =
     p.sessions.sessions
 
 accepted : (c : In_ok-make) → Sound (left c)
-    × (make_set c.args.kind c.args.self.now c.args.conn c.args.set ≡ Ok (left c))
+    × (make_set c.args.kind c.args.self.now c.args.connection c.args.set ≡ Ok (left c))
 accepted c =
     let q = c.args.self.now in
     let kind = c.args.kind in
@@ -50,7 +50,7 @@ accepted c =
     ∙ ap (λ (p : Policy). sets_of (other kind) (all_sets p)) c.self.view_is) in
     let is : left c ≡ with_sets kind q more = λ i.
     let p = c.self.view_is i in policy_of p.users p.roles p.granted (sets i) p.sessions in (
-      subst Sound (sym is) (sound-made kind c.args.conn set q (with_sets kind q more) ok
+      subst Sound (sym is) (sound-made kind c.args.connection set q (with_sets kind q more) ok
           (subst Sound c.self.view_is c.self.invariant.sound)),
       ok ∙ ap Ok (sym is),
     )

@@ -54,8 +54,10 @@ invariant_of-self c =
 pub returns-clause-ok : goal.returns-clause-ok
 returns-clause-ok c =
     let is = left (goal.at.returns-clause-ok c).After-trim in
-    let admin : rows.administered (shown c.self.inside) c.args.conn ≡ Ok (shown c.self.inside) =
-    subst (λ (q : Policy). rows.administered q c.args.conn ≡ Ok q) (sym c.self.view_is)
+    let admin : rows.administered (shown c.self.inside) c.args.connection
+    ≡ Ok (shown c.self.inside) =
+    subst (λ (q : Policy). rows.administered q c.args.connection ≡ Ok q) (sym c.self.view_is)
     c.in_ok-administers.ensures.ok in
-    rw (← c.self.view_is) (uninherit-ok (shown c.self.inside) c.args.conn admin c.args.senior.now
+    rw (← c.self.view_is)
+    (uninherit-ok (shown c.self.inside) c.args.connection admin c.args.senior.now
     c.args.junior.now is.0 ∙ ap Ok (sym is.1))

@@ -8,6 +8,7 @@ use Rattle.mpw_roles.proofs.PositionLemmas.{position-any}
 use Rattle.mpw_rbac.specs.Table.{without_key}
 use Rattle.mpw_rbac.specs.declared.session.User.{User}
 use Rattle.mpw_rbac.proofs.RosterLemmas.{absent-users, users-fewer, distinct-left}
+use Rattle.mpw_rbac.proofs.roster.Roster.without.Goals.{In_ok-names-2}
 use Rattle.mpw_rbac.proofs.roster.Roster.without.Goals as goal
 
 pub returns-in_default : goal.returns-in_default
@@ -27,8 +28,11 @@ of_names-requires c =
     ∙ ap (λ (l : List Name). without_name l user) c.in_ok-names.ensures)
     ∙ distinct-left c.self.inside.names user c.number.ensures.once
 
-pub invariant_of-result : goal.invariant_of-result
-invariant_of-result c =
+-- the names and the users that are left
+left : (c : In_ok-names-2) → (length c.in_ok-names-2.names ≡ length c.remove.new.self.items)
+    × (zip c.in_ok-names-2.names c.remove.new.self.items
+    ≡ without_key name_eq (zip c.self.inside.names c.self.inside.values.items) c.args.user.now)
+left c =
     let user = c.args.user.now in
     let i = c.in-Some.place in
     let names = c.in_ok-names-2.ensures ∙ c.as_slice.ensures ∙ c.remove-2.ensures
@@ -36,17 +40,13 @@ invariant_of-result c =
     let values = c.remove.ensures.items ∙ ap (λ (l : List User). remove l i)
     (c.in_ok-values.ensures ∙ c.deref.ensures.value) in
     let fewer = users-fewer c.self.inside.names c.self.inside.values.items user i c.self.invariant
-    c.number.ensures.once c.in-Some.ensures.number in
-    ap length names ∙ fewer.1 ∙ sym (ap length values)
+    c.number.ensures.once c.in-Some.ensures.number in (
+      ap length names ∙ fewer.1 ∙ sym (ap length values),
+      (λ t. zip (names t) (values t)) ∙ fewer.0,
+    )
+
+pub invariant_of-result : goal.invariant_of-result
+invariant_of-result c = (left (goal.at.invariant_of-result c).In_ok-names-2).0
 
 pub returns : goal.returns
-returns c =
-    let user = c.args.user.now in
-    let i = c.in-Some.place in
-    let names = c.in_ok-names-2.ensures ∙ c.as_slice.ensures ∙ c.remove-2.ensures
-    ∙ ap (λ (l : List Name). without_name l user) c.in_ok-names.ensures in
-    let values = c.remove.ensures.items ∙ ap (λ (l : List User). remove l i)
-    (c.in_ok-values.ensures ∙ c.deref.ensures.value) in
-    let fewer = users-fewer c.self.inside.names c.self.inside.values.items user i c.self.invariant
-    c.number.ensures.once c.in-Some.ensures.number in
-    rw (← c.self.view_is) ((λ t. zip (names t) (values t)) ∙ fewer.0)
+returns c = rw (← c.self.view_is) (left (goal.at.returns c).In_ok-names-2).1

@@ -16,17 +16,17 @@ invariant_of-self-2 c =
     let room : length h < 512 = let same = ap length c.self.view_is in omega arith in
     let new_masks = c.write_own.new.masks in
     let place = c.len-place.ensures in
-    let back = written-back new_masks c.reserve.new.masks.items c.reserve.new.masks.len
+    let back = written-back new_masks c.reserve_mask.new.masks.items c.reserve_mask.new.masks.len
     (omega arith) (omega arith) in
     subst (IsRoles c.add.new.self) (sym back)
     (subst (λ k. IsRoles k new_masks) (sym c.in_ok-add.ensures.ok) (record {
       kept = IsHierarchy-with_role h c.args.role room new c.self.invariant.kept;
       masked = IsMasked-with_role h c.args.role c.self.inside.masks.items new_masks new
-          c.self.invariant.kept c.self.invariant.masked (let more = c.in_ok-reserve.ensures.ok in
+          c.self.invariant.kept c.self.invariant.masked (let more = c.in_ok-reserve_mask.ensures.ok in
           omega arith)
           (λ p inside. c.write_own.ensures.others p (omega arith)
           ∙ ap (λ l. mask_at l p) c.deref_mut.ensures.value
-          ∙ c.reserve.ensures.same p (omega arith))
+          ∙ c.reserve_mask.ensures.same p (omega arith))
           (λ q. subst (λ n. has (mask_at new_masks n) q ≡ eqb q n) place
           (c.write_own.ensures.own q));
     }))

@@ -36,13 +36,11 @@ invariant_of-self c =
 pub returns : goal.returns
 returns c =
     let in' = c.self.inside in
-    let inv = c.self.invariant in
-    let ns = in'.names in
-    let ps = in'.pairs.items in
-    let os = in'.order.items in
-    let r = c.args.role.now in
-    (λ t. entries_of ns (c.without_ends.ensures t) (c.without_number.ensures t))
-    ∙ sym (without-role-entries ns ps os inv.known
-    (λ m k there. inv.known k (juniors-there ps os m inv.between k there)) inv.names_once r
-    c.in-Some.number c.in-Some.ensures.number)
-    ∙ ap (λ h. without_role h r) c.self.view_is
+    let known = c.self.invariant.known in
+    let role = c.args.role.now in
+    (λ t. entries_of in'.names (c.without_ends.ensures t) (c.without_number.ensures t))
+    ∙ sym (without-role-entries in'.names in'.pairs.items in'.order.items known
+    (λ m k there. known k
+    (juniors-there in'.pairs.items in'.order.items m c.self.invariant.between k there))
+    c.self.invariant.names_once role c.in-Some.number c.in-Some.ensures.number)
+    ∙ ap (λ h. without_role h role) c.self.view_is
