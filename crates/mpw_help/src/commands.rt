@@ -22,10 +22,10 @@ static COMMANDS: [Entry; 4] = [
             files for KLayout and as SVG, --marker KEY draws what lies round one, and --tiles \
             TILES prints the part of some tiles for mpw stitch",
         detail: Detail::Command {
-            statuses: "0 no markers; 1 markers; 2 the command line isn't one, or no marker has the \
-                key; 3 a file can't be read or written, or the output failed; 4 the library or the \
-                deck has a fault, or the structure shows a name outside the library; 5 want of \
-                memory",
+            statuses: "0 no markers; 1 markers; 2 the command line isn't one, no marker has the key \
+                of --marker, or there aren't all the tiles of --tiles; 3 a file can't be read or \
+                written, or the output failed; 4 the library, the structure or the deck has a \
+                fault; 5 want of memory",
         },
     },
     Entry {

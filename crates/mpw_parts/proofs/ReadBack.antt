@@ -14,7 +14,7 @@ use Rattle.mpw_markers.specs.declared.marker.Marker.{Marker}
 use Rattle.mpw_markers.specs.Markers.{key_of}
 use Rattle.mpw_markers.specs.Met.{IsAscending}
 use Rattle.mpw_parts.specs.Parts.{IsNumber, IsMarker, AreMarkers}
-use Rattle.mpw_parts.specs.Reading.{filled, key_by, numbers_from, marker_with, marker_by, marker_of, fields_of, tile_by, tile_of, ◌>>=◌}
+use Rattle.mpw_parts.specs.Reading.{filled_key, key_by, numbers_from, marker_with, marker_by, marker_of, fields_of, tile_by, tile_of, ◌>>=◌}
 use Rattle.mpw_parts.specs.Text.{axis_text, coloned, spaced, key_fields, key_text, met_text, marker_text, tile_line}
 use Rattle.mpw_parts.proofs.AllOf.{all_read}
 use Rattle.mpw_parts.proofs.Splitting.{IsGlyph, IsPlain, IsOne, each_behind, parts_again, one_word, one_line, one_field, glyphs, all_flat}
@@ -40,7 +40,7 @@ numbers_read low (n ∷ ns) up least small =
 
 -- ---- a marker
 
-has_row : (k : Key) → k.y0 <ℤ k.y1 → filled k ≡ Some k
+has_row : (k : Key) → k.y0 <ℤ k.y1 → filled_key k ≡ Some k
 has_row k h = let test : int_lt k.y0 k.y1 ≡ true = grind (arith, ints, h) in
     ap (λ b. cond b (Some k) None) test
 

@@ -61,8 +61,8 @@ numbers_from low (word ∷ words) =
     number_of low 4294967295 word >>= λ n. option_map (λ ns. n ∷ ns) (numbers_from (n + 1) words)
 
 -- a key with a row
-abbrev pub filled : Key → Option Key
-filled key = if int_lt key.y0 key.y1 then Some key else None
+abbrev pub filled_key : Key → Option Key
+filled_key key = if int_lt key.y0 key.y1 then Some key else None
 
 unfoldable pub key_by : (rule axis side x1 x2 y0 y1 : List ℕ) → Option Key
 key_by rule axis side x1 x2 y0 y1 = do
@@ -73,7 +73,7 @@ key_by rule axis side x1 x2 y0 y1 = do
   right ← integer_of x2
   low ← integer_of y0
   high ← integer_of y1
-  filled (record { rule = r; axis = a; side = s; x1 = left; x2 = right; y0 = low; y1 = high })
+  filled_key (record { rule = r; axis = a; side = s; x1 = left; x2 = right; y0 = low; y1 = high })
 
 -- the marker of a key, which meets these submissions
 abbrev pub marker_with : Key → List ℕ → Marker

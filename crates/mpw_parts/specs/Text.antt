@@ -4,6 +4,7 @@ use Rattle.std.specs.Prelude.{ℕ, List, [], ◌∷◌, ◌++◌, codes}
 use Rattle.std.specs.List.{flat_map}
 use Rattle.std.specs.Fmt.{decimal, signed_decimal}
 use Rattle.hex.specs.Hex.{encode_lower}
+use Rattle.mpw_writing.specs.Writing.{with_colons}
 use Rattle.mpw_edges.specs.declared.run.Axis.{Axis}
 use Rattle.mpw_edges.specs.declared.run.Axis.TheVariants.{V, H}
 use Rattle.mpw_markers.specs.declared.marker.Marker.{Marker}
@@ -30,7 +31,7 @@ key_fields m = axis_text m.axis ∷ decimal m.side ∷ signed_decimal m.x1 ∷ s
     ∷ signed_decimal m.y0 ∷ signed_decimal m.y1 ∷ []
 
 unfoldable pub key_text : Marker → List ℕ
-key_text m = decimal m.rule ++ flat_map coloned (key_fields m)
+key_text m = with_colons (decimal m.rule ∷ key_fields m)
 
 -- and the numbers of the submissions that it meets
 abbrev pub met_text : ℕ → List ℕ

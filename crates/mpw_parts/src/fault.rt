@@ -3,7 +3,7 @@ ghost use Rattle.std.specs.Prelude.{◌≡◌, Some};
 ghost use Rattle.mpw_parts.specs.declared.fault.PartsFault.TheVariants.{Memory};
 ghost use Rattle.mpw_parts.specs.Stitching.{word_of};
 
-use std::alloc::{AllocError, AllocFailed};
+use std::alloc::AllocError;
 use std::fmt;
 use thiserror::Error;
 
@@ -67,14 +67,6 @@ impl From<AllocError> for PartsFault {
     ghost from_gives = { λ _ fault. fault ≡ Memory };
 
     fn from(_error: AllocError) -> PartsFault {
-        PartsFault::Memory
-    }
-}
-
-impl<T: Drop> From<AllocFailed<T>> for PartsFault {
-    ghost from_gives = { λ _ fault. fault ≡ Memory };
-
-    fn from(_error: AllocFailed<T>) -> PartsFault {
         PartsFault::Memory
     }
 }

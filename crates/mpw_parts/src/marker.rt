@@ -3,7 +3,7 @@ ghost use Rattle.std.specs.Prelude.{◌≡◌, ◌≤◌, ◌<ℤ◌, map, optio
 ghost use Rattle.mpw_markers.specs.Met.{IsAscending};
 ghost use Rattle.mpw_markers.specs.Markers.{IsFilled};
 ghost use Rattle.mpw_text.specs.Text.{number_of};
-ghost use Rattle.mpw_parts.specs.Reading.{filled, key_by, numbers_from, marker_with, marker_by, marker_of};
+ghost use Rattle.mpw_parts.specs.Reading.{filled_key, key_by, numbers_from, marker_with, marker_by, marker_of};
 
 use crate::word::{axis, integer};
 use mpw_markers::{Key, Marker, Met};
@@ -11,8 +11,8 @@ use mpw_text::{parts, read_count, read_number};
 use std::alloc::{AllocError, Global};
 
 /// The key, if it has a row.
-fn filled(key: Key) -> Option<Key>
-    ensures key { result ≡ filled key }
+fn filled_key(key: Key) -> Option<Key>
+    ensures key { result ≡ filled_key key }
     ensures row { IfSome result (λ key. key.y0 <ℤ key.y1) }
 {
     if key.y0 < key.y1 { Some(key) } else { None }
@@ -50,7 +50,7 @@ fn key(
     let x2 = integer(x2)?;
     let y0 = integer(y0)?;
     let y1 = integer(y1)?;
-    filled(Key {
+    filled_key(Key {
         rule,
         axis,
         side,

@@ -36,7 +36,7 @@ fn is_ended(lines: &[&[u8]]) -> bool
 
 /// The markers of tiles by their lines and a line `end`.
 #[tactic(auto, unfolding(crate::specs::Reading::tiles_of))]
-fn ended(alloc: Global, lines: &[&[u8]]) -> Result<Option<Vec<TileMarkers>>, AllocError>
+fn tiles_of(alloc: Global, lines: &[&[u8]]) -> Result<Option<Vec<TileMarkers>>, AllocError>
     ensures { IfOk result (λ found. option_map (λ lists. lists.items) found ≡ tiles_of (map (λ line. line.now) lines.now)) }
 {
     if is_ended(lines) {
@@ -68,7 +68,7 @@ fn part(alloc: Global, lines: &[&[u8]]) -> Result<Option<Part>, AllocError>
     let Some(heading) = head(alloc, first)? else {
         return Ok(None);
     };
-    match ended(alloc, rest)? {
+    match tiles_of(alloc, rest)? {
         Some(lists) => Ok(within(heading, lists)),
         None => Ok(None),
     }

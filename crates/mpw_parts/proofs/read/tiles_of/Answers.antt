@@ -1,7 +1,7 @@
 use Rattle.std.proofs.Common.{◌≡◌, ◌∙◌, ◌-◌, sym, ap, subst, map, take, length, cond, None, option_map, IfOk}
 use Rattle.mpw_parts.specs.Reading.{all_of, tile_of, tiles_of}
 use Rattle.mpw_parts.proofs.Ending.{front_lines}
-use Rattle.mpw_parts.proofs.read.ended.Goals as goal
+use Rattle.mpw_parts.proofs.read.tiles_of.Goals as goal
 
 pub returns-then-is_ended : goal.returns-then-is_ended
 unfolding tiles_of
