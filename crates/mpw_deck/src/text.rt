@@ -86,7 +86,7 @@ impl DeckText {
         ensures { GivesDeck result (deck_of self.now) }
     {
         match &self.outcome {
-            Some(outcome) => found(outcome),
+            Some(outcome) => deck_of_outcome(outcome),
             None => read(alloc, self.bytes.as_slice()),
         }
     }
@@ -114,7 +114,7 @@ impl DeckText {
     {
         Ok(DeckText {
             bytes: self.bytes.clone()?,
-            outcome: copied(&self.outcome)?,
+            outcome: copy_of(&self.outcome)?,
         })
     }
 }
@@ -143,8 +143,8 @@ fn outcome_of(alloc: Global, bytes: &[u8]) -> Result<Result<Deck, DeckFault>, Al
     }
 }
 
-/// What reading gave.
-fn found(outcome: &Result<Deck, DeckFault>) -> Result<Deck, DeckError>
+/// The deck that reading gave, or why it gave none.
+fn deck_of_outcome(outcome: &Result<Deck, DeckFault>) -> Result<Deck, DeckError>
     ensures { GivesDeck result outcome.now }
 {
     match outcome {
@@ -154,7 +154,7 @@ fn found(outcome: &Result<Deck, DeckFault>) -> Result<Deck, DeckError>
 }
 
 /// What reading gave, shared.
-fn copied(
+fn copy_of(
     outcome: &Option<Result<Deck, DeckFault>>,
 ) -> Result<Option<Result<Deck, DeckFault>>, AllocError>
     ensures { IfOk result (λ copy. copy ≡ outcome.now) }

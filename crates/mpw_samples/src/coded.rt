@@ -2,7 +2,7 @@
 
 use crate::sample::Sample;
 use crate::words::{NotationError, hex_bytes, number, short};
-use std::alloc::Global;
+use std::alloc::{AllocError, Global};
 
 fn add_shorts(bytes: &mut Vec<u8>, words: &[&str]) -> Result<(), NotationError> {
     for word in words {
@@ -23,7 +23,7 @@ fn add_text(bytes: &mut Vec<u8>, words: &[&str]) -> Result<(), NotationError> {
         bytes.extend_from_slice(word.as_bytes())?;
     }
     if bytes.len() % 2 == 1 {
-        bytes.push(0)?;
+        bytes.push(0).map_err(AllocError::from)?;
     }
     Ok(())
 }

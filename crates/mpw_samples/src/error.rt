@@ -3,7 +3,7 @@
 ghost use Rattle.std.specs.Prelude.{◌≡◌};
 ghost use Rattle.mpw_samples.specs.declared.error.SampleError.TheVariants.{Memory};
 
-use std::alloc::{AllocError, AllocFailed};
+use std::alloc::AllocError;
 use thiserror::Error;
 
 /// Why records weren't added.
@@ -20,14 +20,6 @@ impl From<AllocError> for SampleError {
     ghost from_gives = { λ _ e. e ≡ Memory };
 
     fn from(_error: AllocError) -> SampleError {
-        SampleError::Memory
-    }
-}
-
-impl<T: Drop> From<AllocFailed<T>> for SampleError {
-    ghost from_gives = { λ _ e. e ≡ Memory };
-
-    fn from(_error: AllocFailed<T>) -> SampleError {
         SampleError::Memory
     }
 }

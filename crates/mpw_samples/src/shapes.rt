@@ -3,7 +3,7 @@
 use crate::sample::Sample;
 use crate::words::{NotationError, layer, number, points, short};
 use mpw_records::kind;
-use std::alloc::Global;
+use std::alloc::{AllocError, Global};
 
 pub fn add_rectangle(text: &mut Sample, words: &[&str]) -> Result<(), NotationError> {
     let [on, x0, y0, x1, y1] = words else {
@@ -74,7 +74,8 @@ pub fn add_stairs(text: &mut Sample, alloc: Global, words: &[&str]) -> Result<()
     };
     let mut points = Vec::new(alloc);
     for step in 0..short(count)? {
-        points.push((i32::from(step / 2 + step % 2), i32::from(step / 2)))?;
+        let point = (i32::from(step / 2 + step % 2), i32::from(step / 2));
+        points.push(point).map_err(AllocError::from)?;
     }
     add_path_head(text, "1/0", ".")?;
     text.long(kind::WIDTH, 2)?;

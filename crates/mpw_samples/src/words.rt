@@ -2,7 +2,7 @@
 
 use crate::error::SampleError;
 use hex::FromHexError;
-use std::alloc::{AllocError, AllocFailed, Global};
+use std::alloc::{AllocError, Global};
 use thiserror::Error;
 
 /// Why a notation gives no text.
@@ -25,12 +25,6 @@ impl From<SampleError> for NotationError {
 
 impl From<AllocError> for NotationError {
     fn from(_error: AllocError) -> NotationError {
-        NotationError::Memory
-    }
-}
-
-impl<T: Drop> From<AllocFailed<T>> for NotationError {
-    fn from(_error: AllocFailed<T>) -> NotationError {
         NotationError::Memory
     }
 }
@@ -80,7 +74,9 @@ pub fn points(alloc: Global, words: &[&str]) -> Result<Vec<(i32, i32)>, Notation
         let [x, y] = pair else {
             return Err(NotationError::Notation);
         };
-        points.push((number(x)?, number(y)?))?;
+        points
+            .push((number(x)?, number(y)?))
+            .map_err(AllocError::from)?;
     }
     Ok(points)
 }
