@@ -59,15 +59,6 @@ closed_square s = record {
   y1 = s.row +ℤ pos 1;
 }
 
--- the box that has the two points as opposite corners
-unfoldable pub box_between : Point → Point → Box2
-box_between p q = record {
-  x0 = int_min p.x q.x;
-  y0 = int_min p.y q.y;
-  x1 = int_max p.x q.x;
-  y1 = int_max p.y q.y;
-}
-
 -- the least box that holds both
 abbrev pub joined : Box2 → Box2 → Box2
 joined a b = record {
@@ -85,3 +76,11 @@ intersection a b = record {
   x1 = int_min a.x1 b.x1;
   y1 = int_min a.y1 b.y1;
 }
+
+-- the box that has the point alone
+abbrev pub box_at : Point → Box2
+box_at p = record { x0 = p.x; y0 = p.y; x1 = p.x; y1 = p.y }
+
+-- the box that has the two points as opposite corners
+unfoldable pub box_between : Point → Point → Box2
+box_between p q = joined (box_at p) (box_at q)

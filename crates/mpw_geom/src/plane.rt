@@ -2,7 +2,7 @@
 
 ghost use Rattle.std.specs.Prelude.{◌≡◌, ◌↔◌, IsTrue, int_le, ◌≤ℤ◌, pos};
 ghost use Rattle.std.specs.Int.{int_max, int_min};
-ghost use Rattle.mpw_geom.specs.Plane.{box_between, has_point, intersection, joined};
+ghost use Rattle.mpw_geom.specs.Plane.{box_at, box_between, has_point, intersection, joined};
 ghost use Rattle.mpw_geom.specs.declared.plane.Point.{Point};
 
 /// A point, in nm.
@@ -43,16 +43,25 @@ pub enum Orient {
 }
 
 impl Box2 {
+    /// The box that has the point alone.
+    pub fn at(p: Point) -> Box2
+        ensures { result ≡ box_at p }
+    {
+        let Point { x, y } = p;
+        Box2 {
+            x0: x,
+            y0: y,
+            x1: x,
+            y1: y,
+        }
+    }
+
     /// The box that has the two points as opposite corners, in whichever order.
+    #[tactic(auto, unfolding(crate::specs::Plane::box_between))]
     pub fn between(p: Point, q: Point) -> Box2
         ensures { result ≡ box_between p q }
     {
-        Box2 {
-            x0: p.x.min(q.x),
-            y0: p.y.min(q.y),
-            x1: p.x.max(q.x),
-            y1: p.y.max(q.y),
-        }
+        Box2::at(p).join(Box2::at(q))
     }
 
     /// The least box that holds both (KLayout's `Box#join`).

@@ -11,23 +11,21 @@ use Rattle.mpw_elements.specs.declared.element.Element.TheVariants as elements
 use Rattle.mpw_elements.specs.Element.{IsPath, IsWithinReach, IsPointWithinReach}
 use Rattle.mpw_shapes.specs.declared.path.Wire.{Wire}
 use Rattle.mpw_shapes.specs.Path.{wire_box, wire_boxes}
+use Rattle.mpw_geom.specs.Plane.{box_at}
 use Rattle.mpw_shapes.proofs.Laid.{half_of, half_reach}
 use Rattle.mpw_hier.specs.Boxes.{hull, hull_of, hull_of_points, has_area, element_box}
 use Rattle.mpw_hier.specs.Internal.SizeParts.{wires_box}
 use Rattle.mpw_hier.proofs.Hulls.{hull_assoc, hull_none}
 
-abbrev pub dot : Point → Box2
-dot p = record { x0 = p.x; y0 = p.y; x1 = p.x; y1 = p.y }
-
 -- one point more
 pub points_on : (ps : List Point) (i : ℕ) (p : Point) (extent more whole : Option Box2)
-    → i < length ps → p ≡ get_or ps i p → more ≡ hull extent (Some (dot p))
+    → i < length ps → p ≡ get_or ps i p → more ≡ hull extent (Some (box_at p))
     → hull extent (hull_of_points (drop i ps)) ≡ whole
     → hull more (hull_of_points (drop (i + 1) ps)) ≡ whole
 unfolding hull_of_points
 points_on ps i p extent more whole h is added so_far =
-    ap (λ o. hull o (hull_of_points (drop (i + 1) ps))) added ∙ hull_assoc extent (Some (dot p)) _
-    ∙ ap (λ q. hull extent (hull (Some (dot q)) (hull_of_points (drop (i + 1) ps)))) is
+    ap (λ o. hull o (hull_of_points (drop (i + 1) ps))) added ∙ hull_assoc extent (Some (box_at p)) _
+    ∙ ap (λ q. hull extent (hull (Some (box_at q)) (hull_of_points (drop (i + 1) ps)))) is
     ∙ sym (ap (hull extent) (at_drop_more hull_of_points ps i p h)) ∙ so_far
 
 -- ---- rectangles

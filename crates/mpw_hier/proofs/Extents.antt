@@ -6,7 +6,7 @@ use Rattle.std.proofs.lemmas.Int.{ints, clamps}
 use Rattle.mpw_geom.specs.declared.plane.Box2.{Box2}
 use Rattle.mpw_geom.specs.declared.plane.Point.{Point}
 use Rattle.mpw_geom.specs.declared.placing.Placing.{Placing}
-use Rattle.mpw_geom.specs.Plane.{IsOrdered, joined}
+use Rattle.mpw_geom.specs.Plane.{box_at, IsOrdered, joined}
 use Rattle.mpw_elements.specs.declared.element.Element.{Element}
 use Rattle.mpw_elements.specs.declared.element.Element.TheVariants as elements
 use Rattle.mpw_elements.specs.declared.element.Reference.{Reference}
@@ -34,7 +34,7 @@ points_ordered : (ps : List Point) → AreOrdered (hull_of_points ps)
 unfolding hull_of_points
 points_ordered [] = tt
 points_ordered (p ∷ ps) =
-    hull_ordered (Some (record { x0 = p.x; y0 = p.y; x1 = p.x; y1 = p.y })) (hull_of_points ps)
+    hull_ordered (Some (box_at p)) (hull_of_points ps)
     (record { x = omega (arith, ints); y = omega (arith, ints) }) (points_ordered ps)
 
 area_ordered : (b : Box2) → has_area b ≡ true → IsOrdered b

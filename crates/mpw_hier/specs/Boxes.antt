@@ -4,7 +4,7 @@ use Rattle.std.specs.Int.{int_min, int_max}
 use Rattle.mpw_geom.specs.declared.plane.Box2.{Box2}
 use Rattle.mpw_geom.specs.declared.plane.Point.{Point}
 use Rattle.mpw_geom.specs.declared.placing.Placing.{Placing}
-use Rattle.mpw_geom.specs.Plane.{box_between, joined}
+use Rattle.mpw_geom.specs.Plane.{box_at, box_between, joined}
 use Rattle.mpw_geom.specs.Placing.{placed_point}
 use Rattle.mpw_elements.specs.declared.element.Element.{Element}
 use Rattle.mpw_elements.specs.declared.element.Element.TheVariants as elements
@@ -25,7 +25,7 @@ hull_of (b ∷ bs) = hull (Some b) (hull_of bs)
 unfoldable pub hull_of_points : List Point → Option Box2
 hull_of_points [] = None
 hull_of_points (p ∷ ps) =
-    hull (Some (record { x0 = p.x; y0 = p.y; x1 = p.x; y1 = p.y })) (hull_of_points ps)
+    hull (Some (box_at p)) (hull_of_points ps)
 
 abbrev pub has_area : Box2 → Bool
 has_area b = int_lt b.x0 b.x1 && int_lt b.y0 b.y1

@@ -11,25 +11,13 @@ use mpw_elements::{Element, Path};
 use mpw_geom::{Box2, Point};
 use mpw_shapes::{Wire, first_wire};
 
-/// The box of a point.
-fn dot(p: Point) -> Box2
-    ensures { result ≡ record { x0 = p.x; y0 = p.y; x1 = p.x; y1 = p.y } }
-{
-    Box2 {
-        x0: p.x,
-        y0: p.y,
-        x1: p.x,
-        y1: p.y,
-    }
-}
-
 /// The least box that holds the points.
 fn points_box(points: &[Point]) -> Option<Box2>
     ensures { result ≡ hull_of_points points.now }
 {
     let mut extent = None;
     for point in points {
-        extent = hull(extent, Some(dot(*point)));
+        extent = hull(extent, Some(Box2::at(*point)));
     }
     extent
 }

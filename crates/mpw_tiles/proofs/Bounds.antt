@@ -10,7 +10,7 @@ use Rattle.mpw_geom.specs.declared.plane.Box2.{Box2}
 use Rattle.mpw_geom.specs.declared.plane.Layer.{Layer}
 use Rattle.mpw_geom.specs.declared.plane.Point.{Point}
 use Rattle.mpw_geom.specs.declared.placing.Placing.{Placing}
-use Rattle.mpw_geom.specs.Plane.{Square, has_square}
+use Rattle.mpw_geom.specs.Plane.{box_at, Square, has_square}
 use Rattle.mpw_geom.specs.Placing.{placed_square}
 use Rattle.mpw_geom.proofs.Squares.{Decides-any_has_square}
 use Rattle.mpw_geom.proofs.Tests.{SquareIn, SquareIn-from_test, test_from_SquareIn, le_from_test, lt_from_test, test_from_lt}
@@ -48,19 +48,16 @@ held_behind None b c h = h
 held_behind (Some a) None c h = absurd h
 held_behind (Some a) (Some b) c h = inside_joined a b c h
 
-abbrev point_box : Point → Box2
-point_box p = record { x0 = p.x; y0 = p.y; x1 = p.x; y1 = p.y }
-
-points_held : (ps : List Point) → All (λ p. IsHeld (Some (point_box p)) (hull_of_points ps)) ps
+points_held : (ps : List Point) → All (λ p. IsHeld (Some (box_at p)) (hull_of_points ps)) ps
 unfolding hull_of_points
-points_held [] = All-nil (λ p. IsHeld (Some (point_box p)) None)
+points_held [] = All-nil (λ p. IsHeld (Some (box_at p)) None)
 points_held (q ∷ ps) =
-    let whole = hull (Some (point_box q)) (hull_of_points ps) in
-    All-cons (λ p. IsHeld (Some (point_box p)) whole) q ps
-    (held_first (point_box q) (hull_of_points ps))
-    (All-weaker (λ p. IsHeld (Some (point_box p)) (hull_of_points ps))
-    (λ p. IsHeld (Some (point_box p)) whole)
-    (λ p h. held_behind (Some (point_box q)) (hull_of_points ps) (point_box p) h) ps
+    let whole = hull (Some (box_at q)) (hull_of_points ps) in
+    All-cons (λ p. IsHeld (Some (box_at p)) whole) q ps
+    (held_first (box_at q) (hull_of_points ps))
+    (All-weaker (λ p. IsHeld (Some (box_at p)) (hull_of_points ps))
+    (λ p. IsHeld (Some (box_at p)) whole)
+    (λ p h. held_behind (Some (box_at q)) (hull_of_points ps) (box_at p) h) ps
     (points_held ps))
 
 grown : (t : Bool) (b : Box2) (rest : List Box2) (c : Box2) → IsHeld (Some c) (hull_of rest)
@@ -146,7 +143,7 @@ record IsBeside (b : Box2) (s : Square) : Type 0 where
   bottom : b.y0 ≤ℤ s.row
   top : s.row <ℤ b.y1
 
-beside : (b : Box2) (s : Square) (p q : Point) → IsInside (point_box p) b → IsInside (point_box q) b
+beside : (b : Box2) (s : Square) (p q : Point) → IsInside (box_at p) b → IsInside (box_at q) b
     → rises_across s p q ≡ true → IsBeside b s
 unfolding rises_across
 beside b s p q h k t =
@@ -158,11 +155,11 @@ beside b s p q h k t =
     record { left = omega (arith, ints); bottom = omega (arith, ints); top = omega (arith, ints) }
 
 closed_inside : (b : Box2) (corners : List Point) → hull_of_points corners ≡ Some b
-    → All (λ p. IsInside (point_box p) b) (closed corners)
+    → All (λ p. IsInside (box_at p) b) (closed corners)
 closed_inside b corners e =
-    let P : Point → Type 0 = λ p. IsInside (point_box p) b in
-    let all : All P corners = All-weaker (λ p. IsHeld (Some (point_box p)) (hull_of_points corners))
-    P (λ p h. subst (λ (o : Option Box2). IsHeld (Some (point_box p)) o) e h) corners
+    let P : Point → Type 0 = λ p. IsInside (box_at p) b in
+    let all : All P corners = All-weaker (λ p. IsHeld (Some (box_at p)) (hull_of_points corners))
+    P (λ p h. subst (λ (o : Option Box2). IsHeld (Some (box_at p)) o) e h) corners
     (points_held corners) in
     All-append P corners (take 1 corners) all (All-take P 1 corners all)
 
@@ -174,18 +171,18 @@ crossed b corners s e h = elim (cases_eq (upward corners s) 0) [
     | inl neither ↦ absurd (uneven corners s h (none ∙ sym neither))
     | inr some ↦
         let step = some_step (λ p q. rises_across s q p) (closed corners) some in
-        beside b s step.to step.from (All-contains (λ p. IsInside (point_box p) b) (closed corners)
-        step.to all step.has_to) (All-contains (λ p. IsInside (point_box p) b) (closed corners)
+        beside b s step.to step.from (All-contains (λ p. IsInside (box_at p) b) (closed corners)
+        step.to all step.has_to) (All-contains (λ p. IsInside (box_at p) b) (closed corners)
         step.from all step.has_from) step.passes
   ]
   | inr some ↦
       let step = some_step (λ p q. rises_across s p q) (closed corners) some in
-      beside b s step.from step.to (All-contains (λ p. IsInside (point_box p) b) (closed corners)
-      step.from all step.has_from) (All-contains (λ p. IsInside (point_box p) b)
+      beside b s step.from step.to (All-contains (λ p. IsInside (box_at p) b) (closed corners)
+      step.from all step.has_from) (All-contains (λ p. IsInside (box_at p) b)
       (closed corners) step.to all step.has_to) step.passes
 ]
   where
-    all : All (λ p. IsInside (point_box p) b) (closed corners)
+    all : All (λ p. IsInside (box_at p) b) (closed corners)
     all = closed_inside b corners e
 
 cases_lt_z : (a b : ℤ) → (a <ℤ b) ⊎ (b ≤ℤ a)
@@ -203,11 +200,11 @@ boundary_in_box b corners s e h =
         top = beside.top;
       }
       | inr past ↦
-          let P : Point → Type 0 = λ p. IsHeld (Some (point_box p)) (hull_of_points corners) in
+          let P : Point → Type 0 = λ p. IsHeld (Some (box_at p)) (hull_of_points corners) in
           let left : All (λ (p : Point). p.x ≤ℤ s.column) corners =
           All-weaker P (λ (p : Point). p.x ≤ℤ s.column)
-          (λ p k. let i : IsInside (point_box p)
-          b = subst (λ (o : Option Box2). IsHeld (Some (point_box p)) o) e k in
+          (λ p k. let i : IsInside (box_at p)
+          b = subst (λ (o : Option Box2). IsHeld (Some (box_at p)) o) e k in
           let r = i.right in omega (arith, ints)) corners (points_held corners) in
           absurd (uneven corners s h (right_of_all corners s left))
     ]
@@ -238,9 +235,9 @@ boundary_boxed : (corners : List Point) (s : Square) (o : Option Box2) → hull_
     → boundary_has corners s ≡ true → IsBoxed o s
 boundary_boxed corners s None e h =
     let left : All (λ (p : Point). p.x ≤ℤ s.column) corners =
-    All-weaker (λ p. IsHeld (Some (point_box p)) (hull_of_points corners))
+    All-weaker (λ p. IsHeld (Some (box_at p)) (hull_of_points corners))
     (λ (p : Point). p.x ≤ℤ s.column) (λ p k. absurd (subst
-    (λ (o : Option Box2). IsHeld (Some (point_box p)) o) e k)) corners (points_held corners) in
+    (λ (o : Option Box2). IsHeld (Some (box_at p)) o) e k)) corners (points_held corners) in
     absurd (uneven corners s h (right_of_all corners s left))
 boundary_boxed corners s (Some b) e h =
     record { box = b; is = refl; has = boundary_in_box b corners s e h }

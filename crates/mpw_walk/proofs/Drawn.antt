@@ -12,6 +12,7 @@ use Rattle.mpw_elements.specs.Element.{IsElement}
 use Rattle.mpw_library.specs.declared.structures.Structure.{Structure}
 use Rattle.mpw_library.specs.Library.{IsLibrary, IsStructure}
 use Rattle.mpw_library.specs.Places.{place_of}
+use Rattle.mpw_geom.specs.Plane.{box_at}
 use Rattle.mpw_hier.specs.declared.submission.Submission.{Submission}
 use Rattle.mpw_hier.specs.Structures.{references, structure_of, structure_at, is_shape}
 use Rattle.mpw_hier.specs.Boxes.{hull, hull_of_points, element_box}
@@ -27,8 +28,8 @@ points_drawn [] h = absurd (omega (arith, h))
 points_drawn (p ∷ ps) h = go (hull_of_points ps)
   where
     go : (o : Option Box2) → (b : Box2)
-        × (hull (Some (record { x0 = p.x; y0 = p.y; x1 = p.x; y1 = p.y })) o ≡ Some b)
-    go None = (record { x0 = p.x; y0 = p.y; x1 = p.x; y1 = p.y }, refl)
+        × (hull (Some (box_at p)) o ≡ Some b)
+    go None = (box_at p, refl)
     go (Some b) = (_, refl)
 
 more_drawn : (a : Option Box2) (b : Box2) (o : Option Box2) → a ≡ Some b

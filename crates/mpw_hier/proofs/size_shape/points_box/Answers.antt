@@ -9,7 +9,7 @@ pub loop-point-preserved : goal.loop-point-preserved
 loop-point-preserved c =
     points_on c.args.points.now c.loop-point.point-index _ _ _ _ c.loop-point-test.true
     (get_or_default c.args.points.now c.loop-point.point-index _ _ c.loop-point-test.true)
-    (c.hull-extent.ensures ∙ ap (λ b. hull c.loop-point.extent (Some b)) c.dot.ensures)
+    (c.hull-extent.ensures ∙ ap (λ b. hull c.loop-point.extent (Some b)) c.at.ensures)
     c.loop-point.invariant
 
 pub returns : goal.returns
