@@ -9,8 +9,8 @@ use Rattle.mpw_geom.specs.Plane.{Square, IsOrdered, IsBoxInPlane, has_square, bo
 use Rattle.mpw_geom.specs.Placing.{placed_point, placed_square}
 use Rattle.mpw_geom.proofs.Tests.{same_squares}
 use Rattle.mpw_geom.proofs.Turns.{placed_squares_at}
-use Rattle.mpw_tiles.specs.Placed.{IsSquareInPlane}
-use Rattle.mpw_tiles.specs.Internal.Placed.{nearest, nearest_point}
+use Rattle.mpw_tiles.specs.Placed.{IsSquareInPlane, nearest}
+use Rattle.mpw_tiles.specs.Internal.Placed.{nearest_point}
 
 abbrev far : ℤ
 far = pos (2 ^ 48)

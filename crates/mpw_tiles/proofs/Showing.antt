@@ -1,8 +1,9 @@
 -- The squares of placed boxes and shapes.
-use Rattle.std.proofs.Common.{◌≡◌, ℕ, zero, suc, ◌+◌, ◌<◌, Bool, true, false, if◌then◌else◌, ◌||◌, List, [], ◌∷◌, ◌++◌, length, get_or, take, Option, Some, ◌⊎◌, inl, inr, refl, sym, subst, ap, ◌∙◌, arith}
+use Rattle.std.proofs.Common.{◌≡◌, ℕ, zero, suc, ◌+◌, ◌<◌, Bool, true, false, if◌then◌else◌, ◌||◌, List, [], ◌∷◌, ◌++◌, length, get_or, take, Option, Some, None, ◌⊎◌, inl, inr, refl, sym, subst, ap, ◌∙◌, arith}
 use Rattle.std.specs.Prelude.{◌↔◌, pos, neg_ℤ, ◌-ℤ◌}
 use Rattle.std.proofs.lemmas.Bool.{false≢true}
 use Rattle.std.proofs.lemmas.Int.{ints}
+use Rattle.std.proofs.lemmas.List.{append_assoc}
 use Rattle.std.proofs.lemmas.List.Folds.{list_any_more}
 use Rattle.mpw_region.proofs.Held.{Held-push_left, Held-push_new, Held-push_cases}
 use Rattle.mpw_geom.specs.declared.plane.Box2.{Box2}
@@ -17,7 +18,8 @@ use Rattle.mpw_tiles.specs.declared.listing.Rectangle.{Rectangle}
 use Rattle.mpw_tiles.specs.Plan.{Tiling}
 use Rattle.mpw_tiles.specs.Listing.{HasSquareOf}
 use Rattle.mpw_tiles.specs.Internal.Listing.{HasPlacedSquare}
-use Rattle.mpw_tiles.specs.Placed.{IsSquareInPlane, WindowsLieInPlane}
+use Rattle.mpw_tiles.specs.declared.place.PlacedShape.{PlacedShape}
+use Rattle.mpw_tiles.specs.Placed.{IsSquareInPlane, IsShapeOf, IsRectangleOf, WindowsLieInPlane}
 use Rattle.mpw_tiles.proofs.Added.{AgreeInWindows, either}
 use Rattle.mpw_tiles.specs.Shown.{layer_of, ShowsSquare, IsShown}
 
@@ -73,35 +75,25 @@ any_more : (boxes : List Box2) (i : ℕ) (d : Box2) (s : Square) → i < length 
 unfolding any_has_square
 any_more boxes i d s h = list_any_more (λ b. has_square b s) boxes i d h
 
--- the placed box has just the placed squares of the box, as far as they lie in the plane
-abbrev pub IsPlacedArea : Placing → Box2 → Box2 → Type 0
-IsPlacedArea t b area = (s : Square) → IsSquareInPlane (placed_square t s)
-    → has_square area (placed_square t s) ≡ has_square b s
-
-pub no_boxes : (t : Placing) (own : Layer) (number : ℕ) (layer : Layer) (origin : ℕ) (s : Square)
-    → HasPlacedSquare [] t own number layer origin s → ⊥
+pub no_boxes : (shape : PlacedShape) (layer : Layer) (origin : ℕ) (s : Square)
+    → HasPlacedSquare [] shape layer origin s → ⊥
 unfolding any_has_square
-no_boxes t own number layer origin s h = false≢true h.has
+no_boxes shape layer origin s h = false≢true h.has
 
-abbrev pub rectangle_of : Box2 → Layer → ℕ → Rectangle
-rectangle_of area own number = record { area = area; layer = own; origin = number }
-
--- a box more, placed, has the squares of its area in the plane
-pub boxes_at : (boxes : List Box2) (i : ℕ) (d area : Box2) (t : Placing) (own : Layer) (number : ℕ)
-    → i < length boxes → IsPlacedArea t (get_or boxes i d) area → (layer : Layer) (origin : ℕ)
+-- the rectangle of a box more has its placed squares in the plane
+pub boxes_at : (boxes : List Box2) (i : ℕ) (d : Box2) (shape : PlacedShape) (r : Rectangle)
+    → i < length boxes → IsRectangleOf shape (get_or boxes i d) r → (layer : Layer) (origin : ℕ)
     (s : Square) → IsSquareInPlane s
-    → either (HasPlacedSquare (take i boxes) t own number)
-    (HasSquareOf (rectangle_of area own number)) layer origin s
-    ↔ HasPlacedSquare (take (i + 1) boxes) t own number layer origin s
-boxes_at boxes i d area t own number h exact layer origin s plane = (to, from)
+    → either (HasPlacedSquare (take i boxes) shape) (HasSquareOf r) layer origin s
+    ↔ HasPlacedSquare (take (i + 1) boxes) shape layer origin s
+boxes_at boxes i d shape r h is layer origin s plane = (to, from)
   where
     more : (q : Square) → any_has_square (take (i + 1) boxes) q
         ≡ (any_has_square (take i boxes) q || has_square (get_or boxes i d) q)
     more q = any_more boxes i d q h
 
-    to : HasPlacedSquare (take i boxes) t own number layer origin s
-        ⊎ HasSquareOf (rectangle_of area own number) layer origin s
-        → HasPlacedSquare (take (i + 1) boxes) t own number layer origin s
+    to : HasPlacedSquare (take i boxes) shape layer origin s ⊎ HasSquareOf r layer origin s
+        → HasPlacedSquare (take (i + 1) boxes) shape layer origin s
     to (inl p) = record {
       on_layer = p.on_layer;
       of_origin = p.of_origin;
@@ -110,21 +102,20 @@ boxes_at boxes i d area t own number h exact layer origin s plane = (to, from)
       placed = p.placed;
     }
     to (inr p) =
-        let b = before t s in
-        let k : has_square area (placed_square t b.square) ≡ true =
-        subst (λ (x : Square). has_square area x ≡ true) (sym b.placed) p.has in
-        let e = exact b.square (subst IsSquareInPlane (sym b.placed) plane) in
+        let b = before shape.placing s in
+        let k : has_square r.area (placed_square shape.placing b.square) ≡ true =
+        subst (λ (x : Square). has_square r.area x ≡ true) (sym b.placed) p.has in
+        let e = is.squares b.square (subst IsSquareInPlane (sym b.placed) plane) in
         record {
-          on_layer = p.on_layer;
-          of_origin = p.of_origin;
+          on_layer = sym is.on_layer ∙ p.on_layer;
+          of_origin = sym is.of_origin ∙ p.of_origin;
           square = b.square;
           has = more b.square ∙ or_right _ _ (sym e ∙ k);
           placed = b.placed;
         }
 
-    from : HasPlacedSquare (take (i + 1) boxes) t own number layer origin s
-        → HasPlacedSquare (take i boxes) t own number layer origin s
-        ⊎ HasSquareOf (rectangle_of area own number) layer origin s
+    from : HasPlacedSquare (take (i + 1) boxes) shape layer origin s
+        → HasPlacedSquare (take i boxes) shape layer origin s ⊎ HasSquareOf r layer origin s
     from p = elim (or_cases _ _ (sym (more p.square) ∙ p.has)) [
       | inl e ↦ inl (record {
         on_layer = p.on_layer;
@@ -134,21 +125,20 @@ boxes_at boxes i d area t own number h exact layer origin s plane = (to, from)
         placed = p.placed;
       })
       | inr e ↦ inr (record {
-        on_layer = p.on_layer;
-        of_origin = p.of_origin;
-        has = subst (λ (x : Square). has_square area x ≡ true) p.placed
-            (exact p.square (subst IsSquareInPlane (sym p.placed) plane) ∙ e);
+        on_layer = is.on_layer ∙ p.on_layer;
+        of_origin = is.of_origin ∙ p.of_origin;
+        has = subst (λ (x : Square). has_square r.area x ≡ true) p.placed
+            (is.squares p.square (subst IsSquareInPlane (sym p.placed) plane) ∙ e);
       })
     ]
 
-pub boxes_more : (plan : Tiling) (boxes : List Box2) (i : ℕ) (d area : Box2) (t : Placing)
-    (own : Layer) (number : ℕ) → WindowsLieInPlane plan → i < length boxes
-    → IsPlacedArea t (get_or boxes i d) area
-    → AgreeInWindows plan (either (HasPlacedSquare (take i boxes) t own number)
-    (HasSquareOf (rectangle_of area own number)))
-    (HasPlacedSquare (take (i + 1) boxes) t own number)
-boxes_more plan boxes i d area t own number plane h exact tile s layer origin u w =
-    boxes_at boxes i d area t own number h exact layer origin s (plane tile s u w)
+pub boxes_more : (plan : Tiling) (boxes : List Box2) (i : ℕ) (d : Box2) (shape : PlacedShape)
+    (r : Rectangle) → WindowsLieInPlane plan → i < length boxes
+    → IsRectangleOf shape (get_or boxes i d) r
+    → AgreeInWindows plan (either (HasPlacedSquare (take i boxes) shape) (HasSquareOf r))
+    (HasPlacedSquare (take (i + 1) boxes) shape)
+boxes_more plan boxes i d shape r plane h is tile s layer origin u w =
+    boxes_at boxes i d shape r h is layer origin s (plane tile s u w)
 
 -- ---- shapes
 
@@ -156,28 +146,34 @@ same_layer : (a b : Layer) → (let some : Option Layer = Some a in some) ≡ So
 same_layer a b e = cc
 
 -- the boxes of a shape, placed, are the shape's squares
-pub boxes_show : (item : Item) (boxes : List Box2) (own : Layer)
-    → layer_of item.element ≡ Some own
+pub boxes_show : (item : Item) (boxes : List Box2) (shape : PlacedShape) → IsShapeOf item shape
     → ((s : Square) → any_has_square boxes s ≡ element_has item.element s)
     → (layer : Layer) (origin : ℕ) (s : Square)
-    → HasPlacedSquare boxes item.placing own item.origin layer origin s
-    ↔ ShowsSquare item layer origin s
-boxes_show item boxes own e same layer origin s = (
+    → HasPlacedSquare boxes shape layer origin s ↔ ShowsSquare item layer origin s
+boxes_show item boxes shape is same layer origin s = (
   λ p. record {
-    on_layer = e ∙ ap Some p.on_layer;
-    of_origin = p.of_origin;
+    on_layer = is.on_layer ∙ ap Some p.on_layer;
+    of_origin = sym is.of_origin ∙ p.of_origin;
     square = p.square;
     has = sym (same p.square) ∙ p.has;
-    placed = p.placed;
+    placed = ap (λ (t : Placing). placed_square t p.square) (sym is.placing) ∙ p.placed;
   },
   λ p. record {
-    on_layer = same_layer own layer (sym e ∙ p.on_layer);
-    of_origin = p.of_origin;
+    on_layer = same_layer shape.layer layer (sym is.on_layer ∙ p.on_layer);
+    of_origin = is.of_origin ∙ p.of_origin;
     square = p.square;
     has = same p.square ∙ p.has;
-    placed = p.placed;
+    placed = ap (λ (t : Placing). placed_square t p.square) is.placing ∙ p.placed;
   },
 )
+
+-- what has no layer shows nothing
+pub none_shown : (item : Item) → layer_of item.element ≡ None → (layer : Layer) (origin : ℕ)
+    (s : Square) → ShowsSquare item layer origin s → ⊥
+none_shown item e layer origin s h = no_layer layer (sym e ∙ h.on_layer)
+  where
+    no_layer : (l : Layer) → (let none : Option Layer = None in none) ≡ Some l → ⊥
+    no_layer l e = cc
 
 -- ---- lists of shapes
 
@@ -191,3 +187,9 @@ shown_more done item layer origin s = (
   ],
   λ l. Held-push_cases (λ (i : Item). ShowsSquare i layer origin s) done item l,
 )
+
+-- a walk gave one item more
+pub given_more : (done rest whole all : List Item) (item : Item) → whole ≡ item ∷ rest
+    → done ++ whole ≡ all → (done ++ item ∷ []) ++ rest ≡ all
+given_more done rest whole all item e h =
+    append_assoc done (item ∷ []) rest ∙ ap (λ items. done ++ items) (sym e) ∙ h

@@ -5,12 +5,13 @@ use Rattle.std.proofs.lemmas.Int.{ints}
 use Rattle.mpw_geom.specs.declared.plane.Box2.{Box2}
 use Rattle.mpw_geom.specs.Plane.{Square, has_square, closed_square}
 use Rattle.mpw_geom.proofs.Tests.{PointIn-from_test, SquareIn, test_from_SquareIn, same_tests}
+use Rattle.mpw_region.specs.Exchange.{exchanged_box}
 use Rattle.mpw_deck.specs.declared.rule.Rule.{Rule}
 use Rattle.mpw_deck.specs.Decks.{Deck}
 use Rattle.mpw_edges.specs.declared.run.Axis.{Axis}
 use Rattle.mpw_edges.specs.declared.run.Axis.TheVariants.{V, H}
 use Rattle.mpw_edges.specs.Edges.{Squares, exchanged}
-use Rattle.mpw_edges.specs.Pieces.{exchanged_box, HasStep, IsPiece}
+use Rattle.mpw_edges.specs.Pieces.{HasStep, IsPiece}
 use Rattle.mpw_grid.specs.Grid.{widened}
 use Rattle.mpw_tiles.specs.declared.listing.Rectangle.{Rectangle}
 use Rattle.mpw_tiles.specs.Plan.{Tiling, greatest_distance, plan_of, tiles, tile_core, tile_window}

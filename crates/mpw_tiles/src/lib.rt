@@ -24,7 +24,6 @@ pub use laws::{
     windows_list_what_is_shown, windows_show_layers,
 };
 pub use listing::{Rectangle, Window, Windows};
-pub use place::placed_area;
-pub use plan::{MAX_TILES, Plan, TooManyTiles};
-pub use shapes::layer_of;
+pub use place::PlacedShape;
+pub use plan::{MAX_TILES, Plan, TooManyTiles, greatest_distance};
 pub use snapshot::{MAX_ROOTS, MAX_SHAPES, Snapshot, are_roots, cut};

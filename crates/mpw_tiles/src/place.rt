@@ -1,13 +1,65 @@
-//! Rectangles where they are placed.
+//! Shapes and rectangles where they are placed.
 
+ghost use Rattle.std.specs.Prelude.{◌≡◌, true, ◌+ℤ◌, neg_ℤ, IfNone, IfSome, None};
 ghost use Rattle.mpw_hier.specs.Boxes.{placed_box, is_box_near};
-ghost use Rattle.std.specs.Prelude.{◌≡◌, true, ◌+ℤ◌, neg_ℤ};
+ghost use Rattle.mpw_walk.specs.Way.{item_of};
 ghost use Rattle.mpw_geom.specs.Plane.{Square, IsBoxInPlane, IsOrdered, has_square};
 ghost use Rattle.mpw_geom.specs.Placing.{placed_point, placed_square};
-ghost use Rattle.mpw_tiles.specs.Placed.{IsSquareInPlane};
-ghost use Rattle.mpw_tiles.specs.Internal.Placed.{nearest, nearest_point};
+ghost use Rattle.mpw_tiles.specs.Placed.{IsSquareInPlane, IsShapeOf, IsRectangleOf, nearest};
+ghost use Rattle.mpw_tiles.specs.Shown.{layer_of};
+ghost use Rattle.mpw_tiles.specs.Internal.Placed.{nearest_point};
 
-use mpw_geom::{Box2, Orient, Placing, Point};
+use crate::listing::Rectangle;
+use mpw_elements::Element;
+use mpw_geom::{Box2, Layer, Orient, Placing, Point};
+use mpw_walk::Placed;
+
+/// What the rectangles of a shape have in common: its layer, the number of the submission from which it comes, and how it is
+/// placed.
+#[derive(Clone, Copy)]
+pub struct PlacedShape {
+    pub layer: Layer,
+    pub origin: u32,
+    pub placing: Placing,
+}
+
+/// The layer of a shape; a reference has none.
+fn layer_of(element: &Element) -> Option<Layer>
+    ensures { result ≡ layer_of element.now }
+{
+    match element {
+        Element::Boundary(boundary) => Some(boundary.layer),
+        Element::Path(path) => Some(path.layer),
+        Element::Reference(_) => None,
+    }
+}
+
+impl PlacedShape {
+    /// What the rectangles of a shape that a walk gave have in common; none for a reference. Takes no memory.
+    pub fn of(placed: &Placed<'_>) -> Option<PlacedShape>
+        ensures some { IfSome result (IsShapeOf (item_of placed.now)) }
+        ensures none { IfNone result (layer_of placed.now.element.now ≡ None) }
+    {
+        let layer = layer_of(placed.element)?;
+        Some(PlacedShape {
+            layer,
+            origin: placed.origin,
+            placing: placed.placing,
+        })
+    }
+
+    /// The rectangle of one of the shape's boxes, as far as it lies in the plane of coordinates from -2^48 to 2^48. Takes no memory.
+    pub fn rectangle(&self, b: &Box2) -> Rectangle
+        requires { IsOrdered b.now }
+        ensures { IsRectangleOf self.now b.now result }
+    {
+        Rectangle {
+            area: placed_area(&self.placing, b),
+            layer: self.layer,
+            origin: self.origin,
+        }
+    }
+}
 
 /// The farthest coordinate of the plane, in nm.
 const MAX_COORDINATE: i64 = 1 << 48;
@@ -30,51 +82,36 @@ fn minus(z: i64, by: i64) -> i64
         .min(MAX_COORDINATE)
 }
 
-/// Where the placing takes the point, or the nearest point of the plane.
+/// The coordinates to which the placing takes the point, or the nearest ones of the plane.
 #[tactic(auto, using(mpw_geom::proofs::Turns::negations), unfolding(mpw_geom::specs::Placing::placed_point, mpw_geom::specs::Placing::oriented_point))]
-fn placed(placing: &Placing, p: &Point) -> Point
-    ensures { result ≡ nearest_point (placed_point placing.now p.now) }
+fn placed_coordinates(placing: &Placing, p: &Point) -> (i64, i64)
+    ensures x { result.0 ≡ nearest (placed_point placing.now p.now).x }
+    ensures y { result.1 ≡ nearest (placed_point placing.now p.now).y }
 {
     let by = placing.by;
     match placing.orient {
-        Orient::R0 => Point {
-            x: plus(p.x, by.x),
-            y: plus(p.y, by.y),
-        },
-        Orient::R90 => Point {
-            x: minus(p.y, by.x),
-            y: plus(p.x, by.y),
-        },
-        Orient::R180 => Point {
-            x: minus(p.x, by.x),
-            y: minus(p.y, by.y),
-        },
-        Orient::R270 => Point {
-            x: plus(p.y, by.x),
-            y: minus(p.x, by.y),
-        },
-        Orient::M0 => Point {
-            x: plus(p.x, by.x),
-            y: minus(p.y, by.y),
-        },
-        Orient::M90 => Point {
-            x: plus(p.y, by.x),
-            y: plus(p.x, by.y),
-        },
-        Orient::M180 => Point {
-            x: minus(p.x, by.x),
-            y: plus(p.y, by.y),
-        },
-        Orient::M270 => Point {
-            x: minus(p.y, by.x),
-            y: minus(p.x, by.y),
-        },
+        Orient::R0 => (plus(p.x, by.x), plus(p.y, by.y)),
+        Orient::R90 => (minus(p.y, by.x), plus(p.x, by.y)),
+        Orient::R180 => (minus(p.x, by.x), minus(p.y, by.y)),
+        Orient::R270 => (plus(p.y, by.x), minus(p.x, by.y)),
+        Orient::M0 => (plus(p.x, by.x), minus(p.y, by.y)),
+        Orient::M90 => (plus(p.y, by.x), plus(p.x, by.y)),
+        Orient::M180 => (minus(p.x, by.x), plus(p.y, by.y)),
+        Orient::M270 => (minus(p.y, by.x), minus(p.x, by.y)),
     }
+}
+
+/// Where the placing takes the point, or the nearest point of the plane.
+fn placed_point(placing: &Placing, p: &Point) -> Point
+    ensures { result ≡ nearest_point (placed_point placing.now p.now) }
+{
+    let (x, y) = placed_coordinates(placing, p);
+    Point { x, y }
 }
 
 /// Where the placing takes the rectangle, as far as it lies within -2^48 to 2^48 nm: just there, where that is within -2^30 to
 /// 2^30. Takes no memory.
-pub fn placed_area(placing: &Placing, b: &Box2) -> Box2
+pub(crate) fn placed_area(placing: &Placing, b: &Box2) -> Box2
     requires { IsOrdered b.now }
     ensures squares { (s : Square) → IsSquareInPlane (placed_square placing.now s) →
         has_square result (placed_square placing.now s) ≡ has_square b.now s }
@@ -82,7 +119,7 @@ pub fn placed_area(placing: &Placing, b: &Box2) -> Box2
     ensures ordered { IsOrdered result }
     ensures plane { IsBoxInPlane result }
 {
-    let p = placed(placing, &Point { x: b.x0, y: b.y0 });
-    let q = placed(placing, &Point { x: b.x1, y: b.y1 });
+    let p = placed_point(placing, &Point { x: b.x0, y: b.y0 });
+    let q = placed_point(placing, &Point { x: b.x1, y: b.y1 });
     Box2::between(p, q)
 }

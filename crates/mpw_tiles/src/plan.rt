@@ -36,8 +36,8 @@ impl Model for Plan {
     ghost invariant = { λ p. IsPlan (record { grid = p.grid; margin = p.margin }) };
 }
 
-/// The greatest distance of the rules, in nm; 0 without rules.
-fn greatest_distance(rules: &[Rule]) -> u32
+/// The greatest distance of the rules, in nm; 0 without rules. Linear in the rules; takes no memory.
+pub fn greatest_distance(rules: &[Rule]) -> u32
     ensures { result ≡ greatest_distance rules.now }
 {
     let mut greatest = 0u32;

@@ -8,51 +8,32 @@ ghost use Rattle.mpw_walk.specs.Way.{item_of};
 ghost use Rattle.mpw_tiles.specs.Internal.Listing.{AddsSquares, HasPlacedSquare};
 ghost use Rattle.mpw_tiles.specs.Placed.{WindowsLieInPlane};
 ghost use Rattle.mpw_tiles.specs.Plan.{tiles};
-ghost use Rattle.mpw_tiles.specs.Shown.{layer_of, ShowsSquare, IsShown};
+ghost use Rattle.mpw_tiles.specs.Shown.{ShowsSquare, IsShown};
 
 use crate::fill::list_rectangle;
-use crate::listing::{Listed, Rectangle};
-use crate::place::placed_area;
+use crate::listing::Listed;
+use crate::place::PlacedShape;
 use crate::plan::Plan;
-use mpw_elements::Element;
-use mpw_geom::{Box2, Layer, Placing};
+use mpw_geom::Box2;
 use mpw_shapes::rectangles;
 use mpw_walk::{Placed, Walk};
 use std::alloc::{AllocError, Global};
 
-/// The layer of a shape; a reference has none.
-pub fn layer_of(element: &Element) -> Option<Layer>
-    ensures { result ≡ layer_of element.now }
-{
-    match element {
-        Element::Boundary(boundary) => Some(boundary.layer),
-        Element::Path(path) => Some(path.layer),
-        Element::Reference(_) => None,
-    }
-}
-
-/// Lists the boxes, placed, of a layer and an origin. An error is want of memory.
+/// Lists the rectangles of a shape's boxes. An error is want of memory.
 fn list_boxes(
     lists: &mut Vec<Listed>,
     plan: &Plan,
     boxes: &[Box2],
-    placing: &Placing,
-    layer: Layer,
-    origin: u32,
+    shape: &PlacedShape,
 ) -> Result<(), AllocError>
     requires count { length lists.old.items ≡ tiles plan.now }
     requires plane { WindowsLieInPlane plan.now }
     requires area { All HasArea boxes.now }
     ensures ok { OnOk result (AddsSquares plan.now lists.old.items lists.new.items
-        (HasPlacedSquare boxes.now placing.now layer origin)) }
+        (HasPlacedSquare boxes.now shape.now)) }
 {
     for b in boxes {
-        let rectangle = Rectangle {
-            area: placed_area(placing, b),
-            layer,
-            origin,
-        };
-        list_rectangle(lists, plan, &rectangle)?;
+        list_rectangle(lists, plan, &shape.rectangle(b))?;
     }
     Ok(())
 }
@@ -69,18 +50,11 @@ fn list_shape(
     requires element { IsElement placed.now.element.now }
     ensures ok { OnOk result (AddsSquares plan.now lists.old.items lists.new.items (ShowsSquare (item_of placed.now))) }
 {
-    let Some(layer) = layer_of(placed.element) else {
+    let Some(shape) = PlacedShape::of(placed) else {
         return Ok(());
     };
     let boxes = rectangles(alloc, placed.element)?;
-    list_boxes(
-        lists,
-        plan,
-        boxes.as_slice(),
-        &placed.placing,
-        layer,
-        placed.origin,
-    )?;
+    list_boxes(lists, plan, boxes.as_slice(), &shape)?;
     Ok(())
 }
 

@@ -1,13 +1,13 @@
 -- What private functions and proofs need of this: rectangles that windows list.
 use Rattle.std.specs.Prelude.{◌≡◌, ◌≤◌, ◌<◌, ℕ, true, List, [], length, slice_index_or, Contains, ◌⊎◌, ◌↔◌}
 use Rattle.mpw_geom.specs.declared.plane.Layer.{Layer}
-use Rattle.mpw_geom.specs.declared.placing.Placing.{Placing}
 use Rattle.mpw_geom.specs.declared.plane.Box2.{Box2}
 use Rattle.mpw_geom.specs.Plane.{Square, has_square, any_has_square}
 use Rattle.mpw_geom.specs.Placing.{placed_square}
 use Rattle.mpw_grid.specs.declared.grid.Block.{Block}
 use Rattle.mpw_grid.specs.Grid.{Cells, column_of, row_of, ShareSquare}
 use Rattle.mpw_tiles.specs.declared.listing.Rectangle.{Rectangle}
+use Rattle.mpw_tiles.specs.declared.place.PlacedShape.{PlacedShape}
 use Rattle.mpw_tiles.specs.Plan.{Tiling, tiles, tile_window}
 use Rattle.mpw_tiles.specs.Listing.{IsListed}
 
@@ -39,11 +39,11 @@ pub record AddsSquares (plan : Tiling) (old new : List (List Rectangle)) (P : La
       → Contains (slice_index_or new tile []) r
       → Contains (slice_index_or old tile []) r ⊎ ShareSquare (tile_window plan tile) r.area
 
--- A box of the list, placed, has the unit square, and these are its layer and origin.
-pub record HasPlacedSquare (boxes : List Box2) (placing : Placing) (own : Layer) (number : ℕ)
-    (layer : Layer) (origin : ℕ) (s : Square) : Type 0 where
-  pub on_layer : own ≡ layer
-  pub of_origin : number ≡ origin
+-- A box of the shape, placed, has the unit square, and these are its layer and origin.
+pub record HasPlacedSquare (boxes : List Box2) (shape : PlacedShape) (layer : Layer) (origin : ℕ)
+    (s : Square) : Type 0 where
+  pub on_layer : shape.layer ≡ layer
+  pub of_origin : shape.origin ≡ origin
   pub square : Square
   pub has : any_has_square boxes square ≡ true
-  pub placed : placed_square placing square ≡ s
+  pub placed : placed_square shape.placing square ≡ s

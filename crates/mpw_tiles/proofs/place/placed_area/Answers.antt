@@ -9,7 +9,7 @@ use Rattle.mpw_tiles.proofs.place.placed_area.Goals as goal
 pub returns-clause-squares : goal.returns-clause-squares
 returns-clause-squares c =
     let b = c.args.b.now in
-    λ s k. rw (c.between.ensures, c.placed-p.ensures, c.placed-q.ensures)
+    λ s k. rw (c.between.ensures, c.placed_point-p.ensures, c.placed_point-q.ensures)
     (area_squares c.args.placing.now b s _ _ _ _ (to_z-of_z w64 b.x0 (search rules))
     (to_z-of_z w64 b.y0 (search rules)) (to_z-of_z w64 b.x1 (search rules))
     (to_z-of_z w64 b.y1 (search rules)) c.requires k)
@@ -20,13 +20,13 @@ returns-clause-plane c =
     let p : Point = record { x = to_z w64 (of_z w64 b.x0); y = to_z w64 (of_z w64 b.y0) } in
     let q : Point = record { x = to_z w64 (of_z w64 b.x1); y = to_z w64 (of_z w64 b.y1) } in
     is_in_plane c.between.result (placed_point c.args.placing.now p)
-    (placed_point c.args.placing.now q) c.placed-p.result c.placed-q.result c.between.ensures
-    c.placed-p.ensures c.placed-q.ensures
+    (placed_point c.args.placing.now q) c.placed_point-p.result c.placed_point-q.result c.between.ensures
+    c.placed_point-p.ensures c.placed_point-q.ensures
 
 pub returns-clause-near : goal.returns-clause-near
 returns-clause-near c =
     let b = c.args.b.now in
-    λ n. rw (c.between.ensures, c.placed-p.ensures, c.placed-q.ensures)
+    λ n. rw (c.between.ensures, c.placed_point-p.ensures, c.placed_point-q.ensures)
     (area_is_box c.args.placing.now b _ _ _ _ (to_z-of_z w64 b.x0 (search rules))
     (to_z-of_z w64 b.y0 (search rules)) (to_z-of_z w64 b.x1 (search rules))
     (to_z-of_z w64 b.y1 (search rules)) n)

@@ -4,4 +4,4 @@ use Rattle.mpw_tiles.proofs.shapes.list_boxes.Given as goal
 
 abbrev pub invariant-loop-b : goal.invariant-loop-b
 invariant-loop-b l = AddsSquares l.plan l.initial.lists.items l.lists.items
-    (HasPlacedSquare (take l.b-index l.boxes) l.placing l.layer l.origin)
+    (HasPlacedSquare (take l.b-index l.boxes) l.shape)

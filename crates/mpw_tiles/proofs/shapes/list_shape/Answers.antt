@@ -1,4 +1,3 @@
-use Rattle.std.proofs.Common.{◌∙◌, sym}
 use Rattle.mpw_walk.specs.Way.{item_of}
 use Rattle.mpw_tiles.specs.Internal.Listing.{HasPlacedSquare}
 use Rattle.mpw_tiles.specs.Shown.{ShowsSquare}
@@ -12,8 +11,8 @@ returns c =
     let boxes = c.in_ok-boxes.boxes.items in
     record {
       ok = adds_same c.args.plan.now c.args.lists.now.items c.list_boxes.new.lists.items
-          (HasPlacedSquare boxes item.placing c.in-Some.layer item.origin) (ShowsSquare item)
-          (λ tile s layer origin u w. boxes_show item boxes c.in-Some.layer
-          (sym c.layer_of.ensures ∙ c.in-Some.is) c.in_ok-boxes.ensures.squares layer origin s)
+          (HasPlacedSquare boxes c.in-Some.shape) (ShowsSquare item)
+          (λ tile s layer origin u w. boxes_show item boxes c.in-Some.shape
+          c.in-Some.ensures.some c.in_ok-boxes.ensures.squares layer origin s)
           (rw c.as_slice.ensures.value at c.in_ok-list_boxes.ensures.ok);
     }
