@@ -33,4 +33,4 @@ pub use laws::{
     the_trail_has_each_request, unknown_users_are_denied_like_wrong_tokens,
     waivers_are_signed_apart, waivers_go_with_their_run, what_is_not_kept_leaves_the_run,
 };
-pub use shared::{Shared, SharedCut, SharedRunReply, SharedTile};
+pub use shared::{SharedCut, SharedRunReply, SharedTile};

@@ -1,16 +1,7 @@
 //! What is large in events and responses, shared by their copies.
-ghost use Rattle.std.specs.Prelude.{◌≡◌, IfOk};
-
 use mpw_job::{CutAnswer, TileAnswer};
+use mpw_lists::Shared;
 use mpw_run::RunReply;
-use std::alloc::{AllocError, Global};
-use std::marker::Model;
-use std::sync::Arc;
-
-/// A value that copies share. Contracts see the value.
-pub struct Shared<T> {
-    item: Arc<T>,
-}
 
 /// The windows of a cut, which copies share.
 pub type SharedCut = Shared<CutAnswer>;
@@ -20,55 +11,3 @@ pub type SharedTile = Shared<TileAnswer>;
 
 /// The run's reply to an event, which copies share.
 pub type SharedRunReply = Shared<RunReply>;
-
-impl<T: Drop> Drop for Shared<T> {
-    fn drop(self) {
-        let Shared { item } = self;
-        drop(item);
-    }
-}
-
-impl<T> Model for Shared<T> {
-    ghost Value = { T };
-
-    ghost view = { λ shared. shared.item.value };
-}
-
-impl<T: Drop> Shared<T> {
-    /// The value, to be shared. One allocation.
-    ///
-    /// # Errors
-    /// Where there is no room for it.
-    pub fn new(alloc: Global, item: T) -> Result<Shared<T>, AllocError>
-        ensures { IfOk result (λ shared. shared ≡ item) }
-    {
-        let item = Arc::new(alloc, item)?;
-        Ok(Shared { item })
-    }
-
-    /// The value itself.
-    pub fn get(&self) -> &T
-        ensures { result.now ≡ self.now }
-    {
-        &self.item
-    }
-
-    /// The same value, in constant time and without further memory.
-    ///
-    /// # Errors
-    /// Where no more copies can be counted.
-    pub fn copy(&self) -> Result<Shared<T>, AllocError>
-        ensures { IfOk result (λ shared. shared ≡ self.now) }
-    {
-        let item = self.item.clone()?;
-        Ok(Shared { item })
-    }
-}
-
-impl<T: Drop> Clone for Shared<T> {
-    ghost is_clone = { λ shared copy. copy ≡ shared };
-
-    fn clone(&self) -> Result<Shared<T>, AllocError> {
-        self.copy()
-    }
-}

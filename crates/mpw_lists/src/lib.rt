@@ -1,11 +1,14 @@
-//! Lists that contracts see as the list of their items, and their comparison by value.
+//! Values and lists that copies share, and comparison by value.
 //!
-//! A [`SharedList`] is a vector whose copies share it. Items that can be compared are [`Same`], and [`are_same`] compares
-//! slices of them.
+//! A [`Shared`] is a value whose copies share it, and contracts see that value; a [`SharedList`] is a vector whose copies share
+//! it, and contracts see the list of its items. Items that can be compared are [`Same`], and [`are_same`] compares slices of
+//! them.
 #![tactic(auto)]
 
 mod same;
 mod shared;
+mod value;
 
 pub use same::{Same, are_same};
 pub use shared::SharedList;
+pub use value::Shared;

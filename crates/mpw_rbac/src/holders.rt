@@ -16,10 +16,10 @@ use crate::block::Block;
 use crate::grants::Grants;
 use crate::group::{GROUPS, Group, Place};
 use crate::{Grant, Object, Operation};
+use mpw_lists::Shared;
 use mpw_roles::{Mask, Roles};
 use std::alloc::{AllocError, Global};
 use std::marker::Model;
-use std::sync::Arc;
 
 /// The number of operations.
 const OPERATIONS: usize = 11;
@@ -159,70 +159,33 @@ impl Holders {
 }
 
 /// The holders of one operation, which copies of the policy share.
-pub(crate) struct SharedHolders {
-    holders: Arc<Holders>,
+pub(crate) type SharedHolders = Shared<Holders>;
+
+/// The places of the roles that were granted the operation on the object.
+pub(crate) fn places_of(shared: &SharedHolders, object: &Object) -> Mask
+    ensures { (place : ℕ) → has result place ≡ holds shared.now object.now place }
+{
+    shared.get().of(object)
 }
 
-impl Drop for SharedHolders {
-    fn drop(self) {
-        let SharedHolders { holders } = self;
-        drop(holders);
+/// The holders of the operation with that place among all, after one grant more or less: buckets of their own where
+/// the grant is of the operation, and the same holders otherwise.
+fn after(
+    shared: &SharedHolders,
+    roles: &Roles,
+    operation: usize,
+    grant: &Grant,
+    more: bool,
+) -> Result<SharedHolders, AllocError>
+    ensures { IfOk result (λ next. IsHeldAfter more (role_names roles.now) grant.now operation shared.now next) }
+{
+    if operation != index(grant.operation) {
+        let same = shared.copy()?;
+        return Ok(same);
     }
-}
-
-impl Model for SharedHolders {
-    ghost use Rattle.mpw_rbac.specs.Internal.Holders.{Buckets};
-
-    ghost Value = { Buckets };
-
-    ghost view = { λ shared. shared.holders.value };
-}
-
-impl SharedHolders {
-    /// These holders.
-    fn new(alloc: Global, holders: Holders) -> Result<SharedHolders, AllocError>
-        ensures { IfOk result (λ shared. shared ≡ holders) }
-    {
-        Ok(SharedHolders {
-            holders: Arc::new(alloc, holders)?,
-        })
-    }
-
-    /// The places of the roles that were granted the operation on the object.
-    pub(crate) fn of(&self, object: &Object) -> Mask
-        ensures { (place : ℕ) → has result place ≡ holds self.now object.now place }
-    {
-        self.holders.of(object)
-    }
-
-    /// The same holders: one count.
-    fn copy(&self) -> Result<SharedHolders, AllocError>
-        ensures { IfOk result (λ shared. shared ≡ self.now) }
-    {
-        Ok(SharedHolders {
-            holders: self.holders.clone()?,
-        })
-    }
-
-    /// The holders of the operation with that place among all, after one grant more or less: buckets of their own where
-    /// the grant is of the operation, and the same holders otherwise.
-    fn after(
-        &self,
-        roles: &Roles,
-        operation: usize,
-        grant: &Grant,
-        more: bool,
-    ) -> Result<SharedHolders, AllocError>
-        ensures { IfOk result (λ next. IsHeldAfter more (role_names roles.now) grant.now operation self.now next) }
-    {
-        if operation != index(grant.operation) {
-            let same = self.copy()?;
-            return Ok(same);
-        }
-        let mut holders = self.holders.copy()?;
-        holders.change(roles, operation, grant, more)?;
-        SharedHolders::new(roles.allocator(), holders)
-    }
+    let mut holders = shared.get().copy()?;
+    holders.change(roles, operation, grant, more)?;
+    Shared::new(roles.allocator(), holders)
 }
 
 /// The holders of each operation after one grant more or less. Those of other operations stay shared.
@@ -237,7 +200,7 @@ pub(crate) fn holders_after(
 {
     let mut next = Vec::with_capacity(roles.allocator(), OPERATIONS)?;
     for operation in 0..OPERATIONS {
-        next.push(all[operation].after(roles, operation, grant, more)?)?;
+        next.push(after(&all[operation], roles, operation, grant, more)?)?;
     }
     Ok(next)
 }
@@ -297,7 +260,7 @@ fn shared_holders_of(
 ) -> Result<SharedHolders, AllocError>
     ensures { IfOk result (λ holders. IsHeld (role_names roles.now) granted.now operation holders) }
 {
-    SharedHolders::new(alloc, holders_of(alloc, roles, granted, operation)?)
+    Shared::new(alloc, holders_of(alloc, roles, granted, operation)?)
 }
 
 /// The holders of each operation. A pass over the grants for each.

@@ -18,7 +18,7 @@ ghost use Rattle.mpw_rbac.specs.Policy.{is_granted_to};
 ghost use Rattle.mpw_rbac.specs.Rows.{ungranted};
 
 use crate::grants::Grants;
-use crate::holders::{SharedHolders, all_holders, holders_after, index};
+use crate::holders::{SharedHolders, all_holders, holders_after, index, places_of};
 use crate::{Grant, Object, Operation};
 use mpw_geom::Name;
 use mpw_roles::{Mask, Roles};
@@ -127,7 +127,7 @@ impl Permissions {
             return false;
         };
         let operation = index(grant.operation);
-        self.holders[operation].of(&grant.object).contains(place)
+        places_of(&self.holders[operation], &grant.object).contains(place)
     }
 
     /// Whether the operation on the object was granted to one of the roles of a mask: a look-up, and an `and` of eight
@@ -136,7 +136,7 @@ impl Permissions {
         ensures { (seniors : List (List ℕ)) → ((place : ℕ) → has roles.now place ≡ is_place_below self.now.roles seniors place) → result ≡ list_any (is_granted_to (roles_below self.now.roles seniors) operation object.now) self.now.granted }
     {
         let place = index(operation);
-        self.holders[place].of(object).meets(roles)
+        places_of(&self.holders[place], object).meets(roles)
     }
 
     /// The grants with other roles: the same ones in their order, and maybe one more that goes last. The masks stay, since they

@@ -13,66 +13,22 @@ ghost use Rattle.mpw_rbac.specs.declared.session.User.{User as UserState};
 
 use crate::User;
 use mpw_geom::{Name, Names};
+use mpw_lists::Shared;
 use mpw_roles::Register;
 use std::alloc::{AllocError, Global};
 use std::marker::Model;
-use std::sync::Arc;
 
 /// What is known of a user, which copies share.
-pub(crate) struct SharedUser {
-    user: Arc<User>,
-}
+pub(crate) type SharedUser = Shared<User>;
 
-impl Drop for SharedUser {
-    fn drop(self) {
-        let SharedUser { user } = self;
-        drop(user);
-    }
-}
-
-impl Model for SharedUser {
-    ghost use Rattle.mpw_rbac.specs.declared.session.User.{User};
-
-    ghost Value = { User };
-
-    ghost view = { λ shared. shared.user.value };
-}
-
-impl SharedUser {
-    /// That user.
-    fn new(alloc: Global, user: User) -> Result<SharedUser, AllocError>
-        ensures { IfOk result (λ shared. shared ≡ user) }
-    {
-        Ok(SharedUser {
-            user: Arc::new(alloc, user)?,
-        })
-    }
-
-    /// The user.
-    fn get(&self) -> &User
-        ensures { result.now ≡ self.now }
-    {
-        &self.user
-    }
-
-    /// The same user: one count.
-    fn copy(&self) -> Result<SharedUser, AllocError>
-        ensures { IfOk result (λ shared. shared ≡ self.now) }
-    {
-        Ok(SharedUser {
-            user: self.user.clone()?,
-        })
-    }
-
-    /// The user without an assignment.
-    fn without_assignment(&self, alloc: Global, role: &Name) -> Result<SharedUser, AllocError>
-        ensures { IfOk result (λ shared. shared ≡ record self.now { roles = without_name self.now.roles role.now }) }
-    {
-        let mut roles = self.user.roles.copy()?;
-        roles.remove(role);
-        let digest = self.user.digest;
-        SharedUser::new(alloc, User { digest, roles })
-    }
+/// The user without an assignment.
+fn without_assignment(alloc: Global, user: &User, role: &Name) -> Result<SharedUser, AllocError>
+    ensures { IfOk result (λ shared. shared ≡ record user.now { roles = without_name user.now.roles role.now }) }
+{
+    let mut roles = user.roles.copy()?;
+    roles.remove(role);
+    let digest = user.digest;
+    Shared::new(alloc, User { digest, roles })
 }
 
 /// Users in the order in which they were added.
@@ -121,7 +77,7 @@ fn values_without_assignments(
 {
     let mut copy = Vec::with_capacity(alloc, values.len())?;
     for value in values {
-        copy.push(value.without_assignment(alloc, role)?)?;
+        copy.push(without_assignment(alloc, value.get(), role)?)?;
     }
     Ok(copy)
 }
@@ -226,7 +182,7 @@ impl Roster {
     pub(crate) fn with(&self, alloc: Global, user: Name, value: User) -> Result<Roster, AllocError>
         ensures { IfOk result (λ roster. roster ≡ insert_entry name_eq self.now user value) }
     {
-        let value = SharedUser::new(alloc, value)?;
+        let value = Shared::new(alloc, value)?;
         let mut names = self.names.copy()?;
         let mut values = copy_of_values(alloc, &self.values)?;
         put(alloc, &mut names, &mut values, user, value)?;

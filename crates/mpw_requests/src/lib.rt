@@ -10,7 +10,7 @@ mod wafer;
 
 pub use layouts::LayoutRequest;
 pub use policy::PolicyRequest;
-pub use request::{Request, SharedRequest};
+pub use request::{Request, SharedRequest, kept_request};
 pub use run::RunRequest;
 pub use sign_off::{MarkerName, SignOffRequest};
 pub use wafer::WaferRequest;

@@ -8,10 +8,10 @@ ghost use Rattle.mpw_separation.specs.Separation.{breaks, is_reached, has_role};
 ghost use Rattle.mpw_separation.specs.Set.{are_distinct, formed, has_form};
 
 use mpw_geom::{Name, Names};
+use mpw_lists::Shared;
 use mpw_roles::{Below, Mask};
 use std::alloc::AllocError;
 use std::marker::Model;
-use std::sync::Arc;
 
 /// What a set holds for.
 #[derive(Clone, Copy, Debug, PartialEq, Eq)]
@@ -22,68 +22,12 @@ pub enum Kind {
     Dynamic,
 }
 
-/// The roles of a set, which its copies share.
-struct SharedRoles {
-    names: Arc<Names>,
-}
-
-impl Drop for SharedRoles {
-    fn drop(self) {
-        let SharedRoles { names } = self;
-        drop(names);
-    }
-}
-
-impl Model for SharedRoles {
-    ghost use Rattle.std.specs.Prelude.{ℕ, List};
-
-    ghost Value = { List (List ℕ) };
-
-    ghost view = { λ shared. shared.names.value };
-}
-
-impl SharedRoles {
-    /// These roles. One allocation.
-    fn new(names: Names) -> Result<SharedRoles, AllocError>
-        ensures { IfOk result (λ shared. shared ≡ names) }
-    {
-        let items = names.into_vec();
-        let alloc = *items.allocator();
-        Ok(SharedRoles {
-            names: Arc::new(alloc, Names::from_vec(items))?,
-        })
-    }
-
-    /// The roles as a slice.
-    fn as_slice(&self) -> &[Name]
-        ensures { result.now ≡ self.now }
-    {
-        self.names.as_slice()
-    }
-
-    /// Whether the role is one of them.
-    fn contains(&self, role: &Name) -> bool
-        ensures { result ≡ contains_name self.now role.now }
-    {
-        self.names.contains(role)
-    }
-
-    /// The same roles: one count.
-    fn copy(&self) -> Result<SharedRoles, AllocError>
-        ensures { IfOk result (λ shared. shared ≡ self.now) }
-    {
-        Ok(SharedRoles {
-            names: self.names.clone()?,
-        })
-    }
-}
-
 /// Roles of which nobody may have `cardinality` or more. The cardinality is from 2 to the number of the roles, and no role
 /// stands twice.
 pub struct SeparationSet {
     name: Name,
     cardinality: usize,
-    roles: SharedRoles,
+    roles: Shared<Names>,
 }
 
 impl Drop for SeparationSet {
@@ -118,6 +62,15 @@ fn are_distinct(names: &Names) -> Result<bool, AllocError>
     Ok(sorted.as_slice().len() == names.as_slice().len())
 }
 
+/// The names, which copies share. One allocation.
+fn shared_names(names: Names) -> Result<Shared<Names>, AllocError>
+    ensures { IfOk result (λ shared. shared ≡ names) }
+{
+    let items = names.into_vec();
+    let alloc = *items.allocator();
+    Shared::new(alloc, Names::from_vec(items))
+}
+
 impl SeparationSet {
     /// The set of that name, cardinality and roles, and `None` where the cardinality isn't from 2 to the number of the
     /// roles, or a role stands twice. It costs n log n comparisons.
@@ -134,7 +87,7 @@ impl SeparationSet {
         if cardinality < 2 || cardinality > roles.as_slice().len() || !are_distinct(&roles)? {
             return Ok(None);
         }
-        let roles = SharedRoles::new(roles)?;
+        let roles = shared_names(roles)?;
         Ok(Some(SeparationSet {
             name,
             cardinality,
@@ -174,7 +127,7 @@ impl SeparationSet {
         ensures roles { result.now ≡ self.now.roles }
         ensures form { has_form self.now ≡ true }
     {
-        self.roles.as_slice()
+        self.roles.get().as_slice()
     }
 
     /// The same set: a count for its name, and one for its roles.
@@ -199,6 +152,7 @@ impl SeparationSet {
     {
         let count = self
             .roles
+            .get()
             .as_slice()
             .iter()
             .filter(
@@ -222,7 +176,7 @@ impl SeparationSet {
     pub(crate) fn has_role(&self, role: &Name) -> bool
         ensures { result ≡ has_role role.now self.now }
     {
-        self.roles.contains(role)
+        self.roles.get().contains(role)
     }
 }
 

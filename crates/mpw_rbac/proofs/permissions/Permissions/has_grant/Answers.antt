@@ -37,7 +37,7 @@ returns c =
     let found : Some i ≡ position (name_eq g.role) names = c.in-Some.ensures.place
     ∙ ap (λ (h : Hierarchy). position (name_eq g.role) (role_names h)) c.deref.ensures in
     c.contains.ensures
-    ∙ c.of.ensures i
+    ∙ c.places_of.ensures i
     ∙ ap (λ t. holds t g.object i) table
     ∙ (c.self.invariant.0.exact k c.index-operation.ensures.within).exact g.object i
     ∙ granted-bit names in'.granted g k i c.index-operation.ensures.index found

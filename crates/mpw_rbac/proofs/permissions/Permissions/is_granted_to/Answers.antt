@@ -26,13 +26,13 @@ returns c = λ seniors acts.
     let table : c.index.result.now ≡ get_or tables k [] = c.index.ensures
     ∙ ap (λ t. get_or t.items k c.index.result.now) c.deref.ensures
     ∙ there tables k c.index.result.now [] within in
-    let holding : (q : ℕ) → has c.of.result q ≡ is_place_granted (role_names h) granted
+    let holding : (q : ℕ) → has c.places_of.result q ≡ is_place_granted (role_names h) granted
     (operation_index op) object q = λ q.
-    c.of.ensures q
+    c.places_of.ensures q
     ∙ ap (λ t. holds t object q) table
     ∙ (c.self.invariant.0.exact k c.index-place.ensures.within).exact object q
     ∙ ap (λ i. is_place_granted (role_names h) granted i object q) c.index-place.ensures.index in
-    meets-granted h granted seniors op object c.args.roles.now c.of.result c.meets.result
+    meets-granted h granted seniors op object c.args.roles.now c.places_of.result c.meets.result
     (λ q. acts q ∙ ap (λ (p : Permissions). is_place_below p.roles seniors q) (sym c.self.view_is))
     holding c.meets.ensures.some c.meets.ensures.none
     ∙ ap (λ (p : Permissions). list_any (is_granted_to (roles_below p.roles seniors) op object)
