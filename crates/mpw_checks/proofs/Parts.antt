@@ -4,14 +4,13 @@ use Rattle.std.specs.Prelude.{◌↔◌}
 use Rattle.std.proofs.lemmas.Int.{ints, clamps}
 use Rattle.std.proofs.lemmas.List.{take_more, take_all}
 use Rattle.mpw_geom.specs.declared.plane.Box2.{Box2}
-use Rattle.mpw_geom.specs.Plane.{HasArea}
+use Rattle.mpw_geom.specs.Plane.{HasArea, intersection}
 use Rattle.mpw_geom.proofs.Squares.{any_has_square-same, no_box}
 use Rattle.mpw_region.specs.Squares.{covers}
 use Rattle.mpw_region.specs.Internal.Swept.{HoldsSquare, IsCovered}
 use Rattle.mpw_region.proofs.Held.{Held-nil, Held-push_left, Held-push_new, Held-push_cases}
 use Rattle.mpw_region.proofs.Sweeping.{in_some, from_some}
 use Rattle.mpw_edges.specs.Laws.{AreSameIn}
-use Rattle.mpw_checks.specs.Internal.Cells.{part_of}
 
 -- the list has just the squares of the boxes in the window
 pub record ArePartsOf (window : Box2) (boxes list : List Box2) : Type 0 where
@@ -83,7 +82,7 @@ same_in_window window boxes list n l h i j a b c d =
     (λ s. in_some list i j ((told.squares i j).1 (from_some boxes i j s, (a, b, c, d))))
     (λ s. in_some boxes i j ((told.squares i j).0 (from_some list i j s)).0)
 
-pub part_squares : (b window : Box2) (i j : ℤ) → HoldsSquare (part_of b window) i j
+pub part_squares : (b window : Box2) (i j : ℤ) → HoldsSquare (intersection b window) i j
     ↔ (HoldsSquare b i j × HoldsSquare window i j)
 part_squares b window i j = (
   λ h. (
@@ -108,7 +107,7 @@ part_squares b window i j = (
   ),
 )
 
-pub part_is : (b window part : Box2) → part ≡ part_of b window → (i j : ℤ) → HoldsSquare part i j
+pub part_is : (b window part : Box2) → part ≡ intersection b window → (i j : ℤ) → HoldsSquare part i j
     ↔ (HoldsSquare b i j × HoldsSquare window i j)
 part_is b window part e i j = subst (λ (x : Box2). HoldsSquare x i j
     ↔ (HoldsSquare b i j × HoldsSquare window i j)) (sym e) (part_squares b window i j)

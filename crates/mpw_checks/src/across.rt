@@ -97,7 +97,11 @@ pub(crate) fn are_many(boxes: &[Box2], window: &Box2) -> bool {
 
 /// The squares of the boxes, by boxes of which no two that reach across the window overlap or
 /// touch. A sort of their rows.
-pub(crate) fn merged(alloc: Global, boxes: &[Box2], window: &Box2) -> Result<Vec<Box2>, AllocError>
+pub(crate) fn merge_across(
+    alloc: Global,
+    boxes: &[Box2],
+    window: &Box2,
+) -> Result<Vec<Box2>, AllocError>
     ensures { IfOk result (λ v. (i j : ℤ) → covers v.items i j ≡ covers boxes.now i j) }
 {
     let Apart { within, across } = separate(alloc, boxes, window)?;

@@ -12,7 +12,7 @@ ghost use Rattle.mpw_region.specs.Squares.{covers};
 ghost use Rattle.mpw_deck.specs.declared.rule.Rule.{Rule as RuleValue};
 ghost use Rattle.mpw_edges.specs.declared.run.Axis.TheVariants.{V, H};
 ghost use Rattle.mpw_edges.specs.declared.run.Piece.{Piece as PieceValue};
-ghost use Rattle.mpw_edges.specs.Pieces.{IsPiece, ComesBefore, exchanged_box};
+ghost use Rattle.mpw_edges.specs.Pieces.{IsPiece, ComesBefore};
 ghost use Rattle.mpw_checks.specs.Internal.Cells.{StepsIn};
 ghost use Rattle.mpw_checks.specs.Strips.{IsStrip, FindsIn, AreStrips};
 ghost use Rattle.mpw_checks.specs.Internal.Strips.{AddsStrips};
@@ -22,7 +22,7 @@ use crate::strips::{Strip, Strips, pieces_in};
 use mpw_deck::Rule;
 use mpw_edges::Piece;
 use mpw_geom::Box2;
-use mpw_region::{exchange, row_bands};
+use mpw_region::{exchange, exchanged_box, row_bands};
 use std::alloc::{AllocError, Global};
 
 /// Halvings of a core.
@@ -94,18 +94,6 @@ fn along_rows(
     let mut strips = Vec::new(alloc);
     add_core(alloc, &mut strips, &layers, core, distance, MAX_DEPTH)?;
     Ok(strips)
-}
-
-/// The box with its coordinates exchanged.
-fn exchanged_box(b: &Box2) -> Box2
-    ensures { result ≡ exchanged_box b.now }
-{
-    Box2 {
-        x0: b.y0,
-        y0: b.x0,
-        x1: b.y1,
-        y1: b.x1,
-    }
 }
 
 /// The strips of a core along columns, for rules up to that distance.

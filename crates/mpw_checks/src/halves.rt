@@ -1,20 +1,20 @@
 //! Halves of a core, and the parts of rectangles in a window.
 
-ghost use Rattle.std.specs.Prelude.{◌≡◌, IfOk, MatchBool};
-ghost use Rattle.mpw_geom.specs.Plane.{IsBoxInPlane, HasArea};
+ghost use Rattle.std.specs.Prelude.{◌≡◌, IfOk};
+ghost use Rattle.mpw_geom.specs.Plane.{IsBoxInPlane};
 ghost use Rattle.mpw_checks.specs.Internal.Cells.{
   window_of,
   left_of,
   right_of,
-  part_of,
   IsMiddle,
   AreHalves,
   AreAlikeIn,
 };
 
-use crate::across::{are_many, merged};
+use crate::across::{are_many, merge_across};
 use crate::load::Load;
 use mpw_geom::{Box2, Point};
+use mpw_region::has_area;
 use std::alloc::{AllocError, Global};
 
 /// The rectangles of both layers in a window, and how much work they are.
@@ -89,32 +89,13 @@ pub(crate) fn halves(core: &Box2, extent: &Box2) -> (Box2, Box2)
     columns(core, at)
 }
 
-/// The part of the box in the window.
-fn part(b: &Box2, window: &Box2) -> Box2
-    ensures { result ≡ part_of b.now window.now }
-{
-    Box2 {
-        x0: b.x0.max(window.x0),
-        y0: b.y0.max(window.y0),
-        x1: b.x1.min(window.x1),
-        y1: b.y1.min(window.y1),
-    }
-}
-
-/// Whether the box has squares.
-fn has_area(b: &Box2) -> bool
-    ensures { MatchBool result (HasArea b.now) (HasArea b.now → ⊥) }
-{
-    b.x0 < b.x1 && b.y0 < b.y1
-}
-
 /// The parts of the boxes in the window, and how much work they are. Two passes.
 fn parts(alloc: Global, boxes: &[Box2], window: &Box2) -> Result<Loaded, AllocError>
     ensures { IfOk result (λ s. AreAlikeIn window.now boxes.now s.boxes.items) }
 {
     let mut found = Vec::with_capacity(alloc, boxes.len())?;
     for b in boxes {
-        let part = part(b, window);
+        let part = b.intersection(*window);
         if has_area(&part) {
             found.push(part)?;
         }
@@ -124,14 +105,14 @@ fn parts(alloc: Global, boxes: &[Box2], window: &Box2) -> Result<Loaded, AllocEr
 }
 
 /// The boxes as far as the window has them, few of them from side to side of all.
-fn seen(alloc: Global, boxes: &[Box2], window: &Box2) -> Result<Loaded, AllocError>
+fn merged_parts(alloc: Global, boxes: &[Box2], window: &Box2) -> Result<Loaded, AllocError>
     ensures { IfOk result (λ s. AreAlikeIn window.now boxes.now s.boxes.items) }
 {
     let parts = parts(alloc, boxes, window)?;
     if !are_many(parts.boxes.as_slice(), &parts.load.extent) {
         return Ok(parts);
     }
-    let boxes = merged(alloc, parts.boxes.as_slice(), &parts.load.extent)?;
+    let boxes = merge_across(alloc, parts.boxes.as_slice(), &parts.load.extent)?;
     let load = Load::of(boxes.as_slice());
     Ok(Loaded { boxes, load })
 }
@@ -149,8 +130,8 @@ pub(crate) fn in_window(
     ensures second { IfOk result (λ l. AreAlikeIn (window_of core.now distance) second.now l.second.items) }
 {
     let window = window(core, distance);
-    let first = seen(alloc, first, &window)?;
-    let second = seen(alloc, second, &window)?;
+    let first = merged_parts(alloc, first, &window)?;
+    let second = merged_parts(alloc, second, &window)?;
     let load = first.load.with(&second.load);
     Ok(Layers {
         first: first.boxes,

@@ -56,7 +56,7 @@ fn fill_each(
 }
 
 /// The items below a median along one side of the box around them, it, and the others.
-fn divided<'a>(
+fn parts_at_median<'a>(
     items: &'a mut [Item],
     around: &Box2,
 ) -> (&'a mut [Item], &'a mut Item, &'a mut [Item])
@@ -82,7 +82,7 @@ fn halves(
         Contains items.items i ↔ (Contains r.0.items i ⊎ Contains r.1.items i)) }
 {
     let mut items = items;
-    let (low, median, high) = divided(items.as_mut_slice(), around);
+    let (low, median, high) = parts_at_median(items.as_mut_slice(), around);
     let low = Vec::from_slice(alloc, low)?;
     let mut rest = Vec::with_capacity(alloc, high.len().saturating_add(1))?;
     rest.push(*median)?;

@@ -23,7 +23,9 @@ use Rattle.mpw_picture.specs.Drawn.{LiesIn, ShowShapes}
 use Rattle.mpw_picture.specs.Internal.Adding.{AddsIn}
 use Rattle.mpw_tiles.specs.Placed.{IsSquareInPlane}
 use Rattle.mpw_tiles.proofs.Added.{either, none_more, next_more, same_more}
-use Rattle.mpw_tiles.proofs.Showing.{rectangle_of}
+
+abbrev pub rectangle_of : Box2 → Layer → ℕ → Rectangle
+rectangle_of area own number = record { area = area; layer = own; origin = number }
 
 -- the same in the window
 abbrev pub AgreeIn : Box2 → (Layer → ℕ → Square → Type 0) → (Layer → ℕ → Square → Type 0) → Type 0

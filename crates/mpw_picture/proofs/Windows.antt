@@ -4,7 +4,8 @@ use Rattle.std.specs.Prelude.{◌-ℤ◌, ◌+ℤ◌, pos}
 use Rattle.std.proofs.lemmas.Int.{ints, clamps}
 use Rattle.mpw_geom.specs.declared.plane.Box2.{Box2}
 use Rattle.mpw_geom.specs.Plane.{IsCoordinate, IsBoxInPlane}
-use Rattle.mpw_picture.specs.Windows.{nearest, widened}
+use Rattle.mpw_tiles.specs.Placed.{nearest}
+use Rattle.mpw_picture.specs.Windows.{widened}
 
 nearest_lies : (z : ℤ) → IsCoordinate (nearest z)
 nearest_lies z = record { low = omega (arith, ints, clamps); high = omega (arith, ints, clamps) }

@@ -1,16 +1,12 @@
 -- The windows of pictures, in nm: round a marker, and round all that is checked. They lie in the plane of coordinates from -2^48
 -- to 2^48.
-use Rattle.std.specs.Prelude.{ℕ, ◌+◌, ◌*◌, ◌/◌, ◌^◌, max, ℤ, pos, neg_ℤ, ◌+ℤ◌, ◌-ℤ◌, unsigned_abs, List, Option, Some, None}
-use Rattle.std.specs.Int.{int_min, int_max}
+use Rattle.std.specs.Prelude.{ℕ, ◌+◌, ◌*◌, ◌/◌, max, ℤ, pos, ◌+ℤ◌, ◌-ℤ◌, unsigned_abs, List, Option, Some, None}
 use Rattle.mpw_geom.specs.declared.plane.Box2.{Box2}
 use Rattle.mpw_deck.specs.declared.rule.Rule.{Rule}
 use Rattle.mpw_markers.specs.declared.marker.Marker.{Marker}
 use Rattle.mpw_markers.specs.Markers.{box_of}
+use Rattle.mpw_tiles.specs.Placed.{nearest}
 use Rattle.mpw_tiles.specs.Plan.{greatest_distance}
-
--- the coordinate, or the nearest one of the plane
-abbrev pub nearest : ℤ → ℤ
-nearest z = int_min (int_max z (neg_ℤ (pos (2 ^ 48)))) (pos (2 ^ 48))
 
 -- a box that is wider by so many nm on each side, as far as the plane goes
 unfoldable pub widened : ℕ → Box2 → Box2

@@ -6,7 +6,7 @@ ghost use Rattle.mpw_writing.specs.Writing.{Adds};
 use crate::colour::layer_colour;
 use crate::mark::put_marks;
 use crate::picture::Picture;
-use crate::size::{breadth, drawing_breadth, drawing_height, height, turned};
+use crate::size::{breadth, corners_of, drawing_breadth, drawing_height, height};
 use itoa::Buffer;
 use mpw_deck::Rule;
 use mpw_geom::Box2;
@@ -22,7 +22,7 @@ const COLOURS: u32 = 12;
 fn put_rectangle<W: Write>(writer: &mut W, window: Box2, rectangle: &Rectangle) -> io::Result<()>
     ensures { Adds W.contents writer.old writer.new result (rectangle_text window rectangle.now) }
 {
-    let corners = turned(window, rectangle.area);
+    let corners = corners_of(window, rectangle.area);
     let mut left = Buffer::new();
     let mut top = Buffer::new();
     let mut across = Buffer::new();

@@ -5,7 +5,7 @@ ghost use Rattle.mpw_writing.specs.Writing.{Adds};
 
 use crate::colour::rule_colour;
 use crate::picture::{Mark, Picture};
-use crate::size::{Corners, line_breadth, turned};
+use crate::size::{Corners, corners_of, line_breadth};
 use itoa::Buffer;
 use mpw_deck::Rule;
 use mpw_geom::Box2;
@@ -49,7 +49,7 @@ fn put_outline<W: Write>(writer: &mut W, place: u32, corners: Corners) -> io::Re
 fn put_mark<W: Write>(writer: &mut W, window: Box2, rule: &Rule, mark: &Mark) -> io::Result<()>
     ensures { Adds W.contents writer.old writer.new result (mark_text window rule.now mark.now) }
 {
-    put_outline(writer, mark.rule, turned(window, mark.area))?;
+    put_outline(writer, mark.rule, corners_of(window, mark.area))?;
     put_name(writer, &rule.name)?;
     put(writer, &["</title></path>\n"])
 }

@@ -1,6 +1,6 @@
 //! The rectangles of shapes in a window: those of each shape that the walk gives, placed, as far as they lie in it.
 
-ghost use Rattle.std.specs.Prelude.{◌≡◌, ◌↔◌, All, IfOk, IsTrue, OnOk};
+ghost use Rattle.std.specs.Prelude.{◌≡◌, All, IfOk, OnOk};
 ghost use Rattle.mpw_elements.specs.Element.{IsElement};
 ghost use Rattle.mpw_geom.specs.Plane.{HasArea, IsBoxInPlane};
 ghost use Rattle.mpw_tiles.specs.Listing.{HasSquareOf};
@@ -11,17 +11,11 @@ ghost use Rattle.mpw_picture.specs.Drawn.{ShowShapes};
 ghost use Rattle.mpw_tiles.specs.Internal.Listing.{HasPlacedSquare};
 ghost use Rattle.mpw_picture.specs.Internal.Adding.{AddsIn};
 
-use mpw_geom::{Box2, Layer, Placing};
-use mpw_tiles::{Rectangle, Snapshot, layer_of, placed_area, squares_lie_in_boxes};
+use mpw_geom::Box2;
+use mpw_region::has_area;
+use mpw_tiles::{PlacedShape, Rectangle, Snapshot, squares_lie_in_boxes};
 use mpw_walk::{Placed, Walk};
 use std::alloc::{AllocError, Global};
-
-/// Whether a box has area.
-fn has_area(area: &Box2) -> bool
-    ensures { IsTrue result ↔ HasArea area.now }
-{
-    (area.x0 < area.x1) & (area.y0 < area.y1)
-}
 
 /// Adds what a rectangle has in the window. An error is want of memory.
 fn add_rectangle(
@@ -42,27 +36,20 @@ fn add_rectangle(
     Ok(())
 }
 
-/// Adds what the boxes, placed, of a layer and an origin have in the window. An error is want of memory.
+/// Adds what the rectangles of a shape's boxes have in the window. An error is want of memory.
 fn add_boxes(
     rectangles: &mut Vec<Rectangle>,
     window: &Box2,
     boxes: &[Box2],
-    placing: &Placing,
-    layer: Layer,
-    origin: u32,
+    shape: &PlacedShape,
 ) -> Result<(), AllocError>
     requires plane { IsBoxInPlane window.now }
     requires area { All HasArea boxes.now }
     ensures ok { OnOk result (AddsIn window.now rectangles.old.items rectangles.new.items
-        (HasPlacedSquare boxes.now placing.now layer origin)) }
+        (HasPlacedSquare boxes.now shape.now)) }
 {
     for b in boxes {
-        let rectangle = Rectangle {
-            area: placed_area(placing, b),
-            layer,
-            origin,
-        };
-        add_rectangle(rectangles, window, &rectangle)?;
+        add_rectangle(rectangles, window, &shape.rectangle(b))?;
     }
     Ok(())
 }
@@ -79,18 +66,11 @@ fn add_shape(
     ensures ok { OnOk result (AddsIn window.now rectangles.old.items rectangles.new.items
         (ShowsSquare (item_of placed.now))) }
 {
-    let Some(layer) = layer_of(placed.element) else {
+    let Some(shape) = PlacedShape::of(placed) else {
         return Ok(());
     };
     let boxes = mpw_shapes::rectangles(alloc, placed.element)?;
-    add_boxes(
-        rectangles,
-        window,
-        boxes.as_slice(),
-        &placed.placing,
-        layer,
-        placed.origin,
-    )?;
+    add_boxes(rectangles, window, boxes.as_slice(), &shape)?;
     Ok(())
 }
 

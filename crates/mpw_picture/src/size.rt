@@ -16,7 +16,7 @@ pub(crate) struct Corners {
 
 /// Where a box of the plane lies in the drawing of a window. It turns y, which points down there.
 #[tactic(auto, unfolding(crate::specs::Sizes::turned))]
-pub(crate) fn turned(window: Box2, area: Box2) -> Corners
+pub(crate) fn corners_of(window: Box2, area: Box2) -> Corners
     ensures { result ≡ turned window area }
 {
     Corners {

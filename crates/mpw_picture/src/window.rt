@@ -1,29 +1,18 @@
 //! Windows of pictures.
 ghost use Rattle.std.specs.Prelude.{◌≡◌, ◌≤◌, ◌<◌, ◌^◌, ◌+ℤ◌, ◌-ℤ◌, pos};
 ghost use Rattle.mpw_geom.specs.Plane.{IsBoxInPlane};
-ghost use Rattle.mpw_tiles.specs.Plan.{greatest_distance};
+ghost use Rattle.mpw_tiles.specs.Placed.{nearest};
 ghost use Rattle.mpw_tiles.specs.Snapshots.{shown_extent};
-ghost use Rattle.mpw_picture.specs.Windows.{nearest, widened, marker_window, around, whole_window};
+ghost use Rattle.mpw_picture.specs.Windows.{widened, marker_window, around, whole_window};
 
 use crate::size::longer_side;
 use mpw_deck::Rule;
 use mpw_geom::Box2;
 use mpw_markers::Marker;
-use mpw_tiles::Snapshot;
+use mpw_tiles::{Snapshot, greatest_distance};
 
 /// The farthest coordinate of the plane, in nm.
 const MAX_COORDINATE: i64 = 1 << 48;
-
-/// The greatest distance of the rules, in nm; 0 without rules.
-fn greatest_distance(rules: &[Rule]) -> u32
-    ensures { result ≡ greatest_distance rules.now }
-{
-    let mut greatest = 0u32;
-    for rule in rules {
-        greatest = greatest.max(rule.distance);
-    }
-    greatest
-}
 
 /// A coordinate so many nm below another, or the nearest of the plane.
 fn below(z: i64, by: u64) -> i64
@@ -45,7 +34,7 @@ fn above(z: i64, by: u64) -> i64
 
 /// A box that is wider by so many nm on each side, as far as the plane goes.
 #[tactic(auto, unfolding(crate::specs::Windows::widened))]
-fn widened(area: &Box2, by: u64) -> Box2
+fn wider_box(area: &Box2, by: u64) -> Box2
     ensures { result ≡ widened by area.now }
 {
     Box2 {
@@ -63,7 +52,7 @@ pub fn marker_window(rules: &[Rule], marker: &Marker) -> Box2
     ensures plane { IsBoxInPlane result }
 {
     let distance = u64::from(greatest_distance(rules));
-    widened(&marker.closed_box(), 20 * distance)
+    wider_box(&marker.closed_box(), 20 * distance)
 }
 
 /// The box wider by a twentieth of its longer side, and 1 nm.
@@ -71,7 +60,7 @@ fn around(area: &Box2) -> Box2
     ensures window { result ≡ around area.now }
     ensures plane { IsBoxInPlane result }
 {
-    widened(area, longer_side(*area) / 20 + 1)
+    wider_box(area, longer_side(*area) / 20 + 1)
 }
 
 /// The window round all shapes of a snapshot, in nm: the least box that holds them, wider on each side by a twentieth of its

@@ -1,6 +1,5 @@
 -- A core in two halves, left and right, and what is found in each.
 use Rattle.std.specs.Prelude.{◌+◌, ℕ, ℤ, ◌≤ℤ◌, List, ◌⊎◌, ◌↔◌}
-use Rattle.std.specs.Int.{int_min, int_max}
 use Rattle.mpw_geom.specs.declared.plane.Point.{Point}
 use Rattle.mpw_geom.specs.declared.plane.Box2.{Box2}
 use Rattle.mpw_region.specs.declared.runs.Line.{Line}
@@ -34,15 +33,6 @@ right_of core at = record { x0 = at.x; y0 = core.y0; x1 = core.x1; y1 = core.y1 
 pub record IsMiddle (core : Box2) (at : Point) : Type 0 where
   pub column : at.x ≤ℤ core.x1
   pub columns : (z : ℤ) → z ≤ℤ core.x0 → z ≤ℤ core.x1 → z ≤ℤ at.x
-
--- the part of the box in the window
-abbrev pub part_of : Box2 → Box2 → Box2
-part_of b window = record {
-  x0 = int_max b.x0 window.x0;
-  y0 = int_max b.y0 window.y0;
-  x1 = int_min b.x1 window.x1;
-  y1 = int_min b.y1 window.y1;
-}
 
 -- the halves have just the points of the core
 abbrev pub AreHalves : Box2 → Box2 → Box2 → Type 0

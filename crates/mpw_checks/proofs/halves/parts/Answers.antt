@@ -12,12 +12,12 @@ loop-b-preserved c =
       | then-has_area+in_ok-push w ↦
           rw (w.found-is, w.in_ok-push.ensures.items)
           (ArePartsOf-push c.args.window.now c.args.boxes.now c.loop-b.found.items
-          c.loop-b.b-index c.part-part.result c.loop-b-test.true c.loop-b.invariant
-          (part_is _ c.args.window.now c.part-part.result c.part-part.ensures))
+          c.loop-b.b-index c.intersection-part.result c.loop-b-test.true c.loop-b.invariant
+          (part_is _ c.args.window.now c.intersection-part.result c.intersection-part.ensures))
       | else-has_area w ↦
           rw w.found-is (ArePartsOf-skip c.args.window.now c.args.boxes.now c.loop-b.found.items
-          c.loop-b.b-index c.part-part.result c.loop-b-test.true c.loop-b.invariant
-          (part_is _ c.args.window.now c.part-part.result c.part-part.ensures)
+          c.loop-b.b-index c.intersection-part.result c.loop-b-test.true c.loop-b.invariant
+          (part_is _ c.args.window.now c.intersection-part.result c.intersection-part.ensures)
           (when_false _ _ w.if-has_area.false c.has_area.ensures))
     ]
 

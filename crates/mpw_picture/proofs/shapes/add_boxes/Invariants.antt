@@ -5,4 +5,4 @@ use Rattle.mpw_picture.proofs.shapes.add_boxes.Given as goal
 
 abbrev pub invariant-loop-b : goal.invariant-loop-b
 invariant-loop-b l = AddsIn l.window l.initial.rectangles.items l.rectangles.items
-    (HasPlacedSquare (take l.b-index l.boxes) l.placing l.layer l.origin)
+    (HasPlacedSquare (take l.b-index l.boxes) l.shape)

@@ -1,5 +1,4 @@
-use Rattle.std.proofs.Common.{◌∙◌, sym}
-use Rattle.std.proofs.lemmas.Bool.{false≢true}
+use Rattle.std.proofs.lemmas.Bool.Decides.{when_true, when_false}
 use Rattle.mpw_picture.proofs.Adding.{adds_missed, adds_pushed}
 use Rattle.mpw_picture.proofs.shapes.add_rectangle.Goals as goal
 
@@ -7,12 +6,12 @@ pub returns-in_ok-push : goal.returns-in_ok-push
 returns-in_ok-push c = record {
   ok = adds_pushed c.args.window.now c.args.rectangle.now c.intersection-area.result
       c.args.rectangles.now.items _ c.intersection-area.ensures
-      (c.has_area.ensures.0 c.if-has_area.true) c.in_ok-push.ensures.items;
+      (when_true _ _ c.if-has_area.true c.has_area.ensures) c.in_ok-push.ensures.items;
 }
 
 pub returns-else-has_area : goal.returns-else-has_area
 returns-else-has_area c = record {
   ok = adds_missed c.args.window.now c.args.rectangle.now c.intersection-area.result
       c.args.rectangles.now.items c.intersection-area.ensures
-      (λ h. false≢true (sym c.if-has_area.false ∙ c.has_area.ensures.1 h));
+      (when_false _ _ c.if-has_area.false c.has_area.ensures);
 }

@@ -1,4 +1,3 @@
-use Rattle.std.proofs.Common.{◌∙◌, sym}
 use Rattle.mpw_walk.specs.Way.{item_of}
 use Rattle.mpw_tiles.specs.Shown.{ShowsSquare}
 use Rattle.mpw_tiles.specs.Internal.Listing.{HasPlacedSquare}
@@ -12,8 +11,8 @@ returns c =
     let boxes = c.in_ok-boxes.boxes.items in
     record {
       ok = adds_same c.args.window.now c.args.rectangles.now.items c.add_boxes.new.rectangles.items
-          (HasPlacedSquare boxes item.placing c.in-Some.layer item.origin) (ShowsSquare item)
-          (λ s layer origin u. boxes_show item boxes c.in-Some.layer
-          (sym c.layer_of.ensures ∙ c.in-Some.is) c.in_ok-boxes.ensures.squares layer origin s)
+          (HasPlacedSquare boxes c.in-Some.shape) (ShowsSquare item)
+          (λ s layer origin u. boxes_show item boxes c.in-Some.shape c.in-Some.ensures.some
+          c.in_ok-boxes.ensures.squares layer origin s)
           (rw c.as_slice.ensures.value at c.in_ok-add_boxes.ensures.ok);
     }

@@ -1,11 +1,10 @@
-use Rattle.std.proofs.Common.{[], ◌∷◌, ◌++◌, refl, sym, ap, ◌∙◌}
-use Rattle.std.proofs.lemmas.List.{append_assoc}
+use Rattle.std.proofs.Common.{[], ◌∷◌, ◌++◌, refl}
 use Rattle.mpw_hier.specs.Items.{Item}
 use Rattle.mpw_region.proofs.Held.{Held-nil}
 use Rattle.mpw_walk.specs.Turns.{given}
 use Rattle.mpw_walk.specs.Way.{item_of}
 use Rattle.mpw_tiles.specs.Shown.{ShowsSquare, IsShown}
-use Rattle.mpw_tiles.proofs.Showing.{shown_more}
+use Rattle.mpw_tiles.proofs.Showing.{given_more, shown_more}
 use Rattle.mpw_picture.proofs.Adding.{adds_none, adds_next}
 use Rattle.mpw_picture.proofs.shapes.add_shapes.Goals as goal
 
@@ -22,8 +21,8 @@ loop-placed-preserved c =
     let done = c.loop-placed.invariant.0 in
     let item = item_of c.in-Some.placed in (
       done ++ item ∷ [],
-      append_assoc done (item ∷ []) (given c.next.new.self.left)
-          ∙ ap (λ rest. done ++ rest) (sym c.in-Some.ensures.some) ∙ c.loop-placed.invariant.1,
+      given_more done (given c.next.new.self.left) _ _ item c.in-Some.ensures.some
+          c.loop-placed.invariant.1,
       adds_next c.args.window.now c.args.rectangles.now.items c.loop-placed.rectangles.items
           c.add_shape.new.rectangles.items (IsShown done) (ShowsSquare item)
           (IsShown (done ++ item ∷ []))

@@ -2,7 +2,7 @@ use Rattle.std.proofs.Common.{◌≡◌, ◌∙◌, List, subst, sym}
 use Rattle.std.specs.Prelude.{ℤ}
 use Rattle.mpw_geom.specs.declared.plane.Box2.{Box2}
 use Rattle.mpw_region.specs.Squares.{covers}
-use Rattle.mpw_checks.proofs.halves.seen.Goals as goal
+use Rattle.mpw_checks.proofs.halves.merged_parts.Goals as goal
 
 pub returns : goal.returns
 returns c = λ i j l u low high.

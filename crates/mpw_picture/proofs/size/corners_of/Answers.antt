@@ -1,7 +1,7 @@
 use Rattle.std.proofs.Common.{rules}
 use Rattle.mpw_picture.specs.Sizes.{turned}
 use Rattle.mpw_picture.proofs.Turned.{difference, same_corners}
-use Rattle.mpw_picture.proofs.size.turned.Goals as goal
+use Rattle.mpw_picture.proofs.size.corners_of.Goals as goal
 
 pub returns : goal.returns
 unfolding turned

@@ -5,7 +5,7 @@ use Rattle.mpw_region.specs.Internal.Swept.{IsCovered}
 use Rattle.mpw_region.proofs.Sweeping.{covers-same}
 use Rattle.mpw_checks.specs.Internal.Across.{IsAcross}
 use Rattle.mpw_checks.proofs.Rows.{covered_after}
-use Rattle.mpw_checks.proofs.across.merged.Goals as goal
+use Rattle.mpw_checks.proofs.across.merge_across.Goals as goal
 
 pub returns : goal.returns
 returns c =

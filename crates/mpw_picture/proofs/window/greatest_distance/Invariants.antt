@@ -1,6 +1,0 @@
-use Rattle.std.proofs.Common.{◌≡◌, take}
-use Rattle.mpw_tiles.specs.Plan.{greatest_distance}
-use Rattle.mpw_picture.proofs.window.greatest_distance.Given as goal
-
-abbrev pub invariant-loop-rule : goal.invariant-loop-rule
-invariant-loop-rule l = l.greatest ≡ greatest_distance (take l.rule-index l.rules)
