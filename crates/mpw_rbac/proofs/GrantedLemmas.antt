@@ -12,6 +12,7 @@ use Rattle.mpw_roles.specs.Mask.{has}
 use Rattle.mpw_roles.specs.Order.{is_below, roles_below, are_distinct}
 use Rattle.mpw_roles.specs.Places.{name_at, is_place_below}
 use Rattle.mpw_roles.proofs.CallerLemmas.{same_name, name_eq-refl, contains-roles_below}
+use Rattle.mpw_roles.proofs.MarksLemmas.{length-names}
 use Rattle.mpw_rbac.specs.Grant.{operation_index, operation_eq, object_eq, grant_eq}
 use Rattle.mpw_rbac.specs.Internal.Holders.{Buckets, is_grant_of, is_place_granted, holds, grants_after, IsHeld, AreHeld, IsHeldAfter, AreHeldAfter, AreMoreNames, ArePermissions}
 use Rattle.mpw_rbac.specs.Policy.{is_granted_to}
@@ -20,7 +21,8 @@ use Rattle.mpw_rbac.specs.declared.permission.Object.{Object}
 use Rattle.mpw_rbac.specs.declared.permission.Operation.{Operation}
 use Rattle.mpw_rbac.proofs.NamedLemmas.{distinct-last, named-none, named-role}
 use Rattle.mpw_rbac.proofs.SeparationLemmas.{refuted, both, parts}
-use Rattle.mpw_rbac.proofs.HeldLemmas.{and_false, and_true, put-more, put-less, held-same, contains-at, strange, place-is, put_in, held-place, place_of, any-found, held-less}
+use Rattle.mpw_rbac.proofs.HeldLemmas.{put-more, put-less, held-same, contains-at, strange, place-is, put_in, held-place, place_of, any-found, held-less}
+use Rattle.mpw_roles.proofs.BoolLemmas.{and_false, and_true}
 
 pub held-none : (roles : List Name) (operation : ℕ) (table : Buckets)
     → ((object : Object) (place : ℕ) → holds table object place ≡ false)
@@ -191,10 +193,6 @@ held-through more h here after granted left g old read new held same all changed
     (held-after more (role_names h) granted g old new held
     (subst (λ (k : Hierarchy). AreHeldAfter more (role_names k) g old new) same
     (subst (λ l. AreHeldAfter more (role_names here) g l new) all changed))))
-
-length-names : (h : Hierarchy) → length (role_names h) ≡ length h
-length-names [] = refl
-length-names (e ∷ es) = ap suc (length-names es)
 
 -- a place that is below the seniors and granted is a grant to a role below them
 granted-of-place : (h : Hierarchy) (granted : List Grant) (seniors : List Name)

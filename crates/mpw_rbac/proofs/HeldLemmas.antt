@@ -11,7 +11,7 @@ use Rattle.mpw_roles.specs.Hierarchy.{Name}
 use Rattle.mpw_roles.specs.Mask.{has}
 use Rattle.mpw_roles.specs.Order.{are_distinct}
 use Rattle.mpw_roles.proofs.CallerLemmas.{same_name, name_eq-refl, or_right, or_cases}
-use Rattle.mpw_roles.proofs.PlacesLemmas.{and_or, or_assoc}
+use Rattle.mpw_roles.proofs.BoolLemmas.{and_true, and_false, and_or, or_assoc, or_false}
 use Rattle.mpw_rbac.specs.Grant.{operation_index, operation_eq, object_eq, grant_eq}
 use Rattle.mpw_rbac.specs.Internal.Holders.{Buckets, is_grant_of, holds, IsHeld}
 use Rattle.mpw_rbac.specs.declared.permission.Grant.{Grant}
@@ -19,23 +19,11 @@ use Rattle.mpw_rbac.specs.declared.permission.Object.{Object}
 use Rattle.mpw_rbac.proofs.ObjectLemmas.{same_object, other_way}
 use Rattle.mpw_rbac.proofs.SeparationLemmas.{refuted, both, parts}
 
-or_false : (a : Bool) → (a || false) ≡ a
-or_false true = refl
-or_false false = refl
-
-pub and_false : (a : Bool) → (a && false) ≡ false
-and_false true = refl
-and_false false = refl
-
 any-last : {X : Type 0} (f : X → Bool) (xs : List X) (y : X)
     → list_any f (xs ++ y ∷ []) ≡ (list_any f xs || f y)
 any-last f [] y = or_false (f y)
 any-last f (x ∷ xs) y =
-    ap (λ b. f x || b) (any-last f xs y) ∙ sym (or_assoc (f x) (list_any f xs) (f y))
-
-pub and_true : (a : Bool) → (a && true) ≡ a
-and_true true = refl
-and_true false = refl
+    ap (λ b. f x || b) (any-last f xs y) ∙ or_assoc (f x) (list_any f xs) (f y)
 
 -- the mask of one object is written, with a place more
 pub put-more : (old new : Buckets) (mask : Mask) (object : Object) (place : ℕ)

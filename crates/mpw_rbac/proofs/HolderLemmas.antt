@@ -8,7 +8,7 @@ use Rattle.mpw_roles.proofs.CallerLemmas.{or_right}
 use Rattle.mpw_geom.specs.Least.{least_name, lesser, IsLeast}
 use Rattle.mpw_separation.specs.Separation.{breaks, is_broken, set_names, broken_names, least_broken}
 use Rattle.mpw_separation.specs.Set.{SeparationSet}
-use Rattle.mpw_separation.proofs.BrokenLemmas.{least-holder, least-end}
+use Rattle.mpw_separation.proofs.BrokenLemmas.{broken-last, least-holder, least-end}
 use Rattle.mpw_rbac.specs.Sound.{sets_hold}
 use Rattle.mpw_rbac.specs.Table.{has_key, with_value}
 use Rattle.mpw_rbac.proofs.SeparationLemmas.{not_true, parts, any-map}
@@ -40,20 +40,6 @@ module _ {E : Type 0} (f : E → List Name) where
       least-end (broken_names h sets (map f es)) o
       (subst (λ l. IsLeast (broken_names h sets (map f l)) o) all least)
 
-  broken-last : (h : Hierarchy) (set : SeparationSet) (holders : List (List Name)) (s : List Name)
-      → is_broken h (holders ++ s ∷ []) set ≡ (is_broken h holders set || breaks h s set)
-  broken-last h set [] s = or_false (breaks h s set)
-    where
-      or_false : (a : Bool) → (a || false) ≡ a
-      or_false true = refl
-      or_false false = refl
-  broken-last h set (x ∷ xs) s = ap (λ b. breaks h x set || b) (broken-last h set xs s)
-      ∙ or_assoc (breaks h x set) (is_broken h xs set) (breaks h s set)
-    where
-      or_assoc : (a b c : Bool) → (a || (b || c)) ≡ ((a || b) || c)
-      or_assoc true b c = refl
-      or_assoc false b c = refl
-
   -- nobody so far breaks the set, nor does the next
   pub unbroken-entry : (h : Hierarchy) (set : SeparationSet) (es : List E) (i : ℕ) (e : E)
       → slice_get es i ≡ Some e → is_broken h (map f (take i es)) set ≡ false
@@ -61,7 +47,7 @@ module _ {E : Type 0} (f : E → List Name) where
       → is_broken h (map f (take (i + 1) es)) set ≡ false
   unbroken-entry h set es i e at before here =
       ap (λ l. is_broken h l set) (take-entry es i e at)
-      ∙ broken-last h set (map f (take i es)) (f e) ∙ (λ j. before j || here j)
+      ∙ broken-last h (map f (take i es)) (f e) set ∙ (λ j. before j || here j)
 
   -- one who breaks it is enough
   pub broken-entry : (h : Hierarchy) (set : SeparationSet) (es : List E) (i : ℕ) (e : E)

@@ -23,6 +23,7 @@ use Rattle.mpw_rbac.specs.Table.{value_at}
 use Rattle.mpw_rbac.specs.declared.active.Active.{Active}
 use Rattle.mpw_rbac.specs.declared.session.Session.{Session}
 use Rattle.mpw_rbac.specs.declared.session.User.{User}
+use Rattle.mpw_roles.proofs.BoolLemmas.{and_or, or_assoc, or_false}
 
 -- masks one by one
 pub below-nil : (h : Hierarchy) → AreBelow h [] []
@@ -150,27 +151,15 @@ none-below h place = never (nat_lt place (length h))
 pub senior-more : (h : Hierarchy) (seniors : List Name) (role : Name) (place : ℕ)
     → (is_place_below h seniors place || is_place_under h role place) ≡ is_place_below h
     (seniors ++ role ∷ []) place
-senior-more h seniors role place = shared (nat_lt place (length h))
-    (is_below h seniors (name_at h place)) (at_least h role (name_at h place))
+senior-more h seniors role place = sym (and_or (nat_lt place (length h))
+    (is_below h seniors (name_at h place)) (at_least h role (name_at h place)))
     ∙ ap (λ b. nat_lt place (length h) && b) (last seniors)
   where
-    shared : (f a b : Bool) → ((f && a) || (f && b)) ≡ (f && (a || b))
-    shared true a b = refl
-    shared false a b = refl
-
-    or_assoc : (a b c : Bool) → ((a || b) || c) ≡ (a || (b || c))
-    or_assoc true b c = refl
-    or_assoc false b c = refl
-
-    or_false : (a : Bool) → a ≡ (a || false)
-    or_false true = refl
-    or_false false = refl
-
     last : (ss : List Name) → (is_below h ss (name_at h place) || at_least h role (name_at h place))
         ≡ is_below h (ss ++ role ∷ []) (name_at h place)
-    last [] = or_false (at_least h role (name_at h place))
-    last (s ∷ ss) = or_assoc (at_least h s (name_at h place)) (is_below h ss (name_at h place))
-        (at_least h role (name_at h place)) ∙ ap (λ b. at_least h s (name_at h place) || b)
+    last [] = sym (or_false (at_least h role (name_at h place)))
+    last (s ∷ ss) = sym (or_assoc (at_least h s (name_at h place))
+        (is_below h ss (name_at h place)) (at_least h role (name_at h place))) ∙ ap (λ b. at_least h s (name_at h place) || b)
         (last ss)
 
 -- a pair more: who is authorized for its senior is authorized for the junior's roles too

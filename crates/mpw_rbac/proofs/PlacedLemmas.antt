@@ -1,10 +1,11 @@
 -- The masks beside the sets stay theirs, and say which sets are broken.
-use Rattle.std.proofs.Common.{◌≡◌, ℕ, zero, suc, ◌+◌, ◌<◌, Bool, true, false, ◌||◌, List, [], ◌∷◌, ◌++◌, length, take, get_or, Some, Ok, refl, sym, ap, subst, ◌∙◌, arith}
+use Rattle.std.proofs.Common.{◌≡◌, ℕ, zero, suc, ◌+◌, ◌<◌, true, false, ◌||◌, List, [], ◌∷◌, ◌++◌, length, take, get_or, Some, Ok, sym, ap, subst, ◌∙◌, arith}
 use Rattle.std.specs.Prelude.{slice_get}
 use Rattle.std.proofs.lemmas.List.{take_more}
 use Rattle.mpw_roles.specs.Hierarchy.{Name, Hierarchy, role_names}
 use Rattle.mpw_roles.specs.Rows as hierarchy
 use Rattle.mpw_roles.proofs.CallerLemmas.{names-with_juniors, or_right}
+use Rattle.mpw_separation.proofs.BrokenLemmas.{broken-last}
 use Rattle.mpw_separation.specs.Placed.{KeptSets, AreSetsPlaced, IsBelow}
 use Rattle.mpw_separation.specs.Separation.{breaks, is_broken}
 use Rattle.mpw_separation.specs.Set.{SeparationSet}
@@ -42,20 +43,6 @@ placed-after h k same old new keeps placed =
     subst (λ (r : Hierarchy). AreSetsPlaced (role_names r) new) same
     (keeps (subst (λ (r : Hierarchy). AreSetsPlaced (role_names r) old) (sym same) placed))
 
-or_false : (b : Bool) → (b || false) ≡ b
-or_false true = refl
-or_false false = refl
-
-or_assoc : (a b c : Bool) → (a || (b || c)) ≡ ((a || b) || c)
-or_assoc true b c = refl
-or_assoc false b c = refl
-
-one-more : (h : Hierarchy) (set : SeparationSet) (lists : List (List Name)) (l : List Name)
-    → is_broken h (lists ++ l ∷ []) set ≡ (is_broken h lists set || breaks h l set)
-one-more h set [] l = or_false (breaks h l set)
-one-more h set (x ∷ xs) l = ap (λ b. breaks h x set || b) (one-more h set xs l)
-    ∙ or_assoc (breaks h x set) (is_broken h xs set) (breaks h l set)
-
 -- the holders so far, by their masks
 pub unbroken-list : (h : Hierarchy) (set : SeparationSet) (lists : List (List Name)) (i : ℕ)
     → i < length lists → is_broken h (take i lists) set ≡ false
@@ -64,7 +51,7 @@ unbroken-list h set lists i inside before here =
     let more : take (i + 1) lists ≡ take i lists ++ get_or lists i [] ∷ [] =
     take_more lists i [] inside in
     ap (λ l. is_broken h l set) more
-    ∙ one-more h set (take i lists) (get_or lists i []) ∙ (λ j. before j || here j)
+    ∙ broken-last h (take i lists) (get_or lists i []) set ∙ (λ j. before j || here j)
 
 pub broken-list : (h : Hierarchy) (set : SeparationSet) (lists : List (List Name)) (i : ℕ)
     → i < length lists → breaks h (get_or lists i []) set ≡ true → is_broken h lists set ≡ true

@@ -16,31 +16,13 @@ use Rattle.mpw_separation.proofs.BrokenLemmas.{contains-names}
 use Rattle.mpw_geom.proofs.LeastLemmas.{least-is}
 use Rattle.mpw_rbac.specs.declared.refusal.Refusal.{Refusal}
 use Rattle.mpw_rbac.specs.Laws.{IsPart}
+use Rattle.mpw_roles.proofs.BoolLemmas.{neither}
+pub use Rattle.mpw_roles.proofs.BoolLemmas.{refuted, not_true, and_both as both, and_parts as parts}
 use Rattle.mpw_rbac.specs.Rows as rows
 use Rattle.mpw_rbac.specs.Sound.{sets_hold, is_proper}
 
-pub refuted : (b : Bool) → (b ≡ true → ⊥) → b ≡ false
-refuted true never = absurd (never refl)
-refuted false never = refl
-
 pub not_both : (b : Bool) → b ≡ true → b ≡ false → ⊥
 not_both b is other = true≢false (sym is ∙ other)
-
-pub not_true : (b : Bool) → not b ≡ true → b ≡ false
-not_true true e = absurd (true≢false (sym e))
-not_true false e = refl
-
-pub both : (a b : Bool) → a ≡ true → b ≡ true → (a && b) ≡ true
-both true b p q = q
-both false b p q = absurd (true≢false (sym p))
-
-pub parts : (a b : Bool) → (a && b) ≡ true → (a ≡ true) × (b ≡ true)
-parts true b e = (refl, e)
-parts false b e = absurd (true≢false (sym e))
-
-or_parts : (a b : Bool) → (a || b) ≡ false → (a ≡ false) × (b ≡ false)
-or_parts true b e = absurd (true≢false e)
-or_parts false b e = (refl, e)
 
 pub or_none : (a b : Bool) → a ≡ false → b ≡ false → (a || b) ≡ false
 or_none a b p q = λ i. (p i) || (q i)
@@ -90,13 +72,13 @@ none-holds : (p : SeparationSet → Bool) (sets : List SeparationSet)
     → list_all (λ set. not (p set)) sets ≡ true
 none-holds p [] none = refl
 none-holds p (x ∷ xs) none =
-    let here = or_parts (p x && name_eq x.name x.name)
+    let here = neither (p x && name_eq x.name x.name)
     (list_any (λ (set : SeparationSet). p set && name_eq x.name set.name) xs) (none x.name) in
     let apart : p x ≡ false = refuted (p x)
     (λ is. not_both (p x && name_eq x.name x.name)
     (both (p x) (name_eq x.name x.name) is (name_eq-refl x.name)) here.0) in
     both (not (p x)) _ (ap not apart) (none-holds p xs
-    (λ m. (or_parts (p x && name_eq m x.name)
+    (λ m. (neither (p x && name_eq m x.name)
     (list_any (λ (set : SeparationSet). p set && name_eq m set.name) xs) (none m)).1))
 
 pub holds-of_none : (h : Hierarchy) (sets : List SeparationSet) (holders : List (List Name))

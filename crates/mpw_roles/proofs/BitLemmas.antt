@@ -15,7 +15,8 @@ use Rattle.mpw_roles.specs.Mask.{has}
 use Rattle.mpw_roles.specs.Order.{at_least, IsAtLeast, IsHierarchy}
 use Rattle.mpw_roles.specs.Places.{name_at, is_place_under, marks_from, mask_at, IsMasked}
 use Rattle.mpw_roles.proofs.HierarchyLemmas.{junior_role}
-use Rattle.mpw_roles.proofs.RoleLemmas.{refuted, first_role}
+use Rattle.mpw_roles.proofs.RoleLemmas.{first_role}
+use Rattle.mpw_roles.proofs.BoolLemmas.{refuted}
 use Rattle.mpw_roles.proofs.MarksLemmas.{length-names}
 
 -- the marks of a mask

@@ -1,5 +1,5 @@
 -- What a caller cites of the order.
-use Rattle.std.proofs.Common.{◌≡◌, Bool, true, false, ◌||◌, ◌&&◌, List, [], ◌∷◌, refl, sym, ap, ◌∙◌, true≢false}
+use Rattle.std.proofs.Common.{◌≡◌, true, ◌||◌, ◌&&◌, List, [], ◌∷◌, sym, ap, ◌∙◌}
 use Rattle.mpw_geom.specs.Names.{contains_name}
 use Rattle.mpw_roles.specs.Hierarchy.{Name, Hierarchy, role_names, is_role, is_immediate, with_role}
 use Rattle.mpw_roles.specs.Order.{at_least, is_below, roles_below}
@@ -10,10 +10,7 @@ pub use Rattle.mpw_geom.proofs.Linked.{same_name, name_eq-refl, or_right, or_cas
 pub use Rattle.mpw_roles.proofs.HierarchyLemmas.{contains-filter, contains-without, names-with_juniors, pairs-with_pair, pairs-without_pair, pairs-without_role, names-without_role, roles-left}
 pub use Rattle.mpw_roles.proofs.RoleLemmas.{contains-append, at_least-fewer, juniors-with_role}
 pub use Rattle.mpw_roles.proofs.RoleLemmas.{first_role}
-
-both_parts : (a b : Bool) → (a && b) ≡ true → (a ≡ true) × (b ≡ true)
-both_parts true b e = (refl, e)
-both_parts false b e = absurd (true≢false (sym e))
+use Rattle.mpw_roles.proofs.BoolLemmas.{and_parts}
 
 -- whether a role is below some seniors, as a test
 pub contains-roles_below : (h : Hierarchy) (seniors : List Name) (r : Name)
@@ -28,7 +25,7 @@ pub roles_below-grows : (h k : Hierarchy) (seniors more : List Name)
     → contains_name (roles_below h seniors) r ≡ true
     → contains_name (roles_below k more) r ≡ true
 roles_below-grows h k seniors more pairs roles among r below =
-    let parts = both_parts (is_role h r) (is_below h seniors r)
+    let parts = and_parts (is_role h r) (is_below h seniors r)
     (sym (contains-roles_below h seniors r) ∙ below) in
     let from = some_name (λ s. at_least h s r) seniors parts.1 in
     contains-roles_below k more r

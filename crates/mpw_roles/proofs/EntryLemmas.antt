@@ -10,7 +10,7 @@ use Rattle.mpw_roles.specs.Internal.Table.{name_of, juniors_of, entry_of, entrie
 use Rattle.mpw_roles.proofs.NumberLemmas.{or_later, eqb-same, eqb-back, name-number, contains-number, contains-unnumbered, place-number, place-unnumbered, distinct-numbered}
 use Rattle.mpw_roles.proofs.PairLemmas.{juniors-none, juniors-there, juniors-more, past-head, same-head, juniors-less, juniors-without}
 use Rattle.mpw_roles.proofs.PositionLemmas.{item-there}
-use Rattle.mpw_roles.proofs.RoleLemmas.{refuted, and_parts, not_true}
+use Rattle.mpw_roles.proofs.BoolLemmas.{refuted, and_parts, not_true}
 
 pub names-entries : (ns : List Name) (ps : List Pair) (os : List ℕ)
     → role_names (entries_of ns ps os) ≡ map (name_of ns) os

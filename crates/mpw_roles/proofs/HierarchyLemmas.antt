@@ -7,7 +7,8 @@ use Rattle.mpw_roles.specs.Hierarchy.{Name, Hierarchy, role_names, is_role, is_i
 use Rattle.mpw_roles.specs.Order.{at_least, are_distinct, IsAtLeast, IsHierarchy}
 use Rattle.mpw_geom.specs.Links.{same, chain}
 use Rattle.mpw_geom.proofs.Linked.{same_name, or_right, or_cases, leads-sound, leads-complete, chain-trans, weaken_link, linked-without_same, linked-without_other}
-use Rattle.mpw_roles.proofs.RoleLemmas.{refuted, acyclic-fewer, contains-append, or_left, and_parts, and_both, not_true, distinct-append}
+use Rattle.mpw_roles.proofs.RoleLemmas.{acyclic-fewer, contains-append, distinct-append}
+use Rattle.mpw_roles.proofs.BoolLemmas.{refuted, or_left, and_parts, and_both, not_true}
 
 -- other juniors of one role
 pub names-with_juniors : (h : Hierarchy) (r : Name) (js : List Name)

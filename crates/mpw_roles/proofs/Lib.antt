@@ -1,3 +1,4 @@
+pub mod BoolLemmas
 pub mod CallerLemmas
 pub mod CommonLemmas
 pub mod EntryLemmas

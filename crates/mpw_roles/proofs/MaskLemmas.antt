@@ -6,6 +6,7 @@ use Rattle.std.specs.Prelude.{bit_and, bit_or, nat_lt, not}
 use Rattle.std.specs.Int.{bit_at, bit_not, trailing_zeros}
 use Rattle.mpw_roles.specs.declared.mask.Mask.{Mask}
 use Rattle.mpw_roles.specs.Mask.{has}
+use Rattle.mpw_roles.proofs.BoolLemmas.{or_false, and_true}
 
 -- whether a bit of a word is set, as the code reads it
 pub has-bit : (m : Mask) (p : ℕ) → p < 512
@@ -60,10 +61,6 @@ has-joined old other new each p =
       | false ↦ λ _. refl
     ] refl
 
-or_false : (b : Bool) → b ≡ (b || false)
-or_false true = refl
-or_false false = refl
-
 or_true : (b : Bool) → true ≡ (b || true)
 or_true true = refl
 or_true false = refl
@@ -105,14 +102,10 @@ has-inserted m p small eight q =
             | inr far ↦ ap (λ w. bit_at w (q % 64))
                 (get_or-set_other ws (p / 64) (q / 64) word 0 far)
           ] in
-          ap (λ x. nat_lt q 512 && eqb x 1) stays ∙ or_false _
+          ap (λ x. nat_lt q 512 && eqb x 1) stays ∙ sym (or_false _)
           ∙ ap (λ b. (nat_lt q 512 && eqb (bit_at (get_or ws (q / 64) 0) (q % 64)) 1) || b)
           (sym (ne_eqb q p other))
     ]
-
-and_true : (b : Bool) → b ≡ (b && true)
-and_true true = refl
-and_true false = refl
 
 -- one bit less
 pub has-removed : (m : Mask) (p : ℕ) → p < 512 → length m.words ≡ 8 → (q : ℕ)
@@ -151,7 +144,7 @@ has-removed m p small eight q =
             | inr far ↦ ap (λ w. bit_at w (q % 64))
                 (get_or-set_other ws (p / 64) (q / 64) word 0 far)
           ] in
-          ap (λ x. nat_lt q 512 && eqb x 1) stays ∙ and_true _
+          ap (λ x. nat_lt q 512 && eqb x 1) stays ∙ sym (and_true _)
           ∙ ap (λ b. (nat_lt q 512 && eqb (bit_at (get_or ws (q / 64) 0) (q % 64)) 1) && not b)
           (sym (ne_eqb q p other))
     ]

@@ -20,7 +20,7 @@ use Rattle.mpw_roles.proofs.MarksLemmas.{length-names}
 use Rattle.mpw_roles.proofs.NumberLemmas.{name-number, own-number}
 use Rattle.mpw_roles.proofs.PlacesLemmas.{IsMasked-with_pair}
 use Rattle.mpw_roles.proofs.PositionLemmas.{position-any}
-use Rattle.mpw_roles.proofs.RoleLemmas.{and_parts, and_both}
+use Rattle.mpw_roles.proofs.BoolLemmas.{and_parts, and_both}
 
 -- without pairs a role is at least itself alone
 no-juniors : (ns : List Name) (os : List ℕ) (a : Name)

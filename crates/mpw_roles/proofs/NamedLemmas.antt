@@ -20,24 +20,12 @@ use Rattle.mpw_roles.proofs.BitLemmas.{name-found, name-is_role}
 use Rattle.mpw_roles.proofs.CommonLemmas.{count-first, count-split, common_upto, common-all}
 use Rattle.mpw_roles.proofs.HierarchyLemmas.{contains-filter}
 use Rattle.mpw_roles.proofs.MarksLemmas.{distinct-first, length-names}
-use Rattle.mpw_roles.proofs.RoleLemmas.{refuted}
-
-or_parts : (a b : Bool) → (a || b) ≡ false → (a ≡ false) × (b ≡ false)
-or_parts true b e = absurd (true≢false e)
-or_parts false b e = (refl, e)
-
-not_true : (b : Bool) → not b ≡ true → b ≡ false
-not_true true e = absurd (true≢false (sym e))
-not_true false e = refl
-
-and_parts : (a b : Bool) → (a && b) ≡ true → (a ≡ true) × (b ≡ true)
-and_parts true b e = (refl, e)
-and_parts false b e = absurd (true≢false (sym e))
+use Rattle.mpw_roles.proofs.BoolLemmas.{refuted, not_true, and_parts, neither}
 
 others-apart : (n : Name) (ns : List Name) → contains_name ns n ≡ false
     → AllByRecursion (λ y. name_eq n y ≡ false) ns
 others-apart n [] e = tt
-others-apart n (x ∷ xs) e = let p = or_parts (name_eq n x) (contains_name xs n) e in
+others-apart n (x ∷ xs) e = let p = neither (name_eq n x) (contains_name xs n) e in
     (p.0, others-apart n xs p.1)
 
 -- names of which none stands twice

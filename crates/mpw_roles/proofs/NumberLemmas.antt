@@ -12,7 +12,7 @@ use Rattle.mpw_roles.specs.Internal.Table.{name_of, has_number, are_once}
 use Rattle.mpw_roles.proofs.MarksLemmas.{distinct-first}
 use Rattle.mpw_roles.proofs.NamedLemmas.{names-apart}
 use Rattle.mpw_roles.proofs.PositionLemmas.{position-cons, position-any, position-at}
-use Rattle.mpw_roles.proofs.RoleLemmas.{refuted, and_parts, and_both, not_true, neither}
+use Rattle.mpw_roles.proofs.BoolLemmas.{refuted, and_parts, and_both, not_true, neither, or_false, or_assoc}
 
 pub or_later : (a b : Bool) → b ≡ true → (a || b) ≡ true
 or_later true b e = refl
@@ -160,16 +160,8 @@ distinct-numbered ns (o ∷ os) known names once =
 -- numbers more and less
 pub has-more : (os : List ℕ) (n k : ℕ) → has_number (os ++ n ∷ []) k ≡ (has_number os k || eqb k n)
 has-more [] n k = or_false (eqb k n)
-  where
-    or_false : (b : Bool) → (b || false) ≡ b
-    or_false true = refl
-    or_false false = refl
 has-more (o ∷ os) n k =
     ap (λ b. eqb k o || b) (has-more os n k) ∙ or_assoc (eqb k o) (has_number os k) (eqb k n)
-  where
-    or_assoc : (a b c : Bool) → (a || (b || c)) ≡ ((a || b) || c)
-    or_assoc true b c = refl
-    or_assoc false b c = refl
 
 pub once-more : (os : List ℕ) (n : ℕ) → are_once os ≡ true → has_number os n ≡ false
     → are_once (os ++ n ∷ []) ≡ true

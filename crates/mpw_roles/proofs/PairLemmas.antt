@@ -4,7 +4,7 @@ use Rattle.std.specs.List.{list_all, list_any}
 use Rattle.mpw_roles.specs.declared.pairs.Pair.{Pair}
 use Rattle.mpw_roles.specs.Internal.Table.{juniors_of, has_number, is_between, is_pair, is_end}
 use Rattle.mpw_roles.proofs.NumberLemmas.{eqb-back, has-more, has-filter}
-use Rattle.mpw_roles.proofs.RoleLemmas.{refuted, and_parts, and_both, neither}
+use Rattle.mpw_roles.proofs.BoolLemmas.{refuted, and_parts, and_both, neither}
 
 -- a number that is no role's has no pairs
 pub juniors-none : (ps : List Pair) (os : List ℕ) (n : ℕ) → has_number os n ≡ false

@@ -14,18 +14,11 @@ use Rattle.mpw_roles.specs.Mask.{has}
 use Rattle.mpw_roles.specs.Order.{at_least, is_below, roles_below, IsHierarchy}
 use Rattle.mpw_roles.specs.Places.{name_at, is_place_under, is_place_below, marks_from, mask_at, IsMasked}
 use Rattle.mpw_roles.proofs.HierarchyLemmas.{names-with_juniors, length-with_juniors, pairs-with_pair, with_pair-chains, juniors-with_juniors}
-use Rattle.mpw_roles.proofs.RoleLemmas.{refuted, juniors-with_role, at_least-fewer, chains-fewer, contains-append}
+use Rattle.mpw_roles.proofs.RoleLemmas.{juniors-with_role, at_least-fewer, chains-fewer, contains-append}
+use Rattle.mpw_roles.proofs.BoolLemmas.{refuted, and_or, or_assoc}
 use Rattle.mpw_roles.proofs.BitLemmas.{length-marks_from, mark-at, marked_names-places, name-found, name-is_role, stranger-above, stranger-below, mask-none}
 
 -- one senior more, joined or no role
-pub and_or : (f a b : Bool) → (f && (a || b)) ≡ ((f && a) || (f && b))
-and_or true a b = refl
-and_or false a b = refl
-
-pub or_assoc : (a b c : Bool) → ((a || b) || c) ≡ (a || (b || c))
-or_assoc true b c = refl
-or_assoc false b c = refl
-
 pub below-cons : (h : Hierarchy) (s : Name) (rest : List Name) (p : ℕ)
     → is_place_below h (s ∷ rest) p ≡ (is_place_under h s p || is_place_below h rest p)
 below-cons h s rest p =
@@ -34,7 +27,7 @@ below-cons h s rest p =
 pub turn-role : (h : Hierarchy) (s : Name) (rest : List Name) (p : ℕ) (old new : Bool)
     → new ≡ (old || is_place_under h s p)
     → (new || is_place_below h rest p) ≡ (old || is_place_below h (s ∷ rest) p)
-turn-role h s rest p old new is = ap (λ t. t || is_place_below h rest p) is ∙ or_assoc old _ _
+turn-role h s rest p old new is = ap (λ t. t || is_place_below h rest p) is ∙ sym (or_assoc old _ _)
     ∙ ap (λ t. old || t) (sym (below-cons h s rest p))
 
 pub turn-none : (h : Hierarchy) (s : Name) (rest : List Name) (p : ℕ) (old : Bool)

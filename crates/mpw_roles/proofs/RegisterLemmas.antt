@@ -8,7 +8,8 @@ use Rattle.mpw_roles.specs.Hierarchy.{Name}
 use Rattle.mpw_roles.specs.Order.{are_distinct}
 use Rattle.indexmap.specs.IndexSet.{insert_key}
 use Rattle.mpw_roles.proofs.PositionLemmas.{position-any, position-cons, position-right}
-use Rattle.mpw_roles.proofs.RoleLemmas.{contains-append, and_parts, and_both, not_true, name_eq-apart, neither}
+use Rattle.mpw_roles.proofs.RoleLemmas.{contains-append, name_eq-apart}
+use Rattle.mpw_roles.proofs.BoolLemmas.{and_parts, and_both, not_true, neither}
 
 -- what stands behind some names is none of them
 pub name-next : (xs ys : List Name) (n : Name) → are_distinct (xs ++ n ∷ ys) ≡ true

@@ -13,7 +13,7 @@ use Rattle.mpw_roles.specs.Hierarchy.{Name}
 use Rattle.mpw_roles.specs.Internal.Table.{name_of, juniors_of, entry_of, entries_of, has_number, are_once, is_between, place_in, placed_pair, IsTable}
 use Rattle.mpw_roles.proofs.NumberLemmas.{or_later, eqb-back, position-once, distinct-numbered}
 use Rattle.mpw_roles.proofs.PositionLemmas.{item-there, position-any}
-use Rattle.mpw_roles.proofs.RoleLemmas.{refuted, and_parts, and_both}
+use Rattle.mpw_roles.proofs.BoolLemmas.{refuted, and_parts, and_both}
 
 -- one item more
 pub mapped-more : {A B : Type 0} (f : A → B) (xs : List A) (i : ℕ) (d x : A) → i < length xs

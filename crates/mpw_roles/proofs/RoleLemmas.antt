@@ -1,11 +1,12 @@
 -- Roles of a hierarchy, and chains of its pairs.
-use Rattle.std.proofs.Common.{[], ◌≡◌, ◌<◌, Bool, true, false, cond, not, ◌||◌, ◌&&◌, List, ◌∷◌, ◌++◌, length, refl, sym, ap, ◌∙◌, true≢false, arith, length-append}
+use Rattle.std.proofs.Common.{[], ◌≡◌, ◌<◌, true, false, cond, not, ◌||◌, List, ◌∷◌, ◌++◌, length, refl, sym, ap, ◌∙◌, true≢false, arith, length-append}
 use Rattle.std.specs.Cmp.Lexicographic.{bytes_decides}
 use Rattle.mpw_geom.specs.Names.{name_eq, contains_name}
 use Rattle.mpw_roles.specs.Hierarchy.{Name, Hierarchy, role_names, is_role, is_immediate, immediate_juniors, with_role}
 use Rattle.mpw_roles.specs.Order.{at_least, are_distinct, IsAtLeast, IsHierarchy}
 use Rattle.mpw_geom.specs.Links.{same, chain}
 use Rattle.mpw_geom.proofs.Linked.{same_name, leads-sound, leads-complete, chain-trans}
+use Rattle.mpw_roles.proofs.BoolLemmas.{refuted, not_true, and_parts, and_both, or_left, or_assoc, neither}
 
 -- fewer pairs, fewer chains
 pub chains-fewer : (h k : Hierarchy)
@@ -24,10 +25,6 @@ at_least-fewer h k fewer a b is =
 -- no pair's junior is at least its senior
 abbrev IsAcyclic : Hierarchy → Type 0
 IsAcyclic h = (a b : Name) → is_immediate h a b ≡ true → at_least h b a ≡ false
-
-pub refuted : (b : Bool) → (b ≡ true → ⊥) → b ≡ false
-refuted true never = absurd (never refl)
-refuted false never = refl
 
 pub acyclic-fewer : (h k : Hierarchy) → ((a b : Name) → is_immediate h a b ≡ true
     → is_immediate k a b ≡ true) → IsAcyclic k → IsAcyclic h
@@ -53,14 +50,6 @@ pub contains-append : (xs ys : List Name) (n : Name)
 contains-append [] ys n = refl
 contains-append (x ∷ xs) ys n =
     ap (λ b. name_eq n x || b) (contains-append xs ys n) ∙ or_assoc (name_eq n x) _ _
-  where
-    or_assoc : (a b c : Bool) → (a || (b || c)) ≡ ((a || b) || c)
-    or_assoc true b c = refl
-    or_assoc false b c = refl
-
-pub or_left : (a b : Bool) → a ≡ true → (a || b) ≡ true
-or_left true b e = refl
-or_left false b e = absurd (true≢false (sym e))
 
 -- a new role
 pub names-with_role : (h : Hierarchy) (r : Name) → role_names (with_role h r) ≡ role_names h ++ r
@@ -87,22 +76,6 @@ IsHierarchy-empty = record {
 pub name_eq-apart : (a b : Name) → name_eq a b ≡ false → name_eq b a ≡ false
 name_eq-apart a b apart = refuted (name_eq b a)
     (λ is. true≢false (sym ((bytes_decides a b).1 (sym (same_name b a is))) ∙ apart))
-
-pub and_parts : (a b : Bool) → (a && b) ≡ true → (a ≡ true) × (b ≡ true)
-and_parts true b e = (refl, e)
-and_parts false b e = absurd (true≢false (sym e))
-
-pub and_both : (a b : Bool) → a ≡ true → b ≡ true → (a && b) ≡ true
-and_both true b p q = q
-and_both false b p q = absurd (true≢false (sym p))
-
-pub neither : (a b : Bool) → (a || b) ≡ false → (a ≡ false) × (b ≡ false)
-neither true b e = absurd (true≢false e)
-neither false b e = (refl, e)
-
-pub not_true : (a : Bool) → not a ≡ true → a ≡ false
-not_true true e = absurd (true≢false (sym e))
-not_true false e = refl
 
 pub distinct-append : (xs : List Name) (n : Name) → are_distinct xs ≡ true
     → contains_name xs n ≡ false

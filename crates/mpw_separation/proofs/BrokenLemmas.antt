@@ -8,6 +8,7 @@ use Rattle.mpw_separation.specs.Set.{SeparationSet}
 use Rattle.mpw_geom.specs.Least.{least_name, lesser, IsLeast}
 use Rattle.mpw_separation.specs.Separation.{breaks, is_broken, set_names, broken_names, least_broken}
 use Rattle.mpw_geom.proofs.LeastLemmas.{least-is, least-only, least-both, least-push}
+use Rattle.mpw_roles.proofs.BoolLemmas.{or_false, or_assoc}
 
 -- the sets so far, and one more
 pub least-set : (p : SeparationSet → Bool) (sets : List SeparationSet) (set : SeparationSet)
@@ -87,19 +88,17 @@ any-same : {X : Type 0} (p q : X → Bool) → ((x : X) → p x ≡ q x) → (xs
 any-same p q same [] = refl
 any-same p q same (x ∷ xs) = λ i. same x i || any-same p q same xs i
 
-or_false : (a : Bool) → (a || false) ≡ a
-or_false true = refl
-or_false false = refl
-
-or_assoc : (a b c : Bool) → (a || (b || c)) ≡ ((a || b) || c)
-or_assoc true b c = refl
-or_assoc false b c = refl
-
 broken-push : (h : Hierarchy) (holders : List (List Name)) (s : List Name) (set : SeparationSet)
     → is_broken h (holders ++ s ∷ []) set ≡ (is_broken h holders set || is_broken h (s ∷ []) set)
 broken-push h [] s set = refl
 broken-push h (x ∷ xs) s set = ap (λ b. breaks h x set || b) (broken-push h xs s set)
     ∙ or_assoc (breaks h x set) (is_broken h xs set) (is_broken h (s ∷ []) set)
+
+pub broken-last : (h : Hierarchy) (holders : List (List Name)) (s : List Name)
+    (set : SeparationSet)
+    → is_broken h (holders ++ s ∷ []) set ≡ (is_broken h holders set || breaks h s set)
+broken-last h holders s set = broken-push h holders s set
+    ∙ ap (λ b. is_broken h holders set || b) (or_false (breaks h s set))
 
 -- the holders so far, and one more
 pub least-holder : (h : Hierarchy) (sets : List SeparationSet) (holders : List (List Name))

@@ -1,8 +1,8 @@
 -- Sets with the places of their roles.
-use Rattle.std.proofs.Common.{◌≡◌, ℕ, zero, suc, ◌<◌, ◌≤◌, Bool, true, false, ◌&&◌, ◌==◌, List, [], ◌∷◌, length, filter, get_or, map, refl, sym, ap, subst, ◌∙◌, true≢false, eqb, not, cond, Ok, arith}
-use Rattle.std.specs.Prelude.{T, nat_le, count_by}
+use Rattle.std.proofs.Common.{◌≡◌, ℕ, zero, suc, ◌<◌, ◌≤◌, Bool, true, false, ◌&&◌, List, [], ◌∷◌, length, filter, get_or, map, refl, sym, ap, subst, ◌∙◌, true≢false, not, cond, Ok, arith}
+use Rattle.std.specs.Prelude.{T, nat_le}
 use Rattle.std.specs.List.{IsDistinct, AllByRecursion}
-use Rattle.std.specs.Ordering.{is_lt, is_eq, eq_by_cmp}
+use Rattle.std.specs.Ordering.{is_lt, is_eq}
 use Rattle.std.specs.declared.cmp.Ordering.{Ordering}
 use Rattle.std.specs.declared.cmp.Ordering.TheVariants.{Less, Equal, Greater}
 use Rattle.std.specs.Cmp.Lexicographic.{nat_list_cmp_total, texts_ties}
@@ -11,12 +11,12 @@ use Rattle.std.proofs.lemmas.Bool.{eqb-true}
 use Rattle.std.proofs.lemmas.Cmp.{nat_list_eq_equiv}
 use Rattle.std.proofs.lemmas.Map.Keys.{IsDistinct-cons}
 use Rattle.std.proofs.lemmas.Map.Made.{IsDistinct-from_count, length-from_keys}
-use Rattle.mpw_geom.specs.Names.{name_eq, name_cmp, contains_name, placed_by_name, by_name}
+use Rattle.mpw_geom.specs.Names.{name_eq, name_cmp, placed_by_name, by_name}
 use Rattle.mpw_geom.proofs.NamesLemmas.{in_by_name}
 use Rattle.mpw_roles.specs.declared.mask.Mask.{Mask}
 use Rattle.mpw_roles.specs.Hierarchy.{Name, Hierarchy, role_names}
 use Rattle.mpw_roles.specs.Mask.{common}
-use Rattle.mpw_roles.specs.Order.{roles_below, IsHierarchy}
+use Rattle.mpw_roles.specs.Order.{IsHierarchy}
 use Rattle.mpw_roles.proofs.NamedLemmas.{common-below}
 use Rattle.mpw_separation.specs.Placed.{IsPlaced, IsBelow, role_lists}
 use Rattle.mpw_separation.specs.Rows as rows

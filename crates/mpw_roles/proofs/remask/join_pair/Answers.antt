@@ -2,7 +2,7 @@
 use Rattle.std.proofs.Common.{sym}
 use Rattle.mpw_roles.specs.Internal.Table.{has_number}
 use Rattle.mpw_roles.proofs.MaskedLemmas.{table-front, placed, masked-more}
-use Rattle.mpw_roles.proofs.RoleLemmas.{and_parts}
+use Rattle.mpw_roles.proofs.BoolLemmas.{and_parts}
 use Rattle.mpw_roles.proofs.remask.join_pair.Goals as goal
 
 pub returns-in_default-clause-masked : goal.returns-in_default-clause-masked

@@ -6,7 +6,7 @@ use Rattle.mpw_roles.specs.declared.pairs.Pair.{Pair}
 use Rattle.mpw_roles.proofs.EntryLemmas.{role-number, role-unnumbered, with-pair-entries}
 use Rattle.mpw_roles.proofs.PairLemmas.{between-pair}
 use Rattle.mpw_roles.proofs.NumberLemmas.{name-numbered}
-use Rattle.mpw_roles.proofs.RoleLemmas.{and_both}
+use Rattle.mpw_roles.proofs.BoolLemmas.{and_both}
 use Rattle.mpw_roles.proofs.table.Table.add_pair.Goals as goal
 
 pub returns-in_default-clause-ok : goal.returns-in_default-clause-ok

@@ -6,7 +6,7 @@ use Rattle.mpw_roles.specs.declared.pairs.Pair.{Pair}
 use Rattle.mpw_roles.proofs.EntryLemmas.{role-unnumbered, without-role-entries}
 use Rattle.mpw_roles.proofs.PairLemmas.{juniors-there, between-left}
 use Rattle.mpw_roles.proofs.NumberLemmas.{has-filter, once-filter}
-use Rattle.mpw_roles.proofs.RoleLemmas.{and_parts}
+use Rattle.mpw_roles.proofs.BoolLemmas.{and_parts}
 use Rattle.mpw_roles.proofs.table.Table.remove.Goals as goal
 
 pub returns-in_default : goal.returns-in_default
