@@ -30,7 +30,8 @@ use Rattle.mpw_markers.specs.Markers.{line_of, line_of_key, key_of, axis_eq, lin
 use Rattle.mpw_markers.specs.Internal.Places.{line_place, place_of}
 use Rattle.mpw_markers.specs.Order.{line_cmp, StandsBefore}
 use Rattle.mpw_markers.specs.Book.{IsBook, place_in}
-use Rattle.mpw_markers.proofs.Order.{line_place_cmp, place_cmp, place_total, line_total, line_tied, lines_alike, then_first, then_second}
+use Rattle.mpw_markers.proofs.Order.{line_place_cmp, place_cmp, place_total, line_total, line_tied, lines_alike}
+use Rattle.mpw_region.proofs.Orderings.{then_first, then_second}
 use Rattle.mpw_markers.proofs.Marked.{alike, no_marker}
 
 pub same_key : (k l : Key) → line_of_key k ≡ line_of_key l → k.y0 ≡ l.y0 → k.y1 ≡ l.y1 → k ≡ l

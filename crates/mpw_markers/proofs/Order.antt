@@ -1,13 +1,13 @@
 -- The order of lines and of markers.
-use Rattle.std.proofs.Common.{◌≡◌, ◌&&◌, Bool, true, eqb, int_eq, ℕ, ℤ, ◌≤ℤ◌, ◌<ℤ◌, ◌+◌, zero, suc, add-zero, ◌<◌, false, List, length, get_or, drop, sym, refl, ap, ◌∙◌, subst, inl, inr, ◌⊎◌, arith}
+use Rattle.std.proofs.Common.{◌≡◌, ◌&&◌, Bool, true, eqb, int_eq, ℕ, ℤ, ◌<ℤ◌, ◌+◌, zero, suc, add-zero, ◌<◌, false, List, length, get_or, drop, sym, refl, ap, ◌∙◌, subst, inl, inr, arith}
 use Rattle.std.specs.Prelude.{Contains, ◌↔◌}
 use Rattle.std.proofs.lemmas.Int.{ints}
 use Rattle.std.specs.Cmp.{IsTotalOrder}
 use Rattle.std.specs.Ordering.{nat_cmp, int_cmp, ordering_then, is_lt, ordering_reverse}
 use Rattle.std.specs.List.Sorted.{IsSortedByKey}
 use Rattle.std.specs.declared.cmp.Ordering.{Ordering}
-use Rattle.std.specs.declared.cmp.Ordering.TheVariants.{Less, Equal, Greater}
-use Rattle.std.proofs.lemmas.Cmp.{then_total, on_total, nat_cmp_total, int_cmp_total, tied_itself}
+use Rattle.std.specs.declared.cmp.Ordering.TheVariants.{Less, Equal}
+use Rattle.std.proofs.lemmas.Cmp.{then_total, on_total, nat_cmp_total, int_cmp_total}
 use Rattle.std.proofs.lemmas.List.{get_or-drop, length-drop}
 use Rattle.std.proofs.lemmas.List.Sorted.{sorted_far, ranks_by}
 use Rattle.std.proofs.lemmas.Map.Lookups.{exact_unsigned, exact_signed}
@@ -22,6 +22,7 @@ use Rattle.mpw_edges.specs.declared.run.Axis.{Axis}
 use Rattle.mpw_edges.specs.declared.run.Axis.TheVariants.{V, H}
 use Rattle.mpw_edges.specs.Pieces.{axis_cmp}
 use Rattle.mpw_region.proofs.Held.{place_of as held_at}
+use Rattle.mpw_region.proofs.Orderings.{then_first, then_second, then_not_less, first_not_less, not_after, reversed, before_itself, chain}
 use Rattle.mpw_markers.specs.declared.marker.Line.{Line}
 use Rattle.mpw_markers.specs.declared.marker.Marker.{Marker}
 use Rattle.mpw_markers.specs.declared.place.LinePlace.{LinePlace}
@@ -66,16 +67,6 @@ line_total =
     (then_total (on_total (λ l. l.side) nat_cmp_total)
     (then_total (on_total (λ l. l.x1) int_cmp_total) (on_total (λ l. l.x2) int_cmp_total))))
 
-pub then_first : (o p : Ordering) → ordering_then o p ≡ Equal → o ≡ Equal
-then_first Less p e = cc
-then_first Equal p e = refl
-then_first Greater p e = cc
-
-pub then_second : (o p : Ordering) → ordering_then o p ≡ Equal → p ≡ Equal
-then_second Less p e = cc
-then_second Equal p e = e
-then_second Greater p e = cc
-
 same_line : (a b : Line) → a.rule ≡ b.rule → a.axis ≡ b.axis → a.side ≡ b.side → a.x1 ≡ b.x1
     → a.x2 ≡ b.x2 → a ≡ b
 same_line a b e f g h k =
@@ -104,19 +95,7 @@ line_tied a b e =
 
 -- no line comes before itself
 pub line_before : (a b : Line) → line_cmp a b ≡ Less → a ≡ b → ⊥
-line_before a b less e =
-    let tied : line_cmp a a ≡ Equal = tied_itself line_total a in
-    let also : line_cmp a a ≡ Less = ap (line_cmp a) e ∙ less in
-    let clash : Less ≡ Equal = sym also ∙ tied in
-    cc
-
--- along lines in order, and on one line along P and Q
-pub line_chain : {P Q S : Type 0} (a b c : Line) → (P → Q → S) → (line_cmp a b ≡ Less)
-    ⊎ ((a ≡ b) × P) → (line_cmp b c ≡ Less) ⊎ ((b ≡ c) × Q) → (line_cmp a c ≡ Less) ⊎ ((a ≡ c) × S)
-line_chain a b c on (inl p) (inl q) = inl (line_total.trans a b c p q)
-line_chain a b c on (inl p) (inr q) = inl (ap (line_cmp a) (sym q.0) ∙ p)
-line_chain a b c on (inr p) (inl q) = inl (ap (λ l. line_cmp l c) p.0 ∙ q)
-line_chain a b c on (inr p) (inr q) = inr (p.0 ∙ q.0, on p.1 q.1)
+line_before = before_itself line_cmp line_total
 
 -- on one line, what stands before ends before the other begins
 pub apart : (m n : Marker) → StandsBefore m n → line_of m ≡ line_of n → m.y1 <ℤ n.y0
@@ -159,20 +138,6 @@ lines_alike a b =
     (ordering_then o (ordering_then (nat_cmp a.side b.side)
     (ordering_then (int_cmp a.x1 b.x1) (int_cmp a.x2 b.x2))))) (axes_alike a.axis b.axis)
 
-reversed : (o : Ordering) → ordering_reverse o ≡ Greater → o ≡ Less
-reversed Less e = refl
-reversed Equal e = cc
-reversed Greater e = cc
-
-not_after : (x y : ℤ) → is_lt (int_cmp y x) ≡ false → x ≤ℤ y
-not_after x y e = grind (arith, ints)
-
-then_not_less : (o p : Ordering) → is_lt (ordering_then o p) ≡ false
-    → (o ≡ Greater) ⊎ ((o ≡ Equal) × (is_lt p ≡ false))
-then_not_less Less p e = cc
-then_not_less Equal p e = inr (refl, e)
-then_not_less Greater p e = inl refl
-
 -- what a sort leaves of two places
 begins_from_sort : (m n : Marker) → is_lt (place_cmp (place_of (key_of n)) (place_of (key_of m)))
     ≡ false → BeginsFirst m n
@@ -185,11 +150,6 @@ begins_from_sort m n e =
         not_after _ _ (first_not_less _ _ h.1),
       )
     ]
-  where
-    first_not_less : (o p : Ordering) → is_lt (ordering_then o p) ≡ false → is_lt o ≡ false
-    first_not_less Less p f = f
-    first_not_less Equal p f = refl
-    first_not_less Greater p f = refl
 
 pub AreInOrder-from_sort : (xs : List Marker)
     → IsSortedByKey (λ m. place_of (key_of m)) place_cmp xs → AreInOrder xs
@@ -209,16 +169,16 @@ AreInOrder-from_sort_by_key {g = g} {f = f} xs up h =
 
 pub BeginsFirst-chain : (m n o : Marker) → BeginsFirst m n → BeginsFirst n o → BeginsFirst m o
 BeginsFirst-chain m n o p q =
-    line_chain (line_of m) (line_of n) (line_of o) (λ e f. omega (arith, ints, e, f)) p q
+    chain line_cmp line_total (line_of m) (line_of n) (line_of o) (λ e f. omega (arith, ints, e, f)) p q
 
 pub StandsBefore-chain : (m n o : Marker) → IsFilled n → StandsBefore m n → StandsBefore n o
     → StandsBefore m o
 StandsBefore-chain m n o f p q =
-    line_chain (line_of m) (line_of n) (line_of o) (λ e g. omega (arith, ints, e, g, f)) p q
+    chain line_cmp line_total (line_of m) (line_of n) (line_of o) (λ e g. omega (arith, ints, e, g, f)) p q
 
 pub StandsBefore-begins : (m n o : Marker) → StandsBefore m n → BeginsFirst n o → StandsBefore m o
 StandsBefore-begins m n o p q =
-    line_chain (line_of m) (line_of n) (line_of o) (λ e g. omega (arith, ints, e, g)) p q
+    chain line_cmp line_total (line_of m) (line_of n) (line_of o) (λ e g. omega (arith, ints, e, g)) p q
 
 pub begins_itself : (m : Marker) → BeginsFirst m m
 begins_itself m = inr (refl, omega (arith, ints))

@@ -17,7 +17,7 @@ use Rattle.mpw_geom.specs.declared.plane.Box2.{Box2}
 use Rattle.mpw_geom.proofs.Tests.{lt_from_test, test_from_lt}
 use Rattle.mpw_geom.proofs.Squares.{no_box}
 use Rattle.mpw_region.specs.Internal.Sweep.{HasRow, HoldsJust, BeginsBelow}
-use Rattle.mpw_region.proofs.Order.{not_after}
+use Rattle.mpw_region.proofs.Orderings.{not_after}
 use Rattle.mpw_region.proofs.Held.{place_of}
 
 -- ---- order after a sort by a number of each box

@@ -9,9 +9,10 @@ use Rattle.std.proofs.lemmas.List.Sorted.{IsPermutation-sym}
 use Rattle.std.specs.List.Sorted.{IsPermutation}
 use Rattle.mpw_region.specs.declared.runs.Line.{Line}
 use Rattle.mpw_region.specs.declared.runs.Run.{Run}
-use Rattle.mpw_region.specs.Runs.{HoldsPlace, CoversPlace, IsFilled, StandsBefore, AreApart}
+use Rattle.mpw_region.specs.Runs.{HoldsPlace, CoversPlace, IsFilled, StandsBefore, AreApart, line_cmp}
 use Rattle.mpw_region.specs.Internal.Order.{BeginsFirst, AreInOrder, merged}
-use Rattle.mpw_region.proofs.Order.{line_before, line_chain}
+use Rattle.mpw_region.proofs.Order.{line_before, line_total}
+use Rattle.mpw_region.proofs.Orderings.{chain}
 use Rattle.mpw_region.proofs.Held.{Held-nil, Held-push_left, Held-push_new, Held-push_cases, Held-permutation}
 
 -- how far runs are joined: the joined ones and the last one hold the places of those done
@@ -41,7 +42,7 @@ from_begins r s (inr p) e = p.1
 StandsBefore-chain : (r s t : Run) → IsFilled s → StandsBefore r s → StandsBefore s t
     → StandsBefore r t
 StandsBefore-chain r s t f p q =
-    line_chain r.line s.line t.line (λ e g. omega (arith, ints, e, g, f)) p q
+    chain line_cmp line_total r.line s.line t.line (λ e g. omega (arith, ints, e, g, f)) p q
 
 holds_merged : (last run : Run) (line : Line) (at : ℤ) → last.line ≡ run.line → run.from ≤ℤ last.to
     → HoldsPlace (merged last run) line at → HoldsPlace last line at ⊎ HoldsPlace run line at

@@ -1,3 +1,4 @@
+pub mod Orderings
 pub mod Order
 pub mod Held
 pub mod Adding
