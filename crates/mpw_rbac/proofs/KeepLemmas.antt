@@ -45,8 +45,9 @@ keep-adduser p user digest s = record {
     new = (user, record { digest = digest; roles = [] })
 
 pub keep-open : (p : Policy) (connection : ℕ) (user : Name) → is_user p user ≡ true → Sound p
-    → Sound (record
-    p { sessions = p.sessions ++ (connection, record { user = user; active = [] }) ∷ [] })
+    → Sound (record p {
+      sessions = p.sessions ++ (connection, record { user = user; active = [] }) ∷ [];
+    })
 keep-open p connection user there s =
     let new : ℕ × Session = (connection, record { user = user; active = [] }) in
     record {

@@ -159,8 +159,8 @@ senior-more h seniors role place = sym (and_or (nat_lt place (length h))
         ≡ is_below h (ss ++ role ∷ []) (name_at h place)
     last [] = sym (or_false (at_least h role (name_at h place)))
     last (s ∷ ss) = sym (or_assoc (at_least h s (name_at h place))
-        (is_below h ss (name_at h place)) (at_least h role (name_at h place))) ∙ ap (λ b. at_least h s (name_at h place) || b)
-        (last ss)
+        (is_below h ss (name_at h place)) (at_least h role (name_at h place)))
+        ∙ ap (λ b. at_least h s (name_at h place) || b) (last ss)
 
 -- a pair more: who is authorized for its senior is authorized for the junior's roles too
 below-with_pair : (h : Hierarchy) (s j : Name) → is_role h s ≡ true → (l : List Name) (b : Name)
@@ -253,8 +253,8 @@ session-found (e ∷ es) connection = elim (connection == e.0) as
     ]
 
 pub acting-found : (h : Hierarchy) (es : List (ℕ × Active)) (connection : ℕ) (a : Active)
-    → AreActive h es
-    → Some a ≡ lookup (same_connection connection) es → IsBelow h a.session.active a.acting
+    → AreActive h es → Some a ≡ lookup (same_connection connection) es
+    → IsBelow h a.session.active a.acting
 acting-found h [] connection a w at = cc
 acting-found h (e ∷ es) connection a w at =
     elim (connection == e.0) as
@@ -268,8 +268,7 @@ acting-found h (e ∷ es) connection a w at =
 -- another session, or one more
 pub sessions-insert : (es : List (ℕ × Active)) (connection : ℕ) (a : Active)
     → sessions_in (insert_entry same_connection es connection a)
-    ≡ insert_entry same_connection (sessions_in es) connection
-    a.session
+    ≡ insert_entry same_connection (sessions_in es) connection a.session
 sessions-insert [] connection a = refl
 sessions-insert (e ∷ es) connection a = elim (connection == e.0) as
     (λ b. sessions_in (cond b ((e.0, a) ∷ es) (e ∷ insert_entry same_connection es connection a))

@@ -261,8 +261,7 @@ pub activate-same : (p : Policy) (connection : ℕ) (role : Name) → Sound p
     → is_some (session_of p connection) ≡ true
     → least_broken p.roles p.dsd (active_lists
     (rows.with_active p connection (rows.active_roles p connection ++ role ∷ [])).sessions)
-    ≡ least_broken
-    p.roles p.dsd ((rows.active_roles p connection ++ role ∷ []) ∷ [])
+    ≡ least_broken p.roles p.dsd ((rows.active_roles p connection ++ role ∷ []) ∷ [])
 activate-same p connection role s there =
     least-changed (λ a b. a == b) (λ (x : Session). x.active) p.roles p.dsd p.sessions connection
     (record {

@@ -22,8 +22,8 @@ invariant_of-self-2 c =
     (subst (λ k. IsRoles k new_masks) (sym c.in_ok-add.ensures.ok) (record {
       kept = IsHierarchy-with_role h c.args.role room new c.self.invariant.kept;
       masked = IsMasked-with_role h c.args.role c.self.inside.masks.items new_masks new
-          c.self.invariant.kept c.self.invariant.masked (let more = c.in_ok-reserve_mask.ensures.ok in
-          omega arith)
+          c.self.invariant.kept c.self.invariant.masked
+          (let more = c.in_ok-reserve_mask.ensures.ok in omega arith)
           (λ p inside. c.write_own.ensures.others p (omega arith)
           ∙ ap (λ l. mask_at l p) c.deref_mut.ensures.value
           ∙ c.reserve_mask.ensures.same p (omega arith))
