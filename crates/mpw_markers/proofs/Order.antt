@@ -169,16 +169,19 @@ AreInOrder-from_sort_by_key {g = g} {f = f} xs up h =
 
 pub BeginsFirst-chain : (m n o : Marker) → BeginsFirst m n → BeginsFirst n o → BeginsFirst m o
 BeginsFirst-chain m n o p q =
-    chain line_cmp line_total (line_of m) (line_of n) (line_of o) (λ e f. omega (arith, ints, e, f)) p q
+    chain line_cmp line_total (line_of m) (line_of n) (line_of o) (λ e f. omega (arith, ints, e, f))
+    p q
 
 pub StandsBefore-chain : (m n o : Marker) → IsFilled n → StandsBefore m n → StandsBefore n o
     → StandsBefore m o
 StandsBefore-chain m n o f p q =
-    chain line_cmp line_total (line_of m) (line_of n) (line_of o) (λ e g. omega (arith, ints, e, g, f)) p q
+    chain line_cmp line_total (line_of m) (line_of n) (line_of o)
+    (λ e g. omega (arith, ints, e, g, f)) p q
 
 pub StandsBefore-begins : (m n o : Marker) → StandsBefore m n → BeginsFirst n o → StandsBefore m o
 StandsBefore-begins m n o p q =
-    chain line_cmp line_total (line_of m) (line_of n) (line_of o) (λ e g. omega (arith, ints, e, g)) p q
+    chain line_cmp line_total (line_of m) (line_of n) (line_of o) (λ e g. omega (arith, ints, e, g))
+    p q
 
 pub begins_itself : (m : Marker) → BeginsFirst m m
 begins_itself m = inr (refl, omega (arith, ints))

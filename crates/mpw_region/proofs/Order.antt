@@ -45,7 +45,8 @@ BeginsFirst-from_sort r s e =
     ]
 
 pub BeginsFirst-chain : (r s t : Run) → BeginsFirst r s → BeginsFirst s t → BeginsFirst r t
-BeginsFirst-chain r s t p q = chain line_cmp line_total r.line s.line t.line (λ e f. omega (arith, ints, e, f)) p q
+BeginsFirst-chain r s t p q =
+    chain line_cmp line_total r.line s.line t.line (λ e f. omega (arith, ints, e, f)) p q
 
 -- what follows of pairs at a distance, from neighbours
 far : (xs : List Run) (d : Run) → ((k : ℕ) → k + 1 < length xs
