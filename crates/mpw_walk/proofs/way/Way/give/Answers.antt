@@ -4,8 +4,8 @@ use Rattle.mpw_walk.proofs.Nexts.{shape_within}
 use Rattle.mpw_walk.proofs.Steps.{few_frames, last_frame}
 use Rattle.mpw_walk.proofs.way.Way.give.Goals as goal
 
-pub placed-placed-requires-clause-place : goal.placed-placed-requires-clause-place
-placed-placed-requires-clause-place c =
+pub placed_element-placed-requires-clause-place : goal.placed_element-placed-requires-clause-place
+placed_element-placed-requires-clause-place c =
     let v = c.args.self.now in
     let f = c.args.frame.now in
     shape_within v.shelf.now f (last_frame v f c.requires.way) c.requires.shape
