@@ -1,6 +1,6 @@
 -- Denials of a permission in the rows over the run.
 use Rattle.std.proofs.Common.{◌≡◌, ℕ, Bool, true, false, cond, List, [], ◌∷◌, Option, None, Some, Result, Ok, Err, is_some, inl, inr, ap}
-use Rattle.mpw_replies.proofs.RowParts.{parts}
+use Rattle.mpw_replies.proofs.RowParts.{parts, denial_ended}
 use Rattle.mpw_deck.specs.Decks.{Deck}
 use Rattle.mpw_hier.specs.declared.submission.Submission.{Submission}
 use Rattle.mpw_hier.specs.Items.{Item}
@@ -14,7 +14,7 @@ use Rattle.mpw_rbac.specs.Policy.{Policy, permits, session_of}
 use Rattle.mpw_requests.specs.declared.run.RunRequest.TheVariants as ask
 use Rattle.mpw_replies.specs.Laws.{EnteringDeniesWhatIsLacked}
 use Rattle.mpw_replies.specs.Listing.{Listed, stored}
-use Rattle.mpw_replies.specs.Rows.{denied, permitted}
+use Rattle.mpw_replies.specs.Rows.{denied, permitted, session_test}
 use Rattle.mpw_replies.specs.declared.reply.Denial.TheVariants as denial
 use Rattle.mpw_replies.specs.declared.reply.Reply.TheVariants as reply
 use Rattle.mpw_replies.specs.declared.row.Ending.{Ending}
@@ -25,8 +25,7 @@ use Rattle.mpw_run.specs.Run.{Planned}
 use Rattle.mpw_run.specs.Step.{Run}
 use Rattle.mpw_wafer.specs.declared.wafer.Wafer.{Wafer}
 use Rattle.mpw_checking.specs.Laws.{RunsDenyWhatIsLacked}
-use Rattle.mpw_checking.specs.Checking.{session_test, at_rest, going_on, finished_run, present_deck, cover_test, planning_over, planning, snapshot_of, run_row, cancel_row, status, markers, checked_lines, phase_line, begun_outcome, left_off_outcome, listing_outcome}
-use Rattle.mpw_checking.proofs.Parts.{permission_ended}
+use Rattle.mpw_checking.specs.Checking.{at_rest, going_on, finished_run, present_deck, cover_test, planning_over, planning, snapshot_of, run_row, cancel_row, status, markers, checked_lines, phase_line, begun_outcome, left_off_outcome, listing_outcome}
 
 -- ---- parts that deny no permission
 
@@ -138,14 +137,14 @@ begun_ended : (run : Run) (row : Result Planned Ending) (operation : Operation) 
     → row ≡ Err (denied operation object)
 begun_ended run (Ok planned) operation object e = absurd cc
 begun_ended run (Err why) operation object e =
-    ap (λ x. Err x) (permission_ended why operation object e)
+    ap (λ x. Err x) (denial_ended why (denial.Permission operation object) e)
 
 left_ended : (run : Run) (row : Result (Unit {0}) Ending) (operation : Operation) (object : Object)
     → (left_off_outcome run row).reply ≡ reply.Denied (denial.Permission operation object)
     → row ≡ Err (denied operation object)
 left_ended run (Ok x) operation object e = absurd cc
 left_ended run (Err why) operation object e =
-    ap (λ x. Err x) (permission_ended why operation object e)
+    ap (λ x. Err x) (denial_ended why (denial.Permission operation object) e)
 
 listing_ended : (run : Run) (row : Result (List Listed) Ending) (operation : Operation)
     (object : Object)
@@ -153,7 +152,7 @@ listing_ended : (run : Run) (row : Result (List Listed) Ending) (operation : Ope
     → row ≡ Err (denied operation object)
 listing_ended run (Ok lines) operation object e = absurd cc
 listing_ended run (Err why) operation object e =
-    ap (λ x. Err x) (permission_ended why operation object e)
+    ap (λ x. Err x) (denial_ended why (denial.Permission operation object) e)
 
 pub run_denies : EnteringDeniesWhatIsLacked → RunsDenyWhatIsLacked
 run_denies lacks policy shelf wafer run connection ask.Run operation object e =

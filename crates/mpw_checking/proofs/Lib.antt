@@ -1,4 +1,3 @@
 pub mod Denials
 pub mod Leaving
-pub mod Parts
 pub mod Readable

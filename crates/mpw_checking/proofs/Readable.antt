@@ -2,28 +2,22 @@
 use Rattle.std.proofs.Common.{◌≡◌, ℕ, ◌+◌, List, [], ◌∷◌, Result, Ok, Err, arith, refl, subst}
 use Rattle.std.specs.Prelude.{All}
 use Rattle.std.proofs.lemmas.List.Elements.{All-cons}
-use Rattle.mpw_replies.proofs.RowParts.{passed}
+use Rattle.mpw_replies.proofs.RowParts.{passed, ended_not_ok}
 use Rattle.mpw_rbac.specs.Policy.{Policy}
 use Rattle.mpw_requests.specs.declared.run.RunRequest.TheVariants as ask
 use Rattle.mpw_replies.specs.Laws.{BooksAreOfReadable}
 use Rattle.mpw_replies.specs.Listing.{Listed, stored}
 use Rattle.mpw_replies.specs.Readable.{IsOfReadable}
-use Rattle.mpw_replies.specs.Rows.{ended_by}
+use Rattle.mpw_replies.specs.Rows.{session_test}
 use Rattle.mpw_replies.specs.declared.reply.Line.TheVariants as line
 use Rattle.mpw_replies.specs.declared.reply.Reply.TheVariants as reply
 use Rattle.mpw_replies.specs.declared.row.Ending.{Ending}
-use Rattle.mpw_replies.specs.declared.row.Ending.TheVariants as ending
 use Rattle.mpw_run.specs.declared.phase.Phase.{Phase}
 use Rattle.mpw_run.specs.declared.phase.Phase.TheVariants.{Idle, Cutting, Checking, Finished}
 use Rattle.mpw_run.specs.Run.{Planned}
 use Rattle.mpw_run.specs.Step.{Run}
 use Rattle.mpw_checking.specs.Laws.{MarkersAreOfReadable}
-use Rattle.mpw_checking.specs.Checking.{session_test, run_row, cancel_row, status, markers, finished_run, checked_lines, phase_line, begun_outcome, left_off_outcome, listing_outcome}
-
--- a reply that denies or refuses has no lines
-no_reply : (e : Ending) (lines : List Listed) → ended_by e ≡ reply.Ok lines → ⊥
-no_reply (ending.Denied why) lines told = cc
-no_reply (ending.Refused why) lines told = cc
+use Rattle.mpw_checking.specs.Checking.{run_row, cancel_row, status, markers, finished_run, checked_lines, phase_line, begun_outcome, left_off_outcome, listing_outcome}
 
 module _ (policy : Policy) (connection : ℕ) where
   abbrev Readable : List Listed → Type 0
@@ -46,12 +40,12 @@ module _ (policy : Policy) (connection : ℕ) where
   of_begun run (Ok planned) lines e =
       let same : stored (line.Run (run.number + 1)) ∷ [] ≡ lines = cc in
       subst Readable same (one (stored (line.Run (run.number + 1))) tt)
-  of_begun run (Err why) lines e = absurd (no_reply why lines e)
+  of_begun run (Err why) lines e = absurd (ended_not_ok why lines e)
 
   of_left : (run : Run) (row : Result (Unit {0}) Ending) (lines : List Listed)
       → (left_off_outcome run row).reply ≡ reply.Ok lines → Readable lines
   of_left run (Ok x) lines e = let same : [] ≡ lines = cc in subst Readable same none
-  of_left run (Err why) lines e = absurd (no_reply why lines e)
+  of_left run (Err why) lines e = absurd (ended_not_ok why lines e)
 
   -- what is listed is the row's
   of_listed : (run : Run) (row : Result (List Listed) Ending) (lines : List Listed)
@@ -59,7 +53,7 @@ module _ (policy : Policy) (connection : ℕ) where
       → (listing_outcome run row).reply ≡ reply.Ok lines → Readable lines
   of_listed run (Ok told) lines may e = let same : told ≡ lines = cc in
       subst Readable same (may told refl)
-  of_listed run (Err why) lines may e = absurd (no_reply why lines e)
+  of_listed run (Err why) lines may e = absurd (ended_not_ok why lines e)
 
   of_status : (run : Run) (told : List Listed) → status policy run connection ≡ Ok told
       → Readable told

@@ -7,14 +7,13 @@ use Rattle.mpw_placings.specs.declared.placement.Placement.{Placement}
 use Rattle.mpw_placings.specs.Placements.{roots_of}
 use Rattle.mpw_tiles.specs.Plan.{Tiling, tiles}
 use Rattle.mpw_tiles.specs.Snapshots.{Snapshot, shown, plan_for}
-use Rattle.mpw_roles.specs.Decided.{decided}
 use Rattle.mpw_rbac.specs.declared.permission.Operation.TheVariants as operation
 use Rattle.mpw_rbac.specs.declared.permission.Object.TheVariants as object
 use Rattle.mpw_rbac.specs.Policy.{Policy}
 use Rattle.mpw_requests.specs.declared.run.RunRequest.{RunRequest}
 use Rattle.mpw_requests.specs.declared.run.RunRequest.TheVariants as ask
 use Rattle.mpw_replies.specs.Listing.{Listed, stored}
-use Rattle.mpw_replies.specs.Rows.{◌>>=◌, in_session, permitted, ended_by}
+use Rattle.mpw_replies.specs.Rows.{◌>>=◌, session_test, permitted, ended_by}
 use Rattle.mpw_replies.specs.Sight.{seen_by, book_lines}
 use Rattle.mpw_replies.specs.declared.reply.Line.{Line}
 use Rattle.mpw_replies.specs.declared.reply.Line.TheVariants as line
@@ -31,10 +30,6 @@ use Rattle.mpw_run.specs.Step.{Run, started, cancelled}
 use Rattle.mpw_wafer.specs.declared.wafer.Wafer.{Wafer}
 
 -- ---- tests
-
--- The connection has a session.
-abbrev pub session_test : Policy → ℕ → Result (Unit {0}) Ending
-session_test policy connection = decided (in_session policy connection ∷ []) tt
 
 -- No run goes on.
 abbrev pub at_rest : Phase → Result (Unit {0}) Ending

@@ -9,7 +9,7 @@ ghost use Rattle.mpw_replies.specs.declared.row.Ending.{Ending as AnyEnding};
 ghost use Rattle.mpw_run.specs.Run.{Planned as PlannedTold};
 
 use crate::begin::begin;
-use crate::rows::{leave, markers, one_line, status};
+use crate::rows::{leave, markers, status};
 use mpw_hier::Shelf;
 use mpw_rbac::Policy;
 use mpw_replies::{Fault, Line, Lines, Reply, listing_reply};
@@ -57,7 +57,7 @@ fn beginning(
 {
     match made {
         Ok(planned) => {
-            let lines = one_line(alloc, Line::Run(run.number() + 1))?;
+            let lines = Lines::of_line(alloc, Line::Run(run.number() + 1))?;
             Ok(RunAnswer {
                 reply: Reply::Ok(lines),
                 next: NextRun::Start(run.prepare_start(planned)),

@@ -1,25 +1,14 @@
 //! The rows of `cancel`, `status` and `markers`.
 //!
 //! Each is a function that gives its value, or what ends the row, or tells want of memory. Its parts have the same form.
-ghost use Rattle.std.specs.Prelude.{◌≡◌, ◌∷◌, [], IfOk};
+ghost use Rattle.std.specs.Prelude.{◌≡◌, IfOk};
 ghost use Rattle.mpw_checking.specs.Checking as row;
-ghost use Rattle.mpw_replies.specs.Listing.{stored};
 ghost use Rattle.mpw_replies.specs.Rows.{Answers};
 
 use mpw_rbac::{Object, Operation, Policy};
-use mpw_replies::{Code, Denial, Ending, Fault, Line, Lines, MarkerListing, enter, seen_by};
+use mpw_replies::{Code, Fault, Line, Lines, MarkerListing, enter, need_session, seen_by};
 use mpw_run::{Checked, Phase, Run};
 use std::alloc::{AllocError, Global};
-
-/// The connection has a session.
-fn session(policy: &Policy, connection: u32) -> Result<(), Fault>
-    ensures { Answers (λ x. x) result (row.session_test policy.now connection) }
-{
-    if !policy.has_session(connection) {
-        return Err(Fault::Told(Ending::Denied(Denial::Session)));
-    }
-    Ok(())
-}
 
 /// A run goes on.
 fn goes_on(phase: &Phase) -> Result<(), Fault>
@@ -59,15 +48,6 @@ fn phase_line(run: &Run) -> Line
     }
 }
 
-/// One line.
-pub(crate) fn one_line(alloc: Global, line: Line) -> Result<Lines, AllocError>
-    ensures { IfOk result (λ lines. lines ≡ stored line ∷ []) }
-{
-    let mut lines = Vec::new(alloc);
-    lines.push(line)?;
-    Lines::from_vec(alloc, lines)
-}
-
 /// The line of `status`. Linear in the run's tiles.
 #[tactic(auto, unfolding(crate::specs::Checking::status))]
 pub(crate) fn status(
@@ -78,12 +58,15 @@ pub(crate) fn status(
 ) -> Result<Lines, Fault>
     ensures { Answers (λ lines. lines) result (row.status policy.now run.now connection) }
 {
-    session(policy, connection)?;
-    Ok(one_line(alloc, phase_line(run))?)
+    need_session(policy, connection)?;
+    Ok(Lines::of_line(alloc, phase_line(run))?)
 }
 
 /// What a finished run found.
-fn findings(phase: &Phase) -> Result<&Checked, Fault>
+///
+/// # Errors
+/// A refusal where no run is finished.
+pub fn findings(phase: &Phase) -> Result<&Checked, Fault>
     ensures { Answers (λ f. f.now) result (row.finished_run phase.now) }
 {
     match phase {
@@ -122,7 +105,7 @@ pub(crate) fn markers(
 ) -> Result<Lines, Fault>
     ensures { Answers (λ lines. lines) result (row.markers policy.now run.now connection) }
 {
-    session(policy, connection)?;
+    need_session(policy, connection)?;
     let checked = findings(run.phase())?;
     Ok(checked_lines(alloc, policy, connection, checked)?)
 }

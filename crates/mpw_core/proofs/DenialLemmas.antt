@@ -26,10 +26,10 @@ use Rattle.mpw_layouts.specs.Laws.{LayoutsDenyWhatIsLacked}
 use Rattle.mpw_wafer.specs.Laws.{WafersDenyWhatIsLacked}
 use Rattle.mpw_checking.specs.Laws.{RunsDenyWhatIsLacked}
 use Rattle.mpw_signoff.specs.Laws.{SignOffsDenyWhatIsLacked}
+use Rattle.mpw_replies.proofs.RowParts.{denial_ended}
 use Rattle.mpw_replies.specs.Laws.{EnteringDeniesWhatIsLacked}
-use Rattle.mpw_replies.specs.Rows.{denied, ended_by, permitted}
+use Rattle.mpw_replies.specs.Rows.{denied, permitted}
 use Rattle.mpw_replies.specs.declared.row.Ending.{Ending}
-use Rattle.mpw_replies.specs.declared.row.Ending.TheVariants as ending
 use Rattle.mpw_rbac.specs.declared.permission.Object.TheVariants as objects
 use Rattle.mpw_rbac.specs.declared.permission.Operation.TheVariants as operations
 use Rattle.mpw_core.specs.Step.{State, Outcome, reply_of, policy_outcome, query_outcome, trail_outcome, identity_lines, outcome_of, event_outcome, step, response_of}
@@ -119,19 +119,13 @@ lacks-row connection (Dsd set) = law.denies-dsd connection set
 lacks-row connection (UnSsd name) = law.denies-unssd connection name
 lacks-row connection (UnDsd name) = law.denies-undsd connection name
 
-permission-ended : (e : Ending) (operation : Operation) (object : Object)
-    → ended_by e ≡ reply.Denied (denial.Permission operation object)
-    → e ≡ denied operation object
-permission-ended (ending.Denied why) operation object e = cc
-permission-ended (ending.Refused why) operation object e = absurd cc
-
 permission-trail_outcome : (s : State) (row : Result (Unit {0}) Ending) (operation : Operation)
     (object : Object) → (trail_outcome s row).response ≡ response.Told
     (reply.Denied (denial.Permission operation object))
     → row ≡ Err (denied operation object)
 permission-trail_outcome s (Ok allowed) operation object e = absurd cc
 permission-trail_outcome s (Err ending) operation object e =
-    ap (λ x. Err x) (permission-ended ending operation object (inside e))
+    ap (λ x. Err x) (denial_ended ending (denial.Permission operation object) (inside e))
 
 module _ (shelves : LayoutsDenyWhatIsLacked) (wafers : WafersDenyWhatIsLacked)
     (runs : RunsDenyWhatIsLacked) (waivers : SignOffsDenyWhatIsLacked)

@@ -10,9 +10,9 @@ use Rattle.mpw_rbac.specs.declared.refusal.Refusal.{Refusal}
 use Rattle.mpw_rbac.specs.declared.session.Identity.{Identity}
 use Rattle.mpw_rbac.specs.Policy.{Policy}
 use Rattle.mpw_rbac.specs.Rows as rows
-use Rattle.mpw_replies.proofs.RowParts.{passed}
+use Rattle.mpw_replies.proofs.RowParts.{passed, ended_not_ok}
 use Rattle.mpw_replies.specs.Listing.{Listed}
-use Rattle.mpw_replies.specs.Rows.{◌>>=◌, permitted, ended_by}
+use Rattle.mpw_replies.specs.Rows.{◌>>=◌, permitted, session_test, ended_by}
 use Rattle.mpw_replies.specs.declared.reply.Reply.{Reply}
 use Rattle.mpw_replies.specs.declared.reply.Reply.TheVariants as reply
 use Rattle.mpw_replies.specs.declared.row.Ending.{Ending}
@@ -36,7 +36,7 @@ use Rattle.mpw_core.specs.Permissions.{Has, session, permission, policy_need, la
 use Rattle.mpw_core.specs.PolicyRows.{row_of}
 use Rattle.mpw_core.specs.Step.{State, Outcome, reply_of, policy_outcome, query_outcome, trail_outcome, identity_lines, outcome_of, event_outcome, step, response_of}
 use Rattle.mpw_core.proofs.DenialLemmas.{inside}
-use Rattle.mpw_core.proofs.ReadableLemmas.{never_ok, told_refusal, ended_negative}
+use Rattle.mpw_core.proofs.ReadableLemmas.{never_ok, told_refusal}
 use Rattle.mpw_core.proofs.RefusalLemmas.{settlement-ok}
 
 -- where a row of tests gives a value, its first test holds, and the others give that value
@@ -51,7 +51,7 @@ row_gives : {A : Type 0} (told : Result A Ending → Reply)
     → told row ≡ reply.Ok lines → (value : A) × (row ≡ Ok value)
 row_gives told errs (Ok value) lines e = (value, refl)
 row_gives told errs (Err ending) lines e =
-    absurd (never_ok (ended_by ending) (ended_negative ending) lines (sym (errs ending) ∙ e))
+    absurd (ended_not_ok ending lines (sym (errs ending) ∙ e))
 
 -- the test of a permission, with what comes behind it
 had : {B : Type 0} (policy : Policy) (connection : ℕ) (operation : Operation) (object : Object)
@@ -154,12 +154,12 @@ run-had s connection Cancel lines e =
 run-had s connection Status lines e =
     let row = row_gives (λ row. (checking.listing_outcome s.run row).reply) (λ ending. refl)
     (checking.status s.policy s.run connection) lines e in
-    let first = passed (checking.session_test s.policy connection) _ row.0 row.1 in
+    let first = passed (session_test s.policy connection) _ row.0 row.1 in
     (test_holds _ _ _ first.0 first.1).0
 run-had s connection Markers lines e =
     let row = row_gives (λ row. (checking.listing_outcome s.run row).reply) (λ ending. refl)
     (checking.markers s.policy s.run connection) lines e in
-    let first = passed (checking.session_test s.policy connection) _ row.0 row.1 in
+    let first = passed (session_test s.policy connection) _ row.0 row.1 in
     (test_holds _ _ _ first.0 first.1).0
 
 sign_off-had : (s : State) (connection : ℕ) (request : SignOffRequest) (lines : List Listed)
@@ -178,7 +178,7 @@ sign_off-had s connection (Sign marker) lines e =
 sign_off-had s connection Waivers lines e =
     let row = row_gives (λ row. (signing.listing_outcome s.waivers row).reply) (λ ending. refl)
     (signing.waivers_row s.policy s.run s.waivers connection) lines e in
-    let first = passed (signing.session_test s.policy connection) _ row.0 row.1 in
+    let first = passed (session_test s.policy connection) _ row.0 row.1 in
     (test_holds _ _ _ first.0 first.1).0
 sign_off-had s connection Verdict lines e =
     let row = row_gives (λ row. (signing.listing_outcome s.waivers row).reply) (λ ending. refl)
@@ -192,7 +192,7 @@ trail-had : (s : State) (connection : ℕ) (row : Result (Unit {0}) Ending) (lin
 trail-had s connection (Ok allowed) lines is e =
     (test_holds _ _ _ tt (test_holds _ _ _ tt (sym is)).1).0
 trail-had s connection (Err ending) lines is e =
-    absurd (never_ok (ended_by ending) (ended_negative ending) lines (inside e))
+    absurd (ended_not_ok ending lines (inside e))
 
 -- ---- any request
 

@@ -26,10 +26,10 @@ use Rattle.mpw_rbac.specs.declared.permission.Operation.TheVariants as operation
 use Rattle.mpw_wafer.specs.declared.wafer.Wafer.{Wafer}
 use Rattle.mpw_wafer.specs.Wafers as wafers
 use Rattle.mpw_replies.specs.Listing.{Listed, stored, entry}
+use Rattle.mpw_replies.proofs.RowParts.{ended_not_ok}
 use Rattle.mpw_replies.specs.Readable.{IsOfReadable}
-use Rattle.mpw_replies.specs.Rows.{IsNegative, ended_by, permitted}
+use Rattle.mpw_replies.specs.Rows.{IsNegative, permitted}
 use Rattle.mpw_replies.specs.declared.row.Ending.{Ending}
-use Rattle.mpw_replies.specs.declared.row.Ending.TheVariants as ending
 use Rattle.mpw_replies.specs.declared.reply.Line.{Line}
 use Rattle.mpw_replies.specs.declared.reply.Line.TheVariants.{User, Active, Authorized, Version}
 use Rattle.mpw_replies.specs.declared.reply.Reply.{Reply}
@@ -41,7 +41,7 @@ use Rattle.mpw_core.specs.Step.{State, Outcome, reply_of, policy_outcome, query_
 use Rattle.mpw_core.proofs.DenialLemmas.{inside}
 use Rattle.mpw_core.proofs.RefusalLemmas.{settlement-ok}
 
--- ---- what ends a row is a denial or a refusal
+-- ---- what the policy refuses is told by a denial or a refusal
 
 pub never_ok : (r : Reply) → IsNegative r → (lines : List Listed) → r ≡ reply.Ok lines → ⊥
 never_ok (reply.Ok found) tells lines e = tells
@@ -61,10 +61,6 @@ told_refusal refusal.Loop = tt
 told_refusal refusal.Known = tt
 told_refusal refusal.Used = tt
 told_refusal refusal.Full = tt
-
-pub ended_negative : (e : Ending) → IsNegative (ended_by e)
-ended_negative (ending.Denied why) = tt
-ended_negative (ending.Refused why) = tt
 
 -- ---- lines
 
@@ -129,7 +125,7 @@ module _ (policy : Policy) (connection : ℕ) where
       subst (All (IsOfReadable policy connection)) same
       (of_version (version_at shelf ps cell label))
   of_placed shelf wafer cell label (Err ending) lines e =
-      absurd (never_ok (ended_by ending) (ended_negative ending) lines e)
+      absurd (ended_not_ok ending lines e)
 
   of_unplaced : (wafer : Wafer) (row : Result (List Placement) Ending) (lines : List Listed)
       → (wafers.unplaced_outcome wafer row).reply ≡ reply.Ok lines
@@ -137,7 +133,7 @@ module _ (policy : Policy) (connection : ℕ) where
   of_unplaced wafer (Ok ps) lines e = let same : [] ≡ lines = cc in
       subst (All (IsOfReadable policy connection)) same no_lines
   of_unplaced wafer (Err ending) lines e =
-      absurd (never_ok (ended_by ending) (ended_negative ending) lines e)
+      absurd (ended_not_ok ending lines e)
 
   of_decked : (wafer : Wafer) (row : Result Deck Ending) (lines : List Listed)
       → (wafers.decked_outcome wafer row).reply ≡ reply.Ok lines
@@ -145,7 +141,7 @@ module _ (policy : Policy) (connection : ℕ) where
   of_decked wafer (Ok deck) lines e = let same : [] ≡ lines = cc in
       subst (All (IsOfReadable policy connection)) same no_lines
   of_decked wafer (Err ending) lines e =
-      absurd (never_ok (ended_by ending) (ended_negative ending) lines e)
+      absurd (ended_not_ok ending lines e)
 
 of_wafer : (s : State) (connection : ℕ) (request : WaferRequest) (lines : List Listed)
     → (wafers.outcome_of s.policy s.shelf s.wafer connection request).reply ≡ reply.Ok lines
@@ -173,7 +169,7 @@ of_audited : (s : State) (connection : ℕ) (row : Result (Unit {0}) Ending) (li
 of_audited s connection (Ok allowed) lines e = let same : numbered_entries 1 s.trail ≡ lines = cc in
     subst (All (IsOfReadable s.policy connection)) same (of_entries s.policy connection 1 s.trail)
 of_audited s connection (Err ending) lines e =
-    absurd (never_ok (ended_by ending) (ended_negative ending) lines (inside e))
+    absurd (ended_not_ok ending lines (inside e))
 
 module _ (layouts_are : LayoutsAreOfReadable) (markers_are : MarkersAreOfReadable)
     (waivers_are : SignOffLinesAreOfReadable) where

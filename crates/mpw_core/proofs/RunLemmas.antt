@@ -15,7 +15,7 @@ use Rattle.mpw_run.specs.declared.phase.RunReply.TheVariants as reply
 use Rattle.mpw_run.specs.Run.{Tile, Checks, answered}
 use Rattle.mpw_run.specs.Same.{same_snapshot, same_tile_job}
 use Rattle.mpw_run.specs.Step.{Run, Offer, Outcome as RunOutcome, answered_by, next_from, handed, taken_in, taken, cut_in, cut_answered, kept, job_of_tile, tile_compared, tile_checked, tile_in, tile_answered}
-use Rattle.mpw_run.specs.Laws.{Event as RunEvent, leaves, UnkeptLeavesTheRun}
+use Rattle.mpw_run.specs.Laws.{finishes, Event as RunEvent, leaves, UnkeptLeavesTheRun}
 use Rattle.mpw_run.specs.Laws as law
 use Rattle.mpw_checking.specs.Laws.{NumbersAreCounted}
 use Rattle.mpw_rbac.specs.declared.permission.Object.TheVariants as object
@@ -31,7 +31,7 @@ use Rattle.mpw_core.specs.declared.event.Event.{Event}
 use Rattle.mpw_core.specs.declared.event.Event.TheVariants as event
 use Rattle.mpw_core.specs.declared.event.Response.TheVariants as response
 use Rattle.mpw_core.specs.History.{state_after}
-use Rattle.mpw_core.specs.Step.{State, Outcome, new_state, no_change, policy_outcome, query_outcome, trail_outcome, identity_lines, outcome_of, event_outcome, not_kept_response, settlement, finishes, of_run, step, response_of, after}
+use Rattle.mpw_core.specs.Step.{State, Outcome, new_state, no_change, policy_outcome, query_outcome, trail_outcome, identity_lines, outcome_of, event_outcome, not_kept_response, settlement, of_run, step, response_of, after}
 use Rattle.mpw_core.proofs.RefusalLemmas.{settlement-run}
 
 -- ---- what is not kept leaves the state

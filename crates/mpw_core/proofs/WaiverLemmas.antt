@@ -5,8 +5,8 @@ use Rattle.mpw_requests.specs.declared.run.RunRequest.TheVariants as run_ask
 use Rattle.mpw_requests.specs.declared.sign_off.MarkerName.{MarkerName}
 use Rattle.mpw_requests.specs.declared.sign_off.SignOffRequest.{SignOffRequest}
 use Rattle.mpw_requests.specs.declared.sign_off.SignOffRequest.TheVariants as sign_ask
+use Rattle.mpw_replies.proofs.RowParts.{ended_not_ok}
 use Rattle.mpw_replies.specs.Listing.{Listed, stored}
-use Rattle.mpw_replies.specs.Rows.{ended_by}
 use Rattle.mpw_replies.specs.declared.reply.Denial.{Denial}
 use Rattle.mpw_replies.specs.declared.reply.Denial.TheVariants as denial
 use Rattle.mpw_replies.specs.declared.reply.Line.TheVariants as line
@@ -24,9 +24,9 @@ use Rattle.mpw_waiver.specs.Waivers.{none_asked}
 use Rattle.mpw_core.specs.Answer.{run_response}
 use Rattle.mpw_core.specs.declared.event.Event.TheVariants as event
 use Rattle.mpw_core.specs.declared.event.Response.TheVariants as response
-use Rattle.mpw_core.specs.Step.{State, Outcome, finishes, of_run, outcome_of, over_run, event_outcome, step, response_of, after}
+use Rattle.mpw_run.specs.Laws.{finishes}
+use Rattle.mpw_core.specs.Step.{State, Outcome, of_run, outcome_of, over_run, event_outcome, step, response_of, after}
 use Rattle.mpw_core.proofs.DenialLemmas.{inside}
-use Rattle.mpw_core.proofs.ReadableLemmas.{never_ok, ended_negative}
 use Rattle.mpw_core.proofs.RefusalLemmas.{settlement-denied, settlement-ok, settlement-run}
 
 -- ---- with their run
@@ -36,7 +36,7 @@ begun-drops : (s : State) (row : Result Planned Ending) (lines : List Listed)
     → (over_run s (checking.begun_outcome s.run row)).state.waivers ≡ []
 begun-drops s (Ok planned) lines e = refl
 begun-drops s (Err ending) lines e =
-    absurd (never_ok (ended_by ending) (ended_negative ending) lines e)
+    absurd (ended_not_ok ending lines e)
 
 pub runs-drop : (s : State) (connection : ℕ) (kept : Bool) (lines : List Listed)
     → response_of s (event.Ask connection (ask.Run run_ask.Run)) kept ≡ response.Told

@@ -361,8 +361,11 @@ pub(crate) fn prepare(alloc: Global, tables: &Tables, event: &Event) -> Result<A
     ensures { IfOk result (λ answer. Gives (open_state tables.now) (event_outcome (open_state tables.now) event.now) answer.response answer.next) }
 {
     match event {
-        Event::Ask { conn, request } => ask(alloc, tables, *conn, request.get()),
-        Event::Gone { conn } => parting(&tables.policy, *conn),
+        Event::Ask {
+            connection,
+            request,
+        } => ask(alloc, tables, *connection, request.get()),
+        Event::Gone { connection } => parting(&tables.policy, *connection),
         Event::Take { .. } => of_run(alloc, &tables.run, tables.run.prepare_take(alloc)?),
         Event::Cut(answer) => of_run(
             alloc,

@@ -5,7 +5,8 @@ ghost use Rattle.mpw_run.specs.Prepared.{IsPrepared};
 ghost use Rattle.mpw_run.specs.Step.{Outcome as RunOutcome};
 ghost use Rattle.mpw_core.specs.Answer.{run_response};
 ghost use Rattle.mpw_core.specs.Internal.Answer.{Gives, move_or_finish, places_for};
-ghost use Rattle.mpw_core.specs.Step.{State, finishes, of_run};
+ghost use Rattle.mpw_core.specs.Step.{State, of_run};
+ghost use Rattle.mpw_run.specs.Laws.{finishes};
 
 use crate::answer::{Answer, Next};
 use crate::{Response, SharedRunReply};

@@ -1,5 +1,5 @@
 -- Denials of a permission in the rows over the shelf.
-use Rattle.std.proofs.Common.{◌≡◌, ℕ, Bool, true, false, cond, List, [], ◌∷◌, map, Option, Some, None, Result, Ok, Err, ◌⊎◌, inl, inr, refl, ap, is_some}
+use Rattle.std.proofs.Common.{◌≡◌, ℕ, Bool, true, false, cond, List, [], ◌∷◌, map, Option, Some, None, Result, Ok, Err, inl, inr, refl, ap, is_some}
 use Rattle.std.specs.Prelude.{not}
 use Rattle.std.specs.List.{flat_map}
 use Rattle.mpw_records.specs.declared.fault.ReadFault.{ReadFault}
@@ -20,21 +20,16 @@ use Rattle.mpw_hier.specs.Limits.{is_too_large, is_too_deep, has_room_for, numbe
 use Rattle.mpw_hier.specs.Reach.{is_cyclic, is_far, external_names}
 use Rattle.mpw_requests.specs.declared.layouts.LayoutRequest.{LayoutRequest}
 use Rattle.mpw_requests.specs.declared.layouts.LayoutRequest.TheVariants as ask
+use Rattle.mpw_replies.proofs.RowParts.{parts, denial_ended}
 use Rattle.mpw_replies.specs.Laws.{EnteringDeniesWhatIsLacked}
 use Rattle.mpw_replies.specs.Listing.{Listed, stored}
-use Rattle.mpw_replies.specs.Rows.{◌>>=◌, denied, permitted, ended_by}
+use Rattle.mpw_replies.specs.Rows.{◌>>=◌, denied, permitted}
 use Rattle.mpw_replies.specs.declared.reply.Denial.TheVariants as denial
 use Rattle.mpw_replies.specs.declared.reply.Code.TheVariants as code
 use Rattle.mpw_replies.specs.declared.reply.Reply.TheVariants as reply
 use Rattle.mpw_replies.specs.declared.row.Ending.{Ending}
 use Rattle.mpw_replies.specs.declared.row.Ending.TheVariants as ending
 use Rattle.mpw_layouts.specs.Layouts.{read, outside, usable, all_bindings, within_limits, unnumbered_submission, submitted_library, submit_row, cells, cells_of, readable_line, present_number, readable_shape, shapes, submit_outcome, listing_outcome, outcome_of}
-
--- a row ends in its first part, or behind it
-parts : {A B : Type 0} (x : Result A Ending) (f : A → Result B Ending) (r : Ending)
-    → (x >>= f) ≡ Err r → (x ≡ Err r) ⊎ ((a : A) × (x ≡ Ok a) × (f a ≡ Err r))
-parts (Ok a) f r e = inr (a, refl, e)
-parts (Err s) f r e = inl (let same : s ≡ r = cc in ap (λ t. Err t) same)
 
 module _ (lacks : EnteringDeniesWhatIsLacked) (policy : Policy) (connection : ℕ)
     (operation : Operation)
@@ -183,20 +178,13 @@ denies-shapes lacks policy shelf connection cell operation object e =
 
 -- ---- outcomes
 
-permission-ended : (e : Ending) (operation : Operation) (object : Object)
-    → ended_by e ≡ reply.Denied (denial.Permission operation object)
-    → e ≡ denied operation object
-permission-ended (ending.Denied why) operation object told =
-    let same : why ≡ denial.Permission operation object = cc in ap (λ d. ending.Denied d) same
-permission-ended (ending.Refused why) operation object told = absurd cc
-
 permission-submit_outcome : (shelf : List Submission) (row : Result Submission Ending)
     (operation : Operation) (object : Object)
     → (submit_outcome shelf row).reply ≡ reply.Denied (denial.Permission operation object)
     → row ≡ Err (denied operation object)
 permission-submit_outcome shelf (Ok s) operation object e = absurd cc
 permission-submit_outcome shelf (Err ending) operation object e =
-    ap (λ x. Err x) (permission-ended ending operation object e)
+    ap (λ x. Err x) (denial_ended ending (denial.Permission operation object) e)
 
 permission-listing_outcome : (shelf : List Submission) (row : Result (List Listed) Ending)
     (operation : Operation) (object : Object)
@@ -204,7 +192,7 @@ permission-listing_outcome : (shelf : List Submission) (row : Result (List Liste
     → row ≡ Err (denied operation object)
 permission-listing_outcome shelf (Ok lines) operation object e = absurd cc
 permission-listing_outcome shelf (Err ending) operation object e =
-    ap (λ x. Err x) (permission-ended ending operation object e)
+    ap (λ x. Err x) (denial_ended ending (denial.Permission operation object) e)
 
 pub lacks-layout : EnteringDeniesWhatIsLacked
     → (policy : Policy) (shelf : List Submission) (connection : ℕ) (request : LayoutRequest)

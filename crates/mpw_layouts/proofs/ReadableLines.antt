@@ -14,9 +14,10 @@ use Rattle.mpw_hier.specs.Shelved.{PresentAreOfTheirCell}
 use Rattle.mpw_hier.specs.Values.{flat}
 use Rattle.mpw_requests.specs.declared.layouts.LayoutRequest.{LayoutRequest}
 use Rattle.mpw_requests.specs.declared.layouts.LayoutRequest.TheVariants as ask
+use Rattle.mpw_replies.proofs.RowParts.{ended_not_ok}
 use Rattle.mpw_replies.specs.Listing.{Listed, stored, line_if, shape_line}
 use Rattle.mpw_replies.specs.Readable.{IsOfReadable}
-use Rattle.mpw_replies.specs.Rows.{◌>>=◌, permitted, ended_by}
+use Rattle.mpw_replies.specs.Rows.{◌>>=◌, permitted}
 use Rattle.mpw_replies.specs.Sight.{may_read}
 use Rattle.mpw_replies.specs.declared.reply.Denial.TheVariants as denial
 use Rattle.mpw_replies.specs.declared.reply.Line.TheVariants.{Version}
@@ -135,10 +136,6 @@ module _ (policy : Policy) (connection : ℕ) where
 
   -- ---- outcomes
 
-  never : (e : Ending) (lines : List Listed) → ended_by e ≡ reply.Ok lines → ⊥
-  never (ending.Denied why) lines e = cc
-  never (ending.Refused why) lines e = cc
-
   of_shelved : (shelf : List Submission) (row : Result Submission Ending) (lines : List Listed)
       → (submit_outcome shelf row).reply ≡ reply.Ok lines
       → All (IsOfReadable policy connection) lines
@@ -146,7 +143,7 @@ module _ (policy : Policy) (connection : ℕ) where
       let same : stored (Version s.version) ∷ [] ≡ lines = cc in
       subst (All (IsOfReadable policy connection)) same
       (All-cons (IsOfReadable policy connection) (stored (Version s.version)) [] tt no_lines)
-  of_shelved shelf (Err r) lines e = absurd (never r lines e)
+  of_shelved shelf (Err r) lines e = absurd (ended_not_ok r lines e)
 
   of_listed : (shelf : List Submission) (row : Result (List Listed) Ending) (lines : List Listed)
       → ((found : List Listed) → row ≡ Ok found → All (IsOfReadable policy connection) found)
@@ -154,7 +151,7 @@ module _ (policy : Policy) (connection : ℕ) where
       → All (IsOfReadable policy connection) lines
   of_listed shelf (Ok found) lines all e = let same : found ≡ lines = cc in
       subst (All (IsOfReadable policy connection)) same (all found refl)
-  of_listed shelf (Err r) lines all e = absurd (never r lines e)
+  of_listed shelf (Err r) lines all e = absurd (ended_not_ok r lines e)
 
 pub readable-layout : PresentAreOfTheirCell
     → (policy : Policy) (shelf : List Submission) (connection : ℕ) (request : LayoutRequest)

@@ -11,8 +11,9 @@ use Rattle.mpw_hier.specs.Items.{Item}
 use Rattle.mpw_hier.specs.Shelf.{present}
 use Rattle.mpw_hier.specs.Structures.{is_shape}
 use Rattle.mpw_hier.specs.Values.{flat}
+use Rattle.mpw_replies.proofs.RowParts.{ended_not_ok}
 use Rattle.mpw_replies.specs.Listing.{Listed, line_if, shape_line}
-use Rattle.mpw_replies.specs.Rows.{◌>>=◌, permitted, ended_by}
+use Rattle.mpw_replies.specs.Rows.{◌>>=◌, permitted}
 use Rattle.mpw_replies.specs.Sight.{may_read}
 use Rattle.mpw_replies.specs.declared.reply.Reply.TheVariants as reply
 use Rattle.mpw_replies.specs.declared.row.Ending.{Ending}
@@ -63,16 +64,12 @@ module _ (policy : Policy) (connection : ℕ) where
       go (Ok entered) (Err told) is = absurd cc
       go (Err told) second is = absurd cc
 
-never : (e : Ending) (lines : List Listed) → ended_by e ≡ reply.Ok lines → ⊥
-never (ending.Denied why) lines e = cc
-never (ending.Refused why) lines e = cc
-
 of_row : (shelf : List Submission) (row : Result (List Listed) Ending) (lines : List Listed)
     → ((found : List Listed) → row ≡ Ok found → All IsShapeLine found)
     → (listing_outcome shelf row).reply ≡ reply.Ok lines → All IsShapeLine lines
 of_row shelf (Ok found) lines all e =
     let same : found ≡ lines = cc in subst (All IsShapeLine) same (all found refl)
-of_row shelf (Err told) lines all e = absurd (never told lines e)
+of_row shelf (Err told) lines all e = absurd (ended_not_ok told lines e)
 
 pub shapes_alone : ((ss : List Submission) (number : ℕ) → All IsOfShape (flat ss number))
     → ShapesAreNoReferences

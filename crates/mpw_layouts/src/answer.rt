@@ -1,10 +1,10 @@
 //! The answers to requests over the shelf.
-ghost use Rattle.std.specs.Prelude.{◌≡◌, ◌∷◌, [], List, Result, IfOk, IfErr};
+ghost use Rattle.std.specs.Prelude.{◌≡◌, List, Result, None, IfOk, IfErr};
 ghost use Rattle.mpw_hier.specs.declared.submission.Submission.{Submission};
 ghost use Rattle.mpw_layouts.specs.Answers.{Gives};
 ghost use Rattle.mpw_layouts.specs.Internal.Answers.{IsShelved};
-ghost use Rattle.mpw_layouts.specs.Layouts.{outcome_of, submit_outcome};
-ghost use Rattle.mpw_replies.specs.Listing.{Listed, stored};
+ghost use Rattle.mpw_layouts.specs.Layouts.{outcome_of, submit_outcome, listing_outcome};
+ghost use Rattle.mpw_replies.specs.Listing.{Listed};
 ghost use Rattle.mpw_replies.specs.Rows.{Answers, Told};
 ghost use Rattle.mpw_replies.specs.declared.row.Ending.{Ending as AnyEnding};
 
@@ -22,13 +22,11 @@ pub struct LayoutAnswer {
     pub next: Option<Shelf>,
 }
 
-/// The line of a version.
-fn version_line(alloc: Global, version: u32) -> Result<Lines, AllocError>
-    ensures { IfOk result (λ lines. lines ≡ stored (Line.Version version) ∷ []) }
+/// A reply that leaves the shelf.
+fn no_change(reply: Reply) -> LayoutAnswer
+    ensures { (result.reply ≡ reply) × (result.next ≡ None) }
 {
-    let mut lines = Vec::new(alloc);
-    lines.push(Line::Version(version))?;
-    Lines::from_vec(alloc, lines)
+    LayoutAnswer { reply, next: None }
 }
 
 /// The answer to what submits.
@@ -38,15 +36,19 @@ fn submission(alloc: Global, made: Result<Shelved, Fault>) -> Result<LayoutAnswe
     match made {
         Ok(next) => {
             Ok(LayoutAnswer {
-                reply: Reply::Ok(version_line(alloc, next.version)?),
+                reply: Reply::Ok(Lines::of_line(alloc, Line::Version(next.version))?),
                 next: Some(next.shelf),
             })
         }
-        Err(fault) => Ok(LayoutAnswer {
-            reply: fault.reply()?,
-            next: None,
-        }),
+        Err(fault) => Ok(no_change(fault.reply()?)),
     }
+}
+
+/// The answer to what lists.
+fn listing(made: Result<Lines, Fault>) -> Result<LayoutAnswer, AllocError>
+    ensures { (shelf : List Submission) (row : Result (List Listed) AnyEnding) → Answers (λ lines. lines) made row → IfOk result (λ answer. Gives shelf (listing_outcome shelf row) answer) }
+{
+    Ok(no_change(listing_reply(made)?))
 }
 
 /// The answer to a request over the shelf. A submission takes its library's size, with a search for each name, and the
@@ -70,13 +72,7 @@ pub fn answer_request(
                 submit(alloc, policy, shelf, connection, cell, top, text),
             )
         }
-        LayoutRequest::Cells => Ok(LayoutAnswer {
-            reply: listing_reply(cells(alloc, policy, shelf, connection))?,
-            next: None,
-        }),
-        LayoutRequest::Shapes { cell } => Ok(LayoutAnswer {
-            reply: listing_reply(shapes(alloc, policy, shelf, connection, cell))?,
-            next: None,
-        }),
+        LayoutRequest::Cells => listing(cells(alloc, policy, shelf, connection)),
+        LayoutRequest::Shapes { cell } => listing(shapes(alloc, policy, shelf, connection, cell)),
     }
 }

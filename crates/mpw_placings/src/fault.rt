@@ -3,7 +3,7 @@
 ghost use Rattle.std.specs.Prelude.{◌≡◌};
 ghost use Rattle.mpw_placings.specs.declared.fault.PlacingFault.TheVariants.{Memory};
 
-use std::alloc::{AllocError, AllocFailed};
+use std::alloc::AllocError;
 use thiserror::Error;
 
 /// Why a submission can't be placed, in the order of the tests, or a placing not be taken away.
@@ -35,14 +35,6 @@ impl From<AllocError> for PlacingFault {
     ghost from_gives = { λ _ fault. fault ≡ Memory };
 
     fn from(_error: AllocError) -> PlacingFault {
-        PlacingFault::Memory
-    }
-}
-
-impl<T: Drop> From<AllocFailed<T>> for PlacingFault {
-    ghost from_gives = { λ _ fault. fault ≡ Memory };
-
-    fn from(_error: AllocFailed<T>) -> PlacingFault {
         PlacingFault::Memory
     }
 }

@@ -13,15 +13,17 @@ use Rattle.mpw_replies.specs.Sight.{seen_by, is_full, is_hidden, book_lines}
 -- A permission that is denied is lacked.
 abbrev pub EnteringDeniesWhatIsLacked : Type 0
 EnteringDeniesWhatIsLacked =
-    (policy : Policy) (conn : ℕ) (operation other : Operation) (object another : Object)
-    → permitted policy conn operation object ≡ Err (denied other another)
-    → permits policy conn other another ≡ false
+    (policy : Policy) (connection : ℕ) (operation other : Operation) (object another : Object)
+    → permitted policy connection operation object ≡ Err (denied other another)
+    → permits policy connection other another ≡ false
 
 -- Each line of a book of markers, as a session sees it, names only cells that the session may read.
 abbrev pub BooksAreOfReadable : Type 0
 BooksAreOfReadable =
-    (policy : Policy) (conn : ℕ) (rules : List Rule) (shelf : List Submission) (book : List Marker)
-    → All (IsOfReadable policy conn) (book_lines rules shelf (seen_by policy conn shelf) book)
+    (policy : Policy) (connection : ℕ) (rules : List Rule) (shelf : List Submission)
+    (book : List Marker)
+    → All (IsOfReadable policy connection)
+    (book_lines rules shelf (seen_by policy connection shelf) book)
 
 -- A marker that meets a submission is not both shown in full and hidden.
 abbrev pub FullAreNotHidden : Type 0

@@ -10,25 +10,25 @@ use Rattle.mpw_replies.specs.Listing.{Listed, stored, shape, marker, masked, ent
 -- The line of a cell or of a shape is of a cell that the session may read, and so is each cell that the line of a marker names. The
 -- other lines of what a session sees name none; a request of the trail is told by a permission of its own.
 abbrev pub IsOfReadable : Policy → ℕ → Listed → Type 0
-IsOfReadable policy conn (stored (line.Cell cell version submitter)) =
-    permits policy conn Read (object.Cell cell) ≡ true
-IsOfReadable policy conn (shape cell version placing element) =
-    permits policy conn Read (object.Cell cell) ≡ true
-IsOfReadable policy conn (stored (User user)) = ⊤
-IsOfReadable policy conn (stored (Active role)) = ⊤
-IsOfReadable policy conn (stored (Authorized role)) = ⊤
-IsOfReadable policy conn (stored (Version version)) = ⊤
-IsOfReadable policy conn (stored (Run number)) = ⊤
-IsOfReadable policy conn (stored Idle) = ⊤
-IsOfReadable policy conn (stored (Cutting number)) = ⊤
-IsOfReadable policy conn (stored (Checking number done total)) = ⊤
-IsOfReadable policy conn (stored (Finished number)) = ⊤
-IsOfReadable policy conn (stored (Asked named asker)) = ⊤
-IsOfReadable policy conn (stored (Signed named asker signer)) = ⊤
-IsOfReadable policy conn (stored Clean) = ⊤
-IsOfReadable policy conn (stored (Open number)) = ⊤
-IsOfReadable policy conn (stored Stale) = ⊤
-IsOfReadable policy conn (marker rule key cells) =
-    All (λ cell. permits policy conn Read (object.Cell cell) ≡ true) cells
-IsOfReadable policy conn (masked rule number) = ⊤
-IsOfReadable policy conn (entry number e) = ⊤
+IsOfReadable policy connection (stored (line.Cell cell version submitter)) =
+    permits policy connection Read (object.Cell cell) ≡ true
+IsOfReadable policy connection (shape cell version placing element) =
+    permits policy connection Read (object.Cell cell) ≡ true
+IsOfReadable policy connection (stored (User user)) = ⊤
+IsOfReadable policy connection (stored (Active role)) = ⊤
+IsOfReadable policy connection (stored (Authorized role)) = ⊤
+IsOfReadable policy connection (stored (Version version)) = ⊤
+IsOfReadable policy connection (stored (Run number)) = ⊤
+IsOfReadable policy connection (stored Idle) = ⊤
+IsOfReadable policy connection (stored (Cutting number)) = ⊤
+IsOfReadable policy connection (stored (Checking number done total)) = ⊤
+IsOfReadable policy connection (stored (Finished number)) = ⊤
+IsOfReadable policy connection (stored (Asked named asker)) = ⊤
+IsOfReadable policy connection (stored (Signed named asker signer)) = ⊤
+IsOfReadable policy connection (stored Clean) = ⊤
+IsOfReadable policy connection (stored (Open number)) = ⊤
+IsOfReadable policy connection (stored Stale) = ⊤
+IsOfReadable policy connection (marker rule key cells) =
+    All (λ cell. permits policy connection Read (object.Cell cell) ≡ true) cells
+IsOfReadable policy connection (masked rule number) = ⊤
+IsOfReadable policy connection (entry number e) = ⊤

@@ -34,13 +34,18 @@ denied operation object = ending.Denied (denial.Permission operation object)
 
 -- The connection has a session.
 abbrev pub in_session : Policy → ℕ → Bool × Ending
-in_session policy conn = (is_some (session_of policy conn), ending.Denied denial.Session)
+in_session policy connection =
+    (is_some (session_of policy connection), ending.Denied denial.Session)
+
+-- What a row that needs no permission tests first.
+abbrev pub session_test : Policy → ℕ → Result (Unit {0}) Ending
+session_test policy connection = decided (in_session policy connection ∷ []) tt
 
 -- The connection's session may do the operation on the object.
 abbrev pub permitted : Policy → ℕ → Operation → Object → Result (Unit {0}) Ending
-permitted policy conn operation object =
-    decided (in_session policy conn ∷ (
-      permits policy conn operation object,
+permitted policy connection operation object =
+    decided (in_session policy connection ∷ (
+      permits policy connection operation object,
       denied operation object,
     ) ∷ []) tt
 

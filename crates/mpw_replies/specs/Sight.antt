@@ -16,11 +16,11 @@ use Rattle.mpw_replies.specs.Listing.{Listed, marker, masked, is_seen}
 
 -- The session may read the cell that the submission is of.
 abbrev pub may_read : Policy → ℕ → Submission → Bool
-may_read policy conn s = permits policy conn Read (object.Cell s.cell)
+may_read policy connection s = permits policy connection Read (object.Cell s.cell)
 
 -- Of each submission, by number.
 abbrev pub seen_by : Policy → ℕ → List Submission → List Bool
-seen_by policy conn shelf = map (may_read policy conn) shelf
+seen_by policy connection shelf = map (may_read policy connection) shelf
 
 -- ---- what a session sees of a marker
 

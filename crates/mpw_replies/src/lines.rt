@@ -2,7 +2,7 @@
 //!
 //! A copy of a reply shares its lines, and the history keeps each reply. So a listing of shapes, of markers or of requests is kept as
 //! what it lists ([`ShapeListing`], [`MarkerListing`], [`Trail`]), and its lines are made one by one where they are written.
-ghost use Rattle.std.specs.Prelude.{◌≡◌, [], IfOk, length, map};
+ghost use Rattle.std.specs.Prelude.{◌≡◌, ◌∷◌, [], IfOk, length, map};
 ghost use Rattle.mpw_replies.specs.Listing.{stored};
 ghost use Rattle.mpw_replies.specs.Told.{kept_lines, told_lines};
 ghost use Rattle.mpw_replies.specs.Trail.{trail_lines};
@@ -86,6 +86,18 @@ impl Lines {
     {
         let told = Arc::new(alloc, Told::Stored(lines))?;
         Ok(Lines { told: Some(told) })
+    }
+
+    /// One line. Two allocations.
+    ///
+    /// # Errors
+    /// Where there is no room for it.
+    pub fn of_line(alloc: Global, line: Line) -> Result<Lines, AllocError>
+        ensures { IfOk result (λ made. made ≡ stored line ∷ []) }
+    {
+        let mut lines = Vec::new(alloc);
+        lines.push(line)?;
+        Lines::from_vec(alloc, lines)
     }
 
     /// The lines of a listing. One allocation.

@@ -2,7 +2,7 @@
 ghost use Rattle.std.specs.Prelude.{◌≡◌, IfOk, OnErr, List, Result, Err};
 ghost use Rattle.mpw_rbac.specs.Rows.{user_of};
 ghost use Rattle.mpw_replies.specs.Laws.{EnteringDeniesWhatIsLacked};
-ghost use Rattle.mpw_replies.specs.Rows.{Answers, IsToldBy, ended_by, listing_reply, permitted};
+ghost use Rattle.mpw_replies.specs.Rows.{Answers, IsToldBy, ended_by, listing_reply, permitted, session_test};
 ghost use Rattle.mpw_replies.specs.Listing.{Listed};
 ghost use Rattle.mpw_replies.specs.declared.row.Ending.{Ending as AnyEnding};
 ghost use Rattle.mpw_replies.specs.declared.row.Fault.TheVariants.{Memory};
@@ -84,23 +84,36 @@ pub fn listing_reply(made: Result<Lines, Fault>) -> Result<Reply, AllocError>
     }
 }
 
+/// The connection has a session: what rows test that need no permission. A look-up.
+///
+/// # Errors
+/// A denial where there is none.
+pub fn need_session(policy: &Policy, connection: u32) -> Result<(), Fault>
+    ensures { Answers (λ x. x) result (session_test policy.now connection) }
+{
+    if !policy.has_session(connection) {
+        return Err(Fault::Told(Ending::Denied(Denial::Session)));
+    }
+    Ok(())
+}
+
 /// The user of the connection's session, which may do the operation on the object: what most rows test first. A look-up.
 ///
 /// # Errors
 /// A denial where there is no session, or where it lacks the permission; want of memory for the user's name.
 pub fn enter(
     policy: &Policy,
-    conn: u32,
+    connection: u32,
     operation: Operation,
     object: Object,
 ) -> Result<Name, Fault>
-    ensures permitted { Answers (λ user. tt) result (permitted policy.now conn operation object) }
-    ensures user { IfOk result (λ user. user ≡ user_of policy.now conn) }
+    ensures permitted { Answers (λ user. tt) result (permitted policy.now connection operation object) }
+    ensures user { IfOk result (λ user. user ≡ user_of policy.now connection) }
 {
-    let Some(user) = policy.user_of(conn) else {
+    let Some(user) = policy.user_of(connection) else {
         return Err(Fault::Told(Ending::Denied(Denial::Session)));
     };
-    if !policy.permits(conn, operation, &object) {
+    if !policy.permits(connection, operation, &object) {
         return Err(Fault::Told(Ending::Denied(Denial::Permission(operation, object))));
     }
     Ok(user.copy()?)

@@ -16,12 +16,12 @@ use std::alloc::{AllocError, Global};
 pub fn seen_by(
     alloc: Global,
     policy: &Policy,
-    conn: u32,
+    connection: u32,
     submissions: &[Submission],
 ) -> Result<Vec<bool>, AllocError>
-    ensures { IfOk result (λ seen. seen.items ≡ seen_by policy.now conn submissions.now) }
+    ensures { IfOk result (λ seen. seen.items ≡ seen_by policy.now connection submissions.now) }
 {
-    let access = policy.access(conn, Operation::Read);
+    let access = policy.access(connection, Operation::Read);
     let mut seen = Vec::new(alloc);
     for submission in submissions {
         let object = Object::Cell(submission.cell.copy()?);

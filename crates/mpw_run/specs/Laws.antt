@@ -133,7 +133,7 @@ UnkeptLeavesTheRun =
 
 -- ---- how a run goes on
 
--- The reply to the last tile's answer.
+-- The reply to the last tile's answer, with which the run is finished.
 abbrev pub finishes : RunReply → Bool
 finishes (reply.Taken job) = false
 finishes reply.NoJob = false

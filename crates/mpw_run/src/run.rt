@@ -95,7 +95,7 @@ impl Run {
     }
 
     /// The answer of an event that leaves the run as it is.
-    fn unchanged(&self, reply: RunReply) -> Prepared
+    fn no_change(&self, reply: RunReply) -> Prepared
         ensures { IsPrepared result self.now (record { reply = reply; run = self.now }) }
     {
         let _number = self.number;
@@ -148,14 +148,14 @@ impl Run {
     {
         self.is_run();
         match &self.phase {
-            Phase::Idle => Ok(self.unchanged(RunReply::NoJob)),
+            Phase::Idle => Ok(self.no_change(RunReply::NoJob)),
             Phase::Cutting(planned) => {
                 let snapshot = planned.snapshot().copy(alloc)?;
                 let run = self.number;
-                Ok(self.unchanged(RunReply::Taken(Job::Cut(CutJob { run, snapshot }))))
+                Ok(self.no_change(RunReply::Taken(Job::Cut(CutJob { run, snapshot }))))
             }
             Phase::Checking(c) => self.prepare_tile_job(c),
-            Phase::Finished(_) => Ok(self.unchanged(RunReply::NoJob)),
+            Phase::Finished(_) => Ok(self.no_change(RunReply::NoJob)),
         }
     }
 
@@ -168,7 +168,7 @@ impl Run {
         self.is_counted();
         let _total = c.total();
         let Some(tile) = c.next() else {
-            return Ok(self.unchanged(RunReply::NoJob));
+            return Ok(self.no_change(RunReply::NoJob));
         };
         let job = c.tile_job(self.number(), tile)?;
         Ok(Prepared {
@@ -186,17 +186,17 @@ impl Run {
         ensures { IfOk result (λ p. IsPrepared p self.now (tile_answered self.now answer.now)) }
     {
         if answer.job().run() != self.number {
-            return Ok(self.unchanged(RunReply::OldRun));
+            return Ok(self.no_change(RunReply::OldRun));
         }
         match &self.phase {
-            Phase::Idle => Ok(self.unchanged(RunReply::OldRun)),
-            Phase::Cutting(_) => Ok(self.unchanged(RunReply::Stranger)),
+            Phase::Idle => Ok(self.no_change(RunReply::OldRun)),
+            Phase::Cutting(_) => Ok(self.no_change(RunReply::Stranger)),
             Phase::Checking(c) => self.prepare_kept(alloc, c, answer),
             Phase::Finished(f) => {
                 if answer.job().tile() < f.planned.total() {
-                    Ok(self.unchanged(RunReply::Double))
+                    Ok(self.no_change(RunReply::Double))
                 } else {
-                    Ok(self.unchanged(RunReply::Stranger))
+                    Ok(self.no_change(RunReply::Stranger))
                 }
             }
         }
@@ -214,14 +214,14 @@ impl Run {
     {
         let number = answer.job().tile();
         let Some(tile) = c.tiles.as_slice().get(number as usize) else {
-            return Ok(self.unchanged(RunReply::Stranger));
+            return Ok(self.no_change(RunReply::Stranger));
         };
         if tile.answer.is_some() {
-            return Ok(self.unchanged(RunReply::Double));
+            return Ok(self.no_change(RunReply::Double));
         }
         let own = c.tile_job(self.number, number)?;
         if !is_same_tile_job(answer.job(), &own) {
-            return Ok(self.unchanged(RunReply::Stranger));
+            return Ok(self.no_change(RunReply::Stranger));
         }
         self.tile_kept(alloc, c, number, answer)
     }
@@ -268,18 +268,18 @@ impl Run {
         ensures { IfOk result (λ p. IsPrepared p self.now (cut_answered self.now answer.now)) }
     {
         if answer.job().run != self.number {
-            return Ok(self.unchanged(RunReply::OldRun));
+            return Ok(self.no_change(RunReply::OldRun));
         }
         match &self.phase {
-            Phase::Idle => Ok(self.unchanged(RunReply::OldRun)),
+            Phase::Idle => Ok(self.no_change(RunReply::OldRun)),
             Phase::Cutting(planned) => {
                 if !is_same_snapshot(&answer.job().snapshot, planned.snapshot()) {
-                    return Ok(self.unchanged(RunReply::Stranger));
+                    return Ok(self.no_change(RunReply::Stranger));
                 }
                 self.check_begun(alloc, planned, answer)
             }
-            Phase::Checking(_) => Ok(self.unchanged(RunReply::Double)),
-            Phase::Finished(_) => Ok(self.unchanged(RunReply::Double)),
+            Phase::Checking(_) => Ok(self.no_change(RunReply::Double)),
+            Phase::Finished(_) => Ok(self.no_change(RunReply::Double)),
         }
     }
 

@@ -93,7 +93,7 @@ impl Tiles {
     pub(crate) fn done(&self) -> usize
         ensures { result ≡ answered self.now }
     {
-        answered(self.items.as_slice())
+        answer_count(self.items.as_slice())
     }
 
     /// Tiles that nobody was handed, and none is answered.
@@ -183,7 +183,7 @@ impl Tiles {
 }
 
 /// How many of the tiles are answered.
-fn answered(tiles: &[Tile]) -> usize
+fn answer_count(tiles: &[Tile]) -> usize
     ensures { result ≡ answered tiles.now }
 {
     let mut count = 0usize;

@@ -275,7 +275,7 @@ waivers_row None = Err (ending.Refused code.NotFinished)
 waivers_row (Some book) = Ok (map stored (waivers_of book))
 
 waivers_by : (policy : Policy) (connection : ℕ) (waivers : List (Option Waiver)) (phase : Phase)
-    → (signing.finished_run phase >>= (λ f. Ok
+    → (checking.finished_run phase >>= (λ f. Ok
     (map stored (signing.waiver_lines policy connection f waivers)))) ≡ waivers_row
     (book_view policy connection waivers phase)
 waivers_by policy connection waivers Idle = refl
@@ -298,9 +298,9 @@ unfolding signing.waivers_row
 waivers_alike connection a b same =
     same_behind (inside (is_some (session_of a.policy connection)))
     (inside (is_some (session_of b.policy connection)))
-    (λ entered. signing.finished_run a.run.phase
+    (λ entered. checking.finished_run a.run.phase
     >>= (λ f. Ok (map stored (signing.waiver_lines a.policy connection f a.waivers))))
-    (λ entered. signing.finished_run b.run.phase
+    (λ entered. checking.finished_run b.run.phase
     >>= (λ f. Ok (map stored (signing.waiver_lines b.policy connection f b.waivers))))
     (same_inside connection a b same)
     (λ entered is.

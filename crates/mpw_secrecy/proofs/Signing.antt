@@ -37,6 +37,7 @@ use Rattle.mpw_waiver.specs.declared.waiver.Waiver.{Waiver}
 use Rattle.mpw_waiver.specs.Signing.{ask_test, least_own_cell, separation_test, sign_test}
 use Rattle.mpw_waiver.specs.Waivers.{signed_by, waiver_at}
 use Rattle.mpw_signoff.specs.Named.{Named, found_at, found_by, key_by, named_in, rule_place, with_place}
+use Rattle.mpw_checking.specs.Checking as checking
 use Rattle.mpw_signoff.specs.SigningOff as signing
 use Rattle.mpw_core.specs.declared.event.Response.TheVariants as response
 use Rattle.mpw_core.specs.Step.{State, over_waivers}
@@ -227,7 +228,7 @@ module _ (keys : PlacesAreOfKeys) (number : ℕ) (policy : Policy) (connection :
   waive_phase : (phase : Phase) → IsPhase number phase → length waivers ≡ book_size phase
       → IsTold policy connection (asked_by (user_of policy connection)) phase waivers
       (signing.waived_outcome waivers
-      (signing.finished_run phase >>= (λ f. signing.full_marker policy connection f name
+      (checking.finished_run phase >>= (λ f. signing.full_marker policy connection f name
       >>= (λ n. signing.passes (ask_test (waiver_at waivers n.place))
       >>= (λ free. Ok (signing.by_user policy connection n))))))
       (row_seen ask_seen name (book_view policy connection waivers phase))
@@ -243,7 +244,7 @@ module _ (keys : PlacesAreOfKeys) (number : ℕ) (policy : Policy) (connection :
   sign_phase : (phase : Phase) → IsPhase number phase → length waivers ≡ book_size phase
       → IsTold policy connection (signed_by (user_of policy connection)) phase waivers
       (signing.signed_outcome waivers
-      (signing.finished_run phase >>= (λ f. signing.full_marker policy connection f name
+      (checking.finished_run phase >>= (λ f. signing.full_marker policy connection f name
       >>= (λ n. signing.apart f waivers n (user_of policy connection)
       >>= (λ free. Ok (signing.by_user policy connection n))))))
       (row_seen (sign_seen (user_of policy connection)) name
@@ -285,7 +286,7 @@ waive_told keys s connection name orderly =
     behind s.policy connection (asked_by (user_of s.policy connection)) s.waivers s.run.phase
     (signing.waived_outcome s.waivers) (λ why. refl)
     (permitted s.policy connection operation.Waive object.Desk)
-    (signing.finished_run s.run.phase >>= (λ f. signing.full_marker s.policy connection f name
+    (checking.finished_run s.run.phase >>= (λ f. signing.full_marker s.policy connection f name
     >>= (λ n. signing.passes (ask_test (waiver_at s.waivers n.place))
     >>= (λ free. Ok (signing.by_user s.policy connection n)))))
     (row_seen ask_seen name (book_view s.policy connection s.waivers s.run.phase))
@@ -300,7 +301,7 @@ sign_told keys s connection name orderly =
     behind s.policy connection (signed_by (user_of s.policy connection)) s.waivers s.run.phase
     (signing.signed_outcome s.waivers) (λ why. refl)
     (permitted s.policy connection operation.Sign object.Desk)
-    (signing.finished_run s.run.phase >>= (λ f. signing.full_marker s.policy connection f name
+    (checking.finished_run s.run.phase >>= (λ f. signing.full_marker s.policy connection f name
     >>= (λ n. signing.apart f s.waivers n (user_of s.policy connection)
     >>= (λ free. Ok (signing.by_user s.policy connection n)))))
     (row_seen (sign_seen (user_of s.policy connection)) name

@@ -70,7 +70,7 @@ fn handle<K: Keeper, P: Progress>(
         .handle(
             keeper,
             Event::Ask {
-                conn: connection,
+                connection,
                 request,
             },
         )
@@ -179,8 +179,7 @@ fn serve_lines<K: Keeper, R: Source, W: Sink, P: Progress>(
 fn hand_end<K: Keeper>(core: &mut Core, keeper: &mut K, connection: u32) -> bool
     ensures { IsGone connection (kept_desk core.old (K.kept keeper.old) (K.failures keeper.old)) result (kept_desk core.new (K.kept keeper.new) (K.failures keeper.new)) }
 {
-    core.handle(keeper, Event::Gone { conn: connection })
-        .is_ok()
+    core.handle(keeper, Event::Gone { connection }).is_ok()
 }
 
 /// Serves a connection: the lines of the reader get their replies on the writer, in order, until the input ends, a

@@ -1,6 +1,6 @@
 -- Denials in the rows of the sign-off.
 use Rattle.std.proofs.Common.{◌≡◌, ◌∙◌, ℕ, Bool, true, false, cond, ◌⊎◌, inl, inr, List, [], ◌∷◌, Option, None, Some, Result, Ok, Err, is_some, refl, sym, ap, subst}
-use Rattle.mpw_replies.proofs.RowParts.{parts}
+use Rattle.mpw_replies.proofs.RowParts.{parts, denial_ended}
 use Rattle.mpw_markers.specs.Laws.{PlacesAreOfKeys}
 use Rattle.mpw_roles.specs.Decided.{decided}
 use Rattle.mpw_rbac.specs.declared.permission.Object.{Object}
@@ -14,7 +14,7 @@ use Rattle.mpw_requests.specs.declared.sign_off.SignOffRequest.{SignOffRequest}
 use Rattle.mpw_requests.specs.declared.sign_off.SignOffRequest.TheVariants as ask
 use Rattle.mpw_replies.specs.Laws.{EnteringDeniesWhatIsLacked}
 use Rattle.mpw_replies.specs.Listing.{Listed}
-use Rattle.mpw_replies.specs.Rows.{denied, permitted}
+use Rattle.mpw_replies.specs.Rows.{denied, permitted, session_test}
 use Rattle.mpw_replies.specs.Sight.{seen_by, is_full}
 use Rattle.mpw_replies.specs.declared.reply.Code.TheVariants as code
 use Rattle.mpw_replies.specs.declared.reply.Denial.{Denial}
@@ -36,8 +36,8 @@ use Rattle.mpw_waiver.specs.Waivers.{waiver_at, with_signer}
 use Rattle.mpw_signoff.specs.declared.rows.ByUser.{ByUser}
 use Rattle.mpw_signoff.specs.Laws.{SubmittersAreTold, AskersAreTold, SignOffsDenyWhatIsLacked}
 use Rattle.mpw_signoff.specs.Named.{Named, named_in}
-use Rattle.mpw_signoff.specs.SigningOff.{session_test, finished_run, if_full, if_shown, full_marker, ending_of, passes, apart, by_user, waive_row, sign_row, waivers_row, verdict_row, waived_outcome, signed_outcome, listing_outcome, outcome_of}
-use Rattle.mpw_signoff.proofs.Parts.{denial_ended}
+use Rattle.mpw_checking.specs.Checking.{finished_run}
+use Rattle.mpw_signoff.specs.SigningOff.{if_full, if_shown, full_marker, ending_of, passes, apart, by_user, waive_row, sign_row, waivers_row, verdict_row, waived_outcome, signed_outcome, listing_outcome, outcome_of}
 use Rattle.mpw_signoff.proofs.Shown.{finished_is, shown_is}
 
 -- ---- parts that deny nothing

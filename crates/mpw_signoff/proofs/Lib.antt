@@ -2,7 +2,6 @@ pub mod Denials
 pub mod Leaving
 pub mod Listed
 pub mod Naming
-pub mod Parts
 pub mod Readable
 pub mod Shown
 pub mod Verdicts

@@ -19,7 +19,9 @@ use Rattle.mpw_waiver.specs.declared.waiver.Waiver.{Waiver}
 use Rattle.mpw_waiver.specs.Waivers.{waiver_at}
 use Rattle.mpw_signoff.specs.Laws.{IsTold, ToldAreShown}
 use Rattle.mpw_signoff.specs.Named.{name_for}
-use Rattle.mpw_signoff.specs.SigningOff.{session_test, finished_run, waiver_lines, waivers_row, listing_outcome}
+use Rattle.mpw_replies.specs.Rows.{session_test}
+use Rattle.mpw_checking.specs.Checking.{finished_run}
+use Rattle.mpw_signoff.specs.SigningOff.{waiver_lines, waivers_row, listing_outcome}
 use Rattle.mpw_signoff.specs.WaiverLines.{waiver_line, rule_line, marker_line, shown_line, lines_from}
 use Rattle.mpw_signoff.proofs.Shown.{finished_is}
 

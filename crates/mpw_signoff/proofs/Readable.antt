@@ -2,7 +2,7 @@
 use Rattle.std.proofs.Common.{◌≡◌, ◌==◌, ℕ, Bool, true, false, if◌then◌else◌, List, [], ◌∷◌, Option, None, Some, Result, Ok, Err, refl, subst}
 use Rattle.std.specs.Prelude.{All}
 use Rattle.std.proofs.lemmas.List.Elements.{All-nil, All-cons, All-map}
-use Rattle.mpw_replies.proofs.RowParts.{passed}
+use Rattle.mpw_replies.proofs.RowParts.{passed, ended_not_ok}
 use Rattle.mpw_rbac.specs.declared.permission.Object.TheVariants as objects
 use Rattle.mpw_rbac.specs.declared.permission.Operation.TheVariants as operations
 use Rattle.mpw_rbac.specs.Policy.{Policy}
@@ -10,12 +10,11 @@ use Rattle.mpw_requests.specs.declared.sign_off.MarkerName.{MarkerName}
 use Rattle.mpw_requests.specs.declared.sign_off.SignOffRequest.TheVariants as ask
 use Rattle.mpw_replies.specs.Listing.{Listed, stored}
 use Rattle.mpw_replies.specs.Readable.{IsOfReadable}
-use Rattle.mpw_replies.specs.Rows.{ended_by, permitted}
+use Rattle.mpw_replies.specs.Rows.{permitted}
 use Rattle.mpw_replies.specs.Sight.{seen_by}
 use Rattle.mpw_replies.specs.declared.reply.Line.TheVariants as line
 use Rattle.mpw_replies.specs.declared.reply.Reply.TheVariants as reply
 use Rattle.mpw_replies.specs.declared.row.Ending.{Ending}
-use Rattle.mpw_replies.specs.declared.row.Ending.TheVariants as ending
 use Rattle.mpw_run.specs.Step.{Run}
 use Rattle.mpw_wafer.specs.declared.wafer.Wafer.{Wafer}
 use Rattle.mpw_waiver.specs.declared.waiver.Waiver.{Waiver}
@@ -23,14 +22,10 @@ use Rattle.mpw_waiver.specs.Waivers.{unsigned}
 use Rattle.mpw_signoff.specs.declared.rows.ByUser.{ByUser}
 use Rattle.mpw_signoff.specs.Laws.{SignOffLinesAreOfReadable}
 use Rattle.mpw_signoff.specs.Named.{name_for}
-use Rattle.mpw_signoff.specs.SigningOff.{finished_run, is_present, verdict_line, waive_row, sign_row, waiver_lines, waivers_row, verdict_row, waived_outcome, signed_outcome, listing_outcome}
+use Rattle.mpw_checking.specs.Checking.{finished_run}
+use Rattle.mpw_signoff.specs.SigningOff.{is_present, verdict_line, waive_row, sign_row, waiver_lines, waivers_row, verdict_row, waived_outcome, signed_outcome, listing_outcome}
 use Rattle.mpw_signoff.specs.WaiverLines.{waiver_line}
 use Rattle.mpw_signoff.proofs.Listed.{of_lines, told_is}
-
--- a reply that denies or refuses has no lines
-no_reply : (e : Ending) (lines : List Listed) → ended_by e ≡ reply.Ok lines → ⊥
-no_reply (ending.Denied why) lines told = cc
-no_reply (ending.Refused why) lines told = cc
 
 module _ (policy : Policy) (connection : ℕ) where
   abbrev Readable : List Listed → Type 0
@@ -45,12 +40,12 @@ module _ (policy : Policy) (connection : ℕ) where
   of_waived : (waivers : List (Option Waiver)) (row : Result ByUser Ending) (lines : List Listed)
       → (waived_outcome waivers row).reply ≡ reply.Ok lines → Readable lines
   of_waived waivers (Ok by) lines e = let same : [] ≡ lines = cc in subst Readable same none
-  of_waived waivers (Err why) lines e = absurd (no_reply why lines e)
+  of_waived waivers (Err why) lines e = absurd (ended_not_ok why lines e)
 
   of_signed : (waivers : List (Option Waiver)) (row : Result ByUser Ending) (lines : List Listed)
       → (signed_outcome waivers row).reply ≡ reply.Ok lines → Readable lines
   of_signed waivers (Ok by) lines e = let same : [] ≡ lines = cc in subst Readable same none
-  of_signed waivers (Err why) lines e = absurd (no_reply why lines e)
+  of_signed waivers (Err why) lines e = absurd (ended_not_ok why lines e)
 
   -- what is listed is the row's
   of_listed : (waivers : List (Option Waiver)) (row : Result (List Listed) Ending)
@@ -58,7 +53,7 @@ module _ (policy : Policy) (connection : ℕ) where
       → (listing_outcome waivers row).reply ≡ reply.Ok lines → Readable lines
   of_listed waivers (Ok told) lines may e = let same : told ≡ lines = cc in
       subst Readable same (may told refl)
-  of_listed waivers (Err why) lines may e = absurd (no_reply why lines e)
+  of_listed waivers (Err why) lines may e = absurd (ended_not_ok why lines e)
 
   of_waiver : (name : MarkerName) (asker : List ℕ) (signer : Option (List ℕ))
       → IsOfReadable policy connection (stored (waiver_line name asker signer))

@@ -26,7 +26,8 @@ use Rattle.mpw_waiver.specs.Waivers.{waiver_at, with_signer}
 use Rattle.mpw_signoff.specs.declared.rows.ByUser.{ByUser}
 use Rattle.mpw_signoff.specs.Laws.{IsShownInFull, AskedAreShown, SignersStandApart}
 use Rattle.mpw_signoff.specs.Named.{Named, named_in}
-use Rattle.mpw_signoff.specs.SigningOff.{finished_run, if_full, if_shown, full_marker, passes, apart, by_user, waive_row, sign_row, waived_outcome, signed_outcome}
+use Rattle.mpw_checking.specs.Checking.{finished_run}
+use Rattle.mpw_signoff.specs.SigningOff.{if_full, if_shown, full_marker, passes, apart, by_user, waive_row, sign_row, waived_outcome, signed_outcome}
 use Rattle.mpw_signoff.proofs.Naming.{named_is}
 
 pub finished_is : (phase : Phase) (f : Checked) → finished_run phase ≡ Ok f → phase ≡ Finished f

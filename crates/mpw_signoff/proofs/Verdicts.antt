@@ -26,7 +26,8 @@ use Rattle.mpw_waiver.specs.Laws.{NoneIsUnsigned}
 use Rattle.mpw_waiver.specs.Waivers.{waiver_at, is_signed, unsigned}
 use Rattle.mpw_run.specs.declared.phase.Phase.TheVariants.{Finished}
 use Rattle.mpw_signoff.specs.Laws.{CleanIsSignedOff, SignedOffIsClean}
-use Rattle.mpw_signoff.specs.SigningOff.{finished_run, is_present_with, is_present, verdict_line, verdict_row}
+use Rattle.mpw_checking.specs.Checking.{finished_run}
+use Rattle.mpw_signoff.specs.SigningOff.{is_present_with, is_present, verdict_line, verdict_row}
 use Rattle.mpw_signoff.proofs.Listed.{listed_is}
 use Rattle.mpw_signoff.proofs.Shown.{finished_is}
 

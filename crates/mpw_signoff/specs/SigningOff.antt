@@ -4,7 +4,6 @@ use Rattle.mpw_deck.specs.Decks.{Deck}
 use Rattle.mpw_placings.specs.declared.placement.Placement.{Placement}
 use Rattle.mpw_placings.specs.Placements.{roots_of}
 use Rattle.mpw_tiles.specs.Snapshots.{Snapshot}
-use Rattle.mpw_roles.specs.Decided.{decided}
 use Rattle.mpw_rbac.specs.declared.permission.Operation.TheVariants as operation
 use Rattle.mpw_rbac.specs.declared.permission.Object.TheVariants as object
 use Rattle.mpw_rbac.specs.Policy.{Policy}
@@ -13,7 +12,7 @@ use Rattle.mpw_requests.specs.declared.sign_off.MarkerName.{MarkerName}
 use Rattle.mpw_requests.specs.declared.sign_off.SignOffRequest.{SignOffRequest}
 use Rattle.mpw_requests.specs.declared.sign_off.SignOffRequest.TheVariants as ask
 use Rattle.mpw_replies.specs.Listing.{Listed, stored}
-use Rattle.mpw_replies.specs.Rows.{◌>>=◌, in_session, permitted, ended_by}
+use Rattle.mpw_replies.specs.Rows.{◌>>=◌, session_test, permitted, ended_by}
 use Rattle.mpw_replies.specs.Sight.{seen_by, is_full}
 use Rattle.mpw_replies.specs.declared.reply.Line.{Line}
 use Rattle.mpw_replies.specs.declared.reply.Line.TheVariants as line
@@ -23,9 +22,8 @@ use Rattle.mpw_replies.specs.declared.reply.Reply.{Reply}
 use Rattle.mpw_replies.specs.declared.reply.Reply.TheVariants as reply
 use Rattle.mpw_replies.specs.declared.row.Ending.{Ending}
 use Rattle.mpw_replies.specs.declared.row.Ending.TheVariants as ending
+use Rattle.mpw_checking.specs.Checking.{finished_run}
 use Rattle.mpw_run.specs.declared.phase.Checked.{Checked}
-use Rattle.mpw_run.specs.declared.phase.Phase.{Phase}
-use Rattle.mpw_run.specs.declared.phase.Phase.TheVariants.{Idle, Cutting, Checking, Finished}
 use Rattle.mpw_run.specs.Same.{same_snapshot}
 use Rattle.mpw_run.specs.Step.{Run}
 use Rattle.mpw_wafer.specs.declared.wafer.Wafer.{Wafer}
@@ -39,17 +37,6 @@ use Rattle.mpw_signoff.specs.Named.{Named, named_in}
 use Rattle.mpw_signoff.specs.WaiverLines.{lines_from}
 
 -- ---- tests
-
--- The connection has a session.
-abbrev pub session_test : Policy → ℕ → Result (Unit {0}) Ending
-session_test policy connection = decided (in_session policy connection ∷ []) tt
-
--- A run is finished.
-abbrev pub finished_run : Phase → Result Checked Ending
-finished_run Idle = Err (ending.Refused code.NotFinished)
-finished_run (Cutting planned) = Err (ending.Refused code.NotFinished)
-finished_run (Checking c) = Err (ending.Refused code.NotFinished)
-finished_run (Finished f) = Ok f
 
 -- The marker that is named is in the book, and shown in full.
 abbrev pub if_full : List Bool → Named → Result Named Ending

@@ -1,7 +1,7 @@
 //! The rows of `waive`, `sign`, `waivers` and `verdict`.
 //!
 //! Each is a function that gives its value, or what ends the row, or tells want of memory. Its parts have the same form.
-ghost use Rattle.std.specs.Prelude.{◌≡◌, ◌∷◌, [], IfOk, map};
+ghost use Rattle.std.specs.Prelude.{◌≡◌, IfOk, map};
 ghost use Rattle.mpw_replies.specs.Listing.{stored};
 ghost use Rattle.mpw_replies.specs.Rows.{Answers};
 ghost use Rattle.mpw_signoff.specs.Internal.Named.{seen_named};
@@ -12,11 +12,12 @@ use crate::lines::waiver_lines;
 use crate::named::{Named, named_in};
 use crate::present::is_present;
 use crate::sight::is_shown;
+use mpw_checking::findings;
 use mpw_geom::Name;
 use mpw_rbac::{Object, Operation, Policy};
-use mpw_replies::{Code, Denial, Ending, Fault, Line, Lines, enter, seen_by};
+use mpw_replies::{Code, Denial, Ending, Fault, Line, Lines, enter, need_session, seen_by};
 use mpw_requests::MarkerName;
-use mpw_run::{Checked, Phase, Run};
+use mpw_run::{Checked, Run};
 use mpw_wafer::Wafer;
 use mpw_waiver::{WaiverFault, Waivers};
 use std::alloc::{AllocError, Global};
@@ -26,28 +27,6 @@ use std::alloc::{AllocError, Global};
 pub(crate) struct ByUser {
     pub place: usize,
     pub user: Name,
-}
-
-/// The connection has a session.
-fn session(policy: &Policy, connection: u32) -> Result<(), Fault>
-    ensures { Answers (λ x. x) result (row.session_test policy.now connection) }
-{
-    if !policy.has_session(connection) {
-        return Err(Fault::Told(Ending::Denied(Denial::Session)));
-    }
-    Ok(())
-}
-
-/// What a finished run found.
-fn findings(phase: &Phase) -> Result<&Checked, Fault>
-    ensures { Answers (λ f. f.now) result (row.finished_run phase.now) }
-{
-    match phase {
-        Phase::Idle => Err(Fault::from_code(Code::NotFinished)),
-        Phase::Cutting(_) => Err(Fault::from_code(Code::NotFinished)),
-        Phase::Checking(_) => Err(Fault::from_code(Code::NotFinished)),
-        Phase::Finished(checked) => Ok(checked),
-    }
 }
 
 /// The marker that is named, where it is shown in full: a look-up for each submission that it meets.
@@ -173,7 +152,7 @@ pub(crate) fn waivers(
 ) -> Result<Lines, Fault>
     ensures { Answers (λ lines. lines) result (row.waivers_row policy.now run.now waivers.now connection) }
 {
-    session(policy, connection)?;
+    need_session(policy, connection)?;
     let checked = findings(run.phase())?;
     Ok(session_lines(alloc, policy, connection, checked, waivers)?)
 }
@@ -206,14 +185,5 @@ pub(crate) fn verdict(
     enter(policy, connection, Operation::Verdict, Object::Desk)?;
     let checked = findings(run.phase())?;
     let present = is_present(alloc, wafer, checked.planned.snapshot())?;
-    Ok(one_line(alloc, verdict_line(present, waivers))?)
-}
-
-/// One line.
-fn one_line(alloc: Global, line: Line) -> Result<Lines, AllocError>
-    ensures { IfOk result (λ lines. lines ≡ stored line ∷ []) }
-{
-    let mut lines = Vec::new(alloc);
-    lines.push(line)?;
-    Lines::from_vec(alloc, lines)
+    Ok(Lines::of_line(alloc, verdict_line(present, waivers))?)
 }

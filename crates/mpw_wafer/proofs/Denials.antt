@@ -1,6 +1,6 @@
 -- Denials of a permission in the rows over the wafer.
 use Rattle.std.proofs.Common.{◌≡◌, ℕ, false, List, Result, Ok, Err, inl, inr, ap}
-use Rattle.mpw_replies.proofs.RowParts.{parts}
+use Rattle.mpw_replies.proofs.RowParts.{parts, denial_ended}
 use Rattle.mpw_geom.specs.declared.placing.Placing.{Placing}
 use Rattle.mpw_deck.specs.Decks.{Deck}
 use Rattle.mpw_deck.specs.Reading.{deck_of}
@@ -16,7 +16,7 @@ use Rattle.mpw_rbac.specs.declared.permission.Operation.TheVariants as operation
 use Rattle.mpw_rbac.specs.Policy.{Policy, permits}
 use Rattle.mpw_requests.specs.declared.wafer.WaferRequest.TheVariants as ask
 use Rattle.mpw_replies.specs.Laws.{EnteringDeniesWhatIsLacked}
-use Rattle.mpw_replies.specs.Rows.{denied, permitted, ended_by}
+use Rattle.mpw_replies.specs.Rows.{denied, permitted}
 use Rattle.mpw_replies.specs.declared.reply.Denial.TheVariants as denial
 use Rattle.mpw_replies.specs.declared.reply.Reply.TheVariants as reply
 use Rattle.mpw_replies.specs.declared.row.Ending.{Ending}
@@ -78,34 +78,27 @@ decked_denies lacks policy connection text operation object e =
 
 -- ---- outcomes
 
-permission_ended : (e : Ending) (operation : Operation) (object : Object)
-    → ended_by e ≡ reply.Denied (denial.Permission operation object)
-    → e ≡ denied operation object
-permission_ended (ending.Denied why) operation object told =
-    let same : why ≡ denial.Permission operation object = cc in ap (λ d. ending.Denied d) same
-permission_ended (ending.Refused why) operation object told = absurd cc
-
 place_ended : (shelf : List Submission) (wafer : Wafer) (cell label : List ℕ)
     (row : Result (List Placement) Ending) (operation : Operation) (object : Object)
     → (placed_outcome shelf wafer cell label row).reply ≡ reply.Denied
     (denial.Permission operation object) → row ≡ Err (denied operation object)
 place_ended shelf wafer cell label (Ok ps) operation object e = absurd cc
 place_ended shelf wafer cell label (Err ending) operation object e =
-    ap (λ x. Err x) (permission_ended ending operation object e)
+    ap (λ x. Err x) (denial_ended ending (denial.Permission operation object) e)
 
 unplace_ended : (wafer : Wafer) (row : Result (List Placement) Ending) (operation : Operation)
     (object : Object) → (unplaced_outcome wafer row).reply ≡ reply.Denied
     (denial.Permission operation object) → row ≡ Err (denied operation object)
 unplace_ended wafer (Ok ps) operation object e = absurd cc
 unplace_ended wafer (Err ending) operation object e =
-    ap (λ x. Err x) (permission_ended ending operation object e)
+    ap (λ x. Err x) (denial_ended ending (denial.Permission operation object) e)
 
 deck_ended : (wafer : Wafer) (row : Result Deck Ending) (operation : Operation) (object : Object)
     → (decked_outcome wafer row).reply ≡ reply.Denied (denial.Permission operation object)
     → row ≡ Err (denied operation object)
 deck_ended wafer (Ok deck) operation object e = absurd cc
 deck_ended wafer (Err ending) operation object e =
-    ap (λ x. Err x) (permission_ended ending operation object e)
+    ap (λ x. Err x) (denial_ended ending (denial.Permission operation object) e)
 
 pub wafer_denies : EnteringDeniesWhatIsLacked → WafersDenyWhatIsLacked
 wafer_denies lacks policy shelf wafer connection (ask.Place cell label placing) operation object e =

@@ -1,5 +1,5 @@
 //! The answers to requests over the wafer.
-ghost use Rattle.std.specs.Prelude.{◌≡◌, List, Result, Option, IfOk, map};
+ghost use Rattle.std.specs.Prelude.{◌≡◌, List, Result, Option, None, IfOk, map};
 ghost use Rattle.mpw_deck.specs.Decks.{Deck as DeckTold};
 ghost use Rattle.mpw_placings.specs.declared.placement.Placement.{Placement};
 ghost use Rattle.mpw_wafer.specs.Answers.{Gives};
@@ -26,16 +26,21 @@ pub struct WaferAnswer {
     pub next: Option<Wafer>,
 }
 
+/// A reply that leaves the wafer.
+fn no_change(reply: Reply) -> WaferAnswer
+    ensures { (result.reply ≡ reply) × (result.next ≡ None) }
+{
+    WaferAnswer { reply, next: None }
+}
+
 /// The line of a version, where there is one.
 fn version_line(alloc: Global, version: Option<u32>) -> Result<Lines, AllocError>
     ensures { IfOk result (λ lines. lines ≡ map stored (version_lines version)) }
 {
-    let Some(version) = version else {
-        return Ok(Lines::none());
-    };
-    let mut lines = Vec::new(alloc);
-    lines.push(Line::Version(version))?;
-    Lines::from_vec(alloc, lines)
+    match version {
+        Some(version) => Lines::of_line(alloc, Line::Version(version)),
+        None => Ok(Lines::none()),
+    }
 }
 
 /// The answer to what places.
@@ -59,10 +64,7 @@ fn placing(
                 next: Some(Wafer { placings, deck }),
             })
         }
-        Err(fault) => Ok(WaferAnswer {
-            reply: fault.reply()?,
-            next: None,
-        }),
+        Err(fault) => Ok(no_change(fault.reply()?)),
     }
 }
 
@@ -78,10 +80,7 @@ fn removal(wafer: &Wafer, made: Result<Placings, Fault>) -> Result<WaferAnswer, 
                 next: Some(Wafer { placings, deck }),
             })
         }
-        Err(fault) => Ok(WaferAnswer {
-            reply: fault.reply()?,
-            next: None,
-        }),
+        Err(fault) => Ok(no_change(fault.reply()?)),
     }
 }
 
@@ -100,10 +99,7 @@ fn checking(wafer: &Wafer, made: Result<Deck, Fault>) -> Result<WaferAnswer, All
                 }),
             })
         }
-        Err(fault) => Ok(WaferAnswer {
-            reply: fault.reply()?,
-            next: None,
-        }),
+        Err(fault) => Ok(no_change(fault.reply()?)),
     }
 }
 

@@ -94,7 +94,7 @@ impl Waivers {
     pub fn may_ask(&self, place: usize) -> Result<(), WaiverFault>
         ensures { result ≡ ask_test (waiver_at self.now place) }
     {
-        match self.of(place) {
+        match self.waiver_at(place) {
             Some(_) => Err(WaiverFault::Known),
             None => Ok(()),
         }
@@ -116,7 +116,7 @@ impl Waivers {
     ) -> Result<Result<(), WaiverFault>, AllocError>
         ensures { IfOk result (λ told. told ≡ sign_test shelf.now met.now user.now (waiver_at self.now place)) }
     {
-        let Some(waiver) = self.of(place) else {
+        let Some(waiver) = self.waiver_at(place) else {
             return Ok(Err(WaiverFault::NoWaiver));
         };
         if waiver.is_signed() {

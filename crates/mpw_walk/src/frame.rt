@@ -36,8 +36,8 @@ pub struct Frame<'a> {
     pub column: u16,
 }
 
-/// So many steps from a point.
-fn stepped(point: Point, count: u16, step: Point) -> Point
+/// The point that lies so many steps behind another.
+fn point_after(point: Point, count: u16, step: Point) -> Point
     requires from { IsWithin point }
     requires to { IsWithin (stepped point count step) }
     ensures { result ≡ stepped point count step }
@@ -56,10 +56,10 @@ pub fn instance(reference: &Reference, row: u16, column: u16) -> Placing
     requires near { IsNearArray reference.now }
     ensures { result ≡ instance reference.now row column }
 {
-    let first = stepped(reference.origin, column, reference.column_step);
+    let first = point_after(reference.origin, column, reference.column_step);
     Placing {
         orient: reference.orient,
-        by: stepped(first, row, reference.row_step),
+        by: point_after(first, row, reference.row_step),
     }
 }
 

@@ -21,6 +21,7 @@ use Rattle.mpw_requests.specs.declared.request.Request.{Request}
 use Rattle.mpw_requests.specs.declared.request.Request.TheVariants as ask
 use Rattle.mpw_requests.specs.declared.run.RunRequest.{RunRequest}
 use Rattle.mpw_requests.specs.declared.run.RunRequest.TheVariants.{Run, Cancel, Status, Markers}
+use Rattle.mpw_run.specs.Laws.{finishes}
 use Rattle.mpw_run.specs.declared.phase.RunReply.{RunReply}
 use Rattle.mpw_run.specs.declared.phase.RunReply.TheVariants as told
 use Rattle.mpw_tiles.specs.Plan.{Tiling, tiles}
@@ -37,18 +38,9 @@ event_of (answers.Cut a) = event.Cut a
 event_of (answers.Tile a) = event.Tile a
 
 -- The work ends with that response: the run is finished, or nothing is answered any more.
-abbrev pub is_last : RunReply → Bool
-is_last (told.Taken job) = false
-is_last told.NoJob = false
-is_last told.Kept = false
-is_last told.Finished = true
-is_last told.Stranger = false
-is_last told.Double = false
-is_last told.OldRun = false
-
 abbrev pub ends : Response → Bool
 ends (response.Told reply) = false
-ends (response.Run reply) = is_last reply
+ends (response.Run reply) = finishes reply
 ends response.Gone = false
 ends response.Restarted = false
 ends response.Ended = true

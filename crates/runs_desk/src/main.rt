@@ -48,7 +48,7 @@ fn answer_more(rt: &HostRuntime, table: &mut Table, words: &[&str]) -> Result<()
         }
         ["calls"] => table.tell_calls(rt),
         ["replay"] => table.replay(rt),
-        ["fill", conn, room] => table.fill(number(conn)?, number(room)?),
+        ["fill", connection, room] => table.fill(number(connection)?, number(room)?),
         _ => bail!("a line of a table"),
     }
 }
@@ -62,8 +62,13 @@ fn answer(rt: &HostRuntime, table: &mut Table, line: &str) -> Result<()> {
     let words: Vec<&str> = command.split_whitespace().collect(rt.alloc())?;
     match words.as_slice() {
         ["new", name] => begin(rt, table, name),
-        ["ask", conn, asked @ ..] => table.ask(rt, number(conn)?, asked, payload.trim()),
-        ["gone", conn] => table.end(rt, number(conn)?),
+        ["ask", connection, asked @ ..] => table.ask(
+            rt,
+            number(connection)?,
+            asked,
+            payload.trim(),
+        ),
+        ["gone", connection] => table.end(rt, number(connection)?),
         ["restart"] => table.restart(rt),
         ["take", worker, name] => table.take(rt, number(worker)?, name),
         words => answer_more(rt, table, words),

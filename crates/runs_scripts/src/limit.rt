@@ -12,7 +12,7 @@ use std::alloc::{AllocError, Global};
 /// Ends a connection so many times.
 fn end_connections(core: &mut Core, count: usize) -> Result<(), AllocError> {
     for _ in 0..count {
-        core.handle(&mut NoKeeper, Event::Gone { conn: 2 })?;
+        core.handle(&mut NoKeeper, Event::Gone { connection: 2 })?;
     }
     Ok(())
 }
@@ -20,7 +20,13 @@ fn end_connections(core: &mut Core, count: usize) -> Result<(), AllocError> {
 /// The text of what `whoami` is answered.
 fn whoami(alloc: Global, core: &mut Core) -> Result<Vec<u8>, AllocError> {
     let request = SharedRequest::new(alloc, Request::Whoami)?;
-    let response = core.handle(&mut NoKeeper, Event::Ask { conn: 1, request })?;
+    let response = core.handle(
+        &mut NoKeeper,
+        Event::Ask {
+            connection: 1,
+            request,
+        },
+    )?;
     let mut paper = Paper {
         bytes: Vec::new(alloc),
         room: usize::MAX,

@@ -36,7 +36,13 @@ fn login(alloc: Global) -> Result<SharedRequest, AllocError> {
 /// The word of what the officer's login on connection 1 is answered.
 fn open<K: Keeper>(alloc: Global, core: &mut Core, keeper: &mut K) -> Result<&'static str> {
     let request = login(alloc)?;
-    let response = core.handle(keeper, Event::Ask { conn: 1, request })?;
+    let response = core.handle(
+        keeper,
+        Event::Ask {
+            connection: 1,
+            request,
+        },
+    )?;
     Ok(response_word(&response))
 }
 

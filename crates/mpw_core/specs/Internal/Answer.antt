@@ -16,7 +16,8 @@ use Rattle.mpw_core.specs.declared.answer.Next.TheVariants.{Nothing, NextPolicy,
 use Rattle.mpw_core.specs.declared.event.Response.{Response}
 use Rattle.mpw_core.specs.declared.event.Response.TheVariants as response
 use Rattle.mpw_core.specs.declared.tables.Tables.{Tables}
-use Rattle.mpw_core.specs.Step.{State, Outcome, finishes, reply_of}
+use Rattle.mpw_run.specs.Laws.{finishes}
+use Rattle.mpw_core.specs.Step.{State, Outcome, reply_of}
 use Rattle.mpw_core.specs.Answer.{state_of_tables}
 
 -- the refusal is told, and nothing changes; want of memory gives no answer

@@ -4,4 +4,4 @@ use Rattle.mpw_replies.proofs.sight.seen_by.Given as goal
 
 abbrev pub invariant-loop-submission : goal.invariant-loop-submission
 invariant-loop-submission l =
-    l.seen.items ≡ seen_by l.fn.policy l.fn.conn (take l.submission-index l.fn.submissions)
+    l.seen.items ≡ seen_by l.fn.policy l.fn.connection (take l.submission-index l.fn.submissions)

@@ -10,7 +10,7 @@ loop-place-preserved c =
     let m = c.index-book-place.result in
     let before = c.loop-place.lines.items in
     let line =
-    c.in_ok-add_shown.ensures ∙ ap (λ o. before ++ shown_line rules seen m o) c.of.ensures in
+    c.in_ok-add_shown.ensures ∙ ap (λ o. before ++ shown_line rules seen m o) c.waiver_at.ensures in
     record {
       within = omega (arith, c.loop-place-test.true);
       lines =

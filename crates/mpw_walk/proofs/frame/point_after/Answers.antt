@@ -1,7 +1,7 @@
 use Rattle.std.proofs.Common.{rules, ◌∙◌, ap, ◌+ℤ◌, ◌*ℤ◌, w64, FitsSigned}
 use Rattle.mpw_geom.proofs.Chains.{same_point}
 use Rattle.mpw_walk.proofs.Arrays.{computed}
-use Rattle.mpw_walk.proofs.frame.stepped.Goals as goal
+use Rattle.mpw_walk.proofs.frame.point_after.Goals as goal
 
 pub returns : goal.returns
 returns c =

@@ -22,8 +22,11 @@ is_given-requires c =
     let placed = c.placed_element-placed.result in record {
       element = (given_placeable law v f c.requires.way c.requires.shape placed
           c.placed_element-placed.ensures).element;
-      near = given_near law v f c.requires.way c.requires.shape placed c.placed_element-placed.ensures;
-      short = given_short law v f c.requires.way c.requires.shape placed c.placed_element-placed.ensures;
+      near =
+          given_near law v f c.requires.way c.requires.shape placed c.placed_element-placed.ensures;
+      short =
+          given_short law v f c.requires.way c.requires.shape placed
+          c.placed_element-placed.ensures;
     }
 
 pub returns-then-not-is_given : goal.returns-then-not-is_given

@@ -1,7 +1,7 @@
 use Rattle.std.proofs.Common.{length, refl, arith}
 use Rattle.std.proofs.lemmas.Option.{slice_get_read}
 use Rattle.mpw_run.proofs.TileLists.{count_more, count_within}
-use Rattle.mpw_run.proofs.tiles.answered.Goals as goal
+use Rattle.mpw_run.proofs.tiles.answer_count.Goals as goal
 
 pub overflow_add-count : goal.overflow_add-count
 overflow_add-count c =
