@@ -1,10 +1,10 @@
 -- The key of a marker, as a word of a line: the name of its rule, and behind colons its axis, its side and four coordinates in nm.
 -- It is read from its end, since a name may hold colons.
 use Rattle.std.specs.Prelude.{ℕ, ℤ, List, [], ◌∷◌, codes, Option, Some, None, ◌==◌, if◌then◌else◌}
-use Rattle.std.specs.List.{concat}
 use Rattle.std.specs.Fmt.{decimal, signed_decimal}
 use Rattle.mpw_geom.specs.Names.{name_eq}
 use Rattle.mpw_text.specs.Text.{number_of}
+use Rattle.mpw_writing.specs.Writing.{with_colons}
 use Rattle.mpw_edges.specs.declared.run.Axis.{Axis}
 use Rattle.mpw_edges.specs.declared.run.Axis.TheVariants.{V, H}
 use Rattle.mpw_markers.specs.declared.marker.Key.{Key}
@@ -46,21 +46,8 @@ axis_text H = codes "H"
 -- the name of the rule, and, each behind a colon, the axis, the side, where the edges lie and which rows there are
 abbrev pub key_text : List ℕ → Spot → List ℕ
 key_text rule spot =
-    concat
-    (rule
-    ∷ codes ":"
-    ∷ axis_text spot.axis
-    ∷ codes ":"
-    ∷ decimal spot.side
-    ∷ codes ":"
-    ∷ signed_decimal spot.x1
-    ∷ codes ":"
-    ∷ signed_decimal spot.x2
-    ∷ codes ":"
-    ∷ signed_decimal spot.y0
-    ∷ codes ":"
-    ∷ signed_decimal spot.y1
-    ∷ [])
+    with_colons (rule ∷ axis_text spot.axis ∷ decimal spot.side ∷ signed_decimal spot.x1
+    ∷ signed_decimal spot.x2 ∷ signed_decimal spot.y0 ∷ signed_decimal spot.y1 ∷ [])
 
 -- the key of a marker that a request names
 abbrev pub marker_key : MarkerName → List ℕ

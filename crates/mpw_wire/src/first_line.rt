@@ -22,8 +22,7 @@ pub(crate) fn write_count<W: Sink>(
 ) -> Result<(), WireFault>
     ensures { Writes W.contents W.failures writer.old writer.new result (set_text setting (count_text count)) }
 {
-    let mut digits = Buffer::new();
-    write_set(writer, setting, &["OK ", digits.format(count)])
+    write_set(writer, setting, &["OK ", Buffer::new().format(count)])
 }
 
 /// The word of an operation.
@@ -192,11 +191,10 @@ fn write_fault<W: Sink>(
 ) -> Result<(), WireFault>
     ensures { Writes W.contents W.failures writer.old writer.new result (set_text setting (fault_at words.now place)) }
 {
-    let mut digits = Buffer::new();
     write_set(
         writer,
         setting,
-        &["REFUSED ", words, " ", digits.format(place)],
+        &["REFUSED ", words, " ", Buffer::new().format(place)],
     )
 }
 

@@ -17,6 +17,7 @@ use mpw_geom::Name;
 use mpw_markers::Key;
 use mpw_requests::MarkerName;
 use mpw_text::read_number;
+use mpw_writing::with_colons;
 use std::alloc::{AllocError, Global};
 
 /// Where a marker lies: its axis, its side, and its coordinates in nm.
@@ -80,29 +81,18 @@ pub(crate) fn write_key<W: Sink>(
 ) -> Result<(), WireFault>
     ensures { Writes W.contents W.failures writer.old writer.new result (set_text setting (key_text rule.now spot)) }
 {
-    let mut side = Buffer::new();
-    let mut x1 = Buffer::new();
-    let mut x2 = Buffer::new();
-    let mut y0 = Buffer::new();
-    let mut y1 = Buffer::new();
     write_set(
         writer,
         setting,
-        &[
+        &with_colons([
             rule.as_str(),
-            ":",
             axis_letter(&spot.axis),
-            ":",
-            side.format(spot.side),
-            ":",
-            x1.format(spot.x1),
-            ":",
-            x2.format(spot.x2),
-            ":",
-            y0.format(spot.y0),
-            ":",
-            y1.format(spot.y1),
-        ],
+            Buffer::new().format(spot.side),
+            Buffer::new().format(spot.x1),
+            Buffer::new().format(spot.x2),
+            Buffer::new().format(spot.y0),
+            Buffer::new().format(spot.y1),
+        ]),
     )
 }
 

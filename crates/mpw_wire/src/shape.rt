@@ -63,19 +63,16 @@ fn write_boundary_head<W: Sink>(
 ) -> Result<(), WireFault>
     ensures { Writes W.contents W.failures writer.old writer.new result (boundary_head cell.now version layer) }
 {
-    let mut versions = Buffer::new();
-    let mut layers = Buffer::new();
-    let mut datatypes = Buffer::new();
     write_parts(
         writer,
         &[
             cell.as_str(),
             " ",
-            versions.format(version),
+            Buffer::new().format(version),
             " ",
-            layers.format(layer.layer),
+            Buffer::new().format(layer.layer),
             "/",
-            datatypes.format(layer.datatype),
+            Buffer::new().format(layer.datatype),
             " boundary",
         ],
     )
@@ -90,28 +87,22 @@ fn write_path_head<W: Sink>(
 ) -> Result<(), WireFault>
     ensures { Writes W.contents W.failures writer.old writer.new result (path_head cell.now version path.now) }
 {
-    let mut versions = Buffer::new();
-    let mut layers = Buffer::new();
-    let mut datatypes = Buffer::new();
-    let mut width = Buffer::new();
-    let mut begin = Buffer::new();
-    let mut end = Buffer::new();
     write_parts(
         writer,
         &[
             cell.as_str(),
             " ",
-            versions.format(version),
+            Buffer::new().format(version),
             " ",
-            layers.format(path.layer.layer),
+            Buffer::new().format(path.layer.layer),
             "/",
-            datatypes.format(path.layer.datatype),
+            Buffer::new().format(path.layer.datatype),
             " path ",
-            width.format(path.width),
+            Buffer::new().format(path.width),
             " ",
-            begin.format(path.begin),
+            Buffer::new().format(path.begin),
             " ",
-            end.format(path.end),
+            Buffer::new().format(path.end),
         ],
     )
 }
