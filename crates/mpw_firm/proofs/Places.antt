@@ -3,7 +3,7 @@ use Rattle.std.proofs.Common.{◌≡◌, ◌<◌, ◌≤◌, ℕ, List, [], ◌�
 use Rattle.std.proofs.lemmas.Bool.{lt-ltb, le-ltb}
 use Rattle.mpw_records.specs.declared.fault.ReadFault.{ReadFault}
 use Rattle.mpw_records.specs.Records.{RawRecord, RecordOutcome}
-use Rattle.mpw_firm.specs.Places.{named, named_until}
+use Rattle.mpw_firm.specs.Places.{name_behind, named_until}
 
 pub until_end : (offset : ℕ) (so_far : Option RawRecord) (rs : List RecordOutcome) → rs ≡ []
     → named_until offset so_far rs ≡ so_far
@@ -23,6 +23,6 @@ until_there offset so_far rs rest r e h = rw (e, le-ltb r.offset offset h) refl
 
 pub until_more : (offset : ℕ) (so_far : Option RawRecord) (rs rest : List RecordOutcome)
     (r : RawRecord) → rs ≡ Ok r ∷ rest → r.offset < offset
-    → named_until offset so_far rs ≡ named_until offset (named r so_far) rest
+    → named_until offset so_far rs ≡ named_until offset (name_behind r so_far) rest
 unfolding named_until
 until_more offset so_far rs rest r e h = rw (e, lt-ltb r.offset offset h) refl

@@ -6,8 +6,8 @@ use Rattle.mpw_records.specs.declared.fault.ReadFault.{ReadFault}
 use Rattle.mpw_records.specs.declared.kind.TheConstants.{BGNSTR, ENDSTR, STRNAME}
 
 -- The record with the name of the structure that is open behind a record: one begins without a name, and there is none behind its end.
-abbrev pub named : RawRecord → Option RawRecord → Option RawRecord
-named r so_far =
+abbrev pub name_behind : RawRecord → Option RawRecord → Option RawRecord
+name_behind r so_far =
     if (r.kind == BGNSTR) || (r.kind == ENDSTR) then None
     else if r.kind == STRNAME then Some r
     else so_far
@@ -17,7 +17,7 @@ unfoldable pub named_until : ℕ → Option RawRecord → List RecordOutcome →
 named_until offset so_far [] = so_far
 named_until offset so_far (Err fault ∷ rest) = so_far
 named_until offset so_far (Ok r ∷ rest) =
-    if nat_lt r.offset offset then named_until offset (named r so_far) rest else so_far
+    if nat_lt r.offset offset then named_until offset (name_behind r so_far) rest else so_far
 
 abbrev pub name_before : List ℕ → ℕ → Option RawRecord
 name_before text offset = named_until offset None (outcomes_of text)

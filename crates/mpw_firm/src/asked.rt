@@ -54,7 +54,7 @@ fn drawn_under(
 {
     match read_layout(rt.alloc(), deck, &options.top, text) {
         Ok(snapshot) => Ok(snapshot),
-        Err(fault) => Err(refused(rt, options, &fault, text)),
+        Err(fault) => Err(refusal_of(rt, options, &fault, text)),
     }
 }
 
@@ -66,7 +66,7 @@ fn snapshot_of(rt: &HostRuntime, options: &Options) -> Result<Snapshot, FirmFaul
 }
 
 /// What is told of a library of that text that isn't checked.
-pub fn refused(rt: &HostRuntime, options: &Options, fault: &CheckFault, text: &[u8]) -> FirmFault
+pub fn refusal_of(rt: &HostRuntime, options: &Options, fault: &CheckFault, text: &[u8]) -> FirmFault
     ensures { Tells (check_told (string_bytes options.now.file) options.now.top fault.now text.now) result }
 {
     let (file, top) = (options.file.as_str(), options.top.as_str());
@@ -87,7 +87,7 @@ pub fn now(rt: &HostRuntime) -> Result<Instant, FirmFault>
 }
 
 /// What came of writing to the standard output.
-pub fn printed(rt: &HostRuntime, written: Result<(), WireFault>) -> Result<(), FirmFault>
+pub fn outcome_of_print(rt: &HostRuntime, written: Result<(), WireFault>) -> Result<(), FirmFault>
     ensures ok { IfOk written (λ _. IfErr result (λ _. ⊥)) }
     ensures failed { IfErr written (λ _. IfOk result (λ _. ⊥)) }
     ensures failure { IfErr result IsFailure }
@@ -110,7 +110,7 @@ pub fn print(rt: &HostRuntime, snapshot: &Snapshot, book: Book) -> Result<(), Fi
         return Err(FirmFault::Memory);
     };
     let written = write_markers(rt.alloc(), snapshot, book, &mut Counted::new(output));
-    printed(rt, written)
+    outcome_of_print(rt, written)
 }
 
 /// Prints the markers, and writes the report.
@@ -173,7 +173,7 @@ pub fn check(
     let snapshot = snapshot_of(rt, options)?;
     let book = match book_of(rt, threads, &snapshot) {
         Ok(book) => book,
-        Err(fault) => return Err(refused(rt, options, &fault, &[])),
+        Err(fault) => return Err(refusal_of(rt, options, &fault, &[])),
     };
     let found = book.len();
     let _ = tell_summary(rt, &snapshot, book.as_slice(), &start);

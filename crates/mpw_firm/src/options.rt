@@ -10,7 +10,7 @@ use crate::fault::FirmFault;
 use crate::out_file::{free_option, is_among, out_file};
 use crate::picture_options::{Wanted, read_wanted, with_picture};
 use crate::stitch_options::{StitchOptions, read_stitch};
-use crate::told::misused;
+use crate::told::misuse;
 use clap::error::ErrorKind;
 use clap::{Arg, ArgAction, ArgMatches, Command, Error};
 use mpw_geom::{Name, NameFault};
@@ -107,7 +107,7 @@ fn command<'a>(alloc: Global) -> Result<Command<'a>, AllocError> {
 pub fn usage(alloc: Global, text: &str) -> FirmFault
     ensures { Misuses text.now result }
 {
-    misused(String::from_str(alloc, text))
+    misuse(String::from_str(alloc, text))
 }
 
 /// The name of a structure that a text is.
@@ -160,7 +160,7 @@ fn read_tiles(
 }
 
 /// What the command line's words give.
-fn given(alloc: Global, matches: &ArgMatches<'_>) -> Result<Options, FirmFault>
+fn options_in(alloc: Global, matches: &ArgMatches<'_>) -> Result<Options, FirmFault>
     ensures { IfErr result IsMisuse }
 {
     let words = (
@@ -246,7 +246,7 @@ pub fn told_by(
 }
 
 /// The words of a command, with its name first.
-pub fn named<'a>(
+pub fn command_words<'a>(
     alloc: Global,
     name: &'a str,
     words: &[&'a str],
@@ -263,9 +263,9 @@ pub fn named<'a>(
 fn options_of(alloc: Global, words: &[&str]) -> Result<Options, FirmFault>
     ensures { IfErr result IsMisuse }
 {
-    let words = named(alloc, "mpw check", words)?;
+    let words = command_words(alloc, "mpw check", words)?;
     match command(alloc)?.try_get_matches_from(words.as_slice()) {
-        Ok(matches) => given(alloc, &matches),
+        Ok(matches) => options_in(alloc, &matches),
         Err(error) => Err(misuse_of(alloc, error)),
     }
 }

@@ -4,7 +4,7 @@ ghost use Rattle.mpw_spread.specs.Spread.{IsPartOf};
 ghost use Rattle.mpw_firm.specs.Drawings.{IsReadFrom};
 ghost use Rattle.mpw_firm.specs.Told.{IsFailure};
 
-use crate::asked::{drawn_of, now, refused};
+use crate::asked::{drawn_of, now, refusal_of};
 use crate::fault::FirmFault;
 use crate::line::Line;
 use crate::options::Options;
@@ -51,7 +51,7 @@ fn part_of(
 {
     let start = now(rt)?;
     let Some(tiles) = tile_count(snapshot) else {
-        return Err(refused(rt, options, &CheckFault::Tiles, &[]));
+        return Err(refusal_of(rt, options, &CheckFault::Tiles, &[]));
     };
     let Some(span) = range.span(tiles) else {
         return Err(beyond_plan(rt.alloc(), tiles));

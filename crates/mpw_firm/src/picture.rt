@@ -9,7 +9,7 @@ ghost use Rattle.mpw_writing.specs.Writing.{Adds};
 use crate::fault::FirmFault;
 use crate::key::find_marker;
 use crate::picture_options::Wanted;
-use crate::told::{misused, unwritten};
+use crate::told::{misuse, unwritten_file};
 use mpw_geom::{Box2, Name};
 use mpw_markers::Book;
 use mpw_picture::{Picture, draw, marker_window, whole_window, write_picture};
@@ -20,10 +20,10 @@ use std::io::{self, BufWriter, Write};
 
 /// What is told of a key that no marker has.
 #[tactic(auto, unfolding(crate::specs::Keys::unknown_text))]
-fn unknown(alloc: Global, key: &str) -> FirmFault
+fn unknown_marker(alloc: Global, key: &str) -> FirmFault
     ensures { Misuses (unknown_text key.now) result }
 {
-    misused(format!(in alloc;
+    misuse(format!(in alloc;
         "error: --marker {key}: no marker has this key: take a line of the listing up to the blank"
     ))
 }
@@ -42,7 +42,7 @@ fn window_round(
     let rules = snapshot.deck().rules().as_slice();
     match find_marker(alloc, rules, book.as_slice(), key) {
         Ok(Some(marker)) => Ok(marker_window(rules, marker)),
-        Ok(None) => Err(unknown(alloc, key)),
+        Ok(None) => Err(unknown_marker(alloc, key)),
         Err(_) => Err(FirmFault::Memory),
     }
 }
@@ -110,6 +110,6 @@ pub fn picture(
     match write_file(rt, file, snapshot, top, &picture) {
         Ok(()) => Ok(()),
         Err(error) if error.kind() == io::ErrorKind::OutOfMemory => Err(FirmFault::Memory),
-        Err(_) => Err(unwritten(rt.alloc(), file)),
+        Err(_) => Err(unwritten_file(rt.alloc(), file)),
     }
 }

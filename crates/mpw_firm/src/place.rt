@@ -1,7 +1,7 @@
 //! The structure that a record of a library's text stands in. `specs/Places.antt` has what contracts say of it.
 ghost use Rattle.std.specs.Prelude.{◌≡◌, option_map, IfOk, IfErr};
 ghost use Rattle.mpw_records.specs.Records.{raw};
-ghost use Rattle.mpw_firm.specs.Places.{named, name_before, structure_at};
+ghost use Rattle.mpw_firm.specs.Places.{name_behind, name_before, structure_at};
 ghost use Rattle.mpw_firm.specs.declared.fault.FirmFault.TheVariants.{Memory};
 
 use crate::fault::FirmFault;
@@ -13,8 +13,8 @@ use std::alloc::Global;
 
 /// The record with the name of the structure that is open behind a record: one begins without a name, and there is none behind its
 /// end.
-fn named<'a>(next: Record<'a>, so_far: Option<Record<'a>>) -> Option<Record<'a>>
-    ensures { option_map raw result ≡ named (raw next.entry) (option_map raw so_far.entry) }
+fn name_behind<'a>(next: Record<'a>, so_far: Option<Record<'a>>) -> Option<Record<'a>>
+    ensures { option_map raw result ≡ name_behind (raw next.entry) (option_map raw so_far.entry) }
 {
     match next.kind {
         BGNSTR | ENDSTR => None,
@@ -31,7 +31,7 @@ fn name_before(text: &[u8], offset: usize) -> Option<Record<'_>>
     let mut found = None;
     while let Some(outcome) = records.next() {
         match outcome {
-            Ok(record) if record.offset < offset => found = named(record, found),
+            Ok(record) if record.offset < offset => found = name_behind(record, found),
             _ => return found,
         }
     }

@@ -5,7 +5,7 @@ ghost use Rattle.mpw_report.specs.Report.{report_text};
 ghost use Rattle.mpw_writing.specs.Writing.{Adds};
 
 use crate::fault::FirmFault;
-use crate::told::unwritten;
+use crate::told::unwritten_file;
 use mpw_geom::Name;
 use mpw_markers::Book;
 use mpw_report::write_report;
@@ -58,6 +58,6 @@ pub fn report(
     match write_file(rt, file.as_str(), snapshot, top, book) {
         Ok(()) => Ok(()),
         Err(error) if error.kind() == io::ErrorKind::OutOfMemory => Err(FirmFault::Memory),
-        Err(_) => Err(unwritten(rt.alloc(), file.as_str())),
+        Err(_) => Err(unwritten_file(rt.alloc(), file.as_str())),
     }
 }

@@ -4,7 +4,7 @@ ghost use Rattle.mpw_parts.specs.Reading.{part_of};
 ghost use Rattle.mpw_firm.specs.Stitched.{IsNamed, IsOfFile};
 ghost use Rattle.mpw_firm.specs.Told.{IsFailure};
 
-use crate::asked::printed;
+use crate::asked::outcome_of_print;
 use crate::fault::FirmFault;
 use crate::progress::tell_markers;
 use crate::reading::read_file;
@@ -62,7 +62,7 @@ fn print_whole(rt: &HostRuntime, whole: &Whole) -> Result<(), FirmFault>
         return Err(FirmFault::Memory);
     };
     let written = write_whole(rt.alloc(), whole, &mut Counted::new(output));
-    printed(rt, written)
+    outcome_of_print(rt, written)
 }
 
 /// Stitches the parts that the command line names, prints the markers, writes the report and tells how many markers there are.

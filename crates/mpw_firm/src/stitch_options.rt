@@ -4,7 +4,7 @@ ghost use Rattle.mpw_firm.specs.Commands.{IsOfStitch};
 ghost use Rattle.mpw_firm.specs.Told.{IsMisuse};
 
 use crate::fault::FirmFault;
-use crate::options::{Asked, Telling, VERSION, misuse_of, named, told_by, usage};
+use crate::options::{Asked, Telling, VERSION, command_words, misuse_of, told_by, usage};
 use crate::out_file::{free_option, out_file};
 use clap::{Arg, ArgAction, ArgMatches, Command};
 use std::alloc::{AllocError, Global};
@@ -48,7 +48,7 @@ fn inputs(words: &[&str]) -> usize {
 }
 
 /// The texts, each copied.
-fn copied(alloc: Global, words: &[&str]) -> Result<Vec<String>, AllocError> {
+fn copies_of(alloc: Global, words: &[&str]) -> Result<Vec<String>, AllocError> {
     let mut texts = Vec::new(alloc);
     for word in words {
         texts.push(String::from_str(alloc, word)?)?;
@@ -57,7 +57,7 @@ fn copied(alloc: Global, words: &[&str]) -> Result<Vec<String>, AllocError> {
 }
 
 /// What the command line's words give.
-fn given(alloc: Global, matches: &ArgMatches<'_>) -> Result<StitchOptions, FirmFault>
+fn options_in(alloc: Global, matches: &ArgMatches<'_>) -> Result<StitchOptions, FirmFault>
     ensures { IfErr result IsMisuse }
 {
     let Some(files) = matches.get_strs("part") else {
@@ -67,7 +67,7 @@ fn given(alloc: Global, matches: &ArgMatches<'_>) -> Result<StitchOptions, FirmF
         return Err(usage(alloc, "error: only one part can be the standard input"));
     }
     Ok(StitchOptions {
-        files: copied(alloc, files)?,
+        files: copies_of(alloc, files)?,
         report: out_file(alloc, "report", matches.get_str("report"), files, "a part")?,
     })
 }
@@ -76,9 +76,9 @@ fn given(alloc: Global, matches: &ArgMatches<'_>) -> Result<StitchOptions, FirmF
 fn options_of(alloc: Global, words: &[&str]) -> Result<StitchOptions, FirmFault>
     ensures { IfErr result IsMisuse }
 {
-    let words = named(alloc, "mpw stitch", words)?;
+    let words = command_words(alloc, "mpw stitch", words)?;
     match command(alloc)?.try_get_matches_from(words.as_slice()) {
-        Ok(matches) => given(alloc, &matches),
+        Ok(matches) => options_in(alloc, &matches),
         Err(error) => Err(misuse_of(alloc, error)),
     }
 }

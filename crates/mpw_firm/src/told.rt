@@ -16,7 +16,7 @@ use mpw_records::ReadFault;
 use std::alloc::{AllocError, Global};
 
 /// A fault of a library, a deck or parts that was told, or want of memory.
-pub fn told(text: Result<String, AllocError>) -> FirmFault
+pub fn refusal(text: Result<String, AllocError>) -> FirmFault
     ensures { (bytes : List ℕ) → IfOk text (λ t. string_bytes t ≡ bytes) → Refuses bytes result }
 {
     match text {
@@ -26,7 +26,7 @@ pub fn told(text: Result<String, AllocError>) -> FirmFault
 }
 
 /// A fault of the command line that was told, or want of memory.
-pub fn misused(text: Result<String, AllocError>) -> FirmFault
+pub fn misuse(text: Result<String, AllocError>) -> FirmFault
     ensures { (bytes : List ℕ) → IfOk text (λ t. string_bytes t ≡ bytes) → Misuses bytes result }
 {
     match text {
@@ -36,7 +36,7 @@ pub fn misused(text: Result<String, AllocError>) -> FirmFault
 }
 
 /// The failure of a file or a device that was told, or want of memory.
-pub fn failed(text: Result<String, AllocError>) -> FirmFault
+pub fn failure(text: Result<String, AllocError>) -> FirmFault
     ensures { (bytes : List ℕ) → IfOk text (λ t. string_bytes t ≡ bytes) → Fails bytes result }
 {
     match text {
@@ -46,7 +46,7 @@ pub fn failed(text: Result<String, AllocError>) -> FirmFault
 }
 
 /// The names, with a space before each.
-fn listed(alloc: Global, names: &Names) -> Result<String, AllocError>
+fn list_of_names(alloc: Global, names: &Names) -> Result<String, AllocError>
     ensures { IfOk result (λ text. string_bytes text ≡ spaced names.now) }
 {
     let mut text = String::new(alloc);
@@ -63,7 +63,7 @@ fn line_fault(alloc: Global, file: &str, fault: DeckFault) -> FirmFault
     ensures { Refuses (deck_text file.now fault) result }
 {
     let sentence = of_deck(fault.kind);
-    told(format!(in alloc; "{file}: {fault}: {sentence}"))
+    refusal(format!(in alloc; "{file}: {fault}: {sentence}"))
 }
 
 /// What is told of a deck's fault.
@@ -81,8 +81,8 @@ pub fn deck_fault(alloc: Global, file: &str, fault: DeckFault) -> FirmFault
 fn outside(alloc: Global, file: &str, names: &Names) -> FirmFault
     ensures { Refuses (outside_text file.now (spaced names.now)) result }
 {
-    match listed(alloc, names) {
-        Ok(names) => told(format!(in alloc;
+    match list_of_names(alloc, names) {
+        Ok(names) => refusal(format!(in alloc;
             "{file}: structures that the library doesn't have:{names}: a check by itself needs \
             them in the file"
         )),
@@ -101,7 +101,7 @@ fn named_fault(
 ) -> FirmFault
     ensures { Refuses (named_text file.now (fault_text fault) name.now sentence.now) result }
 {
-    told(format!(in alloc; "{file}: {fault} in {name}: {sentence}"))
+    refusal(format!(in alloc; "{file}: {fault} in {name}: {sentence}"))
 }
 
 /// What is told of a fault of records in no structure.
@@ -109,7 +109,7 @@ fn named_fault(
 fn record_fault(alloc: Global, file: &str, fault: ReadFault, sentence: &str) -> FirmFault
     ensures { Refuses (record_text file.now (fault_text fault) sentence.now) result }
 {
-    told(format!(in alloc; "{file}: {fault}: {sentence}"))
+    refusal(format!(in alloc; "{file}: {fault}: {sentence}"))
 }
 
 /// What is told of a fault of a library's records: the code and the byte, the structure, and what it means.
@@ -130,7 +130,7 @@ fn structure_fault(alloc: Global, file: &str, top: &str, fault: HierFault) -> Fi
     ensures { Refuses (structure_text file.now top.now fault) result }
 {
     let sentence = of_structure(fault);
-    told(format!(in alloc; "{file}: {top}: {fault}: {sentence}"))
+    refusal(format!(in alloc; "{file}: {top}: {fault}: {sentence}"))
 }
 
 /// What is told of a plan of too many tiles.
@@ -138,7 +138,7 @@ fn structure_fault(alloc: Global, file: &str, top: &str, fault: HierFault) -> Fi
 fn tiles_fault(alloc: Global, file: &str, top: &str) -> FirmFault
     ensures { Refuses (tiles_text file.now top.now) result }
 {
-    told(format!(in alloc;
+    refusal(format!(in alloc;
         "{file}: {top}: more than 4096 tiles: take a larger tile in the deck's first line"
     ))
 }
@@ -167,15 +167,15 @@ pub fn check_fault(
 pub fn device_fault(alloc: Global, file: &str) -> FirmFault
     ensures { Fails (unread_text file.now) result }
 {
-    failed(format!(in alloc; "{file}: can't be read"))
+    failure(format!(in alloc; "{file}: can't be read"))
 }
 
 /// What is told of a file that can't be written.
 #[tactic(auto, unfolding(crate::specs::Told::unwritten_text))]
-pub fn unwritten(alloc: Global, file: &str) -> FirmFault
+pub fn unwritten_file(alloc: Global, file: &str) -> FirmFault
     ensures { Fails (unwritten_text file.now) result }
 {
-    failed(format!(in alloc; "{file}: can't be written"))
+    failure(format!(in alloc; "{file}: can't be written"))
 }
 
 /// What is told where the standard output failed.
@@ -183,5 +183,5 @@ pub fn unwritten(alloc: Global, file: &str) -> FirmFault
 pub fn output_fault(alloc: Global) -> FirmFault
     ensures { Fails output_text result }
 {
-    failed(String::from_str(alloc, "the standard output failed"))
+    failure(String::from_str(alloc, "the standard output failed"))
 }

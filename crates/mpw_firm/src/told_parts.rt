@@ -5,7 +5,7 @@ ghost use Rattle.mpw_firm.specs.Told.{Refuses, Tells, Misuses};
 ghost use Rattle.mpw_firm.specs.ToldParts.{holder_of, has_tile, names_with, other_of, other_text, unnamed_text, no_part_text, no_markers_text, nothing_text, missing_text, doubled_text, fault_text, range_text};
 
 use crate::fault::FirmFault;
-use crate::told::{misused, told};
+use crate::told::{misuse, refusal};
 use mpw_parts::{Difference, Part, PartsFault};
 use std::alloc::{AllocError, Global};
 use std::marker::Model;
@@ -60,9 +60,9 @@ pub fn beyond_plan(alloc: Global, tiles: u32) -> FirmFault
     ensures { Misuses (range_text tiles) result }
 {
     if tiles > 0 {
-        misused(format!(in alloc; "error: --tiles: the plan has {tiles} tiles, counted from 0"))
+        misuse(format!(in alloc; "error: --tiles: the plan has {tiles} tiles, counted from 0"))
     } else {
-        misused(String::from_str(
+        misuse(String::from_str(
             alloc,
             "error: --tiles: the structure shows no shape, so its plan has no tiles: --tiles 1/1 \
             prints its part",
@@ -75,7 +75,7 @@ pub fn beyond_plan(alloc: Global, tiles: u32) -> FirmFault
 pub fn no_part(alloc: Global, file: &str) -> FirmFault
     ensures { Refuses (no_part_text file.now) result }
 {
-    told(format!(in alloc;
+    refusal(format!(in alloc;
         "{file}: no part, or one that was cut off: 'mpw check --tiles' prints parts"
     ))
 }
@@ -85,7 +85,7 @@ pub fn no_part(alloc: Global, file: &str) -> FirmFault
 pub fn no_markers(alloc: Global) -> FirmFault
     ensures { Refuses no_markers_text result }
 {
-    told(String::from_str(
+    refusal(String::from_str(
         alloc,
         "the parts have markers that no check finds: print them again",
     ))
@@ -96,15 +96,15 @@ pub fn no_markers(alloc: Global) -> FirmFault
 fn other_part(alloc: Global, part: &str, what: &str, first: &str) -> FirmFault
     ensures { Refuses (other_text part.now what.now first.now) result }
 {
-    told(format!(in alloc; "{part}: a part of another {what} than {first}"))
+    refusal(format!(in alloc; "{part}: a part of another {what} than {first}"))
 }
 
 /// The same where the files have no such place.
 #[tactic(auto, unfolding(crate::specs::ToldParts::unnamed_text))]
-fn unnamed(alloc: Global, what: &str) -> FirmFault
+fn unnamed_part(alloc: Global, what: &str) -> FirmFault
     ensures { Refuses (unnamed_text what.now) result }
 {
-    told(format!(in alloc; "a part is of another {what}"))
+    refusal(format!(in alloc; "a part is of another {what}"))
 }
 
 /// What is told of the part at a place, which is of another check than that of the first.
@@ -113,9 +113,9 @@ fn other(alloc: Global, files: &[PartFile<'_>], place: usize, what: Difference) 
 {
     let what = what.word();
     match files.get(0) {
-        None => unnamed(alloc, what),
+        None => unnamed_part(alloc, what),
         Some(first) => match files.get(place) {
-            None => unnamed(alloc, what),
+            None => unnamed_part(alloc, what),
             Some(part) => other_part(alloc, part.name, what, first.name),
         },
     }
@@ -137,19 +137,21 @@ fn holders(alloc: Global, files: &[PartFile<'_>], tile: usize) -> Result<String,
 
 /// What is told of a tile that no part has.
 #[tactic(auto, unfolding(crate::specs::ToldParts::missing_text))]
-fn missing(alloc: Global, tiles: u32, tile: usize) -> FirmFault
+fn missing_tile(alloc: Global, tiles: u32, tile: usize) -> FirmFault
     ensures { Refuses (missing_text tile tiles) result }
 {
-    told(format!(in alloc; "tile {tile} is in no part: the plan has {tiles} tiles, counted from 0"))
+    refusal(format!(in alloc;
+        "tile {tile} is in no part: the plan has {tiles} tiles, counted from 0"
+    ))
 }
 
 /// What is told of a tile that more than one part has.
 #[tactic(auto, unfolding(crate::specs::ToldParts::doubled_text))]
-fn doubled(alloc: Global, files: &[PartFile<'_>], tile: usize) -> FirmFault
+fn doubled_tile(alloc: Global, files: &[PartFile<'_>], tile: usize) -> FirmFault
     ensures { Refuses (doubled_text tile (names_with tile files.now)) result }
 {
     match holders(alloc, files, tile) {
-        Ok(names) => told(format!(in alloc; "tile {tile} is in more than one part:{names}")),
+        Ok(names) => refusal(format!(in alloc; "tile {tile} is in more than one part:{names}")),
         Err(_) => FirmFault::Memory,
     }
 }
@@ -159,7 +161,7 @@ fn doubled(alloc: Global, files: &[PartFile<'_>], tile: usize) -> FirmFault
 fn nothing(alloc: Global) -> FirmFault
     ensures { Refuses nothing_text result }
 {
-    told(String::from_str(alloc, "there is no part"))
+    refusal(String::from_str(alloc, "there is no part"))
 }
 
 /// What is told of parts that aren't stitched, of these files and a plan with so many tiles.
@@ -175,7 +177,7 @@ pub fn parts_fault(
         PartsFault::Memory => FirmFault::Memory,
         PartsFault::NoPart => nothing(alloc),
         PartsFault::Other(place, what) => other(alloc, files, place, what),
-        PartsFault::Missing(tile) => missing(alloc, tiles, tile),
-        PartsFault::Doubled(tile) => doubled(alloc, files, tile),
+        PartsFault::Missing(tile) => missing_tile(alloc, tiles, tile),
+        PartsFault::Doubled(tile) => doubled_tile(alloc, files, tile),
     }
 }

@@ -89,7 +89,7 @@ fn are_alone(markers: &[Marker], rules: usize) -> bool
 }
 
 /// The book of parts of these files, of a plan with so many tiles.
-fn stitched(
+fn stitch_files(
     alloc: Global,
     files: &[PartFile<'_>],
     tiles: u32,
@@ -129,7 +129,7 @@ fn book_of(
     ensures alone { IfOk result (λ book. are_alone rules book ≡ true) }
     ensures refused { IfErr result (IsOfBook files.now tiles rules parts.items) }
 {
-    match stitched(alloc, files, tiles, parts) {
+    match stitch_files(alloc, files, tiles, parts) {
         Ok(book) => alone(alloc, rules, book),
         Err(fault) => Err(fault),
     }
@@ -148,7 +148,7 @@ fn layout_of(alloc: Global, deck: Deck, top: &Name) -> Result<Snapshot, FirmFaul
 }
 
 /// The same, without what the law tells of it.
-fn made(alloc: Global, files: &[PartFile<'_>], parts: Vec<Part>) -> Result<Whole, FirmFault>
+fn make_whole(alloc: Global, files: &[PartFile<'_>], parts: Vec<Part>) -> Result<Whole, FirmFault>
     ensures whole { IfOk result (IsWholeOf parts.items) }
     ensures refused { IfErr result IsRefusal }
 {
@@ -174,7 +174,7 @@ pub fn whole_of(alloc: Global, files: &[PartFile<'_>], parts: Vec<Part>) -> Resu
     ensures refused { IfErr result IsRefusal }
 {
     wholes_are_listed_as_checks();
-    made(alloc, files, parts)
+    make_whole(alloc, files, parts)
 }
 
 /// Writes the markers of a whole, just as a check lists them of any layout of a structure of that name under that deck.

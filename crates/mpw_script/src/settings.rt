@@ -104,7 +104,7 @@ fn script_settings(alloc: Global, options: &ArgMatches<'_>) -> Result<Settings, 
 }
 
 /// The settings of the subcommand that the words name.
-fn chosen(alloc: Global, matches: &ArgMatches<'_>) -> Result<Settings, ProgramFault>
+fn settings_of(alloc: Global, matches: &ArgMatches<'_>) -> Result<Settings, ProgramFault>
     ensures ok { IfOk result (λ settings. (rows : List Row) × (subcommand_rows_of matches.now ≡ Some (codes "script", rows)) × AreOptions settings rows) }
     ensures refused { IfErr result (IsFaultOf ((rows : List Row) → subcommand_rows_of matches.now ≡ Some (codes "script", rows) → GiveNoOptions rows)) }
 {
@@ -123,7 +123,7 @@ pub fn read_settings<'a>(alloc: Global, words: &'a [&'a str]) -> Result<Settings
     ensures refused { IfErr result (IsFaultOf (GiveNone (map (λ word. word.now) words.entry.now))) }
 {
     match program_command(alloc)?.try_get_matches_from(words) {
-        Ok(matches) => chosen(alloc, &matches),
+        Ok(matches) => settings_of(alloc, &matches),
         Err(error) if error.kind() == ErrorKind::OutOfMemory => Err(ProgramFault::Memory),
         Err(error) => Err(ProgramFault::Usage(error.to_string(alloc)?)),
     }

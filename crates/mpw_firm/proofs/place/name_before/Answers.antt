@@ -7,7 +7,7 @@ use Rattle.mpw_firm.proofs.place.name_before.Goals as goal
 pub loop-outcome-preserved : goal.loop-outcome-preserved
 loop-outcome-preserved c =
     let stands = c.in-Some.ensures.some ∙ ap (λ o. seen o ∷ c.next.new.self) c.in-Ok.is in
-    ap (λ found. named_until c.args.offset found c.next.new.self) c.named-found.ensures
+    ap (λ found. named_until c.args.offset found c.next.new.self) c.name_behind-found.ensures
     ∙ sym (until_more c.args.offset (option_map raw c.loop-outcome.found) c.loop-outcome.records
     c.next.new.self (raw c.in-Ok.record) stands c.if-record-offset.true)
     ∙ c.loop-outcome.invariant

@@ -7,6 +7,6 @@ use Rattle.mpw_firm.proofs.told.outside.Goals as goal
 pub returns-in-Ok : goal.returns-in-Ok
 unfolding outside_text
 returns-in-Ok c =
-    subst (λ names. Refuses (outside_text c.args.file.now names) c.told.result) c.in-Ok.ensures
-    (c.told.ensures (outside_text c.args.file.now (string_bytes c.in-Ok.names))
+    subst (λ names. Refuses (outside_text c.args.file.now names) c.refusal.result) c.in-Ok.ensures
+    (c.refusal.ensures (outside_text c.args.file.now (string_bytes c.in-Ok.names))
     c.format.ensures.ok)

@@ -3,4 +3,4 @@ use Rattle.mpw_firm.proofs.whole.whole_of.Goals as goal
 
 pub returns-clause-listed : goal.returns-clause-listed
 returns-clause-listed c =
-    listed_if c.wholes_are_listed_as_checks.ensures _ _ c.made.ensures.whole
+    listed_if c.wholes_are_listed_as_checks.ensures _ _ c.make_whole.ensures.whole

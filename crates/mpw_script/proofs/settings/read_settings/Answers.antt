@@ -22,16 +22,16 @@ returns-in-Ok-clause-ok c =
     ∙ ap (λ (a : App). subcommand_of a (map (λ word. word.now) c.args.words.now)) app_is in
     let taken = ap (λ (a : App). fault_of a (map (λ word. word.now) c.args.words.now)) (sym app_is)
     ∙ c.in-Ok.ensures.kinds (ap is_simple_and_free app_is ∙ is_free) in
-    IfOk-weaker c.chosen.result _ _ (λ settings h. (taken, (h.0, sym found ∙ h.1, h.2)))
-    c.chosen.ensures.ok
+    IfOk-weaker c.settings_of.result _ _ (λ settings h. (taken, (h.0, sym found ∙ h.1, h.2)))
+    c.settings_of.ensures.ok
 
 pub returns-in-Ok-clause-refused : goal.returns-in-Ok-clause-refused
 returns-in-Ok-clause-refused c =
     let app_is = c.in_ok-program_command.ensures in
     let found = (c.in-Ok.ensures.matches (ap is_simple app_is ∙ is_ready)).1
     ∙ ap (λ (a : App). subcommand_of a (map (λ word. word.now) c.args.words.now)) app_is in
-    refused-more c.chosen.result _ _ (λ none settings given. none given.1.0 (found ∙ given.1.1)
-    settings given.1.2) c.chosen.ensures.refused
+    refused-more c.settings_of.result _ _ (λ none settings given. none given.1.0 (found ∙ given.1.1)
+    settings given.1.2) c.settings_of.ensures.refused
 
 pub returns-in_ok-to_string-in-Err-2-clause-refused :
     goal.returns-in_ok-to_string-in-Err-2-clause-refused
