@@ -7,7 +7,7 @@ ghost use Rattle.mpw_check.specs.declared.fault.CheckFault.TheVariants.{Memory};
 use mpw_geom::Names;
 use mpw_hier::HierFault;
 use mpw_records::ReadFault;
-use std::alloc::{AllocError, AllocFailed};
+use std::alloc::AllocError;
 
 /// Why a library's top isn't checked.
 #[derive(Drop)]
@@ -39,14 +39,6 @@ impl From<AllocError> for CheckFault {
     ghost from_gives = { λ _ e. e ≡ Memory };
 
     fn from(_error: AllocError) -> CheckFault {
-        CheckFault::Memory
-    }
-}
-
-impl<T: Drop> From<AllocFailed<T>> for CheckFault {
-    ghost from_gives = { λ _ e. e ≡ Memory };
-
-    fn from(_error: AllocFailed<T>) -> CheckFault {
         CheckFault::Memory
     }
 }

@@ -3,7 +3,7 @@ ghost use Rattle.std.specs.Prelude.{◌≡◌};
 ghost use Rattle.mpw_firm.specs.Status.{exit_of, status_of};
 ghost use Rattle.mpw_firm.specs.declared.fault.FirmFault.TheVariants.{Memory};
 
-use std::alloc::{AllocError, AllocFailed};
+use std::alloc::AllocError;
 use thiserror::Error;
 
 /// Why a check ends without a listing, with what is told of it.
@@ -51,14 +51,6 @@ impl From<AllocError> for FirmFault {
     ghost from_gives = { λ _ fault. fault ≡ Memory };
 
     fn from(_error: AllocError) -> FirmFault {
-        FirmFault::Memory
-    }
-}
-
-impl<T: Drop> From<AllocFailed<T>> for FirmFault {
-    ghost from_gives = { λ _ fault. fault ≡ Memory };
-
-    fn from(_error: AllocFailed<T>) -> FirmFault {
         FirmFault::Memory
     }
 }

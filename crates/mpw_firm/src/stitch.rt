@@ -14,7 +14,7 @@ use crate::told_parts::{PartFile, no_part};
 use crate::whole::{Whole, whole_of, write_whole};
 use mpw_parts::{Part, read_part};
 use mpw_wire::Counted;
-use std::alloc::Global;
+use std::alloc::{AllocError, Global};
 use std::io::{self, BufWriter};
 
 /// The part that a file's text is.
@@ -39,8 +39,10 @@ fn whole_in(rt: &HostRuntime, names: &[String]) -> Result<Whole, FirmFault>
     for name in names {
         let text = read_file(rt, name.as_str())?;
         let part = part_in(alloc, name.as_str(), &text)?;
-        files.push(PartFile::of(name.as_str(), &part))?;
-        parts.push(part)?;
+        files
+            .push(PartFile::of(name.as_str(), &part))
+            .map_err(AllocError::from)?;
+        parts.push(part).map_err(AllocError::from)?;
     }
     whole_of(alloc, files.as_slice(), parts)
 }

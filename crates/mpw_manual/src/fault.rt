@@ -3,7 +3,7 @@ ghost use Rattle.std.specs.Prelude.{◌≡◌};
 ghost use Rattle.mpw_manual.specs.Status.{exit_of, status_of};
 ghost use Rattle.mpw_manual.specs.declared.fault.HelpFault.TheVariants.{Memory};
 
-use std::alloc::{AllocError, AllocFailed};
+use std::alloc::AllocError;
 use thiserror::Error;
 
 /// Why nothing is told.
@@ -50,14 +50,6 @@ impl From<AllocError> for HelpFault {
     ghost from_gives = { λ _ fault. fault ≡ Memory };
 
     fn from(_error: AllocError) -> HelpFault {
-        HelpFault::Memory
-    }
-}
-
-impl<T: Drop> From<AllocFailed<T>> for HelpFault {
-    ghost from_gives = { λ _ fault. fault ≡ Memory };
-
-    fn from(_error: AllocFailed<T>) -> HelpFault {
         HelpFault::Memory
     }
 }

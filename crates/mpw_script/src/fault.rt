@@ -4,7 +4,7 @@ ghost use Rattle.mpw_script.specs.declared.fault.ProgramFault.TheVariants.{Usage
 ghost use Rattle.mpw_script.specs.Status.{exit_of, status_of};
 
 use mpw_wire::WireFault;
-use std::alloc::{AllocError, AllocFailed};
+use std::alloc::AllocError;
 use thiserror::Error;
 
 /// What ended the program before a connection's end.
@@ -48,14 +48,6 @@ impl From<AllocError> for ProgramFault {
     ghost from_gives = { λ _ fault. fault ≡ Memory };
 
     fn from(_error: AllocError) -> ProgramFault {
-        ProgramFault::Memory
-    }
-}
-
-impl<T: Drop> From<AllocFailed<T>> for ProgramFault {
-    ghost from_gives = { λ _ fault. fault ≡ Memory };
-
-    fn from(_error: AllocFailed<T>) -> ProgramFault {
         ProgramFault::Memory
     }
 }

@@ -2,7 +2,7 @@
 ghost use Rattle.std.specs.Prelude.{◌≡◌};
 ghost use Rattle.mpw_wire.specs.declared.fault.WireFault.TheVariants.{Memory};
 
-use std::alloc::{AllocError, AllocFailed};
+use std::alloc::AllocError;
 use thiserror::Error;
 
 /// What failed while lines were read or replies were written.
@@ -20,14 +20,6 @@ impl From<AllocError> for WireFault {
     ghost from_gives = { λ _ fault. fault ≡ Memory };
 
     fn from(_error: AllocError) -> WireFault {
-        WireFault::Memory
-    }
-}
-
-impl<T: Drop> From<AllocFailed<T>> for WireFault {
-    ghost from_gives = { λ _ fault. fault ≡ Memory };
-
-    fn from(_error: AllocFailed<T>) -> WireFault {
         WireFault::Memory
     }
 }

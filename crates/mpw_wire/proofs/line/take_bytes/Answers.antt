@@ -5,8 +5,8 @@ use Rattle.mpw_wire.specs.Internal.Device.{GivesByte}
 use Rattle.mpw_wire.proofs.ReadingLemmas.{memory_breaks_bytes}
 use Rattle.mpw_wire.proofs.line.take_bytes.Goals as goal
 
-pub returns-in_err-push-in-Ok-Some-clause-fault : goal.returns-in_err-push-in-Ok-Some-clause-fault
-returns-in_err-push-in-Ok-Some-clause-fault g c =
+pub returns-in_err-map_err-in-Ok-Some-clause-fault : goal.returns-in_err-map_err-in-Ok-Some-clause-fault
+returns-in_err-map_err-in-Ok-Some-clause-fault g c =
     let given : GivesByte {E = DeviceFault} (g.R.Source.remaining c.loop.reader)
     (g.R.Source.remaining c.next_byte.new.self) (Ok (Some c.in-Ok-Some.byte)) =
     subst (λ r. GivesByte {E = DeviceFault} (g.R.Source.remaining c.loop.reader)

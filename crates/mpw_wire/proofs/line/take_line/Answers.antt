@@ -27,8 +27,8 @@ returns-in-Ok-None-2-clause-taken g c =
 pub returns-clause-taken : goal.returns-clause-taken
 returns-clause-taken g c = (c.loop.line.items, c.loop.invariant.1, search rules, c.loop.invariant.0)
 
-pub returns-in_err-push-in-Ok-Some-clause-fault : goal.returns-in_err-push-in-Ok-Some-clause-fault
-returns-in_err-push-in-Ok-Some-clause-fault g c =
+pub returns-in_err-map_err-in-Ok-Some-clause-fault : goal.returns-in_err-map_err-in-Ok-Some-clause-fault
+returns-in_err-map_err-in-Ok-Some-clause-fault g c =
     let given : GivesByte {E = DeviceFault} (g.R.Source.remaining c.loop.reader)
     (g.R.Source.remaining c.next_byte.new.self) (Ok (Some c.in-Ok-Some.byte)) =
     subst (λ r. GivesByte {E = DeviceFault} (g.R.Source.remaining c.loop.reader)
