@@ -41,12 +41,6 @@ first_is_value f id = ap (option_and_then (λ r. slice_get r.values 0))
     of_entry None = refl
     of_entry (Some e) = front e.1.vals.items
 
--- two parts of what may be there make the whole
-pub both_parts : {X Y : Type 0} (o : Option (X × Y)) (x : X) (y : Y)
-    → option_map (λ p. p.0) o ≡ Some x → option_map (λ p. p.1) o ≡ Some y → o ≡ Some (x, y)
-both_parts None x y e f = absurd (search (e, rules))
-both_parts (Some (a, b)) x y e f = search (e, f, rules)
-
 same-text : (a b : Text) → Some a ≡ Some b → a ≡ b
 same-text a b e = cc
 
