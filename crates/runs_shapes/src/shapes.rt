@@ -101,7 +101,7 @@ fn draw(alloc: Global, text: &mut Sample, points: &[(i32, i32)]) -> Result<(), S
     text.begin("TOP")?;
     let mut closed = Vec::from_slice(alloc, points)?;
     if let Some(first) = points.first() {
-        closed.push(*first)?;
+        closed.push(*first).map_err(AllocError::from)?;
     }
     text.boundary(1, 0, &closed)
 }
