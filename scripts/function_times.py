@@ -1,66 +1,52 @@
 #!/usr/bin/env python3
-"""Checks a crate's modules, one job, and tells which functions took the longest.
+"""Checks a crate from nothing with one job, and tells which functions, definitions and lemmas took the longest.
 
   scripts/function_times.py CRATE [MODULE..]     all modules of the crate where none is named
 
-The times are processor seconds of the checker between one function's line and the next, so the first function of a run
-has the libraries' reading in it. What an earlier check kept is not checked again: remove crates/CRATE/out/incremental
-first for all of it. Where functions are many, the checker takes some together, and their line stands for them.
+The checker writes a file in crates/CRATE/out/incremental as it ends with each part of a function, so the seconds between one file
+and the next are those of a part: `Lts` is what the borrow checker states (it grows with the locals that are alive, the
+branches, the drops and each `?`), `Proof` the search for the goals, `Answers` ours. What was checked before in that folder is lost.
+Let nothing else run beside, since these are no processor seconds.
 """
+import collections
 import glob
 import os
-import re
+import shutil
 import subprocess
 import sys
 
 TOP = os.path.dirname(os.path.dirname(os.path.abspath(__file__)))
-TICK = os.sysconf("SC_CLK_TCK")
 MOST_TOLD = 40
+PARTS_TOLD = 3
 
 
-def modules_of(source):
-    """The modules of a crate, by their paths below it."""
-    files = glob.glob(f"{source}/**/*.rt", recursive=True)
-    names = {os.path.relpath(it, source).removesuffix(".rt").removesuffix("/mod").replace("/", "::") for it in files}
-    return sorted(names - {"lib"})
+def parts(folder):
+    """The name of each part that was checked, with the time when its file was written, in that order."""
+    files = glob.glob(f"{folder}/**/*.oantt", recursive=True)
+    return sorted((os.stat(it).st_mtime, os.path.basename(it).removesuffix(".oantt").removesuffix(".decls")) for it in files)
 
 
-def with_children(pid):
-    found = [pid]
-    for path in glob.glob(f"/proc/{pid}/task/*/children"):
-        try:
-            with open(path, encoding="ascii") as file:
-                found += [it for child in file.read().split() for it in with_children(int(child))]
-        except OSError:
-            pass
-    return found
+def place(part):
+    """What a part belongs to, as a function of the crate, and which part of it that is."""
+    words = part.split(".")
+    last = max((at for at, word in enumerate(words) if at and word[0].islower()), default=len(words) - 1)
+    return ".".join(words[1 : last + 1]) or part, ".".join(words[last + 1 :]) or "itself"
 
 
-def seconds(pid):
-    """The processor seconds of a process, its children and those that have ended."""
-    ticks = 0
-    for it in with_children(pid):
-        try:
-            with open(f"/proc/{it}/stat", encoding="utf-8", errors="replace") as file:
-                ticks += sum(map(int, file.read().rpartition(")")[2].split()[11:15]))
-        except OSError:
-            pass
-    return ticks / TICK
+def spent(found):
+    """The seconds of each part of each place."""
+    taken = collections.defaultdict(collections.Counter)
+    for (before, _), (at, part) in zip(found, found[1:]):
+        name, which = place(part)
+        taken[name][which] += at - before
+    return taken
 
 
-def checked(folder, modules):
-    """The seconds of each function or group of functions, and whether the check passed."""
-    words = ["rt", "check", "--jobs", "1", *(it for module in modules for it in ("--only", module))]
-    how = {"cwd": folder, "stdout": subprocess.PIPE, "stderr": subprocess.STDOUT}
-    found, last = [], 0.0
-    with subprocess.Popen(words, text=True, errors="replace", **how) as ran:
-        for line in ran.stdout:
-            line = line.strip()
-            if re.match(r"checked \S+, \d+ of \d+|so far: ", line):
-                now = seconds(ran.pid)
-                found.append((now - last, line))
-                last = now
-    return found, ran.returncode == 0
+def tell(taken):
+    for name, by_part in sorted(taken.items(), key=lambda it: -sum(it[1].values()))[:MOST_TOLD]:
+        most = " ".join(f"{which} {it:.1f}" for which, it in by_part.most_common(PARTS_TOLD))
+        print(f"{sum(by_part.values()):8.1f}  {name}: {most}")
+    print(f"{sum(sum(it.values()) for it in taken.values()):8.1f}  in all, without the reading of the libraries")
 
 
 def main(words):
@@ -68,11 +54,13 @@ def main(words):
         print(__doc__, file=sys.stderr)
         return 2
     folder = f"{TOP}/crates/{words[0]}"
-    found, passed = checked(folder, words[1:] or modules_of(f"{folder}/src"))
-    for taken, line in sorted(found, reverse=True)[:MOST_TOLD]:
-        print(f"{taken:8.1f}  {line}")
-    print(f"{sum(taken for taken, _ in found):8.1f}  in all, {'passed' if passed else 'not passed'}")
-    return 0 if passed else 1
+    kept = f"{folder}/out/incremental"
+    shutil.rmtree(kept, ignore_errors=True)
+    only = [it for module in words[1:] for it in ("--only", module)]
+    ran = subprocess.run(["rt", "check", "--jobs", "1", *only], cwd=folder, stdout=subprocess.PIPE, stderr=subprocess.STDOUT, check=False)
+    tell(spent(parts(kept)))
+    print("passed" if ran.returncode == 0 else "not passed")
+    return ran.returncode
 
 
 if __name__ == "__main__":
