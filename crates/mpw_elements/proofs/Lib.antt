@@ -4,5 +4,6 @@ pub mod DerivedReferences
 pub mod DerivedShapes
 pub mod Fields
 pub mod Numbers
+pub mod Sequences
 pub mod Shapes
 pub mod Steps

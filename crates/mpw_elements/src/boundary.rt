@@ -8,16 +8,15 @@ ghost use Rattle.mpw_elements.specs.Grammar.{boundary};
 
 use crate::element::Boundary;
 use crate::fault::ReadError;
+use crate::layer::read_layer;
 use crate::reading::expect;
 use crate::shape::corners;
-use crate::values::short;
-use mpw_geom::Layer;
 use mpw_records::{Records, kind};
 use std::alloc::Global;
 
 /// The boundary whose first record was read, which begins at `start`. A box has BOXTYPE in the place
 /// of DATATYPE.
-#[tactic(auto, unfolding(crate::specs::Grammar::boundary, mpw_records::specs::Format::least_size))]
+#[tactic(auto, unfolding(crate::specs::Internal::Grammar::boundary_by_layer, mpw_records::specs::Format::least_size))]
 pub fn read_boundary(
     alloc: Global,
     records: &mut Records<'_>,
@@ -31,11 +30,9 @@ pub fn read_boundary(
     ensures shape { IfOk result IsBoundary }
     ensures rest { length records.new ≤ length records.old }
 {
-    let layer = short(expect(records, start, kind::LAYER)?);
-    let datatype = short(expect(records, start, datatype)?);
+    let layer = read_layer(records, start, datatype)?;
     let xy = expect(records, start, kind::XY)?;
     let points = corners(alloc, unit, xy)?;
     expect(records, start, kind::ENDEL)?;
-    let layer = Layer { layer, datatype };
     Ok(Boundary { layer, points })
 }

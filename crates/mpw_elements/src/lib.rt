@@ -5,6 +5,7 @@ mod boundary;
 mod element;
 mod fault;
 mod laws;
+mod layer;
 mod list;
 mod path;
 mod points;

@@ -5,19 +5,28 @@ ghost use Rattle.mpw_records.specs.declared.kind.TheConstants.{PATHTYPE, WIDTH};
 ghost use Rattle.mpw_records.specs.Format.{least_size};
 ghost use Rattle.mpw_records.specs.Records.{raw, IsSized};
 ghost use Rattle.mpw_elements.specs.Element.{IsWithinReach, IsPath};
-ghost use Rattle.mpw_elements.specs.Internal.Element.{IsWidth};
+ghost use Rattle.mpw_elements.specs.Internal.Element.{IsWidth, IsBreadth};
+ghost use Rattle.mpw_elements.specs.Internal.Grammar.{breadth};
 ghost use Rattle.mpw_elements.specs.Reading.{GivesReading, optional};
 ghost use Rattle.mpw_elements.specs.Values.{path_type_of, width_of, extension_of};
 ghost use Rattle.mpw_elements.specs.Grammar.{path};
 
 use crate::element::Path;
 use crate::fault::ReadError;
+use crate::layer::read_layer;
 use crate::reading::{demand, expect, is_kind, next_field};
 use crate::shape::{centre, scale};
-use crate::values::{lengthening, path_type, short, width};
-use mpw_geom::Layer;
+use crate::values::{lengthening, path_type, width};
 use mpw_records::{Record, Records, kind};
 use std::alloc::Global;
+
+/// The width of a path and how far its ends are lengthened, in nm.
+#[derive(Clone, Copy)]
+pub struct Breadth {
+    pub width: i64,
+    pub begin: i64,
+    pub end: i64,
+}
 
 /// PATHTYPE, if the record is one, else 0; and the record behind it.
 #[tactic(auto, unfolding(crate::specs::Reading::optional, mpw_records::specs::Format::least_size))]
@@ -84,8 +93,34 @@ fn optional_extension<'a>(
     Ok((value, next_field(records, start)?))
 }
 
+/// How broad a path is and how far its ends are lengthened, and the record behind what tells it.
+#[tactic(auto, unfolding(crate::specs::Internal::Grammar::breadth, mpw_records::specs::Format::least_size))]
+fn read_breadth<'a>(
+    records: &mut Records<'a>,
+    start: usize,
+    unit: u16,
+) -> Result<(Breadth, Record<'a>), ReadError>
+    requires { unit ≤ 1000 }
+    ensures breadth { GivesReading (λ x. (x.0, raw x.1)) result records.new (breadth start unit records.old) }
+    ensures shape { IfOk result (λ x. IsBreadth x.0) }
+    ensures rest { length records.new ≤ length records.old }
+    ensures sized { IfOk result (λ x. IsSized (raw x.1)) }
+{
+    let found = next_field(records, start)?;
+    let (path_type, found) = optional_path_type(records, start, found)?;
+    let (width, found) = optional_width(records, start, unit, found)?;
+    let (begin, found) = optional_extension(records, start, unit, kind::BGNEXTN, found)?;
+    let (end, found) = optional_extension(records, start, unit, kind::ENDEXTN, found)?;
+    let breadth = Breadth {
+        width,
+        begin: lengthening(path_type, width, begin),
+        end: lengthening(path_type, width, end),
+    };
+    Ok((breadth, found))
+}
+
 /// The path whose first record was read, which begins at `start`.
-#[tactic(auto, unfolding(crate::specs::Grammar::path, mpw_records::specs::Format::least_size))]
+#[tactic(auto, unfolding(crate::specs::Internal::Grammar::path_by_breadth, mpw_records::specs::Format::least_size))]
 pub fn read_path(
     alloc: Global,
     records: &mut Records<'_>,
@@ -97,20 +132,15 @@ pub fn read_path(
     ensures shape { IfOk result IsPath }
     ensures rest { length records.new ≤ length records.old }
 {
-    let layer = short(expect(records, start, kind::LAYER)?);
-    let datatype = short(expect(records, start, kind::DATATYPE)?);
-    let found = next_field(records, start)?;
-    let (path_type, found) = optional_path_type(records, start, found)?;
-    let (width, found) = optional_width(records, start, unit, found)?;
-    let (begin, found) = optional_extension(records, start, unit, kind::BGNEXTN, found)?;
-    let (end, found) = optional_extension(records, start, unit, kind::ENDEXTN, found)?;
+    let layer = read_layer(records, start, kind::DATATYPE)?;
+    let (breadth, found) = read_breadth(records, start, unit)?;
     let points = centre(alloc, unit, demand(found, kind::XY)?)?;
     expect(records, start, kind::ENDEL)?;
     Ok(Path {
-        layer: Layer { layer, datatype },
-        width,
-        begin: lengthening(path_type, width, begin),
-        end: lengthening(path_type, width, end),
+        layer,
+        width: breadth.width,
+        begin: breadth.begin,
+        end: breadth.end,
         points,
     })
 }

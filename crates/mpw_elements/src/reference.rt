@@ -6,7 +6,9 @@ ghost use Rattle.mpw_records.specs.Records.{raw, IsSized};
 ghost use Rattle.mpw_elements.specs.Element.{IsReference};
 ghost use Rattle.mpw_elements.specs.Reading.{GivesReading, optional};
 ghost use Rattle.mpw_elements.specs.Values.{magnification_of, turns_of};
+ghost use Rattle.mpw_geom.specs.Name.{IsName};
 ghost use Rattle.mpw_elements.specs.Grammar.{orientation, single, array};
+ghost use Rattle.mpw_elements.specs.Internal.Grammar.{single_behind, array_behind};
 
 use crate::element::Reference;
 use crate::fault::ReadError;
@@ -14,7 +16,7 @@ use crate::reading::{demand, expect, is_kind, next_field};
 use crate::values::{
     counts, is_mirrored, magnification, orient, place, read_grid, read_name, turns,
 };
-use mpw_geom::{Orient, Point};
+use mpw_geom::{Name, Orient, Point};
 use mpw_records::{Record, Records, kind};
 use std::alloc::Global;
 
@@ -78,8 +80,70 @@ fn orientation<'a>(
     Ok((orient(mirrored, turns), found))
 }
 
+/// The reference of an SREF whose name and orientation were read, and one record behind them.
+#[tactic(auto, unfolding(crate::specs::Internal::Grammar::single_behind, mpw_records::specs::Format::least_size))]
+fn read_single(
+    records: &mut Records<'_>,
+    start: usize,
+    unit: u16,
+    name: Name,
+    orient: Orient,
+    found: Record<'_>,
+) -> Result<Reference, ReadError>
+    requires unit { unit ≤ 1000 }
+    requires name { IsName name }
+    requires found { IsSized (raw found) }
+    ensures single { GivesReading (λ r. r) result records.new (single_behind start unit name orient (raw found.entry) records.old) }
+    ensures shape { IfOk result IsReference }
+    ensures rest { length records.new ≤ length records.old }
+{
+    let origin = place(unit, demand(found, kind::XY)?)?;
+    expect(records, start, kind::ENDEL)?;
+    Ok(Reference {
+        name,
+        orient,
+        origin,
+        columns: 1,
+        rows: 1,
+        column_step: Point { x: 0, y: 0 },
+        row_step: Point { x: 0, y: 0 },
+    })
+}
+
+/// The reference of an AREF whose name and orientation were read, and one record behind them.
+#[tactic(auto, unfolding(crate::specs::Internal::Grammar::array_behind, mpw_records::specs::Format::least_size))]
+fn read_array(
+    records: &mut Records<'_>,
+    start: usize,
+    unit: u16,
+    name: Name,
+    orient: Orient,
+    found: Record<'_>,
+) -> Result<Reference, ReadError>
+    requires unit { unit ≤ 1000 }
+    requires name { IsName name }
+    requires found { IsSized (raw found) }
+    ensures array { GivesReading (λ r. r) result records.new (array_behind start unit name orient (raw found.entry) records.old) }
+    ensures shape { IfOk result IsReference }
+    ensures rest { length records.new ≤ length records.old }
+{
+    let (columns, rows) = counts(demand(found, kind::COLROW)?)?;
+    let xy = expect(records, start, kind::XY)?;
+    let grid = read_grid(unit, columns, rows, xy)?;
+    expect(records, start, kind::ENDEL)?;
+    Ok(Reference {
+        name,
+        orient,
+        origin: grid.origin,
+        columns,
+        rows,
+        column_step: grid.column_step,
+        row_step: grid.row_step,
+    })
+}
+
 /// The reference whose SREF or AREF was read, which begins at `start`.
-#[tactic(auto, unfolding(crate::specs::Grammar::single, crate::specs::Grammar::array, mpw_records::specs::Format::least_size))]
+#[tactic(auto, unfolding(crate::specs::Grammar::single, crate::specs::Grammar::array, crate::specs::Internal::Grammar::single_behind, crate::specs::Internal::Grammar::array_behind, mpw_records::specs::Format::least_size))]
 pub fn read_reference(
     alloc: Global,
     records: &mut Records<'_>,
@@ -97,29 +161,8 @@ pub fn read_reference(
     let found = next_field(records, start)?;
     let (orient, found) = orientation(records, start, found)?;
     if is_array {
-        let (columns, rows) = counts(demand(found, kind::COLROW)?)?;
-        let xy = expect(records, start, kind::XY)?;
-        let grid = read_grid(unit, columns, rows, xy)?;
-        expect(records, start, kind::ENDEL)?;
-        return Ok(Reference {
-            name,
-            orient,
-            origin: grid.origin,
-            columns,
-            rows,
-            column_step: grid.column_step,
-            row_step: grid.row_step,
-        });
+        read_array(records, start, unit, name, orient, found)
+    } else {
+        read_single(records, start, unit, name, orient, found)
     }
-    let origin = place(unit, demand(found, kind::XY)?)?;
-    expect(records, start, kind::ENDEL)?;
-    Ok(Reference {
-        name,
-        orient,
-        origin,
-        columns: 1,
-        rows: 1,
-        column_step: Point { x: 0, y: 0 },
-        row_step: Point { x: 0, y: 0 },
-    })
 }

@@ -1,6 +1,7 @@
 -- What private functions and proofs need of this: what a read element satisfies.
 use Rattle.std.specs.Prelude.{◌≡◌, ℕ, ◌*◌, ◌≤◌, IsTrue, ℤ, pos, List, length, All}
 use Rattle.mpw_geom.specs.declared.plane.Point.{Point}
+use Rattle.mpw_elements.specs.declared.path.Breadth.{Breadth}
 use Rattle.mpw_elements.specs.Element.{IsWithinReach, IsPointWithinReach, is_manhattan_step, each_step, closed, is_segment}
 
 -- Corners: at least one, and each edge, the closing one too, is horizontal or vertical.
@@ -20,3 +21,9 @@ pub record IsWidth (z : ℤ) : Type 0 where
   pub half : ℕ
   pub value : z ≡ pos (2 * half)
   pub within_reach : IsWithinReach z
+
+-- The width of a path, and how far its ends are lengthened.
+pub record IsBreadth (b : Breadth) : Type 0 where
+  pub width : IsWidth b.width
+  pub begin : IsWithinReach b.begin
+  pub end : IsWithinReach b.end
