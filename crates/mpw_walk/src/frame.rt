@@ -1,9 +1,9 @@
 //! A structure that a walk has entered.
 
-ghost use Rattle.std.specs.Prelude.{◌≡◌, ◌<◌, ◌≤◌, ◌-◌, length, slice_get, slice_index, IfSome, IfNone, None};
+ghost use Rattle.std.specs.Prelude.{◌≡◌, ◌<◌, ◌≤◌, ◌-◌, ◌+ℤ◌, ◌*ℤ◌, pos, length, slice_get, slice_index, IfSome, IfNone, None};
 ghost use Rattle.mpw_hier.specs.Items.{instance, stepped};
 ghost use Rattle.mpw_hier.specs.Nodes.{AreNodes};
-ghost use Rattle.mpw_walk.specs.Frames.{IsFrame, IsWithin};
+ghost use Rattle.mpw_walk.specs.Frames.{IsFrame, IsShort, IsWithin};
 ghost use Rattle.mpw_walk.specs.Internal.Frames.{IsFront, ShowsName, IsNext, IsShape, HasReference, IsNearArray, behind_instance};
 
 use crate::laws::names_are_walked;
@@ -36,16 +36,24 @@ pub struct Frame<'a> {
     pub column: u16,
 }
 
+/// The coordinate that lies so many steps behind another.
+fn coordinate_after(from: i64, count: u16, step: i64) -> i64
+    requires from { IsShort from }
+    requires to { IsShort (from +ℤ (pos count *ℤ step)) }
+    ensures { result ≡ from +ℤ (pos count *ℤ step) }
+{
+    from + i64::from(count) * step
+}
+
 /// The point that lies so many steps behind another.
 fn point_after(point: Point, count: u16, step: Point) -> Point
     requires from { IsWithin point }
     requires to { IsWithin (stepped point count step) }
     ensures { result ≡ stepped point count step }
 {
-    let count = i64::from(count);
     Point {
-        x: point.x + count * step.x,
-        y: point.y + count * step.y,
+        x: coordinate_after(point.x, count, step.x),
+        y: coordinate_after(point.y, count, step.y),
     }
 }
 

@@ -1,17 +1,17 @@
-use Rattle.std.proofs.Common.{rules, ◌∙◌, ap, ◌+ℤ◌, ◌*ℤ◌, w64, FitsSigned}
-use Rattle.mpw_geom.proofs.Chains.{same_point}
-use Rattle.mpw_walk.proofs.Arrays.{computed}
+use Rattle.std.proofs.Common.{rules}
 use Rattle.mpw_walk.proofs.frame.point_after.Goals as goal
 
+pub coordinate_after-requires-clause-from : goal.coordinate_after-requires-clause-from
+coordinate_after-requires-clause-from c = search rules
+
+pub coordinate_after-requires-clause-to : goal.coordinate_after-requires-clause-to
+coordinate_after-requires-clause-to c = search rules
+
+pub coordinate_after-requires-2-clause-from : goal.coordinate_after-requires-2-clause-from
+coordinate_after-requires-2-clause-from c = search rules
+
+pub coordinate_after-requires-2-clause-to : goal.coordinate_after-requires-2-clause-to
+coordinate_after-requires-2-clause-to c = search rules
+
 pub returns : goal.returns
-returns c =
-    let p = c.args.point in
-    let s = c.args.step in
-    let n = c.from-count.result in
-    let e = c.from-count.ensures in
-    let f : FitsSigned w64 n = search rules in
-    let g : FitsSigned w64 s.x = search rules in
-    let h : FitsSigned w64 s.y = search rules in
-    same_point _ _ (computed p.x n s.x f g c.requires.from.x (rw e c.requires.to.x)
-    ∙ ap (λ m. p.x +ℤ (m *ℤ s.x)) e) (computed p.y n s.y f h c.requires.from.y
-    (rw e c.requires.to.y) ∙ ap (λ m. p.y +ℤ (m *ℤ s.y)) e)
+returns c = search rules
