@@ -150,8 +150,8 @@ refused_nodes ss s faults.Shapes of far = absurd of
 refused_nodes ss s faults.Deep of far = absurd of
 refused_nodes ss s faults.Full of far = absurd of
 
-pub refused : (ss : List Submission) (s : Submission) (result : Result ℕ HierFault)
+pub refused : (A : Type 0) (ss : List Submission) (s : Submission) (result : Result A HierFault)
     (fault : HierFault) → IsErrAnd result (λ e. e ≡ fault) → IsRefused ss s fault
     → IfErr result (IsRefused ss s)
-refused ss s (Ok n) fault h is = absurd h
-refused ss s (Err e) fault h is = subst (IsRefused ss s) (sym h) is
+refused A ss s (Ok n) fault h is = absurd h
+refused A ss s (Err e) fault h is = subst (IsRefused ss s) (sym h) is

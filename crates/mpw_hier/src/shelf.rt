@@ -3,13 +3,13 @@
 ghost use Rattle.mpw_geom.specs.Names.{by_name};
 ghost use Rattle.std.specs.Prelude.{◌≡◌, ◌<◌, ◌≤◌, ◌^◌, ◌++◌, ◌↔◌, IsTrue, true, ◌∷◌, [], length, map, Err, OnOk, OnErr, IfOk, IfErr, IfSome, IfNone, Some, None, option_copied, slice_get};
 ghost use Rattle.mpw_hier.specs.Shelf.{present, bound_to, IsOfBinding};
-ghost use Rattle.mpw_hier.specs.Limits.{KeepsLimits, IsRefused, IsShelf, numbered};
+ghost use Rattle.mpw_hier.specs.Limits.{IsBound, KeepsLimits, IsRefused, IsShelf, numbered};
 ghost use Rattle.mpw_library.specs.Library.{IsLibrary};
-ghost use Rattle.mpw_hier.specs.Nodes.{AreNodes};
+ghost use Rattle.mpw_hier.specs.Nodes.{AreNodes, AreNodesOf};
 ghost use Rattle.mpw_hier.specs.Outline.{IsOutline};
 ghost use Rattle.mpw_hier.specs.Sizes.{IsSizeOf};
 ghost use Rattle.mpw_hier.specs.Boxes.{is_box_near};
-ghost use Rattle.mpw_hier.specs.Values.{flat, count, height, extent};
+ghost use Rattle.mpw_hier.specs.Values.{flat, flats, count, height, heights, extent};
 
 use crate::bindings::{Binding, Bindings};
 use crate::fault::HierFault;
@@ -245,9 +245,7 @@ impl Shelf {
         let mut table = self.table(alloc)?;
         let mut submission = submission;
         submission.version = table.next_version(&submission.cell);
-        let nodes = nodes_of(alloc, &table, &submission, outline)?;
-        table.test_limits(&submission, &nodes)?;
-        let nodes = Nodes::from_vec(alloc, nodes)?;
+        let nodes = nodes_within(alloc, &table, &submission, outline)?;
         let number = table.append(submission, nodes)?;
         self.table = Some(Arc::new(alloc, table)?);
         Ok(number)
@@ -263,4 +261,27 @@ fn cells_of(alloc: Global, submissions: &[Submission]) -> Result<Names, AllocErr
         cells.push(submission.cell.copy()?)?;
     }
     Ok(cells)
+}
+
+/// The nodes of a submission that keeps the limits of a table.
+///
+/// # Errors
+/// As those of [`Shelf::put`].
+fn nodes_within(
+    alloc: Global,
+    table: &Table,
+    submission: &Submission,
+    outline: &Outline,
+) -> Result<Nodes, HierFault>
+    requires library { IsLibrary submission.now.library }
+    requires outline { IsOutline submission.now.library submission.now.top outline.now }
+    requires bound { IsBound table.now submission.now }
+    ensures nodes { IfOk result (λ nodes. AreNodesOf (flats table.now) (heights table.now) submission.now nodes) }
+    ensures kept { OnOk result (KeepsLimits table.now submission.now) }
+    ensures faults { IfErr result (IsRefused table.now submission.now) }
+{
+    let nodes = nodes_of(alloc, table, submission, outline)?;
+    table.test_limits(submission, &nodes)?;
+    let shared = Nodes::from_vec(alloc, nodes)?;
+    Ok(shared)
 }

@@ -7,7 +7,7 @@
 ghost use Rattle.std.specs.Prelude.{◌≡◌, ◌-◌, ◌+ℤ◌, ◌*ℤ◌, pos, true, Some, IfSome, IfNone};
 ghost use Rattle.std.specs.Int.{int_min, int_max};
 ghost use Rattle.mpw_geom.specs.declared.plane.Box2.{Box2};
-ghost use Rattle.mpw_elements.specs.Element.{IsCount, IsPointWithinReach, IsReference};
+ghost use Rattle.mpw_elements.specs.Element.{IsCount, IsWithinReach, IsPointWithinReach, IsReference};
 ghost use Rattle.mpw_hier.specs.Boxes.{is_box_near, placed_box};
 ghost use Rattle.mpw_hier.specs.Internal.Sizes.{IsExtentFar};
 ghost use Rattle.mpw_hier.specs.Internal.SizeParts.{IsWide, IsWideBox, array_extent};
@@ -54,6 +54,16 @@ impl WideBox {
     }
 }
 
+/// How far the last of so many instances in a line lies from the first.
+fn last_along(count: u16, step: i64) -> i128
+    requires count { IsCount count }
+    requires step { IsWithinReach step }
+    ensures made { result ≡ pos (count - 1) *ℤ step }
+    ensures wide { IsWide result }
+{
+    i128::from(count - 1) * i128::from(step)
+}
+
 /// How far the last of so many instances lies from the first.
 fn last_origin(count: u16, step: Point) -> WidePoint
     requires count { IsCount count }
@@ -63,10 +73,9 @@ fn last_origin(count: u16, step: Point) -> WidePoint
     ensures wide_x { IsWide result.x }
     ensures wide_y { IsWide result.y }
 {
-    let steps = i128::from(count - 1);
     WidePoint {
-        x: steps * i128::from(step.x),
-        y: steps * i128::from(step.y),
+        x: last_along(count, step.x),
+        y: last_along(count, step.y),
     }
 }
 

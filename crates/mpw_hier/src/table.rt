@@ -1,10 +1,11 @@
 //! The submissions of a shelf with what stands beside them. A [`crate::shelf::Shelf`] shares one.
 
-ghost use Rattle.std.specs.Prelude.{◌≡◌, ◌+◌, ◌<◌, ◌≤◌, ◌^◌, ◌++◌, ◌∷◌, [], length, Err, OnOk, OnErr, IfOk, IfErr, IfSome, IfNone, Some, None, slice_get};
+ghost use Rattle.std.specs.Prelude.{◌≡◌, ◌+◌, ◌<◌, ◌≤◌, ◌^◌, ◌++◌, ◌∷◌, [], length, vec_len, vec_capacity, Err, OnOk, OnErr, IfOk, IfErr, IfSome, IfNone, Some, None, slice_get};
 ghost use Rattle.mpw_hier.specs.Shelf.{present, versions};
 ghost use Rattle.mpw_hier.specs.Limits.{KeepsLimits, IsRefused, IsSubmitted, IsShelf, has_room_for};
 ghost use Rattle.mpw_hier.specs.Nodes.{AreNodes, AreNodesOf};
 ghost use Rattle.mpw_hier.specs.Internal.Building.{IsHierarchy};
+ghost use Rattle.mpw_hier.specs.Internal.Indexed.{IsEntered};
 ghost use Rattle.mpw_hier.specs.Sizes.{IsSizeOf};
 ghost use Rattle.mpw_hier.specs.Values.{flat, flats, count, height, heights};
 
@@ -184,13 +185,38 @@ impl Table {
         ensures number { IfOk result (λ number. number ≡ length self.old) }
         ensures err { OnErr result (self.new ≡ self.old) }
     {
-        self.submissions.reserve(1)?;
-        self.nodes.reserve(1)?;
-        let cell = submission.cell.copy()?;
         let number = self.submissions.len() as u32;
-        self.present.insert(cell, number)?;
-        self.submissions.push(submission)?;
-        self.nodes.push(nodes)?;
+        enter(
+            &mut self.submissions,
+            &mut self.nodes,
+            &mut self.present,
+            &submission.cell,
+            number,
+        )?;
+        self.submissions.push(submission).unwrap();
+        self.nodes.push(nodes).unwrap();
         Ok(number)
     }
+}
+
+/// Makes room for one more submission with its nodes, and its number the present one of its cell. On an
+/// error the lists and the entries are as before.
+fn enter(
+    submissions: &mut Vec<Submission>,
+    nodes: &mut Vec<Nodes>,
+    present: &mut BTreeMap<Name, u32>,
+    cell: &Name,
+    number: u32,
+) -> Result<(), AllocError>
+    ensures submissions { submissions.new.items ≡ submissions.old.items }
+    ensures nodes { nodes.new.items ≡ nodes.old.items }
+    ensures room { OnOk result (vec_len submissions.new < vec_capacity submissions.new) }
+    ensures room_beside { OnOk result (vec_len nodes.new < vec_capacity nodes.new) }
+    ensures entered { OnOk result (IsEntered present.old present.new cell.now number) }
+    ensures err { OnErr result (present.new.entries ≡ present.old.entries) }
+{
+    submissions.reserve(1)?;
+    nodes.reserve(1)?;
+    present.insert(cell.copy()?, number)?;
+    Ok(())
 }
