@@ -3,3 +3,4 @@ pub mod Edges
 pub mod Near
 pub mod Rows
 pub mod Turned
+pub mod Wire

@@ -4,11 +4,31 @@ ghost use Rattle.std.specs.Prelude.{◌≡◌, ℤ, pos, All, IfOk, int_div};
 ghost use Rattle.mpw_geom.specs.Plane.{Square, HasArea, any_has_square};
 ghost use Rattle.mpw_elements.specs.Element.{IsPath, IsWithinReach, IsPointWithinReach};
 ghost use Rattle.mpw_shapes.specs.Path.{path_has, wire_box};
+ghost use Rattle.mpw_shapes.specs.Internal.Wire.{along, across, framed};
 
 use crate::boxes::push_box;
 use mpw_elements::Path;
 use mpw_geom::{Box2, Point};
 use std::alloc::{AllocError, Global};
+
+/// A stretch of an axis, in nm.
+#[derive(Clone, Copy)]
+pub(crate) struct Stretch {
+    pub low: i64,
+    pub high: i64,
+}
+
+/// The box that reaches so far along each axis.
+fn framed(x: Stretch, y: Stretch) -> Box2
+    ensures { result ≡ framed x y }
+{
+    Box2 {
+        x0: x.low,
+        y0: y.low,
+        x1: x.high,
+        y1: y.high,
+    }
+}
 
 /// How far a segment of a centre line reaches to its sides, before its first point and behind its
 /// second, in nm.
@@ -23,6 +43,40 @@ pub struct Wire {
 }
 
 impl Wire {
+    /// How far a segment reaches along its direction, from one coordinate to another.
+    #[tactic(auto, unfolding(crate::specs::Internal::Wire::along))]
+    fn along(self, from: i64, to: i64) -> Stretch
+        requires before { IsWithinReach self.before }
+        requires behind { IsWithinReach self.behind }
+        requires from { IsWithinReach from }
+        requires to { IsWithinReach to }
+        ensures { result ≡ along self.before self.behind from to }
+    {
+        if from < to {
+            Stretch {
+                low: from - self.before,
+                high: to + self.behind,
+            }
+        } else {
+            Stretch {
+                low: to - self.behind,
+                high: from + self.before,
+            }
+        }
+    }
+
+    /// How far a segment reaches to its sides, from the coordinate that it has throughout.
+    fn across(self, at: i64) -> Stretch
+        requires half { IsWithinReach self.half }
+        requires at { IsWithinReach at }
+        ensures { result ≡ across self.half at }
+    {
+        Stretch {
+            low: at - self.half,
+            high: at + self.half,
+        }
+    }
+
     /// The box of the segment from one point to another. Where a lengthening is negative, it may have no
     /// area. Takes no memory.
     pub fn box_along(self, from: Point, to: Point) -> Box2
@@ -34,29 +88,9 @@ impl Wire {
         ensures { result ≡ wire_box self.half self.before self.behind from to }
     {
         if from.y == to.y {
-            let y0 = from.y - self.half;
-            let y1 = from.y + self.half;
-            if from.x < to.x {
-                let x0 = from.x - self.before;
-                let x1 = to.x + self.behind;
-                Box2 { x0, y0, x1, y1 }
-            } else {
-                let x0 = to.x - self.behind;
-                let x1 = from.x + self.before;
-                Box2 { x0, y0, x1, y1 }
-            }
+            framed(self.along(from.x, to.x), self.across(from.y))
         } else {
-            let x0 = from.x - self.half;
-            let x1 = from.x + self.half;
-            if from.y < to.y {
-                let y0 = from.y - self.before;
-                let y1 = to.y + self.behind;
-                Box2 { x0, y0, x1, y1 }
-            } else {
-                let y0 = to.y - self.behind;
-                let y1 = from.y + self.before;
-                Box2 { x0, y0, x1, y1 }
-            }
+            framed(self.across(from.x), self.along(from.y, to.y))
         }
     }
 
