@@ -3,3 +3,4 @@ pub mod Cells
 pub mod Cores
 pub mod Windows
 pub mod Reach
+pub mod Scalars

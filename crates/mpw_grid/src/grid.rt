@@ -45,7 +45,7 @@ impl Model for Grid {
 }
 
 /// Cells in consecutive columns and rows: from the first up to before the second.
-#[derive(Clone, Copy, Debug, PartialEq, Eq)]
+#[derive(Clone, Copy)]
 pub struct Block {
     pub column0: u32,
     pub column1: u32,

@@ -211,3 +211,19 @@ before_next first rest i e o l m d g b = subst (λ (r : Box2). r.x0 ≤ℤ (get_
 pub done_more : (first : Box2) (rest : List Box2) (i : ℕ) (d : Box2) → i < length rest
     → first ∷ take (i + 1) rest ≡ (first ∷ take i rest) ++ get_or rest i d ∷ []
 done_more first rest i d b = ap (λ xs. first ∷ xs) (take_more rest i d b)
+
+-- of no boxes there is nothing to add
+pub AddsBand-none : (old boxes : List Box2) (rows : Rows) → length boxes < 1 → rows.y0 <ℤ rows.y1
+    → AreBands old → All (λ b. b.y1 ≤ℤ rows.y0) old → AddsBand old old boxes rows
+AddsBand-none old boxes rows none r h l = record {
+  squares = λ i j. (
+    λ c. inl c,
+    λ c. elim c [
+      | inl d ↦ d
+      | inr d ↦ absurd (omega (arith, none, d.1.1.1))
+    ],
+  );
+  banded = h;
+  below = All-weaker (λ (b : Box2). b.y1 ≤ℤ rows.y0) (λ (b : Box2). b.y1 ≤ℤ rows.y1)
+      (λ b k. omega (arith, ints, k, r)) old l;
+}

@@ -9,7 +9,7 @@ use mpw_geom::Box2;
 use std::alloc::AllocError;
 
 /// The rows from `y0` to before `y1`, in nm.
-#[derive(Clone, Copy, Debug, PartialEq, Eq)]
+#[derive(Clone, Copy)]
 pub(crate) struct Rows {
     pub(crate) y0: i64,
     pub(crate) y1: i64,

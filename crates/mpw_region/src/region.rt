@@ -12,7 +12,6 @@ use std::marker::Model;
 /// squares alone, so whether neighbouring bands of equal columns are one is no part of its meaning.
 ///
 /// Beside them it keeps the bands of the same squares with their coordinates exchanged.
-#[derive(Debug)]
 pub struct Bands {
     boxes: Vec<Box2>,
     columns: Vec<Box2>,

@@ -9,7 +9,7 @@ ghost use Rattle.mpw_region.specs.Internal.Order.{AreInOrder, merged};
 use std::alloc::{AllocError, Global};
 
 /// What tells the lines apart on which runs lie: a side and two numbers, in nm.
-#[derive(Clone, Copy, Debug, PartialEq, Eq, PartialOrd, Ord)]
+#[derive(Clone, Copy, PartialEq, Eq, PartialOrd, Ord)]
 pub struct Line {
     pub side: u8,
     pub first: i64,
@@ -17,7 +17,7 @@ pub struct Line {
 }
 
 /// The places from `from` to before `to` on a line, in nm.
-#[derive(Clone, Copy, Debug, PartialEq, Eq, PartialOrd, Ord)]
+#[derive(Clone, Copy, PartialEq, Eq, PartialOrd, Ord)]
 pub struct Run {
     pub line: Line,
     pub from: i64,

@@ -34,7 +34,7 @@ use mpw_geom::Box2;
 use std::alloc::{AllocError, Global};
 
 /// A sweep: its row, the boxes that have it, all boxes from below, and how many of these it has come to.
-#[derive(Debug, Drop)]
+#[derive(Drop)]
 pub struct Sweep {
     row: i64,
     active: Vec<Box2>,

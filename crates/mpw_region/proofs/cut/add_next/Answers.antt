@@ -1,7 +1,7 @@
-use Rattle.std.proofs.Common.{◌<ℤ◌, List, get_or, rules, w64}
+use Rattle.std.proofs.Common.{◌<ℤ◌, List, get_or, arith, rules, w64}
 use mir.Val.{SFits}
 use Rattle.std.specs.Prelude.{All}
-use Rattle.std.proofs.lemmas.Int.{to_z-of_z}
+use Rattle.std.proofs.lemmas.Int.{ints, to_z-of_z}
 use Rattle.std.proofs.lemmas.List.Elements.{All-contains, Contains-get_or}
 use Rattle.mpw_geom.specs.declared.plane.Box2.{Box2}
 use Rattle.mpw_geom.specs.Plane.{HasArea}
@@ -37,3 +37,25 @@ returns-clause-sweeps c =
       exact = rw next_is at c.in_ok-step.ensures.exact;
       ordered = c.in_ok-step.ensures.ordered;
     })
+
+pub add_band-requires-clause-rows : goal.add_band-requires-clause-rows
+add_band-requires-clause-rows c =
+    let row_fits : SFits w64 c.row.result = search rules in
+    rw (to_z-of_z w64 c.args.next c.ranges.next, to_z-of_z w64 c.row.result row_fits, c.row.ensures)
+    c.requires.up
+
+pub add_band-requires-clause-ordered : goal.add_band-requires-clause-ordered
+add_band-requires-clause-ordered c = rw c.active.ensures c.requires.sweeps.ordered
+
+pub add_band-requires-clause-below : goal.add_band-requires-clause-below
+add_band-requires-clause-below c =
+    let row_fits : SFits w64 c.row.result = search rules in
+    rw (to_z-of_z w64 c.row.result row_fits, c.row.ensures) c.requires.sweeps.swept.below
+
+pub step-requires-clause-upwards : goal.step-requires-clause-upwards
+step-requires-clause-upwards c =
+    rw (to_z-of_z w64 c.args.next c.ranges.next) (omega (arith, ints, c.requires.up))
+
+pub returns-clause-row : goal.returns-clause-row
+returns-clause-row c =
+    rw (to_z-of_z w64 c.args.next c.ranges.next) at c.in_ok-step.ensures.row

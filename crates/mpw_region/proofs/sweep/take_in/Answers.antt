@@ -1,7 +1,8 @@
 use Rattle.std.proofs.Common.{◌≡◌, ℕ, ◌≤ℤ◌, ◌<ℤ◌, length, get_or, subst, arith, rules, w64}
 use mir.Val.{SFits}
-use Rattle.std.specs.Prelude.{take}
+use Rattle.std.specs.Prelude.{All, take}
 use Rattle.std.proofs.lemmas.Int.{ints, to_z-of_z}
+use Rattle.std.proofs.lemmas.List.{length-drop}
 use Rattle.std.proofs.lemmas.List.Elements.{All-more}
 use Rattle.mpw_geom.specs.declared.plane.Box2.{Box2}
 use Rattle.mpw_geom.proofs.Tests.{lt_from_test}
@@ -90,3 +91,18 @@ loop-n-init c = rw (to_z-of_z w64 c.args.row c.ranges.row)
 pub returns-then-row-b-clause-active : goal.returns-then-row-b-clause-active
 returns-then-row-b-clause-active c =
     rw (to_z-of_z w64 c.args.row c.ranges.row) at c.loop-n.invariant.active
+
+pub returns-then-row-b-clause-begun : goal.returns-then-row-b-clause-begun
+returns-then-row-b-clause-begun c =
+    rw (to_z-of_z w64 c.args.row c.ranges.row) at c.loop-n.invariant.begun
+
+pub returns-clause-begun : goal.returns-clause-begun
+returns-clause-begun c =
+    let e : c.loop-n.n ≡ length c.args.boxes.now =
+    omega (arith, c.loop-n.auto.n-end c.requires.within) in
+    subst (λ (m : ℕ). All (λ (b : Box2). b.y0 ≤ℤ c.args.row) (take m c.args.boxes.now)) e
+    (rw (to_z-of_z w64 c.args.row c.ranges.row) at c.loop-n.invariant.begun)
+
+pub returns-clause-ahead : goal.returns-clause-ahead
+returns-clause-ahead c = λ k d l.
+    absurd (omega (arith, l, length-drop (length c.args.boxes.now) c.args.boxes.now))

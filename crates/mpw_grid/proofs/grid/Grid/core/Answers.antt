@@ -1,30 +1,52 @@
-use Rattle.std.proofs.Common.{◌≡◌, ◌<◌, ◌≤◌, ◌+◌, ◌*◌, ◌^◌, sym, subst, arith}
-use Rattle.std.specs.Prelude.{pos, ◌+ℤ◌}
-use Rattle.std.proofs.lemmas.Int.{ints}
+use Rattle.std.proofs.Common.{◌<◌, ◌+◌, ◌^◌, ◌∙◌, ap, sym, subst}
+use Rattle.std.specs.Prelude.{ℤ, pos, neg_ℤ, ◌+ℤ◌, ◌≤ℤ◌}
 use Rattle.mpw_geom.specs.declared.plane.Box2.{Box2}
-use Rattle.mpw_grid.specs.Grid.{Cells, cells, column_of, row_of, core_of, IsBoxWithin}
+use Rattle.mpw_geom.specs.Plane.{IsCoordinate}
+use Rattle.mpw_grid.specs.Grid.{Cells, cells, core_of, IsBoxWithin}
 use Rattle.mpw_grid.proofs.Cores.{core_is, core_near}
+use Rattle.mpw_grid.proofs.Scalars.{Side, side_of}
 use Rattle.mpw_grid.proofs.grid.Grid.core.Goals as goal
+
+across : (c : goal.After-from-side) → Side c.left_of-x0.result c.from-side.result
+across c =
+    side_of _ _ _ _ _
+    (subst (λ (g : Cells). IsCoordinate g.extent.x0) c.self.view_is c.self.invariant.plane.x0)
+    c.left_of-x0.ensures.place c.left_of-x0.ensures.short c.from-side.ensures
+    c.self.invariant.short
+
+up : (c : goal.After-from-side) → Side c.bottom_of-y0.result c.from-side.result
+up c =
+    side_of _ _ _ _ _
+    (subst (λ (g : Cells). IsCoordinate g.extent.y0) c.self.view_is c.self.invariant.plane.y0)
+    c.bottom_of-y0.ensures.place c.bottom_of-y0.ensures.short c.from-side.ensures
+    c.self.invariant.short
+
+pub overflow_add-result : goal.overflow_add-result
+overflow_add-result c = (across c).fits
+
+pub overflow_add-result-2 : goal.overflow_add-result-2
+overflow_add-result-2 c = (up c).fits
 
 pub returns-clause-core : goal.returns-clause-core
 returns-clause-core c =
-    let g : Cells = record { extent = c.self.inside.extent; side = c.self.inside.side } in
-    let e = subst (λ (g : Cells). c.left_of-x0.result ≡ g.extent.x0
-    +ℤ pos (column_of g c.args.cell * g.side)) (sym c.self.view_is) c.left_of-x0.ensures.place in
-    let f = subst (λ (g : Cells). c.bottom_of-y0.result ≡ g.extent.y0
-    +ℤ pos (row_of g c.args.cell * g.side)) (sym c.self.view_is) c.bottom_of-y0.ensures.place in
-    let p = subst (λ (g : Cells). column_of g c.args.cell * g.side ≤ 2 ^ 49) (sym c.self.view_is)
-    c.left_of-x0.ensures.short in
-    let q = subst (λ (g : Cells). row_of g c.args.cell * g.side ≤ 2 ^ 49) (sym c.self.view_is)
-    c.bottom_of-y0.ensures.short in
-    let l = c.self.invariant.plane.x0.low in
-    let r = c.self.invariant.plane.x0.high in
-    let l' = c.self.invariant.plane.y0.low in
-    let r' = c.self.invariant.plane.y0.high in
-    let s = c.self.invariant.short in
-    let t = c.from-side.ensures in
-    rw (← c.self.view_is) (core_is g c.args.cell _ c.left_of-x0.result c.bottom_of-y0.result e f
-    (omega (arith, ints)) (omega (arith, ints)) (omega (arith, ints)) (omega (arith, ints)))
+    let x = across c in
+    let y = up c in
+    let long = c.from-side.ensures ∙ ap (λ (g : Cells). pos g.side) c.self.view_is in
+    core_is c.args.self.now c.args.cell _ c.left_of-x0.result c.bottom_of-y0.result
+    c.left_of-x0.ensures.place c.bottom_of-y0.ensures.place x.start_is y.start_is
+    (x.end_is ∙ ap (λ (z : ℤ). c.left_of-x0.result +ℤ z) long)
+    (y.end_is ∙ ap (λ (z : ℤ). c.bottom_of-y0.result +ℤ z) long)
+
+pub returns-clause-reach : goal.returns-clause-reach
+returns-clause-reach c =
+    let x = across c in
+    let y = up c in
+    record {
+      left = subst (λ (z : ℤ). neg_ℤ (pos (2 ^ 50)) ≤ℤ z) (sym x.start_is) x.near;
+      right = subst (λ (z : ℤ). z ≤ℤ pos (2 ^ 50)) (sym x.end_is) x.within;
+      bottom = subst (λ (z : ℤ). neg_ℤ (pos (2 ^ 50)) ≤ℤ z) (sym y.start_is) y.near;
+      top = subst (λ (z : ℤ). z ≤ℤ pos (2 ^ 50)) (sym y.end_is) y.within;
+    }
 
 pub returns-clause-near : goal.returns-clause-near
 returns-clause-near c = λ m b.

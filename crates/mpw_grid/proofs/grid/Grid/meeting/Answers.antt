@@ -1,10 +1,26 @@
-use Rattle.std.proofs.Common.{ℕ, ◌<◌, sym, subst, arith, rules, w64, SFits}
+use Rattle.std.proofs.Common.{ℕ, ◌<◌, sym, subst}
 use Rattle.std.specs.Prelude.{pos, ◌+ℤ◌, ◌-ℤ◌, ◌↔◌}
-use Rattle.std.proofs.lemmas.Int.{ints}
 use Rattle.mpw_grid.specs.declared.grid.Block.{Block}
 use Rattle.mpw_grid.specs.Grid.{Cells, columns, rows, IsInBlock, ShareSquare, window_at}
 use Rattle.mpw_grid.proofs.Windows.{block_meets, same_overlaps}
+use Rattle.mpw_grid.proofs.Scalars.{handed_is, handed_coordinate, below_is, above_is, wide_stretch}
 use Rattle.mpw_grid.proofs.grid.Grid.meeting.Goals as goal
+
+pub span-column0-requires-clause-origin : goal.span-column0-requires-clause-origin
+span-column0-requires-clause-origin c = handed_coordinate _ c.self.invariant.plane.x0
+
+pub span-column0-requires-clause-stretch : goal.span-column0-requires-clause-stretch
+span-column0-requires-clause-stretch c =
+    wide_stretch _ _ _ c.requires.plane.x0 c.requires.plane.x1 c.requires.area.width
+    c.requires.margin
+
+pub span-row0-requires-clause-origin : goal.span-row0-requires-clause-origin
+span-row0-requires-clause-origin c = handed_coordinate _ c.self.invariant.plane.y0
+
+pub span-row0-requires-clause-stretch : goal.span-row0-requires-clause-stretch
+span-row0-requires-clause-stretch c =
+    wide_stretch _ _ _ c.requires.plane.y0 c.requires.plane.y1 c.requires.area.height
+    c.requires.margin
 
 pub returns-clause-exact : goal.returns-clause-exact
 returns-clause-exact c = λ column row u v.
@@ -14,32 +30,22 @@ returns-clause-exact c = λ column row u v.
     (subst (λ (g : Cells). column < columns g) (sym c.self.view_is) u) in
     let v' : row < c.self.inside.rows = subst (λ (n : ℕ). row < n) (sym c.self.invariant.rows_are)
     (subst (λ (g : Cells). row < rows g) (sym c.self.view_is) v) in
-    let x = c.span-column0.ensures.exact column u' in
-    let y = c.span-row0.ensures.exact row v' in
-    let m = c.requires.margin in
-    let f : SFits w64 c.self.inside.extent.x0 = search rules in
-    let k : SFits w64 c.self.inside.extent.y0 = search rules in
-    let p = c.requires.plane in
-    let p0l = p.x0.low in
-    let p0h = p.x0.high in
-    let p1l = p.x1.low in
-    let p1h = p.x1.high in
-    let q0l = p.y0.low in
-    let q0h = p.y0.high in
-    let q1l = p.y1.low in
-    let q1h = p.y1.high in
     let block : Block = record {
       column0 = c.span-column0.result.0;
       column1 = c.span-column0.result.1;
       row0 = c.span-row0.result.0;
       row1 = c.span-row0.result.1;
     } in
+    let plane = c.requires.plane in
+    let margin = c.requires.margin in
     subst (λ (g : Cells). IsInBlock block column row
     ↔ ShareSquare (window_at g c.args.margin column row) c.args.b) c.self.view_is
     (block_meets g c.args.margin block c.args.b column row c.self.invariant.side c.requires.area
     (same_overlaps _ c.self.inside.extent.x0 _ (c.args.b.x0 -ℤ pos c.args.margin) _
-    (c.args.b.x1 +ℤ pos c.args.margin) _ c.self.inside.side column (omega (arith, ints))
-    (omega (arith, ints)) (omega (arith, ints)) x)
+    (c.args.b.x1 +ℤ pos c.args.margin) _ c.self.inside.side column
+    (handed_is _ c.self.invariant.plane.x0) (below_is _ _ plane.x0 margin)
+    (above_is _ _ plane.x1 margin) (c.span-column0.ensures.exact column u'))
     (same_overlaps _ c.self.inside.extent.y0 _ (c.args.b.y0 -ℤ pos c.args.margin) _
-    (c.args.b.y1 +ℤ pos c.args.margin) _ c.self.inside.side row (omega (arith, ints))
-    (omega (arith, ints)) (omega (arith, ints)) y))
+    (c.args.b.y1 +ℤ pos c.args.margin) _ c.self.inside.side row
+    (handed_is _ c.self.invariant.plane.y0) (below_is _ _ plane.y0 margin)
+    (above_is _ _ plane.y1 margin) (c.span-row0.ensures.exact row v')))

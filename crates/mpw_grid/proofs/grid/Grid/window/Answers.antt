@@ -27,24 +27,18 @@ returns-clause-window c =
     let f = ap (λ (b : Box2). b.y0) c.core-core.ensures.core in
     let g = ap (λ (b : Box2). b.x1) c.core-core.ensures.core in
     let h = ap (λ (b : Box2). b.y1) c.core-core.ensures.core in
-    let l = c.core-core.ensures.reach.left in
-    let l' = c.core-core.ensures.reach.bottom in
-    let r = c.core-core.ensures.reach.right in
-    let r' = c.core-core.ensures.reach.top in
-    same_box _ _ (omega (arith, ints)) (omega (arith, ints)) (omega (arith, ints))
-    (omega (arith, ints))
+    let near = c.core-core.ensures.reach in
+    same_box _ _ (omega (arith, ints, m, e, near.left)) (omega (arith, ints, m, f, near.bottom))
+    (omega (arith, ints, m, g, near.right)) (omega (arith, ints, m, h, near.top))
 
 pub returns-clause-near : goal.returns-clause-near
 returns-clause-near c = λ k b.
     let n = c.core-core.ensures.near k b in
-    let l = n.left in
-    let r = n.right in
-    let d = n.bottom in
-    let t = n.top in
+    let near = c.core-core.ensures.reach in
     let m = c.requires.margin in
     record {
-      left = omega (arith, ints);
-      right = omega (arith, ints);
-      bottom = omega (arith, ints);
-      top = omega (arith, ints);
+      left = omega (arith, ints, m, n.left, near.left);
+      right = omega (arith, ints, m, n.right, near.right);
+      bottom = omega (arith, ints, m, n.bottom, near.bottom);
+      top = omega (arith, ints, m, n.top, near.top);
     }

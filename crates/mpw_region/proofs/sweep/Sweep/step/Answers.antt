@@ -1,9 +1,10 @@
-use Rattle.std.proofs.Common.{◌≤ℤ◌, ◌<ℤ◌, ◌≤◌, List, length, subst, w64}
-use Rattle.std.specs.Prelude.{All, take}
+use Rattle.std.proofs.Common.{◌≤ℤ◌, ◌<ℤ◌, ◌≤◌, List, length, subst, sym, arith, w64}
+use Rattle.std.specs.Prelude.{All, AllPairs, take}
 use mir.Val.{to_z, of_z}
-use Rattle.std.proofs.lemmas.Int.{to_z-of_z}
+use Rattle.std.proofs.lemmas.Int.{ints, to_z-of_z}
+use Rattle.std.proofs.lemmas.List.Elements.{All-weaker}
 use Rattle.mpw_geom.specs.declared.plane.Box2.{Box2}
-use Rattle.mpw_region.specs.Internal.Sweep.{HasRow, HoldsJust}
+use Rattle.mpw_region.specs.Internal.Sweep.{HasRow, HoldsJust, BeginsBelow}
 use Rattle.mpw_region.proofs.Active.{HoldsJust-drop, HoldsJust-moved}
 use Rattle.mpw_region.proofs.sweep.Sweep.step.Goals as goal
 
@@ -43,3 +44,27 @@ returns-clause-exact c =
     HoldsJust-moved c.args.self.now.boxes.items c.take_in.new.active.items
     c.sort_from_left.new.boxes.items (λ b. HasRow b c.args.row)
     c.in_ok-sort_from_left.ensures.moved told
+
+pub take_in-requires-clause-within : goal.take_in-requires-clause-within
+take_in-requires-clause-within c =
+    subst (λ (bs : List Box2). c.args.self.now.next ≤ length bs) (sym c.as_slice.ensures.value)
+    c.requires.sweep.within
+
+pub take_in-requires-clause-ordered : goal.take_in-requires-clause-ordered
+take_in-requires-clause-ordered c =
+    subst (AllPairs BeginsBelow) (sym c.as_slice.ensures.value) c.requires.sweep.ordered
+
+pub take_in-requires-clause-begun : goal.take_in-requires-clause-begun
+take_in-requires-clause-begun c =
+    rw (c.as_slice.ensures.value, to_z-of_z w64 c.args.row c.ranges.row)
+    (All-weaker (λ (b : Box2). b.y0 ≤ℤ c.args.self.now.row) (λ (b : Box2). b.y0 ≤ℤ c.args.row)
+    (λ b h. omega (arith, ints, h, c.requires.upwards))
+    (take c.args.self.now.next c.args.self.now.boxes.items) c.requires.sweep.begun)
+
+pub returns-clause-ahead : goal.returns-clause-ahead
+returns-clause-ahead c =
+    rw (c.as_slice.ensures.value, to_z-of_z w64 c.args.row c.ranges.row) at
+    c.in_ok-next.ensures.ahead
+
+pub returns-clause-ordered : goal.returns-clause-ordered
+returns-clause-ordered c = c.in_ok-sort_from_left.ensures.ordered
