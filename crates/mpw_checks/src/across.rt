@@ -15,7 +15,7 @@ use mpw_region::{Line, Run, join_runs};
 use std::alloc::{AllocError, Global};
 
 /// The boxes of a window that begin or end within it, and the rows of those that reach across.
-#[derive(Debug, Drop)]
+#[derive(Drop)]
 struct Apart {
     within: Vec<Box2>,
     across: Vec<Run>,

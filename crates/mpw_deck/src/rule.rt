@@ -7,7 +7,7 @@ use mpw_lists::Same;
 use std::alloc::AllocError;
 
 /// A check, named after the KLayout DRC reference, with its layers.
-#[derive(Clone, Copy, Debug, PartialEq, Eq)]
+#[derive(Clone, Copy, PartialEq, Eq)]
 pub enum Check {
     Width(Layer),
     Space(Layer),

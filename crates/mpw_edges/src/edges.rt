@@ -24,7 +24,7 @@ use mpw_region::Run;
 use std::alloc::{AllocError, Global};
 
 /// An end of a box from left to right: where it begins, or where it ends.
-#[derive(Clone, Copy, Debug, PartialEq, Eq)]
+#[derive(Clone, Copy)]
 pub(crate) enum End {
     Rise,
     Fall,
@@ -32,7 +32,7 @@ pub(crate) enum End {
 
 /// Which edges of two layers are pairs: those of the first layer with later ones of the second, and those of the second with
 /// later ones of the first.
-#[derive(Clone, Copy, Debug, PartialEq, Eq)]
+#[derive(Clone, Copy)]
 pub(crate) struct Ends {
     pub(crate) forth_from: End,
     pub(crate) forth_to: End,

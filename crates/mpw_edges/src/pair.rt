@@ -36,7 +36,7 @@ use std::alloc::AllocError;
 const FEW: usize = 16;
 
 /// An edge at `x` through the rows from `y0` to before `y1`, in nm.
-#[derive(Clone, Copy, Debug, PartialEq, Eq)]
+#[derive(Clone, Copy)]
 pub(crate) struct Edge {
     pub(crate) x: i64,
     pub(crate) y0: i64,
@@ -45,7 +45,7 @@ pub(crate) struct Edge {
 
 /// What makes two edges a pair: whether touching counts, the distance in nm that they are nearer
 /// than, and the core of the lower left point.
-#[derive(Clone, Copy, Debug, PartialEq, Eq)]
+#[derive(Clone, Copy)]
 pub(crate) struct Limits {
     pub(crate) touching: bool,
     pub(crate) distance: u32,
