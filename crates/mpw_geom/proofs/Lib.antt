@@ -5,6 +5,8 @@ pub mod Linked
 pub mod Meets
 pub mod NameLemmas
 pub mod NamesLemmas
+pub mod Scalars
 pub mod Squares
 pub mod Tests
 pub mod Turns
+pub mod Undone

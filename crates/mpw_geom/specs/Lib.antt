@@ -1,3 +1,4 @@
+pub mod Internal
 pub mod Least
 pub mod Links
 pub mod Name

@@ -6,12 +6,13 @@
 ghost use Rattle.std.specs.Prelude.{◌≡◌, ◌↔◌, IsTrue};
 ghost use Rattle.mpw_geom.specs.Plane.{IsInPlane, IsBoxInPlane, IsOrdered, Square, has_point, has_square};
 ghost use Rattle.mpw_geom.specs.Placing.{oriented_point, oriented_square, mirrored_point, mirrored_square, turned_point, turned_square, placed_point, placed_square, PlacedSquaresHavePlacedPoints};
+ghost use Rattle.mpw_geom.specs.Internal.{undoing};
 ghost use Rattle.mpw_geom.specs.declared.plane.Point.{Point};
 
 use crate::plane::{Box2, Orient, Point};
 
 /// How a structure stands in its parent: mirrored and turned by `orient`, then moved by `by`, in nm.
-#[derive(Clone, Copy, Debug, PartialEq, Eq)]
+#[derive(Clone, Copy)]
 pub struct Placing {
     pub orient: Orient,
     pub by: Point,
@@ -19,7 +20,6 @@ pub struct Placing {
 
 impl Orient {
     /// Where the orientation takes the point, about the origin.
-    #[tactic(auto, unfolding(crate::specs::Placing::oriented_point))]
     pub fn apply(self, p: Point) -> Point
         requires { IsInPlane p }
         ensures point { result ≡ oriented_point self p }
@@ -39,12 +39,18 @@ impl Orient {
     }
 
     /// The orientation that undoes this one.
-    #[tactic(auto, using(crate::proofs::Turns::negations), unfolding(crate::specs::Placing::oriented_point, crate::specs::Placing::oriented_square))]
     pub fn inverse(self) -> Orient
         ensures left { (p : Point) → oriented_point result (oriented_point self p) ≡ p }
         ensures right { (p : Point) → oriented_point self (oriented_point result p) ≡ p }
         ensures left_squares { (s : Square) → oriented_square result (oriented_square self s) ≡ s }
         ensures right_squares { (s : Square) → oriented_square self (oriented_square result s) ≡ s }
+    {
+        self.undoing()
+    }
+
+    // Apart from `inverse`, so that its four clauses are proved once and not for each orientation.
+    fn undoing(self) -> Orient
+        ensures { result ≡ undoing self }
     {
         match self {
             Orient::R0 => Orient::R0,

@@ -22,7 +22,7 @@ pub struct Box2 {
 }
 
 /// A layer number with its datatype, each 0 to 65535 (GDSII Stream, LAYER and DATATYPE).
-#[derive(Clone, Copy, Debug, PartialEq, Eq)]
+#[derive(Clone, Copy, PartialEq, Eq)]
 pub struct Layer {
     pub layer: u16,
     pub datatype: u16,
@@ -30,7 +30,7 @@ pub struct Layer {
 
 /// One of the eight orientations: `R` turns counterclockwise by the degrees named, `M` mirrors
 /// about the x axis first and then turns.
-#[derive(Clone, Copy, Debug, PartialEq, Eq)]
+#[derive(Clone, Copy, PartialEq, Eq)]
 pub enum Orient {
     R0,
     R90,
