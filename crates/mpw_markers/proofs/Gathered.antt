@@ -1,7 +1,8 @@
 -- Lists of lists.
-use Rattle.std.proofs.Common.{◌≡◌, ℕ, Ok, Err, Result, List, [], ◌∷◌, inl, inr, sym, subst, arith}
+use Rattle.std.proofs.Common.{◌≡◌, ℕ, ◌+◌, ◌<◌, Ok, Err, Result, List, [], ◌∷◌, ◌++◌, length, get_or, take, inl, inr, sym, subst, ap, ◌∙◌, arith}
 use Rattle.std.specs.Prelude.{Contains, IfOk, ◌↔◌}
 use Rattle.std.specs.List.{flat_map}
+use Rattle.std.proofs.lemmas.List.{take_more, flat_map_more}
 use Rattle.std.proofs.lemmas.List.Elements.{Contains-append_left, Contains-append_right, Contains-append_cases}
 use Rattle.mpw_markers.specs.declared.marker.Marker.{Marker}
 use Rattle.std.specs.List.Sorted.{IsPermutation}
@@ -10,6 +11,13 @@ use Rattle.mpw_markers.specs.Met.{IsAscending}
 use Rattle.mpw_markers.specs.Internal.Runs.{AreMetBy}
 use Rattle.mpw_markers.specs.Stitched.{IsListed}
 use Rattle.mpw_markers.proofs.Unique.{cons_cases, Contains-head, Contains-tail}
+
+-- what the list of the next element adds
+pub flat_map_next : {X Y : Type 0} (f : X → List Y) (xs : List X) (i : ℕ) (x : X) → i < length xs
+    → x ≡ get_or xs i x → flat_map f (take i xs) ++ f x ≡ flat_map f (take (i + 1) xs)
+flat_map_next f xs i x l is =
+    flat_map_more f [] (take i xs) x
+    ∙ ap (flat_map f) (ap (λ y. take i xs ++ y ∷ []) is ∙ sym (take_more xs i x l))
 
 -- what a list of lists, one after another, has
 pub in_flat_map : {X Y : Type 0} (f : X → List Y) (xs : List X) (y : Y) → Contains (flat_map f xs) y

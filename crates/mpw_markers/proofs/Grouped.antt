@@ -2,7 +2,7 @@
 use Rattle.std.proofs.Common.{◌≡◌, ℕ, ◌+◌, ◌<◌, ◌≤◌, ◌≤ℤ◌, ◌<ℤ◌, List, [], ◌∷◌, ◌++◌, length, get_or, take, drop, inl, inr, refl, sym, subst, ap, ◌∙◌, arith}
 use Rattle.std.specs.Prelude.{Contains, All}
 use Rattle.std.proofs.lemmas.Int.{ints, clamps, by_lt_z}
-use Rattle.std.proofs.lemmas.List.{take_more, drop_more}
+use Rattle.std.proofs.lemmas.List.{take_more, take_all, drop_more, length-drop}
 use Rattle.std.proofs.lemmas.List.Elements.{Contains-push, Contains-append_left, Contains-push_cases}
 use Rattle.mpw_markers.specs.declared.marker.Marker.{Marker}
 use Rattle.mpw_markers.specs.declared.marker.Key.{Key}
@@ -152,3 +152,14 @@ pub stopped : (markers : List Marker) (count : ℕ) (key : Key) (m : Marker)
 stopped markers count key m h s l is o u =
     IsFirstRun-stop markers count key m h s l o
     (λ e. subst (λ (x : Marker). key.y1 <ℤ x.y0) is (u (e ∙ sym (ap line_of is))))
+
+-- where no marker stands behind the run, it is made of all
+pub all_reached : (markers : List Marker) (count : ℕ) (key : Key) → Reaches markers count key
+    → 1 ≤ length markers → length markers ≤ count → IsFirstRun markers (length markers) key
+all_reached markers count key h s l = record {
+  some = s;
+  within = omega arith;
+  run = subst (λ ys. IsRunOf ys key)
+      (take_all count markers l ∙ sym (take_all (length markers) markers (omega arith))) h.run;
+  others = λ m c. absurd (omega (arith, c.1, length-drop (length markers) markers));
+}

@@ -186,6 +186,13 @@ StandsBefore-begins m n o p q =
 pub begins_itself : (m : Marker) → BeginsFirst m m
 begins_itself m = inr (refl, omega (arith, ints))
 
+-- what is left of an ordered list from a place on is in order
+pub AreInOrder-drop : (i : ℕ) (xs : List Marker) → AreInOrder xs → AreInOrder (drop i xs)
+AreInOrder-drop i xs h j k d l b =
+    subst (λ (m : Marker). BeginsFirst m (get_or (drop i xs) k d)) (sym (get_or-drop i xs j d))
+    (subst (λ (m : Marker). BeginsFirst (get_or xs (i + j) d) m) (sym (get_or-drop i xs k d))
+    (h (i + j) (i + k) d (omega arith) (omega (arith, b, length-drop i xs))))
+
 -- what stands in an ordered list from a place on begins no earlier than what stands there
 pub behind : (xs : List Marker) (i : ℕ) (d m : Marker) → AreInOrder xs → Contains (drop i xs) m
     → BeginsFirst (get_or xs i d) m

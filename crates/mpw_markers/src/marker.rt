@@ -14,7 +14,7 @@ use std::sync::Arc;
 
 /// What tells apart the lines on which markers lie: the rule's place in the deck, from 0, the axis of the edges,
 /// the side, 0 or 1, and the two coordinates, in nm.
-#[derive(Clone, Copy, Debug, PartialEq, Eq, PartialOrd, Ord)]
+#[derive(Clone, Copy, PartialEq, Eq, PartialOrd, Ord)]
 pub struct Line {
     pub rule: u32,
     pub axis: Axis,
@@ -24,7 +24,7 @@ pub struct Line {
 }
 
 /// A marker without the submissions that it meets.
-#[derive(Clone, Copy, Debug, PartialEq, Eq)]
+#[derive(Clone, Copy)]
 pub struct Key {
     pub rule: u32,
     pub axis: Axis,

@@ -7,7 +7,7 @@ use crate::marker::Key;
 use mpw_edges::Axis;
 
 /// A line by numbers that are in the order of lines: axis 0 is `V`, and 1 is `H`.
-#[derive(Clone, Copy, Debug, PartialEq, Eq, PartialOrd, Ord)]
+#[derive(Clone, Copy, PartialEq, Eq, PartialOrd, Ord)]
 pub(crate) struct LinePlace {
     pub rule: u32,
     pub axis: u8,
@@ -17,7 +17,7 @@ pub(crate) struct LinePlace {
 }
 
 /// Where a marker stands in a book: its line and its rows.
-#[derive(Clone, Copy, Debug, PartialEq, Eq, PartialOrd, Ord)]
+#[derive(Clone, Copy, PartialEq, Eq, PartialOrd, Ord)]
 pub(crate) struct Place {
     pub line: LinePlace,
     pub y0: i64,

@@ -27,7 +27,7 @@ pub record IsPlaced (ss : List Submission) (ps after : List Placement) (cell lab
   pub room : nat_le 4096 (length ps) ≡ false
   pub all : after ≡ ps ++ placement_of cell label placing number ∷ []
 
-first_none : (t : Bool) (fault : PlacingFault) (rest : Option PlacingFault)
+pub first_none : (t : Bool) (fault : PlacingFault) (rest : Option PlacingFault)
     → (if t then Some fault else rest) ≡ None → (t ≡ false) × (rest ≡ None)
 first_none true fault rest e = absurd cc
 first_none false fault rest e = (refl, e)

@@ -1,12 +1,18 @@
 -- What placing gives, by the two calls that decide it: which number the cell's present submission has, and the refusal.
-use Rattle.std.proofs.Common.{◌≡◌, ℕ, List, [], ◌∷◌, ◌++◌, Option, Some, None, Result, Ok, Err, sym, ap, ◌∙◌}
+use Rattle.std.proofs.Common.{◌≡◌, ℕ, ◌+◌, ◌^◌, ◌<◌, length, List, [], ◌∷◌, ◌++◌, Option, Some, None, Ok, Err, sym, ap, ◌∙◌}
+use Rattle.std.specs.Prelude.{nat_lt, nat_le}
+use Rattle.std.proofs.lemmas.Bool.{leb-false}
 use Rattle.mpw_geom.specs.declared.placing.Placing.{Placing}
 use Rattle.mpw_hier.specs.declared.submission.Submission.{Submission}
 use Rattle.mpw_hier.specs.Shelf.{present}
+use Rattle.mpw_hier.specs.Values.{count}
 use Rattle.mpw_walk.specs.declared.root.Root.{Root}
 use Rattle.mpw_placings.specs.declared.fault.PlacingFault.{PlacingFault}
 use Rattle.mpw_placings.specs.declared.fault.PlacingFault.TheVariants.{NoCell, Known, Extent, Shapes, Full, Unknown, Memory}
 use Rattle.mpw_placings.specs.declared.placement.Placement.{Placement}
+use Rattle.mpw_walk.specs.Roots.{root_extent}
+use Rattle.mpw_placings.specs.Placements.{is_taken, is_far, shape_count}
+use Rattle.mpw_placings.proofs.Inverted.{first_none}
 use Rattle.mpw_placings.specs.Rows.{refusal, behind, placed_number, placings_with, Refuses}
 
 abbrev rooted : ℕ → Placing → Root
@@ -32,6 +38,16 @@ module _ (ss : List Submission) (ps : List Placement) (cell label : List ℕ) (p
       → placings_with ss ps cell label placing
       ≡ Ok (ps ++ record { cell = cell; label = label; root = rooted number placing } ∷ [])
   placed number e f = decided number None e f
+
+  -- what isn't refused has room
+  pub has_room : (number : ℕ) → None ≡ refusal ss ps cell label (rooted number placing)
+      → length ps < 4096
+  has_room number e =
+      let new = first_none (is_taken ps cell label) Known _ (sym e) in
+      let near = first_none (is_far (root_extent ss (rooted number placing))) Extent _ new.1 in
+      let small =
+      first_none (nat_lt (2 ^ 20) (shape_count ss ps + count ss number)) Shapes _ near.1 in
+      leb-false 4096 (length ps) (first_none (nat_le 4096 (length ps)) Full None small.1).0
 
   pub refused : (number : ℕ) (fault : PlacingFault) → Some number ≡ present ss cell
       → Some fault ≡ refusal ss ps cell label (rooted number placing)

@@ -1,6 +1,9 @@
+use Rattle.std.proofs.Common.{sym, subst}
+use Rattle.std.specs.Prelude.{All}
 use Rattle.std.proofs.lemmas.Result.{IfOk-weaker}
 use Rattle.mpw_edges.specs.declared.run.Axis.TheVariants.{V, H}
 use Rattle.mpw_edges.proofs.Maximal.{exact_list, ordered_list}
+use Rattle.mpw_checks.specs.Strips.{IsStrip}
 use Rattle.mpw_checks.proofs.Halving.{places_of}
 use Rattle.mpw_checks.proofs.strips.pieces_in.Goals as goal
 
@@ -26,3 +29,9 @@ returns-clause-ordered c =
     c.as_slice-2.result.now c.in_ok-horizontal.horizontal.items e c.as_slice.ensures.value
     c.as_slice-2.ensures.value c.in_ok-vertical.ensures.apart c.in_ok-horizontal.ensures.apart)
     c.pieces_of.ensures
+
+pub runs_in-requires : goal.runs_in-requires
+runs_in-requires c = subst (All IsStrip) (sym c.rows.ensures.strips) c.rows.ensures.banded
+
+pub runs_in-requires-2 : goal.runs_in-requires-2
+runs_in-requires-2 c = subst (All IsStrip) (sym c.columns.ensures.strips) c.columns.ensures.banded

@@ -1,4 +1,4 @@
-use Rattle.mpw_markers.proofs.Grouped.{started, taken_in, stopped}
+use Rattle.mpw_markers.proofs.Grouped.{started, taken_in, stopped, all_reached}
 use Rattle.mpw_markers.proofs.stitching.first_run.Goals as goal
 
 pub loop-count-init : goal.loop-count-init
@@ -17,3 +17,8 @@ returns-then-not-reaches c =
     stopped c.args.markers.now c.loop-count.count c.loop-count.run c.index-markers-count.result
     c.loop-count.invariant c.loop-count.auto.count c.loop-count-test.true
     c.index-markers-count.is c.requires.ordered c.if-not-reaches.ensures
+
+pub returns : goal.returns
+returns c =
+    all_reached c.args.markers.now c.loop-count.count c.loop-count.run c.loop-count.invariant
+    c.requires.some c.loop-count-test.false

@@ -1,9 +1,28 @@
-use Rattle.std.proofs.Common.{List, subst}
-use Rattle.std.proofs.lemmas.List.{take_rest}
+use Rattle.std.proofs.Common.{List, sym, subst}
+use Rattle.std.specs.Prelude.{All, Contains}
+use Rattle.std.proofs.lemmas.List.{take_all, take_rest}
+use Rattle.std.proofs.lemmas.List.Elements.{All-drop}
 use Rattle.mpw_markers.specs.declared.marker.Marker.{Marker}
+use Rattle.mpw_markers.specs.Markers.{IsFilled}
+use Rattle.mpw_markers.specs.Internal.Order.{AreInOrder}
 use Rattle.mpw_markers.specs.Internal.Runs.{AddsRun}
-use Rattle.mpw_markers.proofs.Joins.{Joins-more}
+use Rattle.mpw_markers.specs.Stitched.{IsJoined}
+use Rattle.mpw_markers.proofs.Order.{AreInOrder-drop}
+use Rattle.mpw_markers.proofs.Joins.{Joins-start, Joins-more}
 use Rattle.mpw_markers.proofs.stitching.join.Goals as goal
+
+pub loop-start-init : goal.loop-start-init
+loop-start-init c = rw c.in_ok-book.ensures.items (Joins-start c.args.markers.now)
+
+pub add_run-requires-clause-filled : goal.add_run-requires-clause-filled
+add_run-requires-clause-filled c =
+    subst (All IsFilled) (sym (take_rest c.args.markers.now c.loop-start.start))
+    (All-drop IsFilled c.loop-start.start c.args.markers.now c.requires.filled)
+
+pub add_run-requires-clause-ordered : goal.add_run-requires-clause-ordered
+add_run-requires-clause-ordered c =
+    subst AreInOrder (sym (take_rest c.args.markers.now c.loop-start.start))
+    (AreInOrder-drop c.loop-start.start c.args.markers.now c.requires.ordered)
 
 pub loop-start-preserved : goal.loop-start-preserved
 loop-start-preserved c =
@@ -12,3 +31,9 @@ loop-start-preserved c =
     (subst (λ (ys : List Marker). AddsRun ys c.in_ok-start.field-0 c.loop-start.book.items
     c.add_run.new.book.items) (take_rest c.args.markers.now c.loop-start.start)
     c.in_ok-start.ensures)
+
+pub returns : goal.returns
+returns c =
+    subst (λ (ys : List Marker). IsJoined (Contains ys) c.loop-start.book.items)
+    (take_all c.loop-start.start c.args.markers.now c.loop-start-test.false)
+    c.loop-start.invariant.joined

@@ -1,6 +1,7 @@
-use Rattle.std.proofs.Common.{◌∙◌, ◌++◌, [], ◌∷◌, Ok, ap, sym}
+use Rattle.std.proofs.Common.{◌∙◌, ◌+◌, ◌++◌, [], ◌∷◌, Ok, length, ap, sym, arith}
+use Rattle.std.proofs.lemmas.List.{length_push}
 use Rattle.mpw_walk.specs.declared.root.Root.{Root}
-use Rattle.mpw_placings.proofs.Placing.{without_cell, placed, refused}
+use Rattle.mpw_placings.proofs.Placing.{without_cell, has_room, placed, refused}
 use Rattle.mpw_placings.proofs.placings.Placings.place.Goals as goal
 
 pub refusal-requires : goal.refusal-requires
@@ -28,3 +29,11 @@ returns c =
       label = c.in_ok-copy-2.ensures k;
       root = root;
     } ∷ [])))
+
+pub from_vec-requires : goal.from_vec-requires
+from_vec-requires c =
+    let room = has_room c.args.shelf.now c.args.self.now c.args.cell.now c.args.label.now
+    c.args.placing c.in-Some.submission c.in_default-refusal.ensures in
+    let long = ap length c.in_ok-placements.ensures ∙ length_push c.as_slice.result.now _
+    ∙ ap (λ ps. length ps + 1) c.as_slice.ensures.all in
+    omega (arith, room, long)
