@@ -9,7 +9,7 @@ pub enum Axis {
 
 /// A maximal run of the rows from `y0` to before `y1` with edges at `x1` and `x2`, in nm; on axis
 /// `H` the coordinates are exchanged. The side is 0 or 1: which layer is at `x1`.
-#[derive(Clone, Copy)]
+#[derive(Clone, Copy, PartialEq, Eq)]
 pub struct Piece {
     pub axis: Axis,
     pub side: u8,

@@ -24,7 +24,7 @@ pub struct Line {
 }
 
 /// A marker without the submissions that it meets.
-#[derive(Clone, Copy)]
+#[derive(Clone, Copy, PartialEq, Eq)]
 pub struct Key {
     pub rule: u32,
     pub axis: Axis,

@@ -13,7 +13,7 @@ use std::marker::Model;
 
 /// A rectangle of a shape where it is placed: its squares in nm, its layer, and the number of the submission
 /// from which the shape comes.
-#[derive(Clone, Copy)]
+#[derive(Clone, Copy, PartialEq, Eq)]
 pub struct Rectangle {
     pub area: Box2,
     pub layer: Layer,
