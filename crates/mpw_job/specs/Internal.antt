@@ -3,3 +3,4 @@ pub mod Cores
 pub mod Found
 pub mod Layers
 pub mod Shared
+pub mod Worked

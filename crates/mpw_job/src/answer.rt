@@ -1,6 +1,6 @@
 //! Answers, each with its job.
 
-ghost use Rattle.std.specs.Prelude.{◌≡◌, IfOk, map};
+ghost use Rattle.std.specs.Prelude.{◌≡◌, IfOk};
 ghost use Rattle.mpw_job.specs.Jobs.{IsCutAnswer, IsTileAnswer};
 ghost use Rattle.mpw_job.specs.Carried.{job_of};
 
@@ -8,10 +8,8 @@ use crate::find::found;
 use crate::job::{CutJob, Job, TileJob};
 use mpw_markers::TileMarkers;
 use mpw_tiles::{Windows, cut};
-use rayon::prelude::*;
 use std::alloc::{AllocError, Global};
 use std::marker::Model;
-use std::thread::Threads;
 
 /// The windows of a snapshot, with the job of cutting it: contracts see both. The windows stand for the snapshot.
 pub struct CutAnswer {
@@ -147,7 +145,7 @@ const KEPT: usize = 4 << 20;
 /// was given back a large block it returns the end of the heap to the system wherever 128 KiB of it are free, as behind each
 /// tile, and a page that is taken again costs a fault. The blocks after the first come from the thread's own heap, which so
 /// grows by one call of the system, where it would else grow page by page. Where there is no memory nothing changes.
-fn keep_freed(alloc: Global) {
+pub(crate) fn keep_freed(alloc: Global) {
     let block: Result<Vec<u8>, AllocError> = Vec::with_capacity(alloc, KEPT);
     drop(block);
 }
@@ -187,40 +185,4 @@ pub fn do_job(alloc: Global, job: &Job) -> Result<Answer, AllocError>
         Job::Cut(job) => Ok(Answer::Cut(cut_answer(alloc, job)?)),
         Job::Tile(job) => Ok(Answer::Tile(tile_answer(alloc, job)?)),
     }
-}
-
-/// The answers of the jobs, in order, from as many threads as there are processors, each with a heap that grew at once. An
-/// error is want of memory.
-fn worked(
-    rt: &(impl Threads + Sync),
-    alloc: Global,
-    jobs: &[Job],
-) -> Result<Result<Vec<Answer>, AllocError>, AllocError>
-    ensures { IfOk result (λ r. IfOk r (λ v. map job_of v.items ≡ jobs.now)) }
-{
-    jobs.par_iter()
-        .with_min_len(1)
-        .map_init(
-            || keep_freed(alloc),
-            |_grown: &mut (), job: &Job| -> Result<Answer, AllocError>
-                ensures { IfOk result (λ a. job_of a ≡ job.now) }
-            { do_job(alloc, job) },
-        )
-        .collect(rt, alloc)
-}
-
-/// Does the jobs, in as many threads as there are processors, two lists of neighbours a thread. The answers stand in the
-/// order of the jobs, and each carries its job.
-///
-/// # Errors
-/// Where there is no memory.
-pub fn work_all(
-    rt: &(impl Threads + Sync),
-    alloc: Global,
-    jobs: &[Job],
-) -> Result<Vec<Answer>, AllocError>
-    ensures { IfOk result (λ v. map job_of v.items ≡ jobs.now) }
-{
-    keep_freed(alloc);
-    worked(rt, alloc, jobs)?
 }

@@ -14,11 +14,13 @@ mod layers;
 mod met;
 mod shared;
 mod tiles;
+mod work;
 
-pub use answer::{Answer, CutAnswer, TileAnswer, do_job, work_all};
+pub use answer::{Answer, CutAnswer, TileAnswer, do_job};
 pub use job::{CutJob, Gate, Job, TileJob};
 pub use laws::{
     answers_make_the_layout, cores_lie_in_plane, each_marker_meets_some, layout_determines_markers,
     no_shapes_no_markers, tests_tell_shown,
 };
 pub use tiles::tile_job;
+pub use work::work_all;
