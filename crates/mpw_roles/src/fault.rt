@@ -4,24 +4,47 @@ ghost use Rattle.std.specs.Prelude.{◌≡◌};
 ghost use Rattle.mpw_roles.specs.declared.fault.RolesFault.TheVariants.{Memory};
 
 use std::alloc::AllocError;
-use thiserror::Error;
+use std::error::Error;
+use std::fmt;
 
 /// Why a command on the hierarchy was refused.
-#[derive(Clone, Copy, Debug, PartialEq, Eq, Error)]
+#[derive(Clone, Copy, PartialEq, Eq)]
 pub enum RolesFault {
-    #[error("no such role")]
     NoRole,
-    #[error("the role or the pair is known")]
     Known,
-    #[error("the pair would close a cycle")]
     Cycle,
-    #[error("no such immediate pair")]
     NoPair,
-    #[error("there are 512 roles already")]
     Full,
-    #[error("out of memory")]
     Memory,
 }
+
+impl RolesFault {
+    /// What is said of it.
+    fn words(self) -> &'static str {
+        match self {
+            RolesFault::NoRole => "no such role",
+            RolesFault::Known => "the role or the pair is known",
+            RolesFault::Cycle => "the pair would close a cycle",
+            RolesFault::NoPair => "no such immediate pair",
+            RolesFault::Full => "there are 512 roles already",
+            RolesFault::Memory => "out of memory",
+        }
+    }
+}
+
+impl fmt::Display for RolesFault {
+    fn fmt<W: fmt::Write>(&self, f: &mut fmt::Formatter<W>) -> fmt::Result {
+        f.write_str(self.words())
+    }
+}
+
+impl fmt::Debug for RolesFault {
+    fn fmt<W: fmt::Write>(&self, f: &mut fmt::Formatter<W>) -> fmt::Result {
+        f.write_str(self.words())
+    }
+}
+
+impl Error for RolesFault {}
 
 impl From<AllocError> for RolesFault {
     ghost from_gives = { λ _ fault. fault ≡ Memory };

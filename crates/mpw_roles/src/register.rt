@@ -3,7 +3,7 @@
 //! A name's number is how many names came before it, and stays. Most names stand in a set that copies share, and the latest
 //! in a short list beside it: a copy is a count and the latest names, and a look-up a hash and a look at those. Where the list
 //! is full, the next name makes a set of all, of which each name in the list so pays a part.
-ghost use Rattle.std.specs.Prelude.{◌≡◌, ◌<◌, ◌∷◌, ◌++◌, [], true, false, length, position, slice_get, IfOk, IfSome, OnOk, OnErr};
+ghost use Rattle.std.specs.Prelude.{◌≡◌, ◌<◌, ◌≤◌, ◌∷◌, ◌++◌, [], true, false, length, position, slice_get, IfOk, IfSome, OnOk, OnErr};
 ghost use Rattle.std.specs.Option.{option_copied};
 ghost use Rattle.mpw_geom.specs.Names.{name_eq, contains_name};
 ghost use Rattle.mpw_roles.specs.Order.{are_distinct};
@@ -50,6 +50,23 @@ fn place_among(names: &[Name], name: &Name) -> Option<usize>
             ensures { result ≡ name_eq name.entry.now other.now }
         { *name == *other },
     )
+}
+
+/// Takes the latest names into the set where there is no place for one more. Where there is no memory, all stay where they
+/// were.
+fn make_place(settled: &mut Settled, latest: &mut Names, alloc: Global) -> Result<(), AllocError>
+    requires once { are_distinct (settled.old ++ latest.old) ≡ true }
+    requires few { length latest.old ≤ 32 }
+    ensures same { settled.new ++ latest.new ≡ settled.old ++ latest.old }
+    ensures few { length latest.new ≤ 32 }
+    ensures fewer { OnOk result (length latest.new < 32) }
+{
+    if latest.as_slice().len() < LATEST {
+        return Ok(());
+    }
+    *settled = settled.with(alloc, latest.as_slice())?;
+    *latest = Names::new(alloc);
+    Ok(())
 }
 
 impl Register {
@@ -121,15 +138,8 @@ impl Register {
         ensures ok { OnOk result (self.new ≡ self.old ++ name ∷ []) }
         ensures err { OnErr result (self.new ≡ self.old) }
     {
-        if self.latest.as_slice().len() < LATEST {
-            self.latest.push(name)?;
-            return Ok(());
-        }
-        let settled = self.settled.with(alloc, self.latest.as_slice())?;
-        let mut latest = Names::new(alloc);
-        latest.push(name)?;
-        self.settled = settled;
-        self.latest = latest;
+        make_place(&mut self.settled, &mut self.latest, alloc)?;
+        self.latest.push(name)?;
         Ok(())
     }
 

@@ -1,7 +1,7 @@
 //! The roles with their immediate juniors.
-ghost use Rattle.std.specs.Prelude.{◌≡◌, ◌⊎◌, ◌<◌, ◌≤◌, ℕ, List, [], ◌∷◌, length, true, Ok, Err, IfOk, IfErr, IfSome, OnOk, OnErr, position};
+ghost use Rattle.std.specs.Prelude.{◌≡◌, ◌⊎◌, ◌<◌, ◌≤◌, ℕ, List, [], ◌∷◌, length, true, false, Ok, Err, IfOk, IfErr, IfSome, OnOk, OnErr, position};
 ghost use Rattle.mpw_geom.specs.Names.{name_eq, by_name};
-ghost use Rattle.mpw_roles.specs.Hierarchy.{Name as RoleName, Hierarchy, role_names, with_pair, is_role, is_immediate};
+ghost use Rattle.mpw_roles.specs.Hierarchy.{Name as RoleName, Hierarchy, role_names, with_role, with_pair, is_role, is_immediate};
 ghost use Rattle.mpw_roles.specs.Mask.{has};
 ghost use Rattle.mpw_roles.specs.Order.{at_least, roles_below, IsHierarchy};
 ghost use Rattle.mpw_roles.specs.Places.{is_place_under, is_place_below, is_place_of, IsMasked};
@@ -122,6 +122,17 @@ impl Roles {
         if self.len() >= MAX_ROLES {
             return Err(RolesFault::Full);
         }
+        self.add_new(role)?;
+        Ok(())
+    }
+
+    /// Adds a role that isn't there, where there are fewer than the most.
+    fn add_new(&mut self, role: Name) -> Result<(), AllocError>
+        requires new { is_role self.old role ≡ false }
+        requires room { length self.old < 512 }
+        ensures ok { OnOk result (self.new ≡ with_role self.old role) }
+        ensures err { OnErr result (self.new ≡ self.old) }
+    {
         let place = self.table.len();
         reserve_mask(&mut self.masks, place)?;
         self.table.add(role)?;

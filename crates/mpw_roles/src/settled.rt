@@ -42,6 +42,16 @@ fn add_all(set: &mut IndexSet<Name>, names: &[Name]) -> Result<(), AllocError>
     Ok(())
 }
 
+/// Adds names that the set hasn't, and others behind them.
+fn add_both(set: &mut IndexSet<Name>, names: &[Name], others: &[Name]) -> Result<(), AllocError>
+    requires empty { set.old.keys ≡ [] }
+    requires once { are_distinct (names.now ++ others.now) ≡ true }
+    ensures { OnOk result (set.new.keys ≡ names.now ++ others.now) }
+{
+    add_all(set, names)?;
+    add_all(set, others)
+}
+
 /// A set of some names, and of others behind them.
 fn set_of(alloc: Global, names: &[Name], others: &[Name]) -> Result<IndexSet<Name>, AllocError>
     requires { are_distinct (names.now ++ others.now) ≡ true }
@@ -49,8 +59,7 @@ fn set_of(alloc: Global, names: &[Name], others: &[Name]) -> Result<IndexSet<Nam
 {
     let count = names.len().saturating_add(others.len());
     let mut set = IndexSet::with_capacity(alloc, count)?;
-    add_all(&mut set, names)?;
-    add_all(&mut set, others)?;
+    add_both(&mut set, names, others)?;
     Ok(set)
 }
 
