@@ -2,3 +2,4 @@ pub mod Placed
 pub mod Rows
 pub mod Separation
 pub mod Set
+pub mod Internal

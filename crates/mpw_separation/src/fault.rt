@@ -2,26 +2,57 @@
 ghost use Rattle.std.specs.Prelude.{◌≡◌};
 ghost use Rattle.mpw_separation.specs.declared.fault.SetsFault.TheVariants.{Memory};
 
-use std::alloc::AllocError;
-use thiserror::Error;
+use std::alloc::{AllocError, AllocFailed};
+use std::error::Error;
+use std::fmt;
 
 /// Why a command on the sets was refused.
-#[derive(Clone, Copy, Debug, PartialEq, Eq, Error)]
+#[derive(Clone, Copy, PartialEq, Eq)]
 pub enum SetsFault {
-    #[error("a set of this kind has the name")]
     Known,
-    #[error("no set of this kind has the name")]
     Unknown,
-    #[error("there are 64 sets of this kind already")]
     Full,
-    #[error("out of memory")]
     Memory,
 }
+
+impl SetsFault {
+    /// What is said of it.
+    fn words(self) -> &'static str {
+        match self {
+            SetsFault::Known => "a set of this kind has the name",
+            SetsFault::Unknown => "no set of this kind has the name",
+            SetsFault::Full => "there are 64 sets of this kind already",
+            SetsFault::Memory => "out of memory",
+        }
+    }
+}
+
+impl fmt::Display for SetsFault {
+    fn fmt<W: fmt::Write>(&self, f: &mut fmt::Formatter<W>) -> fmt::Result {
+        f.write_str(self.words())
+    }
+}
+
+impl fmt::Debug for SetsFault {
+    fn fmt<W: fmt::Write>(&self, f: &mut fmt::Formatter<W>) -> fmt::Result {
+        f.write_str(self.words())
+    }
+}
+
+impl Error for SetsFault {}
 
 impl From<AllocError> for SetsFault {
     ghost from_gives = { λ _ fault. fault ≡ Memory };
 
     fn from(_error: AllocError) -> SetsFault {
+        SetsFault::Memory
+    }
+}
+
+impl<T: Drop> From<AllocFailed<T>> for SetsFault {
+    ghost from_gives = { λ _ fault. fault ≡ Memory };
+
+    fn from(_error: AllocFailed<T>) -> SetsFault {
         SetsFault::Memory
     }
 }

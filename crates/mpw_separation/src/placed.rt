@@ -6,6 +6,7 @@ ghost use Rattle.std.specs.Prelude.{◌≡◌, ◌⊎◌, ◌≤◌, ℕ, List, 
 ghost use Rattle.std.specs.Option.{option_copied};
 ghost use Rattle.mpw_roles.specs.Hierarchy.{Hierarchy, role_names};
 ghost use Rattle.mpw_roles.specs.Order.{IsHierarchy};
+ghost use Rattle.mpw_separation.specs.Internal.{other};
 ghost use Rattle.mpw_separation.specs.Placed.{ArePlaced, AreSetsPlaced, IsBelow, masks_of};
 ghost use Rattle.mpw_separation.specs.Rows as rows;
 ghost use Rattle.mpw_separation.specs.Separation.{sets_of, least_broken};
@@ -63,6 +64,50 @@ fn rewrite(roles: &Roles, sets: &[SeparationSet], masks: &mut Vec<Mask>)
     write_masks(roles, sets, masks);
 }
 
+/// Makes a set of the kind of these roles, for which the sets are placed.
+fn make(
+    roles: &Roles,
+    sets: &mut Sets,
+    kind: Kind,
+    masks: &mut Vec<Mask>,
+    set: SeparationSet,
+) -> Result<(), SetsFault>
+    requires { length (sets_of kind sets.old) ≤ length masks.old.items }
+    ensures ok { OnOk result (rows.make (sets_of kind sets.old) set ≡ Ok (sets_of kind sets.new)) }
+    ensures refused { IfErr result (λ fault. (fault ≡ SetsFault.Memory) ⊎ (rows.make (sets_of kind sets.old) set ≡ Err fault)) }
+    ensures err { OnErr result (sets_of kind sets.new ≡ sets_of kind sets.old) }
+    ensures others { sets_of (other kind) sets.new ≡ sets_of (other kind) sets.old }
+    ensures placed { ArePlaced (role_names roles.now) (sets_of kind sets.old) masks.old.items → ArePlaced (role_names roles.now) (sets_of kind sets.new) masks.new.items }
+    ensures long { length (sets_of kind sets.new) ≤ length masks.new.items }
+{
+    reserve_mask(masks, sets.of_kind(kind).len())?;
+    sets.make(kind, set)?;
+    rewrite(roles, sets.of_kind(kind), masks);
+    Ok(())
+}
+
+/// Takes a set of the kind away; the sets are placed for these roles. It takes no memory.
+#[tactic(auto, using(crate::proofs::PlacedLemmas::fewer_sets))]
+fn remove(
+    roles: &Roles,
+    sets: &mut Sets,
+    kind: Kind,
+    masks: &mut Vec<Mask>,
+    name: &Name,
+) -> Result<(), SetsFault>
+    requires { length (sets_of kind sets.old) ≤ length masks.old.items }
+    ensures ok { OnOk result (rows.remove (sets_of kind sets.old) name.now ≡ Ok (sets_of kind sets.new)) }
+    ensures refused { IfErr result (λ fault. rows.remove (sets_of kind sets.old) name.now ≡ Err fault) }
+    ensures err { OnErr result (sets_of kind sets.new ≡ sets_of kind sets.old) }
+    ensures others { sets_of (other kind) sets.new ≡ sets_of (other kind) sets.old }
+    ensures placed { ArePlaced (role_names roles.now) (sets_of kind sets.old) masks.old.items → ArePlaced (role_names roles.now) (sets_of kind sets.new) masks.new.items }
+    ensures long { length (sets_of kind sets.new) ≤ length masks.new.items }
+{
+    sets.remove(kind, name)?;
+    rewrite(roles, sets.of_kind(kind), masks);
+    Ok(())
+}
+
 impl PlacedSets {
     /// No sets. It takes no memory.
     pub fn new(alloc: Global) -> PlacedSets
@@ -113,11 +158,7 @@ impl PlacedSets {
         ensures others { self.new.sets.dsd ≡ self.old.sets.dsd }
         ensures placed { AreSetsPlaced (role_names roles.now) self.old → AreSetsPlaced (role_names roles.now) self.new }
     {
-        let count = self.sets.of_kind(Kind::Static).len();
-        reserve_mask(&mut self.ssd, count)?;
-        self.sets.make_ssd(set)?;
-        rewrite(roles, self.sets.of_kind(Kind::Static), &mut self.ssd);
-        Ok(())
+        make(roles, &mut self.sets, Kind::Static, &mut self.ssd, set)
     }
 
     /// Makes a dynamic set of these roles, for which the sets are placed.
@@ -131,18 +172,13 @@ impl PlacedSets {
         ensures others { self.new.sets.ssd ≡ self.old.sets.ssd }
         ensures placed { AreSetsPlaced (role_names roles.now) self.old → AreSetsPlaced (role_names roles.now) self.new }
     {
-        let count = self.sets.of_kind(Kind::Dynamic).len();
-        reserve_mask(&mut self.dsd, count)?;
-        self.sets.make_dsd(set)?;
-        rewrite(roles, self.sets.of_kind(Kind::Dynamic), &mut self.dsd);
-        Ok(())
+        make(roles, &mut self.sets, Kind::Dynamic, &mut self.dsd, set)
     }
 
     /// Takes a static set away; the sets are placed for these roles. It takes no memory.
     ///
     /// # Errors
     /// `Unknown`. The sets are then as they were.
-    #[tactic(auto, using(crate::proofs::PlacedLemmas::fewer_sets))]
     pub fn remove_ssd(&mut self, roles: &Roles, name: &Name) -> Result<(), SetsFault>
         ensures ok { OnOk result (rows.remove self.old.sets.ssd name.now ≡ Ok self.new.sets.ssd) }
         ensures refused { IfErr result (λ fault. rows.remove self.old.sets.ssd name.now ≡ Err fault) }
@@ -150,16 +186,13 @@ impl PlacedSets {
         ensures others { self.new.sets.dsd ≡ self.old.sets.dsd }
         ensures placed { AreSetsPlaced (role_names roles.now) self.old → AreSetsPlaced (role_names roles.now) self.new }
     {
-        self.sets.remove_ssd(name)?;
-        rewrite(roles, self.sets.of_kind(Kind::Static), &mut self.ssd);
-        Ok(())
+        remove(roles, &mut self.sets, Kind::Static, &mut self.ssd, name)
     }
 
     /// Takes a dynamic set away; the sets are placed for these roles. It takes no memory.
     ///
     /// # Errors
     /// `Unknown`. The sets are then as they were.
-    #[tactic(auto, using(crate::proofs::PlacedLemmas::fewer_sets))]
     pub fn remove_dsd(&mut self, roles: &Roles, name: &Name) -> Result<(), SetsFault>
         ensures ok { OnOk result (rows.remove self.old.sets.dsd name.now ≡ Ok self.new.sets.dsd) }
         ensures refused { IfErr result (λ fault. rows.remove self.old.sets.dsd name.now ≡ Err fault) }
@@ -167,9 +200,7 @@ impl PlacedSets {
         ensures others { self.new.sets.ssd ≡ self.old.sets.ssd }
         ensures placed { AreSetsPlaced (role_names roles.now) self.old → AreSetsPlaced (role_names roles.now) self.new }
     {
-        self.sets.remove_dsd(name)?;
-        rewrite(roles, self.sets.of_kind(Kind::Dynamic), &mut self.dsd);
-        Ok(())
+        remove(roles, &mut self.sets, Kind::Dynamic, &mut self.dsd, name)
     }
 
     /// The least name of the sets of the kind that some seniors break, from the places of the roles at or below them, where the

@@ -3,6 +3,7 @@ ghost use Rattle.std.specs.Prelude.{◌≡◌, ◌⊎◌, [], ◌∷◌, ◌++�
 ghost use Rattle.std.specs.List.{list_any};
 ghost use Rattle.std.specs.Option.{option_copied};
 ghost use Rattle.mpw_geom.specs.Names.{name_eq};
+ghost use Rattle.mpw_separation.specs.Internal.{other};
 ghost use Rattle.mpw_separation.specs.Rows as rows;
 ghost use Rattle.mpw_separation.specs.Separation.{max_sets, sets_of, has_set, without_set, uses_role, least_broken};
 
@@ -68,7 +69,7 @@ fn make(sets: &mut Vec<SeparationSet>, set: SeparationSet) -> Result<(), SetsFau
     if sets.len() >= MAX_SETS {
         return Err(SetsFault::Full);
     }
-    sets.push(set).map_err(AllocError::from)?;
+    sets.push(set)?;
     Ok(())
 }
 
@@ -100,6 +101,32 @@ impl Sets {
         }
     }
 
+    /// Makes a set of the kind.
+    pub(crate) fn make(&mut self, kind: Kind, set: SeparationSet) -> Result<(), SetsFault>
+        ensures ok { OnOk result (rows.make (sets_of kind self.old) set ≡ Ok (sets_of kind self.new)) }
+        ensures refused { IfErr result (λ fault. (fault ≡ SetsFault.Memory) ⊎ (rows.make (sets_of kind self.old) set ≡ Err fault)) }
+        ensures err { OnErr result (sets_of kind self.new ≡ sets_of kind self.old) }
+        ensures others { sets_of (other kind) self.new ≡ sets_of (other kind) self.old }
+    {
+        match kind {
+            Kind::Static => make(&mut self.ssd, set),
+            Kind::Dynamic => make(&mut self.dsd, set),
+        }
+    }
+
+    /// Takes a set of the kind away. It takes no memory.
+    pub(crate) fn remove(&mut self, kind: Kind, name: &Name) -> Result<(), SetsFault>
+        ensures ok { OnOk result (rows.remove (sets_of kind self.old) name.now ≡ Ok (sets_of kind self.new)) }
+        ensures refused { IfErr result (λ fault. rows.remove (sets_of kind self.old) name.now ≡ Err fault) }
+        ensures err { OnErr result (sets_of kind self.new ≡ sets_of kind self.old) }
+        ensures others { sets_of (other kind) self.new ≡ sets_of (other kind) self.old }
+    {
+        match kind {
+            Kind::Static => remove(&mut self.ssd, name),
+            Kind::Dynamic => remove(&mut self.dsd, name),
+        }
+    }
+
     /// Makes a static set (CreateSsdSet).
     ///
     /// # Errors
@@ -110,7 +137,7 @@ impl Sets {
         ensures err { OnErr result (self.new.ssd ≡ self.old.ssd) }
         ensures others { self.new.dsd ≡ self.old.dsd }
     {
-        make(&mut self.ssd, set)
+        self.make(Kind::Static, set)
     }
 
     /// Makes a dynamic set (CreateDsdSet).
@@ -123,7 +150,7 @@ impl Sets {
         ensures err { OnErr result (self.new.dsd ≡ self.old.dsd) }
         ensures others { self.new.ssd ≡ self.old.ssd }
     {
-        make(&mut self.dsd, set)
+        self.make(Kind::Dynamic, set)
     }
 
     /// Takes a static set away (DeleteSsdSet). It takes no memory.
@@ -136,7 +163,7 @@ impl Sets {
         ensures err { OnErr result (self.new.ssd ≡ self.old.ssd) }
         ensures others { self.new.dsd ≡ self.old.dsd }
     {
-        remove(&mut self.ssd, name)
+        self.remove(Kind::Static, name)
     }
 
     /// Takes a dynamic set away (DeleteDsdSet). It takes no memory.
@@ -149,7 +176,7 @@ impl Sets {
         ensures err { OnErr result (self.new.dsd ≡ self.old.dsd) }
         ensures others { self.new.ssd ≡ self.old.ssd }
     {
-        remove(&mut self.dsd, name)
+        self.remove(Kind::Dynamic, name)
     }
 
     /// The sets of a kind, in the order in which they were made.
