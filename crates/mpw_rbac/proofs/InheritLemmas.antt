@@ -1,11 +1,15 @@
--- A pair that breaks no set is accepted, and one that is there goes.
-use Rattle.std.proofs.Common.{◌≡◌, ℕ, true, Ok, None}
+-- A pair that breaks no set is accepted, one that would is refused, and one that is there goes.
+use Rattle.std.proofs.Common.{◌≡◌, ℕ, true, Ok, Err, None, Some, refl, subst}
 use Rattle.mpw_roles.specs.Hierarchy.{Name, Hierarchy, is_immediate, with_pair, without_pair}
 use Rattle.mpw_roles.specs.Rows as roles
 use Rattle.mpw_separation.specs.Separation.{least_broken}
 use Rattle.mpw_rbac.specs.Policy.{Policy, assigned_lists, active_lists, trim}
 use Rattle.mpw_rbac.specs.Rows as rows
-use Rattle.mpw_rbac.proofs.RowFacts.{administered-facts, inherited-tests}
+use Rattle.mpw_rbac.specs.Internal.Pairs.{holding}
+use Rattle.mpw_rbac.specs.declared.refusal.PolicyFault.{PolicyFault}
+use Rattle.mpw_rbac.specs.declared.refusal.PolicyFault.TheVariants.{Refused, Memory}
+use Rattle.mpw_rbac.specs.declared.refusal.Refusal.TheVariants.{Ssd, Dsd}
+use Rattle.mpw_rbac.proofs.RowFacts.{administered-facts, inherited-tests, inherited-pair}
 
 pub inherit-ok : (p : Policy) (connection : ℕ) → rows.administered p connection ≡ Ok p
     → (senior junior : Name) (after : Hierarchy) → roles.inherit p.roles senior junior ≡ Ok after
@@ -25,3 +29,25 @@ pub uninherit-ok : (p : Policy) (connection : ℕ) → rows.administered p conne
 uninherit-ok p connection ok senior junior there =
     let f = administered-facts p connection ok in
     rw (f.0, f.1, there)
+
+-- a broken set is told
+pub holding-static : (p : Policy) (h : Hierarchy) (name : Name)
+    → least_broken h p.ssd (assigned_lists p.users) ≡ Some name → holding p h ≡ Err (Ssd name)
+holding-static p h name some = rw some refl
+
+pub holding-dynamic : (p : Policy) (h : Hierarchy) (name : Name)
+    → least_broken h p.ssd (assigned_lists p.users) ≡ None
+    → least_broken h p.dsd (active_lists p.sessions) ≡ Some name → holding p h ≡ Err (Dsd name)
+holding-dynamic p h name none some = rw (none, some) refl
+
+-- and is the refusal of the row
+pub inherit-refused : (p : Policy) (connection : ℕ) → rows.administered p connection ≡ Ok p
+    → (senior junior : Name) (after : Hierarchy) → roles.inherit p.roles senior junior ≡ Ok after
+    → (fault : PolicyFault) → rows.IsFaultOf (holding p after) fault
+    → rows.IsFaultOf (rows.inherit p connection senior junior) fault
+inherit-refused p connection ok senior junior after made Memory is = tt
+inherit-refused p connection ok senior junior after made (Refused refusal) is =
+    let f = administered-facts p connection ok in
+    let t = inherited-tests p.roles senior junior after made in
+    rw (f.0, f.1, t.0, t.1, t.2) (subst (λ h. holding p h ≡ Err refusal)
+    (inherited-pair p.roles senior junior after made).1 is)

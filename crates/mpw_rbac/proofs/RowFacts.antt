@@ -14,7 +14,7 @@ use Rattle.indexmap.specs.IndexMap.{insert_entry}
 use Rattle.mpw_rbac.specs.declared.permission.Operation.TheVariants.{Admin}
 use Rattle.mpw_rbac.specs.declared.permission.Object.TheVariants.{Desk}
 use Rattle.mpw_rbac.specs.declared.refusal.Refusal.{Refusal}
-use Rattle.mpw_rbac.specs.declared.refusal.Refusal.TheVariants.{NoSession, NotPermitted, Ssd, Dsd}
+use Rattle.mpw_rbac.specs.declared.refusal.Refusal.TheVariants.{NoSession, NotPermitted, Ssd}
 use Rattle.mpw_rbac.specs.Policy.{Policy, is_user, assigned_roles, assigned_lists, active_lists, session_of, permits, trim}
 use Rattle.mpw_rbac.specs.declared.session.User.{User}
 use Rattle.mpw_rbac.specs.declared.session.Session.{Session}
@@ -165,34 +165,6 @@ inherited-tests h senior junior after e = by (is_role h senior && is_role h juni
     by true true false f = cc
     by true false z f = cc
     by false y z f = cc
-
--- a pair that would break a set
-module _ (p : Policy) (connection : ℕ) (ok : rows.administered p connection ≡ Ok p)
-    (senior junior name : Name)
-    (after : Hierarchy) (made : roles.inherit p.roles senior junior ≡ Ok after) where
-  pub inherit-static : least_broken after p.ssd (assigned_lists p.users) ≡ Some name
-      → rows.inherit p connection senior junior ≡ Err (Ssd name)
-  inherit-static broken =
-      let f = administered-facts p connection ok in
-      let t = inherited-tests p.roles senior junior after made in
-      let some : least_broken (with_pair p.roles senior junior) p.ssd (assigned_lists p.users)
-      ≡ Some name = ap (λ h. least_broken h p.ssd (assigned_lists p.users))
-      (sym (inherited-pair p.roles senior junior after made).1) ∙ broken in
-      rw (f.0, f.1, t.0, t.1, t.2, some)
-
-  pub inherit-dynamic : least_broken after p.ssd (assigned_lists p.users) ≡ None
-      → least_broken after p.dsd (active_lists p.sessions) ≡ Some name
-      → rows.inherit p connection senior junior ≡ Err (Dsd name)
-  inherit-dynamic kept broken =
-      let f = administered-facts p connection ok in
-      let t = inherited-tests p.roles senior junior after made in
-      let pair = inherited-pair p.roles senior junior after made in
-      let none : least_broken (with_pair p.roles senior junior) p.ssd (assigned_lists p.users)
-      ≡ None = ap (λ h. least_broken h p.ssd (assigned_lists p.users)) (sym pair.1) ∙ kept in
-      let some : least_broken (with_pair p.roles senior junior) p.dsd (active_lists p.sessions)
-      ≡ Some name = ap (λ h. least_broken h p.dsd (active_lists p.sessions)) (sym pair.1)
-      ∙ broken in
-      rw (f.0, f.1, t.0, t.1, t.2, none, some)
 
 pub uninherited-pair : (h : Hierarchy) (senior junior : Name) (after : Hierarchy)
     → roles.uninherit h senior junior ≡ Ok after → (is_immediate h senior junior ≡ true)

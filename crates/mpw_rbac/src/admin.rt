@@ -1,11 +1,12 @@
 //! The administrative requests. Each begins with the tests for a session and for the permission `admin desk`.
-ghost use Rattle.std.specs.Prelude.{◌≡◌, true, not, ◌||◌, [], ◌∷◌, ◌++◌, IfOk, IfErr, OnOk, OnErr, Ok, Err};
+ghost use Rattle.std.specs.Prelude.{◌≡◌, ℕ, List, length, nat_lt, true, false, not, ◌||◌, [], ◌∷◌, ◌++◌, IfOk, IfErr, OnOk, OnErr, Ok, Err};
 ghost use Rattle.std.specs.Option.{option_copied};
-ghost use Rattle.mpw_geom.specs.Names.{name_eq, without_name};
+ghost use Rattle.mpw_geom.specs.Names.{name_eq, contains_name, without_name};
+ghost use Rattle.mpw_roles.specs.Hierarchy.{is_role};
 ghost use Rattle.mpw_separation.specs.Separation.{least_broken, uses_role};
 ghost use Rattle.mpw_rbac.specs.Grant.{grant_eq};
-ghost use Rattle.mpw_rbac.specs.Policy.{is_user, assigned_roles};
-ghost use Rattle.mpw_rbac.specs.Rows.{IsFaultOf, digest_of_user, unassigned, ungranted};
+ghost use Rattle.mpw_rbac.specs.Policy.{max_users, is_user, assigned_roles};
+ghost use Rattle.mpw_rbac.specs.Rows.{IsFaultOf, administered, digest_of_user, unassigned, ungranted};
 ghost use Rattle.mpw_rbac.specs.Rows as rows;
 ghost use Rattle.mpw_rbac.specs.Table.{without_key};
 
@@ -32,18 +33,29 @@ impl Policy {
         ensures refused { IfErr result (IsFaultOf (rows.adduser self.old connection user digest)) }
         ensures err { OnErr result (self.new ≡ self.old) }
     {
-        self.administers(connection)?;
-        if self.is_user(&user) {
-            return Err(PolicyFault::Refused(Refusal::Known));
-        }
-        if !self.has_room_for_user() {
-            return Err(PolicyFault::Refused(Refusal::Full));
-        }
+        self.may_add_user(connection, &user)?;
         let roles = Names::new(self.sessions.allocator());
         let users = self
             .users
             .with(self.permissions.roles(), user, User { digest, roles })?;
         self.users = users;
+        Ok(())
+    }
+
+    /// The tests of a new user.
+    fn may_add_user(&self, connection: u32, user: &Name) -> Result<(), PolicyFault>
+        ensures administered { OnOk result (administered self.now connection ≡ Ok self.now) }
+        ensures new { OnOk result (is_user self.now user.now ≡ false) }
+        ensures room { OnOk result (nat_lt (length self.now.users) max_users ≡ true) }
+        ensures refused { IfErr result (λ fault. (digest : List ℕ) → IsFaultOf (rows.adduser self.now connection user.now digest) fault) }
+    {
+        self.administers(connection)?;
+        if self.is_user(user) {
+            return Err(PolicyFault::Refused(Refusal::Known));
+        }
+        if !self.has_room_for_user() {
+            return Err(PolicyFault::Refused(Refusal::Full));
+        }
         Ok(())
     }
 
@@ -97,13 +109,7 @@ impl Policy {
         ensures refused { IfErr result (IsFaultOf (rows.delrole self.old connection role.now)) }
         ensures err { OnErr result (self.new ≡ self.old) }
     {
-        self.administers(connection)?;
-        if !self.is_role(role) {
-            return Err(PolicyFault::Refused(Refusal::Unknown));
-        }
-        if self.is_used(role) {
-            return Err(PolicyFault::Refused(Refusal::Used));
-        }
+        self.may_delete_role(connection, role)?;
         let permissions = without_role(&self.permissions, role)?;
         let roles = permissions.roles();
         let users = self.users.without_assignments(roles, role)?;
@@ -111,6 +117,23 @@ impl Policy {
         self.sets.place(roles);
         self.users = users;
         self.permissions = permissions;
+        Ok(())
+    }
+
+    /// The tests of a role that is to be deleted.
+    fn may_delete_role(&self, connection: u32, role: &Name) -> Result<(), PolicyFault>
+        ensures administered { OnOk result (administered self.now connection ≡ Ok self.now) }
+        ensures known { OnOk result (is_role self.now.roles role.now ≡ true) }
+        ensures unused { OnOk result ((uses_role self.now.ssd role.now || uses_role self.now.dsd role.now) ≡ false) }
+        ensures refused { IfErr result (IsFaultOf (rows.delrole self.now connection role.now)) }
+    {
+        self.administers(connection)?;
+        if !self.is_role(role) {
+            return Err(PolicyFault::Refused(Refusal::Unknown));
+        }
+        if self.is_used(role) {
+            return Err(PolicyFault::Refused(Refusal::Used));
+        }
         Ok(())
     }
 
@@ -124,13 +147,7 @@ impl Policy {
         ensures refused { IfErr result (IsFaultOf (rows.assign self.old connection user.now role.now)) }
         ensures err { OnErr result (self.new ≡ self.old) }
     {
-        self.administers(connection)?;
-        if !self.is_user(user) || !self.is_role(role) {
-            return Err(PolicyFault::Refused(Refusal::Unknown));
-        }
-        if self.is_assigned(user, role) {
-            return Err(PolicyFault::Refused(Refusal::Known));
-        }
+        self.may_assign(connection, user, role)?;
         let assigned = self.assigned_with(user, role)?;
         if let Some(name) = self.broken_by_assigned(assigned.roles.as_slice()) {
             return Err(PolicyFault::Refused(Refusal::Ssd(name.copy()?)));
@@ -139,6 +156,24 @@ impl Policy {
             .users
             .with(self.permissions.roles(), user.copy()?, assigned)?;
         self.users = users;
+        Ok(())
+    }
+
+    /// The tests of a new assignment but that of the sets.
+    fn may_assign(&self, connection: u32, user: &Name, role: &Name) -> Result<(), PolicyFault>
+        ensures administered { OnOk result (administered self.now connection ≡ Ok self.now) }
+        ensures user { OnOk result (is_user self.now user.now ≡ true) }
+        ensures role { OnOk result (is_role self.now.roles role.now ≡ true) }
+        ensures new { OnOk result (contains_name (assigned_roles self.now user.now) role.now ≡ false) }
+        ensures refused { IfErr result (IsFaultOf (rows.assign self.now connection user.now role.now)) }
+    {
+        self.administers(connection)?;
+        if !self.is_user(user) || !self.is_role(role) {
+            return Err(PolicyFault::Refused(Refusal::Unknown));
+        }
+        if self.is_assigned(user, role) {
+            return Err(PolicyFault::Refused(Refusal::Known));
+        }
         Ok(())
     }
 

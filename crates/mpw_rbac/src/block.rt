@@ -11,6 +11,7 @@ ghost use Rattle.mpw_rbac.specs.Rows.{ungranted};
 
 use crate::Grant;
 use crate::bucket::{hash, name_hash};
+use crate::copies::roomy_copy;
 use mpw_geom::Name;
 use mpw_roles::Mask;
 use std::alloc::{AllocError, Global};
@@ -83,11 +84,16 @@ fn copy_of(grant: &Grant) -> Result<Grant, AllocError>
 fn copy_of_all(alloc: Global, grants: &[Grant]) -> Result<Vec<Grant>, AllocError>
     ensures { IfOk result (λ copy. copy.items ≡ grants.now) }
 {
-    let mut copy = Vec::with_capacity(alloc, grants.len().saturating_add(1))?;
-    for grant in grants {
-        copy.push(copy_of(grant)?)?;
-    }
-    Ok(copy)
+    roomy_copy(alloc, grants)
+}
+
+/// The grants with one more at their end.
+fn with_grant(alloc: Global, grants: &[Grant], grant: &Grant) -> Result<Vec<Grant>, AllocError>
+    ensures { IfOk result (λ next. next.items ≡ grants.now ++ grant.now ∷ []) }
+{
+    let mut next = copy_of_all(alloc, grants)?;
+    next.push(copy_of(grant)?)?;
+    Ok(next)
 }
 
 /// Whether that is one of the grants.
@@ -142,10 +148,17 @@ impl Block {
     }
 
     /// A block without grants.
-    pub(crate) fn new(alloc: Global) -> Result<Block, AllocError>
+    fn new(alloc: Global) -> Result<Block, AllocError>
         ensures { IfOk result (λ block. block ≡ []) }
     {
         Block::of(alloc, Vec::new(alloc), Mask::new(), Mask::new())
+    }
+
+    /// A block of one grant.
+    pub(crate) fn one(alloc: Global, grant: &Grant) -> Result<Block, AllocError>
+        ensures { IfOk result (λ block. block ≡ grant.now ∷ []) }
+    {
+        Block::new(alloc)?.with(alloc, grant)
     }
 
     /// Its grants.
@@ -153,17 +166,6 @@ impl Block {
         ensures { result.now ≡ self.now }
     {
         self.grants.as_slice()
-    }
-
-    /// The same block: one count.
-    pub(crate) fn copy(&self) -> Result<Block, AllocError>
-        ensures { IfOk result (λ block. block ≡ self.now) }
-    {
-        Ok(Block {
-            grants: self.grants.clone()?,
-            objects: self.objects,
-            roles: self.roles,
-        })
     }
 
     /// Whether that is one of its grants, by its slots, and where both are there by a comparison for each grant.
@@ -189,8 +191,7 @@ impl Block {
         objects.insert(slots.object);
         let mut roles = self.roles;
         roles.insert(slots.role);
-        let mut grants = copy_of_all(alloc, self.as_slice())?;
-        grants.push(copy_of(grant)?)?;
+        let grants = with_grant(alloc, self.as_slice(), grant)?;
         Block::of(alloc, grants, objects, roles)
     }
 
@@ -205,7 +206,7 @@ impl Block {
         ensures { IfOk result (λ block. block ≡ without_grant self.now grant.now) }
     {
         if !self.contains(slots, grant) {
-            let same = self.copy()?;
+            let same = self.clone()?;
             return Ok(same);
         }
         let (objects, roles) = (self.objects, self.roles);
@@ -222,5 +223,18 @@ impl Block {
         let mut grants = copy_of_all(alloc, self.as_slice())?;
         ungrant(&mut grants, role);
         Block::of(alloc, grants, objects, roles)
+    }
+}
+
+impl Clone for Block {
+    ghost is_clone = { λ block copy. copy ≡ block };
+
+    /// The same block: one count.
+    fn clone(&self) -> Result<Block, AllocError> {
+        Ok(Block {
+            grants: self.grants.clone()?,
+            objects: self.objects,
+            roles: self.roles,
+        })
     }
 }

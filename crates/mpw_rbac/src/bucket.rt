@@ -2,11 +2,11 @@
 //!
 //! A bucket that copies share never changes: a change of one object's mask makes it anew, and every other one stays shared.
 //! One that no copy shares yet, as while masks are made for all grants, is changed in place. The hash is no secret, so names can be chosen that share a bucket; a look-up among n such names costs n comparisons.
-ghost use Rattle.std.specs.Prelude.{◌≡◌, ℕ, not, filter, List, length, IfOk, OnOk, true, false, [], if◌then◌else◌};
+ghost use Rattle.std.specs.Prelude.{◌≡◌, ℕ, not, filter, List, length, IfOk, OnOk, true, false, [], ◌∷◌, ◌++◌, if◌then◌else◌};
 ghost use Rattle.mpw_roles.specs.Mask.{has};
-ghost use Rattle.mpw_roles.specs.declared.mask.Mask.{Mask as MaskState};
 ghost use Rattle.mpw_rbac.specs.Grant.{object_eq};
 ghost use Rattle.mpw_rbac.specs.Internal.Holders.{hash, name_hash, holds_in};
+ghost use Rattle.mpw_rbac.specs.declared.bucket.Held.{Held as HeldState};
 ghost use Rattle.mpw_rbac.specs.declared.permission.Object.{Object as ObjectState};
 
 use crate::Object;
@@ -45,9 +45,22 @@ pub(crate) fn copy_of(object: &Object) -> Result<Object, AllocError>
     object.clone()
 }
 
+/// An object with its mask.
+pub(crate) struct Held {
+    object: Object,
+    mask: Mask,
+}
+
+impl Drop for Held {
+    fn drop(self) {
+        let Held { object, mask: _ } = self;
+        drop(object);
+    }
+}
+
 /// The masks of some objects, which copies share.
 pub(crate) struct Bucket {
-    masks: Arc<Vec<(Object, Mask)>>,
+    masks: Arc<Vec<Held>>,
 }
 
 impl Drop for Bucket {
@@ -59,70 +72,77 @@ impl Drop for Bucket {
 
 impl Model for Bucket {
     ghost use Rattle.std.specs.Prelude.{List};
-    ghost use Rattle.mpw_rbac.specs.declared.permission.Object.{Object};
-    ghost use Rattle.mpw_roles.specs.declared.mask.Mask.{Mask};
+    ghost use Rattle.mpw_rbac.specs.declared.bucket.Held.{Held};
 
-    ghost Value = { List (Object × Mask) };
+    ghost Value = { List Held };
 
     ghost view = { λ bucket. bucket.masks.value.items };
 }
 
 /// The mask of an object among some.
-fn mask_of(masks: &[(Object, Mask)], object: &Object) -> Mask
+fn mask_of(masks: &[Held], object: &Object) -> Mask
     ensures { (place : ℕ) → has result place ≡ holds_in masks.now object.now place }
 {
-    for (other, mask) in masks {
-        if *object == *other {
-            return *mask;
+    for held in masks {
+        if *object == held.object {
+            return held.mask;
         }
     }
     Mask::new()
 }
 
+/// Adds the mask of an object at the end.
+fn add(masks: &mut Vec<Held>, object: &Object, mask: &Mask) -> Result<(), AllocError>
+    ensures { OnOk result (masks.new.items ≡ masks.old.items ++ record { object = object.now; mask = mask.now } ∷ []) }
+{
+    let object = copy_of(object)?;
+    masks.push(Held {
+        object,
+        mask: *mask,
+    })?;
+    Ok(())
+}
+
 /// The masks of all objects but one.
-fn others(
-    alloc: Global,
-    masks: &[(Object, Mask)],
-    object: &Object,
-) -> Result<Vec<(Object, Mask)>, AllocError>
-    ensures { IfOk result (λ left. left.items ≡ filter (λ (entry : ObjectState × MaskState). not (object_eq object.now entry.0)) masks.now) }
+fn others(alloc: Global, masks: &[Held], object: &Object) -> Result<Vec<Held>, AllocError>
+    ensures { IfOk result (λ left. left.items ≡ filter (λ (held : HeldState). not (object_eq object.now held.object)) masks.now) }
 {
     let mut left = Vec::with_capacity(alloc, masks.len())?;
-    for (other, mask) in masks {
-        if *object != *other {
-            left.push((copy_of(other)?, *mask))?;
+    for held in masks {
+        if *object != held.object {
+            add(&mut left, &held.object, &held.mask)?;
         }
     }
     Ok(left)
 }
 
 /// Adds the mask of an object to those of all others, where it isn't empty.
-fn keep(masks: &mut Vec<(Object, Mask)>, object: &Object, mask: &Mask) -> Result<(), AllocError>
-    ensures { OnOk result ((all : List (ObjectState × MaskState)) →
-        masks.old.items ≡ filter (λ (entry : ObjectState × MaskState). not (object_eq object.now entry.0)) all →
+fn keep(masks: &mut Vec<Held>, object: &Object, mask: &Mask) -> Result<(), AllocError>
+    ensures { OnOk result ((all : List HeldState) →
+        masks.old.items ≡ filter (λ (held : HeldState). not (object_eq object.now held.object)) all →
         (other : ObjectState) (place : ℕ) → holds_in masks.new.items other place ≡
         (if object_eq object.now other then has mask.now place else holds_in all other place)) }
 {
     if !mask.meets(mask) {
         return Ok(());
     }
-    masks.push((copy_of(object)?, *mask))?;
+    add(masks, object, mask)?;
     Ok(())
 }
 
 /// The mask of an object goes.
-fn take_out(masks: &mut Vec<(Object, Mask)>, object: &Object)
-    ensures { masks.new.items ≡ filter (λ (entry : ObjectState × MaskState). not (object_eq object.now entry.0)) masks.old.items }
+fn take_out(masks: &mut Vec<Held>, object: &Object)
+    ensures { masks.new.items ≡ filter (λ (held : HeldState). not (object_eq object.now held.object)) masks.old.items }
 {
     masks.retain(
-        |entry: &(Object, Mask)| -> bool
-            ensures { result ≡ not (object_eq object.entry.now entry.now.0) }
-        { *object != entry.0 },
+        |held: &Held| -> bool
+            ensures { result ≡ not (object_eq object.entry.now held.now.object) }
+        { *object != held.object },
     );
 }
 
 /// Writes another mask of an object among some, which isn't kept where it is empty.
-fn write(masks: &mut Vec<(Object, Mask)>, object: &Object, mask: &Mask) -> Result<(), AllocError>
+fn write(masks: &mut Vec<Held>, object: &Object, mask: &Mask) -> Result<(), AllocError>
     ensures { OnOk result ((other : ObjectState) (place : ℕ) → holds_in masks.new.items other place ≡ (if object_eq object.now other then has mask.now place else holds_in masks.old.items other place)) }
 {
     take_out(masks, object);
@@ -132,7 +152,7 @@ fn write(masks: &mut Vec<(Object, Mask)>, object: &Object, mask: &Mask) -> Resul
 
 impl Bucket {
     /// The masks in a bucket.
-    fn of_masks(alloc: Global, masks: Vec<(Object, Mask)>) -> Result<Bucket, AllocError>
+    fn of_masks(alloc: Global, masks: Vec<Held>) -> Result<Bucket, AllocError>
         ensures { IfOk result (λ bucket. bucket ≡ masks.items) }
     {
         Ok(Bucket {
@@ -147,17 +167,8 @@ impl Bucket {
         Bucket::of_masks(alloc, Vec::new(alloc))
     }
 
-    /// The same bucket: one count.
-    pub(crate) fn copy(&self) -> Result<Bucket, AllocError>
-        ensures { IfOk result (λ bucket. bucket ≡ self.now) }
-    {
-        Ok(Bucket {
-            masks: self.masks.clone()?,
-        })
-    }
-
     /// Its masks.
-    fn as_slice(&self) -> &[(Object, Mask)]
+    fn as_slice(&self) -> &[Held]
         ensures { result.now ≡ self.now }
     {
         self.masks.as_slice()
@@ -196,5 +207,16 @@ impl Bucket {
         let next = self.with(alloc, object, mask)?;
         *self = next;
         Ok(())
+    }
+}
+
+impl Clone for Bucket {
+    ghost is_clone = { λ bucket copy. copy ≡ bucket };
+
+    /// The same bucket: one count.
+    fn clone(&self) -> Result<Bucket, AllocError> {
+        Ok(Bucket {
+            masks: self.masks.clone()?,
+        })
     }
 }

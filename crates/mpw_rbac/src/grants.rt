@@ -12,6 +12,7 @@ ghost use Rattle.mpw_rbac.specs.Rows.{ungranted};
 
 use crate::Grant;
 use crate::block::{Block, Slots};
+use crate::copies::roomy_copy;
 use mpw_geom::Name;
 use std::alloc::{AllocError, Global};
 use std::marker::Model;
@@ -83,15 +84,13 @@ fn is_among(blocks: &[Block], slots: Slots, grant: &Grant) -> bool
     false
 }
 
-/// The same blocks, each by a count, with room for one more.
-fn copy_of_blocks(alloc: Global, blocks: &[Block]) -> Result<Vec<Block>, AllocError>
-    ensures { IfOk result (λ copy. copy.items ≡ blocks.now) }
+/// The same blocks, each by a count, and another behind them.
+fn with_block(alloc: Global, blocks: &[Block], last: &Block) -> Result<Arc<Vec<Block>>, AllocError>
+    ensures { IfOk result (λ next. next.value.items ≡ blocks.now ++ last.now ∷ []) }
 {
-    let mut copy = Vec::with_capacity(alloc, blocks.len().saturating_add(1))?;
-    for block in blocks {
-        copy.push(block.copy()?)?;
-    }
-    Ok(copy)
+    let mut blocks = roomy_copy(alloc, blocks)?;
+    blocks.push(last.clone()?)?;
+    Ok(Arc::new(alloc, blocks)?)
 }
 
 /// The blocks without a grant.
@@ -157,7 +156,7 @@ impl Grants {
         ensures { IfOk result (λ grants. grants ≡ grant.now ∷ []) }
     {
         let blocks = Arc::new(alloc, Vec::new(alloc))?;
-        let last = Block::new(alloc)?.with(alloc, grant)?;
+        let last = Block::one(alloc, grant)?;
         Ok(Grants::of(blocks, last))
     }
 
@@ -173,7 +172,7 @@ impl Grants {
         ensures { IfOk result (λ grants. grants ≡ self.now) }
     {
         let blocks = self.blocks.clone()?;
-        let last = self.last.copy()?;
+        let last = self.last.clone()?;
         Ok(Grants { blocks, last })
     }
 
@@ -194,10 +193,9 @@ impl Grants {
             let last = self.last.with(alloc, grant)?;
             return Ok(Grants::of(blocks, last));
         }
-        let mut blocks = copy_of_blocks(alloc, &self.blocks)?;
-        blocks.push(self.last.copy()?)?;
-        let last = Block::new(alloc)?.with(alloc, grant)?;
-        Ok(Grants::of(Arc::new(alloc, blocks)?, last))
+        let blocks = with_block(alloc, &self.blocks, &self.last)?;
+        let last = Block::one(alloc, grant)?;
+        Ok(Grants::of(blocks, last))
     }
 
     /// The grants without one: a copy of the last block where it stands there, and else of its block, and a count for each

@@ -60,38 +60,13 @@ impl Drop for Group {
 
 impl Model for Group {
     ghost use Rattle.std.specs.Prelude.{◌≡◌, List, length};
-    ghost use Rattle.mpw_rbac.specs.declared.permission.Object.{Object};
-    ghost use Rattle.mpw_roles.specs.declared.mask.Mask.{Mask};
+    ghost use Rattle.mpw_rbac.specs.declared.bucket.Held.{Held};
 
-    ghost Value = { List (List (Object × Mask)) };
+    ghost Value = { List (List Held) };
 
     ghost view = { λ group. group.buckets.value.items };
 
     ghost invariant = { λ group. length group.buckets.value.items ≡ 16 };
-}
-
-/// Buckets without masks.
-fn no_masks(alloc: Global, empty: &Bucket) -> Result<Vec<Bucket>, AllocError>
-    requires { empty.now ≡ [] }
-    ensures long { IfOk result (λ buckets. length buckets.items ≡ 16) }
-    ensures empty { IfOk result (λ buckets. (k : ℕ) → slice_index_or buckets.items k [] ≡ []) }
-{
-    let mut buckets = Vec::with_capacity(alloc, BUCKETS)?;
-    for _ in 0..BUCKETS {
-        buckets.push(empty.copy()?)?;
-    }
-    Ok(buckets)
-}
-
-/// The same buckets: a count for each.
-fn copy_of_all(alloc: Global, buckets: &[Bucket]) -> Result<Vec<Bucket>, AllocError>
-    ensures { IfOk result (λ copy. copy.items ≡ buckets.now) }
-{
-    let mut copy = Vec::with_capacity(alloc, buckets.len())?;
-    for bucket in buckets {
-        copy.push(bucket.copy()?)?;
-    }
-    Ok(copy)
 }
 
 /// Writes another mask of an object into its bucket.
@@ -116,19 +91,9 @@ impl Group {
     pub(crate) fn new(alloc: Global) -> Result<Group, AllocError>
         ensures { IfOk result (λ group. (object : ObjectState) (place : ℕ) → holds_within group object place ≡ false) }
     {
-        let empty = Bucket::new(alloc)?;
-        let buckets = no_masks(alloc, &empty)?;
+        let buckets = vec![in alloc; Bucket::new(alloc)?; BUCKETS]?;
         Ok(Group {
             buckets: Arc::new(alloc, buckets)?,
-        })
-    }
-
-    /// The same group: one count.
-    pub(crate) fn copy(&self) -> Result<Group, AllocError>
-        ensures { IfOk result (λ group. group ≡ self.now) }
-    {
-        Ok(Group {
-            buckets: self.buckets.clone()?,
         })
     }
 
@@ -159,9 +124,20 @@ impl Group {
             write(alloc, buckets, place, object, mask)?;
             return Ok(());
         }
-        let mut buckets = copy_of_all(alloc, &self.buckets)?;
+        let mut buckets = self.buckets.to_vec(alloc)?;
         write(alloc, &mut buckets, place, object, mask)?;
         self.buckets = Arc::new(alloc, buckets)?;
         Ok(())
+    }
+}
+
+impl Clone for Group {
+    ghost is_clone = { λ group copy. copy ≡ group };
+
+    /// The same group: one count.
+    fn clone(&self) -> Result<Group, AllocError> {
+        Ok(Group {
+            buckets: self.buckets.clone()?,
+        })
     }
 }

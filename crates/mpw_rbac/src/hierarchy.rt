@@ -1,11 +1,11 @@
 //! The administrative requests of the role hierarchy.
-ghost use Rattle.std.specs.Prelude.{◌≡◌, ◌⊎◌, [], ◌∷◌, map, IfOk, IfErr, OnOk, OnErr, Ok, Err};
+ghost use Rattle.std.specs.Prelude.{◌≡◌, ◌⊎◌, [], ◌∷◌, map, IfOk, IfErr, OnOk, OnErr, Ok, Err, None};
 ghost use Rattle.std.specs.Option.{option_copied};
 ghost use Rattle.mpw_separation.specs.Separation.{least_broken};
 ghost use Rattle.mpw_roles.specs.Hierarchy.{role_names};
 ghost use Rattle.mpw_roles.specs.Rows as hierarchy;
 ghost use Rattle.mpw_rbac.specs.Internal.Fault.{IsHierarchyFault};
-ghost use Rattle.mpw_rbac.specs.Internal.Pairs.{pair_row};
+ghost use Rattle.mpw_rbac.specs.Internal.Pairs.{pair_row, holding};
 ghost use Rattle.mpw_rbac.specs.Masked.{AreUsers};
 ghost use Rattle.mpw_rbac.specs.Policy.{assigned_lists, active_lists};
 ghost use Rattle.mpw_rbac.specs.Rows.{IsFaultOf, ungranted};
@@ -106,12 +106,7 @@ impl Policy {
         let users = self
             .users
             .with_joined_masks(self.permissions.roles(), senior, junior)?;
-        if let Some(name) = self.broken_static(roles, &users) {
-            return Err(PolicyFault::Refused(Refusal::Ssd(name.copy()?)));
-        }
-        if let Some(name) = self.broken_dynamic(roles) {
-            return Err(PolicyFault::Refused(Refusal::Dsd(name.copy()?)));
-        }
+        self.holds_among(roles, &users)?;
         self.sessions.remask(roles);
         self.users = users;
         self.permissions = next;
@@ -145,6 +140,23 @@ impl Policy {
         self.sessions.trim(&users, roles);
         self.users = users;
         self.permissions = permissions;
+        Ok(())
+    }
+
+    /// The tests of the sets in another hierarchy of the same roles.
+    fn holds_among(&self, roles: &Roles, users: &Users) -> Result<(), PolicyFault>
+        requires roles { role_names roles.now ≡ role_names self.now.roles }
+        requires users { AreUsers roles.now self.now.users users.now }
+        ensures static_sets { OnOk result (least_broken roles.now self.now.ssd (assigned_lists self.now.users) ≡ None) }
+        ensures dynamic_sets { OnOk result (least_broken roles.now self.now.dsd (active_lists self.now.sessions) ≡ None) }
+        ensures refused { IfErr result (IsFaultOf (holding self.now roles.now)) }
+    {
+        if let Some(name) = self.broken_static(roles, users) {
+            return Err(PolicyFault::Refused(Refusal::Ssd(name.copy()?)));
+        }
+        if let Some(name) = self.broken_dynamic(roles) {
+            return Err(PolicyFault::Refused(Refusal::Dsd(name.copy()?)));
+        }
         Ok(())
     }
 

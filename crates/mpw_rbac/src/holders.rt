@@ -82,26 +82,12 @@ fn with_place(mask: &Mask, place: usize, more: bool) -> Mask
     next
 }
 
-/// Groups without masks.
-fn no_masks(alloc: Global, empty: &Group) -> Result<Vec<Group>, AllocError>
-    requires { (object : ObjectState) (place : ℕ) → holds_within empty.now object place ≡ false }
-    ensures long { IfOk result (λ groups. length groups.items ≡ 32) }
-    ensures empty { IfOk result (λ groups. (k : ℕ) (object : ObjectState) (place : ℕ) → holds_within (slice_index_or groups.items k []) object place ≡ false) }
-{
-    let mut groups = Vec::with_capacity(alloc, GROUPS)?;
-    for _ in 0..GROUPS {
-        groups.push(empty.copy()?)?;
-    }
-    Ok(groups)
-}
-
 impl Holders {
     /// No holders: one empty group, and a count for each other one.
     fn new(alloc: Global) -> Result<Holders, AllocError>
         ensures { IfOk result (λ holders. (object : ObjectState) (place : ℕ) → holds holders object place ≡ false) }
     {
-        let empty = Group::new(alloc)?;
-        let groups = no_masks(alloc, &empty)?;
+        let groups = vec![in alloc; Group::new(alloc)?; GROUPS]?;
         Ok(Holders { groups })
     }
 
@@ -109,11 +95,9 @@ impl Holders {
     fn copy(&self) -> Result<Holders, AllocError>
         ensures { IfOk result (λ copy. copy ≡ self.now) }
     {
-        let mut groups = Vec::with_capacity(*self.groups.allocator(), self.groups.len())?;
-        for group in &self.groups {
-            groups.push(group.copy()?)?;
-        }
-        Ok(Holders { groups })
+        Ok(Holders {
+            groups: self.groups.clone()?,
+        })
     }
 
     /// The places of the roles that were granted the operation on the object: a hash, and a look at its bucket.

@@ -11,6 +11,7 @@ mod active;
 mod admin;
 mod block;
 mod bucket;
+mod copies;
 mod grants;
 mod group;
 mod hierarchy;

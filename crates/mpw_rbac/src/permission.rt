@@ -2,7 +2,7 @@
 use mpw_geom::Name;
 
 /// What a session may do to an object (OPS).
-#[derive(Clone, Copy, PartialEq, Eq, Hash)]
+#[derive(Clone, Copy, PartialEq, Eq)]
 pub enum Operation {
     Submit,
     Use,
@@ -18,7 +18,7 @@ pub enum Operation {
 }
 
 /// What an operation is on (OBS): a cell, which need not exist, or the desk.
-#[derive(Clone, PartialEq, Eq, Hash)]
+#[derive(Clone, PartialEq, Eq)]
 pub enum Object {
     Cell(Name),
     Desk,
@@ -34,7 +34,7 @@ impl Drop for Object {
 }
 
 /// The permission for an operation on an object, granted to a role (PA).
-#[derive(Clone, PartialEq, Eq, Hash)]
+#[derive(Clone, PartialEq, Eq)]
 pub struct Grant {
     pub operation: Operation,
     pub object: Object,

@@ -7,9 +7,9 @@ use crate::{Object, Operation};
 use mpw_geom::Name;
 use mpw_roles::RolesFault;
 use mpw_separation::SetsFault;
-use std::alloc::{AllocError, AllocFailed};
+use std::alloc::AllocError;
+use std::error::Error;
 use std::fmt;
-use thiserror::Error;
 
 /// What the written policy answers in place of a change.
 #[derive(Drop)]
@@ -41,13 +41,22 @@ pub enum Refusal {
 }
 
 /// Why a call changed nothing.
-#[derive(Drop, Error)]
+#[derive(Drop)]
 pub enum PolicyFault {
-    #[error("the policy refuses it")]
     Refused(Refusal),
-    #[error("out of memory")]
     Memory,
 }
+
+impl fmt::Display for PolicyFault {
+    fn fmt<W: fmt::Write>(&self, f: &mut fmt::Formatter<W>) -> fmt::Result {
+        match self {
+            PolicyFault::Refused(_) => f.write_str("the policy refuses it"),
+            PolicyFault::Memory => f.write_str("out of memory"),
+        }
+    }
+}
+
+impl Error for PolicyFault {}
 
 impl fmt::Debug for PolicyFault {
     fn fmt<W: fmt::Write>(&self, f: &mut fmt::Formatter<W>) -> fmt::Result {
@@ -62,14 +71,6 @@ impl From<AllocError> for PolicyFault {
     ghost from_gives = { λ _ fault. fault ≡ Memory };
 
     fn from(_error: AllocError) -> PolicyFault {
-        PolicyFault::Memory
-    }
-}
-
-impl<T: Drop> From<AllocFailed<T>> for PolicyFault {
-    ghost from_gives = { λ _ fault. fault ≡ Memory };
-
-    fn from(_error: AllocFailed<T>) -> PolicyFault {
         PolicyFault::Memory
     }
 }

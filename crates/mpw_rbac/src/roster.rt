@@ -3,15 +3,17 @@
 //! Names stand in a [`Register`], and what is known of a user behind a shared pointer. So a copy is a count for each
 //! user and for each of the latest names, and to look one up is a hash. A user less numbers the names anew: a hash for
 //! each.
-ghost use Rattle.std.specs.Prelude.{◌≡◌, ◌<◌, ◌++◌, ◌∷◌, [], ℕ, List, length, map, position, take, drop, slice_get, zip, is_some, IfOk, IfSome, OnOk};
+ghost use Rattle.std.specs.Prelude.{◌≡◌, ◌<◌, ◌++◌, ◌∷◌, [], ℕ, List, length, map, position, take, drop, slice_get, zip, remove, is_some, true, IfOk, IfSome, OnOk};
 ghost use Rattle.std.specs.Option.{option_copied};
 ghost use Rattle.indexmap.specs.IndexMap.{insert_entry};
 ghost use Rattle.mpw_geom.specs.Names.{name_eq, without_name};
+ghost use Rattle.mpw_roles.specs.Order.{are_distinct};
 ghost use Rattle.mpw_rbac.specs.Rows.{unassigned};
 ghost use Rattle.mpw_rbac.specs.Table.{has_key, value_at, without_key};
 ghost use Rattle.mpw_rbac.specs.declared.session.User.{User as UserState};
 
 use crate::User;
+use crate::copies::roomy_copy;
 use mpw_geom::{Name, Names};
 use mpw_lists::Shared;
 use mpw_roles::Register;
@@ -56,17 +58,6 @@ impl Model for Roster {
     ghost invariant = { λ roster. length roster.names ≡ length roster.values.items };
 }
 
-/// The same users, with room for one more.
-fn copy_of_values(alloc: Global, values: &[SharedUser]) -> Result<Vec<SharedUser>, AllocError>
-    ensures { IfOk result (λ copy. copy.items ≡ values.now) }
-{
-    let mut copy = Vec::with_capacity(alloc, values.len().saturating_add(1))?;
-    for value in values {
-        copy.push(value.copy()?)?;
-    }
-    Ok(copy)
-}
-
 /// The users without the assignments of a role.
 fn values_without_assignments(
     alloc: Global,
@@ -93,6 +84,30 @@ fn names_of(alloc: Global, register: &Register) -> Result<Names, AllocError>
         }
     }
     Ok(names)
+}
+
+/// The values but that at a place.
+fn values_without(
+    alloc: Global,
+    values: &[SharedUser],
+    place: usize,
+) -> Result<Vec<SharedUser>, AllocError>
+    requires { place < length values.now }
+    ensures { IfOk result (λ left. left.items ≡ remove values.now place) }
+{
+    let mut values = roomy_copy(alloc, values)?;
+    drop(values.remove(place));
+    Ok(values)
+}
+
+/// The names of a register but one, with numbers of their own.
+fn names_without(alloc: Global, register: &Register, name: &Name) -> Result<Register, AllocError>
+    requires { are_distinct register.now ≡ true }
+    ensures { IfOk result (λ left. left ≡ without_name register.now name.now) }
+{
+    let mut names = names_of(alloc, register)?;
+    names.remove(name);
+    Register::of_names(alloc, names.as_slice())
 }
 
 /// Writes what is known of a user, who goes last where there is none with that name.
@@ -174,7 +189,19 @@ impl Roster {
         ensures { IfOk result (λ roster. roster ≡ self.now) }
     {
         let names = self.names.copy()?;
-        let values = copy_of_values(alloc, &self.values)?;
+        let values = roomy_copy(alloc, &self.values)?;
+        Ok(Roster { names, values })
+    }
+
+    /// Takes another value of a user, who goes last where there is none with that name.
+    fn put(self, alloc: Global, user: Name, value: SharedUser) -> Result<Roster, AllocError>
+        ensures { IfOk result (λ roster. roster ≡ insert_entry name_eq self user value) }
+    {
+        let Roster {
+            mut names,
+            mut values,
+        } = self;
+        put(alloc, &mut names, &mut values, user, value)?;
         Ok(Roster { names, values })
     }
 
@@ -183,10 +210,7 @@ impl Roster {
         ensures { IfOk result (λ roster. roster ≡ insert_entry name_eq self.now user value) }
     {
         let value = Shared::new(alloc, value)?;
-        let mut names = self.names.copy()?;
-        let mut values = copy_of_values(alloc, &self.values)?;
-        put(alloc, &mut names, &mut values, user, value)?;
-        Ok(Roster { names, values })
+        self.copy(alloc)?.put(alloc, user, value)
     }
 
     /// The users but one: a hash for each other one.
@@ -196,11 +220,8 @@ impl Roster {
         let Some(place) = self.names.number(user) else {
             return self.copy(alloc);
         };
-        let mut values = copy_of_values(alloc, &self.values)?;
-        drop(values.remove(place));
-        let mut names = names_of(alloc, &self.names)?;
-        names.remove(user);
-        let names = Register::of_names(alloc, names.as_slice())?;
+        let names = names_without(alloc, &self.names, user)?;
+        let values = values_without(alloc, &self.values, place)?;
         Ok(Roster { names, values })
     }
 

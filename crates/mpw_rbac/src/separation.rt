@@ -1,5 +1,5 @@
 //! The administrative requests of separation of duty.
-ghost use Rattle.std.specs.Prelude.{◌≡◌, ◌⊎◌, [], ◌∷◌, map, IfErr, OnOk, OnErr, Ok, Err};
+ghost use Rattle.std.specs.Prelude.{◌≡◌, ◌⊎◌, true, false, [], ◌∷◌, map, IfErr, OnOk, OnErr, Ok, Err};
 ghost use Rattle.std.specs.List.{list_all};
 ghost use Rattle.std.specs.Option.{option_copied};
 ghost use Rattle.mpw_roles.specs.Hierarchy.{is_role, role_names};
@@ -10,7 +10,7 @@ ghost use Rattle.mpw_rbac.specs.Internal.Kinds.{other, kind_sets, bound_lists, s
 ghost use Rattle.mpw_rbac.specs.Internal.Kinds as kinds;
 ghost use Rattle.mpw_rbac.specs.Masked.{AreAuthorized, AreBelow, sessions_in, masks_in};
 ghost use Rattle.mpw_rbac.specs.Policy.{assigned_lists, active_lists};
-ghost use Rattle.mpw_rbac.specs.Rows.{IsFaultOf};
+ghost use Rattle.mpw_rbac.specs.Rows.{IsFaultOf, administered};
 ghost use Rattle.mpw_rbac.specs.Rows as rows;
 
 use crate::active::Active;
@@ -218,6 +218,26 @@ impl Policy {
         ensures refused { IfErr result (IsFaultOf (kinds.make_set kind self.old connection set)) }
         ensures err { OnErr result (self.new ≡ self.old) }
     {
+        self.may_make_set(connection, kind, &set)?;
+        if self.is_broken(kind, &set) {
+            return Err(PolicyFault::Refused(set_refusal(kind, set.into_name())));
+        }
+        make(&mut self.sets, kind, self.permissions.roles(), set)?;
+        Ok(())
+    }
+
+    /// The tests of a new set but those of whom it binds and of its room.
+    fn may_make_set(
+        &self,
+        connection: u32,
+        kind: Kind,
+        set: &SeparationSet,
+    ) -> Result<(), PolicyFault>
+        ensures administered { OnOk result (administered self.now connection ≡ Ok self.now) }
+        ensures new { OnOk result (has_set (kind_sets kind self.now) set.now.name ≡ false) }
+        ensures roles { OnOk result (list_all (is_role self.now.roles) set.now.roles ≡ true) }
+        ensures refused { IfErr result (IsFaultOf (kinds.make_set kind self.now connection set.now)) }
+    {
         self.administers(connection)?;
         if self.has_set(kind, set.name()) {
             return Err(PolicyFault::Refused(Refusal::Known));
@@ -225,10 +245,6 @@ impl Policy {
         if !self.are_roles(set.roles()) {
             return Err(PolicyFault::Refused(Refusal::Unknown));
         }
-        if self.is_broken(kind, &set) {
-            return Err(PolicyFault::Refused(set_refusal(kind, set.into_name())));
-        }
-        make(&mut self.sets, kind, self.permissions.roles(), set)?;
         Ok(())
     }
 

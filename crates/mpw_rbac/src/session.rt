@@ -5,7 +5,6 @@ use mpw_geom::{Name, Names};
 pub type Digest = [u8; 32];
 
 /// A user's digest, and the roles assigned to the user (UA), in the order of the assignments.
-#[derive(Clone)]
 pub struct User {
     pub digest: Digest,
     pub roles: Names,

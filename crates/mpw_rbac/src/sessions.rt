@@ -80,6 +80,22 @@ impl Policy {
         ensures refused { IfErr result (IsFaultOf (rows.activate self.old connection role.now)) }
         ensures err { OnErr result (self.new ≡ self.old) }
     {
+        self.activation_begins(connection, role)?;
+        let active = self.with_active_role(connection, role)?;
+        if let Some(name) = self.broken_by_active(&active) {
+            return Err(PolicyFault::Refused(Refusal::Dsd(name.copy()?)));
+        }
+        self.sessions.insert(connection, active)?;
+        Ok(())
+    }
+
+    /// The tests of a role that is to be active but that of the sets.
+    fn activation_begins(&self, connection: u32, role: &Name) -> Result<(), PolicyFault>
+        ensures session { OnOk result (is_some (session_of self.now connection) ≡ true) }
+        ensures authorized { OnOk result (contains_name (authorized self.now (user_of self.now connection)) role.now ≡ true) }
+        ensures new { OnOk result (contains_name (active_roles self.now connection) role.now ≡ false) }
+        ensures refused { IfErr result (IsFaultOf (rows.activate self.now connection role.now)) }
+    {
         if !self.has_session(connection) {
             return Err(PolicyFault::Refused(Refusal::NoSession));
         }
@@ -89,11 +105,6 @@ impl Policy {
         if self.is_active(connection, role) {
             return Err(PolicyFault::Refused(Refusal::Known));
         }
-        let active = self.with_active_role(connection, role)?;
-        if let Some(name) = self.broken_by_active(&active) {
-            return Err(PolicyFault::Refused(Refusal::Dsd(name.copy()?)));
-        }
-        self.sessions.insert(connection, active)?;
         Ok(())
     }
 

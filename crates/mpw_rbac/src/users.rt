@@ -64,6 +64,18 @@ fn masks_of(roles: &Roles, roster: &Roster) -> Result<Vec<Mask>, AllocError>
     Ok(masks)
 }
 
+/// The users with one more, or with another value of one, shared.
+fn with_user(
+    alloc: Global,
+    roster: &Roster,
+    user: Name,
+    value: User,
+) -> Result<Arc<Roster>, AllocError>
+    ensures { IfOk result (λ next. next.value ≡ insert_entry name_eq roster.now user value) }
+{
+    Ok(Arc::new(alloc, roster.with(alloc, user, value)?)?)
+}
+
 /// The masks with another one at a place, or with one more at the end.
 fn masks_with(
     alloc: Global,
@@ -183,8 +195,9 @@ impl Users {
     {
         let alloc = roles.allocator();
         let mask = roles.mask_below(value.roles.as_slice());
-        let masks = masks_with(alloc, &self.masks, self.roster.place(&user), mask)?;
-        let roster = Arc::new(alloc, self.roster.with(alloc, user, value)?)?;
+        let place = self.roster.place(&user);
+        let roster = with_user(alloc, &self.roster, user, value)?;
+        let masks = masks_with(alloc, &self.masks, place, mask)?;
         Users::with_masks(roles, roster, masks)
     }
 

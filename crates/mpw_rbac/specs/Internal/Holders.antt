@@ -1,5 +1,5 @@
 -- The holders of a permission, by the places of their roles.
-use Rattle.std.specs.Prelude.{◌≡◌, ◌⊎◌, ℕ, ◌<◌, ◌/◌, ◌%◌, Bool, true, false, not, ◌&&◌, ◌==◌, List, [], ◌∷◌, ◌++◌, length, filter, fold, nat_lt, slice_index_or, if◌then◌else◌}
+use Rattle.std.specs.Prelude.{◌≡◌, ◌⊎◌, ℕ, ◌<◌, ◌/◌, ◌%◌, Bool, true, false, not, ◌&&◌, ◌==◌, List, [], ◌∷◌, ◌++◌, length, filter, fold, nat_lt, slice_index_or, Option, None, Some, if◌then◌else◌}
 use Rattle.std.specs.Hash as fed
 use Rattle.std.specs.Hash.FoldHasher as folding
 use Rattle.std.specs.List.{list_any, list_all}
@@ -8,11 +8,11 @@ use Rattle.mpw_geom.specs.Names.{name_eq, contains_name}
 use Rattle.mpw_roles.specs.Hierarchy.{Name, Hierarchy}
 use Rattle.mpw_roles.specs.Mask.{has}
 use Rattle.mpw_roles.specs.declared.mask.Mask.{Mask}
+use Rattle.mpw_rbac.specs.declared.bucket.Held.{Held}
 use Rattle.mpw_rbac.specs.declared.permission.Object.{Object}
 use Rattle.mpw_rbac.specs.declared.permission.Object.TheVariants.{Cell, Desk}
 use Rattle.mpw_rbac.specs.declared.permission.Grant.{Grant}
 use Rattle.mpw_rbac.specs.Grant.{operation_index, object_eq, grant_eq}
-use Rattle.mpw_rbac.specs.Table.{value_at}
 
 -- whether the grant is of the operation with that place among all, on this object, to this role
 abbrev pub is_grant_of : ℕ → Object → Name → Grant → Bool
@@ -41,19 +41,24 @@ group_of object = hash object / 16 % 32
 unfoldable pub bucket_of : Object → ℕ
 bucket_of object = hash object % 16
 
+-- the mask of an object of one bucket
+abbrev pub mask_in : List Held → Object → Option Mask
+mask_in [] object = None
+mask_in (held ∷ others) object =
+    if object_eq object held.object then Some held.mask else mask_in others object
+
 -- whether the place is in the mask of an object of one bucket
-abbrev pub holds_in : List (Object × Mask) → Object → ℕ → Bool
-holds_in bucket object place =
-    option_map_or (λ mask. has mask place) (value_at object_eq bucket object) false
+abbrev pub holds_in : List Held → Object → ℕ → Bool
+holds_in bucket object place = option_map_or (λ mask. has mask place) (mask_in bucket object) false
 
 -- whether the place is in the mask of an object of one group of buckets
-abbrev pub holds_within : List (List (Object × Mask)) → Object → ℕ → Bool
+abbrev pub holds_within : List (List Held) → Object → ℕ → Bool
 holds_within group object place =
     holds_in (slice_index_or group (bucket_of object) []) object place
 
 -- the masks of the objects in their buckets, in groups
 abbrev pub Buckets : Type 0
-Buckets = List (List (List (Object × Mask)))
+Buckets = List (List (List Held))
 
 -- whether the place is in the mask of an object
 abbrev pub holds : Buckets → Object → ℕ → Bool

@@ -1,5 +1,5 @@
 -- The other objects keep their masks.
-use Rattle.std.proofs.Common.{◌∙◌, [], ◌∷◌, ◌++◌, ap}
+use Rattle.std.proofs.Common.{◌∙◌, [], ◌∷◌, ◌++◌, ap, refl}
 use Rattle.mpw_rbac.specs.Internal.Holders.{holds_in}
 use Rattle.mpw_rbac.proofs.BucketLemmas.{in-put, in-gone, both-false}
 use Rattle.mpw_rbac.proofs.bucket.keep.Goals as goal
@@ -12,7 +12,6 @@ returns-then-not-meets c = λ all is other q.
 
 pub returns : goal.returns
 returns c = λ all is other q.
-    let made = c.in_ok-copy_of.field-0 in
-    ap (λ l. holds_in l other q) (c.in_ok-push.ensures.items
-    ∙ ap (λ l. l ++ (made, c.args.mask.now) ∷ []) is)
-    ∙ in-put c.args.object.now made c.args.mask.now all c.in_ok-copy_of.ensures other q
+    ap (λ l. holds_in l other q) (c.in_ok-add.ensures
+    ∙ ap (λ l. l ++ record { object = c.args.object.now; mask = c.args.mask.now } ∷ []) is)
+    ∙ in-put c.args.object.now c.args.object.now c.args.mask.now all refl other q

@@ -6,7 +6,7 @@ use Rattle.mpw_rbac.proofs.BlockLemmas.{covered-less, without-none}
 use Rattle.mpw_rbac.proofs.block.Block.without.Goals as goal
 
 pub returns-then-not-contains : goal.returns-then-not-contains
-returns-then-not-contains c = c.in_ok-same.ensures ∙ without-none c.args.self.now c.args.grant.now
+returns-then-not-contains c = c.in_ok-same.ensures.cases ∙ without-none c.args.self.now c.args.grant.now
     (sym c.contains.ensures ∙ c.if-not-contains.true)
 
 pub of-requires : goal.of-requires

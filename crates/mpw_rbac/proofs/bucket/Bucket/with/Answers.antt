@@ -1,9 +1,8 @@
 -- The bucket of the others, and of the object's mask.
 use Rattle.std.proofs.Common.{◌∙◌, ap, filter, not}
-use Rattle.mpw_roles.specs.declared.mask.Mask.{Mask}
 use Rattle.mpw_rbac.specs.Grant.{object_eq}
 use Rattle.mpw_rbac.specs.Internal.Holders.{holds_in}
-use Rattle.mpw_rbac.specs.declared.permission.Object.{Object}
+use Rattle.mpw_rbac.specs.declared.bucket.Held.{Held}
 use Rattle.mpw_rbac.proofs.bucket.Bucket.with.Goals as goal
 
 pub returns : goal.returns
@@ -11,5 +10,5 @@ returns c = λ other place.
     ap (λ l. holds_in l other place) c.in_ok-bucket.ensures
     ∙ c.in_ok-keep.ensures c.args.self.now
     (c.in_ok-masks.ensures ∙ ap (filter
-    (λ (entry : Object × Mask). not (object_eq c.args.object.now entry.0))) c.as_slice.ensures)
+    (λ (held : Held). not (object_eq c.args.object.now held.object))) c.as_slice.ensures)
     other place

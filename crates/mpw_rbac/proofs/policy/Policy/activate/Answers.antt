@@ -29,11 +29,11 @@ tested : (c : After-broken_by_active)
     (c.in_ok-active.active.session.active ∷ []))
 tested c =
     let p = c.args.self.now in
-    let there = sym c.has_session.ensures ∙ c.if-not-has_session.false in
+    let there = c.in_ok-activation_begins.ensures.session in
     let asked = ap (λ (s : Session). s.active) c.in_ok-active.ensures.session in (
       there,
-      sym c.may_activate.ensures ∙ c.if-not-may_activate.false,
-      sym c.is_active.ensures ∙ c.if-is_active.false,
+      c.in_ok-activation_begins.ensures.authorized,
+      c.in_ok-activation_begins.ensures.new,
       activate-same p c.args.connection c.args.role.now
           (subst Sound c.self.view_is c.self.invariant.sound) there
           ∙ ap (λ l. least_broken p.roles p.dsd (l ∷ [])) (sym asked),
@@ -72,7 +72,7 @@ returns-in-Some-clause-refused c =
     let t = tested (goal.at.returns-in-Some-clause-refused c).After-broken_by_active in
     activate-broken c.args.self.now c.args.connection c.args.role.now c.in-Some.name.now t.0 t.1 t.2
     (t.3 ∙ sym (c.in-Some.ensures c.in_ok-active.ensures.acting))
-    ∙ ap (λ n. Err (Dsd n)) (sym c.in_ok-copy-2.ensures)
+    ∙ ap (λ n. Err (Dsd n)) (sym c.in_ok-copy.ensures)
 
 pub invariant_of-self-2 : goal.invariant_of-self-2
 invariant_of-self-2 c =

@@ -1,6 +1,7 @@
 -- A new user goes last, without roles.
 use Rattle.std.proofs.Common.{◌≡◌, ◌∙◌, sym, ap, subst, true, false, Ok, [], ◌∷◌, ◌++◌, length}
 use Rattle.std.specs.Prelude.{nat_lt}
+use Rattle.std.proofs.lemmas.Result.{err_from_is_err_and}
 use Rattle.indexmap.specs.IndexMap.{insert_entry}
 use Rattle.mpw_geom.specs.Names.{name_eq}
 use Rattle.mpw_rbac.specs.Policy.{Policy, policy_of, is_user}
@@ -19,7 +20,7 @@ invariant_of-self c =
     in'.sessions.sessions in
     let user = c.args.user in
     let new : is_user p user ≡ false = ap (λ (q : Policy). is_user q user) c.self.view_is
-    ∙ sym c.is_user.ensures ∙ c.if-is_user.false in
+    ∙ c.in_ok-may_add_user.ensures.new in
     let is : c.in_ok-users.users.users ≡ p.users
     ++ (user, record { digest = c.args.digest; roles = [] }) ∷ [] =
     c.in_ok-users.ensures.same ∙ ap (λ rs. insert_entry name_eq p.users user
@@ -41,12 +42,12 @@ returns-clause-ok c =
     in'.sessions.sessions in
     let user = c.args.user in
     let new : is_user p user ≡ false = ap (λ (q : Policy). is_user q user) c.self.view_is
-    ∙ sym c.is_user.ensures ∙ c.if-is_user.false in
+    ∙ c.in_ok-may_add_user.ensures.new in
     let room : nat_lt (length p.users) 512 ≡ true = ap (λ (q : Policy). nat_lt (length q.users) 512)
-    c.self.view_is ∙ sym c.has_room_for_user.ensures ∙ c.if-not-has_room_for_user.false in
+    c.self.view_is ∙ c.in_ok-may_add_user.ensures.room in
     let ok : rows.administered p c.args.connection ≡ Ok p =
     subst (λ (q : Policy). rows.administered q c.args.connection ≡ Ok q) (sym c.self.view_is)
-    c.in_ok-administers.ensures.ok in
+    c.in_ok-may_add_user.ensures.administered in
     let is : c.in_ok-users.users.users ≡ insert_entry name_eq p.users user
     (record { digest = c.args.digest; roles = [] }) =
     c.in_ok-users.ensures.same ∙ ap (λ rs. insert_entry name_eq p.users user
@@ -58,3 +59,8 @@ returns-clause-ok c =
 pub with-requires : goal.with-requires
 with-requires c = subst (λ h. AreAuthorized h c.self.inside.users) (sym c.roles.ensures)
     c.self.invariant.authorized
+
+pub returns-in_err-may_add_user-clause-refused : goal.returns-in_err-may_add_user-clause-refused
+returns-in_err-may_add_user-clause-refused c =
+    let told = err_from_is_err_and c.from_residual.result c.from_residual.ensures.1 in
+    rw (told.1, told.2) (c.in_err-may_add_user.ensures.refused c.args.digest)

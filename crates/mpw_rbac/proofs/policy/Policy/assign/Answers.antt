@@ -26,11 +26,11 @@ tested : (c : After-broken_by_assigned) → (is_user c.args.self.now c.args.user
     ≡ least_broken c.args.self.now.roles c.args.self.now.ssd (c.as_slice.result.now ∷ []))
 tested c =
     let p = c.args.self.now in
-    let known = sym c.is_user.ensures ∙ c.if-not-is_user.false in
+    let known = c.in_ok-may_assign.ensures.user in
     let asked = c.as_slice.ensures ∙ ap (λ (u : User). u.roles) c.in_ok-assigned.ensures in (
       known,
-      sym c.is_role.ensures ∙ c.if-not-is_role.false,
-      sym c.is_assigned.ensures ∙ c.if-is_assigned.false,
+      c.in_ok-may_assign.ensures.role,
+      c.in_ok-may_assign.ensures.new,
       assign-same p c.args.user.now c.args.role.now
           (subst Sound c.self.view_is c.self.invariant.sound)
           known
@@ -53,7 +53,7 @@ accepted c =
     c.in_ok-users.ensures.same ∙ (λ i. insert_entry name_eq (c.self.view_is i).users
     (c.in_ok-copy-2.ensures i) (c.in_ok-assigned.ensures i)) in
     let row =
-    assign-ok q c.args.connection c.in_ok-administers.ensures.ok user role users t.0 t.1 t.2
+    assign-ok q c.args.connection c.in_ok-may_assign.ensures.administered user role users t.0 t.1 t.2
     (t.3 ∙ sym c.in_default.ensures) is in
     let sound = sound-assign_row c.args.connection user role q (record q { users = users }) row
     (subst Sound c.self.view_is c.self.invariant.sound) in (
@@ -64,7 +64,7 @@ accepted c =
 pub returns-in-Some-clause-refused : goal.returns-in-Some-clause-refused
 returns-in-Some-clause-refused c =
     let t = tested (goal.at.returns-in-Some-clause-refused c).After-broken_by_assigned in
-    assign-broken c.args.self.now c.args.connection c.in_ok-administers.ensures.ok c.args.user.now
+    assign-broken c.args.self.now c.args.connection c.in_ok-may_assign.ensures.administered c.args.user.now
     c.args.role.now c.in-Some.name.now t.0 t.1 t.2 (t.3 ∙ sym c.in-Some.ensures)
     ∙ ap (λ n. Err (Ssd n)) (sym c.in_ok-copy.ensures)
 

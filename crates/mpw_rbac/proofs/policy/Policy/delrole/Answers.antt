@@ -32,7 +32,7 @@ left c =
     (users_and_roles (c.in_ok-users.ensures.same i) ((c.roles-roles.ensures ∙ h) i))
     in'.sessions.sessions) in (
       ap (λ (q : Policy). uses_role q.ssd role || uses_role q.dsd role) c.self.view_is
-          ∙ sym c.is_used.ensures ∙ c.if-is_used.false,
+          ∙ c.in_ok-may_delete_role.ensures.unused,
       λ i. policy_of (c.in_ok-users.ensures.same i) (h i)
           (c.in_ok-permissions.ensures.ungranted i) (c.place.ensures.sets i) (sessions i),
     )
@@ -57,9 +57,8 @@ returns-clause-ok c =
     let is = left (goal.at.returns-clause-ok c).After-place in
     let ok : rows.administered p c.args.connection ≡ Ok p =
     subst (λ (q : Policy). rows.administered q c.args.connection ≡ Ok q) (sym c.self.view_is)
-    c.in_ok-administers.ensures.ok in
+    c.in_ok-may_delete_role.ensures.administered in
     let known : is_role p.roles c.args.role.now ≡ true =
-    ap (λ (q : Policy). is_role q.roles c.args.role.now) c.self.view_is ∙ sym c.is_role.ensures
-    ∙ c.if-not-is_role.false in
+    ap (λ (q : Policy). is_role q.roles c.args.role.now) c.self.view_is ∙ c.in_ok-may_delete_role.ensures.known in
     rw (← c.self.view_is) (delrole-ok p c.args.connection ok c.args.role.now known is.0
     ∙ ap Ok (sym is.1))

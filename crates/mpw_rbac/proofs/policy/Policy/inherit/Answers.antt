@@ -1,14 +1,15 @@
 -- A pair that breaks no set.
-use Rattle.std.proofs.Common.{◌≡◌, ◌∙◌, sym, ap, subst, Ok, None, Some}
+use Rattle.std.proofs.Common.{◌≡◌, ◌∙◌, sym, ap, subst, Ok, None}
 use Rattle.mpw_roles.specs.Hierarchy.{is_role, role_names, with_pair}
+use Rattle.std.proofs.lemmas.Result.{err_from_is_err_and}
 use Rattle.mpw_separation.specs.Separation.{least_broken}
 use Rattle.mpw_rbac.specs.Policy.{Policy, policy_of, assigned_lists, active_lists}
 use Rattle.mpw_rbac.specs.Sound.{Sound}
 use Rattle.mpw_rbac.specs.Rows as rows
-use Rattle.mpw_rbac.proofs.InheritLemmas.{inherit-ok}
+use Rattle.mpw_rbac.proofs.InheritLemmas.{inherit-ok, inherit-refused}
 use Rattle.mpw_rbac.proofs.KeepTrimmed.{keep-inherit}
 use Rattle.mpw_rbac.proofs.SeparationLemmas.{holds-of_none}
-use Rattle.mpw_rbac.proofs.RowFacts.{inherit-static, inherit-dynamic}
+use Rattle.mpw_rbac.specs.Internal.Pairs.{holding}
 use Rattle.mpw_rbac.proofs.RowFacts.{inherited-pair}
 use Rattle.mpw_roles.specs.Rows as hierarchy
 use Rattle.mpw_rbac.specs.Masked.{AreActing, AreAuthorized, AreUsers}
@@ -35,11 +36,11 @@ paired c =
       (λ i. least_broken (sym after.1 i) (c.self.view_is i).ssd
           (assigned_lists (c.self.view_is i).users))
           ∙ ap (λ h. least_broken h q.ssd (assigned_lists q.users)) (sym c.roles-roles.ensures)
-          ∙ sym c.in_default.ensures,
+          ∙ c.in_ok-holds_among.ensures.static_sets,
       (λ i. least_broken (sym after.1 i) (c.self.view_is i).dsd
           (active_lists (c.self.view_is i).sessions))
           ∙ ap (λ h. least_broken h q.dsd (active_lists q.sessions)) (sym c.roles-roles.ensures)
-          ∙ sym c.in_default-broken_dynamic.ensures,
+          ∙ c.in_ok-holds_among.ensures.dynamic_sets,
       λ i. policy_of (c.in_ok-users.ensures.same i) (after.1 i) (c.in_ok-next.ensures.same i)
           c.self.inside.sets.sets (c.remask.ensures.same i),
     )
@@ -77,44 +78,23 @@ returns-clause-ok c =
     rw (← c.self.view_is) (inherit-ok p c.args.connection admin c.args.senior.now c.args.junior.now
     c.in_ok-next.next.roles c.in_ok-next.ensures.ok is.0 is.1 ∙ ap Ok (sym is.2))
 
-pub returns-in-Some-clause-refused : goal.returns-in-Some-clause-refused
-returns-in-Some-clause-refused c =
+pub returns-in_err-holds_among-clause-refused : goal.returns-in_err-holds_among-clause-refused
+returns-in_err-holds_among-clause-refused c =
     let p = c.args.self.now in
-    let senior = c.args.senior.now in
-    let junior = c.args.junior.now in
     let next = c.in_ok-next.next in
-    let made : hierarchy.inherit p.roles senior junior ≡ Ok next.roles =
-    ap (λ (q : Policy). hierarchy.inherit q.roles senior junior) (sym c.self.view_is)
-    ∙ c.in_ok-next.ensures.ok in
-    let broken : least_broken next.roles p.ssd (assigned_lists p.users)
-    ≡ Some c.in_ok-copy.field-0 = ap (λ h. least_broken h p.ssd (assigned_lists p.users))
-    (sym c.roles-roles.ensures) ∙ sym c.in-Some.ensures ∙ ap Some (sym c.in_ok-copy.ensures) in
-    inherit-static p c.args.connection c.in_ok-administers.ensures.ok senior junior
-    c.in_ok-copy.field-0
-    next.roles made broken
+    let made : hierarchy.inherit p.roles c.args.senior.now c.args.junior.now ≡ Ok next.roles =
+    ap (λ (q : Policy). hierarchy.inherit q.roles c.args.senior.now c.args.junior.now)
+    (sym c.self.view_is) ∙ c.in_ok-next.ensures.ok in
+    let fault = c.in_err-holds_among.field-0.0 in
+    let told = err_from_is_err_and c.from_residual-in_err-holds_among.result
+    c.from_residual-in_err-holds_among.ensures.1 in
+    rw (told.1, told.2) (inherit-refused p c.args.connection c.in_ok-administers.ensures.ok
+    c.args.senior.now c.args.junior.now next.roles made fault
+    (subst (λ h. rows.IsFaultOf (holding p h) fault) c.roles-roles.ensures
+    c.in_err-holds_among.ensures.refused))
 
-pub returns-in-Some-broken_dynamic-clause-refused :
-    goal.returns-in-Some-broken_dynamic-clause-refused
-returns-in-Some-broken_dynamic-clause-refused c =
-    let p = c.args.self.now in
-    let senior = c.args.senior.now in
-    let junior = c.args.junior.now in
-    let next = c.in_ok-next.next in
-    let made : hierarchy.inherit p.roles senior junior ≡ Ok next.roles =
-    ap (λ (q : Policy). hierarchy.inherit q.roles senior junior) (sym c.self.view_is)
-    ∙ c.in_ok-next.ensures.ok in
-    let kept : least_broken next.roles p.ssd (assigned_lists p.users) ≡ None =
-    ap (λ h. least_broken h p.ssd (assigned_lists p.users)) (sym c.roles-roles.ensures)
-    ∙ sym c.in_default.ensures in
-    let broken : least_broken next.roles p.dsd (active_lists p.sessions)
-    ≡ Some c.in_ok-copy-2.field-0 = ap (λ h. least_broken h p.dsd (active_lists p.sessions))
-    (sym c.roles-roles.ensures) ∙ sym c.in-Some-broken_dynamic.ensures
-    ∙ ap Some (sym c.in_ok-copy-2.ensures) in
-    inherit-dynamic p c.args.connection c.in_ok-administers.ensures.ok senior junior
-    c.in_ok-copy-2.field-0 next.roles made kept broken
-
-pub broken_static-requires-clause-users : goal.broken_static-requires-clause-users
-broken_static-requires-clause-users c =
+pub holds_among-requires-clause-users : goal.holds_among-requires-clause-users
+holds_among-requires-clause-users c =
     let senior = c.args.senior.now in
     let junior = c.args.junior.now in
     let pair = inherited-pair c.self.inside.permissions.roles senior junior
@@ -135,15 +115,8 @@ with_joined_masks-requires-clause-senior c =
     ∙ (inherited-pair c.self.inside.permissions.roles c.args.senior.now c.args.junior.now
     c.in_ok-next.next.roles c.in_ok-next.ensures.ok).0
 
-pub broken_static-requires-clause-roles : goal.broken_static-requires-clause-roles
-broken_static-requires-clause-roles c =
-    ap role_names c.roles-roles.ensures
-    ∙ names-inherited c.self.inside.permissions.roles c.args.senior.now c.args.junior.now
-    c.in_ok-next.next.roles c.in_ok-next.ensures.ok
-    ∙ ap (λ (q : Policy). role_names q.roles) c.self.view_is
-
-pub broken_dynamic-requires : goal.broken_dynamic-requires
-broken_dynamic-requires c =
+pub holds_among-requires-clause-roles : goal.holds_among-requires-clause-roles
+holds_among-requires-clause-roles c =
     ap role_names c.roles-roles.ensures
     ∙ names-inherited c.self.inside.permissions.roles c.args.senior.now c.args.junior.now
     c.in_ok-next.next.roles c.in_ok-next.ensures.ok

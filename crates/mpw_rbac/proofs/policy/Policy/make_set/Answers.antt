@@ -1,10 +1,8 @@
 -- A new set that nobody breaks.
 use Rattle.std.proofs.Common.{◌≡◌, ◌∙◌, ◌⊎◌, sym, ap, subst, Ok, Err, [], ◌∷◌, ◌++◌}
-use Rattle.std.specs.List.{list_all}
 use Rattle.std.proofs.lemmas.Result.{err_from_is_err_and}
-use Rattle.mpw_roles.specs.Hierarchy.{is_role}
 use Rattle.mpw_separation.specs.Rows.{make}
-use Rattle.mpw_separation.specs.Separation.{sets_of, has_set}
+use Rattle.mpw_separation.specs.Separation.{sets_of}
 use Rattle.mpw_separation.specs.declared.fault.SetsFault.TheVariants as set_faults
 use Rattle.mpw_rbac.specs.Internal.Kinds.{other, all_sets, kind_sets, with_sets, set_refusal, make_set}
 use Rattle.mpw_rbac.specs.Policy.{Policy, policy_of}
@@ -19,12 +17,9 @@ use Rattle.mpw_rbac.proofs.policy.Policy.make_set.Goals as goal
 row : (c : After-is_broken) → TellsSet c.args.kind c.args.self.now c.args.connection c.args.set
 row c =
     let q = c.args.self.now in
-    tells-set c.args.kind q c.args.connection c.args.set c.in_ok-administers.ensures.ok
+    tells-set c.args.kind q c.args.connection c.args.set c.in_ok-may_make_set.ensures.administered
     (subst Sound c.self.view_is c.self.invariant.sound)
-    (ap (has_set (kind_sets c.args.kind q)) (sym c.name.ensures) ∙ sym c.has_set.ensures
-    ∙ c.if-has_set.false)
-    (ap (list_all (is_role q.roles)) (sym c.roles.ensures.roles) ∙ sym c.are_roles.ensures
-    ∙ c.if-not-are_roles.false)
+    c.in_ok-may_make_set.ensures.new c.in_ok-may_make_set.ensures.roles
 
 -- the policy that it leaves
 abbrev left : In_ok-make → Policy
@@ -74,8 +69,8 @@ returns-in_err-make-clause-refused c =
     rw (told.1, told.2) refused
 
 pub invariant_of-self-2 : goal.invariant_of-self-2
-invariant_of-self-2 c = with-sets c.self.inside c.roles-2.result.now c.make.new.sets
-    c.self.invariant c.roles-2.ensures c.in_ok-make.ensures.placed
+invariant_of-self-2 c = with-sets c.self.inside c.roles.result.now c.make.new.sets
+    c.self.invariant c.roles.ensures c.in_ok-make.ensures.placed
     (accepted (goal.at.invariant_of-self-2 c).In_ok-make).0
 
 pub returns-clause-ok : goal.returns-clause-ok

@@ -1,14 +1,13 @@
 -- The user goes from both lists.
 use Rattle.std.proofs.Common.{◌≡◌, ◌∙◌, sym, ap, subst, is_some, List, length}
 use Rattle.std.specs.Prelude.{IfOk, remove, zip}
-use Rattle.mpw_geom.specs.Names.{name_eq, without_name}
+use Rattle.mpw_geom.specs.Names.{name_eq}
 use Rattle.mpw_roles.specs.Hierarchy.{Name}
-use Rattle.mpw_roles.specs.Order.{are_distinct}
 use Rattle.mpw_roles.proofs.PositionLemmas.{position-any}
 use Rattle.mpw_rbac.specs.Table.{without_key}
 use Rattle.mpw_rbac.specs.declared.session.User.{User}
-use Rattle.mpw_rbac.proofs.RosterLemmas.{absent-users, users-fewer, distinct-left}
-use Rattle.mpw_rbac.proofs.roster.Roster.without.Goals.{In_ok-names-2}
+use Rattle.mpw_rbac.proofs.RosterLemmas.{absent-users, users-fewer}
+use Rattle.mpw_rbac.proofs.roster.Roster.without.Goals.{In_ok-values}
 use Rattle.mpw_rbac.proofs.roster.Roster.without.Goals as goal
 
 pub returns-in_default : goal.returns-in_default
@@ -21,24 +20,15 @@ returns-in_default c =
     subst (λ (es : List (Name × User)). IfOk c.copy.result (λ roster. roster ≡ es)) same
     c.copy.ensures
 
-pub of_names-requires : goal.of_names-requires
-of_names-requires c =
-    let user = c.args.user.now in
-    ap are_distinct (c.as_slice.ensures ∙ c.remove-2.ensures
-    ∙ ap (λ (l : List Name). without_name l user) c.in_ok-names.ensures)
-    ∙ distinct-left c.self.inside.names user c.number.ensures.once
-
 -- the names and the users that are left
-left : (c : In_ok-names-2) → (length c.in_ok-names-2.names ≡ length c.remove.new.self.items)
-    × (zip c.in_ok-names-2.names c.remove.new.self.items
+left : (c : In_ok-values) → (length c.in_ok-names.names ≡ length c.in_ok-values.values.items)
+    × (zip c.in_ok-names.names c.in_ok-values.values.items
     ≡ without_key name_eq (zip c.self.inside.names c.self.inside.values.items) c.args.user.now)
 left c =
     let user = c.args.user.now in
     let i = c.in-Some.place in
-    let names = c.in_ok-names-2.ensures ∙ c.as_slice.ensures ∙ c.remove-2.ensures
-    ∙ ap (λ (l : List Name). without_name l user) c.in_ok-names.ensures in
-    let values = c.remove.ensures.items ∙ ap (λ (l : List User). remove l i)
-    (c.in_ok-values.ensures ∙ c.deref.ensures.value) in
+    let names = c.in_ok-names.ensures in
+    let values = c.in_ok-values.ensures ∙ ap (λ (l : List User). remove l i) c.deref.ensures.value in
     let fewer = users-fewer c.self.inside.names c.self.inside.values.items user i c.self.invariant
     c.number.ensures.once c.in-Some.ensures.number in (
       ap length names ∙ fewer.1 ∙ sym (ap length values),
@@ -46,7 +36,7 @@ left c =
     )
 
 pub invariant_of-result : goal.invariant_of-result
-invariant_of-result c = (left (goal.at.invariant_of-result c).In_ok-names-2).0
+invariant_of-result c = (left (goal.at.invariant_of-result c).In_ok-values).0
 
 pub returns : goal.returns
-returns c = rw (← c.self.view_is) (left (goal.at.returns c).In_ok-names-2).1
+returns c = rw (← c.self.view_is) (left (goal.at.returns c).In_ok-values).1

@@ -26,11 +26,11 @@ with_masks-requires c =
     subst (λ (kept : KeptUsers). AreAuthorized h kept) (sym c.self.view_is) c.requires in
     let here : IsBelow h value.roles mask = λ q. c.mask_below-mask.ensures q
     ∙ ap (λ l. is_place_below h l q) c.as_slice.ensures in
-    let roster = c.in_ok-roster.ensures.ok ∙ c.in_ok-with.ensures
-    ∙ ap (λ es. insert_entry name_eq es user value) c.deref-4.ensures in
-    let place = c.place.ensures.place
-    ∙ ap (λ es. position (name_eq user) (map key_of es)) c.deref-3.ensures in
-    let read = c.deref-2.ensures.value ∙ (λ t. (c.deref.ensures t).items) in
+    let roster = c.in_ok-roster.ensures
+    ∙ ap (λ es. insert_entry name_eq es user value) c.deref-2.ensures in
+    let place = c.place-place.ensures.place
+    ∙ ap (λ es. position (name_eq user) (map key_of es)) c.deref.ensures in
+    let read = c.deref-4.ensures.value ∙ (λ t. (c.deref-3.ensures t).items) in
     let masks : c.in_ok-masks.masks.items
     ≡ option_map_or (λ k. slice_set ms k mask) (position (name_eq user) (map key_of us))
     (ms ++ mask ∷ []) = c.in_ok-masks.ensures
