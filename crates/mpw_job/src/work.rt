@@ -1,7 +1,8 @@
-//! Many jobs in as many threads as there are processors.
+//! Many jobs in twice as many threads as there are processors.
 //!
 //! A thread takes the next job that no thread has taken, so that one whose jobs are long, or which the system lets wait, does
-//! fewer of them.
+//! fewer of them. There are more threads than processors, since those that begin late cost little, and one that waits leaves
+//! its processor to another.
 
 ghost use Rattle.std.specs.Prelude.{◌≡◌, ◌<◌, List, IfOk, All, Some, length, map, slice_get};
 ghost use Rattle.mpw_job.specs.declared.job.Job.{Job as JobValue};
@@ -50,7 +51,7 @@ fn lists_done(
     ensures { IfOk result (λ r. IfOk r (λ lists. All (λ list. All (IsDone jobs.now) list.items) lists.items)) }
 {
     let next = AtomicUsize::new(0);
-    (0..current_num_threads(rt))
+    (0..current_num_threads(rt).saturating_mul(2))
         .into_par_iter()
         .with_min_len(1)
         .map(
@@ -147,7 +148,7 @@ fn in_order(
     Ok(answers)
 }
 
-/// Does the jobs, in as many threads as there are processors. The answers stand in the order of the jobs, and each carries
+/// Does the jobs, in twice as many threads as there are processors. The answers stand in the order of the jobs, and each carries
 /// its job. Beside the jobs it costs a count and two moves of its answer for each.
 ///
 /// # Errors
