@@ -1,20 +1,24 @@
-// Computes in threads that are started as the jobs' are: the work is halved over and over, each right half in a thread of its
-// own, so that 2^HALVINGS threads compute in the end. It touches no memory but its stacks, so its time is what the machine
-// gives to work of that length.
+// Computes in threads that are started as the jobs' are, each by the one before it, so that 2^HALVINGS threads compute in the
+// end, and each takes the next of that many equal parts that none has taken. It touches no memory but its stacks, so its time
+// is what the machine gives to work of that length.
 //
-//   threads STEPS HALVINGS
+//   threads STEPS HALVINGS PARTS
 //
 // It prints the milliseconds from the first thread's start to the last one's end.
 #include <pthread.h>
+#include <stdatomic.h>
 #include <stdio.h>
 #include <stdlib.h>
 #include <time.h>
 
-struct part {
-    unsigned long steps;
+struct start {
     int halvings;
     unsigned long result;
 };
+
+static unsigned long steps_of_a_part;
+static int parts;
+static atomic_int next;
 
 static double milliseconds(void) {
     struct timespec time;
@@ -31,24 +35,33 @@ static unsigned long compute(unsigned long steps) {
     return x;
 }
 
+static unsigned long compute_parts(void) {
+    unsigned long result = 0;
+    while (atomic_fetch_add(&next, 1) < parts) result += compute(steps_of_a_part);
+    return result;
+}
+
 static void *run(void *given) {
-    struct part *part = given;
-    if (part->halvings == 0) {
-        part->result = compute(part->steps);
+    struct start *start = given;
+    if (start->halvings == 0) {
+        start->result = compute_parts();
         return NULL;
     }
-    struct part left = {part->steps / 2, part->halvings - 1, 0}, right = left;
+    struct start left = {start->halvings - 1, 0}, right = left;
     pthread_t thread;
     if (pthread_create(&thread, NULL, run, &right)) exit(1);
     run(&left);
     pthread_join(thread, NULL);
-    part->result = left.result ^ right.result;
+    start->result = left.result + right.result;
     return NULL;
 }
 
 int main(int count, char **words) {
-    if (count != 3) return 2;
-    struct part whole = {strtoul(words[1], NULL, 10), atoi(words[2]), 0};
+    if (count != 4) return 2;
+    parts = atoi(words[3]);
+    if (parts < 1) return 2;
+    steps_of_a_part = strtoul(words[1], NULL, 10) / parts;
+    struct start whole = {atoi(words[2]), 0};
     double began = milliseconds();
     run(&whole);
     printf("%.3f ms, %lx\n", milliseconds() - began, whole.result);

@@ -7,8 +7,9 @@ Needs crates/bench_job/out/bench_job. In each round each layout is run twice, on
 processors, by turns which of them first. Milliseconds are medians and, in brackets, the best; behind them stand the
 seconds of processor in the system and the page faults of the whole process, which tell what memory costs. The last two
 columns of ours are how many times as fast all threads are, by medians and by bests. In the same rounds threads.c, which `cc`
-builds, computes for as long as our jobs take on one thread, and then shared among threads in the same way; the last two
-columns are its ratios: what the machine gives to work of that length. Let nothing else run beside.
+builds, computes for as long as our jobs take on one thread, in as many parts as there are tiles, and then the same in threads
+that are started and take parts as the jobs' do; the last two columns are its ratios: what the machine gives to work of that
+length. Let nothing else run beside.
 """
 import os
 import re
@@ -21,7 +22,7 @@ import runs
 
 HEADS = ['Layout', 'Tiles', 'Cut', 'Jobs, one thread', 'Jobs, all threads', 'Stitching', 'System, one', 'System, all',
          'Faults, one', 'Faults, all', 'By medians', 'By bests', 'Computing in C, by medians', 'By bests']
-# The jobs' threads are twice the processors, so they are halved that often.
+# The jobs' threads are twice the processors, which so many halvings make.
 HALVINGS = (2 * len(os.sched_getaffinity(0))).bit_length() - 1
 
 
@@ -38,28 +39,29 @@ def timed(path, side, threads):
     return {**parts, 'tiles': tiles, 'system': usage.ru_stime * 1000, 'faults': usage.ru_minflt}
 
 
-def computed(program, steps, halvings):
-    """The milliseconds of that many steps of computing, on one thread where they are not halved."""
-    output = subprocess.run([program, str(steps), str(halvings)], stdout=subprocess.PIPE, text=True, check=True).stdout
+def computed(program, steps, halvings, parts):
+    """The milliseconds of that many steps of computing in so many parts, on one thread where there are no halvings."""
+    output = subprocess.run([program, str(steps), str(halvings), str(parts)], stdout=subprocess.PIPE, text=True, check=True).stdout
     return float(output.split()[0])
 
 
 def steps_for(program, milliseconds):
     """How many steps take about that long on one thread."""
     trial = 10 ** 7
-    return int(trial * milliseconds / min(computed(program, trial, 0) for _ in range(5)))
+    return int(trial * milliseconds / min(computed(program, trial, 0, 1) for _ in range(5)))
 
 
 def measured(program, paths, layouts, rounds):
     """The figures of each round, by layout and by threads, and those of computing for as long."""
     found = {(layout, threads): [] for layout in layouts for threads in ('one', 'all', 'computed one', 'computed all')}
-    steps = {it: steps_for(program, timed(paths[it], it[2], 'one')['jobs']) for it in layouts}
+    first = {it: timed(paths[it], it[2], 'one') for it in layouts}
+    steps = {it: steps_for(program, first[it]['jobs']) for it in layouts}
     for turn in range(rounds):
         for layout in layouts:
             for threads in (('one', 'all') if turn % 2 == 0 else ('all', 'one')):
                 found[layout, threads].append(timed(paths[layout], layout[2], threads))
                 halvings = HALVINGS if threads == 'all' else 0
-                found[layout, f'computed {threads}'].append({'jobs': computed(program, steps[layout], halvings)})
+                found[layout, f'computed {threads}'].append({'jobs': computed(program, steps[layout], halvings, first[layout]['tiles'])})
     return found
 
 
