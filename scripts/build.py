@@ -3,10 +3,15 @@
 
   scripts/build.py PROGRAM
 
-They are proved as the gate proves them, by `rt ci` on a copy of their files: as many side by side as there are processors and
-memory, and what a run on this machine has proved before is not proved again. Wrong bodies are the gate's own business and are
+Each crate is proved as the gate proves it, by `rt ci` over a copy of its files and of those below it. What a run on this machine
+has proved before is not proved again, so that those below are there by then. Wrong bodies are the gate's own business and are
 not tried. The way is told on the standard error.
+
+A crate begins as soon as those below it are proved, where a processor and memory are free for it, those with the longest
+chain of crates above them first. Each may use all processors, so that none idles while one crate is waited for, and the
+longer the chains of the others that are being proved, the lower is its priority.
 """
+import concurrent.futures
 import os
 import re
 import shutil
@@ -19,6 +24,9 @@ TOP = os.path.dirname(os.path.dirname(os.path.abspath(__file__)))
 # What a proof reads of a crate, and what the stored run of a program reads.
 PROOF = ("src", "specs", "proofs")
 RUN = ("stdin", "stdout", "args", "status", "data")
+# What a crate's proof may take, in kilobytes, and how much less its processes get for each crate that is waited for longer.
+MEMORY = 4_000_000
+NICER = 3
 
 
 def say(text):
@@ -31,13 +39,31 @@ def lines_of_crates():
         return {line.split(":")[0].split()[0]: line for line in file if ":" in line.partition("#")[0]}
 
 
+def used(lines, name):
+    """Returns the crates of this repository that a crate names."""
+    return [it for it in lines[name].partition(":")[2].split() if it in lines]
+
+
 def below(lines, name):
     """Returns the crates of this repository that a crate stands on, and the crate, lowest first."""
     found = []
-    for dep in lines[name].partition(":")[2].split():
-        if dep in lines:
-            found += [it for it in below(lines, dep) if it not in found]
+    for dep in used(lines, name):
+        found += [it for it in below(lines, dep) if it not in found]
     return [*found, name]
+
+
+def size(name):
+    """Returns the bytes that a proof of the crate reads."""
+    walked = (it for part in PROOF for it in os.walk(f"{TOP}/crates/{name}/{part}"))
+    return sum(os.path.getsize(f"{at}/{it}") for at, _, names in walked for it in names)
+
+
+def chains(lines, wanted):
+    """Returns the bytes of each crate together with the longest chain of crates above it."""
+    found = {}
+    for name in reversed(wanted):
+        found[name] = size(name) + max((it for other, it in found.items() if name in used(lines, other)), default=0)
+    return found
 
 
 def copy(lines, wanted, tree):
@@ -53,18 +79,44 @@ def copy(lines, wanted, tree):
         file.writelines(lines[name] for name in wanted)
 
 
-def prove(tree, wanted):
-    """Proves the crates of a tree, telling the way; returns whether all were, and the last of what was said."""
-    began, done, said = time.monotonic(), set(), []
-    how = {"cwd": tree, "stdin": subprocess.DEVNULL, "stdout": subprocess.PIPE, "stderr": subprocess.STDOUT}
-    with subprocess.Popen(["rt", "ci"], text=True, errors="replace", **how) as ran:
-        for line in ran.stdout:
-            said = [*said[-80:], line]
-            found = re.match(r"rt: (\w+) (proved|is kept)", line)
-            if found and found[1] in wanted:
-                done.add(found[1])
-                say(f"{len(done)} of {len(wanted)} crates proved: {found[1]}, {time.monotonic() - began:.0f} s")
-    return ran.returncode == 0, "".join(said)
+def prove(lines, name, nice):
+    """Proves a crate over those below it; a program that was proved is put into its crate's folder. Returns what failed, or nothing."""
+    with tempfile.TemporaryDirectory(prefix="mpw-build-") as tree:
+        copy(lines, below(lines, name), tree)
+        how = {"cwd": tree, "stdin": subprocess.DEVNULL, "stdout": subprocess.PIPE, "stderr": subprocess.STDOUT}
+        ran = subprocess.run(["nice", "-n", str(nice), "rt", "ci"], text=True, errors="replace", check=False, **how)
+        made, place = f"{tree}/crates/{name}/out/{name}", f"{TOP}/crates/{name}/out"
+        if os.path.isfile(made):
+            os.makedirs(place, exist_ok=True)
+            shutil.move(made, f"{place}/{name}")
+    return None if ran.returncode == 0 else ran.stdout
+
+
+def lanes():
+    """Returns how many crates to prove at once."""
+    with open("/proc/meminfo", encoding="ascii") as file:
+        free = int(re.search(r"MemAvailable:\s+(\d+)", file.read())[1])
+    return max(1, min(len(os.sched_getaffinity(0)), free // MEMORY))
+
+
+def prove_all(lines, wanted):
+    """Proves the crates, telling the way. Returns what failed, or nothing."""
+    began, chain, lane = time.monotonic(), chains(lines, wanted), lanes()
+    left, running, done, failed = sorted(wanted, key=lambda it: -chain[it]), {}, set(), None
+    with concurrent.futures.ThreadPoolExecutor(lane) as pool:
+        while running or left and not failed:
+            ready = [] if failed else [it for it in left if done.issuperset(used(lines, it))]
+            for name in ready[:lane - len(running)]:
+                left.remove(name)
+                waited_for = sum(chain[it] > chain[name] for it in running.values())
+                running[pool.submit(prove, lines, name, NICER * waited_for)] = name
+            for it in concurrent.futures.wait(running, return_when=concurrent.futures.FIRST_COMPLETED).done:
+                name, why = running.pop(it), it.result()
+                failed = failed or why
+                if why is None:
+                    done.add(name)
+                    say(f"{len(done)} of {len(wanted)} crates proved: {name}, {time.monotonic() - began:.0f} s")
+    return failed
 
 
 def main(words):
@@ -74,15 +126,10 @@ def main(words):
     program, lines = words[0], lines_of_crates()
     wanted = below(lines, program)
     say(f"proving and building {program}; docs/PROVING.md tells how long that takes where nothing is proved yet")
-    with tempfile.TemporaryDirectory(prefix="mpw-build-") as tree:
-        copy(lines, wanted, tree)
-        proved, said = prove(tree, wanted)
-        made = f"{tree}/crates/{program}/out/{program}"
-        if not proved or not os.path.isfile(made):
-            say(f"{program} could not be proved and built:\n{said[-4000:]}")
-            return 1
-        os.makedirs(f"{TOP}/crates/{program}/out", exist_ok=True)
-        shutil.move(made, f"{TOP}/crates/{program}/out/{program}")
+    failed = prove_all(lines, wanted)
+    if failed or not os.path.isfile(f"{TOP}/crates/{program}/out/{program}"):
+        say(f"{program} could not be proved and built:\n{(failed or '')[-4000:]}")
+        return 1
     return 0
 
 
