@@ -5,6 +5,7 @@
 //! its processor to another.
 
 ghost use Rattle.std.specs.Prelude.{◌≡◌, ◌<◌, List, IfOk, All, Some, length, map, slice_get};
+ghost use denote.Param.Send.{IsSync};
 ghost use Rattle.mpw_job.specs.declared.job.Job.{Job as JobValue};
 ghost use Rattle.mpw_job.specs.Carried.{job_of};
 ghost use Rattle.mpw_job.specs.Internal.Worked.{IsDone, AreInPlace};
@@ -12,10 +13,9 @@ ghost use Rattle.mpw_job.specs.Internal.Worked.{IsDone, AreInPlace};
 use crate::answer::{Answer, do_job, keep_freed};
 use crate::job::Job;
 use rayon::current_num_threads;
-use rayon::prelude::*;
 use std::alloc::{AllocError, Global};
 use std::sync::atomic::{AtomicUsize, Ordering};
-use std::thread::Threads;
+use std::thread::{Threads, join};
 
 /// An answer, and the place of its job in the list.
 #[derive(Drop)]
@@ -42,24 +42,36 @@ fn do_next(alloc: Global, jobs: &[Job], next: &AtomicUsize) -> Result<Vec<Done>,
     Ok(list)
 }
 
-/// What each thread has done. An error is want of memory.
-fn lists_done(
-    rt: &(impl Threads + Sync),
+/// What so many other threads and this one have done. This one begins the others, one after another, and then does jobs itself.
+#[cycle(lists)]
+fn lists_done<R: Threads + Sync>(
+    rt: &R,
     alloc: Global,
     jobs: &[Job],
-) -> Result<Result<Vec<Vec<Done>>, AllocError>, AllocError>
-    ensures { IfOk result (λ r. IfOk r (λ lists. All (λ list. All (IsDone jobs.now) list.items) lists.items)) }
+    next: &AtomicUsize,
+    others: usize,
+) -> Result<Vec<Vec<Done>>, AllocError>
+    ensures { IfOk result (λ lists. All (λ list. All (IsDone jobs.now) list.items) lists.items) }
 {
-    let next = AtomicUsize::new(0);
-    (0..current_num_threads(rt).saturating_mul(2))
-        .into_par_iter()
-        .with_min_len(1)
-        .map(
-            |_thread: usize| -> Result<Vec<Done>, AllocError>
-                ensures { IfOk result (λ list. All (IsDone jobs.entry.now) list.items) }
-            { do_next(alloc, jobs, &next) },
-        )
-        .collect(rt, alloc)
+    if others == 0 {
+        let mut lists = Vec::new(alloc);
+        lists.push(do_next(alloc, jobs, next)?)?;
+        return Ok(lists);
+    }
+    let left = others - 1;
+    let (list, lists) = join(
+        rt,
+        || -> Result<Vec<Done>, AllocError>
+            ensures { IfOk result (λ list. All (IsDone jobs.entry.now) list.items) }
+        { do_next(alloc, jobs, next) },
+        || -> Result<Vec<Vec<Done>>, AllocError>
+            requires { IsSync R.row }
+            ensures { IfOk result (λ lists. All (λ list. All (IsDone jobs.entry.now) list.items) lists.items) }
+        { lists_done(rt, alloc, jobs, next, left) },
+    );
+    let mut lists = lists?;
+    lists.push(list?)?;
+    Ok(lists)
 }
 
 /// A place without an answer for each job.
@@ -148,8 +160,9 @@ fn in_order(
     Ok(answers)
 }
 
-/// Does the jobs, in twice as many threads as there are processors. The answers stand in the order of the jobs, and each carries
-/// its job. Beside the jobs it costs a count and two moves of its answer for each.
+/// Does the jobs, in twice as many threads as there are processors, or one for each job where there are fewer. The answers
+/// stand in the order of the jobs, and each carries its job. Beside the jobs it costs the threads, a count and two moves of its
+/// answer for each.
 ///
 /// # Errors
 /// Where there is no memory.
@@ -160,7 +173,9 @@ pub fn work_all(
 ) -> Result<Vec<Answer>, AllocError>
     ensures { IfOk result (λ answers. map job_of answers.items ≡ jobs.now) }
 {
-    let lists = lists_done(rt, alloc, jobs)??;
+    let next = AtomicUsize::new(0);
+    let threads = current_num_threads(rt).saturating_mul(2).min(jobs.len());
+    let lists = lists_done(rt, alloc, jobs, &next, threads.saturating_sub(1))?;
     let mut places = no_answers(alloc, jobs.len())?;
     put_lists(&mut places, lists);
     in_order(alloc, jobs, &mut places)
