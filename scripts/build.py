@@ -8,8 +8,9 @@ has proved before is not proved again, so that those below are there by then. Wr
 not tried. The way is told on the standard error.
 
 A crate begins as soon as those below it are proved, where a processor and memory are free for it, those with the longest
-chain of crates above them first. Each may use all processors, so that none idles while one crate is waited for, and the
-longer the chains of the others that are being proved, the lower is its priority.
+chain of crates above them first. A large one, and one that nothing can be proved beside, may use all processors, so that
+none idles while it is waited for; the others take one each, since several processes read the same of the libraries. The longer
+the chains of the others that are being proved, the lower is a crate's priority.
 """
 import concurrent.futures
 import os
@@ -27,6 +28,8 @@ RUN = ("stdin", "stdout", "args", "status", "data")
 # What a crate's proof may take, in kilobytes, and how much less its processes get for each crate that is waited for longer.
 MEMORY = 4_000_000
 NICER = 3
+# The bytes from which on a crate's proof is worth several processes.
+LARGE = 150_000
 
 
 def say(text):
@@ -79,11 +82,12 @@ def copy(lines, wanted, tree):
         file.writelines(lines[name] for name in wanted)
 
 
-def prove(lines, name, nice):
+def prove(lines, name, nice, alone):
     """Proves a crate over those below it; a program that was proved is put into its crate's folder. Returns what failed, or nothing."""
+    jobs = {} if alone or size(name) >= LARGE else {"RT_JOBS": "1"}
     with tempfile.TemporaryDirectory(prefix="mpw-build-") as tree:
         copy(lines, below(lines, name), tree)
-        how = {"cwd": tree, "stdin": subprocess.DEVNULL, "stdout": subprocess.PIPE, "stderr": subprocess.STDOUT}
+        how = {"cwd": tree, "env": os.environ | jobs, "stdin": subprocess.DEVNULL, "stdout": subprocess.PIPE, "stderr": subprocess.STDOUT}
         ran = subprocess.run(["nice", "-n", str(nice), "rt", "ci"], text=True, errors="replace", check=False, **how)
         made, place = f"{tree}/crates/{name}/out/{name}", f"{TOP}/crates/{name}/out"
         if os.path.isfile(made):
@@ -109,7 +113,8 @@ def prove_all(lines, wanted):
             for name in ready[:lane - len(running)]:
                 left.remove(name)
                 waited_for = sum(chain[it] > chain[name] for it in running.values())
-                running[pool.submit(prove, lines, name, NICER * waited_for)] = name
+                alone = len(ready) + len(running) == 1
+                running[pool.submit(prove, lines, name, NICER * waited_for, alone)] = name
             for it in concurrent.futures.wait(running, return_when=concurrent.futures.FIRST_COMPLETED).done:
                 name, why = running.pop(it), it.result()
                 failed = failed or why
