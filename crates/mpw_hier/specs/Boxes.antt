@@ -1,6 +1,5 @@
 -- The least boxes that hold shapes, in nm.
 use Rattle.std.specs.Prelude.{◌^◌, Bool, ◌&&◌, ℤ, pos, neg_ℤ, int_le, int_lt, int_div, List, [], ◌∷◌, filter, Option, Some, None, option_map}
-use Rattle.std.specs.Int.{int_min, int_max}
 use Rattle.mpw_geom.specs.declared.plane.Box2.{Box2}
 use Rattle.mpw_geom.specs.declared.plane.Point.{Point}
 use Rattle.mpw_geom.specs.declared.placing.Placing.{Placing}

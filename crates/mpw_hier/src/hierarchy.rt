@@ -3,7 +3,7 @@
 //! Each structure is looked at once, behind all those that it places, so that its size is that of its
 //! own shapes and of the sizes that stand there already.
 
-ghost use Rattle.std.specs.Prelude.{◌≡◌, ◌<◌, [], length, replicate, slice_set, IfOk, IfErr, OnOk, Err, Some, None};
+ghost use Rattle.std.specs.Prelude.{◌≡◌, ◌<◌, [], length, slice_set, IfOk, IfErr, OnOk, Err, Some};
 ghost use Rattle.mpw_library.specs.Library.{IsLibrary};
 ghost use Rattle.mpw_library.specs.Places.{place_of};
 ghost use Rattle.mpw_hier.specs.Outline.{IsOutline};
@@ -41,17 +41,6 @@ fn table_of(alloc: Global, bindings: &[Binding]) -> Result<BTreeMap<Name, u32>, 
     Ok(table)
 }
 
-/// So many structures without a node.
-fn no_numbers(alloc: Global, count: usize) -> Result<Vec<Option<usize>>, AllocError>
-    ensures { IfOk result (λ numbers. numbers.items ≡ replicate count None) }
-{
-    let mut numbers = Vec::new(alloc);
-    for _ in 0..count {
-        numbers.push(None)?;
-    }
-    Ok(numbers)
-}
-
 /// What a name means, and how much that shows.
 #[derive(Clone, Copy)]
 struct Link {
@@ -60,7 +49,6 @@ struct Link {
 }
 
 /// What stands in a structure.
-#[derive(Drop)]
 struct Parts {
     /// Where its own shapes stand among its elements.
     shapes: Vec<usize>,
@@ -70,8 +58,40 @@ struct Parts {
     below: Vec<Size>,
 }
 
+impl Drop for Parts {
+    fn drop(self) {
+        let Parts {
+            shapes,
+            children,
+            below,
+        } = self;
+        drop(shapes);
+        drop(children);
+        drop(below);
+    }
+}
+
+impl Parts {
+    /// The node of the structure at a place, which has these parts and a size.
+    fn into_node(self, place: usize, size: Size) -> Node
+        ensures { result ≡ record { structure = place; shapes = self.shapes; children = self.children; size = size } }
+    {
+        let Parts {
+            shapes,
+            children,
+            below,
+        } = self;
+        drop(below);
+        Node {
+            structure: place,
+            shapes,
+            children,
+            size,
+        }
+    }
+}
+
 /// The nodes of a submission so far.
-#[derive(Drop)]
 struct Hierarchy<'a> {
     shelf: &'a Table,
     submission: &'a Submission,
@@ -79,6 +99,21 @@ struct Hierarchy<'a> {
     /// The number of the node of each structure of the library.
     numbers: Vec<Option<usize>>,
     nodes: Vec<Node>,
+}
+
+impl<'a> Drop for Hierarchy<'a> {
+    fn drop(self) {
+        let Hierarchy {
+            shelf: _,
+            submission: _,
+            bound,
+            numbers,
+            nodes,
+        } = self;
+        drop(bound);
+        drop(numbers);
+        drop(nodes);
+    }
 }
 
 impl<'a> Hierarchy<'a> {
@@ -94,7 +129,7 @@ impl<'a> Hierarchy<'a> {
         ensures none { IfOk result (λ h. h.nodes.items ≡ []) }
     {
         let bound = table_of(alloc, submission.bound.as_slice())?;
-        let numbers = no_numbers(alloc, submission.library.structures().len())?;
+        let numbers = vec![in alloc; None; submission.library.structures().len()]?;
         let nodes = Vec::new(alloc);
         Ok(Hierarchy {
             shelf,
@@ -182,16 +217,25 @@ impl<'a> Hierarchy<'a> {
             return Err(HierFault::Extent);
         };
         let number = self.nodes.len();
-        let shapes = parts.shapes;
-        let children = parts.children;
-        self.nodes.push(Node {
-            structure: place,
-            shapes,
-            children,
-            size,
-        })?;
+        self.nodes.push(parts.into_node(place, size))?;
         self.numbers[place] = Some(number);
         Ok(())
+    }
+
+    /// The nodes.
+    fn into_nodes(self) -> Vec<Node>
+        ensures { result ≡ self.entry.nodes }
+    {
+        let Hierarchy {
+            shelf: _,
+            submission: _,
+            bound,
+            numbers,
+            nodes,
+        } = self;
+        drop(bound);
+        drop(numbers);
+        nodes
     }
 }
 
@@ -215,7 +259,7 @@ fn nodes_upto(
     for place in order {
         made.add(alloc, *place)?;
         if *place == top {
-            return Ok(made.nodes);
+            return Ok(made.into_nodes());
         }
     }
     Err(HierFault::NoTop)

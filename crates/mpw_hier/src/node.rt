@@ -21,7 +21,6 @@ pub struct Child {
 }
 
 /// A structure that the top of a submission reaches.
-#[derive(Drop)]
 pub struct Node {
     /// Where the structure stands in the library.
     pub structure: usize,
@@ -30,6 +29,19 @@ pub struct Node {
     /// Its references that show something, in file order.
     pub children: Vec<Child>,
     pub size: Size,
+}
+
+impl Drop for Node {
+    fn drop(self) {
+        let Node {
+            structure: _,
+            shapes,
+            children,
+            size: _,
+        } = self;
+        drop(shapes);
+        drop(children);
+    }
 }
 
 /// The nodes of a submission, each behind those that it places, the top last. Contracts see them as a

@@ -13,7 +13,6 @@ use crate::graph::Graph;
 use std::alloc::{AllocError, Global};
 
 /// How far a search has come.
-#[derive(Drop)]
 pub struct Descent {
     /// Where the search began.
     pub top: usize,
@@ -24,6 +23,20 @@ pub struct Descent {
     pub path: Vec<usize>,
     /// The places that are done, in order.
     pub order: Vec<usize>,
+}
+
+impl Drop for Descent {
+    fn drop(self) {
+        let Descent {
+            top: _,
+            left,
+            path,
+            order,
+        } = self;
+        drop(left);
+        drop(path);
+        drop(order);
+    }
 }
 
 /// What a step found.
@@ -101,6 +114,21 @@ impl Descent {
         self.left[target] = entered;
         Ok(Step::On)
     }
+
+    /// The places that are done, in order.
+    fn into_order(self) -> Vec<usize>
+        ensures { result ≡ self.order }
+    {
+        let Descent {
+            top: _,
+            left,
+            path,
+            order,
+        } = self;
+        drop(left);
+        drop(path);
+        order
+    }
 }
 
 /// The places to which the top leads, each behind all of its targets; none where there is a cycle.
@@ -120,7 +148,7 @@ pub fn order_from_below(
     loop {
         match descent.step(graph)? {
             Step::On => {}
-            Step::Done => return Ok(Some(descent.order)),
+            Step::Done => return Ok(Some(descent.into_order())),
             Step::Cycle => return Ok(None),
         }
     }

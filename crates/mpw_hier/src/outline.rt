@@ -13,7 +13,6 @@ use mpw_library::Library;
 use std::alloc::Global;
 
 /// The structures that a library's top reaches, and the names outside the library among what it reaches.
-#[derive(Drop)]
 pub struct Outline {
     /// The names outside the library, in order of name, each once.
     pub names: Names,
@@ -21,6 +20,18 @@ pub struct Outline {
     pub(crate) place: usize,
     /// Where the structures stand that the top reaches, each behind those that it places, the top among them.
     pub(crate) order: Vec<usize>,
+}
+
+impl Drop for Outline {
+    fn drop(self) {
+        let Outline {
+            names,
+            place: _,
+            order,
+        } = self;
+        drop(names);
+        drop(order);
+    }
 }
 
 impl Outline {

@@ -139,6 +139,15 @@ fn first_box(reference: &Reference, b: Box2) -> Box2
     Box2::between(p, q)
 }
 
+/// A coordinate of a corner of an array, from that of its first instance and the ways to a column and a row.
+fn corner(first: i64, column: i128, row: i128) -> i128
+    requires column { IsWide column }
+    requires row { IsWide row }
+    ensures { result ≡ (first +ℤ column) +ℤ row }
+{
+    i128::from(first) + column + row
+}
+
 /// The box at the corners of an array, from that of its first instance.
 fn corners(first: Box2, columns: WideBox, rows: WideBox) -> WideBox
     requires columns { IsWideBox columns }
@@ -149,10 +158,10 @@ fn corners(first: Box2, columns: WideBox, rows: WideBox) -> WideBox
     ensures y1 { result.y1 ≡ (first.y1 +ℤ columns.y1) +ℤ rows.y1 }
 {
     WideBox {
-        x0: i128::from(first.x0) + columns.x0 + rows.x0,
-        y0: i128::from(first.y0) + columns.y0 + rows.y0,
-        x1: i128::from(first.x1) + columns.x1 + rows.x1,
-        y1: i128::from(first.y1) + columns.y1 + rows.y1,
+        x0: corner(first.x0, columns.x0, rows.x0),
+        y0: corner(first.y0, columns.y0, rows.y0),
+        x1: corner(first.x1, columns.x1, rows.x1),
+        y1: corner(first.y1, columns.y1, rows.y1),
     }
 }
 

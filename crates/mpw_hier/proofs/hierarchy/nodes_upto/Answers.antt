@@ -56,8 +56,8 @@ returns-then-place-top-clause-ok c =
     let added = c.in_ok-add.ensures in
     let made = one_more c.requires.bound c.requires.top c.requires.order inv.same
     c.loop-place-test.true inv.made added.linked added.numbers added.one in
-    whole c.requires.bound c.requires.top c.requires.order c.loop-place-test.true
-    c.if-place-top.true made added.one
+    rw c.into_nodes.ensures (whole c.requires.bound c.requires.top c.requires.order
+    c.loop-place-test.true c.if-place-top.true made added.one)
 
 pub loop-place-preserved : goal.loop-place-preserved
 loop-place-preserved c =

@@ -79,4 +79,11 @@ returns-clause-linked c =
     added_linked c.requires.linked here known c.requires.few node refl shapes children size in
     let last : c.len-number.result ≡ length nodes =
     omega (arith, c.len-number.ensures, c.args.self.now.nodes.ok.0) in
-    rw (c.in_ok-push.ensures.items, last) more
+    rw (c.in_ok-push.ensures.items, c.into_node.ensures, last) more
+
+pub returns-clause-one : goal.returns-clause-one
+returns-clause-one c = record {
+  node = c.into_node.result;
+  added = c.in_ok-push.ensures.items;
+  at = ap (λ (node : Node). node.structure) c.into_node.ensures;
+}
