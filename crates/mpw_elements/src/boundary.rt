@@ -1,20 +1,20 @@
 //! BOUNDARY and BOX.
 
-ghost use Rattle.std.specs.Prelude.{◌≤◌, length, IfOk};
+ghost use Rattle.std.specs.Prelude.{◌≤◌, length, IfOk, IfSome};
 ghost use Rattle.mpw_records.specs.Format.{least_size};
-ghost use Rattle.mpw_elements.specs.Element.{IsBoundary};
+ghost use Rattle.mpw_elements.specs.Element.{IsElement};
 ghost use Rattle.mpw_elements.specs.Reading.{GivesReading};
-ghost use Rattle.mpw_elements.specs.Grammar.{boundary};
+ghost use Rattle.mpw_elements.specs.Internal.Grammar.{boundary_by_layer};
 
-use crate::element::Boundary;
+use crate::element::{Boundary, Element};
 use crate::fault::ReadError;
 use crate::layer::read_layer;
-use crate::reading::expect;
+use crate::reading::{end_element, expect};
 use crate::shape::corners;
 use mpw_records::{Records, kind};
 use std::alloc::Global;
 
-/// The boundary whose first record was read, which begins at `start`. A box has BOXTYPE in the place
+/// The boundary whose first record was read, which begins at `start`, as an element. A box has BOXTYPE in the place
 /// of DATATYPE.
 #[tactic(auto, unfolding(crate::specs::Internal::Grammar::boundary_by_layer, mpw_records::specs::Format::least_size))]
 pub fn read_boundary(
@@ -23,16 +23,19 @@ pub fn read_boundary(
     start: usize,
     unit: u16,
     datatype: u8,
-) -> Result<Boundary, ReadError>
+) -> Result<Option<Element>, ReadError>
     requires unit { unit ≤ 1000 }
     requires datatype { 2 ≤ least_size datatype }
-    ensures boundary { GivesReading (λ b. b) result records.new (boundary start unit datatype records.old) }
-    ensures shape { IfOk result IsBoundary }
+    ensures boundary { GivesReading (λ e. e) result records.new (boundary_by_layer start unit datatype records.old) }
+    ensures shape { IfOk result (λ found. IfSome found IsElement) }
     ensures rest { length records.new ≤ length records.old }
 {
     let layer = read_layer(records, start, datatype)?;
     let xy = expect(records, start, kind::XY)?;
     let points = corners(alloc, unit, xy)?;
-    expect(records, start, kind::ENDEL)?;
-    Ok(Boundary { layer, points })
+    end_element(
+        records,
+        start,
+        Element::Boundary(Boundary { layer, points }),
+    )
 }

@@ -1,20 +1,19 @@
 //! PATH.
 
-ghost use Rattle.std.specs.Prelude.{◌≤◌, length, IfOk, pos};
+ghost use Rattle.std.specs.Prelude.{◌≤◌, length, IfOk, IfSome, pos};
 ghost use Rattle.mpw_records.specs.declared.kind.TheConstants.{PATHTYPE, WIDTH};
 ghost use Rattle.mpw_records.specs.Format.{least_size};
 ghost use Rattle.mpw_records.specs.Records.{raw, IsSized};
-ghost use Rattle.mpw_elements.specs.Element.{IsWithinReach, IsPath};
+ghost use Rattle.mpw_elements.specs.Element.{IsWithinReach, IsElement};
 ghost use Rattle.mpw_elements.specs.Internal.Element.{IsWidth, IsBreadth};
-ghost use Rattle.mpw_elements.specs.Internal.Grammar.{breadth};
+ghost use Rattle.mpw_elements.specs.Internal.Grammar.{breadth, path_by_breadth};
 ghost use Rattle.mpw_elements.specs.Reading.{GivesReading, optional};
 ghost use Rattle.mpw_elements.specs.Values.{path_type_of, width_of, extension_of};
-ghost use Rattle.mpw_elements.specs.Grammar.{path};
 
-use crate::element::Path;
+use crate::element::{Element, Path};
 use crate::fault::ReadError;
 use crate::layer::read_layer;
-use crate::reading::{demand, expect, is_kind, next_field};
+use crate::reading::{demand, end_element, is_kind, next_field, value_and_next};
 use crate::shape::{centre, scale};
 use crate::values::{lengthening, path_type, width};
 use mpw_records::{Record, Records, kind};
@@ -43,8 +42,7 @@ fn optional_path_type<'a>(
     if !is_kind(found, kind::PATHTYPE) {
         return Ok((0, found));
     }
-    let value = path_type(found)?;
-    Ok((value, next_field(records, start)?))
+    value_and_next(records, start, path_type(found))
 }
 
 /// WIDTH, if the record is one, else 0; and the record behind it.
@@ -65,8 +63,7 @@ fn optional_width<'a>(
     if !is_kind(found, kind::WIDTH) {
         return Ok((0, found));
     }
-    let value = width(unit, found)?;
-    Ok((value, next_field(records, start)?))
+    value_and_next(records, start, width(unit, found))
 }
 
 /// BGNEXTN or ENDEXTN, if the record is one, else 0; and the record behind it.
@@ -89,8 +86,7 @@ fn optional_extension<'a>(
     if !is_kind(found, kind) {
         return Ok((0, found));
     }
-    let value = scale(unit, found.bytes);
-    Ok((value, next_field(records, start)?))
+    value_and_next(records, start, Ok(scale(unit, found.bytes)))
 }
 
 /// How broad a path is and how far its ends are lengthened, and the record behind what tells it.
@@ -119,28 +115,28 @@ fn read_breadth<'a>(
     Ok((breadth, found))
 }
 
-/// The path whose first record was read, which begins at `start`.
+/// The path whose first record was read, which begins at `start`, as an element.
 #[tactic(auto, unfolding(crate::specs::Internal::Grammar::path_by_breadth, mpw_records::specs::Format::least_size))]
 pub fn read_path(
     alloc: Global,
     records: &mut Records<'_>,
     start: usize,
     unit: u16,
-) -> Result<Path, ReadError>
+) -> Result<Option<Element>, ReadError>
     requires { unit ≤ 1000 }
-    ensures path { GivesReading (λ p. p) result records.new (path start unit records.old) }
-    ensures shape { IfOk result IsPath }
+    ensures path { GivesReading (λ e. e) result records.new (path_by_breadth start unit records.old) }
+    ensures shape { IfOk result (λ found. IfSome found IsElement) }
     ensures rest { length records.new ≤ length records.old }
 {
     let layer = read_layer(records, start, kind::DATATYPE)?;
     let (breadth, found) = read_breadth(records, start, unit)?;
     let points = centre(alloc, unit, demand(found, kind::XY)?)?;
-    expect(records, start, kind::ENDEL)?;
-    Ok(Path {
+    let path = Path {
         layer,
         width: breadth.width,
         begin: breadth.begin,
         end: breadth.end,
         points,
-    })
+    };
+    end_element(records, start, Element::Path(path))
 }

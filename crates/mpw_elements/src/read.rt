@@ -1,12 +1,12 @@
 //! Elements by their records.
 
-ghost use Rattle.std.specs.Prelude.{◌≡◌, ◌≤◌, [], true, false, length, IfOk, IfSome, OnErr};
+ghost use Rattle.std.specs.Prelude.{◌≡◌, ◌≤◌, [], length, IfOk, IfSome, OnErr};
 ghost use Rattle.mpw_records.specs.Format.{least_size};
 ghost use Rattle.mpw_records.specs.Records.{raw};
 ghost use Rattle.mpw_elements.specs.Element.{IsElement};
 ghost use Rattle.mpw_elements.specs.Reading.{GivesReading};
-ghost use Rattle.mpw_elements.specs.Grammar.{single, array, ignored, element};
-ghost use Rattle.mpw_elements.specs.Internal.Grammar.{boundary_element, path_element, reference_element};
+ghost use Rattle.mpw_elements.specs.Grammar.{ignored, element};
+ghost use Rattle.mpw_elements.specs.Internal.Grammar.{element_by_parts};
 
 use crate::boundary::read_boundary;
 use crate::element::Element;
@@ -37,63 +37,8 @@ fn skip(records: &mut Records<'_>, start: usize) -> Result<(), ReadError>
     }))
 }
 
-/// A boundary or a box whose first record was read, as an element.
-#[tactic(auto, unfolding(crate::specs::Internal::Grammar::boundary_element))]
-fn boundary_element(
-    alloc: Global,
-    records: &mut Records<'_>,
-    start: usize,
-    unit: u16,
-    datatype: u8,
-) -> Result<Option<Element>, ReadError>
-    requires unit { unit ≤ 1000 }
-    requires datatype { 2 ≤ least_size datatype }
-    ensures element { GivesReading (λ e. e) result records.new (boundary_element start unit datatype records.old) }
-    ensures shape { IfOk result (λ found. IfSome found IsElement) }
-    ensures rest { length records.new ≤ length records.old }
-{
-    let boundary = read_boundary(alloc, records, start, unit, datatype)?;
-    Ok(Some(Element::Boundary(boundary)))
-}
-
-/// A path whose first record was read, as an element.
-#[tactic(auto, unfolding(crate::specs::Internal::Grammar::path_element))]
-fn path_element(
-    alloc: Global,
-    records: &mut Records<'_>,
-    start: usize,
-    unit: u16,
-) -> Result<Option<Element>, ReadError>
-    requires { unit ≤ 1000 }
-    ensures element { GivesReading (λ e. e) result records.new (path_element start unit records.old) }
-    ensures shape { IfOk result (λ found. IfSome found IsElement) }
-    ensures rest { length records.new ≤ length records.old }
-{
-    let path = read_path(alloc, records, start, unit)?;
-    Ok(Some(Element::Path(path)))
-}
-
-/// A reference whose first record was read, as an element.
-#[tactic(auto, unfolding(crate::specs::Internal::Grammar::reference_element))]
-fn reference_element(
-    alloc: Global,
-    records: &mut Records<'_>,
-    start: usize,
-    unit: u16,
-    is_array: bool,
-) -> Result<Option<Element>, ReadError>
-    requires { unit ≤ 1000 }
-    ensures single { is_array ≡ false → GivesReading (λ e. e) result records.new (reference_element (single start unit records.old)) }
-    ensures array { is_array ≡ true → GivesReading (λ e. e) result records.new (reference_element (array start unit records.old)) }
-    ensures shape { IfOk result (λ found. IfSome found IsElement) }
-    ensures rest { length records.new ≤ length records.old }
-{
-    let reference = read_reference(alloc, records, start, unit, is_array)?;
-    Ok(Some(Element::Reference(reference)))
-}
-
 /// An element, if its first record begins one.
-#[tactic(auto, unfolding(crate::specs::Grammar::element, crate::specs::Internal::Grammar::boundary_element, crate::specs::Internal::Grammar::path_element, crate::specs::Internal::Grammar::reference_element, mpw_records::specs::Format::least_size))]
+#[tactic(auto, unfolding(crate::specs::Internal::Grammar::element_by_parts, mpw_records::specs::Format::least_size))]
 fn one_element(
     alloc: Global,
     records: &mut Records<'_>,
@@ -101,17 +46,17 @@ fn one_element(
     unit: u16,
 ) -> Result<Option<Element>, ReadError>
     requires { unit ≤ 1000 }
-    ensures element { GivesReading (λ e. e) result records.new (element unit (raw first.entry) records.old) }
+    ensures element { GivesReading (λ e. e) result records.new (element_by_parts unit (raw first.entry) records.old) }
     ensures shape { IfOk result (λ found. IfSome found IsElement) }
     ensures rest { length records.new ≤ length records.old }
 {
     let start = first.offset;
     match first.kind {
-        kind::BOUNDARY => boundary_element(alloc, records, start, unit, kind::DATATYPE),
-        kind::BOX => boundary_element(alloc, records, start, unit, kind::BOXTYPE),
-        kind::PATH => path_element(alloc, records, start, unit),
-        kind::SREF => reference_element(alloc, records, start, unit, false),
-        kind::AREF => reference_element(alloc, records, start, unit, true),
+        kind::BOUNDARY => read_boundary(alloc, records, start, unit, kind::DATATYPE),
+        kind::BOX => read_boundary(alloc, records, start, unit, kind::BOXTYPE),
+        kind::PATH => read_path(alloc, records, start, unit),
+        kind::SREF => read_reference(alloc, records, start, unit, false),
+        kind::AREF => read_reference(alloc, records, start, unit, true),
         kind::TEXT | kind::NODE => {
             skip(records, start)?;
             Ok(None)

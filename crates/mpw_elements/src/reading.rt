@@ -1,10 +1,13 @@
 //! Reading on in the records of an element.
 
-ghost use Rattle.std.specs.Prelude.{◌≡◌, ◌≤◌, ◌==◌, length, IsTrue, IfOk};
+ghost use Rattle.std.specs.Prelude.{◌≡◌, ◌≤◌, ◌==◌, length, IsTrue, IfOk, IfSome};
 ghost use Rattle.mpw_records.specs.Format.{least_size};
 ghost use Rattle.mpw_records.specs.Records.{raw, seen as raw_result, IsSized};
 ghost use Rattle.mpw_elements.specs.Reading.{GivesReading, is_skipped, field, demanded, expected, fault_at};
+ghost use Rattle.mpw_elements.specs.Element.{IsElement};
+ghost use Rattle.mpw_elements.specs.Internal.Grammar.{and_field, end_element};
 
+use crate::element::Element;
 use crate::fault::ReadError;
 use mpw_records::{Code, ReadFault, Record, Records, kind};
 
@@ -43,6 +46,21 @@ pub fn next_field<'a>(records: &mut Records<'a>, start: usize) -> Result<Record<
         code: Code::Unexpected,
         offset: start,
     }))
+}
+
+/// The value that a record told, and the next record of the element. A fault of the value comes first.
+pub fn value_and_next<'a, T: Copy>(
+    records: &mut Records<'a>,
+    start: usize,
+    value: Result<T, ReadFault>,
+) -> Result<(T, Record<'a>), ReadError>
+    ensures both { GivesReading (λ x. (x.0, raw x.1)) result records.new (and_field start value records.old) }
+    ensures rest { length records.new ≤ length records.old }
+    ensures sized { IfOk result (λ x. IsSized (raw x.1)) }
+{
+    let value = value?;
+    let next = next_field(records, start)?;
+    Ok((value, next))
 }
 
 /// Whether a record is of a type.
@@ -84,4 +102,20 @@ pub fn expect<'a>(
 {
     let found = next_field(records, start)?;
     Ok(demand(found, kind)?)
+}
+
+/// The element, whose next record must be ENDEL.
+#[tactic(auto, unfolding(crate::specs::Internal::Grammar::end_element))]
+pub fn end_element(
+    records: &mut Records<'_>,
+    start: usize,
+    element: Element,
+) -> Result<Option<Element>, ReadError>
+    requires { IsElement element }
+    ensures element { GivesReading (λ e. e) result records.new (end_element start element records.old) }
+    ensures shape { IfOk result (λ found. IfSome found IsElement) }
+    ensures rest { length records.new ≤ length records.old }
+{
+    expect(records, start, kind::ENDEL)?;
+    Ok(Some(element))
 }

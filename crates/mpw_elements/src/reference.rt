@@ -1,18 +1,18 @@
 //! SREF and AREF.
 
-ghost use Rattle.std.specs.Prelude.{◌≡◌, ◌≤◌, false, length, true, IfOk};
+ghost use Rattle.std.specs.Prelude.{◌≡◌, ◌≤◌, length, IfOk, IfSome};
 ghost use Rattle.mpw_records.specs.declared.kind.TheConstants.{MAG, ANGLE};
 ghost use Rattle.mpw_records.specs.Records.{raw, IsSized};
-ghost use Rattle.mpw_elements.specs.Element.{IsReference};
+ghost use Rattle.mpw_elements.specs.Element.{IsElement};
 ghost use Rattle.mpw_elements.specs.Reading.{GivesReading, optional};
 ghost use Rattle.mpw_elements.specs.Values.{magnification_of, turns_of};
 ghost use Rattle.mpw_geom.specs.Name.{IsName};
-ghost use Rattle.mpw_elements.specs.Grammar.{orientation, single, array};
-ghost use Rattle.mpw_elements.specs.Internal.Grammar.{single_behind, array_behind};
+ghost use Rattle.mpw_elements.specs.Grammar.{orientation};
+ghost use Rattle.mpw_elements.specs.Internal.Grammar.{single_behind, array_behind, reference};
 
-use crate::element::Reference;
+use crate::element::{Element, Reference};
 use crate::fault::ReadError;
-use crate::reading::{demand, expect, is_kind, next_field};
+use crate::reading::{demand, end_element, expect, is_kind, next_field, value_and_next};
 use crate::values::{
     counts, is_mirrored, magnification, orient, place, read_grid, read_name, turns,
 };
@@ -36,7 +36,7 @@ fn optional_magnification<'a>(
         return Ok(found);
     }
     magnification(found)?;
-    Ok(next_field(records, start)?)
+    next_field(records, start)
 }
 
 /// The quarter turns of ANGLE, if the record is one, else 0; and the record behind it.
@@ -54,8 +54,7 @@ fn optional_turns<'a>(
     if !is_kind(found, kind::ANGLE) {
         return Ok((0, found));
     }
-    let value = turns(found)?;
-    Ok((value, next_field(records, start)?))
+    value_and_next(records, start, turns(found))
 }
 
 /// The orientation, and the record behind it.
@@ -73,14 +72,13 @@ fn orientation<'a>(
     if !is_kind(found, kind::STRANS) {
         return Ok((Orient::R0, found));
     }
-    let mirrored = is_mirrored(found)?;
-    let found = next_field(records, start)?;
+    let (mirrored, found) = value_and_next(records, start, is_mirrored(found))?;
     let found = optional_magnification(records, start, found)?;
     let (turns, found) = optional_turns(records, start, found)?;
     Ok((orient(mirrored, turns), found))
 }
 
-/// The reference of an SREF whose name and orientation were read, and one record behind them.
+/// The reference of an SREF whose name and orientation were read, and one record behind them, as an element.
 #[tactic(auto, unfolding(crate::specs::Internal::Grammar::single_behind, mpw_records::specs::Format::least_size))]
 fn read_single(
     records: &mut Records<'_>,
@@ -89,17 +87,16 @@ fn read_single(
     name: Name,
     orient: Orient,
     found: Record<'_>,
-) -> Result<Reference, ReadError>
+) -> Result<Option<Element>, ReadError>
     requires unit { unit ≤ 1000 }
     requires name { IsName name }
     requires found { IsSized (raw found) }
-    ensures single { GivesReading (λ r. r) result records.new (single_behind start unit name orient (raw found.entry) records.old) }
-    ensures shape { IfOk result IsReference }
+    ensures single { GivesReading (λ e. e) result records.new (single_behind start unit name orient (raw found.entry) records.old) }
+    ensures shape { IfOk result (λ found. IfSome found IsElement) }
     ensures rest { length records.new ≤ length records.old }
 {
     let origin = place(unit, demand(found, kind::XY)?)?;
-    expect(records, start, kind::ENDEL)?;
-    Ok(Reference {
+    let reference = Reference {
         name,
         orient,
         origin,
@@ -107,10 +104,11 @@ fn read_single(
         rows: 1,
         column_step: Point { x: 0, y: 0 },
         row_step: Point { x: 0, y: 0 },
-    })
+    };
+    end_element(records, start, Element::Reference(reference))
 }
 
-/// The reference of an AREF whose name and orientation were read, and one record behind them.
+/// The reference of an AREF whose name and orientation were read, and one record behind them, as an element.
 #[tactic(auto, unfolding(crate::specs::Internal::Grammar::array_behind, mpw_records::specs::Format::least_size))]
 fn read_array(
     records: &mut Records<'_>,
@@ -119,19 +117,18 @@ fn read_array(
     name: Name,
     orient: Orient,
     found: Record<'_>,
-) -> Result<Reference, ReadError>
+) -> Result<Option<Element>, ReadError>
     requires unit { unit ≤ 1000 }
     requires name { IsName name }
     requires found { IsSized (raw found) }
-    ensures array { GivesReading (λ r. r) result records.new (array_behind start unit name orient (raw found.entry) records.old) }
-    ensures shape { IfOk result IsReference }
+    ensures array { GivesReading (λ e. e) result records.new (array_behind start unit name orient (raw found.entry) records.old) }
+    ensures shape { IfOk result (λ found. IfSome found IsElement) }
     ensures rest { length records.new ≤ length records.old }
 {
     let (columns, rows) = counts(demand(found, kind::COLROW)?)?;
     let xy = expect(records, start, kind::XY)?;
     let grid = read_grid(unit, columns, rows, xy)?;
-    expect(records, start, kind::ENDEL)?;
-    Ok(Reference {
+    let reference = Reference {
         name,
         orient,
         origin: grid.origin,
@@ -139,22 +136,22 @@ fn read_array(
         rows,
         column_step: grid.column_step,
         row_step: grid.row_step,
-    })
+    };
+    end_element(records, start, Element::Reference(reference))
 }
 
-/// The reference whose SREF or AREF was read, which begins at `start`.
-#[tactic(auto, unfolding(crate::specs::Grammar::single, crate::specs::Grammar::array, crate::specs::Internal::Grammar::single_behind, crate::specs::Internal::Grammar::array_behind, mpw_records::specs::Format::least_size))]
+/// The reference whose SREF or AREF was read, which begins at `start`, as an element.
+#[tactic(auto, unfolding(crate::specs::Internal::Grammar::reference, mpw_records::specs::Format::least_size))]
 pub fn read_reference(
     alloc: Global,
     records: &mut Records<'_>,
     start: usize,
     unit: u16,
     is_array: bool,
-) -> Result<Reference, ReadError>
+) -> Result<Option<Element>, ReadError>
     requires { unit ≤ 1000 }
-    ensures single { is_array ≡ false → GivesReading (λ r. r) result records.new (single start unit records.old) }
-    ensures array { is_array ≡ true → GivesReading (λ r. r) result records.new (array start unit records.old) }
-    ensures shape { IfOk result IsReference }
+    ensures reference { GivesReading (λ e. e) result records.new (reference start unit is_array records.old) }
+    ensures shape { IfOk result (λ found. IfSome found IsElement) }
     ensures rest { length records.new ≤ length records.old }
 {
     let name = read_name(alloc, expect(records, start, kind::SNAME)?)?;

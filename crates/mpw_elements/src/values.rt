@@ -19,7 +19,7 @@ use mpw_records::{Code, ReadFault, Record};
 use std::alloc::Global;
 
 /// Where an array begins, and its steps, in nm.
-#[derive(Clone, Copy, Debug)]
+#[derive(Clone, Copy)]
 pub struct Grid {
     pub origin: Point,
     pub column_step: Point,
