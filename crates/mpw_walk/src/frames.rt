@@ -11,10 +11,16 @@ use std::marker::Model;
 const MAX_LEVELS: usize = 64;
 
 /// At most 64 frames, the last entered last.
-#[derive(Drop)]
 pub struct Frames<'a> {
     /// Each place that is taken holds a frame; the others hold none.
     places: ArrayVec<Option<Frame<'a>>, MAX_LEVELS>,
+}
+
+impl<'a> Drop for Frames<'a> {
+    fn drop(self) {
+        let Frames { places } = self;
+        drop(places);
+    }
 }
 
 impl<'a> Model for Frames<'a> {

@@ -17,9 +17,15 @@ use mpw_hier::{Shelf, shelves_have_their_numbers};
 use std::marker::Model;
 
 /// The shapes of placed submissions that are still to come. It takes no memory: its stack has a fixed size.
-#[derive(Drop)]
 pub struct Walk<'a> {
     way: Way<'a>,
+}
+
+impl<'a> Drop for Walk<'a> {
+    fn drop(self) {
+        let Walk { way } = self;
+        drop(way);
+    }
 }
 
 impl<'a> Model for Walk<'a> {

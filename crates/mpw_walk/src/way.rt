@@ -30,7 +30,6 @@ pub enum Step<'a> {
 }
 
 /// The structures that a walk has entered.
-#[derive(Drop)]
 pub struct Way<'a> {
     pub shelf: &'a Shelf,
     pub roots: &'a [Root],
@@ -42,6 +41,20 @@ pub struct Way<'a> {
     pub frames: Frames<'a>,
     /// The turns so far.
     pub turns: u64,
+}
+
+impl<'a> Drop for Way<'a> {
+    fn drop(self) {
+        let Way {
+            shelf: _,
+            roots: _,
+            window: _,
+            root: _,
+            frames,
+            turns: _,
+        } = self;
+        drop(frames);
+    }
 }
 
 impl<'a> Way<'a> {
