@@ -44,9 +44,15 @@ impl Same for Rectangle {
 }
 
 /// The rectangles of a tile so far, which contracts see as a list.
-#[derive(Drop)]
 pub(crate) struct Listed {
     items: Vec<Rectangle>,
+}
+
+impl Drop for Listed {
+    fn drop(self) {
+        let Listed { items } = self;
+        drop(items);
+    }
 }
 
 impl Model for Listed {
@@ -80,7 +86,8 @@ impl Listed {
     fn into_window(self, alloc: Global) -> Result<Window, AllocError>
         ensures { IfOk result (λ window. window ≡ self) }
     {
-        Window::from_vec(alloc, self.items)
+        let Listed { items: taken } = self;
+        Window::from_vec(alloc, taken)
     }
 }
 
