@@ -28,3 +28,18 @@ returns-clause-value c =
 pub returns-clause-bound : goal.returns-clause-bound
 returns-clause-bound c =
     rw (returns-clause-value c) (scaled_bound c.args.unit c.args.bytes.now c.requires.unit)
+
+pub overflow_mul-result : goal.overflow_mul-result
+overflow_mul-result c =
+    let x = c.read_i32.result in
+    let narrow : SFits w32 x = search rules in
+    let wide : SFits w64 x = search rules in
+    let unit : SFits w64 (pos c.args.unit) = search rules in
+    rw (
+      c.from.ensures,
+      c.from-2.ensures,
+      to_z-of_z w32 x narrow,
+      to_z-of_z w64 x wide,
+      to_z-of_z w64 (pos c.args.unit) unit,
+    ) (fits_signed_mul w64 x (pos c.args.unit) (2 ^ 31) 1000 (omega (arith, ints))
+    (omega arith) (omega arith))
