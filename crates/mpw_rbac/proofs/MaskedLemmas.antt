@@ -48,34 +48,14 @@ below-tail h l ls m ms w = let long = w.long in
     record { long = omega arith; exact = λ k inside. w.exact (suc k) (omega arith) }
 
 -- a mask more at the end
-at-kept : (ms : List Mask) (m : Mask) (k : ℕ) → k < length ms
-    → mask_at (ms ++ m ∷ []) k ≡ mask_at ms k
-at-kept [] m k inside = absurd (omega arith)
-at-kept (x ∷ xs) m zero inside = refl
-at-kept (x ∷ xs) m (suc k) inside = at-kept xs m k (omega arith)
-
-at-new : (ms : List Mask) (m : Mask) → mask_at (ms ++ m ∷ []) (length ms) ≡ m
-at-new [] m = refl
-at-new (x ∷ xs) m = at-new xs m
-
-pub masks-more : (h : Hierarchy) (lists : List (List Name)) (ms : List Mask) (m : Mask) (i : ℕ)
-    → length ms ≡ i → ((k : ℕ) → k < i → IsBelow h (slice_index_or lists k []) (mask_at ms k))
-    → IsBelow h (slice_index_or lists i []) m → (k : ℕ) → k < i + 1
-    → IsBelow h (slice_index_or lists k []) (mask_at (ms ++ m ∷ []) k)
-masks-more h lists ms m i long before here k inside place = elim (cases_eq k i) [
-  | inl last ↦
-      ap (λ x. has x place) (ap (mask_at (ms ++ m ∷ [])) (last ∙ sym long) ∙ at-new ms m)
-      ∙ here place
-      ∙ ap (λ j. is_place_below h (slice_index_or lists j []) place) (sym last)
-  | inr other ↦ ap (λ x. has x place) (at-kept ms m k (omega arith)) ∙ before k (omega arith) place
-]
-
-pub user-roles : (us : List (Name × User)) (i : ℕ) (u : User)
-    → slice_get (map (λ (e : Name × User). e.1) us) i ≡ Some u
-    → slice_index_or (assigned_lists us) i [] ≡ u.roles
-user-roles [] i u at = cc
-user-roles (x ∷ xs) zero u at = let same : x.1 ≡ u = cc in ap (λ (v : User). v.roles) same
-user-roles (x ∷ xs) (suc i) u at = user-roles xs i u at
+pub below-last : (h : Hierarchy) (ls : List (List Name)) (ms : List Mask) (l : List Name) (m : Mask)
+    → AreBelow h ls ms → IsBelow h l m → AreBelow h (ls ++ l ∷ []) (ms ++ m ∷ [])
+below-last h [] [] l m are here = below-cons h l [] m [] here (below-nil h)
+below-last h [] (y ∷ ys) l m are here = let long = are.long in absurd (omega arith)
+below-last h (x ∷ xs) [] l m are here = let long = are.long in absurd (omega arith)
+below-last h (x ∷ xs) (y ∷ ys) l m are here =
+    below-cons h x (xs ++ l ∷ []) y (ys ++ m ∷ []) (below-head h x xs y ys are)
+    (below-last h xs ys l m (below-tail h x xs y ys are) here)
 
 pub roles-at : (us : List (Name × User)) (i : ℕ) (e : Name × User) → slice_get us i ≡ Some e
     → slice_index_or (assigned_lists us) i [] ≡ e.1.roles

@@ -8,6 +8,7 @@ use Rattle.mpw_geom.proofs.Linked.{same_name, or_cases}
 use Rattle.mpw_roles.specs.Hierarchy.{Name}
 use Rattle.mpw_roles.specs.Order.{are_distinct}
 use Rattle.mpw_roles.proofs.PositionLemmas.{position-any, position-cons}
+use Rattle.mpw_rbac.specs.Policy.{assigned_lists}
 use Rattle.mpw_rbac.specs.Table.{has_key, value_at, without_key}
 use Rattle.mpw_rbac.specs.declared.session.User.{User}
 use Rattle.mpw_rbac.proofs.SeparationLemmas.{any-map, refuted, both, parts, not_true}
@@ -31,6 +32,14 @@ zip-values [] [] long = refl
 zip-values [] (u ∷ us) long = absurd (omega arith)
 zip-values (n ∷ ns) [] long = absurd (omega arith)
 zip-values (n ∷ ns) (u ∷ us) long = ap (λ (l : List User). u ∷ l) (zip-values ns us (omega arith))
+
+pub zip-roles : (ns : List Name) (us : List User) → length ns ≡ length us
+    → assigned_lists (zip ns us) ≡ map (λ (u : User). u.roles) us
+zip-roles [] [] long = refl
+zip-roles [] (u ∷ us) long = absurd (omega arith)
+zip-roles (n ∷ ns) [] long = absurd (omega arith)
+zip-roles (n ∷ ns) (u ∷ us) long =
+    ap (λ (l : List (List Name)). u.roles ∷ l) (zip-roles ns us (omega arith))
 
 pub zip-length : (ns : List Name) (us : List User) → length ns ≡ length us
     → length us ≡ length (zip ns us)

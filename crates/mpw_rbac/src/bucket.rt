@@ -58,6 +58,19 @@ impl Drop for Held {
     }
 }
 
+impl Clone for Held {
+    ghost is_clone = { λ held copy. copy ≡ held };
+
+    /// The same object with the same mask: a count.
+    fn clone(&self) -> Result<Held, AllocError> {
+        let object = copy_of(&self.object)?;
+        Ok(Held {
+            object,
+            mask: self.mask,
+        })
+    }
+}
+
 /// The masks of some objects, which copies share.
 pub(crate) struct Bucket {
     masks: Arc<Vec<Held>>,
@@ -103,19 +116,6 @@ fn add(masks: &mut Vec<Held>, object: &Object, mask: &Mask) -> Result<(), AllocE
     Ok(())
 }
 
-/// The masks of all objects but one.
-fn others(alloc: Global, masks: &[Held], object: &Object) -> Result<Vec<Held>, AllocError>
-    ensures { IfOk result (λ left. left.items ≡ filter (λ (held : HeldState). not (object_eq object.now held.object)) masks.now) }
-{
-    let mut left = Vec::with_capacity(alloc, masks.len())?;
-    for held in masks {
-        if *object != held.object {
-            add(&mut left, &held.object, &held.mask)?;
-        }
-    }
-    Ok(left)
-}
-
 /// Adds the mask of an object to those of all others, where it isn't empty.
 fn keep(masks: &mut Vec<Held>, object: &Object, mask: &Mask) -> Result<(), AllocError>
     ensures { OnOk result ((all : List HeldState) →
@@ -151,47 +151,24 @@ fn write(masks: &mut Vec<Held>, object: &Object, mask: &Mask) -> Result<(), Allo
 }
 
 impl Bucket {
-    /// The masks in a bucket.
-    fn of_masks(alloc: Global, masks: Vec<Held>) -> Result<Bucket, AllocError>
-        ensures { IfOk result (λ bucket. bucket ≡ masks.items) }
-    {
-        Ok(Bucket {
-            masks: Arc::new(alloc, masks)?,
-        })
-    }
-
     /// A bucket without objects.
     pub(crate) fn new(alloc: Global) -> Result<Bucket, AllocError>
         ensures { IfOk result (λ bucket. bucket ≡ []) }
     {
-        Bucket::of_masks(alloc, Vec::new(alloc))
-    }
-
-    /// Its masks.
-    fn as_slice(&self) -> &[Held]
-        ensures { result.now ≡ self.now }
-    {
-        self.masks.as_slice()
+        Ok(Bucket {
+            masks: Arc::new(alloc, Vec::new(alloc))?,
+        })
     }
 
     /// The mask of an object: a comparison for each object of the bucket.
     pub(crate) fn of(&self, object: &Object) -> Mask
         ensures { (place : ℕ) → has result place ≡ holds_in self.now object.now place }
     {
-        mask_of(self.as_slice(), object)
+        mask_of(&self.masks, object)
     }
 
-    /// The bucket with another mask of an object, which isn't kept where it is empty: a copy of the bucket.
-    fn with(&self, alloc: Global, object: &Object, mask: &Mask) -> Result<Bucket, AllocError>
-        ensures { IfOk result (λ bucket. (other : ObjectState) (place : ℕ) → holds_in bucket other place ≡ (if object_eq object.now other then has mask.now place else holds_in self.now other place)) }
-    {
-        let mut masks = others(alloc, self.as_slice(), object)?;
-        keep(&mut masks, object, mask)?;
-        let bucket = Bucket::of_masks(alloc, masks)?;
-        Ok(bucket)
-    }
-
-    /// Writes another mask of an object: in place where no copy shares the bucket, and else in a copy of it.
+    /// Writes another mask of an object, which isn't kept where it is empty: in place where no copy shares the bucket, and else
+    /// in a copy of it.
     pub(crate) fn put(
         &mut self,
         alloc: Global,
@@ -204,8 +181,9 @@ impl Bucket {
             write(masks, object, mask)?;
             return Ok(());
         }
-        let next = self.with(alloc, object, mask)?;
-        *self = next;
+        let mut masks = self.masks.to_vec(alloc)?;
+        write(&mut masks, object, mask)?;
+        self.masks = Arc::new(alloc, masks)?;
         Ok(())
     }
 }

@@ -195,13 +195,15 @@ impl Policy {
 }
 
 /// The roles of a new desk: that of the officer.
-fn first_roles(alloc: Global, role: &Name) -> Result<Roles, PolicyFault>
-    ensures ok { IfOk result (λ roles. roles ≡ (role.now, []) ∷ []) }
-    ensures memory { IfErr result (λ fault. fault ≡ PolicyFault.Memory) }
+fn first_roles(alloc: Global, role: &Name) -> Result<Roles, AllocError>
+    ensures { IfOk result (λ roles. roles ≡ (role.now, []) ∷ []) }
 {
+    let role = role.copy()?;
     let mut roles = Roles::new(alloc);
-    roles.add(role.copy()?)?;
-    Ok(roles)
+    match roles.add(role) {
+        Ok(()) => Ok(roles),
+        Err(_) => Err(AllocError),
+    }
 }
 
 /// The users of a new desk: the officer.
@@ -234,13 +236,12 @@ fn first_grant(role: Name) -> Grant
 }
 
 /// The roles and grants of a new desk.
-fn first_permissions(alloc: Global, role: Name) -> Result<Permissions, PolicyFault>
-    ensures ok { IfOk result (λ next. next ≡ record { roles = (role, []) ∷ []; granted = record { operation = Operation.Admin; object = Object.Desk; role = role } ∷ [] }) }
-    ensures memory { IfErr result (λ fault. fault ≡ PolicyFault.Memory) }
+fn first_permissions(alloc: Global, role: Name) -> Result<Permissions, AllocError>
+    ensures { IfOk result (λ next. next ≡ record { roles = (role, []) ∷ []; granted = record { operation = Operation.Admin; object = Object.Desk; role = role } ∷ [] }) }
 {
     let roles = first_roles(alloc, &role)?;
     let grant = first_grant(role);
-    Ok(Permissions::new(alloc, roles, &grant)?)
+    Permissions::new(alloc, roles, &grant)
 }
 
 /// The role of the officer.

@@ -8,6 +8,7 @@ ghost use Rattle.std.specs.Option.{option_copied};
 ghost use Rattle.indexmap.specs.IndexMap.{insert_entry};
 ghost use Rattle.mpw_geom.specs.Names.{name_eq, without_name};
 ghost use Rattle.mpw_roles.specs.Order.{are_distinct};
+ghost use Rattle.mpw_rbac.specs.Policy.{assigned_lists};
 ghost use Rattle.mpw_rbac.specs.Rows.{unassigned};
 ghost use Rattle.mpw_rbac.specs.Table.{has_key, value_at, without_key};
 ghost use Rattle.mpw_rbac.specs.declared.session.User.{User as UserState};
@@ -157,8 +158,15 @@ impl Roster {
         self.names.number(user)
     }
 
+    /// What is known of each user, in the order of the users.
+    pub(crate) fn values(&self) -> &[SharedUser]
+        ensures { assigned_lists self.now ≡ map (λ (user : UserState). user.roles) result.now }
+    {
+        self.values.as_slice()
+    }
+
     /// The user at a place.
-    pub(crate) fn at(&self, place: usize) -> Option<&User>
+    fn at(&self, place: usize) -> Option<&User>
         ensures { option_copied result ≡ slice_get (map (λ entry. entry.1) self.now) place }
     {
         match self.values.get(place) {

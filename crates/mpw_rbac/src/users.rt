@@ -4,7 +4,7 @@
 //! The masks are made for the policy's roles, and an invariant of the policy says so. A change of one user makes that
 //! user's mask, and a pair more joins the junior's mask into those that need it; any other change of roles makes them
 //! anew, a look-up for each assigned role.
-ghost use Rattle.std.specs.Prelude.{◌≡◌, ◌||◌, ◌&&◌, ◌<◌, ◌++◌, ◌∷◌, [], ℕ, List, length, slice_set, true, IfOk, IfSome};
+ghost use Rattle.std.specs.Prelude.{◌≡◌, ◌||◌, ◌&&◌, ◌<◌, ◌++◌, ◌∷◌, [], ℕ, List, length, map, slice_set, true, IfOk, IfSome};
 ghost use Rattle.std.specs.Option.{option_copied, option_map_or};
 ghost use Rattle.indexmap.specs.IndexMap.{insert_entry};
 ghost use Rattle.mpw_geom.specs.Names.{name_eq};
@@ -16,9 +16,10 @@ ghost use Rattle.mpw_rbac.specs.Policy.{assigned_lists, assigned_roles};
 ghost use Rattle.mpw_rbac.specs.Internal.Policy.{users_and_roles};
 ghost use Rattle.mpw_rbac.specs.Rows.{unassigned};
 ghost use Rattle.mpw_rbac.specs.Table.{has_key, value_at, without_key};
+ghost use Rattle.mpw_rbac.specs.declared.session.User.{User as UserState};
 
 use crate::User;
-use crate::roster::Roster;
+use crate::roster::{Roster, SharedUser};
 use mpw_geom::Name;
 use mpw_roles::{Mask, Roles, join_masks};
 use std::alloc::{AllocError, Global};
@@ -51,15 +52,12 @@ impl Model for Users {
 }
 
 /// The masks of the roles that each user is authorized for: a look-up for each assigned role.
-fn masks_of(roles: &Roles, roster: &Roster) -> Result<Vec<Mask>, AllocError>
-    ensures masks { IfOk result (λ masks. AreBelow roles.now (assigned_lists roster.now) masks.items) }
-    ensures long { IfOk result (λ masks. length masks.items ≡ length roster.now) }
+fn masks_of(roles: &Roles, users: &[SharedUser]) -> Result<Vec<Mask>, AllocError>
+    ensures { IfOk result (λ masks. AreBelow roles.now (map (λ (user : UserState). user.roles) users.now) masks.items) }
 {
-    let mut masks = Vec::with_capacity(roles.allocator(), roster.len())?;
-    for place in 0..roster.len() {
-        if let Some(user) = roster.at(place) {
-            masks.push(roles.mask_below(user.roles.as_slice()))?;
-        }
+    let mut masks = Vec::with_capacity(roles.allocator(), users.len())?;
+    for user in users {
+        masks.push(roles.mask_below(user.get().roles.as_slice()))?;
     }
     Ok(masks)
 }
@@ -141,7 +139,7 @@ impl Users {
     fn of(roles: &Roles, roster: Arc<Roster>) -> Result<Users, AllocError>
         ensures { IfOk result (AreUsers roles.now roster.value) }
     {
-        let masks = masks_of(roles, &roster)?;
+        let masks = masks_of(roles, roster.values())?;
         Users::with_masks(roles, roster, masks)
     }
 

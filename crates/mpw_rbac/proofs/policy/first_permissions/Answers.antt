@@ -7,6 +7,6 @@ use Rattle.mpw_rbac.proofs.policy.first_permissions.Goals as goal
 
 pub new-requires : goal.new-requires
 new-requires c =
-    (λ i. is_role (c.in_ok-roles.ensures.ok i)
+    (λ i. is_role (c.in_ok-roles.ensures i)
     (ap (λ (g : Grant). g.role) c.first_grant-grant.ensures i))
     ∙ ap (λ b. b || false) (name_eq-refl c.args.role)

@@ -1,12 +1,9 @@
-use Rattle.std.proofs.Common.{◌≡◌, ◌<◌, ℕ, [], length}
-use Rattle.std.specs.Prelude.{slice_index_or}
-use Rattle.mpw_roles.specs.Places.{mask_at}
-use Rattle.mpw_rbac.specs.Masked.{IsBelow}
-use Rattle.mpw_rbac.specs.Policy.{assigned_lists}
+use Rattle.std.proofs.Common.{take, map}
+use Rattle.mpw_rbac.specs.Masked.{AreBelow}
+use Rattle.mpw_rbac.specs.declared.session.User.{User}
 use Rattle.mpw_rbac.proofs.users.masks_of.Given as goal
 
 -- the masks so far are those of the first users
-abbrev pub invariant-loop-place : goal.invariant-loop-place
-invariant-loop-place l =
-    (length l.masks.items ≡ l.place) × ((k : ℕ) → k < l.place
-    → IsBelow l.roles (slice_index_or (assigned_lists l.roster) k []) (mask_at l.masks.items k))
+abbrev pub invariant-loop-user : goal.invariant-loop-user
+invariant-loop-user l =
+    AreBelow l.roles (map (λ (u : User). u.roles) (take l.user-index l.users)) l.masks.items
