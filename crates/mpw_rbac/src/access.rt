@@ -5,7 +5,6 @@ ghost use Rattle.mpw_roles.specs.Mask.{has};
 ghost use Rattle.mpw_roles.specs.Order.{roles_below};
 ghost use Rattle.mpw_roles.specs.Places.{is_place_below};
 ghost use Rattle.mpw_rbac.specs.Policy.{is_granted_to, permits};
-ghost use Rattle.mpw_rbac.specs.Rows.{active_roles};
 
 use crate::{Object, Operation, Policy};
 use mpw_roles::Mask;
@@ -55,15 +54,8 @@ impl Policy {
             policy: self,
             connection,
             operation,
-            acting: self.acting(connection),
+            acting: self.sessions.acting(connection),
         }
-    }
-
-    /// The places of the roles that act in the connection's session; none where it has no session.
-    fn acting(&self, connection: u32) -> Mask
-        ensures { (place : ℕ) → has result place ≡ is_place_below self.now.roles (active_roles self.now connection) place }
-    {
-        self.sessions.acting(connection)
     }
 
     /// Whether the operation on the object was granted to one of the roles of a mask.

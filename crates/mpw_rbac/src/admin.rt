@@ -37,7 +37,7 @@ impl Policy {
         let roles = Names::new(self.sessions.allocator());
         let users = self
             .users
-            .with(self.permissions.roles(), user, User { digest, roles })?;
+            .with(self.permissions.roles(), &user, User { digest, roles })?;
         self.users = users;
         Ok(())
     }
@@ -152,9 +152,7 @@ impl Policy {
         if let Some(name) = self.broken_by_assigned(assigned.roles.as_slice()) {
             return Err(PolicyFault::Refused(Refusal::Ssd(name.copy()?)));
         }
-        let users = self
-            .users
-            .with(self.permissions.roles(), user.copy()?, assigned)?;
+        let users = self.users.with(self.permissions.roles(), user, assigned)?;
         self.users = users;
         Ok(())
     }
@@ -193,7 +191,7 @@ impl Policy {
         }
         let assigned = self.assigned_without(user, role)?;
         let roles = self.permissions.roles();
-        let users = self.users.with(roles, user.copy()?, assigned)?;
+        let users = self.users.with(roles, user, assigned)?;
         self.sessions.trim(&users, roles);
         self.users = users;
         Ok(())

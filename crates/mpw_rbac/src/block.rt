@@ -100,11 +100,12 @@ fn with_grant(alloc: Global, grants: &[Grant], grant: &Grant) -> Result<Vec<Gran
 fn has(grants: &[Grant], grant: &Grant) -> bool
     ensures { result ≡ list_any (grant_eq grant.now) grants.now }
 {
-    grants.iter().any(
-        |other: &Grant| -> bool
-            ensures { result ≡ grant_eq grant.entry.now other.now }
-        { *grant == *other },
-    )
+    for other in grants {
+        if *grant == *other {
+            return true;
+        }
+    }
+    false
 }
 
 /// The grant goes.
@@ -206,8 +207,7 @@ impl Block {
         ensures { IfOk result (λ block. block ≡ without_grant self.now grant.now) }
     {
         if !self.contains(slots, grant) {
-            let same = self.clone()?;
-            return Ok(same);
+            return self.clone();
         }
         let (objects, roles) = (self.objects, self.roles);
         let mut grants = copy_of_all(alloc, self.as_slice())?;

@@ -126,8 +126,7 @@ fn keep(masks: &mut Vec<Held>, object: &Object, mask: &Mask) -> Result<(), Alloc
     if !mask.meets(mask) {
         return Ok(());
     }
-    add(masks, object, mask)?;
-    Ok(())
+    add(masks, object, mask)
 }
 
 /// The mask of an object goes.
@@ -146,8 +145,7 @@ fn write(masks: &mut Vec<Held>, object: &Object, mask: &Mask) -> Result<(), Allo
     ensures { OnOk result ((other : ObjectState) (place : ℕ) → holds_in masks.new.items other place ≡ (if object_eq object.now other then has mask.now place else holds_in masks.old.items other place)) }
 {
     take_out(masks, object);
-    keep(masks, object, mask)?;
-    Ok(())
+    keep(masks, object, mask)
 }
 
 impl Bucket {
@@ -178,8 +176,7 @@ impl Bucket {
         ensures { OnOk result ((other : ObjectState) (place : ℕ) → holds_in self.new other place ≡ (if object_eq object.now other then has mask.now place else holds_in self.old other place)) }
     {
         if let Some(masks) = Arc::get_mut(&mut self.masks) {
-            write(masks, object, mask)?;
-            return Ok(());
+            return write(masks, object, mask);
         }
         let mut masks = self.masks.to_vec(alloc)?;
         write(&mut masks, object, mask)?;

@@ -136,8 +136,7 @@ fn shared_without(
     ensures { IfOk result (λ left. flat_map (λ block. block) left.value.items ≡ without_grant (flat_map (λ block. block) blocks.now.value.items) grant.now) }
 {
     if !is_among(blocks, slots, grant) {
-        let same = blocks.clone()?;
-        return Ok(same);
+        return blocks.clone();
     }
     let left = blocks_without(alloc, blocks, slots, grant)?;
     Ok(Arc::new(alloc, left)?)

@@ -82,8 +82,7 @@ fn write(
     ensures long { length buckets.new.items ≡ length buckets.old.items }
     ensures put { OnOk result ((other : ObjectState) (k : ℕ) → holds_within buckets.new.items other k ≡ (if object_eq object.now other then has mask.now k else holds_within buckets.old.items other k)) }
 {
-    buckets[place.bucket].put(alloc, object, mask)?;
-    Ok(())
+    buckets[place.bucket].put(alloc, object, mask)
 }
 
 impl Group {
@@ -121,8 +120,7 @@ impl Group {
         ensures { OnOk result ((other : ObjectState) (k : ℕ) → holds_within self.new other k ≡ (if object_eq object.now other then has mask.now k else holds_within self.old other k)) }
     {
         if let Some(buckets) = Arc::get_mut(&mut self.buckets) {
-            write(alloc, buckets, place, object, mask)?;
-            return Ok(());
+            return write(alloc, buckets, place, object, mask);
         }
         let mut buckets = self.buckets.to_vec(alloc)?;
         write(alloc, &mut buckets, place, object, mask)?;

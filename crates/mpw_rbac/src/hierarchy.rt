@@ -151,29 +151,12 @@ impl Policy {
         ensures dynamic_sets { OnOk result (least_broken roles.now self.now.dsd (active_lists self.now.sessions) ≡ None) }
         ensures refused { IfErr result (IsFaultOf (holding self.now roles.now)) }
     {
-        if let Some(name) = self.broken_static(roles, users) {
+        if let Some(name) = least_static(&self.sets, roles, users) {
             return Err(PolicyFault::Refused(Refusal::Ssd(name.copy()?)));
         }
-        if let Some(name) = self.broken_dynamic(roles) {
+        if let Some(name) = least_dynamic(&self.sets, roles, self.sessions.table()) {
             return Err(PolicyFault::Refused(Refusal::Dsd(name.copy()?)));
         }
         Ok(())
-    }
-
-    /// The least name of the static sets that some user would break in another hierarchy of the same roles.
-    fn broken_static(&self, roles: &Roles, users: &Users) -> Option<&Name>
-        requires roles { role_names roles.now ≡ role_names self.now.roles }
-        requires users { AreUsers roles.now self.now.users users.now }
-        ensures { option_copied result ≡ least_broken roles.now self.now.ssd (assigned_lists self.now.users) }
-    {
-        least_static(&self.sets, roles, users)
-    }
-
-    /// The least name of the dynamic sets that some session would break in another hierarchy of the same roles.
-    fn broken_dynamic(&self, roles: &Roles) -> Option<&Name>
-        requires { role_names roles.now ≡ role_names self.now.roles }
-        ensures { option_copied result ≡ least_broken roles.now self.now.dsd (active_lists self.now.sessions) }
-    {
-        least_dynamic(&self.sets, roles, self.sessions.table())
     }
 }

@@ -20,6 +20,7 @@ use mpw_lists::Shared;
 use mpw_roles::{Mask, Roles};
 use std::alloc::{AllocError, Global};
 use std::marker::Model;
+use std::sync::Arc;
 
 /// The number of operations.
 const OPERATIONS: usize = 11;
@@ -115,8 +116,7 @@ impl Holders {
     {
         let alloc = *self.groups.allocator();
         let place = Place::of(object);
-        self.groups[place.group].put(alloc, place, object, mask)?;
-        Ok(())
+        self.groups[place.group].put(alloc, place, object, mask)
     }
 
     /// One grant more or less, which counts where it is of the operation with that place among all.
@@ -137,8 +137,7 @@ impl Holders {
             return Ok(());
         };
         let mask = with_place(&self.of(&grant.object), place, more);
-        self.put(&grant.object, &mask)?;
-        Ok(())
+        self.put(&grant.object, &mask)
     }
 }
 
@@ -164,8 +163,7 @@ fn after(
     ensures { IfOk result (λ next. IsHeldAfter more (role_names roles.now) grant.now operation shared.now next) }
 {
     if operation != index(grant.operation) {
-        let same = shared.copy()?;
-        return Ok(same);
+        return shared.copy();
     }
     let mut holders = shared.get().copy()?;
     holders.change(roles, operation, grant, more)?;
@@ -178,15 +176,16 @@ pub(crate) fn holders_after(
     all: &[SharedHolders],
     grant: &Grant,
     more: bool,
-) -> Result<Vec<SharedHolders>, AllocError>
+) -> Result<Arc<Vec<SharedHolders>>, AllocError>
     requires { length all.now ≡ 11 }
-    ensures { IfOk result (λ next. AreHeldAfter more (role_names roles.now) grant.now all.now next.items) }
+    ensures { IfOk result (λ next. AreHeldAfter more (role_names roles.now) grant.now all.now next.value.items) }
 {
-    let mut next = Vec::with_capacity(roles.allocator(), OPERATIONS)?;
+    let alloc = roles.allocator();
+    let mut next = Vec::with_capacity(alloc, OPERATIONS)?;
     for operation in 0..OPERATIONS {
         next.push(after(&all[operation], roles, operation, grant, more)?)?;
     }
-    Ok(next)
+    Ok(Arc::new(alloc, next)?)
 }
 
 /// Adds the grants of a block to the holders of the operation with that place among all.
@@ -225,26 +224,14 @@ fn holders_of(
     roles: &Roles,
     granted: &Grants,
     operation: usize,
-) -> Result<Holders, AllocError>
+) -> Result<SharedHolders, AllocError>
     ensures { IfOk result (λ holders. IsHeld (role_names roles.now) granted.now operation holders) }
 {
     let mut holders = Holders::new(alloc)?;
     let (blocks, last) = granted.parts();
     add_blocks(&mut holders, roles, operation, blocks)?;
     add_all(&mut holders, roles, operation, last)?;
-    Ok(holders)
-}
-
-/// The holders of the operation with that place among all, shared.
-fn shared_holders_of(
-    alloc: Global,
-    roles: &Roles,
-    granted: &Grants,
-    operation: usize,
-) -> Result<SharedHolders, AllocError>
-    ensures { IfOk result (λ holders. IsHeld (role_names roles.now) granted.now operation holders) }
-{
-    Shared::new(alloc, holders_of(alloc, roles, granted, operation)?)
+    Shared::new(alloc, holders)
 }
 
 /// The holders of each operation. A pass over the grants for each.
@@ -252,12 +239,12 @@ pub(crate) fn all_holders(
     alloc: Global,
     roles: &Roles,
     granted: &Grants,
-) -> Result<Vec<SharedHolders>, AllocError>
-    ensures { IfOk result (λ all. AreHeld (role_names roles.now) granted.now all.items) }
+) -> Result<Arc<Vec<SharedHolders>>, AllocError>
+    ensures { IfOk result (λ all. AreHeld (role_names roles.now) granted.now all.value.items) }
 {
     let mut all = Vec::with_capacity(alloc, OPERATIONS)?;
     for operation in 0..OPERATIONS {
-        all.push(shared_holders_of(alloc, roles, granted, operation)?)?;
+        all.push(holders_of(alloc, roles, granted, operation)?)?;
     }
-    Ok(all)
+    Ok(Arc::new(alloc, all)?)
 }

@@ -13,7 +13,7 @@ ghost use Rattle.mpw_roles.specs.Order.{roles_below};
 ghost use Rattle.mpw_roles.specs.Places.{is_place_below};
 ghost use Rattle.mpw_rbac.specs.Grant.{grant_eq};
 ghost use Rattle.mpw_rbac.specs.Internal.Grants.{without_grant};
-ghost use Rattle.mpw_rbac.specs.Internal.Holders.{are_to_roles, grants_after, AreHeld, AreHeldAfter, AreMoreNames};
+ghost use Rattle.mpw_rbac.specs.Internal.Holders.{are_to_roles, grants_after, AreMoreNames};
 ghost use Rattle.mpw_rbac.specs.Policy.{is_granted_to};
 ghost use Rattle.mpw_rbac.specs.Rows.{ungranted};
 
@@ -57,37 +57,13 @@ impl Model for Permissions {
     ghost invariant = { λ p. ArePermissions (role_names p.roles.value) p.granted p.holders.value.items };
 }
 
-/// The masks of each operation, shared.
-fn shared_holders(
-    alloc: Global,
-    roles: &Roles,
-    granted: &Grants,
-) -> Result<Arc<Vec<SharedHolders>>, AllocError>
-    ensures { IfOk result (λ all. AreHeld (role_names roles.now) granted.now all.value.items) }
-{
-    Ok(Arc::new(alloc, all_holders(alloc, roles, granted)?)?)
-}
-
-/// The masks of each operation after one grant more or less.
-fn shared_holders_after(
-    roles: &Roles,
-    all: &[SharedHolders],
-    grant: &Grant,
-    more: bool,
-) -> Result<Arc<Vec<SharedHolders>>, AllocError>
-    requires { length all.now ≡ 11 }
-    ensures { IfOk result (λ next. AreHeldAfter more (role_names roles.now) grant.now all.now next.value.items) }
-{
-    Ok(Arc::new(roles.allocator(), holders_after(roles, all, grant, more)?)?)
-}
-
 impl Permissions {
     /// These roles and grants.
     fn of(alloc: Global, roles: Arc<Roles>, granted: Grants) -> Result<Permissions, AllocError>
         requires { are_to_roles (role_names roles.value) granted ≡ true }
         ensures { IfOk result (λ next. next ≡ record { roles = roles.value; granted = granted }) }
     {
-        let holders = shared_holders(alloc, &roles, &granted)?;
+        let holders = all_holders(alloc, &roles, &granted)?;
         Ok(Permissions {
             roles,
             granted,
@@ -162,7 +138,7 @@ impl Permissions {
         requires { more ≡ true → is_role self.now.roles grant.now.role ≡ true }
         ensures { IfOk result (λ next. next ≡ record self.now { granted = grants_after more self.now.granted grant.now }) }
     {
-        let holders = shared_holders_after(&self.roles, &self.holders, grant, more)?;
+        let holders = holders_after(&self.roles, &self.holders, grant, more)?;
         let granted = self.granted.after(self.roles.allocator(), grant, more)?;
         let roles = self.roles.clone()?;
         Ok(Permissions {

@@ -74,14 +74,14 @@ impl Policy {
     pub(crate) fn user(&self, user: &Name) -> Option<&User>
         ensures { option_copied result ≡ value_at name_eq self.now.users user.now }
     {
-        self.users.get(user)
+        self.users.roster().get(user)
     }
 
     /// Whether that is a user.
     pub(crate) fn is_user(&self, user: &Name) -> bool
         ensures { result ≡ is_user self.now user.now }
     {
-        self.users.contains(user)
+        self.users.roster().contains(user)
     }
 
     /// Whether that is a role.
@@ -112,7 +112,7 @@ impl Policy {
     pub(crate) fn has_room_for_user(&self) -> bool
         ensures { result ≡ nat_lt (length self.now.users) max_users }
     {
-        self.users.len() < MAX_USERS
+        self.users.roster().len() < MAX_USERS
     }
 
     /// Whether one more grant fits.
@@ -221,7 +221,7 @@ fn first_users(
         digest,
         roles: assigned,
     };
-    Users::new(roles)?.with(roles, officer, value)
+    Users::new(roles)?.with(roles, &officer, value)
 }
 
 /// The grant of a new desk: that the officer may administer it.

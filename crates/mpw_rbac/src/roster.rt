@@ -116,20 +116,19 @@ fn put(
     alloc: Global,
     names: &mut Register,
     values: &mut Vec<SharedUser>,
-    user: Name,
+    user: &Name,
     value: SharedUser,
 ) -> Result<(), AllocError>
     requires { length names.old ≡ length values.old.items }
-    ensures put { OnOk result (zip names.new values.new.items ≡ insert_entry name_eq (zip names.old values.old.items) user value) }
+    ensures put { OnOk result (zip names.new values.new.items ≡ insert_entry name_eq (zip names.old values.old.items) user.now value) }
     ensures long { OnOk result (length names.new ≡ length values.new.items) }
 {
-    if let Some(number) = names.number(&user) {
+    if let Some(number) = names.number(user) {
         values[number] = value;
         return Ok(());
     }
-    names.push(alloc, user)?;
     values.push(value)?;
-    Ok(())
+    names.push(alloc, user.copy()?)
 }
 
 impl Roster {
@@ -202,8 +201,8 @@ impl Roster {
     }
 
     /// Takes another value of a user, who goes last where there is none with that name.
-    fn put(self, alloc: Global, user: Name, value: SharedUser) -> Result<Roster, AllocError>
-        ensures { IfOk result (λ roster. roster ≡ insert_entry name_eq self user value) }
+    fn put(self, alloc: Global, user: &Name, value: SharedUser) -> Result<Roster, AllocError>
+        ensures { IfOk result (λ roster. roster ≡ insert_entry name_eq self user.now value) }
     {
         let Roster {
             mut names,
@@ -214,8 +213,8 @@ impl Roster {
     }
 
     /// The users with one more, or with another value of one: a count for each.
-    pub(crate) fn with(&self, alloc: Global, user: Name, value: User) -> Result<Roster, AllocError>
-        ensures { IfOk result (λ roster. roster ≡ insert_entry name_eq self.now user value) }
+    pub(crate) fn with(&self, alloc: Global, user: &Name, value: User) -> Result<Roster, AllocError>
+        ensures { IfOk result (λ roster. roster ≡ insert_entry name_eq self.now user.now value) }
     {
         let value = Shared::new(alloc, value)?;
         self.copy(alloc)?.put(alloc, user, value)

@@ -270,11 +270,12 @@ impl Policy {
     fn are_roles(&self, names: &[Name]) -> bool
         ensures { result ≡ list_all (is_role self.now.roles) names.now }
     {
-        names.iter().all(
-            |name: &Name| -> bool
-                ensures { result ≡ is_role self.entry.now.roles name.now }
-            { self.is_role(name) },
-        )
+        for name in names {
+            if !self.is_role(name) {
+                return false;
+            }
+        }
+        true
     }
 
     /// Whether some user breaks the static set, or some session the dynamic one.

@@ -15,6 +15,15 @@ use mpw_roles::Below;
 use mpw_separation::Kind;
 use std::alloc::AllocError;
 
+/// The names in their order.
+fn sorted(names: Names) -> Result<Names, AllocError>
+    ensures { IfOk result (λ sorted. sorted ≡ by_name names) }
+{
+    let mut names = names;
+    names.sort()?;
+    Ok(names)
+}
+
 impl Policy {
     /// Begins the connection's session for a user, without active roles (CreateSession).
     ///
@@ -139,9 +148,15 @@ impl Policy {
         let Some(session) = self.session(connection) else {
             return Err(PolicyFault::Refused(Refusal::NoSession));
         };
+        Ok(self.identity(session)?)
+    }
+
+    /// What a session is told of itself.
+    fn identity(&self, session: &Session) -> Result<Identity, AllocError>
+        ensures { IfOk result (λ identity. identity ≡ identity_of self.now session.now) }
+    {
         let user = session.user.copy()?;
-        let mut active = session.active.copy()?;
-        active.sort()?;
+        let active = sorted(session.active.copy()?)?;
         let authorized = self.authorized_by_name(&session.user)?;
         Ok(Identity {
             user,
@@ -167,20 +182,13 @@ impl Policy {
         }
     }
 
-    /// Whether the user is authorized for the role.
-    fn is_authorized(&self, user: &Name, role: &Name) -> bool
-        ensures { result ≡ contains_name (authorized self.now user.now) role.now }
-    {
-        self.below_authorized(user).contains(role)
-    }
-
     /// Whether the user of the connection's session is authorized for the role.
     fn may_activate(&self, connection: u32, role: &Name) -> bool
         requires { is_some (session_of self.now connection) ≡ true }
         ensures { result ≡ contains_name (authorized self.now (user_of self.now connection)) role.now }
     {
         match self.session(connection) {
-            Some(session) => self.is_authorized(&session.user, role),
+            Some(session) => self.below_authorized(&session.user).contains(role),
             None => false,
         }
     }
@@ -204,9 +212,10 @@ impl Policy {
         let Some(session) = self.session(connection) else {
             return Err(AllocError);
         };
-        let user = session.user.copy()?;
+        let added = role.copy()?;
         let mut active = session.active.copy()?;
-        active.push(role.copy()?)?;
+        active.push(added)?;
+        let user = session.user.copy()?;
         let mut acting = self.sessions.acting(connection);
         acting.add(&self.permissions.roles().mask(role));
         Ok(Active {
@@ -250,10 +259,8 @@ impl Policy {
     fn authorized_by_name(&self, user: &Name) -> Result<Names, AllocError>
         ensures { IfOk result (λ names. names ≡ by_name (authorized self.now user.now)) }
     {
-        let mut names = self
-            .below_authorized(user)
-            .names(self.sessions.allocator())?;
-        names.sort()?;
-        Ok(names)
+        let below = self.below_authorized(user);
+        let names = below.names(self.sessions.allocator())?;
+        sorted(names)
     }
 }

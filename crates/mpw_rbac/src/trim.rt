@@ -32,5 +32,5 @@ pub(crate) fn keep(users: &Users, roles: &Roles, session: &mut Session) -> bool
 {
     let below = roles.at_places(&users.authorized_places(&session.user));
     keep_below(&below, &mut session.active, Names::new(roles.allocator()));
-    users.contains(&session.user)
+    users.roster().contains(&session.user)
 }

@@ -5,7 +5,7 @@
 //! user's mask, and a pair more joins the junior's mask into those that need it; any other change of roles makes them
 //! anew, a look-up for each assigned role.
 ghost use Rattle.std.specs.Prelude.{◌≡◌, ◌||◌, ◌&&◌, ◌<◌, ◌++◌, ◌∷◌, [], ℕ, List, length, map, slice_set, true, IfOk, IfSome};
-ghost use Rattle.std.specs.Option.{option_copied, option_map_or};
+ghost use Rattle.std.specs.Option.{option_map_or};
 ghost use Rattle.indexmap.specs.IndexMap.{insert_entry};
 ghost use Rattle.mpw_geom.specs.Names.{name_eq};
 ghost use Rattle.mpw_roles.specs.Hierarchy.{Hierarchy, is_role, with_pair};
@@ -15,7 +15,7 @@ ghost use Rattle.mpw_rbac.specs.Masked.{AreAuthorized, AreBelow, AreUsers, IsBel
 ghost use Rattle.mpw_rbac.specs.Policy.{assigned_lists, assigned_roles};
 ghost use Rattle.mpw_rbac.specs.Internal.Policy.{users_and_roles};
 ghost use Rattle.mpw_rbac.specs.Rows.{unassigned};
-ghost use Rattle.mpw_rbac.specs.Table.{has_key, value_at, without_key};
+ghost use Rattle.mpw_rbac.specs.Table.{without_key};
 ghost use Rattle.mpw_rbac.specs.declared.session.User.{User as UserState};
 
 use crate::User;
@@ -66,10 +66,10 @@ fn masks_of(roles: &Roles, users: &[SharedUser]) -> Result<Vec<Mask>, AllocError
 fn with_user(
     alloc: Global,
     roster: &Roster,
-    user: Name,
+    user: &Name,
     value: User,
 ) -> Result<Arc<Roster>, AllocError>
-    ensures { IfOk result (λ next. next.value ≡ insert_entry name_eq roster.now user value) }
+    ensures { IfOk result (λ next. next.value ≡ insert_entry name_eq roster.now user.now value) }
 {
     Ok(Arc::new(alloc, roster.with(alloc, user, value)?)?)
 }
@@ -151,25 +151,11 @@ impl Users {
         Users::of(roles, Arc::new(alloc, Roster::new(alloc))?)
     }
 
-    /// The number of users.
-    pub(crate) fn len(&self) -> usize
-        ensures { result ≡ length self.now.users }
+    /// The users without their masks.
+    pub(crate) fn roster(&self) -> &Roster
+        ensures { result.now ≡ self.now.users }
     {
-        self.roster.len()
-    }
-
-    /// What is known of a user: a look-up.
-    pub(crate) fn get(&self, user: &Name) -> Option<&User>
-        ensures { option_copied result ≡ value_at name_eq self.now.users user.now }
-    {
-        self.roster.get(user)
-    }
-
-    /// Whether that is a user: a look-up.
-    pub(crate) fn contains(&self, user: &Name) -> bool
-        ensures { result ≡ has_key name_eq self.now.users user.now }
-    {
-        self.roster.contains(user)
+        &self.roster
     }
 
     /// The masks of the users, each at its user's place.
@@ -187,13 +173,13 @@ impl Users {
     }
 
     /// The users with one more, or with another value of one: a count for each user, and a copy of the masks.
-    pub(crate) fn with(&self, roles: &Roles, user: Name, value: User) -> Result<Users, AllocError>
+    pub(crate) fn with(&self, roles: &Roles, user: &Name, value: User) -> Result<Users, AllocError>
         requires { AreAuthorized roles.now self.now }
-        ensures { IfOk result (AreUsers roles.now (insert_entry name_eq self.now.users user value)) }
+        ensures { IfOk result (AreUsers roles.now (insert_entry name_eq self.now.users user.now value)) }
     {
         let alloc = roles.allocator();
         let mask = roles.mask_below(value.roles.as_slice());
-        let place = self.roster.place(&user);
+        let place = self.roster.place(user);
         let roster = with_user(alloc, &self.roster, user, value)?;
         let masks = masks_with(alloc, &self.masks, place, mask)?;
         Users::with_masks(roles, roster, masks)
@@ -242,11 +228,9 @@ impl Users {
         ensures { IfOk result (AreUsers (with_pair roles.now senior.now junior.now) self.now.users) }
     {
         let masks = joined_masks(roles, &self.masks, senior, junior)?;
+        let masks = Arc::new(roles.allocator(), masks)?;
         let roster = self.roster.clone()?;
-        Ok(Users {
-            roster,
-            masks: Arc::new(roles.allocator(), masks)?,
-        })
+        Ok(Users { roster, masks })
     }
 
     /// The same users with the same masks: two counts.

@@ -1,12 +1,14 @@
 -- The names that are kept are those below the user's assigned roles.
 use Rattle.std.proofs.Common.{◌∙◌, ap, filter}
-use Rattle.mpw_geom.specs.Names.{contains_name}
+use Rattle.mpw_geom.specs.Names.{name_eq, contains_name}
 use Rattle.mpw_rbac.specs.Policy.{assigned_roles}
 use Rattle.mpw_rbac.specs.Internal.Policy.{users_and_roles}
+use Rattle.mpw_rbac.specs.Table.{has_key}
 use Rattle.mpw_rbac.proofs.trim.keep.Goals as goal
 
 pub returns-clause-user : goal.returns-clause-user
 returns-clause-user c = c.contains.ensures
+    ∙ ap (λ us. has_key name_eq us c.args.session.now.user) c.roster.ensures
 
 pub returns-clause-kept : goal.returns-clause-kept
 returns-clause-kept c = λ right.

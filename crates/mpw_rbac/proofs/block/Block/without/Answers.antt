@@ -1,13 +1,16 @@
 -- The slots of fewer grants are there.
 use Rattle.std.proofs.Common.{◌≡◌, ◌∙◌, sym, ap, subst, not}
+use Rattle.std.proofs.lemmas.Result.{MatchResult-weaker}
 use Rattle.mpw_rbac.specs.Grant.{grant_eq}
 use Rattle.mpw_rbac.specs.Internal.Grants.{AreCovered, without_grant}
 use Rattle.mpw_rbac.proofs.BlockLemmas.{covered-less, without-none}
 use Rattle.mpw_rbac.proofs.block.Block.without.Goals as goal
 
 pub returns-then-not-contains : goal.returns-then-not-contains
-returns-then-not-contains c = c.in_ok-same.ensures.cases ∙ without-none c.args.self.now c.args.grant.now
-    (sym c.contains.ensures ∙ c.if-not-contains.true)
+returns-then-not-contains c =
+    let none = without-none c.args.self.now c.args.grant.now
+    (sym c.contains.ensures ∙ c.if-not-contains.true) in
+    MatchResult-weaker c.clone.result c.clone.ensures.cases (λ same is. is ∙ none) (λ _ _. tt)
 
 pub of-requires : goal.of-requires
 of-requires c =

@@ -51,7 +51,7 @@ accepted c =
     let is : users ≡ insert_entry name_eq q.users user
     (record { digest = rows.digest_of_user q user; roles = assigned_roles q user ++ role ∷ [] }) =
     c.in_ok-users.ensures.same ∙ (λ i. insert_entry name_eq (c.self.view_is i).users
-    (c.in_ok-copy-2.ensures i) (c.in_ok-assigned.ensures i)) in
+    user (c.in_ok-assigned.ensures i)) in
     let row =
     assign-ok q c.args.connection c.in_ok-may_assign.ensures.administered user role users t.0 t.1 t.2
     (t.3 ∙ sym c.in_default.ensures) is in

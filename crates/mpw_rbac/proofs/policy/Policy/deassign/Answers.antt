@@ -35,7 +35,7 @@ left c =
       roles = without_name (assigned_roles q user) role;
     }) =
     c.in_ok-users.ensures.same ∙ (λ i. insert_entry name_eq (c.self.view_is i).users
-    (c.in_ok-copy.ensures i) (c.in_ok-assigned.ensures i))
+    user (c.in_ok-assigned.ensures i))
     ∙ insert-present name_eq q.users user _ (assigned-user q user role there) in
     let sessions = c.trim.ensures.kept ∙ (λ i. kept_sessions
     (users_and_roles (assigned i) ((c.roles-roles.ensures

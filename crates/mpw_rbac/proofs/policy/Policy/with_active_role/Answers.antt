@@ -20,7 +20,7 @@ returns-clause-acting c = λ place.
     ap (λ (o : Option Session). option_map_or (λ (s : Session). s.active) o []) c.in-Some.ensures
     ∙ ap (λ (q : Policy). rows.active_roles q c.args.connection) (sym c.self.view_is) in
     let pushed : c.push.new.self ≡ before ++ role ∷ [] = c.in_ok-push.ensures.ok
-    ∙ (λ i. (c.in_ok-active.ensures ∙ found) i ++ c.in_ok-copy.ensures i ∷ []) in
+    ∙ (λ i. (c.in_ok-active.ensures ∙ found) i ++ c.in_ok-added.ensures i ∷ []) in
     c.add.ensures place
     ∙ (λ i. c.acting-acting.ensures h c.self.invariant.acting place i
     || (c.mask.ensures place ∙ ap (λ k. is_place_under k role place) c.roles.ensures) i)

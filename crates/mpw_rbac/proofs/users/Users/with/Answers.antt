@@ -17,7 +17,7 @@ use Rattle.mpw_rbac.proofs.users.Users.with.Goals as goal
 pub with_masks-requires : goal.with_masks-requires
 with_masks-requires c =
     let h = c.args.roles.now in
-    let user = c.args.user in
+    let user = c.args.user.now in
     let value = c.args.value in
     let mask = c.mask_below-mask.result in
     let us = c.self.inside.roster.value in
