@@ -1,9 +1,10 @@
 -- The first place at which a test passes.
-use Rattle.std.proofs.Common.{◌≡◌, ℕ, zero, suc, ◌+◌, ◌<◌, Bool, true, false, cond, not, ◌||◌, inl, inr, List, [], ◌∷◌, ◌++◌, length, get_or, None, Some, is_some, refl, sym, ap, ◌∙◌, arith}
+use Rattle.std.proofs.Common.{◌≡◌, ℕ, zero, suc, ◌+◌, ◌<◌, Bool, true, false, cond, not, ◌||◌, inl, inr, List, [], ◌∷◌, ◌++◌, length, get_or, take, Option, None, Some, is_some, refl, sym, ap, ◌∙◌, true≢false, arith}
 use Rattle.std.specs.Prelude.{nat_lt, position, slice_get}
 use Rattle.std.specs.List.{list_any, position_or_len}
 use Rattle.std.specs.Option.{option_map}
 use Rattle.std.proofs.lemmas.Bool.{cases_lt, lt-ltb, le-ltb}
+use Rattle.mpw_roles.proofs.BoolLemmas.{neither}
 
 module _ {X : Type 0} where
   -- an item that is there is the one at its place
@@ -47,6 +48,25 @@ module _ {X : Type 0} where
       mapped : (o : _) → is_some (option_map suc o) ≡ is_some o
       mapped None = refl
       mapped (Some i) = refl
+
+  pub position-none : (p : X → Bool) (xs : List X) → list_any p xs ≡ false → None ≡ position p xs
+  position-none p xs none = never (position p xs) (position-any p xs ∙ none)
+    where
+      never : (o : Option ℕ) → is_some o ≡ false → None ≡ o
+      never None is = refl
+      never (Some i) is = absurd (true≢false is)
+
+  pub position-first : (p : X → Bool) (xs : List X) (i : ℕ) (d : X) → i < length xs
+      → list_any p (take i xs) ≡ false → p (get_or xs i d) ≡ true → Some i ≡ position p xs
+  position-first p [] i d inside none here = absurd (omega arith)
+  position-first p (x ∷ xs) zero d inside none here =
+      sym (position-cons p x xs
+      ∙ ap (λ b. cond b (Some 0) (option_map suc (position p xs))) here)
+  position-first p (x ∷ xs) (suc i) d inside none here =
+      let apart = neither (p x) (list_any p (take i xs)) none in
+      ap (option_map suc) (position-first p xs i d (omega arith) apart.1 here)
+      ∙ sym (position-cons p x xs
+      ∙ ap (λ b. cond b (Some 0) (option_map suc (position p xs))) apart.0)
 
   -- in two lists
   pub position-left : (p : X → Bool) (xs ys : List X) (i : ℕ) → position p xs ≡ Some i

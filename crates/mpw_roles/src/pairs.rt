@@ -14,11 +14,12 @@ pub(crate) struct Pair {
 pub(crate) fn has_pair(pairs: &[Pair], senior: usize, junior: usize) -> bool
     ensures { result ≡ list_any (is_pair senior junior) pairs.now }
 {
-    pairs.iter().any(
-        |pair: &Pair| -> bool
-            ensures { result ≡ is_pair senior junior pair.now }
-        { (senior == pair.senior) & (junior == pair.junior) },
-    )
+    for pair in pairs {
+        if (senior == pair.senior) & (junior == pair.junior) {
+            return true;
+        }
+    }
+    false
 }
 
 /// The pair of two numbers goes. It takes no memory.
@@ -64,9 +65,10 @@ pub(crate) fn place_of(order: &[usize], number: usize) -> Option<usize>
             return Some(number);
         }
     }
-    order.iter().position(
-        |other: &usize| -> bool
-            ensures { result ≡ number == other.now }
-        { number == *other },
-    )
+    for place in 0..order.len() {
+        if order[place] == number {
+            return Some(place);
+        }
+    }
+    None
 }

@@ -45,11 +45,12 @@ impl Model for Register {
 fn place_among(names: &[Name], name: &Name) -> Option<usize>
     ensures { result ≡ position (name_eq name.now) names.now }
 {
-    names.iter().position(
-        |other: &Name| -> bool
-            ensures { result ≡ name_eq name.entry.now other.now }
-        { *name == *other },
-    )
+    for place in 0..names.len() {
+        if *name == names[place] {
+            return Some(place);
+        }
+    }
+    None
 }
 
 /// Takes the latest names into the set where there is no place for one more. Where there is no memory, all stay where they

@@ -110,8 +110,9 @@ impl Table {
         ensures { IfOk result (λ table. table ≡ self.now) }
     {
         let alloc = self.allocator();
-        let names = names_with(alloc, &self.names, &self.order)?;
-        let names = Register::of_names(alloc, names.as_slice())?;
+        let listed = names_with(alloc, &self.names, &self.order)?;
+        let names = Register::of_names(alloc, listed.as_slice())?;
+        drop(listed);
         let order = numbers(alloc, self.order.len())?;
         let pairs = placed_pairs(alloc, &self.order, &self.pairs)?;
         Ok(Table {

@@ -12,14 +12,14 @@ pub of_names-requires : goal.of_names-requires
 of_names-requires c =
     let in' = c.self.inside in
     let inv = c.self.invariant in
-    ap are_distinct (c.as_slice.ensures ∙ c.in_ok-names.ensures
+    ap are_distinct (c.as_slice.ensures ∙ c.in_ok-listed.ensures
     ∙ ap (map (name_of in'.names)) c.deref.ensures.value)
     ∙ distinct-numbered in'.names in'.order.items inv.known inv.names_once inv.once
 
 -- the names, the numbers and the pairs
 names : (c : In_ok-pairs) → map (name_of c.self.inside.names) c.self.inside.order.items
-    ≡ c.in_ok-names-2.names
-names c = sym (c.in_ok-names-2.ensures ∙ c.as_slice.ensures ∙ c.in_ok-names.ensures
+    ≡ c.in_ok-names.names
+names c = sym (c.in_ok-names.ensures ∙ c.as_slice.ensures ∙ c.in_ok-listed.ensures
     ∙ ap (map (name_of c.self.inside.names)) c.deref.ensures.value)
 
 order : (c : In_ok-pairs) → range_with_len 0 (length c.self.inside.order.items)
