@@ -43,18 +43,24 @@ impl Model for Sets {
 fn has_name(sets: &[SeparationSet], name: &Name) -> bool
     ensures { result ≡ has_set sets.now name.now }
 {
-    sets.iter().any(
-        |set: &SeparationSet| -> bool
-            ensures { result ≡ name_eq name.entry.now set.now.name }
-        { *name == *set.name() },
-    )
+    for set in sets {
+        if *name == *set.name() {
+            return true;
+        }
+    }
+    false
 }
 
 /// Whether one of the sets has the role.
 fn has_role(sets: &[SeparationSet], role: &Name) -> bool
     ensures { result ≡ uses_role sets.now role.now }
 {
-    sets.iter().any(|set| set.has_role(role))
+    for set in sets {
+        if set.has_role(role) {
+            return true;
+        }
+    }
+    false
 }
 
 /// Adds a set at the end.
