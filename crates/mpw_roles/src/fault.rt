@@ -8,7 +8,7 @@ use std::error::Error;
 use std::fmt;
 
 /// Why a command on the hierarchy was refused.
-#[derive(Clone, Copy, PartialEq, Eq)]
+#[derive(Clone, Copy)]
 pub enum RolesFault {
     NoRole,
     Known,

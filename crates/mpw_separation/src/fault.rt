@@ -7,7 +7,7 @@ use std::error::Error;
 use std::fmt;
 
 /// Why a command on the sets was refused.
-#[derive(Clone, Copy, PartialEq, Eq)]
+#[derive(Clone, Copy)]
 pub enum SetsFault {
     Known,
     Unknown,

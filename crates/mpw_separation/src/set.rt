@@ -14,7 +14,7 @@ use std::alloc::AllocError;
 use std::marker::Model;
 
 /// What a set holds for.
-#[derive(Clone, Copy, Debug, PartialEq, Eq)]
+#[derive(Clone, Copy)]
 pub enum Kind {
     /// For the roles that a user is authorized for (SSD).
     Static,
