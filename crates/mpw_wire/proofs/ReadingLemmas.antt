@@ -1,19 +1,21 @@
 -- Reading to the end.
-use Rattle.std.proofs.Common.{◌≡◌, ◌≢◌, ◌∙◌, ◌<◌, ◌+◌, ℕ, List, [], ◌∷◌, ◌++◌, length, drop, get_or, Option, None, Some, option_map, Result, Ok, Err, inr, refl, sym, ap, subst, append-nil, append_assoc}
+use Rattle.std.proofs.Common.{◌≡◌, ◌≢◌, ◌∙◌, ◌<◌, ◌+◌, ℕ, List, [], ◌∷◌, ◌++◌, length, drop, get_or, Option, None, Some, option_map, Result, Ok, Err, inr, refl, sym, ap, subst, append-nil, append_assoc, length-append}
 use Rattle.std.proofs.lemmas.List.{at_drop_more}
 use Rattle.std.proofs.lemmas.List.Elements.{All-push}
 use Rattle.std.specs.Prelude.{IfErr}
 use Rattle.std.specs.Result.{IsErrAnd}
+use Rattle.mpw_wire.specs.declared.device.DeviceFault.{DeviceFault}
 use Rattle.mpw_wire.specs.declared.fault.WireFault.{WireFault}
 use Rattle.mpw_wire.specs.declared.fault.WireFault.TheVariants.{Read, Write, Memory}
 use Rattle.mpw_wire.specs.declared.request.LineAsk.{LineAsk}
-use Rattle.mpw_wire.specs.Reading.{IsUnbroken, Breaks, TakesSome, TakesTooFew, TakesUpTo, TakesOffer, TakesCut, TakesOfferFront, following}
-use Rattle.mpw_wire.specs.Internal.Reading.{BreaksLine, BreaksBytes}
+use Rattle.mpw_wire.specs.Reading.{IsUnbroken, Breaks, TakesTooFew, TakesUpTo, TakesOffer, TakesCut, TakesOfferFront, following}
+use Rattle.mpw_wire.specs.Internal.Device.{GivesByte}
+use Rattle.mpw_wire.specs.Internal.Reading.{BreaksBytes}
 use Rattle.mpw_wire.specs.declared.operand.Origin.{Origin}
 use Rattle.mpw_wire.specs.Names.{name_of, ◌>>=◌}
 use Rattle.mpw_wire.specs.Request.{names_of}
 use Rattle.std.proofs.KnownBytes.{Consumes-trans}
-use Rattle.std.specs.Io.KnownBytes.{Consumes}
+use Rattle.std.specs.Io.KnownBytes.{Consumes, IsAtEnd}
 
 pub Consumes-end : (old mid new : Option (List ℕ)) (bytes : List ℕ) → Consumes old mid bytes
     → Consumes mid new [] → Consumes old new bytes
@@ -66,22 +68,35 @@ names_none origin front words i word lt at told =
     told in
     ap (with_names front) (more ∙ here)
 
-pub unbroken_push : (line : List ℕ) (byte : ℕ) → IsUnbroken line → (byte ≡ 0x0A → ⊥)
-    → IsUnbroken (line ++ byte ∷ [])
-unbroken_push line byte all other = All-push (λ b. b ≢ 0x0A) line byte all other
+-- ---- taking a byte each turn
 
--- want of memory, handed on
-pub memory_breaks : {A : Type 0} (result : Result A WireFault) (old new : Option (List ℕ))
-    → IsErrAnd result (λ e. e ≡ Memory) → TakesSome old new → IfErr result (BreaksLine old new)
-memory_breaks (Ok answer) old new h t = tt
-memory_breaks (Err e) old new h t = subst (BreaksLine old new) (sym h) t
+-- what was taken, and the byte that the source then gave
+pub given_byte : (old mid new : Option (List ℕ)) (front more : List ℕ) (answer : Option ℕ)
+    (byte : ℕ) → answer ≡ Some byte → more ≡ front ++ byte ∷ [] → Consumes old mid front
+    → GivesByte {E = DeviceFault} mid new (Ok answer) → Consumes old new more
+given_byte old mid new front more answer byte e same p q =
+    let given = subst (λ a. GivesByte {E = DeviceFault} mid new (Ok a)) e q in
+    subst (Consumes old new) (sym same) (Consumes-trans old mid new front (byte ∷ []) p given)
 
--- the same while bytes are taken
-pub memory_breaks_bytes : {A : Type 0} (result : Result A WireFault) (old new : Option (List ℕ))
-    (most : ℕ) → IsErrAnd result (λ e. e ≡ Memory) → TakesUpTo old new most
-    → IfErr result (BreaksBytes old new most)
-memory_breaks_bytes (Ok answer) old new most h t = tt
-memory_breaks_bytes (Err e) old new most h t = subst (BreaksBytes old new most) (sym h) t
+-- what was taken, where the source then gave none
+pub given_none : (old mid new : Option (List ℕ)) (front : List ℕ) (answer : Option ℕ)
+    → answer ≡ None → Consumes old mid front → GivesByte {E = DeviceFault} mid new (Ok answer)
+    → Consumes old new front × IsAtEnd new
+given_none old mid new front answer e p q =
+    let end = subst (λ a. GivesByte {E = DeviceFault} mid new (Ok a)) e q in
+    (Consumes-end old mid new front p end.0, end.1)
+
+-- there is a byte more
+pub length_more : (more front : List ℕ) (byte count : ℕ) → more ≡ front ++ byte ∷ []
+    → length front ≡ count → length more ≡ count + 1
+length_more more front byte count e counted =
+    ap length e ∙ length-append front (byte ∷ []) ∙ ap (λ n. n + 1) counted
+
+-- the byte is no line feed
+pub unbroken_more : (more line : List ℕ) (byte : ℕ) → more ≡ line ++ byte ∷ [] → IsUnbroken line
+    → (byte ≡ 0x0A → ⊥) → IsUnbroken more
+unbroken_more more line byte e all other =
+    subst IsUnbroken (sym e) (All-push (λ b. b ≢ 0x0A) line byte all other)
 
 -- reading the bytes that are to follow a line broke off
 pub offer_breaks : {A : Type 0} (result : Result A WireFault) (fault : WireFault)

@@ -5,7 +5,7 @@ ghost use Rattle.mpw_wire.specs.Internal.Reading.{Takes, BreaksLine, TakesBytes,
 ghost use Rattle.mpw_wire.specs.Writing.{fault_of};
 
 use crate::{Source, WireFault};
-use std::alloc::{AllocError, Global};
+use std::alloc::Global;
 
 /// The greatest number of bytes before a line feed.
 pub const MAX_LINE: usize = 4096;
@@ -34,7 +34,10 @@ pub(crate) fn take_line<R: Source>(alloc: Global, reader: &mut R) -> Result<Take
     for _ in 0..=MAX_LINE {
         match reader.next_byte() {
             Ok(Some(b'\n')) => return Ok(Taken::Line(line)),
-            Ok(Some(byte)) => line.push(byte).map_err(AllocError::from)?,
+            Ok(Some(byte)) => match line.push(byte) {
+                Ok(()) => {}
+                Err(_) => return Err(WireFault::Memory),
+            },
             Ok(None) if line.is_empty() => return Ok(Taken::End),
             Ok(None) => return Ok(Taken::Line(line)),
             Err(_) => return Err(WireFault::Read),
@@ -59,7 +62,10 @@ pub(crate) fn take_bytes<R: Source>(
     let mut bytes = Vec::new(alloc);
     for _ in 0..length {
         match reader.next_byte() {
-            Ok(Some(byte)) => bytes.push(byte).map_err(AllocError::from)?,
+            Ok(Some(byte)) => match bytes.push(byte) {
+                Ok(()) => {}
+                Err(_) => return Err(WireFault::Memory),
+            },
             Ok(None) => return Ok(None),
             Err(_) => return Err(WireFault::Read),
         }

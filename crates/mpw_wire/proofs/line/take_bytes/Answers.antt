@@ -1,21 +1,54 @@
-use Rattle.std.proofs.Common.{rules, arith, length-append, ◌<◌, ◌≡◌, ◌≤◌, ◌++◌, ◌∷◌, [], length, subst, Some, Ok}
-use Rattle.std.proofs.KnownBytes.{Consumes-trans}
-use Rattle.mpw_wire.specs.declared.device.DeviceFault.{DeviceFault}
-use Rattle.mpw_wire.specs.Internal.Device.{GivesByte}
-use Rattle.mpw_wire.proofs.ReadingLemmas.{memory_breaks_bytes}
+use Rattle.std.proofs.Common.{rules, arith, ◌<◌, ◌≡◌, ◌++◌, ◌∷◌, ◌+◌, [], length, refl, ap, ◌∙◌}
+use Rattle.std.proofs.KnownBytes.{Consumes-kept}
+use Rattle.std.specs.Io.Iter.{u64_saturate}
+use Rattle.mpw_wire.proofs.ReadingLemmas.{given_byte, given_none, length_more}
 use Rattle.mpw_wire.proofs.line.take_bytes.Goals as goal
 
-pub returns-in_err-map_err-in-Ok-Some-clause-fault : goal.returns-in_err-map_err-in-Ok-Some-clause-fault
-returns-in_err-map_err-in-Ok-Some-clause-fault g c =
-    let given : GivesByte {E = DeviceFault} (g.R.Source.remaining c.loop.reader)
-    (g.R.Source.remaining c.next_byte.new.self) (Ok (Some c.in-Ok-Some.byte)) =
-    subst (λ r. GivesByte {E = DeviceFault} (g.R.Source.remaining c.loop.reader)
-    (g.R.Source.remaining c.next_byte.new.self) (Ok r)) c.in-Ok-Some.field-0-is
-    c.in-Ok-Some.ensures.byte in
-    let front = c.loop.bytes.items ++ c.in-Ok-Some.byte ∷ [] in
-    let counted : length c.loop.bytes.items ≡ c.loop.counter = c.loop.invariant.1 in
+pub returns-in-Err-push-clause-fault : goal.returns-in-Err-push-clause-fault
+returns-in-Err-push-clause-fault g c =
     let less : c.loop.counter < c.args.length = search rules in
-    let small : length front ≤ c.args.length =
-    omega (arith, counted, less, length-append c.loop.bytes.items (c.in-Ok-Some.byte ∷ [])) in
-    memory_breaks_bytes c.from_residual.result _ _ _ c.from_residual.ensures.1
-    (front, small, Consumes-trans _ _ _ _ _ c.loop.invariant.0 given)
+    let more = c.loop.bytes.items ++ c.in-Ok-Some.byte ∷ [] in
+    let counted : length more ≡ c.loop.counter + 1 =
+    length_more _ _ _ _ refl c.loop.invariant.1 in (
+      more,
+      omega (arith, counted, less),
+      given_byte _ _ _ _ _ _ _ c.in-Ok-Some.field-0-is refl c.loop.invariant.0
+          c.in-Ok-Some.ensures.byte,
+    )
+
+pub returns-in-Err-push-clause-failures : goal.returns-in-Err-push-clause-failures
+returns-in-Err-push-clause-failures g c = c.in-Ok-Some.ensures.failures ∙ c.loop.invariant.2
+
+pub returns-in-Ok-None-clause-taken : goal.returns-in-Ok-None-clause-taken
+returns-in-Ok-None-clause-taken g c =
+    let less : c.loop.counter < c.args.length = search rules in
+    let last = given_none _ _ _ _ _ c.in-Ok-None.field-0-is c.loop.invariant.0
+    c.in-Ok-None.ensures.byte in
+    (c.loop.bytes.items, omega (arith, c.loop.invariant.1, less), last.0, last.1)
+
+pub returns-in-Ok-None-clause-failures : goal.returns-in-Ok-None-clause-failures
+returns-in-Ok-None-clause-failures g c = c.in-Ok-None.ensures.failures ∙ c.loop.invariant.2
+
+pub returns-in-Err-clause-fault : goal.returns-in-Err-clause-fault
+returns-in-Err-clause-fault g c =
+    let less : c.loop.counter < c.args.length = search rules in (
+      c.loop.bytes.items,
+      omega (arith, c.loop.invariant.1, less),
+      Consumes-kept _ _ _ _ c.loop.invariant.0 c.in-Err.ensures.byte,
+    )
+
+pub returns-in-Err-clause-failures : goal.returns-in-Err-clause-failures
+returns-in-Err-clause-failures g c =
+    c.in-Err.ensures.failures ∙ ap (λ n. u64_saturate (n + 1)) c.loop.invariant.2
+
+pub loop-preserved : goal.loop-preserved
+loop-preserved g c =
+    let pushed = c.in-Ok.ensures.items in (
+      given_byte _ _ _ _ _ _ _ c.in-Ok-Some.field-0-is pushed c.loop.invariant.0
+          c.in-Ok-Some.ensures.byte,
+      length_more _ _ _ _ pushed c.loop.invariant.1,
+      c.in-Ok-Some.ensures.failures ∙ c.loop.invariant.2,
+    )
+
+pub returns-clause-failures : goal.returns-clause-failures
+returns-clause-failures g c = c.loop.invariant.2
