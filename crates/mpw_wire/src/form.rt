@@ -1,7 +1,10 @@
 //! The forms of requests: a verb, and how many words stand behind it.
-ghost use Rattle.std.specs.Prelude.{◌≡◌, ℕ, List, IfOk, Some};
+ghost use Rattle.std.specs.Prelude.{◌≡◌, ℕ, List, IfOk, Some, option_map, if◌then◌else◌};
 ghost use Rattle.mpw_wire.specs.Names.{name_of};
 ghost use Rattle.mpw_wire.specs.declared.operand.Origin.{Origin};
+ghost use Rattle.mpw_requests.specs.declared.policy.PolicyRequest.TheVariants.{Open, AddUser, Grant, Revoke, Ssd, Dsd};
+ghost use Rattle.mpw_wire.specs.Internal.Form.{paired};
+ghost use Rattle.mpw_wire.specs.Request.{login_of, pair_of, grant_of, set_of};
 ghost use Rattle.mpw_wire.specs.Request.{bare_request, request_of_one, request_of_two, request_of_three, request_of_more};
 ghost use Rattle.mpw_wire.specs.Words.{words};
 
@@ -80,6 +83,70 @@ pub(crate) fn of_one(
     }
 }
 
+/// The request of the policy that a user and a digest make: to open a session, or else to add the user.
+fn of_login(
+    alloc: Global,
+    origin: Origin,
+    is_open: bool,
+    user_word: &[u8],
+    digest_word: &[u8],
+) -> Result<Option<PolicyRequest>, AllocError>
+    ensures { IfOk result (λ request. request ≡ option_map (λ login. if is_open then Open login.0 login.1 else AddUser login.0 login.1) (login_of origin user_word.now digest_word.now)) }
+{
+    let Some(login) = login(alloc, origin, user_word, digest_word)? else {
+        return Ok(None);
+    };
+    let digest = login.1;
+    let user = login.0;
+    if is_open {
+        Ok(Some(PolicyRequest::Open { user, digest }))
+    } else {
+        Ok(Some(PolicyRequest::AddUser { user, digest }))
+    }
+}
+
+/// What a request of the policy asks of two names.
+#[derive(Clone, Copy)]
+pub(crate) enum Pairing {
+    Assign,
+    Deassign,
+    Inherit,
+    Uninherit,
+}
+
+/// The request of the policy that two names make.
+fn of_pair(
+    alloc: Global,
+    origin: Origin,
+    pairing: Pairing,
+    first: &[u8],
+    second: &[u8],
+) -> Result<Option<PolicyRequest>, AllocError>
+    ensures { IfOk result (λ request. request ≡ option_map (λ pair. paired pairing pair.0 pair.1) (pair_of origin first.now second.now)) }
+{
+    let Some((first, second)) = pair(alloc, origin, first, second)? else {
+        return Ok(None);
+    };
+    Ok(Some(match pairing {
+        Pairing::Assign => PolicyRequest::Assign {
+            user: first,
+            role: second,
+        },
+        Pairing::Deassign => PolicyRequest::Deassign {
+            user: first,
+            role: second,
+        },
+        Pairing::Inherit => PolicyRequest::Inherit {
+            senior: first,
+            junior: second,
+        },
+        Pairing::Uninherit => PolicyRequest::Uninherit {
+            senior: first,
+            junior: second,
+        },
+    }))
+}
+
 /// The requests of a verb and two words.
 #[tactic(auto, unfolding(crate::specs::Request::request_of_two))]
 pub(crate) fn of_two(
@@ -92,37 +159,40 @@ pub(crate) fn of_two(
     ensures { IfOk result (λ request. request ≡ request_of_two origin verb.now first.now second.now) }
 {
     if is(verb, "open") {
-        Ok(login(alloc, origin, first, second)?.map(|(user, digest)| PolicyRequest::Open {
-            user,
-            digest,
-        }))
+        of_login(alloc, origin, true, first, second)
     } else if is(verb, "adduser") {
-        Ok(login(alloc, origin, first, second)?.map(|(user, digest)| PolicyRequest::AddUser {
-            user,
-            digest,
-        }))
+        of_login(alloc, origin, false, first, second)
     } else if is(verb, "assign") {
-        Ok(pair(alloc, origin, first, second)?.map(|(user, role)| PolicyRequest::Assign {
-            user,
-            role,
-        }))
+        of_pair(alloc, origin, Pairing::Assign, first, second)
     } else if is(verb, "deassign") {
-        Ok(pair(alloc, origin, first, second)?.map(|(user, role)| PolicyRequest::Deassign {
-            user,
-            role,
-        }))
+        of_pair(alloc, origin, Pairing::Deassign, first, second)
     } else if is(verb, "inherit") {
-        Ok(pair(alloc, origin, first, second)?.map(|(senior, junior)| PolicyRequest::Inherit {
-            senior,
-            junior,
-        }))
+        of_pair(alloc, origin, Pairing::Inherit, first, second)
     } else if is(verb, "uninherit") {
-        Ok(pair(alloc, origin, first, second)?.map(|(senior, junior)| PolicyRequest::Uninherit {
-            senior,
-            junior,
-        }))
+        of_pair(alloc, origin, Pairing::Uninherit, first, second)
     } else {
         Ok(None)
+    }
+}
+
+/// The request of the policy that a grant makes: to grant it, or else to revoke it.
+fn of_grant(
+    alloc: Global,
+    origin: Origin,
+    is_granted: bool,
+    operation: &[u8],
+    object: &[u8],
+    role: &[u8],
+) -> Result<Option<PolicyRequest>, AllocError>
+    ensures { IfOk result (λ request. request ≡ option_map (λ grant. if is_granted then Grant grant else Revoke grant) (grant_of origin operation.now object.now role.now)) }
+{
+    let Some(grant) = grant(alloc, origin, operation, object, role)? else {
+        return Ok(None);
+    };
+    if is_granted {
+        Ok(Some(PolicyRequest::Grant { grant }))
+    } else {
+        Ok(Some(PolicyRequest::Revoke { grant }))
     }
 }
 
@@ -139,11 +209,32 @@ pub(crate) fn of_three(
     ensures { IfOk result (λ request. request ≡ request_of_three origin verb.now first.now second.now third.now) }
 {
     if is(verb, "grant") {
-        Ok(grant(alloc, origin, first, second, third)?.map(|grant| PolicyRequest::Grant { grant }))
+        of_grant(alloc, origin, true, first, second, third)
     } else if is(verb, "revoke") {
-        Ok(grant(alloc, origin, first, second, third)?.map(|grant| PolicyRequest::Revoke { grant }))
+        of_grant(alloc, origin, false, first, second, third)
     } else {
         Ok(None)
+    }
+}
+
+/// The request of the policy that a set of roles makes: static separation, or else dynamic.
+fn of_set(
+    alloc: Global,
+    origin: Origin,
+    is_static: bool,
+    name: &[u8],
+    cardinality: &[u8],
+    roles: &[u8],
+) -> Result<Option<PolicyRequest>, AllocError>
+    ensures { IfOk result (λ request. request ≡ option_map (λ set. if is_static then Ssd set else Dsd set) (set_of origin name.now cardinality.now (words roles.now))) }
+{
+    let Some(set) = set(alloc, origin, name, cardinality, roles)? else {
+        return Ok(None);
+    };
+    if is_static {
+        Ok(Some(PolicyRequest::Ssd { set }))
+    } else {
+        Ok(Some(PolicyRequest::Dsd { set }))
     }
 }
 
@@ -160,9 +251,9 @@ pub(crate) fn of_more(
     ensures { IfOk result (λ request. request ≡ request_of_more origin verb.now name.now cardinality.now (words roles.now)) }
 {
     if is(verb, "ssd") {
-        Ok(set(alloc, origin, name, cardinality, roles)?.map(|set| PolicyRequest::Ssd { set }))
+        of_set(alloc, origin, true, name, cardinality, roles)
     } else if is(verb, "dsd") {
-        Ok(set(alloc, origin, name, cardinality, roles)?.map(|set| PolicyRequest::Dsd { set }))
+        of_set(alloc, origin, false, name, cardinality, roles)
     } else {
         Ok(None)
     }

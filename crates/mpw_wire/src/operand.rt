@@ -17,7 +17,7 @@ use mpw_text::{parts, read_count};
 use std::alloc::{AllocError, Global};
 
 /// Where a line stands.
-#[derive(Clone, Copy, Debug, PartialEq, Eq)]
+#[derive(Clone, Copy)]
 pub(crate) enum Origin {
     /// On a connection.
     Connection,
@@ -137,7 +137,10 @@ fn object_by(
     ensures { IfOk result (λ object. object ≡ object_by origin on_cells word.now) }
 {
     if on_cells {
-        return Ok(name(alloc, origin, word)?.map(Object::Cell));
+        return match name(alloc, origin, word)? {
+            Some(name) => Ok(Some(Object::Cell(name))),
+            None => Ok(None),
+        };
     }
     if is(word, "desk") {
         return Ok(Some(Object::Desk));

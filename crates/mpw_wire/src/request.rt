@@ -1,9 +1,13 @@
 //! Request lines.
-ghost use Rattle.std.specs.Prelude.{◌≡◌, IfOk};
-ghost use Rattle.mpw_wire.specs.Request.{asked, asked_policy, asked_wafer, asked_sign_off, longest, submission_of, deck_of, ask_of_one, ask_of_two, ask_of_three, ask_of_more, ask_by, ask_of};
+ghost use Rattle.std.specs.Prelude.{◌≡◌, IfOk, option_map, if◌then◌else◌};
+ghost use Rattle.mpw_wire.specs.Request.{asked, asked_policy, asked_wafer, asked_sign_off, longest, pair_of, submission_of, deck_of, ask_of_one, ask_of_two, ask_of_three, ask_of_more, ask_by, ask_of};
 ghost use Rattle.mpw_requests.specs.declared.request.Request.TheVariants.{Layout};
 ghost use Rattle.mpw_requests.specs.declared.layouts.LayoutRequest.TheVariants.{Shapes};
+ghost use Rattle.mpw_requests.specs.declared.sign_off.SignOffRequest.TheVariants.{Waive, Sign};
+ghost use Rattle.mpw_requests.specs.declared.wafer.WaferRequest.TheVariants.{Unplace};
 ghost use Rattle.mpw_text.specs.Text.{number_of};
+ghost use Rattle.mpw_wire.specs.Keys.{key_of};
+ghost use Rattle.mpw_wire.specs.Names.{name_of};
 ghost use Rattle.mpw_wire.specs.Words.{words};
 
 use crate::form::{bare, of_more, of_one, of_three, of_two};
@@ -59,21 +63,20 @@ fn ask(alloc: Global, request: Option<Request>) -> Result<LineAsk, AllocError>
 fn ask_policy(alloc: Global, request: Option<PolicyRequest>) -> Result<LineAsk, AllocError>
     ensures { IfOk result (λ ask. ask ≡ asked_policy request) }
 {
-    ask(alloc, request.map(Request::Policy))
+    match request {
+        Some(request) => ask(alloc, Some(Request::Policy(request))),
+        None => Ok(LineAsk::Form),
+    }
 }
 
 /// The same of a request over the wafer.
 fn ask_wafer(alloc: Global, request: Option<WaferRequest>) -> Result<LineAsk, AllocError>
     ensures { IfOk result (λ ask. ask ≡ asked_wafer request) }
 {
-    ask(alloc, request.map(Request::Wafer))
-}
-
-/// The same of a request over the waivers.
-fn ask_sign_off(alloc: Global, request: Option<SignOffRequest>) -> Result<LineAsk, AllocError>
-    ensures { IfOk result (λ ask. ask ≡ asked_sign_off request) }
-{
-    ask(alloc, request.map(Request::SignOff))
+    match request {
+        Some(request) => ask(alloc, Some(Request::Wafer(request))),
+        None => Ok(LineAsk::Form),
+    }
 }
 
 /// The number of bytes that a word counts: up to 2^24 on a connection, and in a store up to what a slice has.
@@ -127,37 +130,75 @@ fn deck(origin: Origin, length_word: &[u8]) -> LineAsk
     }
 }
 
+/// What the word of a cell asks whose shapes are to be told.
+fn ask_shapes(alloc: Global, origin: Origin, word: &[u8]) -> Result<LineAsk, AllocError>
+    ensures { IfOk result (λ ask. ask ≡ asked (option_map (λ cell. Layout (Shapes cell)) (name_of origin word.now))) }
+{
+    match name(alloc, origin, word)? {
+        Some(cell) => {
+            let request = LayoutRequest::Shapes { cell };
+            ask(alloc, Some(Request::Layout(request)))
+        }
+        None => Ok(LineAsk::Form),
+    }
+}
+
+/// What the key of a marker asks: to waive the marker, or else to sign its waiver.
+fn ask_marker(
+    alloc: Global,
+    origin: Origin,
+    is_waived: bool,
+    word: &[u8],
+) -> Result<LineAsk, AllocError>
+    ensures { IfOk result (λ ask. ask ≡ asked_sign_off (option_map (λ marker. if is_waived then Waive marker else Sign marker) (key_of origin word.now))) }
+{
+    let Some(marker) = key(alloc, origin, word)? else {
+        return Ok(LineAsk::Form);
+    };
+    let request = if is_waived {
+        SignOffRequest::Waive { marker }
+    } else {
+        SignOffRequest::Sign { marker }
+    };
+    ask(alloc, Some(Request::SignOff(request)))
+}
+
 /// What a verb and one word ask.
 #[tactic(auto, unfolding(crate::specs::Request::ask_of_one))]
 fn ask_one(alloc: Global, origin: Origin, verb: &[u8], word: &[u8]) -> Result<LineAsk, AllocError>
     ensures { IfOk result (λ ask. ask ≡ ask_of_one origin verb.now word.now) }
 {
     if is(verb, "shapes") {
-        return ask(alloc, name(alloc, origin, word)?.map(shapes));
+        return ask_shapes(alloc, origin, word);
     }
     if is(verb, "deck") {
         return Ok(deck(origin, word));
     }
     if is(verb, "waive") {
-        return ask_sign_off(
-            alloc,
-            key(alloc, origin, word)?.map(|marker| SignOffRequest::Waive { marker }),
-        );
+        return ask_marker(alloc, origin, true, word);
     }
     if is(verb, "sign") {
-        return ask_sign_off(
-            alloc,
-            key(alloc, origin, word)?.map(|marker| SignOffRequest::Sign { marker }),
-        );
+        return ask_marker(alloc, origin, false, word);
     }
     ask_policy(alloc, of_one(alloc, origin, verb, word)?)
 }
 
-/// The request for the shapes of a cell.
-fn shapes(cell: Name) -> Request
-    ensures { result ≡ Layout (Shapes cell) }
+/// What the names of a cell and a label ask whose placement is to be taken back.
+fn ask_unplace(
+    alloc: Global,
+    origin: Origin,
+    first: &[u8],
+    second: &[u8],
+) -> Result<LineAsk, AllocError>
+    ensures { IfOk result (λ ask. ask ≡ asked_wafer (option_map (λ names. Unplace names.0 names.1) (pair_of origin first.now second.now))) }
 {
-    Request::Layout(LayoutRequest::Shapes { cell })
+    match pair(alloc, origin, first, second)? {
+        Some((cell, label)) => {
+            let request = WaferRequest::Unplace { cell, label };
+            ask(alloc, Some(Request::Wafer(request)))
+        }
+        None => Ok(LineAsk::Form),
+    }
 }
 
 /// What a verb and two words ask.
@@ -172,13 +213,7 @@ fn ask_two(
     ensures { IfOk result (λ ask. ask ≡ ask_of_two origin verb.now first.now second.now) }
 {
     if is(verb, "unplace") {
-        return ask_wafer(
-            alloc,
-            pair(alloc, origin, first, second)?.map(|(cell, label)| WaferRequest::Unplace {
-                cell,
-                label,
-            }),
-        );
+        return ask_unplace(alloc, origin, first, second);
     }
     ask_policy(alloc, of_two(alloc, origin, verb, first, second)?)
 }
