@@ -1,8 +1,8 @@
-// Computes in threads that are started as the jobs' are, each by the one before it, so that 2^HALVINGS threads compute in the
-// end, and each takes the next of that many equal parts that none has taken. It touches no memory but its stacks, so its time
-// is what the machine gives to work of that length.
+// Computes in threads that are started as the jobs' are: the first one begins the others one after another, and then each takes
+// the next of some equal parts that none has taken. It touches no memory but its stacks, so its time is what the machine gives
+// to work of that length.
 //
-//   threads STEPS HALVINGS PARTS
+//   threads STEPS THREADS PARTS
 //
 // It prints the milliseconds from the first thread's start to the last one's end.
 #include <pthread.h>
@@ -11,10 +11,7 @@
 #include <stdlib.h>
 #include <time.h>
 
-struct start {
-    int halvings;
-    unsigned long result;
-};
+#define MOST_THREADS 4096
 
 static unsigned long steps_of_a_part;
 static int parts;
@@ -41,29 +38,28 @@ static unsigned long compute_parts(void) {
     return result;
 }
 
-static void *run(void *given) {
-    struct start *start = given;
-    if (start->halvings == 0) {
-        start->result = compute_parts();
-        return NULL;
-    }
-    struct start left = {start->halvings - 1, 0}, right = left;
-    pthread_t thread;
-    if (pthread_create(&thread, NULL, run, &right)) exit(1);
-    run(&left);
-    pthread_join(thread, NULL);
-    start->result = left.result + right.result;
+static void *run(void *result) {
+    *(unsigned long *)result = compute_parts();
     return NULL;
 }
 
 int main(int count, char **words) {
     if (count != 4) return 2;
+    int others = atoi(words[2]) - 1;
     parts = atoi(words[3]);
-    if (parts < 1) return 2;
+    if (others < 0 || others >= MOST_THREADS || parts < 1) return 2;
     steps_of_a_part = strtoul(words[1], NULL, 10) / parts;
-    struct start whole = {atoi(words[2]), 0};
+    static pthread_t threads[MOST_THREADS];
+    static unsigned long results[MOST_THREADS];
     double began = milliseconds();
-    run(&whole);
-    printf("%.3f ms, %lx\n", milliseconds() - began, whole.result);
+    for (int i = 0; i < others; i++) {
+        if (pthread_create(&threads[i], NULL, run, &results[i])) return 1;
+    }
+    unsigned long result = compute_parts();
+    for (int i = 0; i < others; i++) {
+        pthread_join(threads[i], NULL);
+        result += results[i];
+    }
+    printf("%.3f ms, %lx\n", milliseconds() - began, result);
     return 0;
 }

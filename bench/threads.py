@@ -22,8 +22,8 @@ import runs
 
 HEADS = ['Layout', 'Tiles', 'Cut', 'Jobs, one thread', 'Jobs, all threads', 'Stitching', 'System, one', 'System, all',
          'Faults, one', 'Faults, all', 'By medians', 'By bests', 'Computing in C, by medians', 'By bests']
-# The jobs' threads are twice the processors, which so many halvings make.
-HALVINGS = (2 * len(os.sched_getaffinity(0))).bit_length() - 1
+# The jobs' threads, where there are as many tiles.
+THREADS = 2 * len(os.sched_getaffinity(0))
 
 
 def timed(path, side, threads):
@@ -39,16 +39,16 @@ def timed(path, side, threads):
     return {**parts, 'tiles': tiles, 'system': usage.ru_stime * 1000, 'faults': usage.ru_minflt}
 
 
-def computed(program, steps, halvings, parts):
-    """The milliseconds of that many steps of computing in so many parts, on one thread where there are no halvings."""
-    output = subprocess.run([program, str(steps), str(halvings), str(parts)], stdout=subprocess.PIPE, text=True, check=True).stdout
+def computed(program, steps, threads, parts):
+    """The milliseconds of that many steps of computing in so many parts, in so many threads."""
+    output = subprocess.run([program, str(steps), str(threads), str(parts)], stdout=subprocess.PIPE, text=True, check=True).stdout
     return float(output.split()[0])
 
 
 def steps_for(program, milliseconds):
     """How many steps take about that long on one thread."""
     trial = 10 ** 7
-    return int(trial * milliseconds / min(computed(program, trial, 0, 1) for _ in range(5)))
+    return int(trial * milliseconds / min(computed(program, trial, 1, 1) for _ in range(5)))
 
 
 def measured(program, paths, layouts, rounds):
@@ -60,8 +60,9 @@ def measured(program, paths, layouts, rounds):
         for layout in layouts:
             for threads in (('one', 'all') if turn % 2 == 0 else ('all', 'one')):
                 found[layout, threads].append(timed(paths[layout], layout[2], threads))
-                halvings = HALVINGS if threads == 'all' else 0
-                found[layout, f'computed {threads}'].append({'jobs': computed(program, steps[layout], halvings, first[layout]['tiles'])})
+                parts = first[layout]['tiles']
+                begun = min(THREADS, parts) if threads == 'all' else 1
+                found[layout, f'computed {threads}'].append({'jobs': computed(program, steps[layout], begun, parts)})
     return found
 
 
