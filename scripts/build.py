@@ -3,17 +3,19 @@
 
   scripts/build.py PROGRAM
 
-Each crate is proved as the gate proves it, by `rt ci` over a copy of its files and of those below it. What a run on this machine
-has proved before is not proved again, so that those below are there by then. Wrong bodies are the gate's own business and are
-not tried. The way is told on the standard error.
+Crates are proved as the gate proves them, by runs of `rt ci` over a copy of their files and of those below them. What a run on this
+machine has proved before is not proved again, so that those below are there by then. Wrong bodies are the gate's own business and
+are not tried. The way is told on the standard error.
 
-A crate begins as soon as those below it are proved, where a processor and memory are free for it, those with the longest
-chain of crates above them first. A large one, and one that nothing can be proved beside, may use all processors, so that
-none idles while it is waited for; the others take one each, since several processes read the same of the libraries. The longer
-the chains of the others that are being proved, the lower is a crate's priority.
+A run proves a crate and then those above it, one after the other, that wait for nothing else, since each run takes up to a minute
+to read what is there already. It begins as soon as what is below is proved, where a processor and memory are free for it, that
+with the longest chain of crates above it first. One with a large crate may use all processors, so that none idles while the others
+wait for it; the others take one each, since several processes read the same of the libraries, which in a small crate is most of
+the work. The longer the chains of the other runs, the lower is a run's priority.
 """
 import concurrent.futures
 import os
+import queue
 import re
 import shutil
 import subprocess
@@ -30,6 +32,8 @@ MEMORY = 4_000_000
 NICER = 3
 # The bytes from which on a crate's proof is worth several processes.
 LARGE = 150_000
+# What rt ci says of a crate that it proved, or that an earlier run on this machine did.
+PROVED = re.compile(r"rt: (\w+) (?:proved$|is kept: )")
 
 
 def say(text):
@@ -82,18 +86,35 @@ def copy(lines, wanted, tree):
         file.writelines(lines[name] for name in wanted)
 
 
-def prove(lines, name, nice, alone):
-    """Proves a crate over those below it; a program that was proved is put into its crate's folder. Returns what failed, or nothing."""
-    jobs = {} if alone or size(name) >= LARGE else {"RT_JOBS": "1"}
+def prove(lines, run, nice, tell):
+    """Proves the crates of a run over those below them, and tells of each; a program that was proved is put into its crate's folder.
+    Returns what failed, or nothing."""
+    top, log = run[-1], []
+    jobs = {} if any(size(it) >= LARGE for it in run) else {"RT_JOBS": "1"}
     with tempfile.TemporaryDirectory(prefix="mpw-build-") as tree:
-        copy(lines, below(lines, name), tree)
+        copy(lines, below(lines, top), tree)
+        words = ["nice", "-n", str(nice), "rt", "ci"]
         how = {"cwd": tree, "env": os.environ | jobs, "stdin": subprocess.DEVNULL, "stdout": subprocess.PIPE, "stderr": subprocess.STDOUT}
-        ran = subprocess.run(["nice", "-n", str(nice), "rt", "ci"], text=True, errors="replace", check=False, **how)
-        made, place = f"{tree}/crates/{name}/out/{name}", f"{TOP}/crates/{name}/out"
+        with subprocess.Popen(words, text=True, errors="replace", **how) as ran:
+            for line in ran.stdout:
+                log.append(line)
+                told = PROVED.match(line)
+                if told and told[1] in run:
+                    tell(told[1])
+        made, place = f"{tree}/crates/{top}/out/{top}", f"{TOP}/crates/{top}/out"
         if os.path.isfile(made):
             os.makedirs(place, exist_ok=True)
-            shutil.move(made, f"{place}/{name}")
-    return None if ran.returncode == 0 else ran.stdout
+            shutil.move(made, f"{place}/{top}")
+    return "".join(log) if ran.returncode else None
+
+
+def work(lines, run, nice, events):
+    """Proves a run. Its events are the crates that are proved, and behind them its end with what failed, or nothing."""
+    failed = f"the run of {' '.join(run)} broke off"
+    try:
+        failed = prove(lines, run, nice, lambda name: events.put((run, name, None)))
+    finally:
+        events.put((run, None, failed))
 
 
 def lanes():
@@ -103,24 +124,35 @@ def lanes():
     return max(1, min(len(os.sched_getaffinity(0)), free // MEMORY))
 
 
+def next_run(lines, left, done):
+    """Returns the first crate of those that are left that waits for nothing, and above it one after the other that waits for nothing else."""
+    run = []
+    for name in left:
+        if done.union(run).issuperset(used(lines, name)) and (not run or run[-1] in used(lines, name)):
+            run.append(name)
+    return run
+
+
 def prove_all(lines, wanted):
     """Proves the crates, telling the way. Returns what failed, or nothing."""
-    began, chain, lane = time.monotonic(), chains(lines, wanted), lanes()
-    left, running, done, failed = sorted(wanted, key=lambda it: -chain[it]), {}, set(), None
+    began, chain, lane, events = time.monotonic(), chains(lines, wanted), lanes(), queue.Queue()
+    left, running, done, failed = sorted(wanted, key=lambda it: -chain[it]), [], set(), None
     with concurrent.futures.ThreadPoolExecutor(lane) as pool:
         while running or left and not failed:
-            ready = [] if failed else [it for it in left if done.issuperset(used(lines, it))]
-            for name in ready[:lane - len(running)]:
-                left.remove(name)
-                waited_for = sum(chain[it] > chain[name] for it in running.values())
-                alone = len(ready) + len(running) == 1
-                running[pool.submit(prove, lines, name, NICER * waited_for, alone)] = name
-            for it in concurrent.futures.wait(running, return_when=concurrent.futures.FIRST_COMPLETED).done:
-                name, why = running.pop(it), it.result()
-                failed = failed or why
-                if why is None:
-                    done.add(name)
-                    say(f"{len(done)} of {len(wanted)} crates proved: {name}, {time.monotonic() - began:.0f} s")
+            while not failed and len(running) < lane and (run := next_run(lines, left, done)):
+                left = [it for it in left if it not in run]
+                waited_for = sum(chain[other[0]] > chain[run[0]] for other in running)
+                running.append(run)
+                pool.submit(work, lines, run, NICER * waited_for, events)
+            run, name, why = events.get()
+            if name:
+                done.add(name)
+                say(f"{len(done)} of {len(wanted)} crates proved: {name}, {time.monotonic() - began:.0f} s")
+                continue
+            running.remove(run)
+            failed = failed or why
+            if not why:
+                done.update(run)
     return failed
 
 
