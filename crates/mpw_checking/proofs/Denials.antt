@@ -14,7 +14,8 @@ use Rattle.mpw_rbac.specs.Policy.{Policy, permits, session_of}
 use Rattle.mpw_requests.specs.declared.run.RunRequest.TheVariants as ask
 use Rattle.mpw_replies.specs.Laws.{EnteringDeniesWhatIsLacked}
 use Rattle.mpw_replies.specs.Listing.{Listed, stored}
-use Rattle.mpw_replies.specs.Rows.{denied, permitted, session_test}
+use Rattle.mpw_replies.specs.Rows.{denied, needed, permitted, session_test}
+use Rattle.mpw_replies.specs.declared.reply.Code.TheVariants as code
 use Rattle.mpw_replies.specs.declared.reply.Denial.TheVariants as denial
 use Rattle.mpw_replies.specs.declared.reply.Reply.TheVariants as reply
 use Rattle.mpw_replies.specs.declared.row.Ending.{Ending}
@@ -22,10 +23,10 @@ use Rattle.mpw_replies.specs.declared.row.Ending.TheVariants as ending
 use Rattle.mpw_run.specs.declared.phase.Phase.{Phase}
 use Rattle.mpw_run.specs.declared.phase.Phase.TheVariants.{Idle, Cutting, Checking, Finished}
 use Rattle.mpw_run.specs.Run.{Planned}
-use Rattle.mpw_run.specs.Step.{Run}
-use Rattle.mpw_wafer.specs.declared.wafer.Wafer.{Wafer}
+use Rattle.mpw_run.specs.Step.{Run, findings}
+use Rattle.mpw_placings.specs.declared.wafer.Wafer.{Wafer}
 use Rattle.mpw_checking.specs.Laws.{RunsDenyWhatIsLacked}
-use Rattle.mpw_checking.specs.Checking.{at_rest, going_on, finished_run, present_deck, cover_test, planning_over, planning, snapshot_of, run_row, cancel_row, status, markers, checked_lines, phase_line, begun_outcome, left_off_outcome, listing_outcome}
+use Rattle.mpw_checking.specs.Checking.{at_rest, going_on, present_deck, cover_test, planning_over, planning, snapshot_of, run_row, cancel_row, status, markers, checked_lines, phase_line, begun_outcome, left_off_outcome, listing_outcome}
 
 -- ---- parts that deny no permission
 
@@ -33,7 +34,7 @@ use Rattle.mpw_checking.specs.Checking.{at_rest, going_on, finished_run, present
 phase_denies : (phase : Phase) (operation : Operation) (object : Object)
     → (at_rest phase ≡ Err (denied operation object) → ⊥)
     × (going_on phase ≡ Err (denied operation object) → ⊥)
-    × (finished_run phase ≡ Err (denied operation object) → ⊥)
+    × (needed code.NotFinished (findings phase) ≡ Err (denied operation object) → ⊥)
 phase_denies Idle operation object = ((λ e. cc), (λ e. cc), (λ e. cc))
 phase_denies (Cutting planned) operation object = ((λ e. cc), (λ e. cc), (λ e. cc))
 phase_denies (Checking c) operation object = ((λ e. cc), (λ e. cc), (λ e. cc))
@@ -123,7 +124,7 @@ unfolding markers
 markers_deny policy run connection operation object e =
     elim (parts (session_test policy connection) _ _ e) [
       | inl first ↦ entered_denies policy connection operation object first
-      | inr inside ↦ elim (parts (finished_run run.phase) _ _ inside.2) [
+      | inr inside ↦ elim (parts (needed code.NotFinished (findings run.phase)) _ _ inside.2) [
         | inl phase ↦ (phase_denies run.phase operation object).2 phase
         | inr rest ↦ lines_deny (checked_lines policy connection rest.0)
             (denied operation object) rest.2

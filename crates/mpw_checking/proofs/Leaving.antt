@@ -9,7 +9,7 @@ use Rattle.mpw_replies.specs.Rows.{IsNegative}
 use Rattle.mpw_replies.specs.declared.row.Ending.{Ending}
 use Rattle.mpw_run.specs.Run.{Planned}
 use Rattle.mpw_run.specs.Step.{Run}
-use Rattle.mpw_wafer.specs.declared.wafer.Wafer.{Wafer}
+use Rattle.mpw_placings.specs.declared.wafer.Wafer.{Wafer}
 use Rattle.mpw_checking.specs.Laws.{NegativesAreNoChange, NegativesLeaveTheRun, NumbersAreCounted}
 use Rattle.mpw_checking.specs.Checking.{run_row, cancel_row, status, markers, begun_outcome, left_off_outcome, listing_outcome, Outcome, outcome_of}
 

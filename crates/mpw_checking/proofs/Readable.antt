@@ -8,16 +8,17 @@ use Rattle.mpw_requests.specs.declared.run.RunRequest.TheVariants as ask
 use Rattle.mpw_replies.specs.Laws.{BooksAreOfReadable}
 use Rattle.mpw_replies.specs.Listing.{Listed, stored}
 use Rattle.mpw_replies.specs.Readable.{IsOfReadable}
-use Rattle.mpw_replies.specs.Rows.{session_test}
+use Rattle.mpw_replies.specs.Rows.{needed, session_test}
+use Rattle.mpw_replies.specs.declared.reply.Code.TheVariants as code
 use Rattle.mpw_replies.specs.declared.reply.Line.TheVariants as line
 use Rattle.mpw_replies.specs.declared.reply.Reply.TheVariants as reply
 use Rattle.mpw_replies.specs.declared.row.Ending.{Ending}
 use Rattle.mpw_run.specs.declared.phase.Phase.{Phase}
 use Rattle.mpw_run.specs.declared.phase.Phase.TheVariants.{Idle, Cutting, Checking, Finished}
 use Rattle.mpw_run.specs.Run.{Planned}
-use Rattle.mpw_run.specs.Step.{Run}
+use Rattle.mpw_run.specs.Step.{Run, findings}
 use Rattle.mpw_checking.specs.Laws.{MarkersAreOfReadable}
-use Rattle.mpw_checking.specs.Checking.{run_row, cancel_row, status, markers, finished_run, checked_lines, phase_line, begun_outcome, left_off_outcome, listing_outcome}
+use Rattle.mpw_checking.specs.Checking.{run_row, cancel_row, status, markers, checked_lines, phase_line, begun_outcome, left_off_outcome, listing_outcome}
 
 module _ (policy : Policy) (connection : ℕ) where
   abbrev Readable : List Listed → Type 0
@@ -68,7 +69,7 @@ module _ (policy : Policy) (connection : ℕ) where
   unfolding markers
   of_markers books run told e =
       let inside = passed (session_test policy connection) _ told e in
-      let f = passed (finished_run run.phase) _ told inside.2 in
+      let f = passed (needed code.NotFinished (findings run.phase)) _ told inside.2 in
       let shelf = f.0.planned.snapshot.shelf in
       let same : checked_lines policy connection f.0 ≡ told = cc in
       subst Readable same (books policy connection f.0.planned.snapshot.deck.rules shelf f.0.book)

@@ -13,7 +13,7 @@ use Rattle.mpw_rbac.specs.Policy.{Policy}
 use Rattle.mpw_requests.specs.declared.run.RunRequest.{RunRequest}
 use Rattle.mpw_requests.specs.declared.run.RunRequest.TheVariants as ask
 use Rattle.mpw_replies.specs.Listing.{Listed, stored}
-use Rattle.mpw_replies.specs.Rows.{◌>>=◌, session_test, permitted, ended_by}
+use Rattle.mpw_replies.specs.Rows.{◌>>=◌, needed, session_test, permitted, ended_by}
 use Rattle.mpw_replies.specs.Sight.{seen_by, book_lines}
 use Rattle.mpw_replies.specs.declared.reply.Line.{Line}
 use Rattle.mpw_replies.specs.declared.reply.Line.TheVariants as line
@@ -26,8 +26,8 @@ use Rattle.mpw_run.specs.declared.phase.Checked.{Checked}
 use Rattle.mpw_run.specs.declared.phase.Phase.{Phase}
 use Rattle.mpw_run.specs.declared.phase.Phase.TheVariants.{Idle, Cutting, Checking, Finished}
 use Rattle.mpw_run.specs.Run.{Planned, answered}
-use Rattle.mpw_run.specs.Step.{Run, started, cancelled}
-use Rattle.mpw_wafer.specs.declared.wafer.Wafer.{Wafer}
+use Rattle.mpw_run.specs.Step.{Run, findings, started, cancelled}
+use Rattle.mpw_placings.specs.declared.wafer.Wafer.{Wafer}
 
 -- ---- tests
 
@@ -44,13 +44,6 @@ going_on Idle = Err (ending.Refused code.NoRun)
 going_on (Cutting planned) = Ok tt
 going_on (Checking c) = Ok tt
 going_on (Finished f) = Err (ending.Refused code.NoRun)
-
--- A run is finished.
-abbrev pub finished_run : Phase → Result Checked Ending
-finished_run Idle = Err (ending.Refused code.NotFinished)
-finished_run (Cutting planned) = Err (ending.Refused code.NotFinished)
-finished_run (Checking c) = Err (ending.Refused code.NotFinished)
-finished_run (Finished f) = Ok f
 
 -- There is a deck.
 abbrev pub present_deck : Option Deck → Result Deck Ending
@@ -112,7 +105,7 @@ checked_lines policy connection f =
 unfoldable pub markers : Policy → Run → ℕ → Result (List Listed) Ending
 markers policy run connection = do
   inside ← session_test policy connection
-  f ← finished_run run.phase
+  f ← needed code.NotFinished (findings run.phase)
   Ok (checked_lines policy connection f)
 
 -- ---- what comes of a request

@@ -11,11 +11,11 @@ ghost use Rattle.mpw_run.specs.Run.{Planned as PlannedTold};
 use crate::begin::begin;
 use crate::rows::{leave, markers, status};
 use mpw_hier::Shelf;
+use mpw_placings::Wafer;
 use mpw_rbac::Policy;
 use mpw_replies::{Fault, Line, Lines, Reply, listing_reply};
 use mpw_requests::RunRequest;
 use mpw_run::{Planned, Prepared, Run};
-use mpw_wafer::Wafer;
 use std::alloc::{AllocError, Global};
 
 /// What a request changes in the run.

@@ -9,12 +9,11 @@ ghost use Rattle.mpw_tiles.specs.Snapshots.{AreRoots, shown};
 
 use mpw_deck::Deck;
 use mpw_hier::Shelf;
-use mpw_placings::Placings;
+use mpw_placings::{Placings, Wafer};
 use mpw_rbac::{Object, Operation, Policy};
 use mpw_replies::{Code, Fault, enter};
 use mpw_run::{Phase, Planned, Run};
 use mpw_tiles::Snapshot;
-use mpw_wafer::Wafer;
 use mpw_walk::roots_show_what_their_submissions_do;
 use std::alloc::{AllocError, Global};
 

@@ -6,7 +6,7 @@ ghost use Rattle.mpw_checking.specs.Checking as row;
 ghost use Rattle.mpw_replies.specs.Rows.{Answers};
 
 use mpw_rbac::{Object, Operation, Policy};
-use mpw_replies::{Code, Fault, Line, Lines, MarkerListing, enter, need_session, seen_by};
+use mpw_replies::{Code, Fault, Line, Lines, MarkerListing, enter, need, need_session, seen_by};
 use mpw_run::{Checked, Phase, Run};
 use std::alloc::{AllocError, Global};
 
@@ -62,21 +62,6 @@ pub(crate) fn status(
     Ok(Lines::of_line(alloc, phase_line(run))?)
 }
 
-/// What a finished run found.
-///
-/// # Errors
-/// A refusal where no run is finished.
-pub fn findings(phase: &Phase) -> Result<&Checked, Fault>
-    ensures { Answers (λ f. f.now) result (row.finished_run phase.now) }
-{
-    match phase {
-        Phase::Idle => Err(Fault::from_code(Code::NotFinished)),
-        Phase::Cutting(_) => Err(Fault::from_code(Code::NotFinished)),
-        Phase::Checking(_) => Err(Fault::from_code(Code::NotFinished)),
-        Phase::Finished(checked) => Ok(checked),
-    }
-}
-
 /// The lines of what a finished run found, as far as the session may read the cells.
 fn checked_lines(
     alloc: Global,
@@ -106,6 +91,6 @@ pub(crate) fn markers(
     ensures { Answers (λ lines. lines) result (row.markers policy.now run.now connection) }
 {
     need_session(policy, connection)?;
-    let checked = findings(run.phase())?;
+    let checked = need(run.phase().findings(), Code::NotFinished)?;
     Ok(checked_lines(alloc, policy, connection, checked)?)
 }

@@ -23,7 +23,7 @@ use Rattle.mpw_replies.specs.Trail.{numbered_entries}
 use Rattle.mpw_replies.specs.declared.entry.Entry.{Entry}
 use Rattle.mpw_rbac.specs.declared.permission.Object.TheVariants as object
 use Rattle.mpw_rbac.specs.declared.permission.Operation.TheVariants as operation
-use Rattle.mpw_wafer.specs.declared.wafer.Wafer.{Wafer}
+use Rattle.mpw_placings.specs.declared.wafer.Wafer.{Wafer}
 use Rattle.mpw_wafer.specs.Wafers as wafers
 use Rattle.mpw_replies.specs.Listing.{Listed, stored, entry}
 use Rattle.mpw_replies.proofs.RowParts.{ended_not_ok}

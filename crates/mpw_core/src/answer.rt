@@ -26,6 +26,7 @@ use mpw_checking::{NextRun, RunAnswer};
 use mpw_geom::Name;
 use mpw_hier::Shelf;
 use mpw_layouts::LayoutAnswer;
+use mpw_placings::Wafer;
 use mpw_rbac::{Identity, Object, Operation, Policy, PolicyFault, Refusal};
 use mpw_replies::{Code, Denial, Fault, Line, Lines, Reply, Trail, enter};
 use mpw_requests::{
@@ -33,7 +34,7 @@ use mpw_requests::{
 };
 use mpw_run::Prepared;
 use mpw_signoff::{NextWaivers, SignOffAnswer};
-use mpw_wafer::{Wafer, WaferAnswer};
+use mpw_wafer::WaferAnswer;
 use mpw_waiver::Waivers;
 use std::alloc::{AllocError, Global};
 

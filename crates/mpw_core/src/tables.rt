@@ -1,10 +1,10 @@
 //! The tables of the desk.
 
 use mpw_hier::Shelf;
+use mpw_placings::Wafer;
 use mpw_rbac::Policy;
 use mpw_replies::Trail;
 use mpw_run::Run;
-use mpw_wafer::Wafer;
 use mpw_waiver::Waivers;
 
 /// What the desk holds: the policy, the shelf of submissions, the wafer, the run that checks it, the waivers of its markers, and

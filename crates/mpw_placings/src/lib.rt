@@ -4,7 +4,7 @@
 //! present one when it was made. [`Placings`] is the table of them, which copies share: [`Placings::place`]
 //! and [`Placings::unplace`] make the changed table and leave the old one. What is true of each table that
 //! they make, on its shelf and on that shelf after others have come, is the law [`each_change_keeps`]:
-//! so a run's snapshot can have [`Placings::roots`] without a further test.
+//! so a run's snapshot can have [`Placings::roots`] without a further test. [`Wafer`] has them beside the deck of their checks.
 #![tactic(auto)]
 
 mod fault;
@@ -12,8 +12,10 @@ mod laws;
 mod limits;
 mod placement;
 mod placings;
+mod wafer;
 
 pub use fault::PlacingFault;
 pub use laws::{each_change_keeps, later_submissions_keep, placing_is_undone};
 pub use placement::Placement;
 pub use placings::Placings;
+pub use wafer::Wafer;

@@ -1,10 +1,11 @@
 -- The rows of requests: the tests of a row in order, of which the first that fails ends it.
-use Rattle.std.specs.Prelude.{◌≡◌, ℕ, Bool, List, [], ◌∷◌, is_some, Result, Ok, Err}
+use Rattle.std.specs.Prelude.{◌≡◌, ℕ, Bool, List, [], ◌∷◌, Option, None, Some, is_some, Result, Ok, Err}
 use Rattle.mpw_roles.specs.Decided.{decided}
 use Rattle.mpw_rbac.specs.declared.permission.Operation.{Operation}
 use Rattle.mpw_rbac.specs.declared.permission.Object.{Object}
 use Rattle.mpw_rbac.specs.Policy.{Policy, session_of, permits}
 use Rattle.mpw_replies.specs.Listing.{Listed}
+use Rattle.mpw_replies.specs.declared.reply.Code.{Code}
 use Rattle.mpw_replies.specs.declared.reply.Denial.TheVariants as denial
 use Rattle.mpw_replies.specs.declared.reply.Reply.{Reply}
 use Rattle.mpw_replies.specs.declared.reply.Reply.TheVariants as reply
@@ -48,6 +49,11 @@ permitted policy connection operation object =
       permits policy connection operation object,
       denied operation object,
     ) ∷ []) tt
+
+-- What has to be there: where it isn't, the row ends with that refusal.
+abbrev pub needed : {A : Type 0} → Code → Option A → Result A Ending
+needed code None = Err (ending.Refused code)
+needed code (Some x) = Ok x
 
 -- What a function of a row answers: its value, seen by view, or what ends the row, or want of memory.
 abbrev pub Told : {B : Type 0} → Fault → Result B Ending → Type 0

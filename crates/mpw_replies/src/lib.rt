@@ -26,6 +26,8 @@ pub use markers::{MarkerLines, MarkerListing, MarkerView, MarkerViews};
 pub use masked::{MaskedView, MaskedViews};
 pub use met::MetCells;
 pub use reply::{Code, Denial, Line, Reply};
-pub use row::{Ending, Fault, enter, entering_denies_what_is_lacked, listing_reply, need_session};
+pub use row::{
+    Ending, Fault, enter, entering_denies_what_is_lacked, listing_reply, need, need_session,
+};
 pub use sight::seen_by;
 pub use trail::{Trail, TrailView, TrailViews};

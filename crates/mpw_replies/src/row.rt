@@ -1,8 +1,8 @@
 //! What a request's row gives: a value, or what ends the row at the first test that fails.
-ghost use Rattle.std.specs.Prelude.{◌≡◌, IfOk, OnErr, List, Result, Err};
+ghost use Rattle.std.specs.Prelude.{◌≡◌, IfOk, OnErr, List, Result, Err, option_map};
 ghost use Rattle.mpw_rbac.specs.Rows.{user_of};
 ghost use Rattle.mpw_replies.specs.Laws.{EnteringDeniesWhatIsLacked};
-ghost use Rattle.mpw_replies.specs.Rows.{Answers, IsToldBy, ended_by, listing_reply, permitted, session_test};
+ghost use Rattle.mpw_replies.specs.Rows.{Answers, IsToldBy, ended_by, listing_reply, needed, permitted, session_test};
 ghost use Rattle.mpw_replies.specs.Listing.{Listed};
 ghost use Rattle.mpw_replies.specs.declared.row.Ending.{Ending as AnyEnding};
 ghost use Rattle.mpw_replies.specs.declared.row.Fault.TheVariants.{Memory};
@@ -81,6 +81,19 @@ pub fn listing_reply(made: Result<Lines, Fault>) -> Result<Reply, AllocError>
     match made {
         Ok(lines) => Ok(Reply::Ok(lines)),
         Err(fault) => fault.reply(),
+    }
+}
+
+/// What has to be there.
+///
+/// # Errors
+/// That refusal where it isn't.
+pub fn need<T>(value: Option<&T>, code: Code) -> Result<&T, Fault>
+    ensures { Answers (λ x. x.now) result (needed code (option_map (λ x. x.now) value.entry)) }
+{
+    match value {
+        Some(value) => Ok(value),
+        None => Err(Fault::from_code(code)),
     }
 }
 

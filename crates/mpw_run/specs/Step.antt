@@ -9,6 +9,7 @@ use Rattle.mpw_job.specs.Answers.{TileJob}
 use Rattle.mpw_job.specs.Jobs.{CutWindows, FoundMarkers}
 use Rattle.mpw_job.specs.Laws.{tile_job_of}
 use Rattle.mpw_job.specs.Layout.{AreLayoutMarkers}
+use Rattle.mpw_run.specs.declared.phase.Checked.{Checked}
 use Rattle.mpw_run.specs.declared.phase.Phase.{Phase}
 use Rattle.mpw_run.specs.declared.phase.Phase.TheVariants.{Idle, Cutting, Checking, Finished}
 use Rattle.mpw_run.specs.declared.phase.RunReply.{RunReply}
@@ -33,6 +34,13 @@ book_size Idle = 0
 book_size (Cutting planned) = 0
 book_size (Checking c) = 0
 book_size (Finished f) = length f.book
+
+-- What a finished run found.
+abbrev pub findings : Phase → Option Checked
+findings Idle = None
+findings (Cutting planned) = None
+findings (Checking c) = None
+findings (Finished f) = Some f
 
 abbrev pub new_run : Run
 new_run = record { number = 0; phase = Idle }

@@ -5,7 +5,7 @@ ghost use Rattle.mpw_tiles.specs.Snapshots.{plan_for, StandFor};
 ghost use Rattle.mpw_tiles.specs.Plan.{tiles};
 ghost use Rattle.mpw_run.specs.Run.{answered, IsPlanned};
 ghost use Rattle.mpw_run.specs.Internal.Prepared.{answers_with};
-ghost use Rattle.mpw_run.specs.Step.{Offer, next_from, job_of_tile};
+ghost use Rattle.mpw_run.specs.Step.{Offer, findings, next_from, job_of_tile};
 ghost use Rattle.mpw_run.specs.Stitching.{stitched, AreFilled};
 
 use crate::tiles::Tiles;
@@ -167,6 +167,18 @@ pub enum Phase {
     Cutting(Planned),
     Checking(Checks),
     Finished(Checked),
+}
+
+impl Phase {
+    /// What a run found that is finished; none of another.
+    pub fn findings(&self) -> Option<&Checked>
+        ensures { option_map (λ f. f.now) result ≡ findings self.now }
+    {
+        match self {
+            Phase::Finished(checked) => Some(checked),
+            Phase::Idle | Phase::Cutting(_) | Phase::Checking(_) => None,
+        }
+    }
 }
 
 /// What an event is answered.

@@ -15,7 +15,8 @@ use Rattle.mpw_roles.specs.Hierarchy.{Name}
 use Rattle.mpw_rbac.specs.Policy.{Policy, session_of}
 use Rattle.mpw_rbac.specs.Rows.{user_of}
 use Rattle.mpw_replies.specs.Listing.{Listed, stored, marker}
-use Rattle.mpw_replies.specs.Rows.{◌>>=◌}
+use Rattle.mpw_replies.specs.Rows.{◌>>=◌, needed}
+use Rattle.mpw_run.specs.Step.{findings}
 use Rattle.mpw_replies.specs.Sight.{seen_by, is_full, line_for, full_line, full_lines, masked_line, masked_lines, masked_number}
 use Rattle.mpw_replies.specs.declared.reply.Code.TheVariants as code
 use Rattle.mpw_replies.specs.declared.reply.Line.{Line}
@@ -184,7 +185,7 @@ book_row None = Err (ending.Refused code.NotFinished)
 book_row (Some book) = Ok (book_told book)
 
 markers_by : (policy : Policy) (connection : ℕ) (waivers : List (Option Waiver)) (phase : Phase)
-    → (checking.finished_run phase >>= (λ f. Ok (checking.checked_lines policy connection f)))
+    → (needed code.NotFinished (findings phase) >>= (λ f. Ok (checking.checked_lines policy connection f)))
     ≡ book_row (book_view policy connection waivers phase)
 markers_by policy connection waivers Idle = refl
 markers_by policy connection waivers (Cutting planned) = refl
@@ -198,9 +199,9 @@ unfolding checking.markers
 markers_alike connection a b same =
     same_behind (inside (is_some (session_of a.policy connection)))
     (inside (is_some (session_of b.policy connection)))
-    (λ entered. checking.finished_run a.run.phase
+    (λ entered. needed code.NotFinished (findings a.run.phase)
     >>= (λ f. Ok (checking.checked_lines a.policy connection f)))
-    (λ entered. checking.finished_run b.run.phase
+    (λ entered. needed code.NotFinished (findings b.run.phase)
     >>= (λ f. Ok (checking.checked_lines b.policy connection f)))
     (same_inside connection a b same)
     (λ entered is.
@@ -275,7 +276,7 @@ waivers_row None = Err (ending.Refused code.NotFinished)
 waivers_row (Some book) = Ok (map stored (waivers_of book))
 
 waivers_by : (policy : Policy) (connection : ℕ) (waivers : List (Option Waiver)) (phase : Phase)
-    → (checking.finished_run phase >>= (λ f. Ok
+    → (needed code.NotFinished (findings phase) >>= (λ f. Ok
     (map stored (signing.waiver_lines policy connection f waivers)))) ≡ waivers_row
     (book_view policy connection waivers phase)
 waivers_by policy connection waivers Idle = refl
@@ -298,9 +299,9 @@ unfolding signing.waivers_row
 waivers_alike connection a b same =
     same_behind (inside (is_some (session_of a.policy connection)))
     (inside (is_some (session_of b.policy connection)))
-    (λ entered. checking.finished_run a.run.phase
+    (λ entered. needed code.NotFinished (findings a.run.phase)
     >>= (λ f. Ok (map stored (signing.waiver_lines a.policy connection f a.waivers))))
-    (λ entered. checking.finished_run b.run.phase
+    (λ entered. needed code.NotFinished (findings b.run.phase)
     >>= (λ f. Ok (map stored (signing.waiver_lines b.policy connection f b.waivers))))
     (same_inside connection a b same)
     (λ entered is.

@@ -1,5 +1,5 @@
 -- `waive` and `sign` are told by the view, and so is what they leave of it.
-use Rattle.std.proofs.Common.{◌≡◌, ◌∙◌, ℕ, ◌+◌, ◌<◌, Bool, true, false, cond, List, [], ◌∷◌, length, map, slice_get, slice_set, Option, None, Some, Result, Ok, Err, is_some, refl, sym, ap, subst, arith}
+use Rattle.std.proofs.Common.{◌≡◌, ◌∙◌, ℕ, ◌+◌, ◌<◌, Bool, true, false, cond, List, [], length, map, slice_get, slice_set, Option, None, Some, Result, Ok, Err, is_some, refl, sym, ap, subst, arith}
 use Rattle.std.specs.Prelude.{is_ok, option_map}
 use Rattle.std.specs.List.{position}
 use Rattle.std.specs.Option.{option_map_or}
@@ -22,7 +22,7 @@ use Rattle.mpw_rbac.specs.declared.session.Identity.{Identity}
 use Rattle.mpw_rbac.specs.declared.session.Session.{Session}
 use Rattle.mpw_rbac.specs.Policy.{Policy, identity_of, permits, session_of}
 use Rattle.mpw_rbac.specs.Rows.{user_of}
-use Rattle.mpw_replies.specs.Rows.{◌>>=◌, ended_by, permitted}
+use Rattle.mpw_replies.specs.Rows.{◌>>=◌, ended_by, needed, permitted}
 use Rattle.mpw_replies.specs.Sight.{seen_by, is_full}
 use Rattle.mpw_replies.specs.declared.reply.Code.TheVariants as code
 use Rattle.mpw_replies.specs.declared.row.Ending.{Ending}
@@ -30,14 +30,13 @@ use Rattle.mpw_replies.specs.declared.row.Ending.TheVariants as ending
 use Rattle.mpw_run.specs.declared.phase.Checked.{Checked}
 use Rattle.mpw_run.specs.declared.phase.Phase.{Phase}
 use Rattle.mpw_run.specs.declared.phase.Phase.TheVariants.{Idle, Cutting, Checking, Finished}
-use Rattle.mpw_run.specs.Step.{book_size, IsPhase}
+use Rattle.mpw_run.specs.Step.{book_size, findings, IsPhase}
 use Rattle.mpw_waiver.specs.declared.fault.WaiverFault.{WaiverFault}
 use Rattle.mpw_waiver.specs.declared.fault.WaiverFault.TheVariants as fault
 use Rattle.mpw_waiver.specs.declared.waiver.Waiver.{Waiver}
 use Rattle.mpw_waiver.specs.Signing.{ask_test, least_own_cell, separation_test, sign_test}
 use Rattle.mpw_waiver.specs.Waivers.{signed_by, waiver_at}
 use Rattle.mpw_signoff.specs.Named.{Named, found_at, found_by, key_by, named_in, rule_place, with_place}
-use Rattle.mpw_checking.specs.Checking as checking
 use Rattle.mpw_signoff.specs.SigningOff as signing
 use Rattle.mpw_core.specs.declared.event.Response.TheVariants as response
 use Rattle.mpw_core.specs.Step.{State, over_waivers}
@@ -228,7 +227,7 @@ module _ (keys : PlacesAreOfKeys) (number : ℕ) (policy : Policy) (connection :
   waive_phase : (phase : Phase) → IsPhase number phase → length waivers ≡ book_size phase
       → IsTold policy connection (asked_by (user_of policy connection)) phase waivers
       (signing.waived_outcome waivers
-      (checking.finished_run phase >>= (λ f. signing.full_marker policy connection f name
+      (needed code.NotFinished (findings phase) >>= (λ f. signing.full_marker policy connection f name
       >>= (λ n. signing.passes (ask_test (waiver_at waivers n.place))
       >>= (λ free. Ok (signing.by_user policy connection n))))))
       (row_seen ask_seen name (book_view policy connection waivers phase))
@@ -244,7 +243,7 @@ module _ (keys : PlacesAreOfKeys) (number : ℕ) (policy : Policy) (connection :
   sign_phase : (phase : Phase) → IsPhase number phase → length waivers ≡ book_size phase
       → IsTold policy connection (signed_by (user_of policy connection)) phase waivers
       (signing.signed_outcome waivers
-      (checking.finished_run phase >>= (λ f. signing.full_marker policy connection f name
+      (needed code.NotFinished (findings phase) >>= (λ f. signing.full_marker policy connection f name
       >>= (λ n. signing.apart f waivers n (user_of policy connection)
       >>= (λ free. Ok (signing.by_user policy connection n))))))
       (row_seen (sign_seen (user_of policy connection)) name
@@ -286,7 +285,7 @@ waive_told keys s connection name orderly =
     behind s.policy connection (asked_by (user_of s.policy connection)) s.waivers s.run.phase
     (signing.waived_outcome s.waivers) (λ why. refl)
     (permitted s.policy connection operation.Waive object.Desk)
-    (checking.finished_run s.run.phase >>= (λ f. signing.full_marker s.policy connection f name
+    (needed code.NotFinished (findings s.run.phase) >>= (λ f. signing.full_marker s.policy connection f name
     >>= (λ n. signing.passes (ask_test (waiver_at s.waivers n.place))
     >>= (λ free. Ok (signing.by_user s.policy connection n)))))
     (row_seen ask_seen name (book_view s.policy connection s.waivers s.run.phase))
@@ -301,7 +300,7 @@ sign_told keys s connection name orderly =
     behind s.policy connection (signed_by (user_of s.policy connection)) s.waivers s.run.phase
     (signing.signed_outcome s.waivers) (λ why. refl)
     (permitted s.policy connection operation.Sign object.Desk)
-    (checking.finished_run s.run.phase >>= (λ f. signing.full_marker s.policy connection f name
+    (needed code.NotFinished (findings s.run.phase) >>= (λ f. signing.full_marker s.policy connection f name
     >>= (λ n. signing.apart f s.waivers n (user_of s.policy connection)
     >>= (λ free. Ok (signing.by_user s.policy connection n)))))
     (row_seen (sign_seen (user_of s.policy connection)) name

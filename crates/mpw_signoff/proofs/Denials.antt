@@ -14,7 +14,7 @@ use Rattle.mpw_requests.specs.declared.sign_off.SignOffRequest.{SignOffRequest}
 use Rattle.mpw_requests.specs.declared.sign_off.SignOffRequest.TheVariants as ask
 use Rattle.mpw_replies.specs.Laws.{EnteringDeniesWhatIsLacked}
 use Rattle.mpw_replies.specs.Listing.{Listed}
-use Rattle.mpw_replies.specs.Rows.{denied, permitted, session_test}
+use Rattle.mpw_replies.specs.Rows.{denied, needed, permitted, session_test}
 use Rattle.mpw_replies.specs.Sight.{seen_by, is_full}
 use Rattle.mpw_replies.specs.declared.reply.Code.TheVariants as code
 use Rattle.mpw_replies.specs.declared.reply.Denial.{Denial}
@@ -25,8 +25,8 @@ use Rattle.mpw_replies.specs.declared.row.Ending.TheVariants as ending
 use Rattle.mpw_run.specs.declared.phase.Checked.{Checked}
 use Rattle.mpw_run.specs.declared.phase.Phase.{Phase}
 use Rattle.mpw_run.specs.declared.phase.Phase.TheVariants.{Idle, Cutting, Checking, Finished}
-use Rattle.mpw_run.specs.Step.{Run}
-use Rattle.mpw_wafer.specs.declared.wafer.Wafer.{Wafer}
+use Rattle.mpw_run.specs.Step.{Run, findings}
+use Rattle.mpw_placings.specs.declared.wafer.Wafer.{Wafer}
 use Rattle.mpw_waiver.specs.declared.fault.WaiverFault.{WaiverFault}
 use Rattle.mpw_waiver.specs.declared.fault.WaiverFault.TheVariants as fault
 use Rattle.mpw_waiver.specs.declared.waiver.Waiver.{Waiver}
@@ -36,13 +36,12 @@ use Rattle.mpw_waiver.specs.Waivers.{waiver_at, with_signer}
 use Rattle.mpw_signoff.specs.declared.rows.ByUser.{ByUser}
 use Rattle.mpw_signoff.specs.Laws.{SubmittersAreTold, AskersAreTold, SignOffsDenyWhatIsLacked}
 use Rattle.mpw_signoff.specs.Named.{Named, named_in}
-use Rattle.mpw_checking.specs.Checking.{finished_run}
 use Rattle.mpw_signoff.specs.SigningOff.{if_full, if_shown, full_marker, ending_of, passes, apart, by_user, waive_row, sign_row, waivers_row, verdict_row, waived_outcome, signed_outcome, listing_outcome, outcome_of}
 use Rattle.mpw_signoff.proofs.Shown.{finished_is, shown_is}
 
 -- ---- parts that deny nothing
 
-finished_denies : (phase : Phase) (why : Denial) → finished_run phase ≡ Err (ending.Denied why) → ⊥
+finished_denies : (phase : Phase) (why : Denial) → needed code.NotFinished (findings phase) ≡ Err (ending.Denied why) → ⊥
 finished_denies Idle why e = cc
 finished_denies (Cutting planned) why e = cc
 finished_denies (Checking c) why e = cc
@@ -99,7 +98,7 @@ unfolding waive_row
 waiving_denies policy run waivers connection name why e =
     elim (parts (permitted policy connection operations.Waive objects.Desk) _ _ e) [
       | inl first ↦ first
-      | inr allowed ↦ absurd (elim (parts (finished_run run.phase) _ _ allowed.2) [
+      | inr allowed ↦ absurd (elim (parts (needed code.NotFinished (findings run.phase)) _ _ allowed.2) [
         | inl phase ↦ finished_denies run.phase why phase
         | inr f ↦ elim (parts (full_marker policy connection f.0 name) _ _ f.2) [
           | inl hidden ↦ shown_denies policy connection f.0 name why hidden
@@ -132,7 +131,7 @@ unfolding sign_row
 signing_denies policy run waivers connection name why e =
     elim (parts (permitted policy connection operations.Sign objects.Desk) _ _ e) [
       | inl first ↦ inl first
-      | inr allowed ↦ elim (parts (finished_run run.phase) _ _ allowed.2) [
+      | inr allowed ↦ elim (parts (needed code.NotFinished (findings run.phase)) _ _ allowed.2) [
         | inl phase ↦ absurd (finished_denies run.phase why phase)
         | inr f ↦ elim (parts (full_marker policy connection f.0 name) _ _ f.2) [
           | inl hidden ↦ absurd (shown_denies policy connection f.0 name why hidden)
@@ -163,7 +162,7 @@ unfolding waivers_row
 telling_denies policy run waivers connection why e =
     elim (parts (session_test policy connection) _ _ e) [
       | inl first ↦ first
-      | inr inside ↦ absurd (elim (parts (finished_run run.phase) _ _ inside.2) [
+      | inr inside ↦ absurd (elim (parts (needed code.NotFinished (findings run.phase)) _ _ inside.2) [
         | inl phase ↦ finished_denies run.phase why phase
         | inr f ↦ lines_done _ why f.2
       ])
@@ -177,7 +176,7 @@ unfolding verdict_row
 verdict_denies policy wafer run waivers connection why e =
     elim (parts (permitted policy connection operations.Verdict objects.Desk) _ _ e) [
       | inl first ↦ first
-      | inr allowed ↦ absurd (elim (parts (finished_run run.phase) _ _ allowed.2) [
+      | inr allowed ↦ absurd (elim (parts (needed code.NotFinished (findings run.phase)) _ _ allowed.2) [
         | inl phase ↦ finished_denies run.phase why phase
         | inr f ↦ lines_done _ why f.2
       ])

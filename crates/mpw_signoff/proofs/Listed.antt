@@ -14,13 +14,13 @@ use Rattle.mpw_replies.specs.declared.reply.Reply.TheVariants as reply
 use Rattle.mpw_replies.specs.declared.row.Ending.{Ending}
 use Rattle.mpw_replies.specs.declared.row.Ending.TheVariants as ending
 use Rattle.mpw_run.specs.declared.phase.Checked.{Checked}
-use Rattle.mpw_run.specs.Step.{Run}
+use Rattle.mpw_run.specs.Step.{Run, findings}
 use Rattle.mpw_waiver.specs.declared.waiver.Waiver.{Waiver}
 use Rattle.mpw_waiver.specs.Waivers.{waiver_at}
 use Rattle.mpw_signoff.specs.Laws.{IsTold, ToldAreShown}
 use Rattle.mpw_signoff.specs.Named.{name_for}
-use Rattle.mpw_replies.specs.Rows.{session_test}
-use Rattle.mpw_checking.specs.Checking.{finished_run}
+use Rattle.mpw_replies.specs.Rows.{needed, session_test}
+use Rattle.mpw_replies.specs.declared.reply.Code.TheVariants as code
 use Rattle.mpw_signoff.specs.SigningOff.{waiver_lines, waivers_row, listing_outcome}
 use Rattle.mpw_signoff.specs.WaiverLines.{waiver_line, rule_line, marker_line, shown_line, lines_from}
 use Rattle.mpw_signoff.proofs.Shown.{finished_is}
@@ -118,12 +118,12 @@ listed_is waivers (Err (ending.Refused why)) lines e = absurd cc
 pub told_is : (policy : Policy) (run : Run) (waivers : List (Option Waiver)) (connection : ℕ)
     (lines : List Listed)
     → waivers_row policy run waivers connection ≡ Ok lines
-    → (f : Checked) × (finished_run run.phase ≡ Ok f)
+    → (f : Checked) × (needed code.NotFinished (findings run.phase) ≡ Ok f)
     × (map stored (waiver_lines policy connection f waivers) ≡ lines)
 unfolding waivers_row
 told_is policy run waivers connection lines e =
     let inside = passed (session_test policy connection) _ lines e in
-    let f = passed (finished_run run.phase) _ lines inside.2 in
+    let f = passed (needed code.NotFinished (findings run.phase)) _ lines inside.2 in
     (f.0, f.1, cc)
 
 pub told_are_shown : ToldAreShown

@@ -10,19 +10,19 @@ use Rattle.mpw_requests.specs.declared.sign_off.MarkerName.{MarkerName}
 use Rattle.mpw_requests.specs.declared.sign_off.SignOffRequest.TheVariants as ask
 use Rattle.mpw_replies.specs.Listing.{Listed, stored}
 use Rattle.mpw_replies.specs.Readable.{IsOfReadable}
-use Rattle.mpw_replies.specs.Rows.{permitted}
+use Rattle.mpw_replies.specs.Rows.{needed, permitted}
+use Rattle.mpw_replies.specs.declared.reply.Code.TheVariants as code
 use Rattle.mpw_replies.specs.Sight.{seen_by}
 use Rattle.mpw_replies.specs.declared.reply.Line.TheVariants as line
 use Rattle.mpw_replies.specs.declared.reply.Reply.TheVariants as reply
 use Rattle.mpw_replies.specs.declared.row.Ending.{Ending}
-use Rattle.mpw_run.specs.Step.{Run}
-use Rattle.mpw_wafer.specs.declared.wafer.Wafer.{Wafer}
+use Rattle.mpw_run.specs.Step.{Run, findings}
+use Rattle.mpw_placings.specs.declared.wafer.Wafer.{Wafer}
 use Rattle.mpw_waiver.specs.declared.waiver.Waiver.{Waiver}
 use Rattle.mpw_waiver.specs.Waivers.{unsigned}
 use Rattle.mpw_signoff.specs.declared.rows.ByUser.{ByUser}
 use Rattle.mpw_signoff.specs.Laws.{SignOffLinesAreOfReadable}
 use Rattle.mpw_signoff.specs.Named.{name_for}
-use Rattle.mpw_checking.specs.Checking.{finished_run}
 use Rattle.mpw_signoff.specs.SigningOff.{is_present, verdict_line, waive_row, sign_row, waiver_lines, waivers_row, verdict_row, waived_outcome, signed_outcome, listing_outcome}
 use Rattle.mpw_signoff.specs.WaiverLines.{waiver_line}
 use Rattle.mpw_signoff.proofs.Listed.{of_lines, told_is}
@@ -89,7 +89,7 @@ module _ (policy : Policy) (connection : ℕ) where
   of_verdict wafer run waivers told e =
       let allowed =
       passed (permitted policy connection operations.Verdict objects.Desk) _ told e in
-      let f = passed (finished_run run.phase) _ told allowed.2 in
+      let f = passed (needed code.NotFinished (findings run.phase)) _ told allowed.2 in
       let present = is_present wafer f.0.planned.snapshot in
       let same : stored (verdict_line present (unsigned waivers)) ∷ [] ≡ told = cc in
       subst Readable same (one (stored (verdict_line present (unsigned waivers)))

@@ -8,7 +8,7 @@ use Rattle.mpw_rbac.specs.Policy.{Policy}
 use Rattle.mpw_rbac.specs.Rows.{user_of}
 use Rattle.mpw_requests.specs.declared.sign_off.MarkerName.{MarkerName}
 use Rattle.mpw_replies.specs.Listing.{Listed}
-use Rattle.mpw_replies.specs.Rows.{ended_by, permitted}
+use Rattle.mpw_replies.specs.Rows.{ended_by, needed, permitted}
 use Rattle.mpw_replies.specs.Sight.{seen_by, is_full}
 use Rattle.mpw_replies.specs.declared.reply.Code.TheVariants as code
 use Rattle.mpw_replies.specs.declared.reply.Reply.TheVariants as reply
@@ -17,7 +17,7 @@ use Rattle.mpw_replies.specs.declared.row.Ending.TheVariants as ending
 use Rattle.mpw_run.specs.declared.phase.Checked.{Checked}
 use Rattle.mpw_run.specs.declared.phase.Phase.{Phase}
 use Rattle.mpw_run.specs.declared.phase.Phase.TheVariants.{Idle, Cutting, Checking, Finished}
-use Rattle.mpw_run.specs.Step.{Run}
+use Rattle.mpw_run.specs.Step.{Run, findings}
 use Rattle.mpw_waiver.specs.declared.fault.WaiverFault.{WaiverFault}
 use Rattle.mpw_waiver.specs.declared.waiver.Waiver.{Waiver}
 use Rattle.mpw_waiver.specs.Laws.{SignersAreApart}
@@ -26,11 +26,10 @@ use Rattle.mpw_waiver.specs.Waivers.{waiver_at, with_signer}
 use Rattle.mpw_signoff.specs.declared.rows.ByUser.{ByUser}
 use Rattle.mpw_signoff.specs.Laws.{IsShownInFull, AskedAreShown, SignersStandApart}
 use Rattle.mpw_signoff.specs.Named.{Named, named_in}
-use Rattle.mpw_checking.specs.Checking.{finished_run}
 use Rattle.mpw_signoff.specs.SigningOff.{if_full, if_shown, full_marker, passes, apart, by_user, waive_row, sign_row, waived_outcome, signed_outcome}
 use Rattle.mpw_signoff.proofs.Naming.{named_is}
 
-pub finished_is : (phase : Phase) (f : Checked) → finished_run phase ≡ Ok f → phase ≡ Finished f
+pub finished_is : (phase : Phase) (f : Checked) → needed code.NotFinished (findings phase) ≡ Ok f → phase ≡ Finished f
 finished_is Idle f e = absurd cc
 finished_is (Cutting planned) f e = absurd cc
 finished_is (Checking c) f e = absurd cc
@@ -97,7 +96,7 @@ unfolding waive_row
 waived_is policy run waivers connection name by e =
     let allowed =
     passed (permitted policy connection operations.Waive objects.Desk) _ by e in
-    let f = passed (finished_run run.phase) _ by allowed.2 in
+    let f = passed (needed code.NotFinished (findings run.phase)) _ by allowed.2 in
     let n = passed (full_marker policy connection f.0 name) _ by f.2 in
     let free = passed (passes (ask_test (waiver_at waivers n.0.place))) _ by n.2 in
     record { f = f.0; n = n.0; phase = finished_is run.phase f.0 f.1; is_shown = n.1; is = cc }
@@ -137,7 +136,7 @@ unfolding sign_row
 signed_is policy run waivers connection name by e =
     let allowed =
     passed (permitted policy connection operations.Sign objects.Desk) _ by e in
-    let f = passed (finished_run run.phase) _ by allowed.2 in
+    let f = passed (needed code.NotFinished (findings run.phase)) _ by allowed.2 in
     let n = passed (full_marker policy connection f.0 name) _ by f.2 in
     let free = passed (apart f.0 waivers n.0 (user_of policy connection)) _ by n.2 in
     record {

@@ -12,21 +12,21 @@ use Rattle.mpw_rbac.specs.declared.permission.Object.TheVariants as objects
 use Rattle.mpw_rbac.specs.declared.permission.Operation.TheVariants as operations
 use Rattle.mpw_rbac.specs.Policy.{Policy}
 use Rattle.mpw_replies.specs.Listing.{Listed, stored}
-use Rattle.mpw_replies.specs.Rows.{permitted}
+use Rattle.mpw_replies.specs.Rows.{needed, permitted}
+use Rattle.mpw_replies.specs.declared.reply.Code.TheVariants as code
 use Rattle.mpw_replies.specs.declared.reply.Line.{Line}
 use Rattle.mpw_replies.specs.declared.reply.Line.TheVariants as line
 use Rattle.mpw_replies.specs.declared.row.Ending.{Ending}
 use Rattle.mpw_run.specs.declared.phase.Checked.{Checked}
 use Rattle.mpw_run.specs.Laws.{TestsAreExact}
-use Rattle.mpw_run.specs.Step.{Run}
+use Rattle.mpw_run.specs.Step.{Run, findings}
 use Rattle.mpw_tiles.specs.Snapshots.{Snapshot}
-use Rattle.mpw_wafer.specs.declared.wafer.Wafer.{Wafer}
+use Rattle.mpw_placings.specs.declared.wafer.Wafer.{Wafer}
 use Rattle.mpw_waiver.specs.declared.waiver.Waiver.{Waiver}
 use Rattle.mpw_waiver.specs.Laws.{NoneIsUnsigned}
 use Rattle.mpw_waiver.specs.Waivers.{waiver_at, is_signed, unsigned}
 use Rattle.mpw_run.specs.declared.phase.Phase.TheVariants.{Finished}
 use Rattle.mpw_signoff.specs.Laws.{CleanIsSignedOff, SignedOffIsClean}
-use Rattle.mpw_checking.specs.Checking.{finished_run}
 use Rattle.mpw_signoff.specs.SigningOff.{is_present_with, is_present, verdict_line, verdict_row}
 use Rattle.mpw_signoff.proofs.Listed.{listed_is}
 use Rattle.mpw_signoff.proofs.Shown.{finished_is}
@@ -53,7 +53,7 @@ present_is exact (Some deck) placings s e =
 -- what a clean verdict passed
 record IsClean (wafer : Wafer) (run : Run) (waivers : List (Option Waiver)) : Type 0 where
   f : Checked
-  phase : finished_run run.phase ≡ Ok f
+  phase : needed code.NotFinished (findings run.phase) ≡ Ok f
   present : is_present wafer f.planned.snapshot ≡ true
   none : unsigned waivers ≡ 0
 
@@ -66,7 +66,7 @@ verdict_is policy wafer run waivers connection e =
     let told = stored line.Clean ∷ [] in
     let allowed =
     passed (permitted policy connection operations.Verdict objects.Desk) _ told e in
-    let f = passed (finished_run run.phase) _ told allowed.2 in
+    let f = passed (needed code.NotFinished (findings run.phase)) _ told allowed.2 in
     let present = is_present wafer f.0.planned.snapshot in
     let same : verdict_line present (unsigned waivers) ≡ line.Clean =
     one (verdict_line present (unsigned waivers)) f.2 in
@@ -123,7 +123,7 @@ unfolding verdict_row
 verdict_told policy wafer run waivers connection lines e =
     let allowed =
     passed (permitted policy connection operations.Verdict objects.Desk) _ lines e in
-    let f = passed (finished_run run.phase) _ lines allowed.2 in
+    let f = passed (needed code.NotFinished (findings run.phase)) _ lines allowed.2 in
     (f.0, finished_is run.phase f.0 f.1, cc)
 
 same_finding : (f g : Checked) → Finished f ≡ Finished g → f ≡ g

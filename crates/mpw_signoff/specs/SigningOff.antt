@@ -12,7 +12,7 @@ use Rattle.mpw_requests.specs.declared.sign_off.MarkerName.{MarkerName}
 use Rattle.mpw_requests.specs.declared.sign_off.SignOffRequest.{SignOffRequest}
 use Rattle.mpw_requests.specs.declared.sign_off.SignOffRequest.TheVariants as ask
 use Rattle.mpw_replies.specs.Listing.{Listed, stored}
-use Rattle.mpw_replies.specs.Rows.{◌>>=◌, session_test, permitted, ended_by}
+use Rattle.mpw_replies.specs.Rows.{◌>>=◌, needed, session_test, permitted, ended_by}
 use Rattle.mpw_replies.specs.Sight.{seen_by, is_full}
 use Rattle.mpw_replies.specs.declared.reply.Line.{Line}
 use Rattle.mpw_replies.specs.declared.reply.Line.TheVariants as line
@@ -22,11 +22,10 @@ use Rattle.mpw_replies.specs.declared.reply.Reply.{Reply}
 use Rattle.mpw_replies.specs.declared.reply.Reply.TheVariants as reply
 use Rattle.mpw_replies.specs.declared.row.Ending.{Ending}
 use Rattle.mpw_replies.specs.declared.row.Ending.TheVariants as ending
-use Rattle.mpw_checking.specs.Checking.{finished_run}
 use Rattle.mpw_run.specs.declared.phase.Checked.{Checked}
 use Rattle.mpw_run.specs.Same.{same_snapshot}
-use Rattle.mpw_run.specs.Step.{Run}
-use Rattle.mpw_wafer.specs.declared.wafer.Wafer.{Wafer}
+use Rattle.mpw_run.specs.Step.{Run, findings}
+use Rattle.mpw_placings.specs.declared.wafer.Wafer.{Wafer}
 use Rattle.mpw_waiver.specs.declared.fault.WaiverFault.{WaiverFault}
 use Rattle.mpw_waiver.specs.declared.fault.WaiverFault.TheVariants as fault
 use Rattle.mpw_waiver.specs.declared.waiver.Waiver.{Waiver}
@@ -74,7 +73,7 @@ unfoldable pub waive_row : Policy → Run → List (Option Waiver) → ℕ → M
     → Result ByUser Ending
 waive_row policy run waivers connection name = do
   allowed ← permitted policy connection operation.Waive object.Desk
-  f ← finished_run run.phase
+  f ← needed code.NotFinished (findings run.phase)
   n ← full_marker policy connection f name
   free ← passes (ask_test (waiver_at waivers n.place))
   Ok (by_user policy connection n)
@@ -89,7 +88,7 @@ unfoldable pub sign_row : Policy → Run → List (Option Waiver) → ℕ → Ma
     → Result ByUser Ending
 sign_row policy run waivers connection name = do
   allowed ← permitted policy connection operation.Sign object.Desk
-  f ← finished_run run.phase
+  f ← needed code.NotFinished (findings run.phase)
   n ← full_marker policy connection f name
   free ← apart f waivers n (user_of policy connection)
   Ok (by_user policy connection n)
@@ -105,7 +104,7 @@ waiver_lines policy connection f waivers =
 unfoldable pub waivers_row : Policy → Run → List (Option Waiver) → ℕ → Result (List Listed) Ending
 waivers_row policy run waivers connection = do
   inside ← session_test policy connection
-  f ← finished_run run.phase
+  f ← needed code.NotFinished (findings run.phase)
   Ok (map stored (waiver_lines policy connection f waivers))
 
 -- The deck and the placed submissions are, by value, those that the run looked at. Labels of placings are no part of this, nor what
@@ -131,7 +130,7 @@ unfoldable pub verdict_row : Policy → Wafer → Run → List (Option Waiver) �
     → Result (List Listed) Ending
 verdict_row policy wafer run waivers connection = do
   allowed ← permitted policy connection operation.Verdict object.Desk
-  f ← finished_run run.phase
+  f ← needed code.NotFinished (findings run.phase)
   Ok (stored (verdict_line (is_present wafer f.planned.snapshot) (unsigned waivers)) ∷ [])
 
 -- ---- what comes of a request

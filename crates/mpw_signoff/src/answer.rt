@@ -9,11 +9,11 @@ ghost use Rattle.mpw_signoff.specs.declared.rows.ByUser.{ByUser as AnyUser};
 
 use crate::rows::{ByUser, sign, verdict, waive, waivers as waivers_row};
 use mpw_geom::Name;
+use mpw_placings::Wafer;
 use mpw_rbac::Policy;
 use mpw_replies::{Fault, Lines, Reply, listing_reply};
 use mpw_requests::SignOffRequest;
 use mpw_run::Run;
-use mpw_wafer::Wafer;
 use mpw_waiver::Waivers;
 use std::alloc::{AllocError, Global};
 

@@ -4,9 +4,9 @@ ghost use Rattle.mpw_run.specs.Same.{same_snapshot};
 ghost use Rattle.mpw_signoff.specs.SigningOff.{is_present};
 
 use mpw_deck::Deck;
+use mpw_placings::Wafer;
 use mpw_run::tests_are_exact;
 use mpw_tiles::Snapshot;
-use mpw_wafer::Wafer;
 use mpw_walk::Root;
 use std::alloc::{AllocError, Global};
 

@@ -12,13 +12,12 @@ use crate::lines::waiver_lines;
 use crate::named::{Named, named_in};
 use crate::present::is_present;
 use crate::sight::is_shown;
-use mpw_checking::findings;
 use mpw_geom::Name;
+use mpw_placings::Wafer;
 use mpw_rbac::{Object, Operation, Policy};
-use mpw_replies::{Code, Denial, Ending, Fault, Line, Lines, enter, need_session, seen_by};
+use mpw_replies::{Code, Denial, Ending, Fault, Line, Lines, enter, need, need_session, seen_by};
 use mpw_requests::MarkerName;
 use mpw_run::{Checked, Run};
-use mpw_wafer::Wafer;
 use mpw_waiver::{WaiverFault, Waivers};
 use std::alloc::{AllocError, Global};
 
@@ -83,7 +82,7 @@ pub(crate) fn waive(
     ensures { Answers (λ by. by) result (row.waive_row policy.now run.now waivers.now connection marker.now) }
 {
     let user = enter(policy, connection, Operation::Waive, Object::Desk)?;
-    let checked = findings(run.phase())?;
+    let checked = need(run.phase().findings(), Code::NotFinished)?;
     let place = full_marker(policy, connection, checked, marker)?.place;
     passes(waivers.may_ask(place))?;
     Ok(ByUser { place, user })
@@ -115,7 +114,7 @@ pub(crate) fn sign(
     ensures { Answers (λ by. by) result (row.sign_row policy.now run.now waivers.now connection marker.now) }
 {
     let user = enter(policy, connection, Operation::Sign, Object::Desk)?;
-    let checked = findings(run.phase())?;
+    let checked = need(run.phase().findings(), Code::NotFinished)?;
     let named = full_marker(policy, connection, checked, marker)?;
     is_apart(checked, waivers, &named, &user)?;
     Ok(ByUser {
@@ -153,7 +152,7 @@ pub(crate) fn waivers(
     ensures { Answers (λ lines. lines) result (row.waivers_row policy.now run.now waivers.now connection) }
 {
     need_session(policy, connection)?;
-    let checked = findings(run.phase())?;
+    let checked = need(run.phase().findings(), Code::NotFinished)?;
     Ok(session_lines(alloc, policy, connection, checked, waivers)?)
 }
 
@@ -183,7 +182,7 @@ pub(crate) fn verdict(
     ensures { Answers (λ lines. lines) result (row.verdict_row policy.now wafer.now run.now waivers.now connection) }
 {
     enter(policy, connection, Operation::Verdict, Object::Desk)?;
-    let checked = findings(run.phase())?;
+    let checked = need(run.phase().findings(), Code::NotFinished)?;
     let present = is_present(alloc, wafer, checked.planned.snapshot())?;
     Ok(Lines::of_line(alloc, verdict_line(present, waivers))?)
 }

@@ -13,7 +13,7 @@ use Rattle.mpw_replies.specs.Rows.{IsNegative, ended_by}
 use Rattle.mpw_replies.specs.declared.reply.Reply.TheVariants as reply
 use Rattle.mpw_replies.specs.declared.row.Ending.{Ending}
 use Rattle.mpw_replies.specs.declared.row.Ending.TheVariants as ends
-use Rattle.mpw_wafer.specs.declared.wafer.Wafer.{Wafer}
+use Rattle.mpw_placings.specs.declared.wafer.Wafer.{Wafer}
 use Rattle.mpw_wafer.specs.Laws.{NegativesLeaveTheWafer, ChangesKeepPlacings, TellsVersion, PlacingsTellTheirVersion}
 use Rattle.mpw_wafer.specs.Wafers.{place_row, unplace_row, deck_row, placed_outcome, unplaced_outcome, decked_outcome, version_lines}
 use Rattle.mpw_wafer.proofs.Parts.{placed_ok, unplaced_ok}

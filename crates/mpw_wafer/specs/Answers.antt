@@ -1,7 +1,7 @@
 -- What functions of the rows over the wafer answer.
 use Rattle.std.specs.Prelude.{◌≡◌, Option, None, Some, is_some}
 use Rattle.mpw_wafer.specs.declared.answer.WaferAnswer.{WaferAnswer}
-use Rattle.mpw_wafer.specs.declared.wafer.Wafer.{Wafer}
+use Rattle.mpw_placings.specs.declared.wafer.Wafer.{Wafer}
 use Rattle.mpw_wafer.specs.Wafers.{Outcome}
 
 -- The wafer behind an answer: the next one, or the one before.

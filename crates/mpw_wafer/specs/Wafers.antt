@@ -26,7 +26,7 @@ use Rattle.mpw_replies.specs.declared.reply.Reply.{Reply}
 use Rattle.mpw_replies.specs.declared.reply.Reply.TheVariants as reply
 use Rattle.mpw_replies.specs.declared.row.Ending.{Ending}
 use Rattle.mpw_replies.specs.declared.row.Ending.TheVariants as ending
-use Rattle.mpw_wafer.specs.declared.wafer.Wafer.{Wafer}
+use Rattle.mpw_placings.specs.declared.wafer.Wafer.{Wafer}
 
 -- ---- rows
 

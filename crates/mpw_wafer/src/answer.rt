@@ -9,11 +9,10 @@ ghost use Rattle.mpw_replies.specs.Rows.{Answers};
 ghost use Rattle.mpw_replies.specs.declared.row.Ending.{Ending as AnyEnding};
 
 use crate::rows::{deck, place, unplace};
-use crate::wafer::{Wafer, deck_copy};
 use mpw_deck::Deck;
 use mpw_geom::Name;
 use mpw_hier::Shelf;
-use mpw_placings::Placings;
+use mpw_placings::{Placings, Wafer};
 use mpw_rbac::Policy;
 use mpw_replies::{Fault, Line, Lines, Reply};
 use mpw_requests::WaferRequest;
@@ -58,10 +57,10 @@ fn placing(
         Ok(placings) => {
             let version = placings.version(shelf, cell, label);
             let lines = version_line(alloc, version)?;
-            let deck = deck_copy(&wafer.deck)?;
+            let next = wafer.with_placings(placings)?;
             Ok(WaferAnswer {
                 reply: Reply::Ok(lines),
-                next: Some(Wafer { placings, deck }),
+                next: Some(next),
             })
         }
         Err(fault) => Ok(no_change(fault.reply()?)),
@@ -74,10 +73,10 @@ fn removal(wafer: &Wafer, made: Result<Placings, Fault>) -> Result<WaferAnswer, 
 {
     match made {
         Ok(placings) => {
-            let deck = deck_copy(&wafer.deck)?;
+            let next = wafer.with_placings(placings)?;
             Ok(WaferAnswer {
                 reply: Reply::Ok(Lines::none()),
-                next: Some(Wafer { placings, deck }),
+                next: Some(next),
             })
         }
         Err(fault) => Ok(no_change(fault.reply()?)),

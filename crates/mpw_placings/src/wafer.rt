@@ -2,8 +2,8 @@
 
 ghost use Rattle.std.specs.Prelude.{◌≡◌, [], IfOk, None};
 
+use crate::Placings;
 use mpw_deck::Deck;
-use mpw_placings::Placings;
 use std::alloc::{AllocError, Global};
 
 /// The placings of the assembled top, and the deck of its checks, where there is one. Copies share both.
@@ -21,7 +21,7 @@ impl Drop for Wafer {
 }
 
 /// The same deck, if there is one.
-pub(crate) fn deck_copy(deck: &Option<Deck>) -> Result<Option<Deck>, AllocError>
+fn deck_copy(deck: &Option<Deck>) -> Result<Option<Deck>, AllocError>
     ensures { IfOk result (λ copy. copy ≡ deck.now) }
 {
     match deck {
@@ -50,6 +50,17 @@ impl Wafer {
         ensures { IfOk result (λ wafer. wafer ≡ self.now) }
     {
         let placings = self.placings.copy()?;
+        self.with_placings(placings)
+    }
+
+    /// The wafer with these placings and the same deck, in constant time and without further memory.
+    ///
+    /// # Errors
+    /// Where no more copies can be counted.
+    pub fn with_placings(&self, placings: Placings) -> Result<Wafer, AllocError>
+        ensures placings { IfOk result (λ wafer. wafer.placings ≡ placings) }
+        ensures deck { IfOk result (λ wafer. wafer.deck ≡ self.now.deck) }
+    {
         let deck = deck_copy(&self.deck)?;
         Ok(Wafer { placings, deck })
     }
