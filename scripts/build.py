@@ -3,20 +3,22 @@
 
   scripts/build.py PROGRAM
 
-Crates are proved as the gate proves them, by runs of `rt ci` over a copy of their files and of those below them. What a run on this
-machine has proved before is not proved again, so that those below are there by then. Wrong bodies are the gate's own business and
-are not tried. The way is told on the standard error.
+The toolchain's `rattle` proves each crate from nothing over the libraries that it built of the crates below, and builds none that
+isn't proved. What the gate tries besides, as wrong bodies and the layout of the texts, is left to the gate. A crate begins as soon
+as those below are proved, where a processor and memory are free for it, that with the longest chain of crates above it first. It takes
+two processes, and more where fewer crates can be proved beside it; the longer the chains of those, the lower is its priority.
 
-A run proves a crate and then those above it, one after the other, that wait for nothing else, since each run takes up to a minute
-to read what is there already. It begins as soon as what is below is proved, where a processor and memory are free for it, that
-with the longest chain of crates above it first. One with a large crate may use all processors, so that none idles while the others
-wait for it; the others take one each, since several processes read the same of the libraries, which in a small crate is most of
-the work. The longer the chains of the other runs, the lower is a run's priority.
+A library stays in the folder out/rlib of its crate, with a sum of all that it was made of: so a build that was broken off goes on
+where it stood, and another program's proves only what it has not in common. The way is told on the standard error.
 """
 import concurrent.futures
+import fcntl
+import functools
+import hashlib
+import json
 import os
-import queue
 import re
+import secrets
 import shutil
 import subprocess
 import sys
@@ -24,135 +26,200 @@ import tempfile
 import time
 
 TOP = os.path.dirname(os.path.dirname(os.path.abspath(__file__)))
-# What a proof reads of a crate, and what the stored run of a program reads.
+# What a proof reads of a crate.
 PROOF = ("src", "specs", "proofs")
-RUN = ("stdin", "stdout", "args", "status", "data")
 # What a crate's proof may take, in kilobytes, and how much less its processes get for each crate that is waited for longer.
 MEMORY = 4_000_000
 NICER = 3
-# The bytes from which on a crate's proof is worth several processes.
-LARGE = 150_000
-# What rt ci says of a crate that it proved, or that an earlier run on this machine did.
-PROVED = re.compile(r"rt: (\w+) (?:proved$|is kept: )")
+# The least processes of a proof: about a third of one is no work that can be shared.
+LEAST = 2
+# The last line of a check that proved a crate, without a word that would leave something out of that.
+VERDICT = re.compile(
+    r"logic=proved( (functions|axioms|target|cpu|threads|main|may-wait|sum)=\S+)+ native=\S+ logic-built=trusted libraries-built=trusted statements=trusted")
+# What tells of a library of an earlier build.
+KEPT = "out/rlib/kept"
 
 
 def say(text):
     print(f"mpw: {text}", file=sys.stderr, flush=True)
 
 
-def lines_of_crates():
-    """Returns the line of each crate in crates.txt."""
+def said(*words):
+    """Returns what a command prints."""
+    return subprocess.run(words, stdout=subprocess.PIPE, stdin=subprocess.DEVNULL, text=True, check=True).stdout.strip()
+
+
+class Toolchain:
+    """The toolchain's folder, and which it is."""
+
+    def __init__(self):
+        self.folder, self.version = os.path.dirname(said("rt", "doc")), said("rt", "version")
+
+    def build(self):
+        return [f"{self.folder}/bin/rattle", "build"]
+
+    def libraries(self, names):
+        """Returns the words of a check that name libraries of the toolchain and its logic."""
+        found = [it for name in names for it in ("--extern", f"{name}={self.folder}/rlibs/{name}.rlib")]
+        found += ["-L", f"dependency={self.folder}/rlibs", "--antt-project", f"{self.folder}/rattle/logic/antt-project.json"]
+        return [*found, "--logic-built", f"{self.folder}/logic_built"]
+
+    def compiler(self):
+        return ["--toolchain", f"{self.folder}/toolchain", "--backend", "llvm"]
+
+    def link(self, made, program):
+        words = [f"{self.folder}/bin/rattle-link", "--target", "x86_64-unknown-linux-gnu", "--toolchain", f"{self.folder}/toolchain"]
+        return [*words, "-o", program, made, f"{self.folder}/c/libos_c.a", f"{self.folder}/c/liblibc_c.a"]
+
+
+class Crate:
+    """A crate of crates.txt, with those that it names, by a table of all."""
+
+    def __init__(self, name, names, known):
+        self.name, self.folder = name, f"{TOP}/crates/{name}"
+        self.uses = [known[it] for it in names if it in known]
+        self.of_toolchain = [it for it in names if it not in known]
+        self.root = "src/main.rt" if os.path.isfile(f"{self.folder}/src/main.rt") else "src/lib.rt"
+        self.rlib = f"{self.folder}/out/rlib/{name}.rlib"
+
+    @functools.cached_property
+    def below(self):
+        """The crates that it stands on, lowest first."""
+        found = {}
+        for used in self.uses:
+            found.update(dict.fromkeys([*used.below, used]))
+        return [*found]
+
+    @functools.cached_property
+    def files(self):
+        walked = (it for part in PROOF for it in os.walk(f"{self.folder}/{part}"))
+        return sorted(f"{at}/{it}" for at, _, names in walked for it in names)
+
+    @functools.cached_property
+    def size(self):
+        """The bytes that a proof of it reads."""
+        return sum(os.path.getsize(it) for it in self.files)
+
+    @functools.cached_property
+    def sum(self):
+        """A sum of all that a proof of it reads but the toolchain."""
+        found = hashlib.sha256(repr((self.of_toolchain, [it.sum for it in self.uses])).encode())
+        for file in self.files:
+            with open(file, "rb") as it:
+                found.update(repr((os.path.relpath(file, self.folder), it.read())).encode())
+        return found.hexdigest()
+
+    def words(self, toolchain):
+        """Returns the words of a check of it over the libraries below, which have to be there."""
+        words = ["--crate-name", self.name, self.root, *toolchain.libraries(["std", *self.of_toolchain])]
+        words += [it for used in self.uses for it in ("--extern", f"{used.name}={used.rlib}")]
+        words += [it for used in self.below for it in ("-L", f"dependency={os.path.dirname(used.rlib)}")]
+        return [*words, "--links", f"{self.name}="]
+
+    @property
+    def kept(self):
+        """What is told of the library that was built, or nothing."""
+        try:
+            with open(f"{self.folder}/{KEPT}", encoding="utf-8") as file:
+                return json.load(file)
+        except (OSError, ValueError):
+            return {}
+
+    def wanted(self, toolchain):
+        """What a kept library has to tell: of what it was made, and over which libraries."""
+        return {"toolchain": toolchain.version, "sum": self.sum, "over": [it.kept.get("build") for it in self.below]}
+
+    def is_kept(self, toolchain):
+        return self.wanted(toolchain).items() <= self.kept.items() and os.path.isdir(self.rlib)
+
+
+def crates_above(name):
+    """Returns a program and all that it stands on, lowest first."""
+    lines, known = {}, {}
     with open(f"{TOP}/crates.txt", encoding="utf-8") as file:
-        return {line.split(":")[0].split()[0]: line for line in file if ":" in line.partition("#")[0]}
+        for line in file:
+            first, colon, names = line.partition("#")[0].partition(":")
+            if colon:
+                lines[first.split()[0]] = names.split()
+    left = [name]
+    for it in left:
+        left += [other for other in lines[it] if other in lines and other not in left]
+    while left:
+        ready = [it for it in left if all(other in known for other in lines[it] if other in lines)]
+        known.update({it: Crate(it, lines[it], known) for it in ready})
+        left = [it for it in left if it not in ready]
+    return [*known[name].below, known[name]]
 
 
-def used(lines, name):
-    """Returns the crates of this repository that a crate names."""
-    return [it for it in lines[name].partition(":")[2].split() if it in lines]
-
-
-def below(lines, name):
-    """Returns the crates of this repository that a crate stands on, and the crate, lowest first."""
-    found = []
-    for dep in used(lines, name):
-        found += [it for it in below(lines, dep) if it not in found]
-    return [*found, name]
-
-
-def size(name):
-    """Returns the bytes that a proof of the crate reads."""
-    walked = (it for part in PROOF for it in os.walk(f"{TOP}/crates/{name}/{part}"))
-    return sum(os.path.getsize(f"{at}/{it}") for at, _, names in walked for it in names)
-
-
-def chains(lines, wanted):
+def chains(crates):
     """Returns the bytes of each crate together with the longest chain of crates above it."""
     found = {}
-    for name in reversed(wanted):
-        found[name] = size(name) + max((it for other, it in found.items() if name in used(lines, other)), default=0)
+    for crate in reversed(crates):
+        found[crate] = crate.size + max((it for other, it in found.items() if crate in other.uses), default=0)
     return found
 
 
-def copy(lines, wanted, tree):
-    for name in wanted:
-        for part in (*PROOF, *(RUN if name == wanted[-1] else ())):
-            source, target = f"{TOP}/crates/{name}/{part}", f"{tree}/crates/{name}/{part}"
-            if os.path.isdir(source):
-                shutil.copytree(source, target, symlinks=True)
-            elif os.path.isfile(source):
-                shutil.copy2(source, target)
-    shutil.copy2(f"{TOP}/HANDLES", tree)
-    with open(f"{tree}/crates.txt", "w", encoding="utf-8") as file:
-        file.writelines(lines[name] for name in wanted)
+def run(crate, words, nice):
+    """Runs a command in the crate's folder. Returns whether it ended well, and what it said."""
+    how = {"cwd": crate.folder, "stdin": subprocess.DEVNULL, "stdout": subprocess.PIPE, "stderr": subprocess.STDOUT}
+    ran = subprocess.run(["nice", "-n", str(nice), *words], **how, text=True, errors="replace", check=False)
+    return ran.returncode == 0, ran.stdout
 
 
-def prove(lines, run, nice, tell):
-    """Proves the crates of a run over those below them, and tells of each; a program that was proved is put into its crate's folder.
-    Returns what failed, or nothing."""
-    top, log = run[-1], []
-    jobs = {} if any(size(it) >= LARGE for it in run) else {"RT_JOBS": "1"}
-    with tempfile.TemporaryDirectory(prefix="mpw-build-") as tree:
-        copy(lines, below(lines, top), tree)
-        words = ["nice", "-n", str(nice), "rt", "ci"]
-        how = {"cwd": tree, "env": os.environ | jobs, "stdin": subprocess.DEVNULL, "stdout": subprocess.PIPE, "stderr": subprocess.STDOUT}
-        with subprocess.Popen(words, text=True, errors="replace", **how) as ran:
-            for line in ran.stdout:
-                log.append(line)
-                told = PROVED.match(line)
-                if told and told[1] in run:
-                    tell(told[1])
-        made, place = f"{tree}/crates/{top}/out/{top}", f"{TOP}/crates/{top}/out"
-        if os.path.isfile(made):
-            os.makedirs(place, exist_ok=True)
-            shutil.move(made, f"{place}/{top}")
-    return "".join(log) if ran.returncode else None
+def prove(crate, toolchain, jobs, nice):
+    """Proves and builds a crate. Returns what failed, or nothing."""
+    words = [*toolchain.build(), *crate.words(toolchain), "--jobs", str(jobs)]
+    if crate.root == "src/main.rt":
+        with tempfile.TemporaryDirectory(prefix="mpw-build-") as room:
+            made, program = f"{room}/{crate.name}.o", f"{room}/{crate.name}"
+            well, text = run(crate, [*words, *toolchain.compiler(), "-o", made], nice)
+            well = well and VERDICT.fullmatch(text.rstrip("\n").rpartition("\n")[2])
+            if well:
+                well, text = run(crate, toolchain.link(made, program), nice)
+            if well:
+                os.makedirs(f"{crate.folder}/out", exist_ok=True)
+                shutil.move(program, f"{crate.folder}/out/{crate.name}")
+        return None if well else text
+    shutil.rmtree(os.path.dirname(crate.rlib), ignore_errors=True)
+    os.makedirs(os.path.dirname(crate.rlib))
+    well, text = run(crate, [*words, "--statements", "-o", crate.rlib], nice)
+    if not well or not VERDICT.fullmatch(text.rstrip("\n").rpartition("\n")[2]):
+        return text
+    with open(f"{crate.folder}/{KEPT}", "w", encoding="utf-8") as file:
+        json.dump({**crate.wanted(toolchain), "build": secrets.token_hex(16)}, file)
+    return None
 
 
-def work(lines, run, nice, events):
-    """Proves a run. Its events are the crates that are proved, and behind them its end with what failed, or nothing."""
-    failed = f"the run of {' '.join(run)} broke off"
-    try:
-        failed = prove(lines, run, nice, lambda name: events.put((run, name, None)))
-    finally:
-        events.put((run, None, failed))
-
-
-def lanes():
-    """Returns how many crates to prove at once."""
+def free():
+    """Returns the free memory in kilobytes."""
     with open("/proc/meminfo", encoding="ascii") as file:
-        free = int(re.search(r"MemAvailable:\s+(\d+)", file.read())[1])
-    return max(1, min(len(os.sched_getaffinity(0)), free // MEMORY))
+        return int(re.search(r"MemAvailable:\s+(\d+)", file.read())[1])
 
 
-def next_run(lines, left, done):
-    """Returns the first crate of those that are left that waits for nothing, and above it one after the other that waits for nothing else."""
-    run = []
-    for name in left:
-        if done.union(run).issuperset(used(lines, name)) and (not run or run[-1] in used(lines, name)):
-            run.append(name)
-    return run
-
-
-def prove_all(lines, wanted):
+def prove_all(crates, toolchain):
     """Proves the crates, telling the way. Returns what failed, or nothing."""
-    began, chain, lane, events = time.monotonic(), chains(lines, wanted), lanes(), queue.Queue()
-    left, running, done, failed = sorted(wanted, key=lambda it: -chain[it]), [], set(), None
-    with concurrent.futures.ThreadPoolExecutor(lane) as pool:
+    began, chain, processors = time.monotonic(), chains(crates), len(os.sched_getaffinity(0))
+    done, left = set(), sorted(crates, key=lambda it: -chain[it])
+    for crate in crates:
+        if crate.root == "src/lib.rt" and done.issuperset(crate.below) and crate.is_kept(toolchain):
+            done.add(crate)
+            left.remove(crate)
+    lanes, running, total, failed = max(1, min(processors, free() // MEMORY)), {}, len(left), None
+    with concurrent.futures.ThreadPoolExecutor(lanes) as pool:
         while running or left and not failed:
-            while not failed and len(running) < lane and (run := next_run(lines, left, done)):
-                left = [it for it in left if it not in run]
-                waited_for = sum(chain[other[0]] > chain[run[0]] for other in running)
-                running.append(run)
-                pool.submit(work, lines, run, NICER * waited_for, events)
-            run, name, why = events.get()
-            if name:
-                done.add(name)
-                say(f"{len(done)} of {len(wanted)} crates proved: {name}, {time.monotonic() - began:.0f} s")
-                continue
-            running.remove(run)
-            failed = failed or why
-            if not why:
-                done.update(run)
+            ready = [it for it in left if not failed and done.issuperset(it.uses)]
+            jobs = max(min(LEAST, processors), processors // (len(ready) + len(running) or 1))
+            for crate in ready[: lanes - len(running)]:
+                left.remove(crate)
+                waited_for = sum(chain[it] > chain[crate] for it in running.values())
+                running[pool.submit(prove, crate, toolchain, jobs, NICER * waited_for)] = crate
+            for it in concurrent.futures.wait(running, return_when=concurrent.futures.FIRST_COMPLETED).done:
+                crate, why = running.pop(it), it.result()
+                if why:
+                    failed = failed or f"{crate.name}:\n{why}"
+                    continue
+                done.add(crate)
+                say(f"{total - len(left) - len(running)} of {total} crates proved: {crate.name}, {time.monotonic() - began:.0f} s")
     return failed
 
 
@@ -160,12 +227,12 @@ def main(words):
     if len(words) != 1:
         print(__doc__, file=sys.stderr)
         return 2
-    program, lines = words[0], lines_of_crates()
-    wanted = below(lines, program)
-    say(f"proving and building {program}; docs/PROVING.md tells how long that takes where nothing is proved yet")
-    failed = prove_all(lines, wanted)
-    if failed or not os.path.isfile(f"{TOP}/crates/{program}/out/{program}"):
-        say(f"{program} could not be proved and built:\n{(failed or '')[-4000:]}")
+    say(f"proving and building {words[0]}; docs/PROVING.md tells how long that takes where nothing is proved yet")
+    with open(f"{TOP}/crates.txt", encoding="utf-8") as lock:
+        fcntl.flock(lock, fcntl.LOCK_EX)
+        failed = prove_all(crates_above(words[0]), Toolchain())
+    if failed:
+        say(f"{words[0]} could not be proved and built: {failed[-4000:]}")
         return 1
     return 0
 
