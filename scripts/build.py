@@ -35,7 +35,9 @@ NICER = 3
 LEAST = 2
 # The last line of a check that proved a crate, without a word that would leave something out of that.
 VERDICT = re.compile(
-    r"logic=proved( (functions|axioms|target|cpu|threads|main|may-wait|sum)=\S+)+ native=\S+ logic-built=trusted libraries-built=trusted statements=trusted")
+    r"logic=proved( (functions|axioms|target|cpu|threads|main|may-wait|sum)=\S+)+"
+    r" native=\S+ logic-built=trusted libraries-built=trusted statements=trusted"
+)
 # What tells of a library of an earlier build.
 KEPT = "out/rlib/kept"
 
@@ -133,7 +135,7 @@ class Crate:
         return self.wanted(toolchain).items() <= self.kept.items() and os.path.isdir(self.rlib)
 
 
-def crates_above(name):
+def crates_of(name):
     """Returns a program and all that it stands on, lowest first."""
     lines, known = {}, {}
     with open(f"{TOP}/crates.txt", encoding="utf-8") as file:
@@ -227,10 +229,13 @@ def main(words):
     if len(words) != 1:
         print(__doc__, file=sys.stderr)
         return 2
+    if not os.path.isfile(f"{TOP}/crates/{words[0]}/src/main.rt"):
+        say(f"{words[0]} is no program of this repository")
+        return 2
     say(f"proving and building {words[0]}; docs/PROVING.md tells how long that takes where nothing is proved yet")
     with open(f"{TOP}/crates.txt", encoding="utf-8") as lock:
         fcntl.flock(lock, fcntl.LOCK_EX)
-        failed = prove_all(crates_above(words[0]), Toolchain())
+        failed = prove_all(crates_of(words[0]), Toolchain())
     if failed:
         say(f"{words[0]} could not be proved and built: {failed[-4000:]}")
         return 1
