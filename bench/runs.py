@@ -1,21 +1,25 @@
 #!/usr/bin/env python3
 """Times whole runs: the cut, the jobs of all tiles on one thread and on all, and the stitching.
 
-  bench/runs.py [KIND N SIDE]..     KIND is wires or array; the four layouts where none is given
+  bench/runs.py [ROUNDS] [KIND N SIDE]..     one round; KIND is wires or array; the four layouts where none is given
 
-Needs crates/bench_job/out/bench_job (`rt run` in crates/bench_job). Where klayout is installed, its flat, tiled and deep
-modes stand beside it, each on one thread: times and memory of shielded checks, which are KLayout's faster ones, and on
-up to 20,000 wires the counts of unshielded ones, which are those of our rules. Seconds are wall seconds without reading, on
-a machine that should be idle; megabytes are the most that a process held. Counts are width, space, separation, enclosing.
+Needs crates/bench_job/out/bench_job (`scripts/build.py bench_job`). In each round a layout is run twice, with its jobs on one thread
+and on all, each in a process of its own. Where klayout is installed, its flat, tiled and deep modes stand behind them in the same round,
+each on one thread, until they have taken two minutes: times and memory of shielded checks, which are KLayout's faster ones. Its counts on up
+to 20,000 wires are those of unshielded ones, which are those of our rules. All times are those in the middle of the rounds, and ratios are those of
+such times. They are of wall time without reading, on a machine that should be idle; megabytes are the most that a process held, in the first round.
+Counts are width, space, separation, enclosing.
 """
 import multiprocessing
 import os
 import random
 import re
 import shutil
+import statistics
 import subprocess
 import sys
 import tempfile
+import time
 
 import layouts
 
@@ -23,6 +27,10 @@ HERE = os.path.dirname(os.path.abspath(__file__))
 PROGRAM = os.path.join(HERE, '..', 'crates', 'bench_job', 'out', 'bench_job')
 RUNS = [('wires', 20000, 4096), ('wires', 200000, 8192), ('array', 64, 2048), ('array', 512, 8192)]
 MODES = ['flat', 'tiled', 'deep']
+HEADS = ['Layout', 'Tiles', 'Rounds', 'Cut', 'Jobs, one thread', 'Jobs, all threads', 'Times one', 'Stitching', 'Run on one thread', 'Memory',
+         'Markers']
+# What KLayout's modes may have taken of a layout before no further round has them.
+MOST_SECONDS = 120
 # On 200,000 wires unshielded checks take KLayout over 10 minutes.
 MOST_WIRES_UNSHIELDED = 20000
 
@@ -75,10 +83,10 @@ def run(command):
     return output, usage.ru_maxrss / 1024
 
 
-def ours(path, side):
-    """The tiles, the counts of the rules, the seconds of each part, and the megabytes."""
-    output, megabytes = run([PROGRAM, path, str(side)])
-    parts = {what: float(taken) / 1000 for what, taken in re.findall(r'^(\w+(?: on \w+)?).*: ([\d.]+) ms$', output, re.M)}
+def ours(path, side, threads):
+    """The tiles, the counts of the rules, the milliseconds of each part, and the megabytes."""
+    output, megabytes = run([PROGRAM, path, str(side), threads])
+    parts = {what: float(taken) for what, taken in re.findall(r'^(\w+).*: ([\d.]+) ms$', output, re.M)}
     tiles = int(re.search(r'^cut: (\d+) tiles', output, re.M).group(1))
     counts = [int(count) for count in re.findall(r'^  \w+: (\d+)$', output, re.M)]
     return tiles, counts, parts, megabytes
@@ -93,42 +101,63 @@ def theirs(path, mode, side, shielded):
     return [int(count) for count in counts.split()], float(re.search(r'^([\d.]+) s$', output, re.M).group(1)), megabytes
 
 
-def compared(kind, n, side, path, one, megabytes):
-    """KLayout's columns: each mode's seconds and megabytes as such and as multiples of ours, and the counts."""
-    cells, counts = [], []
-    for mode in MODES:
-        found, seconds, their_megabytes = theirs(path, mode, side, True)
-        cells.append(f'{seconds:.2f} s ({seconds / max(one, 0.001):.1f}), {their_megabytes:.0f} MB ({their_megabytes / megabytes:.1f})')
-        if mode == 'flat':
-            counts = found
-    how = 'shielded'
+def unshielded(kind, n, side, path, counts):
+    """KLayout's counts: those of unshielded checks where these don't take long, else the ones given."""
     if kind == 'wires' and n <= MOST_WIRES_UNSHIELDED:
-        counts, how = theirs(path, 'flat', side, False)[0], 'unshielded'
-    return [*cells, f'{" ".join(map(str, counts))}, {how}']
+        return f'{" ".join(map(str, theirs(path, "flat", side, False)[0]))}, unshielded'
+    return f'{" ".join(map(str, counts))}, shielded'
 
 
-def row(kind, n, side, folder):
+def measured(path, side, rounds):
+    """What each round found: of ours on one thread and on all, and of each of KLayout's modes."""
+    found = {it: [] for it in ['one', 'all', *MODES]}
+    left = MOST_SECONDS if shutil.which('klayout') else 0
+    for _ in range(rounds):
+        for threads in ('one', 'all'):
+            found[threads].append(ours(path, side, threads))
+        if left > 0:
+            began = time.monotonic()
+            for mode in MODES:
+                found[mode].append(theirs(path, mode, side, True))
+            left -= time.monotonic() - began
+    return found
+
+
+def compared(found, one, megabytes):
+    """KLayout's columns: each mode's seconds and megabytes as such and as multiples of ours."""
+    cells = []
+    for mode in MODES:
+        seconds, held = statistics.median(it[1] for it in found[mode]), found[mode][0][2]
+        cells.append(f'{seconds:.3f} s ({1000 * seconds / one:.1f}), {held:.0f} MB ({held / megabytes:.1f})')
+    return cells
+
+
+def row(kind, n, side, folder, rounds):
     path = os.path.join(folder, 'layout.gds')
     make(path, kind, n)
-    tiles, counts, parts, megabytes = ours(path, side)
-    one = parts['cut'] + parts['jobs on one'] + parts['stitch']
-    cells = [f'{kind} {n}, side {side}', str(tiles), *(f'{parts[it]:.2f} s' for it in ('cut', 'jobs on one', 'jobs on all', 'stitch')),
-             f'{one:.2f} s', f'{megabytes:.0f} MB', ' '.join(map(str, counts))]
-    if shutil.which('klayout'):
-        cells += compared(kind, n, side, path, one, megabytes)
+    found = measured(path, side, rounds)
+    tiles, counts, _, megabytes = found['one'][0]
+    cut, one, stitch = (statistics.median(it[2][part] for it in found['one']) for part in ('cut', 'jobs', 'stitch'))
+    every = statistics.median(it[2]['jobs'] for it in found['all'])
+    whole = statistics.median(it[2]['cut'] + it[2]['jobs'] + it[2]['stitch'] for it in found['one'])
+    cells = [f'{kind} {n}, side {side}', str(tiles), f'{rounds} and {len(found["flat"])}', f'{cut:.1f} ms', f'{one:.1f} ms', f'{every:.1f} ms',
+             f'{one / every:.2f}', f'{stitch:.1f} ms', f'{whole:.1f} ms', f'{megabytes:.0f} MB', ' '.join(map(str, counts))]
+    if found['flat']:
+        cells += [*compared(found, whole, megabytes), unshielded(kind, n, side, path, found['flat'][0][0])]
     print('| ' + ' | '.join(cells) + ' |', flush=True)
 
 
 def main(words):
+    rounds = int(words.pop(0)) if len(words) % 3 == 1 else 1
     asked = [(words[i], int(words[i + 1]), int(words[i + 2])) for i in range(0, len(words), 3)] or RUNS
-    heads = ['Layout', 'Tiles', 'Cut', 'Jobs, one thread', 'Jobs, all threads', 'Stitching', 'Run on one thread', 'Memory', 'Markers']
+    heads = [*HEADS]
     if shutil.which('klayout'):
         heads += [f'KLayout {mode}: time and memory (times ours)' for mode in MODES] + ['KLayout pairs, flat']
     print('| ' + ' | '.join(heads) + ' |')
     print('|' + '-|' * len(heads))
     with tempfile.TemporaryDirectory() as temporary:
         for kind, count, side in asked:
-            row(kind, count, side, temporary)
+            row(kind, count, side, temporary, rounds)
 
 
 if __name__ == '__main__':
