@@ -42,7 +42,8 @@ fn do_next(alloc: Global, jobs: &[Job], next: &AtomicUsize) -> Result<Vec<Done>,
     Ok(list)
 }
 
-/// What so many other threads and this one have done. This one begins the others, one after another, and then does jobs itself.
+/// What so many other threads and this one have done. This one begins the others, one after another, as long as a job is left
+/// to take, and then does jobs itself.
 #[cycle(lists)]
 fn lists_done<R: Threads + Sync>(
     rt: &R,
@@ -53,7 +54,7 @@ fn lists_done<R: Threads + Sync>(
 ) -> Result<Vec<Vec<Done>>, AllocError>
     ensures { IfOk result (λ lists. All (λ list. All (IsDone jobs.now) list.items) lists.items) }
 {
-    if others == 0 {
+    if others == 0 || next.load(Ordering::Relaxed) >= jobs.len() {
         let mut lists = Vec::new(alloc);
         lists.push(do_next(alloc, jobs, next)?)?;
         return Ok(lists);
