@@ -38,6 +38,8 @@ VERDICT = re.compile(
     r"logic=proved( (functions|axioms|target|cpu|threads|main|may-wait|sum)=\S+)+"
     r" native=\S+ logic-built=trusted libraries-built=trusted statements=trusted"
 )
+# What a check says of what it passed, which doesn't tell why another crate or function failed.
+PASSED = re.compile(r"(statements|logic) .*|fn \S+: proved")
 # What tells of a library of an earlier build.
 KEPT = "out/rlib/kept"
 
@@ -237,7 +239,8 @@ def main(words):
         fcntl.flock(lock, fcntl.LOCK_EX)
         failed = prove_all(crates_of(words[0]), Toolchain())
     if failed:
-        say(f"{words[0]} could not be proved and built: {failed[-4000:]}")
+        told = "\n".join(it for it in failed.splitlines() if not PASSED.fullmatch(it))
+        say(f"{words[0]} could not be proved and built: {told[:4000]}")
         return 1
     return 0
 
