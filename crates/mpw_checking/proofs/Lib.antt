@@ -1,3 +1,1 @@
-pub mod Denials
 pub mod Leaving
-pub mod Readable

@@ -45,11 +45,6 @@ going_on (Cutting planned) = Ok tt
 going_on (Checking c) = Ok tt
 going_on (Finished f) = Err (ending.Refused code.NoRun)
 
--- There is a deck.
-abbrev pub present_deck : Option Deck → Result Deck Ending
-present_deck None = Err (ending.Refused code.NoDeck)
-present_deck (Some deck) = Ok deck
-
 -- What is placed shows a shape, and at most 4096 tiles cover it.
 abbrev pub cover_test : Snapshot → Option Tiling → Result Planned Ending
 cover_test snapshot None = Err (ending.Refused code.Tiles)
@@ -73,7 +68,7 @@ unfoldable pub run_row : Policy → List Submission → Wafer → Run → ℕ �
 run_row policy shelf wafer run connection = do
   allowed ← permitted policy connection operation.Run object.Desk
   free ← at_rest run.phase
-  deck ← present_deck wafer.deck
+  deck ← needed code.NoDeck wafer.deck
   planning (snapshot_of deck wafer.placings shelf)
 
 -- The row of `cancel`.

@@ -4,7 +4,7 @@
 ghost use Rattle.std.specs.Prelude.{◌≡◌, IfOk, length};
 ghost use Rattle.mpw_checking.specs.Checking as row;
 ghost use Rattle.mpw_placings.specs.Placements.{ArePlacings, roots_of};
-ghost use Rattle.mpw_replies.specs.Rows.{Answers};
+ghost use Rattle.mpw_replies.specs.Rows.{Answers, needed};
 ghost use Rattle.mpw_tiles.specs.Snapshots.{AreRoots, shown};
 
 use mpw_deck::Deck;
@@ -31,7 +31,7 @@ fn rest(phase: &Phase) -> Result<(), Fault>
 
 /// The deck, if there is one.
 fn deck(deck: &Option<Deck>) -> Result<Deck, Fault>
-    ensures { Answers (λ deck. deck) result (row.present_deck deck.now) }
+    ensures { Answers (λ deck. deck) result (needed Code.NoDeck deck.now) }
 {
     match deck {
         Some(deck) => Ok(deck.copy()?),

@@ -10,7 +10,4 @@ mod laws;
 mod rows;
 
 pub use answer::{NextRun, RunAnswer, answer_request};
-pub use laws::{
-    a_request_counts_one_run_at_most, denials_over_the_run_name_what_is_lacked,
-    lines_of_markers_are_of_readable_cells, runs_are_left_unless_a_request_is_accepted,
-};
+pub use laws::a_request_counts_one_run_at_most;

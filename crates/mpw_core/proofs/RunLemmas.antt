@@ -1,5 +1,5 @@
--- What the run's events leave, and how many runs were accepted.
-use Rattle.std.proofs.Common.{◌≡◌, ℕ, Bool, true, false, cond, List, [], ◌∷◌, length, Option, Some, None, Result, Ok, Err, refl, sym, ap, ◌∙◌, arith, true≢false}
+-- How many runs were accepted.
+use Rattle.std.proofs.Common.{[], ◌≡◌, ℕ, Bool, true, false, cond, List, ◌∷◌, length, Option, Some, None, Result, Ok, Err, refl, arith}
 use Rattle.std.specs.Prelude.{◌==◌, ◌≤◌, ◌+◌, ◌&&◌, not, slice_get, slice_set, if◌then◌else◌, nat_lt}
 use Rattle.mpw_tiles.specs.Plan.{tiles}
 use Rattle.mpw_markers.specs.declared.marker.Marker.{Marker}
@@ -10,13 +10,9 @@ use Rattle.mpw_rbac.specs.Policy.{Policy}
 use Rattle.mpw_rbac.specs.Rows as rows
 use Rattle.mpw_run.specs.declared.phase.Phase.{Phase}
 use Rattle.mpw_run.specs.declared.phase.Phase.TheVariants.{Idle, Cutting, Checking, Finished}
-use Rattle.mpw_run.specs.declared.phase.RunReply.{RunReply}
-use Rattle.mpw_run.specs.declared.phase.RunReply.TheVariants as reply
 use Rattle.mpw_run.specs.Run.{Tile, Checks, answered}
 use Rattle.mpw_run.specs.Same.{same_snapshot, same_tile_job}
-use Rattle.mpw_run.specs.Step.{Run, Offer, Outcome as RunOutcome, answered_by, next_from, handed, taken_in, taken, cut_in, cut_answered, kept, job_of_tile, tile_compared, tile_checked, tile_in, tile_answered}
-use Rattle.mpw_run.specs.Laws.{finishes, Event as RunEvent, leaves, UnkeptLeavesTheRun}
-use Rattle.mpw_run.specs.Laws as law
+use Rattle.mpw_run.specs.Step.{Run, Offer, Outcome as RunOutcome, answered_by, next_from, handed, taken_in, cut_in, kept, job_of_tile, tile_compared, tile_checked, tile_in}
 use Rattle.mpw_checking.specs.Laws.{NumbersAreCounted}
 use Rattle.mpw_rbac.specs.declared.permission.Object.TheVariants as object
 use Rattle.mpw_rbac.specs.declared.permission.Operation.TheVariants as operation
@@ -24,97 +20,12 @@ use Rattle.mpw_replies.specs.Rows.{permitted}
 use Rattle.mpw_replies.specs.declared.row.Ending.{Ending}
 use Rattle.mpw_requests.specs.declared.request.Request.{Request}
 use Rattle.mpw_requests.specs.declared.request.Request.TheVariants as ask
-use Rattle.mpw_core.specs.Answer.{run_response}
 use Rattle.mpw_core.specs.PolicyRows.{row_of}
 use Rattle.mpw_core.specs.declared.event.Call.{Call}
 use Rattle.mpw_core.specs.declared.event.Event.{Event}
 use Rattle.mpw_core.specs.declared.event.Event.TheVariants as event
-use Rattle.mpw_core.specs.declared.event.Response.TheVariants as response
 use Rattle.mpw_core.specs.History.{state_after}
-use Rattle.mpw_core.specs.Step.{State, Outcome, new_state, no_change, policy_outcome, query_outcome, trail_outcome, identity_lines, outcome_of, event_outcome, not_kept_response, settlement, of_run, step, response_of, after}
-use Rattle.mpw_core.proofs.RefusalLemmas.{settlement-run}
-
--- ---- what is not kept leaves the state
-
-same-reply : {a b : RunReply} → run_response a ≡ run_response b → a ≡ b
-same-reply e = cc
-
-changed-told : (s : State) (row : Result Policy Refusal) (r : RunReply)
-    → (policy_outcome s row).response ≡ run_response r → ⊥
-changed-told s (Ok q) r e = cc
-changed-told s (Err why) r e = cc
-
-asked-told : (s : State) (row : Result Identity Refusal) (r : RunReply)
-    → (query_outcome s identity_lines row).response ≡ run_response r → ⊥
-asked-told s (Ok who) r e = cc
-asked-told s (Err why) r e = cc
-
-audited-told : (s : State) (row : Result (Unit {0}) Ending) (r : RunReply)
-    → (trail_outcome s row).response ≡ run_response r → ⊥
-audited-told s (Ok allowed) r e = cc
-audited-told s (Err ending) r e = cc
-
--- a request is told a reply of its own
-request-told : (s : State) (connection : ℕ) (request : Request) (r : RunReply)
-    → (outcome_of s connection request).response ≡ run_response r → ⊥
-request-told s connection (ask.Policy request) r e =
-    changed-told s (row_of s.policy connection request) r e
-request-told s connection ask.Whoami r e = asked-told s (rows.whoami s.policy connection) r e
-request-told s connection (ask.Layout request) r e = cc
-request-told s connection (ask.Wafer request) r e = cc
-request-told s connection (ask.Run request) r e = cc
-request-told s connection (ask.SignOff request) r e = cc
-request-told s connection ask.Trail r e =
-    audited-told s (permitted s.policy connection operation.Audit object.Desk) r e
-
--- what is not kept finishes no run
-leaving-goes-on : (r : RunReply) → leaves r ≡ true → finishes r ≡ false
-leaving-goes-on (reply.Taken job) is = refl
-leaving-goes-on reply.NoJob is = refl
-leaving-goes-on reply.Kept is = refl
-leaving-goes-on reply.Finished is = absurd (true≢false (sym is))
-leaving-goes-on reply.Stranger is = refl
-leaving-goes-on reply.Double is = refl
-leaving-goes-on reply.OldRun is = refl
-
-gone-told : (r : RunReply) → response.Gone ≡ run_response r → ⊥
-gone-told r e = cc
-
-restart-told : (r : RunReply) → response.Restarted ≡ run_response r → ⊥
-restart-told r e = cc
-
-module _ (unkept_leaves : UnkeptLeavesTheRun) where
-  leaves-run : (s : State) (e : RunEvent) (r : RunReply) → leaves r ≡ true → (o : RunOutcome)
-      → o ≡ law.step s.run e → run_response o.reply ≡ run_response r → (of_run s o).state ≡ s
-  leaves-run s e r is o same told =
-      let leaving : leaves (law.step s.run e).reply ≡ true = ap (λ (o : RunOutcome). leaves o.reply)
-      (sym same) ∙ ap leaves (same-reply told) ∙ is in
-      let unfinished : finishes o.reply ≡ false =
-      leaving-goes-on o.reply (ap leaves (same-reply told) ∙ is) in
-      rw unfinished (ap (λ (run : Run). record s { run = run }) (ap (λ (o : RunOutcome). o.run) same
-      ∙ unkept_leaves s.run e leaving))
-
-  leaves-event_outcome : (s : State) (event : Event) (r : RunReply) → leaves r ≡ true
-      → (event_outcome s event).response ≡ run_response r → (event_outcome s event).state ≡ s
-  unfolding event_outcome
-  leaves-event_outcome s (event.Ask connection request) r is e =
-      absurd (request-told s connection request r e)
-  leaves-event_outcome s (event.Gone connection) r is e = absurd (gone-told r e)
-  leaves-event_outcome s (event.Take worker) r is e = leaves-run s RunEvent.take r is (taken s.run)
-      refl e
-  leaves-event_outcome s (event.Cut answer) r is e = leaves-run s (RunEvent.cut answer) r is
-      (cut_answered s.run answer) refl e
-  leaves-event_outcome s (event.Tile answer) r is e = leaves-run s (RunEvent.tile answer) r is
-      (tile_answered s.run answer) refl e
-  leaves-event_outcome s event.Restart r is e = absurd (restart-told r e)
-
-  pub unkept-leaves : (s : State) (event : Event) (kept : Bool) (r : RunReply) → leaves r ≡ true
-      → response_of s event kept ≡ run_response r → (step s event kept).state ≡ s
-  unfolding step
-  unkept-leaves s event kept r is e =
-      let same = settlement-run s event kept (event_outcome s event) r e in
-      ap (λ (o : Outcome). o.state) same
-      ∙ leaves-event_outcome s event r is (ap (λ (o : Outcome). o.response) (sym same) ∙ e)
+use Rattle.mpw_core.specs.Step.{State, Outcome, new_state, no_change, policy_outcome, query_outcome, trail_outcome, identity_lines, outcome_of, event_outcome, not_kept_response, settlement, step, after}
 
 -- ---- the run's own events leave its number
 

@@ -1,6 +1,2 @@
-mod LayoutDenials
 mod LayoutLemmas
-mod LeftLemmas
-mod ReadableLines
-mod ShapeLines
 mod SightLemmas

@@ -4,12 +4,7 @@
 #![tactic(auto)]
 
 mod answer;
-mod laws;
 mod rows;
 mod sight;
 
 pub use answer::{LayoutAnswer, answer_request};
-pub use laws::{
-    denials_of_layouts_name_what_is_lacked, layouts_are_left_unless_a_request_is_accepted,
-    lines_of_layouts_are_of_readable_cells, lines_of_shapes_are_no_references,
-};

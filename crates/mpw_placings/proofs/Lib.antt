@@ -1,5 +1,4 @@
 pub mod Inverted
 pub mod Keeping
 pub mod Tests
-pub mod Undoing
 pub mod Placing

@@ -1,11 +1,10 @@
 -- What holds of every table of placings that the rows make.
-use Rattle.std.specs.Prelude.{◌≡◌, ℕ, List, [], ◌++◌, slice_get, Some, Ok}
+use Rattle.std.specs.Prelude.{[], ◌≡◌, ℕ, List, ◌++◌, Ok}
 use Rattle.mpw_geom.specs.declared.placing.Placing.{Placing}
 use Rattle.mpw_hier.specs.declared.submission.Submission.{Submission}
-use Rattle.mpw_hier.specs.Shelf.{present}
 use Rattle.mpw_walk.specs.Turns.{flat_roots}
 use Rattle.mpw_placings.specs.declared.placement.Placement.{Placement}
-use Rattle.mpw_placings.specs.Placements.{roots_of, version_at, ArePlacings}
+use Rattle.mpw_placings.specs.Placements.{roots_of, ArePlacings}
 use Rattle.mpw_placings.specs.Rows.{placings_with, placings_without}
 
 -- ---- what is true of placings stays so
@@ -33,25 +32,3 @@ abbrev pub PlacedAreShownAgain : Type 0
 PlacedAreShownAgain =
     (ss later : List Submission) (ps : List Placement)
     → ArePlacings ss ps → flat_roots (ss ++ later) (roots_of ps) ≡ flat_roots ss (roots_of ps)
-
--- ---- a placing by its name
-
--- Taking away what was placed gives the placings of before.
-abbrev pub UnplacingUndoes : Type 0
-UnplacingUndoes =
-    (ss : List Submission) (ps after : List Placement) (cell label : List ℕ) (placing : Placing)
-    → placings_with ss ps cell label placing ≡ Ok after → placings_without after cell label ≡ Ok ps
-
--- The version of what was placed is that of the cell's present submission, which is there.
-pub record HasVersion (ss : List Submission) (ps : List Placement) (cell label : List ℕ) :
-    Type 0 where
-  pub number : ℕ
-  pub submission : Submission
-  pub present_is : present ss cell ≡ Some number
-  pub is : slice_get ss number ≡ Some submission
-  pub told : version_at ss ps cell label ≡ Some submission.version
-
-abbrev pub VersionIsTold : Type 0
-VersionIsTold =
-    (ss : List Submission) (ps after : List Placement) (cell label : List ℕ) (placing : Placing)
-    → placings_with ss ps cell label placing ≡ Ok after → HasVersion ss after cell label

@@ -1,6 +1,5 @@
 //! Laws of the definitions alone. Each function calls at most the laws that its own rests on: its contract is the law.
-
-ghost use Rattle.mpw_placings.specs.Laws.{NoneArePlacings, PlacingKeeps, UnplacingKeeps, LaterShelvesKeep, PlacedAreShownAgain, UnplacingUndoes, VersionIsTold};
+ghost use Rattle.mpw_placings.specs.Laws.{NoneArePlacings, PlacingKeeps, UnplacingKeeps, LaterShelvesKeep, PlacedAreShownAgain};
 
 use mpw_hier::{earlier_submissions_stay, shelves_have_their_numbers};
 use mpw_walk::{roots_show_what_their_submissions_do, roots_stay_roots};
@@ -23,13 +22,4 @@ pub fn later_submissions_keep()
     earlier_submissions_stay();
     roots_stay_roots();
     roots_show_what_their_submissions_do();
-}
-
-/// What was placed is taken away by its cell and label, and leaves the placings of before. Its version is
-/// that of the cell's present submission.
-pub fn placing_is_undone()
-    ensures undone { UnplacingUndoes }
-    ensures version { VersionIsTold }
-{
-    shelves_have_their_numbers();
 }

@@ -15,7 +15,7 @@ mod placings;
 mod wafer;
 
 pub use fault::PlacingFault;
-pub use laws::{each_change_keeps, later_submissions_keep, placing_is_undone};
+pub use laws::{each_change_keeps, later_submissions_keep};
 pub use placement::Placement;
 pub use placings::Placings;
 pub use wafer::Wafer;

@@ -1,9 +1,6 @@
 pub mod AccessLemmas
-pub mod ActiveLemmas
-pub mod ApartLemmas
 pub mod BlockLemmas
 pub mod BucketLemmas
-pub mod DenialLemmas
 pub mod GrantedLemmas
 pub mod HolderLemmas
 pub mod InheritLemmas
@@ -19,14 +16,8 @@ pub mod RowTests
 pub mod SeparationLemmas
 pub mod SoundLemmas
 pub mod TableLemmas
-pub mod TrimLemmas
-mod ExistingLemmas
-mod KeptTables
-pub mod AcceptedLemmas
-pub mod Denying
 pub mod HeldLemmas
 pub mod KeepTrimmed
-pub mod KeptSessions
 pub mod RosterLemmas
 pub mod RowFacts
 pub mod Shown

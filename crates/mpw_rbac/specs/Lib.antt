@@ -1,6 +1,4 @@
-pub mod Accepted
 pub mod Access
-pub mod Existing
 pub mod Grant
 pub mod Laws
 pub mod Masked

@@ -1,5 +1,3 @@
-mod BookLines
-mod HiddenLemmas
 mod ListingLemmas
 mod MarkerLemmas
 mod RankLemmas

@@ -1,33 +1,10 @@
 -- The parts of a row: it ends in its first part, or behind it.
-use Rattle.std.proofs.Common.{◌≡◌, List, Result, Ok, Err, ◌⊎◌, inl, inr, refl, ap}
-use Rattle.mpw_replies.specs.Listing.{Listed}
-use Rattle.mpw_replies.specs.Rows.{◌>>=◌, ended_by}
-use Rattle.mpw_replies.specs.declared.reply.Denial.{Denial}
-use Rattle.mpw_replies.specs.declared.reply.Reply.TheVariants as reply
+use Rattle.std.proofs.Common.{◌≡◌, Result, Ok, Err, refl}
+use Rattle.mpw_replies.specs.Rows.{◌>>=◌}
 use Rattle.mpw_replies.specs.declared.row.Ending.{Ending}
-use Rattle.mpw_replies.specs.declared.row.Ending.TheVariants as ending
-
--- a row ends in its first part, or behind it
-pub parts : {A B : Type 0} (x : Result A Ending) (f : A → Result B Ending) (r : Ending)
-    → (x >>= f) ≡ Err r
-    → (x ≡ Err r) ⊎ ((a : A) × (x ≡ Ok a) × (f a ≡ Err r))
-parts (Ok a) f r e = inr (a, refl, e)
-parts (Err s) f r e = inl (let same : s ≡ r = cc in ap (λ t. Err t) same)
 
 -- a row that gives a value passes both
 pub passed : {A B : Type 0} (x : Result A Ending) (f : A → Result B Ending) (y : B)
     → (x >>= f) ≡ Ok y → (a : A) × (x ≡ Ok a) × (f a ≡ Ok y)
 passed (Ok a) f y e = (a, refl, e)
 passed (Err s) f y e = absurd cc
-
--- a denial tells what ended the row
-pub denial_ended : (e : Ending) (why : Denial) → ended_by e ≡ reply.Denied why
-    → e ≡ ending.Denied why
-denial_ended (ending.Denied other) why told =
-    let same : other ≡ why = cc in ap (λ d. ending.Denied d) same
-denial_ended (ending.Refused code) why told = absurd cc
-
--- what ended a row has no lines
-pub ended_not_ok : (e : Ending) (lines : List Listed) → ended_by e ≡ reply.Ok lines → ⊥
-ended_not_ok (ending.Denied why) lines told = cc
-ended_not_ok (ending.Refused code) lines told = cc

@@ -2,7 +2,6 @@ pub mod Entries
 pub mod Laws
 pub mod Listing
 pub mod Ranks
-pub mod Readable
 pub mod Rows
 pub mod Shapes
 pub mod Sight

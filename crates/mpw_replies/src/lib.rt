@@ -4,7 +4,6 @@
 #![tactic(auto)]
 
 mod entry;
-mod laws;
 mod lines;
 mod listing;
 mod markers;
@@ -16,10 +15,6 @@ mod sight;
 mod trail;
 
 pub use entry::{Entry, FirstLine};
-pub use laws::{
-    full_markers_are_not_hidden, hidden_markers_leave_no_trace,
-    lines_of_books_are_of_readable_cells,
-};
 pub use lines::{Kept, Lines};
 pub use listing::{ShapeListing, ShapeView, ShapeViews};
 pub use markers::{MarkerLines, MarkerListing, MarkerView, MarkerViews};

@@ -1,5 +1,5 @@
 //! What a request's row gives: a value, or what ends the row at the first test that fails.
-ghost use Rattle.std.specs.Prelude.{◌≡◌, IfOk, OnErr, List, Result, Err, option_map};
+ghost use Rattle.std.specs.Prelude.{◌≡◌, IfOk, IfErr, OnErr, List, Result, Err, option_map};
 ghost use Rattle.mpw_rbac.specs.Rows.{user_of};
 ghost use Rattle.mpw_replies.specs.Laws.{EnteringDeniesWhatIsLacked};
 ghost use Rattle.mpw_replies.specs.Rows.{Answers, IsToldBy, ended_by, listing_reply, needed, permitted, session_test};
@@ -89,7 +89,8 @@ pub fn listing_reply(made: Result<Lines, Fault>) -> Result<Reply, AllocError>
 /// # Errors
 /// That refusal where it isn't.
 pub fn need<T>(value: Option<&T>, code: Code) -> Result<&T, Fault>
-    ensures { Answers (λ x. x.now) result (needed code (option_map (λ x. x.now) value.entry)) }
+    ensures row { Answers (λ x. x.now) result (needed code (option_map (λ x. x.now) value.entry)) }
+    ensures told { IfErr result (λ fault. fault ≡ Fault.Told (Ending.Refused code)) }
 {
     match value {
         Some(value) => Ok(value),
@@ -102,7 +103,8 @@ pub fn need<T>(value: Option<&T>, code: Code) -> Result<&T, Fault>
 /// # Errors
 /// A denial where there is none.
 pub fn need_session(policy: &Policy, connection: u32) -> Result<(), Fault>
-    ensures { Answers (λ x. x) result (session_test policy.now connection) }
+    ensures row { Answers (λ x. x) result (session_test policy.now connection) }
+    ensures told { IfErr result (λ fault. fault ≡ Fault.Told (Ending.Denied Denial.Session)) }
 {
     if !policy.has_session(connection) {
         return Err(Fault::Told(Ending::Denied(Denial::Session)));

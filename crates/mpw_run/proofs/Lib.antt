@@ -1,13 +1,8 @@
 pub mod Exactness
 pub mod TileLists
 pub mod Next
-pub mod Tests
 pub mod Opened
 pub mod Changes
-pub mod Coming
-pub mod Keeping
-pub mod Staying
-pub mod Fewest
 pub mod Books
 pub mod Uniting
 pub mod Joining

@@ -1,18 +1,13 @@
--- What follows for a run from its events.
-use Rattle.std.specs.Prelude.{◌≡◌, ◌↔◌, ◌<◌, ◌≤◌, ◌==◌, ◌&&◌, ◌||◌, ◌⊎◌, ℕ, Bool, true, false, List, [], ◌∷◌, map, Option, Some, None, slice_get}
-use Rattle.mpw_tiles.specs.Plan.{tiles}
+-- What every run keeps, and what finishes one.
+use Rattle.std.specs.Prelude.{◌≡◌, ◌↔◌, Bool, true, false, List}
 use Rattle.mpw_tiles.specs.Snapshots.{Snapshot}
 use Rattle.mpw_markers.specs.declared.marker.Marker.{Marker}
 use Rattle.mpw_markers.specs.Stitched.{IsStitched}
 use Rattle.mpw_job.specs.Answers.{TileJob}
-use Rattle.mpw_job.specs.Jobs.{CutWindows, FoundMarkers, IsCutAnswer, IsTileAnswer}
-use Rattle.mpw_run.specs.declared.phase.Phase.{Phase}
-use Rattle.mpw_run.specs.declared.phase.Phase.TheVariants.{Idle, Cutting, Checking, Finished}
+use Rattle.mpw_run.specs.declared.phase.Phase.TheVariants.{Finished}
 use Rattle.mpw_run.specs.declared.phase.RunReply.{RunReply}
 use Rattle.mpw_run.specs.declared.phase.RunReply.TheVariants as reply
-use Rattle.mpw_run.specs.Run.{Planned, Tile, IsPlanned}
 use Rattle.mpw_run.specs.Same.{same_snapshot, same_tile_job}
-use Rattle.mpw_run.specs.Step.{Run, Offer, Outcome, IsRun, new_run, started, cancelled, next_from, with_tiles, taken, cut_answered, tile_answered}
 use Rattle.mpw_run.specs.Stitching.{stitched, AreFilled}
 
 -- The tests of equality are exact: each is true just where its two values are equal.
@@ -25,112 +20,6 @@ abbrev pub StitchedComputes : Type 0
 StitchedComputes =
     (lists : List (List Marker)) → AreFilled lists → IsStitched lists (stitched lists)
 
--- ---- events
-
--- What comes to a run.
-pub data Event : Type 0 where
-  start : Planned → Event
-  cancel : Event
-  take : Event
-  cut : CutWindows → Event
-  tile : FoundMarkers → Event
-
--- What an event is answered, and the run that it leaves.
-abbrev pub step : Run → Event → Outcome
-step run (Event.start planned) = record { reply = reply.Kept; run = started run planned }
-step run Event.cancel = record { reply = reply.Kept; run = cancelled run }
-step run Event.take = taken run
-step run (Event.cut answer) = cut_answered run answer
-step run (Event.tile answer) = tile_answered run answer
-
--- What is true of an event by its type: plans are their snapshots', and answers are right.
-abbrev pub IsRight : Event → Type 0
-IsRight (Event.start planned) = IsPlanned planned
-IsRight Event.cancel = Unit {0}
-IsRight Event.take = Unit {0}
-IsRight (Event.cut answer) = IsCutAnswer answer
-IsRight (Event.tile answer) = IsTileAnswer answer
-
-abbrev pub AreRight : List Event → Type 0
-AreRight [] = Unit {0}
-AreRight (event ∷ before) = IsRight event × AreRight before
-
--- The run after events, of which the last stands first.
-abbrev pub run_after : List Event → Run
-run_after [] = new_run
-run_after (event ∷ before) = (step (run_after before) event).run
-
--- What is true of runs holds after any events.
-abbrev pub EachRunKeeps : Type 0
-EachRunKeeps = (events : List Event) → AreRight events → IsRun (run_after events)
-
--- ---- whose answers were kept
-
--- The answer was kept: `Kept`, or `Finished` with the last one.
-abbrev pub is_kept : RunReply → Bool
-is_kept (reply.Taken job) = false
-is_kept reply.NoJob = false
-is_kept reply.Kept = true
-is_kept reply.Finished = true
-is_kept reply.Stranger = false
-is_kept reply.Double = false
-is_kept reply.OldRun = false
-
--- What the run that goes on looks at: the last start's, where no cancel came behind it.
-abbrev pub looked_at : List Event → Option Planned
-looked_at [] = None
-looked_at (Event.start planned ∷ before) = Some planned
-looked_at (Event.cancel ∷ before) = None
-looked_at (Event.take ∷ before) = looked_at before
-looked_at (Event.cut answer ∷ before) = looked_at before
-looked_at (Event.tile answer ∷ before) = looked_at before
-
--- Since the run began, an answer of the tile was kept.
-abbrev pub was_kept : List Event → ℕ → Bool
-was_kept [] number = false
-was_kept (Event.start planned ∷ before) number = false
-was_kept (Event.cancel ∷ before) number = false
-was_kept (Event.take ∷ before) number = was_kept before number
-was_kept (Event.cut answer ∷ before) number = was_kept before number
-was_kept (Event.tile answer ∷ before) number =
-    ((answer.job.tile == number) && is_kept (tile_answered (run_after before) answer).reply)
-    || was_kept before number
-
-abbrev pub is_finished : Phase → Bool
-is_finished Idle = false
-is_finished (Cutting planned) = false
-is_finished (Checking c) = false
-is_finished (Finished f) = true
-
--- A run goes on, and for each of its tiles an answer was kept.
-pub record AllWereKept (events : List Event) : Type 0 where
-  pub planned : Planned
-  pub goes_on : looked_at events ≡ Some planned
-  pub all : (number : ℕ) → number < tiles planned.plan → was_kept events number ≡ true
-
--- A run is finished exactly once an answer of each of its tiles was kept.
-abbrev pub FinishedOnceAllWereKept : Type 0
-FinishedOnceAllWereKept =
-    (events : List Event) → AreRight events
-    → (is_finished (run_after events).phase ≡ true) ↔ AllWereKept events
-
--- ---- what leaves a run
-
--- The replies that leave a run as it was.
-abbrev pub leaves : RunReply → Bool
-leaves (reply.Taken job) = false
-leaves reply.NoJob = true
-leaves reply.Kept = false
-leaves reply.Finished = false
-leaves reply.Stranger = true
-leaves reply.Double = true
-leaves reply.OldRun = true
-
--- What is not kept, and a call to which no job is handed out, leaves the run as it was.
-abbrev pub UnkeptLeavesTheRun : Type 0
-UnkeptLeavesTheRun =
-    (run : Run) (event : Event) → leaves (step run event).reply ≡ true → (step run event).run ≡ run
-
 -- ---- how a run goes on
 
 -- The reply to the last tile's answer, with which the run is finished.
@@ -142,57 +31,3 @@ finishes reply.Finished = true
 finishes reply.Stranger = false
 finishes reply.Double = false
 finishes reply.OldRun = false
-
--- A run is as it was, or it goes on and is not finished, neither before nor behind.
-pub data GoesOn (run : Run) (o : Outcome) : Type 0 where
-  stays : o.run ≡ run → finishes o.reply ≡ false → GoesOn run o
-  moves : o.run.number ≡ run.number → is_finished run.phase ≡ false
-      → is_finished o.run.phase ≡ false → leaves o.reply ≡ false → finishes o.reply ≡ false
-      → GoesOn run o
-
--- A run that was not finished is finished now.
-pub record IsFinishedNow (run : Run) (o : Outcome) : Type 0 where
-  pub number : o.run.number ≡ run.number
-  pub before : is_finished run.phase ≡ false
-  pub behind : is_finished o.run.phase ≡ true
-  pub told : o.reply ≡ reply.Finished
-
--- A run goes on by a call for a job and by the windows of a cut, and it goes on or is finished by the markers of a tile.
-pub record RunsGoOnOrAreFinished : Type 0 where
-  pub take : (run : Run) → GoesOn run (taken run)
-  pub cut : (run : Run) (answer : CutWindows) → GoesOn run (cut_answered run answer)
-  pub tile : (run : Run) (answer : FoundMarkers)
-      → GoesOn run (tile_answered run answer) ⊎ IsFinishedNow run (tile_answered run answer)
-
--- ---- what a call for a job changes
-
--- A phase but for how often its tiles were handed out.
-abbrev pub uncounted : Tile → Tile
-uncounted x = record { taken = 0; answer = x.answer }
-
-abbrev pub without_counts : Phase → Phase
-without_counts Idle = Idle
-without_counts (Cutting planned) = Cutting planned
-without_counts (Checking c) = Checking (with_tiles c (map uncounted c.tiles))
-without_counts (Finished f) = Finished f
-
--- A call for a job changes nothing but how often a tile was handed out.
-pub record TakingCountsAlone (run : Run) : Type 0 where
-  pub number : (taken run).run.number ≡ run.number
-  pub phase : without_counts (taken run).run.phase ≡ without_counts run.phase
-
--- No unanswered tile was handed out fewer times, and none before it as few times.
-pub record IsNext (tiles : List Tile) (number : ℕ) (x : Tile) : Type 0 where
-  pub at : slice_get tiles number ≡ Some x
-  pub unanswered : x.answer ≡ None
-  pub fewest : (k : ℕ) (other : Tile) → slice_get tiles k ≡ Some other → other.answer ≡ None
-      → x.taken ≤ other.taken
-  pub least : (k : ℕ) (other : Tile) → slice_get tiles k ≡ Some other → other.answer ≡ None
-      → k < number → x.taken < other.taken
-
--- What is handed out next is that tile, and nothing where each tile is answered.
-pub record NextIsFewest : Type 0 where
-  pub some : (tiles : List Tile) (o : Offer) → next_from 0 tiles ≡ Some o
-      → IsNext tiles o.number o.tile
-  pub none : (tiles : List Tile) (k : ℕ) (x : Tile) → next_from 0 tiles ≡ None
-      → slice_get tiles k ≡ Some x → x.answer ≡ None → ⊥

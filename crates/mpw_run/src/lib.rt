@@ -8,10 +8,7 @@ mod run;
 mod same;
 mod tiles;
 
-pub use laws::{
-    each_run_keeps, finished_once_all_were_kept, next_is_fewest, runs_go_on_or_are_finished,
-    stitched_computes, taking_counts_alone, tests_are_exact, unkept_leaves_the_run,
-};
+pub use laws::{stitched_computes, tests_are_exact};
 pub use phase::{Checked, Checks, Phase, Planned, RunReply};
 pub use prepare::Prepared;
 pub use run::Run;

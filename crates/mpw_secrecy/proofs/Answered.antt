@@ -10,7 +10,7 @@ use Rattle.mpw_requests.specs.declared.run.RunRequest.{RunRequest}
 use Rattle.mpw_requests.specs.declared.run.RunRequest.TheVariants as run
 use Rattle.mpw_requests.specs.declared.sign_off.SignOffRequest.TheVariants as sign
 use Rattle.mpw_checking.specs.Checking as checking
-use Rattle.mpw_signoff.specs.Laws.{PlacesAreLeft}
+use Rattle.mpw_laws.specs.SignOffLaws.{PlacesAreLeft}
 use Rattle.mpw_core.specs.declared.event.Event.TheVariants as event
 use Rattle.mpw_core.specs.Step.{State, Outcome, after, no_change, outcome_of, over_run, settlement, step, not_kept_response, event_outcome}
 use Rattle.mpw_secrecy.specs.Questions.{is_of_run, is_of_view}

@@ -17,13 +17,13 @@ use Rattle.mpw_run.specs.declared.phase.Phase.{Phase}
 use Rattle.mpw_run.specs.declared.phase.Phase.TheVariants.{Idle, Cutting, Checking, Finished}
 use Rattle.mpw_run.specs.Run.{Planned, Checks}
 use Rattle.mpw_run.specs.Step.{Run, restarted_phase}
-use Rattle.mpw_signoff.specs.Laws.{AskedAreShown, IsRightlySigned, NegativesLeaveTheWaivers, SignersStandApart}
+use Rattle.mpw_laws.specs.SignOffLaws.{AskedAreShown, IsRightlySigned, NegativesLeaveTheWaivers, SignersStandApart}
 use Rattle.mpw_signoff.specs.SigningOff as signing
 use Rattle.mpw_waiver.specs.declared.waiver.Waiver.{Waiver}
-use Rattle.mpw_waiver.specs.Laws.{IsApart}
+use Rattle.mpw_laws.specs.WaiverLaws.{IsApart}
 use Rattle.mpw_waiver.specs.Waivers.{none_asked, signed_by, waiver_at, with_asker, with_signer}
 use Rattle.mpw_core.specs.Step.{State}
-use Rattle.mpw_core.proofs.WaivedLemmas.{waived-history}
+use Rattle.mpw_laws.proofs.WaivedLemmas.{waived-history}
 use Rattle.mpw_secrecy.specs.Apart.{EveryStateIsSignedApart, IsSignedApart}
 
 -- the waivers of a run that is so far

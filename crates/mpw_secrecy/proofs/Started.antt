@@ -8,7 +8,7 @@ use Rattle.mpw_run.specs.declared.phase.Checked.{Checked}
 use Rattle.mpw_run.specs.declared.phase.Phase.{Phase}
 use Rattle.mpw_run.specs.declared.phase.Phase.TheVariants.{Finished}
 use Rattle.mpw_run.specs.Step.{book_size}
-use Rattle.mpw_signoff.specs.Laws.{IsSignedOff}
+use Rattle.mpw_laws.specs.SignOffLaws.{IsSignedOff}
 use Rattle.mpw_waiver.specs.declared.waiver.Waiver.{Waiver}
 use Rattle.mpw_waiver.specs.Waivers.{is_signed, waiver_at}
 use Rattle.mpw_core.specs.Step.{State}

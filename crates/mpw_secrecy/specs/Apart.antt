@@ -6,7 +6,7 @@ use Rattle.mpw_run.specs.declared.phase.Checked.{Checked}
 use Rattle.mpw_run.specs.declared.phase.Phase.{Phase}
 use Rattle.mpw_run.specs.declared.phase.Phase.TheVariants.{Finished}
 use Rattle.mpw_waiver.specs.declared.waiver.Waiver.{Waiver}
-use Rattle.mpw_waiver.specs.Laws.{IsApart}
+use Rattle.mpw_laws.specs.WaiverLaws.{IsApart}
 use Rattle.mpw_waiver.specs.Waivers.{waiver_at}
 use Rattle.mpw_core.specs.declared.event.Call.{Call}
 use Rattle.mpw_core.specs.History.{state_after}

@@ -4,13 +4,14 @@ ghost use Rattle.mpw_secrecy.specs.Apart.{EveryStateIsSignedApart};
 ghost use Rattle.mpw_secrecy.specs.Clean.{CleanWafersMayStart};
 ghost use Rattle.mpw_secrecy.specs.Secrecy.{EqualViewsAreAnsweredAlike, EqualViewsGiveEqualAnswers, EqualViewsGiveEqualAnswersToLists, EqualViewsGiveEqualListings, EqualViewsGiveEqualLists, EqualViewsStayEqual, ListingsLeaveTheViews};
 
-use mpw_core::{Core, clean_runs_are_signed_off, every_state_has_a_place_for_each_marker};
+use mpw_core::Core;
 use mpw_hier::shelves_have_their_numbers;
-use mpw_markers::places_are_of_their_keys;
-use mpw_signoff::{
-    places_are_left, signers_stand_apart, waivers_are_left_unless_a_request_is_accepted,
+use mpw_laws::{
+    clean_runs_are_signed_off, every_state_has_a_place_for_each_marker, places_are_left,
+    signers_stand_apart, waivers_are_left_unless_a_request_is_accepted,
     waivers_are_of_shown_markers,
 };
+use mpw_markers::places_are_of_their_keys;
 
 /// Two desks of which a connection's sessions have the same view list the same to it, and the views are the same again
 /// behind that: for each of `whoami`, `cells`, `shapes`, `status`, `markers` and `waivers`, and so for every list of them.

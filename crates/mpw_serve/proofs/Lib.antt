@@ -1,1 +1,3 @@
-mod ServingLemmas
+mod BatchLemmas
+mod HandingLemmas
+pub mod ServingLemmas

@@ -1,2 +1,3 @@
 pub mod Serving
+pub mod Working
 pub mod Internal

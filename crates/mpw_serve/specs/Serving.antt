@@ -19,7 +19,7 @@ use Rattle.mpw_wire.specs.Reply.{reply_text, refusal_text}
 use Rattle.mpw_wire.specs.declared.request.LineAsk.TheVariants as ask
 use Rattle.mpw_wire.specs.Request.{ask_of}
 use Rattle.mpw_wire.specs.Writing.{fault_of}
-use Rattle.mpw_work.specs.Working.{WorksBehind}
+use Rattle.mpw_serve.specs.Working.{WorksBehind}
 
 -- what a request got: the desk's response, or the word that memory was wanting
 pub data Answer : Type 0 where

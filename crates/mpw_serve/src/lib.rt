@@ -1,7 +1,13 @@
 //! Serving a connection: its lines are read, each is handled by the core, and its reply is written, in order.
+//!
+//! Behind an accepted `run` its work is done on the connection's own thread: the snapshot is cut, the jobs of its tiles are done
+//! in batches, and what comes of them is handed to the desk. Who serves is told how far they came ([`Progress`]).
 #![tactic(auto)]
 
+mod progress;
 mod serve;
+mod working;
 
-pub use mpw_work::{Progress, Silent};
-pub use serve::{End, MAX_LINES, Served, serve_core, served_changes_are_kept_in_order};
+pub use progress::{Progress, Silent};
+pub use serve::{End, MAX_LINES, Served, serve_core};
+pub use working::work_behind;

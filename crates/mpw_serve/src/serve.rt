@@ -1,17 +1,18 @@
 //! Serving a connection: each line gets its reply, in order, until the connection ends.
 ghost use Rattle.std.specs.Prelude.{◌≡◌, ℕ, List, Option};
-ghost use Rattle.mpw_core.specs.History.{KeptDesk, GoesOnTo, kept_desk};
+ghost use Rattle.mpw_core.specs.History.{KeptDesk, kept_desk};
 ghost use Rattle.mpw_wire.specs.Reading.{read_failures};
 ghost use Rattle.mpw_wire.specs.Writing.{Writes, fault_of};
 ghost use Rattle.mpw_serve.specs.Serving.{Answer, with_end, IsAnswer, answer_text, response_text, ServesLines, IsGone, LeavesNothingPending, Serves, write_failures};
 ghost use Rattle.mpw_serve.specs.Internal.Serving.{answer_of, ServesLine};
 
-use mpw_core::{Core, Event, Keeper, Response, keepers_have_the_changes_in_order};
+use crate::progress::Progress;
+use crate::working::work_behind;
+use mpw_core::{Core, Event, Keeper, Response};
 use mpw_requests::SharedRequest;
 use mpw_wire::{
     Asked, LineRefusal, Sink, Source, WireFault, read_request, write_refusal, write_reply,
 };
-use mpw_work::{Progress, work_behind, work_goes_on};
 use std::alloc::Global;
 use std::thread::Threads;
 
@@ -208,13 +209,4 @@ pub fn serve_core<K: Keeper, R: Source, W: Sink, P: Progress>(
     );
     let is_gone = hand_end(core, keeper, connection);
     Served { ended, is_gone }
-}
-
-/// A connection that was served leads the desk on by calls, and a keeper whose list is known has just their changes behind
-/// those before, in order.
-pub fn served_changes_are_kept_in_order()
-    ensures { (connection : ℕ) (input left output written : Option (List ℕ)) (desk reached : KeptDesk) (served : Served) → Serves connection input left output written desk reached served → GoesOnTo desk reached }
-{
-    keepers_have_the_changes_in_order();
-    work_goes_on();
 }

@@ -1,5 +1,4 @@
 pub mod Answers
-pub mod Laws
 pub mod Named
 pub mod SigningOff
 pub mod WaiverLines

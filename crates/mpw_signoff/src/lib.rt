@@ -5,7 +5,6 @@
 #![tactic(auto)]
 
 mod answer;
-mod laws;
 mod lines;
 mod named;
 mod present;
@@ -13,9 +12,4 @@ mod rows;
 mod sight;
 
 pub use answer::{NextWaivers, SignOffAnswer, answer_request};
-pub use laws::{
-    clean_is_signed_off, denials_of_separation_are_true,
-    denials_over_the_sign_off_name_what_is_lacked, lines_of_the_sign_off_are_of_readable_cells,
-    places_are_left, signed_off_is_clean, signers_stand_apart,
-    waivers_are_left_unless_a_request_is_accepted, waivers_are_of_shown_markers,
-};
+pub use rows::ByUser;

@@ -23,7 +23,7 @@ use std::alloc::{AllocError, Global};
 
 /// A user, with the place of the marker whose waiver the user asks for or signs.
 #[derive(Drop)]
-pub(crate) struct ByUser {
+pub struct ByUser {
     pub place: usize,
     pub user: Name,
 }

@@ -1,3 +1,2 @@
-pub mod Denials
 pub mod Leaving
 pub mod Parts

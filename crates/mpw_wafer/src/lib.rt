@@ -8,7 +8,4 @@ mod laws;
 mod rows;
 
 pub use answer::{WaferAnswer, answer_request};
-pub use laws::{
-    changes_of_the_wafer_keep_its_placings, denials_over_the_wafer_name_what_is_lacked,
-    placings_tell_their_version, wafers_are_left_unless_a_request_is_accepted,
-};
+pub use laws::changes_of_the_wafer_keep_its_placings;

@@ -1,5 +1,1 @@
 mod Least
-mod OwnCells
-mod Signed
-mod Reached
-mod Counted

@@ -1,4 +1,4 @@
--- Who may ask for a waiver and who may sign it: the tests in order, and the waivers that are left where all pass.
+-- Who may ask for a waiver and who may sign it: the tests in order.
 use Rattle.std.specs.Prelude.{ℕ, List, slice_get, is_some, Option, None, Some, Result, Ok, Err, filter_map, if◌then◌else◌}
 use Rattle.mpw_geom.specs.Names.{name_eq}
 use Rattle.mpw_hier.specs.declared.submission.Submission.{Submission}
@@ -6,7 +6,6 @@ use Rattle.mpw_waiver.specs.declared.fault.WaiverFault.{WaiverFault}
 use Rattle.mpw_waiver.specs.declared.fault.WaiverFault.TheVariants.{Known, NoWaiver, Submitter, Asker}
 use Rattle.mpw_waiver.specs.declared.waiver.Waiver.{Waiver}
 use Rattle.mpw_geom.specs.Least.{least_name}
-use Rattle.mpw_waiver.specs.Waivers.{waiver_at, with_asker, with_signer}
 
 -- A waiver can be asked for where there is none.
 abbrev pub ask_test : Option Waiver → Result (Unit {0}) WaiverFault
@@ -38,20 +37,3 @@ sign_test shelf met user None = Err NoWaiver
 sign_test shelf met user (Some waiver) =
     if is_some waiver.signer then Err Known else separation_test (least_own_cell shelf met user)
     waiver.asker user
-
--- What is left where a test passes.
-abbrev pub if_passed : Result (Unit {0}) WaiverFault → List (Option Waiver)
-    → Result (List (Option Waiver)) WaiverFault
-if_passed (Ok passed) waivers = Ok waivers
-if_passed (Err fault) waivers = Err fault
-
--- The waivers with one that the user asked for, of the marker at that place.
-unfoldable pub asked : List (Option Waiver) → ℕ → List ℕ → Result (List (Option Waiver)) WaiverFault
-asked waivers place user =
-    if_passed (ask_test (waiver_at waivers place)) (with_asker waivers place user)
-
--- The waivers with that of the marker at that place signed by the user. The marker meets the submissions of these numbers.
-unfoldable pub signed : List Submission → List (Option Waiver) → ℕ → List ℕ → List ℕ
-    → Result (List (Option Waiver)) WaiverFault
-signed shelf waivers place met user =
-    if_passed (sign_test shelf met user (waiver_at waivers place)) (with_signer waivers place user)

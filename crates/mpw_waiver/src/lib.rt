@@ -7,15 +7,10 @@
 #![tactic(auto)]
 
 mod fault;
-mod laws;
 mod own;
 mod waiver;
 mod waivers;
 
 pub use fault::WaiverFault;
-pub use laws::{
-    denials_have_their_cause, none_unsigned_where_all_are_signed, signers_are_apart,
-    signers_stay_apart, waivers_stand_where_they_were_put,
-};
 pub use waiver::Waiver;
 pub use waivers::Waivers;

@@ -1,5 +1,0 @@
-use Rattle.mpw_core.proofs.RefusalLemmas.{kept-counts, unkept-closes}
-use Rattle.mpw_core.proofs.laws.changes_count_once_they_are_kept.Goals as goal
-
-pub returns : goal.returns
-returns c = record { kept = kept-counts; unkept = unkept-closes }

@@ -1,5 +1,0 @@
-use Rattle.mpw_core.proofs.WaiverLemmas.{clean-told}
-use Rattle.mpw_core.proofs.laws.clean_runs_are_signed_off.Goals as goal
-
-pub returns : goal.returns
-returns c = clean-told c.clean_is_signed_off.ensures

@@ -1,5 +1,0 @@
-use Rattle.mpw_core.proofs.PlaceLemmas.{fit-history}
-use Rattle.mpw_core.proofs.laws.every_state_has_a_place_for_each_marker.Goals as goal
-
-pub returns : goal.returns
-returns c = fit-history c.places_are_left.ensures

@@ -1,5 +1,0 @@
-use Rattle.mpw_core.proofs.RefusalLemmas.{unknown-login, wrong-login}
-use Rattle.mpw_core.proofs.laws.unknown_users_are_denied_like_wrong_tokens.Goals as goal
-
-pub returns : goal.returns
-returns c = record { unknown = unknown-login; wrong = wrong-login }

@@ -1,5 +1,0 @@
-use Rattle.mpw_core.proofs.WaiverLemmas.{finishing-places, runs-drop}
-use Rattle.mpw_core.proofs.laws.waivers_go_with_their_run.Goals as goal
-
-pub returns : goal.returns
-returns c = record { begun = runs-drop; finished = finishing-places }

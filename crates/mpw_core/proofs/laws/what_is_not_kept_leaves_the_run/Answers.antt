@@ -1,5 +1,0 @@
-use Rattle.mpw_core.proofs.RunLemmas.{unkept-leaves}
-use Rattle.mpw_core.proofs.laws.what_is_not_kept_leaves_the_run.Goals as goal
-
-pub returns : goal.returns
-returns c = unkept-leaves c.unkept_leaves_the_run.ensures

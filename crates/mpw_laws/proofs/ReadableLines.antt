@@ -1,0 +1,168 @@
+-- Lines of `cells` and of `shapes` are of cells that the session may read.
+use Rattle.std.proofs.Common.{◌≡◌, ℕ, Bool, true, false, cond, List, [], ◌∷◌, map, Option, Some, None, Result, Ok, Err, is_some, arith, refl, sym, subst}
+use Rattle.std.specs.Prelude.{All, slice_get}
+use Rattle.std.specs.List.{flat_map}
+use Rattle.std.proofs.lemmas.List.Elements.{All-cons, All-append}
+use Rattle.std.proofs.lemmas.List.{map-append}
+use Rattle.mpw_rbac.specs.declared.permission.Object.TheVariants as objects
+use Rattle.mpw_rbac.specs.declared.permission.Operation.TheVariants.{Read}
+use Rattle.mpw_rbac.specs.Policy.{Policy, permits, session_of}
+use Rattle.mpw_hier.specs.declared.submission.Submission.{Submission}
+use Rattle.mpw_hier.specs.Items.{Item}
+use Rattle.mpw_hier.specs.Shelf.{present}
+use Rattle.mpw_hier.specs.Shelved.{PresentAreOfTheirCell}
+use Rattle.mpw_hier.specs.Values.{flat}
+use Rattle.mpw_requests.specs.declared.layouts.LayoutRequest.{LayoutRequest}
+use Rattle.mpw_requests.specs.declared.layouts.LayoutRequest.TheVariants as ask
+use Rattle.mpw_laws.proofs.RowParts.{ended_not_ok}
+use Rattle.mpw_replies.specs.Listing.{Listed, stored, line_if, shape_line}
+use Rattle.mpw_laws.specs.Readable.{IsOfReadable}
+use Rattle.mpw_replies.specs.Rows.{◌>>=◌, permitted}
+use Rattle.mpw_replies.specs.Sight.{may_read}
+use Rattle.mpw_replies.specs.declared.reply.Denial.TheVariants as denial
+use Rattle.mpw_replies.specs.declared.reply.Line.TheVariants.{Version}
+use Rattle.mpw_replies.specs.declared.reply.Reply.TheVariants as reply
+use Rattle.mpw_replies.specs.declared.row.Ending.{Ending}
+use Rattle.mpw_replies.specs.declared.row.Ending.TheVariants as ending
+use Rattle.mpw_layouts.specs.Layouts.{numbered_at, cell_line, present_submission, readable_line, cells_of, readable_shape, present_number, cells, shapes, submit_row, submit_outcome, listing_outcome, outcome_of}
+
+-- the lines that no request has
+nothing : (P : Listed → Type 0) → All P []
+nothing P = λ k d lt. absurd (omega (arith, lt))
+
+module _ (policy : Policy) (connection : ℕ) where
+  no_lines : All (IsOfReadable policy connection) []
+  no_lines = nothing (IsOfReadable policy connection)
+
+  -- ---- cells
+
+  of_cell : (shelf : List Submission) (cell : List ℕ) (o : Option Submission)
+      → ((s : Submission) → o ≡ Some s → s.cell ≡ cell)
+      → permits policy connection Read (objects.Cell cell) ≡ true
+      → All (IsOfReadable policy connection) (map stored (cell_line o))
+  of_cell shelf cell None same may = no_lines
+  of_cell shelf cell (Some s) same may =
+      All-cons (IsOfReadable policy connection) (stored _) []
+      (subst (λ name. permits policy connection Read (objects.Cell name) ≡ true) (sym (same s refl))
+      may) no_lines
+
+  same_cell : PresentAreOfTheirCell → (shelf : List Submission) (cell : List ℕ) (s : Submission)
+      → present_submission shelf cell ≡ Some s → s.cell ≡ cell
+  same_cell presents shelf cell s is = go (present shelf cell) refl is
+    where
+      go : (o : Option ℕ) → present shelf cell ≡ o → numbered_at shelf o ≡ Some s → s.cell ≡ cell
+      go None none e = absurd cc
+      go (Some number) some e =
+          let own = presents shelf cell number some in
+          let same : own.submission ≡ s = cc in
+          subst (λ (q : Submission). q.cell ≡ cell) same own.same
+
+  of_line : PresentAreOfTheirCell → (shelf : List Submission) (cell : List ℕ)
+      → All (IsOfReadable policy connection)
+      (map stored (readable_line policy shelf connection cell))
+  of_line presents shelf cell = go (permits policy connection Read (objects.Cell cell)) refl
+    where
+      go : (b : Bool) → permits policy connection Read (objects.Cell cell) ≡ b
+          → All (IsOfReadable policy connection)
+          (map stored (cond b (cell_line (present_submission shelf cell)) []))
+      go true may = of_cell shelf cell (present_submission shelf cell)
+          (same_cell presents shelf cell) may
+      go false may = no_lines
+
+  of_cells : PresentAreOfTheirCell → (shelf : List Submission) (cells : List (List ℕ))
+      → All (IsOfReadable policy connection) (map stored
+      (flat_map (readable_line policy shelf connection) cells))
+  of_cells presents shelf [] = no_lines
+  of_cells presents shelf (cell ∷ cells) =
+      subst (All (IsOfReadable policy connection))
+      (sym (map-append stored (readable_line policy shelf connection cell)
+      (flat_map (readable_line policy shelf connection) cells)))
+      (All-append (IsOfReadable policy connection)
+      (map stored (readable_line policy shelf connection cell)) _
+      (of_line presents shelf cell) (of_cells presents shelf cells))
+
+  -- ---- shapes
+
+  of_shape : (o : Option Submission) (item : Item)
+      → All (IsOfReadable policy connection) (line_if (may_read policy connection) o item)
+  of_shape None item = no_lines
+  of_shape (Some s) item = go (may_read policy connection s) refl
+    where
+      go : (b : Bool) → may_read policy connection s ≡ b
+          → All (IsOfReadable policy connection) (cond b (shape_line s item ∷ []) [])
+      go true may = All-cons (IsOfReadable policy connection) (shape_line s item) [] may no_lines
+      go false may = no_lines
+
+  of_shapes : (shelf : List Submission) (items : List Item)
+      → All (IsOfReadable policy connection)
+      (flat_map (readable_shape policy shelf connection) items)
+  of_shapes shelf [] = no_lines
+  of_shapes shelf (item ∷ items) =
+      All-append (IsOfReadable policy connection) (readable_shape policy shelf connection item) _
+      (of_shape (slice_get shelf item.origin) item) (of_shapes shelf items)
+
+  -- ---- rows
+
+  cells_row : PresentAreOfTheirCell → (shelf : List Submission) (lines : List Listed)
+      → cells policy shelf connection ≡ Ok lines → All (IsOfReadable policy connection) lines
+  cells_row presents shelf lines e = go
+      (map stored (flat_map (readable_line policy shelf connection) (cells_of shelf)))
+      (of_cells presents shelf (cells_of shelf)) (is_some (session_of policy connection)) e
+    where
+      go : (all : List Listed) → All (IsOfReadable policy connection) all → (b : Bool)
+          → cond b (Ok all) (Err (ending.Denied denial.Session)) ≡ Ok lines
+          → All (IsOfReadable policy connection) lines
+      go all each true is = let same : all ≡ lines = cc in
+          subst (All (IsOfReadable policy connection))
+          same each
+      go all each false is = absurd cc
+
+  shapes_row : (shelf : List Submission) (cell : List ℕ) (lines : List Listed)
+      → shapes policy shelf connection cell ≡ Ok lines → All (IsOfReadable policy connection) lines
+  unfolding shapes
+  shapes_row shelf cell lines e = go (permitted policy connection Read (objects.Cell cell))
+      (present_number (present shelf cell)) e
+    where
+      go : (first : Result (Unit {0}) Ending) (second : Result ℕ Ending)
+          → ◌>>=◌ first (λ entered. ◌>>=◌ second
+          (λ number. Ok (flat_map (readable_shape policy shelf connection) (flat shelf number))))
+          ≡ Ok lines → All (IsOfReadable policy connection) lines
+      go (Ok entered) (Ok number) is =
+          let same : flat_map (readable_shape policy shelf connection) (flat shelf number) ≡ lines =
+          cc in
+          subst (All (IsOfReadable policy connection)) same (of_shapes shelf (flat shelf number))
+      go (Ok entered) (Err told) is = absurd cc
+      go (Err told) second is = absurd cc
+
+  -- ---- outcomes
+
+  of_shelved : (shelf : List Submission) (row : Result Submission Ending) (lines : List Listed)
+      → (submit_outcome shelf row).reply ≡ reply.Ok lines
+      → All (IsOfReadable policy connection) lines
+  of_shelved shelf (Ok s) lines e =
+      let same : stored (Version s.version) ∷ [] ≡ lines = cc in
+      subst (All (IsOfReadable policy connection)) same
+      (All-cons (IsOfReadable policy connection) (stored (Version s.version)) [] tt no_lines)
+  of_shelved shelf (Err r) lines e = absurd (ended_not_ok r lines e)
+
+  of_listed : (shelf : List Submission) (row : Result (List Listed) Ending) (lines : List Listed)
+      → ((found : List Listed) → row ≡ Ok found → All (IsOfReadable policy connection) found)
+      → (listing_outcome shelf row).reply ≡ reply.Ok lines
+      → All (IsOfReadable policy connection) lines
+  of_listed shelf (Ok found) lines all e = let same : found ≡ lines = cc in
+      subst (All (IsOfReadable policy connection)) same (all found refl)
+  of_listed shelf (Err r) lines all e = absurd (ended_not_ok r lines e)
+
+pub readable-layout : PresentAreOfTheirCell
+    → (policy : Policy) (shelf : List Submission) (connection : ℕ) (request : LayoutRequest)
+    (lines : List Listed)
+    → (outcome_of policy shelf connection request).reply ≡ reply.Ok lines
+    → All (IsOfReadable policy connection) lines
+readable-layout presents policy shelf connection (ask.Submit cell top text) lines e =
+    of_shelved policy connection shelf (submit_row policy shelf connection cell top text) lines e
+readable-layout presents policy shelf connection ask.Cells lines e =
+    of_listed policy connection shelf (cells policy shelf connection) lines
+    (λ found is. cells_row policy connection presents shelf found is) e
+readable-layout presents policy shelf connection (ask.Shapes cell) lines e =
+    of_listed policy connection shelf (shapes policy shelf connection cell) lines
+    (λ found is. shapes_row policy connection shelf cell found is) e

@@ -1,0 +1,156 @@
+-- What the desk's step does with waivers.
+use Rattle.std.proofs.Common.{◌≡◌, ℕ, Bool, List, [], ◌∷◌, Result, Ok, Err, refl, sym, ap, subst, ◌∙◌}
+use Rattle.mpw_requests.specs.declared.request.Request.TheVariants as ask
+use Rattle.mpw_requests.specs.declared.run.RunRequest.TheVariants as run_ask
+use Rattle.mpw_requests.specs.declared.sign_off.MarkerName.{MarkerName}
+use Rattle.mpw_requests.specs.declared.sign_off.SignOffRequest.{SignOffRequest}
+use Rattle.mpw_requests.specs.declared.sign_off.SignOffRequest.TheVariants as sign_ask
+use Rattle.mpw_laws.proofs.RowParts.{ended_not_ok}
+use Rattle.mpw_replies.specs.Listing.{Listed, stored}
+use Rattle.mpw_replies.specs.declared.reply.Denial.{Denial}
+use Rattle.mpw_replies.specs.declared.reply.Denial.TheVariants as denial
+use Rattle.mpw_replies.specs.declared.reply.Line.TheVariants as line
+use Rattle.mpw_replies.specs.declared.reply.Reply.TheVariants as reply
+use Rattle.mpw_replies.specs.declared.row.Ending.{Ending}
+use Rattle.mpw_checking.specs.Checking as checking
+use Rattle.mpw_job.specs.Jobs.{FoundMarkers}
+use Rattle.mpw_run.specs.Run.{Planned}
+use Rattle.mpw_run.specs.Step.{Outcome as RunOutcome, book_size, tile_answered}
+use Rattle.mpw_run.specs.declared.phase.RunReply.{RunReply}
+use Rattle.mpw_run.specs.declared.phase.RunReply.TheVariants as told
+use Rattle.mpw_laws.specs.SignOffLaws.{AskedAreShown, AskersAreTold, CleanIsSignedOff, IsRightlyAsked, IsAsker, IsRightlySigned, IsSignedOff, IsSubmitter, SignersStandApart, SubmittersAreTold}
+use Rattle.mpw_signoff.specs.SigningOff as signing
+use Rattle.mpw_waiver.specs.Waivers.{none_asked}
+use Rattle.mpw_core.specs.Answer.{run_response}
+use Rattle.mpw_core.specs.declared.event.Event.TheVariants as event
+use Rattle.mpw_core.specs.declared.event.Response.TheVariants as response
+use Rattle.mpw_run.specs.Laws.{finishes}
+use Rattle.mpw_core.specs.Step.{State, Outcome, of_run, outcome_of, over_run, event_outcome, step, response_of, after}
+use Rattle.mpw_laws.proofs.DenialLemmas.{inside}
+use Rattle.mpw_laws.proofs.RefusalLemmas.{settlement-denied, settlement-ok, settlement-run}
+
+-- ---- with their run
+
+begun-drops : (s : State) (row : Result Planned Ending) (lines : List Listed)
+    → (checking.begun_outcome s.run row).reply ≡ reply.Ok lines
+    → (over_run s (checking.begun_outcome s.run row)).state.waivers ≡ []
+begun-drops s (Ok planned) lines e = refl
+begun-drops s (Err ending) lines e =
+    absurd (ended_not_ok ending lines e)
+
+pub runs-drop : (s : State) (connection : ℕ) (kept : Bool) (lines : List Listed)
+    → response_of s (event.Ask connection (ask.Run run_ask.Run)) kept ≡ response.Told
+    (reply.Ok lines)
+    → (after s (event.Ask connection (ask.Run run_ask.Run)) kept).waivers ≡ []
+unfolding step event_outcome
+runs-drop s connection kept lines e =
+    let same = settlement-ok s (event.Ask connection (ask.Run run_ask.Run)) kept
+    (outcome_of s connection (ask.Run run_ask.Run)) lines e in
+    ap (λ (o : Outcome). o.state.waivers) same
+    ∙ begun-drops s (checking.run_row s.policy s.shelf s.wafer s.run connection) lines
+    (inside (ap (λ (o : Outcome). o.response) (sym same) ∙ e))
+
+same-reply : {a b : RunReply} → run_response a ≡ run_response b → a ≡ b
+same-reply e = cc
+
+finished-places : (s : State) (o : RunOutcome) → o.reply ≡ told.Finished
+    → (of_run s o).state.waivers ≡ none_asked (book_size (of_run s o).state.run.phase)
+finished-places s o e = rw (ap finishes e) refl
+
+pub finishing-places : (s : State) (answer : FoundMarkers) (kept : Bool)
+    → response_of s (event.Tile answer) kept ≡ run_response told.Finished
+    → (after s (event.Tile answer) kept).waivers
+    ≡ none_asked (book_size (after s (event.Tile answer) kept).run.phase)
+unfolding step event_outcome
+finishing-places s answer kept e =
+    let same = settlement-run s (event.Tile answer) kept (of_run s (tile_answered s.run answer))
+    told.Finished e in
+    let finished : (tile_answered s.run answer).reply ≡ told.Finished =
+    same-reply (ap (λ (o : Outcome). o.response) (sym same) ∙ e) in
+    ap (λ (o : Outcome). o.state.waivers) same
+    ∙ finished-places s (tile_answered s.run answer) finished
+    ∙ ap (λ (o : Outcome). none_asked (book_size o.state.run.phase)) (sym same)
+
+-- ---- who asks and who signs
+
+told-as : (s : State) (connection : ℕ) (request : SignOffRequest) (kept : Bool)
+    (lines : List Listed)
+    → response_of s (event.Ask connection (ask.SignOff request)) kept ≡ response.Told
+    (reply.Ok lines)
+    → step s (event.Ask connection (ask.SignOff request)) kept ≡ outcome_of s connection
+    (ask.SignOff request)
+unfolding step event_outcome
+told-as s connection request kept lines e =
+    settlement-ok s (event.Ask connection (ask.SignOff request)) kept
+    (outcome_of s connection (ask.SignOff request)) lines e
+
+denied-as : (s : State) (connection : ℕ) (request : SignOffRequest) (kept : Bool) (why : Denial)
+    → response_of s (event.Ask connection (ask.SignOff request)) kept ≡ response.Told
+    (reply.Denied why)
+    → (signing.outcome_of s.policy s.wafer s.run s.waivers connection request).reply ≡ reply.Denied
+    why
+unfolding step event_outcome
+denied-as s connection request kept why e =
+    let same = settlement-denied s (event.Ask connection (ask.SignOff request)) kept
+    (outcome_of s connection (ask.SignOff request)) why e in
+    inside (ap (λ (o : Outcome). o.response) (sym same) ∙ e)
+
+ok-as : (s : State) (connection : ℕ) (request : SignOffRequest) (kept : Bool) (lines : List Listed)
+    → response_of s (event.Ask connection (ask.SignOff request)) kept ≡ response.Told
+    (reply.Ok lines)
+    → (signing.outcome_of s.policy s.wafer s.run s.waivers connection request).reply
+    ≡ reply.Ok lines
+ok-as s connection request kept lines e =
+    inside (ap (λ (o : Outcome). o.response) (sym (told-as s connection request kept lines e)) ∙ e)
+
+pub asked-shown : AskedAreShown → (s : State) (connection : ℕ) (name : MarkerName) (kept : Bool)
+    (lines : List Listed) → response_of s (event.Ask connection (ask.SignOff (sign_ask.Waive name)))
+    kept
+    ≡ response.Told (reply.Ok lines)
+    → IsRightlyAsked s.policy s.run s.waivers connection name
+    (after s (event.Ask connection (ask.SignOff (sign_ask.Waive name))) kept).waivers
+asked-shown law s connection name kept lines e =
+    subst (λ (o : Outcome). IsRightlyAsked s.policy s.run s.waivers connection name o.state.waivers)
+    (sym (told-as s connection (sign_ask.Waive name) kept lines e))
+    (law s.policy s.wafer s.run s.waivers connection name lines
+    (ok-as s connection (sign_ask.Waive name) kept lines e))
+
+pub signed-apart : SignersStandApart
+    → (s : State) (connection : ℕ) (name : MarkerName) (kept : Bool) (lines : List Listed)
+    → response_of s (event.Ask connection (ask.SignOff (sign_ask.Sign name))) kept ≡ response.Told
+    (reply.Ok lines)
+    → IsRightlySigned s.policy s.run s.waivers connection name
+    (after s (event.Ask connection (ask.SignOff (sign_ask.Sign name))) kept).waivers
+signed-apart law s connection name kept lines e =
+    subst (λ (o : Outcome). IsRightlySigned s.policy s.run s.waivers connection name
+    o.state.waivers)
+    (sym (told-as s connection (sign_ask.Sign name) kept lines e))
+    (law s.policy s.wafer s.run s.waivers connection name lines
+    (ok-as s connection (sign_ask.Sign name) kept lines e))
+
+pub submitter-told : SubmittersAreTold
+    → (s : State) (connection : ℕ) (request : SignOffRequest) (kept : Bool) (cell : List ℕ)
+    → response_of s (event.Ask connection (ask.SignOff request)) kept ≡ response.Told
+    (reply.Denied (denial.Submitter cell))
+    → (name : MarkerName) × (request ≡ sign_ask.Sign name)
+    × IsSubmitter s.policy s.run connection name cell
+submitter-told law s connection request kept cell e =
+    law s.policy s.wafer s.run s.waivers connection request
+    cell (denied-as s connection request kept (denial.Submitter cell) e)
+
+pub asker-told : AskersAreTold → (s : State) (connection : ℕ) (request : SignOffRequest)
+    (kept : Bool)
+    → response_of s (event.Ask connection (ask.SignOff request)) kept ≡ response.Told
+    (reply.Denied denial.Asker)
+    → (name : MarkerName) × (request ≡ sign_ask.Sign name)
+    × IsAsker s.policy s.run s.waivers connection name
+asker-told law s connection request kept e =
+    law s.policy s.wafer s.run s.waivers connection request
+    (denied-as s connection request kept denial.Asker e)
+
+pub clean-told : CleanIsSignedOff → (s : State) (connection : ℕ) (kept : Bool)
+    → response_of s (event.Ask connection (ask.SignOff sign_ask.Verdict)) kept ≡ response.Told
+    (reply.Ok (stored line.Clean ∷ []))
+    → IsSignedOff s.wafer s.run s.waivers
+clean-told law s connection kept e = law s.policy s.wafer s.run s.waivers connection
+    (ok-as s connection sign_ask.Verdict kept (stored line.Clean ∷ []) e)

@@ -1,0 +1,5 @@
+use Rattle.mpw_laws.proofs.SoundLemmas.{sound-history}
+use Rattle.mpw_laws.proofs.desk.every_state_keeps_authorization.Goals as goal
+
+pub returns : goal.returns
+returns c = λ officer digest calls. (sound-history officer digest calls).sessions

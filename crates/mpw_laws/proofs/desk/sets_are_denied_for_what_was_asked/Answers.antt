@@ -1,0 +1,71 @@
+use Rattle.std.proofs.Common.{ℕ, refl}
+use Rattle.mpw_rbac.specs.declared.refusal.Refusal.TheVariants as refusal
+use Rattle.mpw_requests.specs.declared.policy.PolicyRequest.{PolicyRequest}
+use Rattle.mpw_requests.specs.declared.policy.PolicyRequest.TheVariants.{Open, Close, Activate, DropRole, AddUser, DelUser, AddRole, DelRole, Assign, Deassign, Grant, Revoke, Inherit, Uninherit, Ssd, Dsd, UnSsd, UnDsd}
+use Rattle.mpw_replies.specs.declared.reply.Denial.TheVariants as denial
+use Rattle.mpw_core.specs.PolicyRows.{row_of}
+use Rattle.mpw_laws.specs.Requested.{requested_policy}
+use Rattle.mpw_laws.proofs.DenialLemmas.{denied-row}
+use Rattle.mpw_laws.proofs.SetLemmas.{TellsRightly, tells_none}
+use Rattle.mpw_laws.proofs.desk.sets_are_denied_for_what_was_asked.Goals as goal
+
+pub returns : goal.returns
+returns c =
+    let told = c.sets_are_told_where_they_are_tested.ensures in
+    let least = c.denied_only_for_the_least_broken_set.ensures in
+    let each : (connection : ℕ) (request : PolicyRequest) → TellsRightly
+    (λ p. row_of p connection request) (λ p. requested_policy p connection request) =
+    λ connection. elim [
+      | Open user digest ↦ tells_none _ _ (told.open_session_static connection user digest)
+          (told.open_session_dynamic connection user digest)
+      | Close ↦ tells_none _ _ (told.close_session_static connection)
+          (told.close_session_dynamic connection)
+      | Activate role ↦ record {
+        static = λ p name is. absurd (told.activate_static connection role p name is);
+        dynamic = λ p name is. least.activate p connection role name is;
+      }
+      | DropRole role ↦ tells_none _ _ (told.drop_role_static connection role)
+          (told.drop_role_dynamic connection role)
+      | AddUser user digest ↦ tells_none _ _ (told.adduser_static connection user digest)
+          (told.adduser_dynamic connection user digest)
+      | DelUser user ↦ tells_none _ _ (told.deluser_static connection user)
+          (told.deluser_dynamic connection user)
+      | AddRole role ↦ tells_none _ _ (told.addrole_static connection role)
+          (told.addrole_dynamic connection role)
+      | DelRole role ↦ tells_none _ _ (told.delrole_static connection role)
+          (told.delrole_dynamic connection role)
+      | Assign user role ↦ record {
+        static = λ p name is. least.assign p connection user role name is;
+        dynamic = λ p name is. absurd (told.assign_dynamic connection user role p name is);
+      }
+      | Deassign user role ↦ tells_none _ _ (told.deassign_static connection user role)
+          (told.deassign_dynamic connection user role)
+      | Grant grant ↦ tells_none _ _ (told.grant_static connection grant)
+          (told.grant_dynamic connection grant)
+      | Revoke grant ↦ tells_none _ _ (told.revoke_static connection grant)
+          (told.revoke_dynamic connection grant)
+      | Inherit senior junior ↦ record {
+        static = λ p name is. least.inherit_static p connection senior junior name is;
+        dynamic = λ p name is. least.inherit_dynamic p connection senior junior name is;
+      }
+      | Uninherit senior junior ↦ tells_none _ _ (told.uninherit_static connection senior junior)
+          (told.uninherit_dynamic connection senior junior)
+      | Ssd set ↦ record {
+        static = λ p name is. least.ssd p connection set name is;
+        dynamic = λ p name is. absurd (told.ssd_dynamic connection set p name is);
+      }
+      | Dsd set ↦ record {
+        static = λ p name is. absurd (told.dsd_static connection set p name is);
+        dynamic = λ p name is. least.dsd p connection set name is;
+      }
+      | UnSsd name ↦ tells_none _ _ (told.unssd_static connection name)
+          (told.unssd_dynamic connection name)
+      | UnDsd name ↦ tells_none _ _ (told.undsd_static connection name)
+          (told.undsd_dynamic connection name)
+    ] in
+    record {
+      ssd = λ s connection request kept name e. (each connection request).static s.policy name
+          (denied-row s connection request kept (denial.Ssd name) (refusal.Ssd name) refl e);
+      dsd = λ s connection request kept name e. (each connection request).dynamic s.policy name
+          (denied-row s connection request kept (denial.Dsd name) (refusal.Dsd name) refl e);
+    }

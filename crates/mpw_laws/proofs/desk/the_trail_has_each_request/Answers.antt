@@ -1,0 +1,5 @@
+use Rattle.mpw_laws.proofs.TrailLemmas.{trail-after}
+use Rattle.mpw_laws.proofs.desk.the_trail_has_each_request.Goals as goal
+
+pub returns : goal.returns
+returns c = trail-after

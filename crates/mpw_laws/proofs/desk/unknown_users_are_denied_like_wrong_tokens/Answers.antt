@@ -1,0 +1,5 @@
+use Rattle.mpw_laws.proofs.RefusalLemmas.{unknown-login, wrong-login}
+use Rattle.mpw_laws.proofs.desk.unknown_users_are_denied_like_wrong_tokens.Goals as goal
+
+pub returns : goal.returns
+returns c = record { unknown = unknown-login; wrong = wrong-login }

@@ -1,0 +1,5 @@
+use Rattle.mpw_laws.proofs.HiddenLemmas.{hidden_traceless}
+use Rattle.mpw_laws.proofs.listings.hidden_markers_leave_no_trace.Goals as goal
+
+pub returns : goal.returns
+returns c = hidden_traceless

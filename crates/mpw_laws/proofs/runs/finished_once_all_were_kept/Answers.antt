@@ -1,0 +1,5 @@
+use Rattle.mpw_laws.proofs.Keeping.{finished}
+use Rattle.mpw_laws.proofs.runs.finished_once_all_were_kept.Goals as goal
+
+pub returns : goal.returns
+returns c = finished c.answers_make_the_layout.ensures c.stitched_computes.ensures

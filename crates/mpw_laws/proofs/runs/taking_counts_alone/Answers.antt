@@ -1,0 +1,5 @@
+use Rattle.mpw_laws.proofs.Staying.{counts_alone}
+use Rattle.mpw_laws.proofs.runs.taking_counts_alone.Goals as goal
+
+pub returns : goal.returns
+returns c = counts_alone

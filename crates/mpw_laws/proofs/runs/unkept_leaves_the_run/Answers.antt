@@ -1,0 +1,5 @@
+use Rattle.mpw_laws.proofs.Staying.{stays}
+use Rattle.mpw_laws.proofs.runs.unkept_leaves_the_run.Goals as goal
+
+pub returns : goal.returns
+returns c = stays

@@ -1,0 +1,5 @@
+use Rattle.mpw_laws.proofs.WaferLeaving.{versions_told}
+use Rattle.mpw_laws.proofs.wafer.placings_tell_their_version.Goals as goal
+
+pub returns : goal.returns
+returns c = versions_told c.placing_is_undone.ensures.version

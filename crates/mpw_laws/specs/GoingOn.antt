@@ -1,0 +1,22 @@
+-- How a desk goes on by calls, and what its keeper has of their changes.
+use Rattle.std.specs.Prelude.{[], ◌≡◌, List, ◌∷◌, ◌++◌}
+use Rattle.mpw_core.specs.declared.event.Event.TheVariants as event
+use Rattle.mpw_core.specs.declared.event.Call.{Call}
+use Rattle.mpw_core.specs.declared.keeper.KeptChange.{KeptChange}
+use Rattle.std.specs.Option.{option_to_list}
+use Rattle.mpw_core.specs.Keeping.{Grows, change_to_keep}
+use Rattle.mpw_core.specs.Step.{State, step, after}
+use Rattle.mpw_core.specs.History.{KeptDesk, state_of}
+
+-- the changes that calls had kept, in order
+abbrev pub changes_of : State → List Call → List KeptChange
+changes_of state [] = []
+changes_of state (call ∷ calls) =
+    option_to_list (change_to_keep call.event (step state call.event call.kept).changes)
+    ++ changes_of (after state call.event call.kept) calls
+
+-- a desk went on by calls, and its keeper has just their changes behind those before
+pub record GoesOnTo (d d' : KeptDesk) : Type 0 where
+  pub calls : List Call
+  pub added : d'.desk ≡ record d.desk { history = d.desk.history ++ calls }
+  pub grows : Grows d.kept d'.kept (changes_of (state_of d.desk) calls)

@@ -1,0 +1,52 @@
+-- Laws of the requests over the shelf.
+use Rattle.std.specs.Prelude.{◌≡◌, ℕ, true, false, List, All}
+use Rattle.mpw_rbac.specs.declared.permission.Operation.{Operation}
+use Rattle.mpw_rbac.specs.declared.permission.Object.{Object}
+use Rattle.mpw_rbac.specs.Policy.{Policy, permits}
+use Rattle.mpw_hier.specs.declared.submission.Submission.{Submission}
+use Rattle.mpw_hier.specs.Structures.{is_shape}
+use Rattle.mpw_requests.specs.declared.layouts.LayoutRequest.{LayoutRequest}
+use Rattle.mpw_requests.specs.declared.layouts.LayoutRequest.TheVariants as ask
+use Rattle.mpw_replies.specs.Listing.{Listed, stored, shape, marker, masked, entry}
+use Rattle.mpw_laws.specs.Readable.{IsOfReadable}
+use Rattle.mpw_replies.specs.Rows.{IsNegative}
+use Rattle.mpw_replies.specs.declared.reply.Denial.TheVariants as denial
+use Rattle.mpw_replies.specs.declared.reply.Reply.TheVariants as reply
+use Rattle.mpw_layouts.specs.Layouts.{outcome_of}
+
+-- A permission that is denied is lacked.
+abbrev pub LayoutsDenyWhatIsLacked : Type 0
+LayoutsDenyWhatIsLacked = (policy : Policy) (shelf : List Submission) (connection : ℕ)
+    (request : LayoutRequest) (operation : Operation) (object : Object)
+    → (outcome_of policy shelf connection request).reply ≡ reply.Denied
+    (denial.Permission operation object) → permits policy connection operation object ≡ false
+
+-- Each line that tells of a cell, or shows a shape of one, is of a cell that the session may read.
+abbrev pub LayoutsAreOfReadable : Type 0
+LayoutsAreOfReadable = (policy : Policy) (shelf : List Submission) (connection : ℕ)
+    (request : LayoutRequest) (lines : List Listed)
+    → (outcome_of policy shelf connection request).reply ≡ reply.Ok lines
+    → All (IsOfReadable policy connection) lines
+
+-- What is denied or refused leaves the shelf.
+abbrev pub NegativesLeaveTheShelf : Type 0
+NegativesLeaveTheShelf =
+    (policy : Policy) (shelf : List Submission) (connection : ℕ) (request : LayoutRequest)
+    → IsNegative (outcome_of policy shelf connection request).reply
+    → (outcome_of policy shelf connection request).shelf ≡ shelf
+
+-- A line of a shape, which is a boundary or a path.
+abbrev pub IsShapeLine : Listed → Type 0
+IsShapeLine (stored line) = ⊥
+IsShapeLine (shape cell version placing element) = is_shape element ≡ true
+IsShapeLine (marker rule key cells) = ⊥
+IsShapeLine (masked rule number) = ⊥
+IsShapeLine (entry number e) = ⊥
+
+-- Each line of a reply to `shapes` is of a boundary or of a path.
+abbrev pub ShapesAreNoReferences : Type 0
+ShapesAreNoReferences =
+    (policy : Policy) (shelf : List Submission) (connection : ℕ) (cell : List ℕ)
+    (lines : List Listed)
+    → (outcome_of policy shelf connection (ask.Shapes cell)).reply ≡ reply.Ok lines
+    → All IsShapeLine lines

@@ -1,0 +1,14 @@
+pub mod CheckingLaws
+pub mod GoingOn
+pub mod LayoutLaws
+pub mod ListingLaws
+pub mod Permissions
+pub mod PlacingLaws
+pub mod Readable
+pub mod Requested
+pub mod RunLaws
+pub mod SignOffLaws
+pub mod Signing
+pub mod WaferLaws
+pub mod WaiverLaws
+pub mod WorkLaws

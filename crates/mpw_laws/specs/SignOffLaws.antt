@@ -1,0 +1,212 @@
+-- Laws of the requests that sign a run off.
+use Rattle.std.specs.Prelude.{[], ◌≡◌, ◌<◌, ℕ, true, false, List, ◌∷◌, length, slice_get, All, Option, Some}
+use Rattle.std.specs.Ordering.{is_lt}
+use Rattle.mpw_geom.specs.Names.{name_cmp}
+use Rattle.mpw_deck.specs.declared.rule.Rule.{Rule}
+use Rattle.mpw_placings.specs.Placements.{roots_of}
+use Rattle.mpw_markers.specs.declared.marker.Marker.{Marker}
+use Rattle.mpw_rbac.specs.declared.permission.Operation.{Operation}
+use Rattle.mpw_rbac.specs.declared.permission.Object.{Object}
+use Rattle.mpw_rbac.specs.Policy.{Policy, permits}
+use Rattle.mpw_rbac.specs.Rows.{user_of}
+use Rattle.mpw_requests.specs.declared.sign_off.MarkerName.{MarkerName}
+use Rattle.mpw_requests.specs.declared.sign_off.SignOffRequest.{SignOffRequest}
+use Rattle.mpw_requests.specs.declared.sign_off.SignOffRequest.TheVariants as ask
+use Rattle.mpw_replies.specs.Listing.{Listed, stored}
+use Rattle.mpw_laws.specs.Readable.{IsOfReadable}
+use Rattle.mpw_replies.specs.Rows.{IsNegative}
+use Rattle.mpw_replies.specs.Sight.{seen_by, is_full}
+use Rattle.mpw_replies.specs.declared.reply.Line.TheVariants as line
+use Rattle.mpw_replies.specs.declared.reply.Denial.TheVariants as denial
+use Rattle.mpw_replies.specs.declared.reply.Reply.TheVariants as reply
+use Rattle.mpw_run.specs.declared.phase.Checked.{Checked}
+use Rattle.mpw_run.specs.declared.phase.Phase.TheVariants.{Finished}
+use Rattle.mpw_run.specs.Step.{Run}
+use Rattle.mpw_placings.specs.declared.wafer.Wafer.{Wafer}
+use Rattle.mpw_waiver.specs.declared.waiver.Waiver.{Waiver}
+use Rattle.mpw_laws.specs.WaiverLaws.{IsOwn, MaySign}
+use Rattle.mpw_waiver.specs.Waivers.{waiver_at, is_signed, with_asker, with_signer}
+use Rattle.mpw_signoff.specs.Named.{name_for}
+use Rattle.mpw_signoff.specs.SigningOff.{outcome_of}
+use Rattle.mpw_signoff.specs.WaiverLines.{waiver_line}
+
+-- ---- markers that are shown
+
+-- A marker of the book that stands at a place, is named so, and is shown in full to the session.
+pub record IsShownInFull (policy : Policy) (connection : ℕ) (f : Checked) (name : MarkerName)
+    (place : ℕ)
+    (marker : Marker) : Type 0 where
+  pub rule : Rule
+  pub at : slice_get f.book place ≡ Some marker
+  pub of_rule : slice_get f.planned.snapshot.deck.rules marker.rule ≡ Some rule
+  pub named : name ≡ name_for rule.name marker
+  pub full : is_full (seen_by policy connection f.planned.snapshot.shelf) marker ≡ true
+
+-- A request that was accepted is of such a marker, whose waiver was asked for by the session's user.
+pub record IsRightlyAsked (policy : Policy) (run : Run) (waivers : List (Option Waiver))
+    (connection : ℕ)
+    (name : MarkerName) (after : List (Option Waiver)) : Type 0 where
+  pub checked : Checked
+  pub place : ℕ
+  pub marker : Marker
+  pub finished : run.phase ≡ Finished checked
+  pub shown : IsShownInFull policy connection checked name place marker
+  pub left : after ≡ with_asker waivers place (user_of policy connection)
+
+-- Or it was signed by the session's user, who may sign it: who neither asked for it nor submitted what the marker meets.
+pub record IsRightlySigned (policy : Policy) (run : Run) (waivers : List (Option Waiver))
+    (connection : ℕ)
+    (name : MarkerName) (after : List (Option Waiver)) : Type 0 where
+  pub checked : Checked
+  pub place : ℕ
+  pub marker : Marker
+  pub finished : run.phase ≡ Finished checked
+  pub shown : IsShownInFull policy connection checked name place marker
+  pub may : MaySign checked.planned.snapshot.shelf waivers place marker.met
+      (user_of policy connection)
+  pub left : after ≡ with_signer waivers place (user_of policy connection)
+
+-- A line of a listing tells the waiver of such a marker.
+pub record IsTold (policy : Policy) (connection : ℕ) (f : Checked) (waivers : List (Option Waiver))
+    (listed : Listed) : Type 0 where
+  pub place : ℕ
+  pub marker : Marker
+  pub name : MarkerName
+  pub waiver : Waiver
+  pub shown : IsShownInFull policy connection f name place marker
+  pub is : waiver_at waivers place ≡ Some waiver
+  pub line : listed ≡ stored (waiver_line name waiver.asker waiver.signer)
+
+-- What an accepted request that names a marker leaves of the waivers.
+abbrev pub AcceptedLeaves : (MarkerName → SignOffRequest)
+    → (Policy → Run → List (Option Waiver) → ℕ → MarkerName → List (Option Waiver) → Type 0)
+    → Type 0
+AcceptedLeaves request leaves =
+    (policy : Policy) (wafer : Wafer) (run : Run) (waivers : List (Option Waiver)) (connection : ℕ)
+    (name : MarkerName) (lines : List Listed)
+    → (outcome_of policy wafer run waivers connection (request name)).reply ≡ reply.Ok lines
+    → leaves policy run waivers connection name
+    (outcome_of policy wafer run waivers connection (request name)).waivers
+
+-- What is accepted to be waived is shown.
+abbrev pub AskedAreShown : Type 0
+AskedAreShown = AcceptedLeaves ask.Waive IsRightlyAsked
+
+-- What is accepted to be signed is shown, and signed by one who stands apart.
+abbrev pub SignersStandApart : Type 0
+SignersStandApart = AcceptedLeaves ask.Sign IsRightlySigned
+
+-- What is listed is shown.
+abbrev pub ToldAreShown : Type 0
+ToldAreShown =
+    (policy : Policy) (wafer : Wafer) (run : Run) (waivers : List (Option Waiver)) (connection : ℕ)
+    (lines : List Listed)
+    → (outcome_of policy wafer run waivers connection ask.Waivers).reply ≡ reply.Ok lines
+    → (f : Checked) × (run.phase ≡ Finished f) × All (IsTold policy connection f waivers) lines
+
+-- ---- denials
+
+-- A permission that is denied is lacked.
+abbrev pub SignOffsDenyWhatIsLacked : Type 0
+SignOffsDenyWhatIsLacked =
+    (policy : Policy) (wafer : Wafer) (run : Run) (waivers : List (Option Waiver)) (connection : ℕ)
+    (request : SignOffRequest)
+    (operation : Operation) (object : Object)
+    → (outcome_of policy wafer run waivers connection request).reply ≡ reply.Denied
+    (denial.Permission operation object)
+    → permits policy connection operation object ≡ false
+
+-- The user submitted a version of the cell that the marker meets, and none of a lesser cell.
+pub record IsSubmitter (policy : Policy) (run : Run) (connection : ℕ) (name : MarkerName)
+    (cell : List ℕ) : Type 0 where
+  pub checked : Checked
+  pub place : ℕ
+  pub marker : Marker
+  pub finished : run.phase ≡ Finished checked
+  pub shown : IsShownInFull policy connection checked name place marker
+  pub own : IsOwn checked.planned.snapshot.shelf marker.met (user_of policy connection) cell
+  pub least : (other : List ℕ) → IsOwn checked.planned.snapshot.shelf marker.met
+      (user_of policy connection) other
+      → is_lt (name_cmp other cell) ≡ false
+
+-- The user asked for the marker's waiver.
+pub record IsAsker (policy : Policy) (run : Run) (waivers : List (Option Waiver)) (connection : ℕ)
+    (name : MarkerName) : Type 0 where
+  pub checked : Checked
+  pub place : ℕ
+  pub marker : Marker
+  pub finished : run.phase ≡ Finished checked
+  pub shown : IsShownInFull policy connection checked name place marker
+  pub waiver : Waiver
+  pub is : waiver_at waivers place ≡ Some waiver
+  pub asker : waiver.asker ≡ user_of policy connection
+
+-- Only who signs is denied as a submitter or as the asker, and is one.
+abbrev pub SubmittersAreTold : Type 0
+SubmittersAreTold =
+    (policy : Policy) (wafer : Wafer) (run : Run) (waivers : List (Option Waiver)) (connection : ℕ)
+    (request : SignOffRequest) (cell : List ℕ)
+    → (outcome_of policy wafer run waivers connection request).reply ≡ reply.Denied
+    (denial.Submitter cell)
+    → (name : MarkerName) × (request ≡ ask.Sign name) × IsSubmitter policy run connection name cell
+
+abbrev pub AskersAreTold : Type 0
+AskersAreTold =
+    (policy : Policy) (wafer : Wafer) (run : Run) (waivers : List (Option Waiver)) (connection : ℕ)
+    (request : SignOffRequest)
+    → (outcome_of policy wafer run waivers connection request).reply ≡ reply.Denied denial.Asker
+    → (name : MarkerName) × (request ≡ ask.Sign name) × IsAsker policy run waivers connection name
+
+-- What is denied or refused leaves the waivers.
+abbrev pub NegativesLeaveTheWaivers : Type 0
+NegativesLeaveTheWaivers =
+    (policy : Policy) (wafer : Wafer) (run : Run) (waivers : List (Option Waiver)) (connection : ℕ)
+    (request : SignOffRequest)
+    → IsNegative (outcome_of policy wafer run waivers connection request).reply
+    → (outcome_of policy wafer run waivers connection request).waivers ≡ waivers
+
+-- A request leaves the number of places.
+abbrev pub PlacesAreLeft : Type 0
+PlacesAreLeft =
+    (policy : Policy) (wafer : Wafer) (run : Run) (waivers : List (Option Waiver)) (connection : ℕ)
+    (request : SignOffRequest)
+    → length (outcome_of policy wafer run waivers connection request).waivers ≡ length waivers
+
+-- ---- verdicts and lines
+
+-- The run is finished, the deck and the placings are those that it looked at, and where each marker of its book has a place, each has a
+-- signed waiver.
+pub record IsSignedOff (wafer : Wafer) (run : Run) (waivers : List (Option Waiver)) : Type 0 where
+  pub checked : Checked
+  pub finished : run.phase ≡ Finished checked
+  pub deck : wafer.deck ≡ Some checked.planned.snapshot.deck
+  pub roots : roots_of wafer.placings ≡ checked.planned.snapshot.roots
+  pub signed : length waivers ≡ length checked.book → (place : ℕ) → place < length checked.book
+      → is_signed (waiver_at waivers place) ≡ true
+
+-- A run that is told to be clean is signed off.
+abbrev pub CleanIsSignedOff : Type 0
+CleanIsSignedOff =
+    (policy : Policy) (wafer : Wafer) (run : Run) (waivers : List (Option Waiver)) (connection : ℕ)
+    → (outcome_of policy wafer run waivers connection ask.Verdict).reply
+    ≡ reply.Ok (stored line.Clean ∷ [])
+    → IsSignedOff wafer run waivers
+
+-- A run that is finished, with the deck and the placings that it looked at and with all waivers signed, is told to be clean.
+abbrev pub SignedOffIsClean : Type 0
+SignedOffIsClean =
+    (policy : Policy) (wafer : Wafer) (run : Run) (waivers : List (Option Waiver)) (connection : ℕ)
+    (f : Checked) (lines : List Listed)
+    → run.phase ≡ Finished f → wafer.deck ≡ Some f.planned.snapshot.deck
+    → roots_of wafer.placings ≡ f.planned.snapshot.roots
+    → All (λ waiver. is_signed waiver ≡ true) waivers
+    → (outcome_of policy wafer run waivers connection ask.Verdict).reply ≡ reply.Ok lines
+    → lines ≡ stored line.Clean ∷ []
+
+-- What is listed names only cells that the session may read.
+abbrev pub SignOffLinesAreOfReadable : Type 0
+SignOffLinesAreOfReadable =
+    (policy : Policy) (wafer : Wafer) (run : Run) (waivers : List (Option Waiver)) (connection : ℕ)
+    (request : SignOffRequest) (lines : List Listed)
+    → (outcome_of policy wafer run waivers connection request).reply ≡ reply.Ok lines
+    → All (IsOfReadable policy connection) lines

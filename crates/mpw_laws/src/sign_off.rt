@@ -1,0 +1,75 @@
+//! Laws of the requests that sign a run off. Each function calls at most the laws that its own rests on: its contract is the law.
+ghost use Rattle.mpw_laws.specs.SignOffLaws.{AskedAreShown, AskersAreTold, CleanIsSignedOff, NegativesLeaveTheWaivers, PlacesAreLeft, SignOffLinesAreOfReadable, SignOffsDenyWhatIsLacked, SignedOffIsClean, SignersStandApart, SubmittersAreTold, ToldAreShown};
+
+use crate::waivers::{
+    denials_have_their_cause, none_unsigned_where_all_are_signed, signers_are_apart,
+};
+use mpw_markers::places_are_of_their_keys;
+use mpw_replies::entering_denies_what_is_lacked;
+use mpw_run::tests_are_exact;
+
+/// A waiver is signed by a user who neither asked for it nor submitted what its marker meets.
+pub fn signers_stand_apart()
+    ensures { SignersStandApart }
+{
+    places_are_of_their_keys();
+    signers_are_apart();
+}
+
+/// A user who is denied as a submitter submitted a version that the marker meets, of the cell that is told and of none
+/// lesser; one who is denied as the asker asked for the waiver.
+pub fn denials_of_separation_are_true()
+    ensures submitter { SubmittersAreTold }
+    ensures asker { AskersAreTold }
+{
+    places_are_of_their_keys();
+    denials_have_their_cause();
+}
+
+/// A denial of a permission names one that the connection's session lacks.
+pub fn denials_over_the_sign_off_name_what_is_lacked()
+    ensures { SignOffsDenyWhatIsLacked }
+{
+    entering_denies_what_is_lacked();
+}
+
+/// A request that is denied or refused leaves the waivers as they were.
+pub fn waivers_are_left_unless_a_request_is_accepted()
+    ensures { NegativesLeaveTheWaivers }
+{}
+
+/// A request leaves the number of places for waivers.
+pub fn places_are_left()
+    ensures { PlacesAreLeft }
+{}
+
+/// A marker that is waived, signed or listed with its waiver is shown in full to the session.
+pub fn waivers_are_of_shown_markers()
+    ensures waived { AskedAreShown }
+    ensures signed { SignersStandApart }
+    ensures told { ToldAreShown }
+{
+    places_are_of_their_keys();
+    signers_stand_apart();
+}
+
+/// A run is told to be clean only where deck and placings are those that it looked at, and each marker has a signed waiver.
+pub fn clean_is_signed_off()
+    ensures { CleanIsSignedOff }
+{
+    tests_are_exact();
+    none_unsigned_where_all_are_signed();
+}
+
+/// Where they are those and each marker has a signed waiver, who may be told is told so.
+pub fn signed_off_is_clean()
+    ensures { SignedOffIsClean }
+{
+    tests_are_exact();
+    none_unsigned_where_all_are_signed();
+}
+
+/// What is listed of waivers names only cells that the connection's session may read.
+pub fn lines_of_the_sign_off_are_of_readable_cells()
+    ensures { SignOffLinesAreOfReadable }
+{}

@@ -1,5 +1,0 @@
-use Rattle.mpw_layouts.proofs.LayoutDenials.{lacks-layout}
-use Rattle.mpw_layouts.proofs.laws.denials_of_layouts_name_what_is_lacked.Goals as goal
-
-pub returns : goal.returns
-returns c = lacks-layout c.entering_denies_what_is_lacked.ensures

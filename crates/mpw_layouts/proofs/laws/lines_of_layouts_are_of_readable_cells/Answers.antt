@@ -1,5 +1,0 @@
-use Rattle.mpw_layouts.proofs.ReadableLines.{readable-layout}
-use Rattle.mpw_layouts.proofs.laws.lines_of_layouts_are_of_readable_cells.Goals as goal
-
-pub returns : goal.returns
-returns c = readable-layout c.shelves_have_their_numbers.ensures.cells

@@ -1,5 +1,0 @@
-use Rattle.mpw_rbac.proofs.DenialLemmas.{static-first}
-use Rattle.mpw_rbac.proofs.laws.static_sets_are_tested_first.Goals as goal
-
-pub returns : goal.returns
-returns c = static-first

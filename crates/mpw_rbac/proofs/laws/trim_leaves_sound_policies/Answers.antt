@@ -1,5 +1,0 @@
-use Rattle.mpw_rbac.proofs.TrimLemmas as law
-use Rattle.mpw_rbac.proofs.laws.trim_leaves_sound_policies.Goals as goal
-
-pub returns : goal.returns
-returns c = law.trim-sound

@@ -1,0 +1,136 @@
+-- Each accepted row keeps that every active role is authorized.
+use Rattle.std.proofs.Common.{[], ◌≡◌, ℕ, Ok, true, refl, subst, List, ◌∷◌}
+use Rattle.mpw_roles.specs.Decided.{decided}
+use Rattle.mpw_roles.specs.Hierarchy.{is_role}
+use Rattle.mpw_separation.specs.Set.{SeparationSet}
+use Rattle.mpw_rbac.specs.Policy.{Policy, new_policy}
+use Rattle.mpw_rbac_laws.specs.Laws.{KeepsAuthorization}
+use Rattle.mpw_rbac.specs.declared.permission.Grant.{Grant}
+use Rattle.mpw_rbac.specs.Rows as rows
+use Rattle.mpw_rbac.specs.Sound.{active_authorized}
+use Rattle.mpw_rbac.proofs.KeepLemmas as keep
+use Rattle.mpw_rbac.proofs.KeepTrimmed as trimmed
+use Rattle.mpw_rbac.proofs.RowLemmas.{decided-value, all-pass, login-user}
+use Rattle.mpw_rbac.proofs.RowTests as row
+use Rattle.mpw_rbac.proofs.SeparationLemmas.{parts}
+use Rattle.mpw_rbac.proofs.SoundLemmas.{sound-adduser, sound-addrole, sound-assign, sound-open, sound-end, sound-activate}
+use Rattle.mpw_rbac.proofs.LawLemmas.{Passed, sound}
+
+keeps : (tests : List rows.Test) (next q : Policy) → decided tests next ≡ Ok q
+    → active_authorized next ≡ true → active_authorized q ≡ true
+keeps tests next q is sound =
+    subst (λ (k : Policy). active_authorized k ≡ true) (decided-value tests next q is) sound
+
+pub keeps-new_desk : (officer digest : List ℕ)
+    → active_authorized (new_policy officer digest) ≡ true
+keeps-new_desk officer digest = refl
+
+pub keeps-end_session : (connection : ℕ)
+    → KeepsAuthorization (λ p. Ok (rows.end_session p connection))
+keeps-end_session connection p q is s =
+    keeps [] (rows.end_session p connection) q is (sound-end p connection s)
+
+pub keeps-end_sessions : KeepsAuthorization (λ p. Ok (rows.end_sessions p))
+keeps-end_sessions p q is s = keeps [] (rows.end_sessions p) q is refl
+
+pub keeps-open_session : (connection : ℕ) (user digest : List ℕ)
+    → KeepsAuthorization (λ p. rows.open_session p connection user digest)
+keeps-open_session connection user digest p q is s =
+    let t = all-pass (row.open-tests p connection user digest)
+    (row.opened p connection user) q is in
+    keeps (row.open-tests p connection user digest) (row.opened p connection user) q is
+    (sound-open p connection user (login-user p user digest t.1.0) s)
+
+pub keeps-close_session : (connection : ℕ)
+    → KeepsAuthorization (λ p. rows.close_session p connection)
+keeps-close_session connection p q is s =
+    keeps (rows.in_session p connection ∷ []) (rows.end_session p connection) q is
+    (sound-end p connection s)
+
+pub keeps-activate : (connection : ℕ) (role : List ℕ)
+    → KeepsAuthorization (λ p. rows.activate p connection role)
+keeps-activate connection role p q is s =
+    let t = all-pass (row.activate-tests p connection role)
+    (row.activated p connection role) q is in
+    keeps (row.activate-tests p connection role) (row.activated p connection role) q is
+    (sound-activate p connection role t.1.0 s)
+
+pub keeps-drop_role : (connection : ℕ) (role : List ℕ)
+    → KeepsAuthorization (λ p. rows.drop_role p connection role)
+keeps-drop_role connection role p q is s =
+    keeps (row.drop-tests p connection role) (row.dropped p connection role) q
+    is (keep.authorized-drop p connection role s)
+
+request-keeps : (connection : ℕ) (request : row.Administration)
+    → ((p : Policy) → Passed connection request p → active_authorized p ≡ true
+    → active_authorized (row.next-of request p) ≡ true)
+    → KeepsAuthorization (row.row-of request connection)
+request-keeps connection request left p q is s =
+    let tests = row.administer-tests p connection (row.tests-of request p) in
+    let next = row.next-of request p in
+    keeps tests next q is (left p (all-pass tests next q is) s)
+
+pub keeps-adduser : (connection : ℕ) (user digest : List ℕ)
+    → KeepsAuthorization (λ p. rows.adduser p connection user digest)
+keeps-adduser connection user digest =
+    request-keeps connection (row.AddUser user digest) (λ p t. sound-adduser p user digest)
+
+pub keeps-deluser : (connection : ℕ) (user : List ℕ)
+    → KeepsAuthorization (λ p. rows.deluser p connection user)
+keeps-deluser connection user = request-keeps connection (row.DeleteUser user)
+    (λ p t s. trimmed.trim-authorized (row.user_deleted p user))
+
+pub keeps-addrole : (connection : ℕ) (role : List ℕ)
+    → KeepsAuthorization (λ p. rows.addrole p connection role)
+keeps-addrole connection role =
+    request-keeps connection (row.AddRole role) (λ p t. sound-addrole p role)
+
+pub keeps-delrole : (connection : ℕ) (role : List ℕ)
+    → KeepsAuthorization (λ p. rows.delrole p connection role)
+keeps-delrole connection role = request-keeps connection (row.DeleteRole role)
+    (λ p t s. trimmed.trim-authorized (rows.without_role_of p role))
+
+pub keeps-assign : (connection : ℕ) (user role : List ℕ)
+    → KeepsAuthorization (λ p. rows.assign p connection user role)
+keeps-assign connection user role =
+    request-keeps connection (row.Assign user role) (λ p t. sound-assign p user role)
+
+pub keeps-deassign : (connection : ℕ) (user role : List ℕ)
+    → KeepsAuthorization (λ p. rows.deassign p connection user role)
+keeps-deassign connection user role = request-keeps connection (row.Deassign user role)
+    (λ p t s. trimmed.trim-authorized (row.deassigned p user role))
+
+pub keeps-grant : (connection : ℕ) (new : Grant)
+    → KeepsAuthorization (λ p. rows.grant p connection new)
+keeps-grant connection new = request-keeps connection (row.AddGrant new) (λ p t s. s)
+
+pub keeps-revoke : (connection : ℕ) (old : Grant)
+    → KeepsAuthorization (λ p. rows.revoke p connection old)
+keeps-revoke connection old = request-keeps connection (row.Revoke old) (λ p t s. s)
+
+pub keeps-inherit : (connection : ℕ) (senior junior : List ℕ)
+    → KeepsAuthorization (λ p. rows.inherit p connection senior junior)
+keeps-inherit connection senior junior = request-keeps connection (row.Inherit senior junior)
+    (λ p t. trimmed.authorized-inherit p senior junior
+    (parts (is_role p.roles senior) (is_role p.roles junior) t.1.1.0).0)
+
+pub keeps-uninherit : (connection : ℕ) (senior junior : List ℕ)
+    → KeepsAuthorization (λ p. rows.uninherit p connection senior junior)
+keeps-uninherit connection senior junior = request-keeps connection (row.Uninherit senior junior)
+    (λ p t s. trimmed.trim-authorized (row.uninherited p senior junior))
+
+pub keeps-ssd : (connection : ℕ) (set : SeparationSet)
+    → KeepsAuthorization (λ p. rows.ssd p connection set)
+keeps-ssd connection set = request-keeps connection (row.MakeStatic set) (λ p t s. s)
+
+pub keeps-dsd : (connection : ℕ) (set : SeparationSet)
+    → KeepsAuthorization (λ p. rows.dsd p connection set)
+keeps-dsd connection set = request-keeps connection (row.MakeDynamic set) (λ p t s. s)
+
+pub keeps-unssd : (connection : ℕ) (name : List ℕ)
+    → KeepsAuthorization (λ p. rows.unssd p connection name)
+keeps-unssd connection name = request-keeps connection (row.RemoveStatic name) (λ p t s. s)
+
+pub keeps-undsd : (connection : ℕ) (name : List ℕ)
+    → KeepsAuthorization (λ p. rows.undsd p connection name)
+keeps-undsd connection name = request-keeps connection (row.RemoveDynamic name) (λ p t s. s)

@@ -1,0 +1,12 @@
+pub mod AcceptedLemmas
+pub mod ActiveLemmas
+pub mod ApartLemmas
+pub mod DenialLemmas
+pub mod Denials
+pub mod Denying
+pub mod ExistingLemmas
+pub mod KeptSessions
+pub mod KeptTables
+pub mod LawLemmas
+pub mod SoundRows
+pub mod TrimLemmas

@@ -1,0 +1,5 @@
+use Rattle.mpw_rbac_laws.proofs.Denying.{permits-more}
+use Rattle.mpw_rbac_laws.proofs.laws.more_active_roles_never_permit_less.Goals as goal
+
+pub returns : goal.returns
+returns c = permits-more

@@ -1,0 +1,21 @@
+//! Laws of the access control policy that none of its calls rests on (ANSI INCITS 359-2004): what each request keeps, what is
+//! denied and why, and what roles permit.
+//!
+//! Each function does nothing: its contract is the law, and it speaks of the definitions of `mpw_rbac` alone. No program links this crate.
+#![tactic(auto)]
+
+mod accepted;
+mod laws;
+mod tables;
+
+pub use accepted::{
+    administration_needs_its_permission, own_requests_need_no_permission,
+    sets_are_told_where_they_are_tested,
+};
+pub use laws::{
+    denied_only_for_the_least_broken_set, denied_only_without_the_permission,
+    each_request_keeps_authorization, each_request_keeps_separation, ended_sessions_permit_nothing,
+    more_active_roles_never_permit_less, only_activation_adds_active_roles,
+    sound_policies_keep_duties_apart, static_sets_are_tested_first, trim_leaves_sound_policies,
+};
+pub use tables::each_request_keeps_the_tables;

@@ -1,5 +1,0 @@
-use Rattle.mpw_replies.proofs.HiddenLemmas.{full_not_hidden}
-use Rattle.mpw_replies.proofs.laws.full_markers_are_not_hidden.Goals as goal
-
-pub returns : goal.returns
-returns c = full_not_hidden

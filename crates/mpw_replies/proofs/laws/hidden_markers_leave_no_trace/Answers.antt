@@ -1,5 +1,0 @@
-use Rattle.mpw_replies.proofs.HiddenLemmas.{hidden_traceless}
-use Rattle.mpw_replies.proofs.laws.hidden_markers_leave_no_trace.Goals as goal
-
-pub returns : goal.returns
-returns c = hidden_traceless

@@ -1,5 +1,0 @@
-use Rattle.mpw_replies.proofs.BookLines.{books_readable}
-use Rattle.mpw_replies.proofs.laws.lines_of_books_are_of_readable_cells.Goals as goal
-
-pub returns : goal.returns
-returns c = books_readable

@@ -1,5 +1,0 @@
-use Rattle.mpw_run.proofs.Keeping.{finished}
-use Rattle.mpw_run.proofs.laws.finished_once_all_were_kept.Goals as goal
-
-pub returns : goal.returns
-returns c = finished c.answers_make_the_layout.ensures c.stitched_computes.ensures

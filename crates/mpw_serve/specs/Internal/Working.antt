@@ -1,0 +1,18 @@
+-- What private functions and proofs need of this: the events by which a run is worked off.
+use Rattle.std.specs.Prelude.{◌≡◌, false, Option, Some, IfSome}
+use Rattle.mpw_core.specs.History.{KeptDesk, restarts}
+use Rattle.mpw_core.specs.declared.event.Event.{Event}
+use Rattle.mpw_core.specs.declared.event.Event.TheVariants as event
+use Rattle.mpw_core.specs.declared.event.Response.{Response}
+use Rattle.mpw_job.specs.declared.job.CutJob.{CutJob}
+use Rattle.mpw_serve.specs.Working.{own_worker, CameOf, cut_of_call}
+
+-- The event is of the run, and no restart.
+abbrev pub IsOfRun : Event → Type 0
+IsOfRun e = restarts e ≡ false
+
+-- What a call for a job came to, and the job of cutting that is taken from it; none where there is none, or memory is wanting.
+pub record CallsFor (d : KeptDesk) (job : Option CutJob) (d' : KeptDesk) : Type 0 where
+  pub call : Option Response
+  pub handled : CameOf d (event.Take own_worker) call d'
+  pub taken : IfSome job (λ j. cut_of_call call ≡ Some j)

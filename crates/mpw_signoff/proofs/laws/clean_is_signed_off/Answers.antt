@@ -1,5 +1,0 @@
-use Rattle.mpw_signoff.proofs.Verdicts.{clean_is_signed}
-use Rattle.mpw_signoff.proofs.laws.clean_is_signed_off.Goals as goal
-
-pub returns : goal.returns
-returns c = clean_is_signed c.tests_are_exact.ensures c.none_unsigned_where_all_are_signed.ensures

@@ -1,5 +1,0 @@
-use Rattle.mpw_signoff.proofs.Denials.{sign_off_denies}
-use Rattle.mpw_signoff.proofs.laws.denials_over_the_sign_off_name_what_is_lacked.Goals as goal
-
-pub returns : goal.returns
-returns c = sign_off_denies c.entering_denies_what_is_lacked.ensures

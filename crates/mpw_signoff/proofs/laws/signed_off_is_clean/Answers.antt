@@ -1,5 +1,0 @@
-use Rattle.mpw_signoff.proofs.Verdicts.{signed_is_clean}
-use Rattle.mpw_signoff.proofs.laws.signed_off_is_clean.Goals as goal
-
-pub returns : goal.returns
-returns c = signed_is_clean c.tests_are_exact.ensures c.none_unsigned_where_all_are_signed.ensures

@@ -1,5 +1,0 @@
-use Rattle.mpw_signoff.proofs.Shown.{signers_apart}
-use Rattle.mpw_signoff.proofs.laws.signers_stand_apart.Goals as goal
-
-pub returns : goal.returns
-returns c = signers_apart c.places_are_of_their_keys.ensures c.signers_are_apart.ensures.apart

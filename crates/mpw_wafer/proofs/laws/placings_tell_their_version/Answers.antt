@@ -1,5 +1,0 @@
-use Rattle.mpw_wafer.proofs.Leaving.{versions_told}
-use Rattle.mpw_wafer.proofs.laws.placings_tell_their_version.Goals as goal
-
-pub returns : goal.returns
-returns c = versions_told c.placing_is_undone.ensures.version

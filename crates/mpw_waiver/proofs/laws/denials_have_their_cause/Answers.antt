@@ -1,5 +1,0 @@
-use Rattle.mpw_waiver.proofs.Signed.{submitter_least, asker_asked}
-use Rattle.mpw_waiver.proofs.laws.denials_have_their_cause.Goals as goal
-
-pub returns : goal.returns
-returns c = record { submitter = submitter_least; asker = asker_asked }

@@ -1,5 +1,0 @@
-use Rattle.mpw_waiver.proofs.Signed.{signers_apart, apart_sign}
-use Rattle.mpw_waiver.proofs.laws.signers_are_apart.Goals as goal
-
-pub returns : goal.returns
-returns c = record { apart = signers_apart; all = apart_sign }

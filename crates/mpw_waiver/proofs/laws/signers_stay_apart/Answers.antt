@@ -1,5 +1,0 @@
-use Rattle.mpw_waiver.proofs.Reached.{reached-size, reached-apart}
-use Rattle.mpw_waiver.proofs.laws.signers_stay_apart.Goals as goal
-
-pub returns : goal.returns
-returns c = record { size = reached-size; apart = reached-apart }

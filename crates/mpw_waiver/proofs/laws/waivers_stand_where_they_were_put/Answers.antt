@@ -1,5 +1,0 @@
-use Rattle.mpw_waiver.proofs.Reached.{none_at, put_or_before}
-use Rattle.mpw_waiver.proofs.laws.waivers_stand_where_they_were_put.Goals as goal
-
-pub returns : goal.returns
-returns c = record { put = put_or_before; none = none_at }

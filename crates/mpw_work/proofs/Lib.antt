@@ -1,7 +1,0 @@
-mod BatchLemmas
-mod CutLemmas
-mod EndLemmas
-mod EventLemmas
-mod HandingLemmas
-mod TileLemmas
-mod WorkLemmas

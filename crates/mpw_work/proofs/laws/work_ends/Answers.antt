@@ -1,5 +1,0 @@
-use Rattle.mpw_work.proofs.EndLemmas.{work_ends}
-use Rattle.mpw_work.proofs.laws.work_ends.Goals as goal
-
-pub returns : goal.returns
-returns c = work_ends c.tests_are_exact.ensures

@@ -1,9 +1,0 @@
-use Rattle.std.proofs.Common.{◌≡◌, map, take}
-use Rattle.std.specs.Prelude.{All}
-use Rattle.mpw_work.specs.Working.{event_of}
-use Rattle.mpw_work.specs.Internal.Working.{IsOfRun}
-use Rattle.mpw_work.proofs.working.events_of.Given as goal
-
-abbrev pub invariant-loop-answer : goal.invariant-loop-answer
-invariant-loop-answer l =
-    (l.events.items ≡ map event_of (take l.answer-index l.fn.done)) × All IsOfRun l.events.items

@@ -1,5 +1,0 @@
-use Rattle.mpw_work.specs.Working.{WorksCut}
-use Rattle.mpw_work.proofs.working.work_cut.Goals as goal
-
-pub returns-in_default : goal.returns-in_default
-returns-in_default g c = WorksCut.uncut
