@@ -31,6 +31,8 @@ PROOF = ("src", "specs", "proofs")
 # What a crate's proof may take, in kilobytes, and how much less its processes get for each crate that is waited for longer.
 MEMORY = 4_000_000
 NICER = 3
+# The bytes of sources that take a proof as long as each crate below does: a function takes long where its types lead to many others.
+REACH = 2000
 # The least processes of a proof: about a third of one is no work that can be shared.
 LEAST = 2
 # The last line of a check that proved a crate, without a word that would leave something out of that.
@@ -101,8 +103,9 @@ class Crate:
 
     @functools.cached_property
     def size(self):
-        """The bytes that a proof of it reads."""
-        return sum(os.path.getsize(it) for it in self.files)
+        """What its proof takes, by the bytes of its sources and by what its types may lead to: lemmas take little."""
+        sources = (it for it in self.files if it.startswith(f"{self.folder}/src/"))
+        return sum(os.path.getsize(it) for it in sources) + REACH * len(self.below)
 
     @functools.cached_property
     def sum(self):
@@ -156,7 +159,7 @@ def crates_of(name):
 
 
 def chains(crates):
-    """Returns the bytes of each crate together with the longest chain of crates above it."""
+    """Returns the size of each crate together with the longest chain of crates above it."""
     found = {}
     for crate in reversed(crates):
         found[crate] = crate.size + max((it for other, it in found.items() if crate in other.uses), default=0)
