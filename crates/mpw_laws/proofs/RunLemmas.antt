@@ -4,10 +4,8 @@ use Rattle.mpw_rbac.specs.declared.refusal.Refusal.{Refusal}
 use Rattle.mpw_rbac.specs.declared.session.Identity.{Identity}
 use Rattle.mpw_rbac.specs.Policy.{Policy}
 use Rattle.mpw_rbac.specs.Rows as rows
-use Rattle.mpw_run.specs.declared.phase.Phase.TheVariants.{Finished}
 use Rattle.mpw_run.specs.declared.phase.RunReply.{RunReply}
 use Rattle.mpw_run.specs.declared.phase.RunReply.TheVariants as reply
-use Rattle.mpw_run.specs.Run.{Tile}
 use Rattle.mpw_run.specs.Step.{Run, Outcome as RunOutcome, taken, cut_answered, kept, tile_answered}
 use Rattle.mpw_run.specs.Laws.{finishes}
 use Rattle.mpw_laws.specs.RunLaws.{Event as RunEvent, leaves, UnkeptLeavesTheRun}

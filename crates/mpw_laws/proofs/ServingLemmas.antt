@@ -8,7 +8,6 @@ use Rattle.mpw_laws.specs.GoingOn.{GoesOnTo}
 use Rattle.mpw_serve.specs.declared.serve.Served.{Served}
 use Rattle.mpw_laws.specs.WorkLaws.{WorkGoesOn}
 use Rattle.mpw_serve.specs.Serving.{Answer, AnsweredLine, Stop, IsTrace, IsAnsweredLine, IsStop, IsGone, Serves}
-use Rattle.mpw_serve.proofs.ServingLemmas.{spent}
 
 -- ---- what the keeper has of it
 

@@ -17,7 +17,6 @@ use Rattle.mpw_replies.specs.Rows.{◌>>=◌, permitted}
 use Rattle.mpw_replies.specs.Sight.{may_read}
 use Rattle.mpw_replies.specs.declared.reply.Reply.TheVariants as reply
 use Rattle.mpw_replies.specs.declared.row.Ending.{Ending}
-use Rattle.mpw_replies.specs.declared.row.Ending.TheVariants as ending
 use Rattle.mpw_laws.specs.LayoutLaws.{IsShapeLine, ShapesAreNoReferences}
 use Rattle.mpw_layouts.specs.Layouts.{readable_shape, present_number, shapes, listing_outcome}
 

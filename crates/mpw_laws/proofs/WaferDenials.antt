@@ -20,7 +20,6 @@ use Rattle.mpw_replies.specs.Rows.{denied, permitted}
 use Rattle.mpw_replies.specs.declared.reply.Denial.TheVariants as denial
 use Rattle.mpw_replies.specs.declared.reply.Reply.TheVariants as reply
 use Rattle.mpw_replies.specs.declared.row.Ending.{Ending}
-use Rattle.mpw_replies.specs.declared.row.Ending.TheVariants as ending
 use Rattle.mpw_placings.specs.declared.wafer.Wafer.{Wafer}
 use Rattle.mpw_laws.specs.WaferLaws.{WafersDenyWhatIsLacked}
 use Rattle.mpw_wafer.specs.Wafers.{by_table, place_row, unplace_row, by_text, deck_row, placed_outcome, unplaced_outcome, decked_outcome}

@@ -1,6 +1,5 @@
 -- How a desk goes on by calls, and what its keeper has of their changes.
 use Rattle.std.specs.Prelude.{[], ◌≡◌, List, ◌∷◌, ◌++◌}
-use Rattle.mpw_core.specs.declared.event.Event.TheVariants as event
 use Rattle.mpw_core.specs.declared.event.Call.{Call}
 use Rattle.mpw_core.specs.declared.keeper.KeptChange.{KeptChange}
 use Rattle.std.specs.Option.{option_to_list}
