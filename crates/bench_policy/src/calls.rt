@@ -2,7 +2,8 @@
 
 use crate::desk::is_accepted;
 use mpw_geom::Name;
-use mpw_rbac::{Identity, Object, Operation, Policy, PolicyFault};
+use mpw_permissions::{Object, Operation};
+use mpw_rbac::{Identity, Policy, PolicyFault};
 
 /// Asks for so many permissions, of the objects in turn; how many there are.
 pub fn permitted(policy: &Policy, objects: &[Object], calls: u32) -> u32 {

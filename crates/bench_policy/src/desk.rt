@@ -1,7 +1,8 @@
 //! A desk of so many roles and grants, with a session at the top of the hierarchy.
 
 use mpw_geom::Name;
-use mpw_rbac::{Digest, Grant, Object, Operation, Policy, PolicyFault};
+use mpw_permissions::{Grant, Object, Operation};
+use mpw_rbac::{Digest, Policy, PolicyFault};
 use std::alloc::{AllocError, Global};
 
 /// The digest of each user here.

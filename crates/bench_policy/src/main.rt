@@ -9,7 +9,8 @@ mod desk;
 
 use changes::Change;
 use desk::{name, new_desk};
-use mpw_rbac::{Object, Policy};
+use mpw_permissions::Object;
+use mpw_rbac::Policy;
 use std::alloc::{AllocError, Global};
 use std::time::Instant;
 use std::{env, io};

@@ -8,10 +8,10 @@ use Rattle.mpw_requests.specs.declared.layouts.LayoutRequest.{LayoutRequest}
 use Rattle.mpw_requests.specs.declared.layouts.LayoutRequest.TheVariants.{Submit, Cells, Shapes}
 use Rattle.mpw_requests.specs.declared.request.Request.{Request}
 use Rattle.mpw_requests.specs.declared.request.Request.TheVariants as ask
-use Rattle.mpw_rbac.specs.declared.permission.Object.TheVariants as object
-use Rattle.mpw_rbac.specs.declared.permission.Operation.TheVariants as operation
+use Rattle.mpw_permissions.specs.declared.permission.Object.TheVariants as object
+use Rattle.mpw_permissions.specs.declared.permission.Operation.TheVariants as operation
 use Rattle.mpw_replies.specs.Listing.{Listed}
-use Rattle.mpw_replies.specs.Rows.{permitted}
+use Rattle.mpw_access.specs.Permitted.{permitted}
 use Rattle.mpw_replies.specs.declared.row.Ending.{Ending}
 use Rattle.mpw_layouts.specs.Layouts as layouts
 use Rattle.mpw_wafer.specs.Laws.{ChangesKeepPlacings}

@@ -14,9 +14,9 @@ use Rattle.mpw_run.specs.Run.{Tile, Checks, answered}
 use Rattle.mpw_run.specs.Same.{same_snapshot, same_tile_job}
 use Rattle.mpw_run.specs.Step.{Run, Offer, Outcome as RunOutcome, answered_by, next_from, handed, taken_in, cut_in, kept, job_of_tile, tile_compared, tile_checked, tile_in}
 use Rattle.mpw_checking.specs.Laws.{NumbersAreCounted}
-use Rattle.mpw_rbac.specs.declared.permission.Object.TheVariants as object
-use Rattle.mpw_rbac.specs.declared.permission.Operation.TheVariants as operation
-use Rattle.mpw_replies.specs.Rows.{permitted}
+use Rattle.mpw_permissions.specs.declared.permission.Object.TheVariants as object
+use Rattle.mpw_permissions.specs.declared.permission.Operation.TheVariants as operation
+use Rattle.mpw_access.specs.Permitted.{permitted}
 use Rattle.mpw_replies.specs.declared.row.Ending.{Ending}
 use Rattle.mpw_requests.specs.declared.request.Request.{Request}
 use Rattle.mpw_requests.specs.declared.request.Request.TheVariants as ask

@@ -11,13 +11,14 @@ use Rattle.mpw_hier.specs.declared.submission.Submission.{Submission}
 use Rattle.mpw_markers.specs.declared.marker.Marker.{Marker}
 use Rattle.mpw_markers.specs.Markers.{key_of}
 use Rattle.mpw_roles.specs.Hierarchy.{Name}
-use Rattle.mpw_rbac.specs.declared.permission.Object.TheVariants as objects
-use Rattle.mpw_rbac.specs.declared.permission.Operation.TheVariants.{Read}
+use Rattle.mpw_permissions.specs.declared.permission.Object.TheVariants as objects
+use Rattle.mpw_permissions.specs.declared.permission.Operation.TheVariants.{Read}
 use Rattle.mpw_rbac.specs.Policy.{Policy, permits}
 use Rattle.mpw_replies.specs.Listing.{Listed, marker, masked, is_seen}
 use Rattle.mpw_laws.specs.ListingLaws.{BooksAreOfReadable}
 use Rattle.mpw_laws.specs.Readable.{IsOfReadable}
-use Rattle.mpw_replies.specs.Sight.{may_read, seen_by, is_full, is_of, cells_on, met_cells, line_for, full_line, full_lines, masked_number}
+use Rattle.mpw_replies.specs.Sight.{is_full, is_of, cells_on, met_cells, line_for, full_line, full_lines, masked_number}
+use Rattle.mpw_access.specs.Seen.{may_read, seen_by}
 use Rattle.mpw_replies.specs.Sight.{masked_line, masked_lines}
 
 -- what passes a test, where that tells P

@@ -9,7 +9,8 @@ use Rattle.mpw_requests.specs.declared.run.RunRequest.TheVariants as ask
 use Rattle.mpw_laws.specs.ListingLaws.{BooksAreOfReadable}
 use Rattle.mpw_replies.specs.Listing.{Listed, stored}
 use Rattle.mpw_laws.specs.Readable.{IsOfReadable}
-use Rattle.mpw_replies.specs.Rows.{needed, session_test}
+use Rattle.mpw_replies.specs.Rows.{needed}
+use Rattle.mpw_access.specs.Permitted.{session_test}
 use Rattle.mpw_replies.specs.declared.reply.Code.TheVariants as code
 use Rattle.mpw_replies.specs.declared.reply.Line.TheVariants as line
 use Rattle.mpw_replies.specs.declared.reply.Reply.TheVariants as reply

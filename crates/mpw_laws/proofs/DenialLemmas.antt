@@ -2,8 +2,8 @@
 use Rattle.std.proofs.Common.{◌≡◌, ◌⊎◌, inl, inr, ℕ, Bool, List, Option, Some, None, Result, Ok, Err, false, refl, sym, ap, ◌∙◌}
 use Rattle.std.proofs.lemmas.Option.{none-some, same_Some}
 use Rattle.mpw_geom.specs.Names.{contains_name}
-use Rattle.mpw_rbac.specs.declared.permission.Object.{Object}
-use Rattle.mpw_rbac.specs.declared.permission.Operation.{Operation}
+use Rattle.mpw_permissions.specs.declared.permission.Object.{Object}
+use Rattle.mpw_permissions.specs.declared.permission.Operation.{Operation}
 use Rattle.mpw_rbac.specs.declared.refusal.Refusal.{Refusal}
 use Rattle.mpw_rbac.specs.declared.refusal.Refusal.TheVariants as refusal
 use Rattle.mpw_rbac.specs.declared.session.Identity.{Identity}
@@ -27,11 +27,12 @@ use Rattle.mpw_laws.specs.WaferLaws.{WafersDenyWhatIsLacked}
 use Rattle.mpw_laws.specs.CheckingLaws.{RunsDenyWhatIsLacked}
 use Rattle.mpw_laws.specs.SignOffLaws.{SignOffsDenyWhatIsLacked}
 use Rattle.mpw_laws.proofs.RowParts.{denial_ended}
-use Rattle.mpw_replies.specs.Laws.{EnteringDeniesWhatIsLacked}
-use Rattle.mpw_replies.specs.Rows.{denied, permitted}
+use Rattle.mpw_access.specs.Permitted.{EnteringDeniesWhatIsLacked}
+use Rattle.mpw_replies.specs.Rows.{denied}
+use Rattle.mpw_access.specs.Permitted.{permitted}
 use Rattle.mpw_replies.specs.declared.row.Ending.{Ending}
-use Rattle.mpw_rbac.specs.declared.permission.Object.TheVariants as objects
-use Rattle.mpw_rbac.specs.declared.permission.Operation.TheVariants as operations
+use Rattle.mpw_permissions.specs.declared.permission.Object.TheVariants as objects
+use Rattle.mpw_permissions.specs.declared.permission.Operation.TheVariants as operations
 use Rattle.mpw_core.specs.Step.{State, Outcome, reply_of, policy_outcome, query_outcome, trail_outcome, identity_lines, outcome_of, event_outcome, step, response_of}
 use Rattle.mpw_laws.proofs.RefusalLemmas.{settlement-denied}
 

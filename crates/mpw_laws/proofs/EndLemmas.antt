@@ -6,13 +6,14 @@ use Rattle.mpw_core.specs.Step.{State, Outcome, after, no_change, over_run, resp
 use Rattle.mpw_core.specs.declared.event.Event.{Event}
 use Rattle.mpw_core.specs.declared.event.Event.TheVariants as event
 use Rattle.mpw_core.specs.declared.event.Response.{Response}
-use Rattle.mpw_rbac.specs.declared.permission.Operation.TheVariants as operation
-use Rattle.mpw_rbac.specs.declared.permission.Object.TheVariants as object
+use Rattle.mpw_permissions.specs.declared.permission.Operation.TheVariants as operation
+use Rattle.mpw_permissions.specs.declared.permission.Object.TheVariants as object
 use Rattle.mpw_deck.specs.Decks.{Deck}
 use Rattle.mpw_checking.specs.Checking as checking
 use Rattle.mpw_checking.specs.Checking.{run_row}
 use Rattle.mpw_job.specs.declared.job.CutJob.{CutJob}
-use Rattle.mpw_replies.specs.Rows.{◌>>=◌, ended_by, needed, permitted}
+use Rattle.mpw_replies.specs.Rows.{◌>>=◌, ended_by, needed}
+use Rattle.mpw_access.specs.Permitted.{permitted}
 use Rattle.mpw_replies.specs.declared.reply.Code.TheVariants as code
 use Rattle.mpw_replies.specs.declared.row.Ending.{Ending}
 use Rattle.mpw_replies.specs.declared.row.Ending.TheVariants as ending

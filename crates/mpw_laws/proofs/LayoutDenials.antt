@@ -3,10 +3,10 @@ use Rattle.std.proofs.Common.{◌≡◌, ℕ, Bool, true, false, cond, List, [],
 use Rattle.std.specs.Prelude.{not}
 use Rattle.std.specs.List.{flat_map}
 use Rattle.mpw_records.specs.declared.fault.ReadFault.{ReadFault}
-use Rattle.mpw_rbac.specs.declared.permission.Object.{Object}
-use Rattle.mpw_rbac.specs.declared.permission.Object.TheVariants as objects
-use Rattle.mpw_rbac.specs.declared.permission.Operation.{Operation}
-use Rattle.mpw_rbac.specs.declared.permission.Operation.TheVariants.{Submit, Use, Read}
+use Rattle.mpw_permissions.specs.declared.permission.Object.{Object}
+use Rattle.mpw_permissions.specs.declared.permission.Object.TheVariants as objects
+use Rattle.mpw_permissions.specs.declared.permission.Operation.{Operation}
+use Rattle.mpw_permissions.specs.declared.permission.Operation.TheVariants.{Submit, Use, Read}
 use Rattle.mpw_rbac.specs.Policy.{Policy, session_of, permits}
 use Rattle.mpw_rbac.specs.Rows.{user_of}
 use Rattle.mpw_library.specs.declared.structures.Structure.{Structure}
@@ -21,9 +21,10 @@ use Rattle.mpw_hier.specs.Reach.{is_cyclic, is_far, external_names}
 use Rattle.mpw_requests.specs.declared.layouts.LayoutRequest.{LayoutRequest}
 use Rattle.mpw_requests.specs.declared.layouts.LayoutRequest.TheVariants as ask
 use Rattle.mpw_laws.proofs.RowParts.{parts, denial_ended}
-use Rattle.mpw_replies.specs.Laws.{EnteringDeniesWhatIsLacked}
+use Rattle.mpw_access.specs.Permitted.{EnteringDeniesWhatIsLacked}
 use Rattle.mpw_replies.specs.Listing.{Listed, stored}
-use Rattle.mpw_replies.specs.Rows.{denied, permitted}
+use Rattle.mpw_replies.specs.Rows.{denied}
+use Rattle.mpw_access.specs.Permitted.{permitted}
 use Rattle.mpw_replies.specs.declared.reply.Denial.TheVariants as denial
 use Rattle.mpw_replies.specs.declared.reply.Code.TheVariants as code
 use Rattle.mpw_replies.specs.declared.reply.Reply.TheVariants as reply

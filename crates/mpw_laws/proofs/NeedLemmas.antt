@@ -2,10 +2,10 @@
 use Rattle.std.proofs.Common.{◌≡◌, ℕ, Bool, true, false, cond, List, Result, Ok, Err, refl, sym, ap, ◌∙◌}
 use Rattle.mpw_layouts.specs.Layouts as layouts
 use Rattle.mpw_checking.specs.Checking as checking
-use Rattle.mpw_rbac.specs.declared.permission.Object.{Object}
-use Rattle.mpw_rbac.specs.declared.permission.Object.TheVariants.{Cell, Desk}
-use Rattle.mpw_rbac.specs.declared.permission.Operation.{Operation}
-use Rattle.mpw_rbac.specs.declared.permission.Operation.TheVariants as to
+use Rattle.mpw_permissions.specs.declared.permission.Object.{Object}
+use Rattle.mpw_permissions.specs.declared.permission.Object.TheVariants.{Cell, Desk}
+use Rattle.mpw_permissions.specs.declared.permission.Operation.{Operation}
+use Rattle.mpw_permissions.specs.declared.permission.Operation.TheVariants as to
 use Rattle.mpw_rbac.specs.declared.refusal.Refusal.{Refusal}
 use Rattle.mpw_rbac.specs.declared.session.Identity.{Identity}
 use Rattle.mpw_rbac.specs.Policy.{Policy}
@@ -13,7 +13,8 @@ use Rattle.mpw_rbac.specs.Rows as rows
 use Rattle.mpw_replies.proofs.RowParts.{passed}
 use Rattle.mpw_laws.proofs.RowParts.{ended_not_ok}
 use Rattle.mpw_replies.specs.Listing.{Listed}
-use Rattle.mpw_replies.specs.Rows.{◌>>=◌, permitted, session_test, ended_by}
+use Rattle.mpw_replies.specs.Rows.{◌>>=◌, ended_by}
+use Rattle.mpw_access.specs.Permitted.{permitted, session_test}
 use Rattle.mpw_replies.specs.declared.reply.Reply.{Reply}
 use Rattle.mpw_replies.specs.declared.reply.Reply.TheVariants as reply
 use Rattle.mpw_replies.specs.declared.row.Ending.{Ending}

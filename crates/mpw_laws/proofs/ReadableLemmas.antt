@@ -21,14 +21,15 @@ use Rattle.mpw_laws.specs.CheckingLaws.{MarkersAreOfReadable}
 use Rattle.mpw_laws.specs.SignOffLaws.{SignOffLinesAreOfReadable}
 use Rattle.mpw_replies.specs.Trail.{numbered_entries}
 use Rattle.mpw_replies.specs.declared.entry.Entry.{Entry}
-use Rattle.mpw_rbac.specs.declared.permission.Object.TheVariants as object
-use Rattle.mpw_rbac.specs.declared.permission.Operation.TheVariants as operation
+use Rattle.mpw_permissions.specs.declared.permission.Object.TheVariants as object
+use Rattle.mpw_permissions.specs.declared.permission.Operation.TheVariants as operation
 use Rattle.mpw_placings.specs.declared.wafer.Wafer.{Wafer}
 use Rattle.mpw_wafer.specs.Wafers as wafers
 use Rattle.mpw_replies.specs.Listing.{Listed, stored, entry}
 use Rattle.mpw_laws.proofs.RowParts.{ended_not_ok}
 use Rattle.mpw_laws.specs.Readable.{IsOfReadable}
-use Rattle.mpw_replies.specs.Rows.{IsNegative, permitted}
+use Rattle.mpw_replies.specs.Rows.{IsNegative}
+use Rattle.mpw_access.specs.Permitted.{permitted}
 use Rattle.mpw_replies.specs.declared.row.Ending.{Ending}
 use Rattle.mpw_replies.specs.declared.reply.Line.{Line}
 use Rattle.mpw_replies.specs.declared.reply.Line.TheVariants.{User, Active, Authorized, Version}

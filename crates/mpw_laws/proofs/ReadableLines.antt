@@ -4,8 +4,8 @@ use Rattle.std.specs.Prelude.{All, slice_get}
 use Rattle.std.specs.List.{flat_map}
 use Rattle.std.proofs.lemmas.List.Elements.{All-cons, All-append}
 use Rattle.std.proofs.lemmas.List.{map-append}
-use Rattle.mpw_rbac.specs.declared.permission.Object.TheVariants as objects
-use Rattle.mpw_rbac.specs.declared.permission.Operation.TheVariants.{Read}
+use Rattle.mpw_permissions.specs.declared.permission.Object.TheVariants as objects
+use Rattle.mpw_permissions.specs.declared.permission.Operation.TheVariants.{Read}
 use Rattle.mpw_rbac.specs.Policy.{Policy, permits, session_of}
 use Rattle.mpw_hier.specs.declared.submission.Submission.{Submission}
 use Rattle.mpw_hier.specs.Items.{Item}
@@ -17,8 +17,9 @@ use Rattle.mpw_requests.specs.declared.layouts.LayoutRequest.TheVariants as ask
 use Rattle.mpw_laws.proofs.RowParts.{ended_not_ok}
 use Rattle.mpw_replies.specs.Listing.{Listed, stored, line_if, shape_line}
 use Rattle.mpw_laws.specs.Readable.{IsOfReadable}
-use Rattle.mpw_replies.specs.Rows.{◌>>=◌, permitted}
-use Rattle.mpw_replies.specs.Sight.{may_read}
+use Rattle.mpw_replies.specs.Rows.{◌>>=◌}
+use Rattle.mpw_access.specs.Permitted.{permitted}
+use Rattle.mpw_access.specs.Seen.{may_read}
 use Rattle.mpw_replies.specs.declared.reply.Denial.TheVariants as denial
 use Rattle.mpw_replies.specs.declared.reply.Line.TheVariants.{Version}
 use Rattle.mpw_replies.specs.declared.reply.Reply.TheVariants as reply

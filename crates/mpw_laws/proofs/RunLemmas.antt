@@ -10,9 +10,9 @@ use Rattle.mpw_run.specs.Step.{Run, Outcome as RunOutcome, taken, cut_answered, 
 use Rattle.mpw_run.specs.Laws.{finishes}
 use Rattle.mpw_laws.specs.RunLaws.{Event as RunEvent, leaves, UnkeptLeavesTheRun}
 use Rattle.mpw_laws.specs.RunLaws as law
-use Rattle.mpw_rbac.specs.declared.permission.Object.TheVariants as object
-use Rattle.mpw_rbac.specs.declared.permission.Operation.TheVariants as operation
-use Rattle.mpw_replies.specs.Rows.{permitted}
+use Rattle.mpw_permissions.specs.declared.permission.Object.TheVariants as object
+use Rattle.mpw_permissions.specs.declared.permission.Operation.TheVariants as operation
+use Rattle.mpw_access.specs.Permitted.{permitted}
 use Rattle.mpw_replies.specs.declared.row.Ending.{Ending}
 use Rattle.mpw_requests.specs.declared.request.Request.{Request}
 use Rattle.mpw_requests.specs.declared.request.Request.TheVariants as ask

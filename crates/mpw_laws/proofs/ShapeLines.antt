@@ -3,8 +3,8 @@ use Rattle.std.proofs.Common.{◌≡◌, ℕ, Bool, true, false, cond, refl, Lis
 use Rattle.std.specs.Prelude.{All, slice_get}
 use Rattle.std.specs.List.{flat_map}
 use Rattle.std.proofs.lemmas.List.Elements.{All-head, All-tail, All-cons, All-append}
-use Rattle.mpw_rbac.specs.declared.permission.Object.TheVariants as objects
-use Rattle.mpw_rbac.specs.declared.permission.Operation.TheVariants.{Read}
+use Rattle.mpw_permissions.specs.declared.permission.Object.TheVariants as objects
+use Rattle.mpw_permissions.specs.declared.permission.Operation.TheVariants.{Read}
 use Rattle.mpw_rbac.specs.Policy.{Policy}
 use Rattle.mpw_hier.specs.declared.submission.Submission.{Submission}
 use Rattle.mpw_hier.specs.Items.{Item}
@@ -13,8 +13,9 @@ use Rattle.mpw_hier.specs.Structures.{is_shape}
 use Rattle.mpw_hier.specs.Values.{flat}
 use Rattle.mpw_laws.proofs.RowParts.{ended_not_ok}
 use Rattle.mpw_replies.specs.Listing.{Listed, line_if, shape_line}
-use Rattle.mpw_replies.specs.Rows.{◌>>=◌, permitted}
-use Rattle.mpw_replies.specs.Sight.{may_read}
+use Rattle.mpw_replies.specs.Rows.{◌>>=◌}
+use Rattle.mpw_access.specs.Permitted.{permitted}
+use Rattle.mpw_access.specs.Seen.{may_read}
 use Rattle.mpw_replies.specs.declared.reply.Reply.TheVariants as reply
 use Rattle.mpw_replies.specs.declared.row.Ending.{Ending}
 use Rattle.mpw_laws.specs.LayoutLaws.{IsShapeLine, ShapesAreNoReferences}

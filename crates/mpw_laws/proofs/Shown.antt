@@ -2,14 +2,16 @@
 use Rattle.std.proofs.Common.{◌≡◌, ◌∙◌, ℕ, Bool, true, false, cond, List, Option, None, Some, Result, Ok, Err, refl, sym, ap}
 use Rattle.mpw_replies.proofs.RowParts.{passed}
 use Rattle.mpw_markers.specs.Laws.{PlacesAreOfKeys}
-use Rattle.mpw_rbac.specs.declared.permission.Object.TheVariants as objects
-use Rattle.mpw_rbac.specs.declared.permission.Operation.TheVariants as operations
+use Rattle.mpw_permissions.specs.declared.permission.Object.TheVariants as objects
+use Rattle.mpw_permissions.specs.declared.permission.Operation.TheVariants as operations
 use Rattle.mpw_rbac.specs.Policy.{Policy}
 use Rattle.mpw_rbac.specs.Rows.{user_of}
 use Rattle.mpw_requests.specs.declared.sign_off.MarkerName.{MarkerName}
 use Rattle.mpw_replies.specs.Listing.{Listed}
-use Rattle.mpw_replies.specs.Rows.{ended_by, needed, permitted}
-use Rattle.mpw_replies.specs.Sight.{seen_by, is_full}
+use Rattle.mpw_replies.specs.Rows.{ended_by, needed}
+use Rattle.mpw_access.specs.Permitted.{permitted}
+use Rattle.mpw_replies.specs.Sight.{is_full}
+use Rattle.mpw_access.specs.Seen.{seen_by}
 use Rattle.mpw_replies.specs.declared.reply.Code.TheVariants as code
 use Rattle.mpw_replies.specs.declared.reply.Reply.TheVariants as reply
 use Rattle.mpw_replies.specs.declared.row.Ending.{Ending}

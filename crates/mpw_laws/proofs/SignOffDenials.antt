@@ -3,19 +3,21 @@ use Rattle.std.proofs.Common.{◌≡◌, ◌∙◌, ℕ, Bool, true, false, cond
 use Rattle.mpw_laws.proofs.RowParts.{parts, denial_ended}
 use Rattle.mpw_markers.specs.Laws.{PlacesAreOfKeys}
 use Rattle.mpw_roles.specs.Decided.{decided}
-use Rattle.mpw_rbac.specs.declared.permission.Object.{Object}
-use Rattle.mpw_rbac.specs.declared.permission.Object.TheVariants as objects
-use Rattle.mpw_rbac.specs.declared.permission.Operation.{Operation}
-use Rattle.mpw_rbac.specs.declared.permission.Operation.TheVariants as operations
+use Rattle.mpw_permissions.specs.declared.permission.Object.{Object}
+use Rattle.mpw_permissions.specs.declared.permission.Object.TheVariants as objects
+use Rattle.mpw_permissions.specs.declared.permission.Operation.{Operation}
+use Rattle.mpw_permissions.specs.declared.permission.Operation.TheVariants as operations
 use Rattle.mpw_rbac.specs.Policy.{Policy, permits, session_of}
 use Rattle.mpw_rbac.specs.Rows.{user_of}
 use Rattle.mpw_requests.specs.declared.sign_off.MarkerName.{MarkerName}
 use Rattle.mpw_requests.specs.declared.sign_off.SignOffRequest.{SignOffRequest}
 use Rattle.mpw_requests.specs.declared.sign_off.SignOffRequest.TheVariants as ask
-use Rattle.mpw_replies.specs.Laws.{EnteringDeniesWhatIsLacked}
+use Rattle.mpw_access.specs.Permitted.{EnteringDeniesWhatIsLacked}
 use Rattle.mpw_replies.specs.Listing.{Listed}
-use Rattle.mpw_replies.specs.Rows.{denied, needed, permitted, session_test}
-use Rattle.mpw_replies.specs.Sight.{seen_by, is_full}
+use Rattle.mpw_replies.specs.Rows.{denied, needed}
+use Rattle.mpw_access.specs.Permitted.{permitted, session_test}
+use Rattle.mpw_replies.specs.Sight.{is_full}
+use Rattle.mpw_access.specs.Seen.{seen_by}
 use Rattle.mpw_replies.specs.declared.reply.Code.TheVariants as code
 use Rattle.mpw_replies.specs.declared.reply.Denial.{Denial}
 use Rattle.mpw_replies.specs.declared.reply.Denial.TheVariants as denial

@@ -5,15 +5,15 @@ use Rattle.std.specs.Prelude.{◌==◌, slice_get, slice_set, nat_lt, if◌then�
 use Rattle.mpw_tiles.specs.Plan.{tiles}
 use Rattle.mpw_markers.specs.declared.marker.Marker.{Marker}
 use Rattle.mpw_job.specs.Jobs.{CutWindows, FoundMarkers}
-use Rattle.mpw_rbac.specs.declared.permission.Object.TheVariants as object
-use Rattle.mpw_rbac.specs.declared.permission.Operation.TheVariants as operation
+use Rattle.mpw_permissions.specs.declared.permission.Object.TheVariants as object
+use Rattle.mpw_permissions.specs.declared.permission.Operation.TheVariants as operation
 use Rattle.mpw_rbac.specs.Rows as rows
 use Rattle.mpw_requests.specs.declared.request.Request.{Request}
 use Rattle.mpw_requests.specs.declared.request.Request.TheVariants as ask
 use Rattle.mpw_requests.specs.declared.run.RunRequest.{RunRequest}
 use Rattle.mpw_requests.specs.declared.run.RunRequest.TheVariants as run_ask
 use Rattle.mpw_replies.specs.Listing.{Listed}
-use Rattle.mpw_replies.specs.Rows.{permitted}
+use Rattle.mpw_access.specs.Permitted.{permitted}
 use Rattle.mpw_replies.specs.declared.row.Ending.{Ending}
 use Rattle.mpw_checking.specs.Checking as checking
 use Rattle.mpw_run.specs.declared.phase.Checked.{Checked}

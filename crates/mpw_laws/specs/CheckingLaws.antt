@@ -1,7 +1,7 @@
 -- Laws of the requests over the checking run.
 use Rattle.std.specs.Prelude.{◌≡◌, false, List, All}
-use Rattle.mpw_rbac.specs.declared.permission.Operation.{Operation}
-use Rattle.mpw_rbac.specs.declared.permission.Object.{Object}
+use Rattle.mpw_permissions.specs.declared.permission.Operation.{Operation}
+use Rattle.mpw_permissions.specs.declared.permission.Object.{Object}
 use Rattle.mpw_rbac.specs.Policy.{permits}
 use Rattle.mpw_replies.specs.Listing.{Listed}
 use Rattle.mpw_laws.specs.Readable.{IsOfReadable}

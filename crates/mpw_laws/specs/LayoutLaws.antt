@@ -1,7 +1,7 @@
 -- Laws of the requests over the shelf.
 use Rattle.std.specs.Prelude.{◌≡◌, ℕ, true, false, List, All}
-use Rattle.mpw_rbac.specs.declared.permission.Operation.{Operation}
-use Rattle.mpw_rbac.specs.declared.permission.Object.{Object}
+use Rattle.mpw_permissions.specs.declared.permission.Operation.{Operation}
+use Rattle.mpw_permissions.specs.declared.permission.Object.{Object}
 use Rattle.mpw_rbac.specs.Policy.{Policy, permits}
 use Rattle.mpw_hier.specs.declared.submission.Submission.{Submission}
 use Rattle.mpw_hier.specs.Structures.{is_shape}

@@ -5,7 +5,8 @@ use Rattle.mpw_hier.specs.declared.submission.Submission.{Submission}
 use Rattle.mpw_markers.specs.declared.marker.Marker.{Marker}
 use Rattle.mpw_rbac.specs.Policy.{Policy}
 use Rattle.mpw_laws.specs.Readable.{IsOfReadable}
-use Rattle.mpw_replies.specs.Sight.{seen_by, is_full, is_hidden, book_lines}
+use Rattle.mpw_replies.specs.Sight.{is_full, is_hidden, book_lines}
+use Rattle.mpw_access.specs.Seen.{seen_by}
 
 -- Each line of a book of markers, as a session sees it, names only cells that the session may read.
 abbrev pub BooksAreOfReadable : Type 0

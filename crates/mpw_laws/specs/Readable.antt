@@ -1,7 +1,7 @@
 -- Which lines of a reply tell of a cell.
 use Rattle.std.specs.Prelude.{◌≡◌, ℕ, true, ⊤, All}
-use Rattle.mpw_rbac.specs.declared.permission.Operation.TheVariants.{Read}
-use Rattle.mpw_rbac.specs.declared.permission.Object.TheVariants as object
+use Rattle.mpw_permissions.specs.declared.permission.Operation.TheVariants.{Read}
+use Rattle.mpw_permissions.specs.declared.permission.Object.TheVariants as object
 use Rattle.mpw_rbac.specs.Policy.{Policy, permits}
 use Rattle.mpw_replies.specs.declared.reply.Line.TheVariants.{User, Active, Authorized, Version, Run, Idle, Cutting, Checking, Finished, Asked, Signed, Clean, Open, Stale}
 use Rattle.mpw_replies.specs.declared.reply.Line.TheVariants as line

@@ -1,8 +1,8 @@
 -- Laws of the requests over the wafer.
 use Rattle.std.specs.Prelude.{[], ◌≡◌, ℕ, false, List, ◌∷◌, slice_get, Some}
 use Rattle.mpw_geom.specs.declared.placing.Placing.{Placing}
-use Rattle.mpw_rbac.specs.declared.permission.Operation.{Operation}
-use Rattle.mpw_rbac.specs.declared.permission.Object.{Object}
+use Rattle.mpw_permissions.specs.declared.permission.Operation.{Operation}
+use Rattle.mpw_permissions.specs.declared.permission.Object.{Object}
 use Rattle.mpw_rbac.specs.Policy.{Policy, permits}
 use Rattle.mpw_hier.specs.declared.submission.Submission.{Submission}
 use Rattle.mpw_hier.specs.Shelf.{present}

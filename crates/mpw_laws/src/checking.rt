@@ -2,7 +2,7 @@
 ghost use Rattle.mpw_laws.specs.CheckingLaws.{MarkersAreOfReadable, NegativesAreNoChange, NegativesLeaveTheRun, RunsDenyWhatIsLacked};
 
 use crate::listings::lines_of_books_are_of_readable_cells;
-use mpw_replies::entering_denies_what_is_lacked;
+use mpw_access::entering_denies_what_is_lacked;
 
 /// A denial of a permission names one that the connection's session lacks.
 pub fn denials_over_the_run_name_what_is_lacked()

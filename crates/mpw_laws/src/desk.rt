@@ -38,8 +38,8 @@ ghost use Rattle.mpw_replies.specs.declared.reply.Denial.{Denial};
 ghost use Rattle.mpw_replies.specs.declared.reply.Denial.TheVariants as denial;
 ghost use Rattle.mpw_replies.specs.declared.reply.Reply.TheVariants as Reply;
 ghost use Rattle.mpw_core.specs.declared.event.Call.{Call};
-ghost use Rattle.mpw_rbac.specs.declared.permission.Object.{Object};
-ghost use Rattle.mpw_rbac.specs.declared.permission.Operation.{Operation};
+ghost use Rattle.mpw_permissions.specs.declared.permission.Object.{Object};
+ghost use Rattle.mpw_permissions.specs.declared.permission.Operation.{Operation};
 ghost use Rattle.mpw_run.specs.declared.phase.RunReply.{RunReply as AnyRunReply};
 ghost use Rattle.mpw_laws.specs.RunLaws.{leaves};
 ghost use Rattle.mpw_run.specs.Step.{restarted};
@@ -67,7 +67,7 @@ use mpw_rbac_laws::{
     denied_only_for_the_least_broken_set, each_request_keeps_the_tables,
     own_requests_need_no_permission, sets_are_told_where_they_are_tested,
 };
-use mpw_replies::entering_denies_what_is_lacked;
+use mpw_access::entering_denies_what_is_lacked;
 
 /// In every state that calls lead to, each session is of a user who is authorized for each of its active roles.
 pub fn every_state_keeps_authorization()

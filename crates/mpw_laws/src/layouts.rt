@@ -2,7 +2,7 @@
 ghost use Rattle.mpw_laws.specs.LayoutLaws.{LayoutsAreOfReadable, LayoutsDenyWhatIsLacked, NegativesLeaveTheShelf, ShapesAreNoReferences};
 
 use mpw_hier::shelves_have_their_numbers;
-use mpw_replies::entering_denies_what_is_lacked;
+use mpw_access::entering_denies_what_is_lacked;
 use mpw_walk::shapes_are_no_references;
 
 /// A denial of a permission names one that the connection's session lacks.

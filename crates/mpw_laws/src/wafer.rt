@@ -2,7 +2,7 @@
 ghost use Rattle.mpw_laws.specs.WaferLaws.{WafersDenyWhatIsLacked, NegativesLeaveTheWafer, PlacingsTellTheirVersion};
 
 use crate::placings::placing_is_undone;
-use mpw_replies::entering_denies_what_is_lacked;
+use mpw_access::entering_denies_what_is_lacked;
 
 /// A denial of a permission names one that the connection's session lacks.
 pub fn denials_over_the_wafer_name_what_is_lacked()

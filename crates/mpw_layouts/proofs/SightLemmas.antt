@@ -8,7 +8,7 @@ use Rattle.mpw_hier.specs.Items.{Item}
 use Rattle.mpw_rbac.specs.Policy.{Policy}
 use Rattle.mpw_layouts.specs.Layouts.{readable_shape}
 use Rattle.mpw_replies.specs.Listing.{line_if, is_seen, seen_line, seen_lines}
-use Rattle.mpw_replies.specs.Sight.{may_read}
+use Rattle.mpw_access.specs.Seen.{may_read}
 
 same_test : (p : Submission → Bool) (o : Option Submission) (item : Item)
     → line_if (λ s. is_seen (option_map p o)) o item ≡ line_if p o item

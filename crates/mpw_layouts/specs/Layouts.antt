@@ -5,8 +5,8 @@ use Rattle.mpw_geom.specs.Names.{by_name}
 use Rattle.mpw_records.specs.declared.fault.ReadFault.{ReadFault}
 use Rattle.mpw_roles.specs.Decided.{decided}
 use Rattle.mpw_roles.specs.Hierarchy.{Name}
-use Rattle.mpw_rbac.specs.declared.permission.Operation.TheVariants.{Submit, Use, Read}
-use Rattle.mpw_rbac.specs.declared.permission.Object.TheVariants as object
+use Rattle.mpw_permissions.specs.declared.permission.Operation.TheVariants.{Submit, Use, Read}
+use Rattle.mpw_permissions.specs.declared.permission.Object.TheVariants as object
 use Rattle.mpw_rbac.specs.Policy.{Policy, permits}
 use Rattle.mpw_rbac.specs.Rows.{user_of}
 use Rattle.mpw_library.specs.declared.structures.Structure.{Structure}
@@ -22,8 +22,9 @@ use Rattle.mpw_hier.specs.Values.{flat}
 use Rattle.mpw_requests.specs.declared.layouts.LayoutRequest.{LayoutRequest}
 use Rattle.mpw_requests.specs.declared.layouts.LayoutRequest.TheVariants as ask
 use Rattle.mpw_replies.specs.Listing.{Listed, stored, line_if}
-use Rattle.mpw_replies.specs.Sight.{may_read}
-use Rattle.mpw_replies.specs.Rows.{◌>>=◌, denied, in_session, permitted, ended_by, listing_reply}
+use Rattle.mpw_access.specs.Seen.{may_read}
+use Rattle.mpw_replies.specs.Rows.{◌>>=◌, denied, ended_by, listing_reply}
+use Rattle.mpw_access.specs.Permitted.{in_session, permitted}
 use Rattle.mpw_replies.specs.declared.reply.Line.{Line}
 use Rattle.mpw_replies.specs.declared.reply.Line.TheVariants as line
 use Rattle.mpw_replies.specs.declared.reply.Code.TheVariants as code

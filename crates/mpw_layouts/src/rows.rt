@@ -14,7 +14,7 @@ ghost use Rattle.mpw_layouts.specs.Layouts as row;
 ghost use Rattle.mpw_replies.specs.Listing.{stored};
 ghost use Rattle.mpw_hier.specs.Shelf.{present};
 ghost use Rattle.mpw_rbac.specs.Rows.{user_of};
-ghost use Rattle.mpw_rbac.specs.declared.permission.Operation.TheVariants.{Read};
+ghost use Rattle.mpw_permissions.specs.declared.permission.Operation.TheVariants.{Read};
 
 use crate::sight::shapes_of;
 use mpw_elements::ReadError;
@@ -24,8 +24,10 @@ use mpw_hier::{
     shelves_have_their_numbers,
 };
 use mpw_library::{Library, LibraryText};
-use mpw_rbac::{Access, Object, Operation, Policy};
-use mpw_replies::{Code, Denial, Ending, Fault, Line, Lines, enter};
+use mpw_permissions::{Object, Operation};
+use mpw_rbac::{Access, Policy};
+use mpw_access::enter;
+use mpw_replies::{Code, Denial, Ending, Fault, Line, Lines};
 use std::alloc::{AllocError, Global};
 
 /// A fault of the shelf as what ends a row.

@@ -6,7 +6,8 @@ ghost use Rattle.mpw_layouts.specs.Layouts.{readable_shape};
 
 use mpw_hier::Shelf;
 use mpw_rbac::Policy;
-use mpw_replies::{ShapeListing, seen_by};
+use mpw_access::seen_by;
+use mpw_replies::ShapeListing;
 use std::alloc::{AllocError, Global};
 
 /// The listing of a submission, as the connection's session may see it: one look-up for each submission on the shelf, and

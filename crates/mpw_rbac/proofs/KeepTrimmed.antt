@@ -8,7 +8,7 @@ use Rattle.mpw_roles.specs.Hierarchy.{Name, Hierarchy, is_role, is_immediate, im
 use Rattle.mpw_roles.proofs.CallerLemmas.{contains-filter, contains-without, roles_below-grows, pairs-without_role, names-without_role, roles-left, pairs-without_pair, pairs-with_pair, names-with_juniors, first_role}
 use Rattle.mpw_separation.specs.Separation.{breaks, is_broken, has_role, uses_role}
 use Rattle.mpw_separation.specs.Set.{SeparationSet}
-use Rattle.mpw_rbac.specs.declared.permission.Grant.{Grant}
+use Rattle.mpw_permissions.specs.declared.permission.Grant.{Grant}
 use Rattle.mpw_rbac.specs.declared.session.User.{User}
 use Rattle.mpw_rbac.specs.declared.session.Session.{Session}
 use Rattle.mpw_rbac.specs.Laws.{IsPart}

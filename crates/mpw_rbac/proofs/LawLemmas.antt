@@ -6,7 +6,7 @@ use Rattle.mpw_separation.specs.Separation.{least_broken}
 use Rattle.mpw_separation.specs.Set.{SeparationSet}
 use Rattle.mpw_rbac.specs.Policy.{Policy, assigned_lists, active_lists}
 use Rattle.mpw_rbac.specs.Laws.{KeepsSound}
-use Rattle.mpw_rbac.specs.declared.permission.Grant.{Grant}
+use Rattle.mpw_permissions.specs.declared.permission.Grant.{Grant}
 use Rattle.mpw_rbac.specs.declared.refusal.Refusal.TheVariants.{Ssd, Dsd}
 use Rattle.mpw_rbac.specs.Rows as rows
 use Rattle.mpw_rbac.specs.Sound.{Sound, sets_hold}

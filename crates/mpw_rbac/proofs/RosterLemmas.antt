@@ -2,14 +2,13 @@
 use Rattle.std.proofs.Common.{◌≡◌, ℕ, zero, suc, ◌≤◌, Bool, true, false, cond, not, ◌||◌, inl, inr, List, [], ◌∷◌, ◌++◌, length, map, take, drop, Option, None, Some, is_some, refl, sym, ap, ◌∙◌, true≢false, arith}
 use Rattle.std.specs.Prelude.{position, slice_get, slice_set, zip}
 use Rattle.std.specs.Option.{option_map}
-use Rattle.indexmap.specs.IndexMap.{insert_entry}
 use Rattle.mpw_geom.specs.Names.{name_eq, contains_name, without_name}
 use Rattle.mpw_geom.proofs.Linked.{same_name, or_cases}
 use Rattle.mpw_roles.specs.Hierarchy.{Name}
 use Rattle.mpw_roles.specs.Order.{are_distinct}
 use Rattle.mpw_roles.proofs.PositionLemmas.{position-any, position-cons}
 use Rattle.mpw_rbac.specs.Policy.{assigned_lists}
-use Rattle.mpw_rbac.specs.Table.{has_key, value_at, without_key}
+use Rattle.mpw_rbac.specs.Table.{has_key, value_at, without_key, insert_entry}
 use Rattle.mpw_rbac.specs.declared.session.User.{User}
 use Rattle.mpw_rbac.proofs.SeparationLemmas.{any-map, refuted, both, parts, not_true}
 

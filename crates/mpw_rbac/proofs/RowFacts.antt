@@ -10,16 +10,15 @@ use Rattle.mpw_roles.specs.declared.fault.RolesFault.TheVariants as faults
 use Rattle.mpw_roles.specs.Hierarchy.{Name, Hierarchy, is_role, is_immediate, without_role, with_pair, without_pair}
 use Rattle.mpw_roles.specs.Order.{at_least}
 use Rattle.mpw_geom.specs.Names.{name_eq, contains_name, without_name}
-use Rattle.indexmap.specs.IndexMap.{insert_entry}
-use Rattle.mpw_rbac.specs.declared.permission.Operation.TheVariants.{Admin}
-use Rattle.mpw_rbac.specs.declared.permission.Object.TheVariants.{Desk}
+use Rattle.mpw_permissions.specs.declared.permission.Operation.TheVariants.{Admin}
+use Rattle.mpw_permissions.specs.declared.permission.Object.TheVariants.{Desk}
 use Rattle.mpw_rbac.specs.declared.refusal.Refusal.{Refusal}
 use Rattle.mpw_rbac.specs.declared.refusal.Refusal.TheVariants.{NoSession, NotPermitted, Ssd}
 use Rattle.mpw_rbac.specs.Policy.{Policy, is_user, assigned_roles, assigned_lists, active_lists, session_of, permits, trim}
 use Rattle.mpw_rbac.specs.declared.session.User.{User}
 use Rattle.mpw_rbac.specs.declared.session.Session.{Session}
-use Rattle.mpw_rbac.specs.declared.permission.Grant.{Grant}
-use Rattle.mpw_rbac.specs.Grant.{grant_eq}
+use Rattle.mpw_permissions.specs.declared.permission.Grant.{Grant}
+use Rattle.mpw_permissions.specs.Grant.{grant_eq}
 use Rattle.mpw_rbac.specs.Rows as rows
 use Rattle.mpw_separation.specs.Separation.{least_broken, has_set, without_set, uses_role}
 use Rattle.mpw_separation.specs.Rows.{make, remove}
@@ -27,7 +26,7 @@ use Rattle.mpw_separation.specs.declared.fault.SetsFault.{SetsFault}
 use Rattle.mpw_separation.specs.declared.fault.SetsFault.TheVariants as set_faults
 use Rattle.mpw_separation.specs.Set.{SeparationSet}
 use Rattle.mpw_rbac.specs.Sound.{Sound}
-use Rattle.mpw_rbac.specs.Table.{value_at}
+use Rattle.mpw_rbac.specs.Table.{value_at, insert_entry}
 use Rattle.mpw_rbac.proofs.HolderLemmas.{least-changed}
 use Rattle.mpw_rbac.proofs.SeparationLemmas.{parts}
 use Rattle.mpw_rbac.proofs.TableLemmas.{insert-new, insert-present, is_some-value_at}

@@ -8,14 +8,13 @@ use Rattle.mpw_roles.specs.Rows as roles
 use Rattle.mpw_roles.specs.declared.fault.RolesFault.TheVariants as faults
 use Rattle.mpw_roles.specs.Hierarchy.{Name, Hierarchy, is_role, with_role}
 use Rattle.mpw_geom.specs.Names.{name_eq, contains_name, without_name}
-use Rattle.indexmap.specs.IndexMap.{insert_entry}
 use Rattle.mpw_rbac.specs.declared.refusal.Refusal.TheVariants.{Dsd}
 use Rattle.mpw_rbac.specs.Policy.{Policy, authorized, is_user, active_lists, session_of}
 use Rattle.mpw_rbac.specs.declared.session.User.{User}
 use Rattle.mpw_rbac.specs.declared.session.Session.{Session}
 use Rattle.mpw_rbac.specs.Rows as rows
 use Rattle.mpw_separation.specs.Separation.{least_broken}
-use Rattle.mpw_rbac.specs.Table.{has_key, value_at, without_key}
+use Rattle.mpw_rbac.specs.Table.{has_key, value_at, without_key, insert_entry}
 use Rattle.mpw_rbac.proofs.TableLemmas.{insert-new, insert-present, is_some-value_at}
 use Rattle.mpw_rbac.proofs.RowFacts.{ok_policy, none-passes}
 

@@ -10,11 +10,11 @@ use Rattle.mpw_separation.specs.declared.set.Kind.{Kind}
 use Rattle.mpw_separation.specs.declared.set.Kind.TheVariants.{Static, Dynamic}
 use Rattle.mpw_separation.specs.Separation.{has_set, without_set, uses_role}
 use Rattle.mpw_separation.specs.Set.{SeparationSet}
-use Rattle.mpw_rbac.specs.Grant.{grant_eq}
+use Rattle.mpw_permissions.specs.Grant.{grant_eq}
 use Rattle.mpw_rbac.specs.Policy.{Policy, authorized, assigned_roles, is_user, session_of, trim}
 use Rattle.mpw_rbac.specs.Rows as rows
 use Rattle.mpw_rbac.specs.Table.{without_key}
-use Rattle.mpw_rbac.specs.declared.permission.Grant.{Grant}
+use Rattle.mpw_permissions.specs.declared.permission.Grant.{Grant}
 use Rattle.mpw_rbac.specs.declared.refusal.Refusal.{Refusal}
 use Rattle.mpw_rbac.specs.declared.refusal.Refusal.TheVariants.{Opened, Login, NotAuthorized, Unknown, Known, Full, Used, Loop}
 

@@ -1,9 +1,8 @@
 -- The maps of the policy, in the words of its tables.
 use Rattle.std.proofs.Common.{◌≡◌, Bool, true, false, cond, ◌||◌, inl, inr, Option, List, [], ◌∷◌, ◌++◌, Some, is_some, refl, sym, ap, true≢false}
 use Rattle.std.specs.List.{list_any, list_all}
-use Rattle.indexmap.specs.IndexMap.{insert_entry}
 use Rattle.mpw_roles.proofs.CallerLemmas.{or_cases, or_right}
-use Rattle.mpw_rbac.specs.Table.{has_key, value_at, with_value}
+use Rattle.mpw_rbac.specs.Table.{has_key, value_at, with_value, insert_entry}
 use Rattle.mpw_rbac.proofs.SeparationLemmas.{both, parts}
 
 module _ {K V : Type 0} (eq : K → K → Bool) where

@@ -1,6 +1,6 @@
 -- What a session may do by one operation: the question that `permits` answers of each object (check_access).
 use Rattle.std.specs.Prelude.{ℕ}
-use Rattle.mpw_rbac.specs.declared.permission.Operation.{Operation}
+use Rattle.mpw_permissions.specs.declared.permission.Operation.{Operation}
 use Rattle.mpw_rbac.specs.Policy.{Policy}
 
 pub record Access : Type 0 where

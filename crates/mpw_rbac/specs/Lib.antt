@@ -1,5 +1,4 @@
 pub mod Access
-pub mod Grant
 pub mod Laws
 pub mod Masked
 pub mod Policy

@@ -7,7 +7,7 @@ use Rattle.mpw_roles.specs.declared.mask.Mask.{Mask}
 use Rattle.mpw_separation.specs.Placed.{KeptSets, AreSetsPlaced}
 pub use Rattle.mpw_separation.specs.Placed.{IsBelow}
 use Rattle.mpw_rbac.specs.declared.active.Active.{Active}
-use Rattle.mpw_rbac.specs.declared.permission.Grant.{Grant}
+use Rattle.mpw_permissions.specs.declared.permission.Grant.{Grant}
 use Rattle.mpw_rbac.specs.declared.session.Session.{Session}
 use Rattle.mpw_rbac.specs.declared.session.User.{User}
 use Rattle.mpw_rbac.specs.Policy.{policy_of, assigned_lists, active_lists}

@@ -5,15 +5,15 @@ use Rattle.std.specs.Option.{option_map_or}
 use Rattle.mpw_geom.specs.Names.{name_eq, contains_name, by_name}
 use Rattle.mpw_roles.specs.Hierarchy.{Name, Hierarchy}
 use Rattle.mpw_roles.specs.Order.{roles_below}
-use Rattle.mpw_rbac.specs.declared.permission.Operation.{Operation}
-use Rattle.mpw_rbac.specs.declared.permission.Operation.TheVariants.{Admin}
-use Rattle.mpw_rbac.specs.declared.permission.Object.{Object}
-use Rattle.mpw_rbac.specs.declared.permission.Object.TheVariants.{Desk}
-use Rattle.mpw_rbac.specs.declared.permission.Grant.{Grant}
+use Rattle.mpw_permissions.specs.declared.permission.Operation.{Operation}
+use Rattle.mpw_permissions.specs.declared.permission.Operation.TheVariants.{Admin}
+use Rattle.mpw_permissions.specs.declared.permission.Object.{Object}
+use Rattle.mpw_permissions.specs.declared.permission.Object.TheVariants.{Desk}
+use Rattle.mpw_permissions.specs.declared.permission.Grant.{Grant}
 use Rattle.mpw_rbac.specs.declared.session.User.{User}
 use Rattle.mpw_rbac.specs.declared.session.Session.{Session}
 use Rattle.mpw_rbac.specs.declared.session.Identity.{Identity}
-use Rattle.mpw_rbac.specs.Grant.{operation_eq, object_eq}
+use Rattle.mpw_permissions.specs.Grant.{is_granted_to}
 use Rattle.mpw_separation.specs.Separation.{Sets}
 use Rattle.mpw_separation.specs.Set.{SeparationSet}
 use Rattle.mpw_rbac.specs.Table.{value_at, has_key}
@@ -67,12 +67,6 @@ session_of policy connection = value_at (λ a b. a == b) policy.sessions connect
 -- the roles that act in a session: those at or below an active one (profile: an active role acts with its juniors)
 abbrev pub acting : Policy → Session → List Name
 acting policy session = roles_below policy.roles session.active
-
--- whether a grant is of this operation on this object to one of the roles
-abbrev pub is_granted_to : List Name → Operation → Object → Grant → Bool
-is_granted_to roles operation object grant =
-    operation_eq operation grant.operation
-    && (object_eq object grant.object && contains_name roles grant.role)
 
 -- whether some acting role of the session was granted the operation on the object (check_access)
 abbrev pub session_permits : Policy → Session → Operation → Object → Bool

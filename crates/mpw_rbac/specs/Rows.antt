@@ -8,16 +8,16 @@ use Rattle.mpw_geom.specs.Names.{name_eq, contains_name, without_name}
 use Rattle.mpw_roles.specs.Decided.{decided}
 use Rattle.mpw_roles.specs.Hierarchy.{Name, max_roles, is_role, is_immediate, with_role, without_role, with_pair, without_pair}
 use Rattle.mpw_roles.specs.Order.{at_least}
-use Rattle.mpw_rbac.specs.declared.permission.Operation.{Operation}
-use Rattle.mpw_rbac.specs.declared.permission.Operation.TheVariants.{Admin}
-use Rattle.mpw_rbac.specs.declared.permission.Object.{Object}
-use Rattle.mpw_rbac.specs.declared.permission.Object.TheVariants.{Desk}
-use Rattle.mpw_rbac.specs.declared.permission.Grant.{Grant}
+use Rattle.mpw_permissions.specs.declared.permission.Operation.{Operation}
+use Rattle.mpw_permissions.specs.declared.permission.Operation.TheVariants.{Admin}
+use Rattle.mpw_permissions.specs.declared.permission.Object.{Object}
+use Rattle.mpw_permissions.specs.declared.permission.Object.TheVariants.{Desk}
+use Rattle.mpw_permissions.specs.declared.permission.Grant.{Grant}
 use Rattle.mpw_rbac.specs.declared.session.User.{User}
 use Rattle.mpw_rbac.specs.declared.session.Session.{Session}
 use Rattle.mpw_rbac.specs.declared.refusal.Refusal.{Refusal}
 use Rattle.mpw_rbac.specs.declared.refusal.Refusal.TheVariants.{Opened, Login, NoSession, NotPermitted, NotAuthorized, Ssd, Dsd, Unknown, Known, Full, Used, Loop}
-use Rattle.mpw_rbac.specs.Grant.{grant_eq}
+use Rattle.mpw_permissions.specs.Grant.{grant_eq, ungranted}
 use Rattle.mpw_rbac.specs.declared.session.Identity.{Identity}
 use Rattle.mpw_rbac.specs.declared.refusal.PolicyFault.{PolicyFault}
 use Rattle.mpw_rbac.specs.declared.refusal.PolicyFault.TheVariants.{Refused, Memory}
@@ -175,9 +175,6 @@ addrole policy connection role =
 abbrev pub unassigned : List (Name × User) → Name → List (Name × User)
 unassigned users role = map (λ (entry : Name × User).
     (entry.0, record entry.1 { roles = without_name entry.1.roles role })) users
-
-abbrev pub ungranted : List Grant → Name → List Grant
-ungranted granted role = filter (λ (grant : Grant). not (name_eq role grant.role)) granted
 
 -- a role goes with its assignments, its grants and each pair that it is in
 abbrev pub without_role_of : Policy → Name → Policy

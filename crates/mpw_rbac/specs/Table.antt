@@ -19,3 +19,9 @@ module _ {K V : Type 0} (eq : K → K → Bool) where
 
   abbrev pub without_key : List (K × V) → K → List (K × V)
   without_key entries key = filter (λ entry. not (eq key entry.0)) entries
+
+  -- the table with a value at a key: a key that is there keeps its place, and a new one goes last
+  abbrev pub insert_entry : List (K × V) → K → V → List (K × V)
+  insert_entry [] key value = (key, value) ∷ []
+  insert_entry (entry ∷ entries) key value =
+      if eq key entry.0 then (entry.0, value) ∷ entries else entry ∷ insert_entry entries key value

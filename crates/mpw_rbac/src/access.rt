@@ -4,9 +4,11 @@ ghost use Rattle.std.specs.List.{list_any};
 ghost use Rattle.mpw_roles.specs.Mask.{has};
 ghost use Rattle.mpw_roles.specs.Order.{roles_below};
 ghost use Rattle.mpw_roles.specs.Places.{is_place_below};
-ghost use Rattle.mpw_rbac.specs.Policy.{is_granted_to, permits};
+ghost use Rattle.mpw_rbac.specs.Policy.{permits};
+ghost use Rattle.mpw_permissions.specs.Grant.{is_granted_to};
 
-use crate::{Object, Operation, Policy};
+use crate::Policy;
+use mpw_permissions::{Object, Operation};
 use mpw_roles::Mask;
 use std::marker::Model;
 

@@ -1,21 +1,22 @@
 //! The table of sessions, each with the places of the roles that act in it as a mask.
 //!
+//! A connection's session is looked for one after another: there are few, one for each connection that is open.
 //! The masks are made for the policy's roles, and an invariant of the policy says so. A change of one session makes its mask;
 //! a change of users or roles makes each anew, a look-up for each active role.
-ghost use Rattle.std.specs.Prelude.{◌≡◌, true, not, ◌==◌, [], IfOk, OnOk, OnErr};
+ghost use Rattle.std.specs.Prelude.{◌≡◌, ◌<◌, ℕ, true, not, ◌==◌, [], IfOk, IfSome, OnOk, OnErr, length, position};
+ghost use Rattle.std.specs.Map.{lookup};
 ghost use Rattle.std.specs.Option.{option_copied, option_map_or};
-ghost use Rattle.indexmap.specs.IndexMap.{insert_entry};
 ghost use Rattle.mpw_roles.specs.Hierarchy.{Hierarchy};
 ghost use Rattle.mpw_rbac.specs.Masked.{IsBelow, AreActing, AreAuthorized, sessions_in, masks_in};
 ghost use Rattle.mpw_rbac.specs.Policy.{kept_sessions};
 ghost use Rattle.mpw_rbac.specs.Internal.Policy.{users_and_roles, IsTrimmed};
-ghost use Rattle.mpw_rbac.specs.Table.{value_at, without_key};
+ghost use Rattle.mpw_rbac.specs.Table.{value_at, without_key, insert_entry};
+ghost use Rattle.mpw_rbac.specs.declared.active.Active.{Active as ActiveState};
 ghost use Rattle.mpw_rbac.specs.declared.session.Session.{Session as SessionState};
 
 use crate::Session;
 use crate::trim::keep;
 use crate::users::Users;
-use indexmap::IndexMap;
 use mpw_roles::{Mask, Roles};
 use std::alloc::{AllocError, Global};
 use std::marker::Model;
@@ -38,9 +39,12 @@ impl Active {
     }
 }
 
+/// A connection with its session.
+pub(crate) type Connected = (u32, Active);
+
 /// Sessions by connection, in the order in which they were opened.
 pub(crate) struct Sessions {
-    table: IndexMap<u32, Active>,
+    table: Vec<Connected>,
 }
 
 impl Drop for Sessions {
@@ -55,7 +59,7 @@ impl Model for Sessions {
 
     ghost Value = { KeptSessions };
 
-    ghost view = { λ kept. record { sessions = sessions_in kept.table.entries; masks = masks_in kept.table.entries } };
+    ghost view = { λ kept. record { sessions = sessions_in kept.table.items; masks = masks_in kept.table.items } };
 }
 
 /// Writes the mask of a session anew.
@@ -75,13 +79,50 @@ fn trim(users: &Users, roles: &Roles, active: &mut Active) -> bool
     there
 }
 
+/// The first place of a connection.
+fn place_of(table: &[Connected], connection: u32) -> Option<usize>
+    ensures place { result ≡ position (λ (e : ℕ × ActiveState). connection == e.0) table.now }
+    ensures within { IfSome result (λ place. place < length table.now) }
+{
+    for place in 0..table.len() {
+        if connection == table[place].0 {
+            return Some(place);
+        }
+    }
+    None
+}
+
+/// The first session of a connection.
+fn session_of(table: &[Connected], connection: u32) -> Option<&Active>
+    ensures { option_copied result ≡ lookup (λ other. connection == other) table.now }
+{
+    match place_of(table, connection) {
+        Some(place) => Some(&table[place].1),
+        None => None,
+    }
+}
+
+/// Another session at the first place of a connection, or one more behind the others.
+fn put(table: &mut Vec<Connected>, connection: u32, active: Active) -> Result<(), AllocError>
+    ensures ok { OnOk result (table.new.items ≡ insert_entry (λ a b. a == b) table.old.items connection active) }
+    ensures err { OnErr result (table.new.items ≡ table.old.items) }
+{
+    match place_of(table.as_slice(), connection) {
+        Some(place) => {
+            table[place].1 = active;
+            Ok(())
+        }
+        None => Ok(table.push((connection, active))?),
+    }
+}
+
 impl Sessions {
     /// No sessions. It takes no memory.
     pub(crate) fn new(alloc: Global) -> Sessions
         ensures { result ≡ record { sessions = []; masks = [] } }
     {
         Sessions {
-            table: IndexMap::new(alloc),
+            table: Vec::new(alloc),
         }
     }
 
@@ -91,18 +132,18 @@ impl Sessions {
     }
 
     /// The sessions by connection, with their masks.
-    pub(crate) fn table(&self) -> &IndexMap<u32, Active>
-        ensures sessions { sessions_in result.now.entries ≡ self.now.sessions }
-        ensures masks { masks_in result.now.entries ≡ self.now.masks }
+    pub(crate) fn table(&self) -> &[Connected]
+        ensures sessions { sessions_in result.now ≡ self.now.sessions }
+        ensures masks { masks_in result.now ≡ self.now.masks }
     {
-        &self.table
+        self.table.as_slice()
     }
 
     /// The session of a connection.
     pub(crate) fn get(&self, connection: u32) -> Option<&Session>
         ensures { option_copied result ≡ value_at (λ a b. a == b) self.now.sessions connection }
     {
-        match self.table.get(&connection) {
+        match session_of(self.table.as_slice(), connection) {
             Some(active) => Some(&active.session),
             None => None,
         }
@@ -112,7 +153,7 @@ impl Sessions {
     pub(crate) fn acting(&self, connection: u32) -> Mask
         ensures { (h : Hierarchy) → AreActing h self.now → IsBelow h (option_map_or (λ (s : SessionState). s.active) (value_at (λ a b. a == b) self.now.sessions connection) []) result }
     {
-        match self.table.get(&connection) {
+        match session_of(self.table.as_slice(), connection) {
             Some(active) => active.acting,
             None => Mask::new(),
         }
@@ -124,7 +165,7 @@ impl Sessions {
         ensures acting { OnOk result ((h : Hierarchy) → AreActing h self.old → IsBelow h active.session.active active.acting → AreActing h self.new) }
         ensures err { OnErr result (self.new ≡ self.old) }
     {
-        self.table.insert(connection, active)?;
+        put(&mut self.table, connection, active)?;
         Ok(())
     }
 
@@ -134,12 +175,9 @@ impl Sessions {
         ensures acting { (h : Hierarchy) → AreActing h self.old → AreActing h self.new }
     {
         self.table.retain(
-            |other: &u32, active: &mut Active| -> bool
-                ensures { (result ≡ not (connection == other.now)) × (active.new ≡ active.old) }
-            {
-                let _active = active;
-                *other != connection
-            },
+            |other: &Connected| -> bool
+                ensures { result ≡ not (connection == other.now.0) }
+            { !(connection == other.0) },
         );
     }
 
@@ -155,11 +193,11 @@ impl Sessions {
         ensures same { self.new.sessions ≡ self.old.sessions }
         ensures acting { AreActing roles.now self.new }
     {
-        self.table.retain(
-            |_connection: &u32, active: &mut Active| -> bool
-                ensures { (result ≡ true) × (active.new.session ≡ active.old.session) × IsBelow roles.entry.now active.new.session.active active.new.acting }
+        self.table.retain_mut(
+            |connected: &mut Connected| -> bool
+                ensures { (result ≡ true) × (connected.new.0 ≡ connected.old.0) × (connected.new.1.session ≡ connected.old.1.session) × IsBelow roles.entry.now connected.new.1.session.active connected.new.1.acting }
             {
-                remask(roles, active);
+                remask(roles, &mut connected.1);
                 true
             },
         );
@@ -172,10 +210,10 @@ impl Sessions {
         ensures kept { self.new.sessions ≡ kept_sessions (users_and_roles users.now.users roles.now) self.old.sessions }
         ensures acting { AreActing roles.now self.new }
     {
-        self.table.retain(
-            |_connection: &u32, active: &mut Active| -> bool
-                ensures { IsTrimmed roles.entry.now users.entry.now active.old active.new result }
-            { trim(users, roles, active) },
+        self.table.retain_mut(
+            |connected: &mut Connected| -> bool
+                ensures { (connected.new.0 ≡ connected.old.0) × IsTrimmed roles.entry.now users.entry.now connected.old.1 connected.new.1 result }
+            { trim(users, roles, &mut connected.1) },
         );
     }
 

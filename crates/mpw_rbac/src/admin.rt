@@ -4,17 +4,18 @@ ghost use Rattle.std.specs.Option.{option_copied};
 ghost use Rattle.mpw_geom.specs.Names.{name_eq, contains_name, without_name};
 ghost use Rattle.mpw_roles.specs.Hierarchy.{is_role};
 ghost use Rattle.mpw_separation.specs.Separation.{least_broken, uses_role};
-ghost use Rattle.mpw_rbac.specs.Grant.{grant_eq};
+ghost use Rattle.mpw_permissions.specs.Grant.{grant_eq};
 ghost use Rattle.mpw_rbac.specs.Policy.{max_users, is_user, assigned_roles};
-ghost use Rattle.mpw_rbac.specs.Rows.{IsFaultOf, administered, digest_of_user, unassigned, ungranted};
+ghost use Rattle.mpw_rbac.specs.Rows.{IsFaultOf, administered, digest_of_user, unassigned};
+ghost use Rattle.mpw_permissions.specs.Grant.{ungranted};
 ghost use Rattle.mpw_rbac.specs.Rows as rows;
 ghost use Rattle.mpw_rbac.specs.Table.{without_key};
 
 use crate::hierarchy::{with_role, without_role};
-use crate::permissions::Permissions;
 use crate::separation::first_broken;
-use crate::{Digest, Grant, Policy, PolicyFault, Refusal, User};
+use crate::{Digest, Policy, PolicyFault, Refusal, User};
 use mpw_geom::{Name, Names};
+use mpw_permissions::{Grant, Permissions};
 use mpw_separation::Kind;
 use std::alloc::AllocError;
 

@@ -8,14 +8,15 @@ ghost use Rattle.mpw_rbac.specs.Internal.Fault.{IsHierarchyFault};
 ghost use Rattle.mpw_rbac.specs.Internal.Pairs.{pair_row, holding};
 ghost use Rattle.mpw_rbac.specs.Masked.{AreUsers};
 ghost use Rattle.mpw_rbac.specs.Policy.{assigned_lists, active_lists};
-ghost use Rattle.mpw_rbac.specs.Rows.{IsFaultOf, ungranted};
+ghost use Rattle.mpw_rbac.specs.Rows.{IsFaultOf};
+ghost use Rattle.mpw_permissions.specs.Grant.{ungranted};
 ghost use Rattle.mpw_rbac.specs.Rows as rows;
 
-use crate::permissions::Permissions;
 use crate::separation::{least_dynamic, least_static};
 use crate::users::Users;
 use crate::{Policy, PolicyFault, Refusal};
 use mpw_geom::Name;
+use mpw_permissions::Permissions;
 use mpw_roles::{Roles, RolesFault};
 
 /// What is done to an immediate pair of roles.

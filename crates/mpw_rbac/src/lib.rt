@@ -8,15 +8,7 @@
 mod access;
 mod active;
 mod admin;
-mod block;
-mod bucket;
-mod copies;
-mod grants;
-mod group;
 mod hierarchy;
-mod holders;
-mod permission;
-mod permissions;
 mod policy;
 mod refusal;
 mod roster;
@@ -27,7 +19,6 @@ mod trim;
 mod users;
 
 pub use access::Access;
-pub use permission::{Grant, Object, Operation};
 pub use policy::{MAX_GRANTS, MAX_USERS, Policy};
 pub use refusal::{PolicyFault, Refusal};
 pub use session::{Digest, Identity, Session, User};

@@ -1,6 +1,6 @@
 //! The policy's tables, the questions that they answer, and sessions.
 ghost use Rattle.std.specs.Prelude.{◌≡◌, ℕ, [], ◌∷◌, ◌++◌, true, IfOk, IfErr, IfSome, OnOk, OnErr, Ok, Err, Some, codes, is_some, nat_lt, length};
-ghost use Rattle.mpw_rbac.specs.Grant.{grant_eq};
+ghost use Rattle.mpw_permissions.specs.Grant.{grant_eq};
 ghost use Rattle.std.specs.List.{list_any};
 ghost use Rattle.std.specs.Option.{option_copied};
 ghost use Rattle.mpw_geom.specs.Names.{name_eq, contains_name, by_name};
@@ -13,10 +13,10 @@ ghost use Rattle.mpw_rbac.specs.Rows as rows;
 ghost use Rattle.mpw_rbac.specs.Table.{value_at};
 
 use crate::active::Sessions;
-use crate::permissions::Permissions;
 use crate::users::Users;
-use crate::{Digest, Grant, Identity, Object, Operation, PolicyFault, Refusal, Session, User};
+use crate::{Digest, Identity, PolicyFault, Refusal, Session, User};
 use mpw_geom::{Name, Names};
+use mpw_permissions::{Grant, Object, Operation, Permissions};
 use mpw_roles::Roles;
 use mpw_separation::PlacedSets;
 use std::alloc::{AllocError, Global};

@@ -3,8 +3,8 @@ ghost use Rattle.std.specs.Prelude.{◌≡◌};
 ghost use Rattle.mpw_rbac.specs.declared.refusal.PolicyFault.TheVariants.{Memory};
 ghost use Rattle.mpw_rbac.specs.Internal.Fault.{fault_of_roles, fault_of_sets};
 
-use crate::{Object, Operation};
 use mpw_geom::Name;
+use mpw_permissions::{Object, Operation};
 use mpw_roles::RolesFault;
 use mpw_separation::SetsFault;
 use std::alloc::AllocError;

@@ -5,18 +5,17 @@
 //! each.
 ghost use Rattle.std.specs.Prelude.{◌≡◌, ◌<◌, ◌++◌, ◌∷◌, [], ℕ, List, length, map, position, take, drop, slice_get, zip, remove, is_some, true, IfOk, IfSome, OnOk};
 ghost use Rattle.std.specs.Option.{option_copied};
-ghost use Rattle.indexmap.specs.IndexMap.{insert_entry};
 ghost use Rattle.mpw_geom.specs.Names.{name_eq, without_name};
 ghost use Rattle.mpw_roles.specs.Order.{are_distinct};
 ghost use Rattle.mpw_rbac.specs.Policy.{assigned_lists};
 ghost use Rattle.mpw_rbac.specs.Rows.{unassigned};
-ghost use Rattle.mpw_rbac.specs.Table.{has_key, value_at, without_key};
+ghost use Rattle.mpw_rbac.specs.Table.{has_key, value_at, without_key, insert_entry};
 ghost use Rattle.mpw_rbac.specs.declared.session.User.{User as UserState};
 
 use crate::User;
-use crate::copies::roomy_copy;
 use mpw_geom::{Name, Names};
 use mpw_lists::Shared;
+use mpw_permissions::roomy_copy;
 use mpw_roles::Register;
 use std::alloc::{AllocError, Global};
 use std::marker::Model;

@@ -13,10 +13,9 @@ ghost use Rattle.mpw_rbac.specs.Policy.{assigned_lists, active_lists};
 ghost use Rattle.mpw_rbac.specs.Rows.{IsFaultOf, administered};
 ghost use Rattle.mpw_rbac.specs.Rows as rows;
 
-use crate::active::Active;
+use crate::active::Connected;
 use crate::users::Users;
 use crate::{Policy, PolicyFault, Refusal};
-use indexmap::IndexMap;
 use mpw_geom::Name;
 use mpw_roles::Roles;
 use mpw_separation::{Kind, PlacedSets, SeparationSet, SetsFault, lesser};
@@ -62,17 +61,15 @@ pub(crate) fn least_static<'a>(
 pub(crate) fn least_dynamic<'a>(
     sets: &'a PlacedSets,
     roles: &Roles,
-    sessions: &IndexMap<u32, Active>,
+    sessions: &[Connected],
 ) -> Option<&'a Name>
     requires { AreSetsPlaced (role_names roles.now) sets.now }
-    ensures { option_copied result ≡ least_broken roles.now sets.now.sets.dsd (active_lists (sessions_in sessions.now.entries)) }
+    ensures { option_copied result ≡ least_broken roles.now sets.now.sets.dsd (active_lists (sessions_in sessions.now)) }
 {
     let mut least = None;
     for index in 0..sessions.len() {
-        let Some((_, active)) = sessions.get_index(index) else {
-            return least;
-        };
-        let broken = first_broken(sets, Kind::Dynamic, roles, active.session.active.as_slice());
+        let active = &sessions[index].1.session.active;
+        let broken = first_broken(sets, Kind::Dynamic, roles, active.as_slice());
         least = lesser(least, broken);
     }
     least
@@ -96,17 +93,14 @@ fn breaks_a_user(set: &SeparationSet, roles: &Roles, users: &Users) -> bool
 
 /// Whether some session breaks the set. It takes no memory, and costs a look-up for each role of the set, and an `and` of eight
 /// words for each session.
-fn breaks_a_session(set: &SeparationSet, roles: &Roles, sessions: &IndexMap<u32, Active>) -> bool
-    requires { AreBelow roles.now (active_lists (sessions_in sessions.now.entries)) (masks_in sessions.now.entries) }
-    ensures { result ≡ is_broken roles.now (active_lists (sessions_in sessions.now.entries)) set.now }
+fn breaks_a_session(set: &SeparationSet, roles: &Roles, sessions: &[Connected]) -> bool
+    requires { AreBelow roles.now (active_lists (sessions_in sessions.now)) (masks_in sessions.now) }
+    ensures { result ≡ is_broken roles.now (active_lists (sessions_in sessions.now)) set.now }
 {
     roles.is_hierarchy();
     let own = roles.places(set.roles());
     for index in 0..sessions.len() {
-        let Some((_, active)) = sessions.get_index(index) else {
-            return false;
-        };
-        if set.is_broken_at(&own, &active.acting) {
+        if set.is_broken_at(&own, &sessions[index].1.acting) {
             return true;
         }
     }

@@ -6,7 +6,6 @@
 //! anew, a look-up for each assigned role.
 ghost use Rattle.std.specs.Prelude.{◌≡◌, ◌||◌, ◌&&◌, ◌<◌, ◌++◌, ◌∷◌, [], ℕ, List, length, map, slice_set, true, IfOk, IfSome};
 ghost use Rattle.std.specs.Option.{option_map_or};
-ghost use Rattle.indexmap.specs.IndexMap.{insert_entry};
 ghost use Rattle.mpw_geom.specs.Names.{name_eq};
 ghost use Rattle.mpw_roles.specs.Hierarchy.{Hierarchy, is_role, with_pair};
 ghost use Rattle.mpw_roles.specs.Mask.{has};
@@ -15,7 +14,7 @@ ghost use Rattle.mpw_rbac.specs.Masked.{AreAuthorized, AreBelow, AreUsers, IsBel
 ghost use Rattle.mpw_rbac.specs.Policy.{assigned_lists, assigned_roles};
 ghost use Rattle.mpw_rbac.specs.Internal.Policy.{users_and_roles};
 ghost use Rattle.mpw_rbac.specs.Rows.{unassigned};
-ghost use Rattle.mpw_rbac.specs.Table.{without_key};
+ghost use Rattle.mpw_rbac.specs.Table.{without_key, insert_entry};
 ghost use Rattle.mpw_rbac.specs.declared.session.User.{User as UserState};
 
 use crate::User;

@@ -17,9 +17,9 @@ use Rattle.mpw_rbac_laws.specs.Laws.{DeniesRightly, IsLeastStatic, IsLeastDynami
 use Rattle.mpw_rbac.specs.declared.session.Identity.{Identity}
 use Rattle.mpw_rbac.specs.Policy.{Policy, identity_of, authorized, assigned_roles, is_user, assigned_lists}
 use Rattle.mpw_rbac.specs.Rows as rows
-use Rattle.mpw_rbac.specs.declared.permission.Grant.{Grant}
-use Rattle.mpw_rbac.specs.declared.permission.Object.{Object}
-use Rattle.mpw_rbac.specs.declared.permission.Operation.{Operation}
+use Rattle.mpw_permissions.specs.declared.permission.Grant.{Grant}
+use Rattle.mpw_permissions.specs.declared.permission.Object.{Object}
+use Rattle.mpw_permissions.specs.declared.permission.Operation.{Operation}
 use Rattle.mpw_rbac.specs.declared.refusal.Refusal.{Refusal}
 use Rattle.mpw_rbac.specs.declared.refusal.Refusal.TheVariants.{NoSession, NotPermitted, NotAuthorized, Unknown, Known, Full, Loop, Ssd, Dsd}
 use Rattle.mpw_rbac.specs.Sound.{sets_hold}

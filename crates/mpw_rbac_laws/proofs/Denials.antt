@@ -7,10 +7,10 @@ use Rattle.mpw_separation.specs.declared.set.Kind.TheVariants.{Static, Dynamic}
 use Rattle.mpw_rbac.specs.Internal.Kinds.{set_refusal}
 use Rattle.mpw_rbac.specs.Policy.{Policy}
 use Rattle.mpw_rbac.specs.Rows as rows
-use Rattle.mpw_rbac.specs.declared.permission.Object.{Object}
-use Rattle.mpw_rbac.specs.declared.permission.Object.TheVariants.{Desk}
-use Rattle.mpw_rbac.specs.declared.permission.Operation.{Operation}
-use Rattle.mpw_rbac.specs.declared.permission.Operation.TheVariants.{Admin}
+use Rattle.mpw_permissions.specs.declared.permission.Object.{Object}
+use Rattle.mpw_permissions.specs.declared.permission.Object.TheVariants.{Desk}
+use Rattle.mpw_permissions.specs.declared.permission.Operation.{Operation}
+use Rattle.mpw_permissions.specs.declared.permission.Operation.TheVariants.{Admin}
 use Rattle.mpw_rbac.specs.declared.refusal.Refusal.{Refusal}
 use Rattle.mpw_rbac.specs.declared.refusal.Refusal.TheVariants.{Opened, Login, NoSession, NotPermitted, NotAuthorized, Unknown, Known, Full, Used, Loop, Ssd, Dsd}
 use Rattle.mpw_rbac.proofs.RowTests as row

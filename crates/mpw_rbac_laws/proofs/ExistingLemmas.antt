@@ -10,7 +10,7 @@ use Rattle.mpw_geom.specs.Names.{name_eq, contains_name, without_name}
 use Rattle.mpw_roles.specs.Hierarchy.{Name, Hierarchy, is_role, with_juniors, without_role, entries_without}
 use Rattle.mpw_roles.proofs.CallerLemmas.{names-with_juniors, roles-left, contains-roles_below}
 use Rattle.mpw_separation.specs.Set.{SeparationSet}
-use Rattle.mpw_rbac.specs.declared.permission.Grant.{Grant}
+use Rattle.mpw_permissions.specs.declared.permission.Grant.{Grant}
 use Rattle.mpw_rbac.specs.declared.session.User.{User}
 use Rattle.mpw_rbac.specs.declared.session.Session.{Session}
 use Rattle.mpw_rbac_laws.specs.Existing.{assigns_roles, leads_to_roles, grants_roles, sets_name_roles, is_session_there, NamesAreThere}

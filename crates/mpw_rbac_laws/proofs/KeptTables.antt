@@ -7,11 +7,11 @@ use Rattle.mpw_roles.specs.Hierarchy.{Name, is_role, immediate_juniors, with_rol
 use Rattle.mpw_roles.proofs.CallerLemmas.{roles-with_role}
 use Rattle.mpw_separation.specs.Separation.{without_set}
 use Rattle.mpw_separation.specs.Set.{SeparationSet}
-use Rattle.mpw_rbac.specs.declared.permission.Grant.{Grant}
+use Rattle.mpw_permissions.specs.declared.permission.Grant.{Grant}
 use Rattle.mpw_rbac.specs.declared.session.Session.{Session}
 use Rattle.mpw_rbac.specs.declared.session.User.{User}
 use Rattle.mpw_rbac_laws.specs.Existing.{AreTablesSound, KeepsTables}
-use Rattle.mpw_rbac.specs.Grant.{grant_eq}
+use Rattle.mpw_permissions.specs.Grant.{grant_eq}
 use Rattle.mpw_rbac.specs.Policy.{Policy, assigned_roles, trim}
 use Rattle.mpw_rbac.specs.Rows as rows
 use Rattle.mpw_rbac.specs.Sound.{Sound}

@@ -5,7 +5,7 @@ use Rattle.mpw_roles.specs.Hierarchy.{is_role}
 use Rattle.mpw_separation.specs.Set.{SeparationSet}
 use Rattle.mpw_rbac.specs.Policy.{Policy, new_policy}
 use Rattle.mpw_rbac_laws.specs.Laws.{KeepsAuthorization}
-use Rattle.mpw_rbac.specs.declared.permission.Grant.{Grant}
+use Rattle.mpw_permissions.specs.declared.permission.Grant.{Grant}
 use Rattle.mpw_rbac.specs.Rows as rows
 use Rattle.mpw_rbac.specs.Sound.{active_authorized}
 use Rattle.mpw_rbac.proofs.KeepLemmas as keep

@@ -5,7 +5,7 @@ use Rattle.mpw_separation.specs.declared.set.Kind.TheVariants.{Static, Dynamic}
 use Rattle.mpw_separation.specs.Separation.{uses_role}
 use Rattle.mpw_rbac.specs.Policy.{new_policy}
 use Rattle.mpw_rbac.specs.Laws.{KeepsSound}
-use Rattle.mpw_rbac.specs.declared.permission.Grant.{Grant}
+use Rattle.mpw_permissions.specs.declared.permission.Grant.{Grant}
 use Rattle.mpw_rbac.specs.Rows as rows
 use Rattle.mpw_rbac.specs.Sound.{Sound}
 use Rattle.mpw_rbac.proofs.KeepLemmas as keep

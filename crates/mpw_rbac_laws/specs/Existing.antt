@@ -5,7 +5,7 @@ use Rattle.std.specs.List.{list_all}
 use Rattle.mpw_roles.specs.Hierarchy.{Name, Hierarchy, is_role, max_roles}
 use Rattle.mpw_separation.specs.Separation.{max_sets}
 use Rattle.mpw_separation.specs.Set.{SeparationSet}
-use Rattle.mpw_rbac.specs.declared.permission.Grant.{Grant}
+use Rattle.mpw_permissions.specs.declared.permission.Grant.{Grant}
 use Rattle.mpw_rbac.specs.declared.refusal.Refusal.{Refusal}
 use Rattle.mpw_rbac.specs.declared.session.Session.{Session}
 use Rattle.mpw_rbac.specs.declared.session.User.{User}

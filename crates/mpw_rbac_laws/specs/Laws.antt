@@ -7,8 +7,8 @@ use Rattle.mpw_geom.specs.Least.{IsLeast}
 use Rattle.mpw_separation.specs.Separation.{broken_names}
 use Rattle.mpw_rbac.specs.declared.refusal.Refusal.{Refusal}
 use Rattle.mpw_rbac.specs.declared.refusal.Refusal.TheVariants.{NotPermitted}
-use Rattle.mpw_rbac.specs.declared.permission.Object.{Object}
-use Rattle.mpw_rbac.specs.declared.permission.Operation.{Operation}
+use Rattle.mpw_permissions.specs.declared.permission.Object.{Object}
+use Rattle.mpw_permissions.specs.declared.permission.Operation.{Operation}
 use Rattle.mpw_rbac.specs.declared.session.Session.{Session}
 use Rattle.mpw_rbac.specs.Policy.{Policy, permits, session_permits, assigned_lists, active_lists}
 use Rattle.mpw_rbac.specs.Sound.{active_authorized}

@@ -4,7 +4,7 @@ ghost use Rattle.std.specs.Prelude.{ℕ, List};
 ghost use Rattle.mpw_separation.specs.Set.{SeparationSet};
 ghost use Rattle.mpw_rbac_laws.specs.Accepted.{NeedsAdministration, NeedsNoPermission, TellsNoDynamic, TellsNoStatic};
 ghost use Rattle.mpw_rbac.specs.Rows as rows;
-ghost use Rattle.mpw_rbac.specs.declared.permission.Grant.{Grant};
+ghost use Rattle.mpw_permissions.specs.declared.permission.Grant.{Grant};
 
 /// A request that administers the desk is accepted only of a session that may.
 pub fn administration_needs_its_permission()

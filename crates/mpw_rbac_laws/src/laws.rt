@@ -9,9 +9,9 @@ ghost use Rattle.mpw_rbac_laws.specs.Laws.{PermitsNoLess, KeepsAuthorization, De
 ghost use Rattle.mpw_rbac.specs.Policy.{Policy as PolicyState, new_policy, is_user, authorized, acting, assigned_roles, assigned_lists, session_of, permits, trim};
 ghost use Rattle.mpw_rbac.specs.Rows as rows;
 ghost use Rattle.mpw_rbac.specs.Sound.{active_authorized, sets_hold, Sound};
-ghost use Rattle.mpw_rbac.specs.declared.permission.Grant.{Grant};
-ghost use Rattle.mpw_rbac.specs.declared.permission.Object.{Object};
-ghost use Rattle.mpw_rbac.specs.declared.permission.Operation.{Operation};
+ghost use Rattle.mpw_permissions.specs.declared.permission.Grant.{Grant};
+ghost use Rattle.mpw_permissions.specs.declared.permission.Object.{Object};
+ghost use Rattle.mpw_permissions.specs.declared.permission.Operation.{Operation};
 ghost use Rattle.mpw_rbac.specs.declared.refusal.Refusal.TheVariants as Refusal;
 ghost use Rattle.mpw_rbac.specs.declared.session.Session.{Session};
 

@@ -4,7 +4,7 @@ ghost use Rattle.mpw_separation.specs.Set.{SeparationSet};
 ghost use Rattle.mpw_rbac_laws.specs.Existing.{AreTablesSound, KeepsTables};
 ghost use Rattle.mpw_rbac.specs.Policy.{new_policy};
 ghost use Rattle.mpw_rbac.specs.Rows as rows;
-ghost use Rattle.mpw_rbac.specs.declared.permission.Grant.{Grant};
+ghost use Rattle.mpw_permissions.specs.declared.permission.Grant.{Grant};
 
 /// The tables of the new desk name users and roles that are there, hold no more than their limits, and are sound; and those
 /// that each accepted request leaves do too.

@@ -1,5 +1,4 @@
 pub mod Entries
-pub mod Laws
 pub mod Listing
 pub mod Ranks
 pub mod Rows

@@ -1,9 +1,7 @@
 -- The rows of requests: the tests of a row in order, of which the first that fails ends it.
-use Rattle.std.specs.Prelude.{◌≡◌, ℕ, Bool, List, [], ◌∷◌, Option, None, Some, is_some, Result, Ok, Err}
-use Rattle.mpw_roles.specs.Decided.{decided}
-use Rattle.mpw_rbac.specs.declared.permission.Operation.{Operation}
-use Rattle.mpw_rbac.specs.declared.permission.Object.{Object}
-use Rattle.mpw_rbac.specs.Policy.{Policy, session_of, permits}
+use Rattle.std.specs.Prelude.{◌≡◌, List, Option, None, Some, Result, Ok, Err}
+use Rattle.mpw_permissions.specs.declared.permission.Operation.{Operation}
+use Rattle.mpw_permissions.specs.declared.permission.Object.{Object}
 use Rattle.mpw_replies.specs.Listing.{Listed}
 use Rattle.mpw_replies.specs.declared.reply.Code.{Code}
 use Rattle.mpw_replies.specs.declared.reply.Denial.TheVariants as denial
@@ -32,23 +30,6 @@ listing_reply (Err ending) = ended_by ending
 
 abbrev pub denied : Operation → Object → Ending
 denied operation object = ending.Denied (denial.Permission operation object)
-
--- The connection has a session.
-abbrev pub in_session : Policy → ℕ → Bool × Ending
-in_session policy connection =
-    (is_some (session_of policy connection), ending.Denied denial.Session)
-
--- What a row that needs no permission tests first.
-abbrev pub session_test : Policy → ℕ → Result (Unit {0}) Ending
-session_test policy connection = decided (in_session policy connection ∷ []) tt
-
--- The connection's session may do the operation on the object.
-abbrev pub permitted : Policy → ℕ → Operation → Object → Result (Unit {0}) Ending
-permitted policy connection operation object =
-    decided (in_session policy connection ∷ (
-      permits policy connection operation object,
-      denied operation object,
-    ) ∷ []) tt
 
 -- What has to be there: where it isn't, the row ends with that refusal.
 abbrev pub needed : {A : Type 0} → Code → Option A → Result A Ending

@@ -1,4 +1,4 @@
--- Which submissions a session sees, and the markers of a run that is finished, as far as the submissions that they meet may be seen.
+-- The markers of a run that is finished, as far as the submissions that they meet may be seen.
 use Rattle.std.specs.Prelude.{◌==◌, ◌&&◌, ℕ, ◌+◌, Bool, false, not, List, [], ◌∷◌, ◌++◌, map, filter, length, slice_get, Option, None, Some, if◌then◌else◌}
 use Rattle.std.specs.List.{flat_map, list_all, list_any}
 use Rattle.mpw_geom.specs.Names.{by_name, name_eq}
@@ -7,20 +7,7 @@ use Rattle.mpw_hier.specs.declared.submission.Submission.{Submission}
 use Rattle.mpw_markers.specs.declared.marker.Marker.{Marker}
 use Rattle.mpw_markers.specs.Markers.{key_of}
 use Rattle.mpw_roles.specs.Hierarchy.{Name}
-use Rattle.mpw_rbac.specs.declared.permission.Operation.TheVariants.{Read}
-use Rattle.mpw_rbac.specs.declared.permission.Object.TheVariants as object
-use Rattle.mpw_rbac.specs.Policy.{Policy, permits}
 use Rattle.mpw_replies.specs.Listing.{Listed, marker, masked, is_seen}
-
--- ---- which submissions may be seen
-
--- The session may read the cell that the submission is of.
-abbrev pub may_read : Policy → ℕ → Submission → Bool
-may_read policy connection s = permits policy connection Read (object.Cell s.cell)
-
--- Of each submission, by number.
-abbrev pub seen_by : Policy → ℕ → List Submission → List Bool
-seen_by policy connection shelf = map (may_read policy connection) shelf
 
 -- ---- what a session sees of a marker
 

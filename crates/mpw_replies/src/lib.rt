@@ -21,8 +21,5 @@ pub use markers::{MarkerLines, MarkerListing, MarkerView, MarkerViews};
 pub use masked::{MaskedView, MaskedViews};
 pub use met::MetCells;
 pub use reply::{Code, Denial, Line, Reply};
-pub use row::{
-    Ending, Fault, enter, entering_denies_what_is_lacked, listing_reply, need, need_session,
-};
-pub use sight::seen_by;
+pub use row::{Ending, Fault, listing_reply, need};
 pub use trail::{Trail, TrailView, TrailViews};

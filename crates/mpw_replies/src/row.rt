@@ -1,15 +1,11 @@
 //! What a request's row gives: a value, or what ends the row at the first test that fails.
 ghost use Rattle.std.specs.Prelude.{◌≡◌, IfOk, IfErr, OnErr, List, Result, Err, option_map};
-ghost use Rattle.mpw_rbac.specs.Rows.{user_of};
-ghost use Rattle.mpw_replies.specs.Laws.{EnteringDeniesWhatIsLacked};
-ghost use Rattle.mpw_replies.specs.Rows.{Answers, IsToldBy, ended_by, listing_reply, needed, permitted, session_test};
+ghost use Rattle.mpw_replies.specs.Rows.{Answers, IsToldBy, ended_by, listing_reply, needed};
 ghost use Rattle.mpw_replies.specs.Listing.{Listed};
 ghost use Rattle.mpw_replies.specs.declared.row.Ending.{Ending as AnyEnding};
 ghost use Rattle.mpw_replies.specs.declared.row.Fault.TheVariants.{Memory};
 
 use crate::{Code, Denial, Lines, Reply};
-use mpw_geom::Name;
-use mpw_rbac::{Object, Operation, Policy};
 use std::alloc::AllocError;
 
 /// What ends a row: a denial or a refusal.
@@ -97,44 +93,3 @@ pub fn need<T>(value: Option<&T>, code: Code) -> Result<&T, Fault>
         None => Err(Fault::from_code(code)),
     }
 }
-
-/// The connection has a session: what rows test that need no permission. A look-up.
-///
-/// # Errors
-/// A denial where there is none.
-pub fn need_session(policy: &Policy, connection: u32) -> Result<(), Fault>
-    ensures row { Answers (λ x. x) result (session_test policy.now connection) }
-    ensures told { IfErr result (λ fault. fault ≡ Fault.Told (Ending.Denied Denial.Session)) }
-{
-    if !policy.has_session(connection) {
-        return Err(Fault::Told(Ending::Denied(Denial::Session)));
-    }
-    Ok(())
-}
-
-/// The user of the connection's session, which may do the operation on the object: what most rows test first. A look-up.
-///
-/// # Errors
-/// A denial where there is no session, or where it lacks the permission; want of memory for the user's name.
-pub fn enter(
-    policy: &Policy,
-    connection: u32,
-    operation: Operation,
-    object: Object,
-) -> Result<Name, Fault>
-    ensures permitted { Answers (λ user. tt) result (permitted policy.now connection operation object) }
-    ensures user { IfOk result (λ user. user ≡ user_of policy.now connection) }
-{
-    let Some(user) = policy.user_of(connection) else {
-        return Err(Fault::Told(Ending::Denied(Denial::Session)));
-    };
-    if !policy.permits(connection, operation, &object) {
-        return Err(Fault::Told(Ending::Denied(Denial::Permission(operation, object))));
-    }
-    Ok(user.copy()?)
-}
-
-/// The denial that [`enter`] tells names a permission that the connection's session lacks. A law: the function does nothing.
-pub fn entering_denies_what_is_lacked()
-    ensures { EnteringDeniesWhatIsLacked }
-{}

@@ -1,34 +1,10 @@
-//! Which submissions a session sees, and what it sees of a marker that meets them.
-ghost use Rattle.std.specs.Prelude.{◌≡◌, slice_get, IfOk};
+//! What is seen of a marker, by which of the submissions that it meets may be seen.
+ghost use Rattle.std.specs.Prelude.{◌≡◌, slice_get};
 ghost use Rattle.std.specs.List.{list_all, list_any};
 ghost use Rattle.mpw_replies.specs.Listing.{is_seen};
-ghost use Rattle.mpw_replies.specs.Sight.{seen_by, is_full, is_masked};
+ghost use Rattle.mpw_replies.specs.Sight.{is_full, is_masked};
 
-use mpw_hier::Submission;
 use mpw_markers::Marker;
-use mpw_rbac::{Object, Operation, Policy};
-use std::alloc::{AllocError, Global};
-
-/// Which submissions are of cells that the connection's session may read, by number: one look-up each.
-///
-/// # Errors
-/// Where there is no room.
-pub fn seen_by(
-    alloc: Global,
-    policy: &Policy,
-    connection: u32,
-    submissions: &[Submission],
-) -> Result<Vec<bool>, AllocError>
-    ensures { IfOk result (λ seen. seen.items ≡ seen_by policy.now connection submissions.now) }
-{
-    let access = policy.access(connection, Operation::Read);
-    let mut seen = Vec::new(alloc);
-    for submission in submissions {
-        let object = Object::Cell(submission.cell.copy()?);
-        seen.push(access.permits(&object))?;
-    }
-    Ok(seen)
-}
 
 /// Whether the submission of a number may be seen.
 pub(crate) fn is_seen(seen: &[bool], number: u32) -> bool

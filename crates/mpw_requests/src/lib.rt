@@ -9,7 +9,7 @@ mod sign_off;
 mod wafer;
 
 pub use layouts::LayoutRequest;
-pub use policy::PolicyRequest;
+pub use policy::{Digest, PolicyRequest};
 pub use request::{Request, SharedRequest, kept_request};
 pub use run::RunRequest;
 pub use sign_off::{MarkerName, SignOffRequest};

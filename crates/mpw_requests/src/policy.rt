@@ -1,8 +1,11 @@
 //! The requests that change the policy.
 
 use mpw_geom::Name;
-use mpw_rbac::{Digest, Grant};
+use mpw_permissions::Grant;
 use mpw_separation::SeparationSet;
+
+/// The SHA-256 of a token, as the policy keeps it.
+pub type Digest = [u8; 32];
 
 /// A request that changes the policy (ANSI INCITS 359-2004, 6).
 pub enum PolicyRequest {

@@ -9,7 +9,7 @@ use crate::fault::ProgramFault;
 use clap::error::ErrorKind;
 use clap::{Arg, ArgAction, ArgMatches, Command};
 use mpw_geom::{Name, NameFault};
-use mpw_rbac::Digest;
+use mpw_requests::Digest;
 use mpw_wire::read_digest;
 use std::alloc::{AllocError, Global};
 

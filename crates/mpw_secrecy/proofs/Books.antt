@@ -17,7 +17,8 @@ use Rattle.mpw_rbac.specs.Rows.{user_of}
 use Rattle.mpw_replies.specs.Listing.{Listed, stored, marker}
 use Rattle.mpw_replies.specs.Rows.{◌>>=◌, needed}
 use Rattle.mpw_run.specs.Step.{findings}
-use Rattle.mpw_replies.specs.Sight.{seen_by, is_full, line_for, full_line, full_lines, masked_line, masked_lines, masked_number}
+use Rattle.mpw_replies.specs.Sight.{is_full, line_for, full_line, full_lines, masked_line, masked_lines, masked_number}
+use Rattle.mpw_access.specs.Seen.{seen_by}
 use Rattle.mpw_replies.specs.declared.reply.Code.TheVariants as code
 use Rattle.mpw_replies.specs.declared.reply.Line.{Line}
 use Rattle.mpw_replies.specs.declared.reply.Line.TheVariants as line

@@ -11,12 +11,13 @@ use Rattle.mpw_hier.specs.Shelved.{PresentAreOfTheirCell}
 use Rattle.mpw_hier.specs.Values.{flat}
 use Rattle.mpw_roles.specs.Decided.{decided}
 use Rattle.mpw_roles.specs.Hierarchy.{Name}
-use Rattle.mpw_rbac.specs.declared.permission.Object.TheVariants as object
-use Rattle.mpw_rbac.specs.declared.permission.Operation.TheVariants.{Read}
+use Rattle.mpw_permissions.specs.declared.permission.Object.TheVariants as object
+use Rattle.mpw_permissions.specs.declared.permission.Operation.TheVariants.{Read}
 use Rattle.mpw_rbac.specs.Policy.{Policy, permits, session_of}
 use Rattle.mpw_replies.specs.Listing.{Listed, stored, shape, shape_line, line_if}
-use Rattle.mpw_replies.specs.Rows.{◌>>=◌, permitted}
-use Rattle.mpw_replies.specs.Sight.{may_read}
+use Rattle.mpw_replies.specs.Rows.{◌>>=◌}
+use Rattle.mpw_access.specs.Permitted.{permitted}
+use Rattle.mpw_access.specs.Seen.{may_read}
 use Rattle.mpw_replies.specs.declared.reply.Code.TheVariants as code
 use Rattle.mpw_replies.specs.declared.reply.Denial.TheVariants as denial
 use Rattle.mpw_replies.specs.declared.reply.Line.{Line}

@@ -15,15 +15,17 @@ use Rattle.mpw_markers.specs.Markers.{key_of}
 use Rattle.mpw_requests.specs.declared.sign_off.MarkerName.{MarkerName}
 use Rattle.mpw_requests.specs.declared.sign_off.SignOffRequest.TheVariants as sign
 use Rattle.mpw_roles.specs.Hierarchy.{Name}
-use Rattle.mpw_rbac.specs.declared.permission.Object.TheVariants as object
-use Rattle.mpw_rbac.specs.declared.permission.Operation.{Operation}
-use Rattle.mpw_rbac.specs.declared.permission.Operation.TheVariants as operation
+use Rattle.mpw_permissions.specs.declared.permission.Object.TheVariants as object
+use Rattle.mpw_permissions.specs.declared.permission.Operation.{Operation}
+use Rattle.mpw_permissions.specs.declared.permission.Operation.TheVariants as operation
 use Rattle.mpw_rbac.specs.declared.session.Identity.{Identity}
 use Rattle.mpw_rbac.specs.declared.session.Session.{Session}
 use Rattle.mpw_rbac.specs.Policy.{Policy, identity_of, permits, session_of}
 use Rattle.mpw_rbac.specs.Rows.{user_of}
-use Rattle.mpw_replies.specs.Rows.{◌>>=◌, ended_by, needed, permitted}
-use Rattle.mpw_replies.specs.Sight.{seen_by, is_full}
+use Rattle.mpw_replies.specs.Rows.{◌>>=◌, ended_by, needed}
+use Rattle.mpw_access.specs.Permitted.{permitted}
+use Rattle.mpw_replies.specs.Sight.{is_full}
+use Rattle.mpw_access.specs.Seen.{seen_by}
 use Rattle.mpw_replies.specs.declared.reply.Code.TheVariants as code
 use Rattle.mpw_replies.specs.declared.row.Ending.{Ending}
 use Rattle.mpw_replies.specs.declared.row.Ending.TheVariants as ending

@@ -14,14 +14,15 @@ use Rattle.mpw_markers.specs.declared.marker.Key.{Key}
 use Rattle.mpw_markers.specs.declared.marker.Marker.{Marker}
 use Rattle.mpw_markers.specs.Markers.{key_of}
 use Rattle.mpw_roles.specs.Hierarchy.{Name}
-use Rattle.mpw_rbac.specs.declared.permission.Object.{Object}
-use Rattle.mpw_rbac.specs.declared.permission.Object.TheVariants as object
-use Rattle.mpw_rbac.specs.declared.permission.Operation.{Operation}
-use Rattle.mpw_rbac.specs.declared.permission.Operation.TheVariants.{Read}
+use Rattle.mpw_permissions.specs.declared.permission.Object.{Object}
+use Rattle.mpw_permissions.specs.declared.permission.Object.TheVariants as object
+use Rattle.mpw_permissions.specs.declared.permission.Operation.{Operation}
+use Rattle.mpw_permissions.specs.declared.permission.Operation.TheVariants.{Read}
 use Rattle.mpw_rbac.specs.declared.session.Identity.{Identity}
 use Rattle.mpw_rbac.specs.Policy.{Policy, identity_of, permits, session_of}
 use Rattle.mpw_rbac.specs.Rows.{user_of}
-use Rattle.mpw_replies.specs.Sight.{may_read, seen_by, is_full, is_masked, met_cells}
+use Rattle.mpw_replies.specs.Sight.{is_full, is_masked, met_cells}
+use Rattle.mpw_access.specs.Seen.{may_read, seen_by}
 use Rattle.mpw_run.specs.declared.phase.Checked.{Checked}
 use Rattle.mpw_run.specs.declared.phase.Phase.{Phase}
 use Rattle.mpw_run.specs.declared.phase.Phase.TheVariants.{Idle, Cutting, Checking, Finished}

@@ -4,16 +4,18 @@ use Rattle.mpw_deck.specs.Decks.{Deck}
 use Rattle.mpw_placings.specs.declared.placement.Placement.{Placement}
 use Rattle.mpw_placings.specs.Placements.{roots_of}
 use Rattle.mpw_tiles.specs.Snapshots.{Snapshot}
-use Rattle.mpw_rbac.specs.declared.permission.Operation.TheVariants as operation
-use Rattle.mpw_rbac.specs.declared.permission.Object.TheVariants as object
+use Rattle.mpw_permissions.specs.declared.permission.Operation.TheVariants as operation
+use Rattle.mpw_permissions.specs.declared.permission.Object.TheVariants as object
 use Rattle.mpw_rbac.specs.Policy.{Policy}
 use Rattle.mpw_rbac.specs.Rows.{user_of}
 use Rattle.mpw_requests.specs.declared.sign_off.MarkerName.{MarkerName}
 use Rattle.mpw_requests.specs.declared.sign_off.SignOffRequest.{SignOffRequest}
 use Rattle.mpw_requests.specs.declared.sign_off.SignOffRequest.TheVariants as ask
 use Rattle.mpw_replies.specs.Listing.{Listed, stored}
-use Rattle.mpw_replies.specs.Rows.{◌>>=◌, needed, session_test, permitted, ended_by}
-use Rattle.mpw_replies.specs.Sight.{seen_by, is_full}
+use Rattle.mpw_replies.specs.Rows.{◌>>=◌, needed, ended_by}
+use Rattle.mpw_access.specs.Permitted.{session_test, permitted}
+use Rattle.mpw_replies.specs.Sight.{is_full}
+use Rattle.mpw_access.specs.Seen.{seen_by}
 use Rattle.mpw_replies.specs.declared.reply.Line.{Line}
 use Rattle.mpw_replies.specs.declared.reply.Line.TheVariants as line
 use Rattle.mpw_replies.specs.declared.reply.Code.TheVariants as code

@@ -3,13 +3,15 @@
 //! Where one marker is asked for, only the submissions that it meets are looked at; a listing takes what `mpw_replies`
 //! tells of the whole shelf.
 ghost use Rattle.std.specs.Prelude.{◌≡◌, slice_get, IfOk};
-ghost use Rattle.mpw_rbac.specs.declared.permission.Operation.TheVariants.{Read};
+ghost use Rattle.mpw_permissions.specs.declared.permission.Operation.TheVariants.{Read};
 ghost use Rattle.mpw_replies.specs.Listing.{is_seen};
-ghost use Rattle.mpw_replies.specs.Sight.{seen_by, is_full};
+ghost use Rattle.mpw_replies.specs.Sight.{is_full};
+ghost use Rattle.mpw_access.specs.Seen.{seen_by};
 
 use mpw_hier::Shelf;
 use mpw_markers::Marker;
-use mpw_rbac::{Access, Object, Operation, Policy};
+use mpw_permissions::{Object, Operation};
+use mpw_rbac::{Access, Policy};
 use std::alloc::AllocError;
 
 /// Whether the submission of a number is of a cell that may be read: one look-up.

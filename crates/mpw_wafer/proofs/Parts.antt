@@ -6,10 +6,10 @@ use Rattle.mpw_hier.specs.declared.submission.Submission.{Submission}
 use Rattle.mpw_placings.specs.declared.fault.PlacingFault.{PlacingFault}
 use Rattle.mpw_placings.specs.declared.placement.Placement.{Placement}
 use Rattle.mpw_placings.specs.Rows as table
-use Rattle.mpw_rbac.specs.declared.permission.Operation.TheVariants as operations
-use Rattle.mpw_rbac.specs.declared.permission.Object.TheVariants as objects
+use Rattle.mpw_permissions.specs.declared.permission.Operation.TheVariants as operations
+use Rattle.mpw_permissions.specs.declared.permission.Object.TheVariants as objects
 use Rattle.mpw_rbac.specs.Policy.{Policy}
-use Rattle.mpw_replies.specs.Rows.{permitted}
+use Rattle.mpw_access.specs.Permitted.{permitted}
 use Rattle.mpw_wafer.specs.Wafers.{by_table, place_row, unplace_row}
 
 table_ok : (told : Result (List Placement) PlacingFault) (ps : List Placement)

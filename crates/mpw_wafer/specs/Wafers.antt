@@ -11,13 +11,14 @@ use Rattle.mpw_placings.specs.declared.placement.Placement.{Placement}
 use Rattle.mpw_placings.specs.Placements.{version_at}
 use Rattle.mpw_placings.specs.Rows as table
 use Rattle.mpw_roles.specs.Hierarchy.{Name}
-use Rattle.mpw_rbac.specs.declared.permission.Operation.TheVariants as operation
-use Rattle.mpw_rbac.specs.declared.permission.Object.TheVariants as object
+use Rattle.mpw_permissions.specs.declared.permission.Operation.TheVariants as operation
+use Rattle.mpw_permissions.specs.declared.permission.Object.TheVariants as object
 use Rattle.mpw_rbac.specs.Policy.{Policy}
 use Rattle.mpw_requests.specs.declared.wafer.WaferRequest.{WaferRequest}
 use Rattle.mpw_requests.specs.declared.wafer.WaferRequest.TheVariants as ask
 use Rattle.mpw_replies.specs.Listing.{stored}
-use Rattle.mpw_replies.specs.Rows.{◌>>=◌, permitted, ended_by}
+use Rattle.mpw_replies.specs.Rows.{◌>>=◌, ended_by}
+use Rattle.mpw_access.specs.Permitted.{permitted}
 use Rattle.mpw_replies.specs.declared.reply.Line.{Line}
 use Rattle.mpw_replies.specs.declared.reply.Line.TheVariants as line
 use Rattle.mpw_replies.specs.declared.reply.Code.{Code}

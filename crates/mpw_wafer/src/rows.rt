@@ -10,8 +10,10 @@ use mpw_deck::{Deck, DeckError, DeckText};
 use mpw_geom::{Name, Placing};
 use mpw_hier::Shelf;
 use mpw_placings::{PlacingFault, Placings};
-use mpw_rbac::{Object, Operation, Policy};
-use mpw_replies::{Code, Fault, enter};
+use mpw_permissions::{Object, Operation};
+use mpw_rbac::Policy;
+use mpw_access::enter;
+use mpw_replies::{Code, Fault};
 use std::alloc::Global;
 
 /// Why a placing is refused, as what ends a row.

@@ -9,11 +9,11 @@ use Rattle.mpw_text.specs.Text.{number_of, is_decimal}
 use Rattle.mpw_geom.specs.Names.{name_eq}
 use Rattle.mpw_geom.specs.declared.placing.Placing.{Placing}
 use Rattle.mpw_separation.specs.Set.{SeparationSet, formed}
-use Rattle.mpw_rbac.specs.declared.permission.Grant as permission
-use Rattle.mpw_rbac.specs.declared.permission.Operation.{Operation}
-use Rattle.mpw_rbac.specs.declared.permission.Operation.TheVariants.{Submit, Use, Read, Place, Admin, Deck, Run, Waive, Sign, Verdict, Audit}
-use Rattle.mpw_rbac.specs.declared.permission.Object.{Object}
-use Rattle.mpw_rbac.specs.declared.permission.Object.TheVariants.{Cell, Desk}
+use Rattle.mpw_permissions.specs.declared.permission.Grant as permission
+use Rattle.mpw_permissions.specs.declared.permission.Operation.{Operation}
+use Rattle.mpw_permissions.specs.declared.permission.Operation.TheVariants.{Submit, Use, Read, Place, Admin, Deck, Run, Waive, Sign, Verdict, Audit}
+use Rattle.mpw_permissions.specs.declared.permission.Object.{Object}
+use Rattle.mpw_permissions.specs.declared.permission.Object.TheVariants.{Cell, Desk}
 use Rattle.mpw_requests.specs.declared.request.Request.{Request}
 use Rattle.mpw_requests.specs.declared.request.Request.TheVariants.{Policy, Whoami, Layout, Wafer, SignOff, Trail}
 use Rattle.mpw_requests.specs.declared.request.Request.TheVariants as group

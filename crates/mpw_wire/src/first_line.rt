@@ -10,7 +10,7 @@ use crate::setting::{Setting, write_set};
 use crate::{Sink, WireFault};
 use itoa::Buffer;
 use mpw_deck::DeckKind;
-use mpw_rbac::{Object, Operation};
+use mpw_permissions::{Object, Operation};
 use mpw_records::Code as TextFault;
 use mpw_replies::{Code, Denial, FirstLine};
 

@@ -4,7 +4,7 @@ use crate::words::operation_word;
 use anyhow::{Result, bail};
 use mpw_edges::Axis;
 use mpw_markers::Key;
-use mpw_rbac::{Object, Operation};
+use mpw_permissions::{Object, Operation};
 use mpw_replies::{
     Code, Denial, Kept, Line, Lines, MarkerListing, MarkerView, MarkerViews, MaskedViews, MetCells,
     Reply,

@@ -5,7 +5,7 @@ use anyhow::{Result, bail};
 use mpw_deck::DeckText;
 use mpw_geom::{Orient, Placing, Point};
 use mpw_library::LibraryText;
-use mpw_rbac::Grant;
+use mpw_permissions::Grant;
 use mpw_requests::{
     LayoutRequest, PolicyRequest, Request, RunRequest, SharedRequest, WaferRequest,
 };

@@ -2,7 +2,8 @@
 
 use anyhow::{Result, bail};
 use mpw_geom::Name;
-use mpw_rbac::{Digest, Object, Operation};
+use mpw_permissions::{Object, Operation};
+use mpw_rbac::Digest;
 use std::alloc::Global;
 
 /// The operations by their words.

@@ -1,7 +1,8 @@
 //! Rows of requests: what a user is authorized for while the paths of a diamond go, and the limit of roles.
 use crate::{name, role_name};
 use mpw_geom::{Name, Names};
-use mpw_rbac::{Digest, Identity, Object, Operation, Policy, PolicyFault, Refusal};
+use mpw_permissions::{Object, Operation};
+use mpw_rbac::{Digest, Identity, Policy, PolicyFault, Refusal};
 use std::alloc::{AllocError, Global};
 use std::io;
 

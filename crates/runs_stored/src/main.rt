@@ -11,7 +11,7 @@ use anyhow::{Result, bail};
 use mpw_deck::DeckText;
 use mpw_geom::Name;
 use mpw_library::LibraryText;
-use mpw_rbac::{Grant, Object, Operation};
+use mpw_permissions::{Grant, Object, Operation};
 use mpw_requests::{LayoutRequest, PolicyRequest, Request, SharedRequest, WaferRequest};
 use mpw_wire::{LineAsk, parse_line, read_stored, stored_line, stored_payload};
 use std::alloc::Global;

@@ -1,6 +1,6 @@
 use Rattle.std.proofs.Common.{◌≡◌, ℕ, false, Err, refl, true≢false}
-use Rattle.mpw_rbac.specs.declared.permission.Object.{Object}
-use Rattle.mpw_rbac.specs.declared.permission.Operation.{Operation}
+use Rattle.mpw_permissions.specs.declared.permission.Object.{Object}
+use Rattle.mpw_permissions.specs.declared.permission.Operation.{Operation}
 use Rattle.mpw_rbac.specs.declared.refusal.Refusal.TheVariants as refusal
 use Rattle.mpw_rbac.specs.Policy.{Policy}
 use Rattle.mpw_requests.specs.declared.policy.PolicyRequest.{PolicyRequest}

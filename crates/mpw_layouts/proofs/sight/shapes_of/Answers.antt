@@ -2,7 +2,7 @@ use Rattle.std.proofs.Common.{◌≡◌, ap, ◌∙◌}
 use Rattle.mpw_hier.specs.Values.{flat}
 use Rattle.mpw_layouts.proofs.SightLemmas.{all_readable}
 use Rattle.mpw_replies.specs.Listing.{seen_lines}
-use Rattle.mpw_replies.specs.Sight.{seen_by}
+use Rattle.mpw_access.specs.Seen.{seen_by}
 use Rattle.mpw_layouts.proofs.sight.shapes_of.Goals as goal
 
 pub returns : goal.returns

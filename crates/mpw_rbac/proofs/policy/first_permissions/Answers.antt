@@ -2,7 +2,7 @@
 use Rattle.std.proofs.Common.{◌∙◌, ap, ◌||◌, false}
 use Rattle.mpw_roles.specs.Hierarchy.{is_role}
 use Rattle.mpw_roles.proofs.CallerLemmas.{name_eq-refl}
-use Rattle.mpw_rbac.specs.declared.permission.Grant.{Grant}
+use Rattle.mpw_permissions.specs.declared.permission.Grant.{Grant}
 use Rattle.mpw_rbac.proofs.policy.first_permissions.Goals as goal
 
 pub new-requires : goal.new-requires

@@ -6,4 +6,4 @@ use Rattle.mpw_rbac.proofs.separation.breaks_a_session.Given as goal
 -- nobody so far breaks the set
 abbrev pub invariant-loop-index : goal.invariant-loop-index
 invariant-loop-index l =
-    is_broken l.roles (map active_in (take l.index l.sessions.entries)) l.set ≡ false
+    is_broken l.roles (map active_in (take l.index l.sessions)) l.set ≡ false

@@ -8,4 +8,4 @@ use Rattle.mpw_rbac.proofs.separation.least_dynamic.Given as goal
 -- the least name so far
 abbrev pub invariant-loop-index : goal.invariant-loop-index
 invariant-loop-index l = IsLeast (broken_names l.roles l.sets.sets.dsd
-    (map active_in (take l.index l.sessions.entries))) (option_copied l.least)
+    (map active_in (take l.index l.sessions))) (option_copied l.least)

@@ -1,7 +1,7 @@
 use Rattle.std.proofs.Common.{◌≡◌, slice_get, take, true}
 use Rattle.std.specs.List.{list_all}
 use Rattle.mpw_replies.specs.Listing.{is_seen}
-use Rattle.mpw_replies.specs.Sight.{seen_by}
+use Rattle.mpw_access.specs.Seen.{seen_by}
 use Rattle.mpw_signoff.proofs.sight.is_shown.Given as goal
 
 -- the numbers so far may be seen

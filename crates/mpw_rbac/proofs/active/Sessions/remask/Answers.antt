@@ -8,12 +8,12 @@ use Rattle.mpw_rbac.proofs.active.Sessions.remask.Goals as goal
 pub returns-clause-same : goal.returns-clause-same
 returns-clause-same c =
     let left = sessions-retained _ (λ (s : Session). true) (λ (s : Session). s) c.args.roles.now _
-    (λ k v b w g call. search rules) _ _ c.retain.ensures.filtered in
-    left.0 ∙ all-kept (sessions_in c.self.inside.table.entries)
+    (λ e b g after call. search rules) _ _ c.retain_mut.ensures.filtered in
+    left.0 ∙ all-kept (sessions_in c.self.inside.table.items)
     ∙ ap (λ (k : KeptSessions). k.sessions) c.self.view_is
 
 pub returns-clause-acting : goal.returns-clause-acting
 returns-clause-acting c =
     let left = sessions-retained _ (λ (s : Session). true) (λ (s : Session). s) c.args.roles.now _
-    (λ k v b w g call. search rules) _ _ c.retain.ensures.filtered in
+    (λ e b g after call. search rules) _ _ c.retain_mut.ensures.filtered in
     left.1

@@ -12,8 +12,8 @@ returns-clause-kept c =
     let p = users_and_roles c.args.users.now.users c.args.roles.now in
     let right : AreAuthorized c.args.roles.now c.args.users.now = c.requires in
     let left = sessions-retained _ (λ (s : Session). is_user p s.user) (kept_roles p)
-    c.args.roles.now _ (λ k v b w g call. search (rules, right)) _ _
-    c.retain.ensures.filtered in
+    c.args.roles.now _ (λ e b g after call. search (rules, right)) _ _
+    c.retain_mut.ensures.filtered in
     left.0 ∙ ap (λ (k : KeptSessions). kept_sessions p k.sessions) c.self.view_is
 
 pub returns-clause-acting : goal.returns-clause-acting
@@ -21,6 +21,6 @@ returns-clause-acting c =
     let p = users_and_roles c.args.users.now.users c.args.roles.now in
     let right : AreAuthorized c.args.roles.now c.args.users.now = c.requires in
     let left = sessions-retained _ (λ (s : Session). is_user p s.user) (kept_roles p)
-    c.args.roles.now _ (λ k v b w g call. search (rules, right)) _ _
-    c.retain.ensures.filtered in
+    c.args.roles.now _ (λ e b g after call. search (rules, right)) _ _
+    c.retain_mut.ensures.filtered in
     left.1

@@ -1,6 +1,6 @@
 -- A user is assigned one more role, where no set is broken.
 use Rattle.std.proofs.Common.{◌≡◌, ◌∙◌, sym, ap, subst, true, false, Ok, Err, [], ◌∷◌, ◌++◌}
-use Rattle.indexmap.specs.IndexMap.{insert_entry}
+use Rattle.mpw_rbac.specs.Table.{insert_entry}
 use Rattle.mpw_geom.specs.Names.{name_eq, contains_name}
 use Rattle.mpw_roles.specs.Hierarchy.{is_role}
 use Rattle.mpw_separation.specs.Separation.{least_broken}

@@ -1,7 +1,7 @@
 -- Each part is copied.
 use Rattle.std.proofs.Common.{◌∙◌, sym, subst}
 use Rattle.mpw_separation.specs.Placed.{KeptSets}
-use Rattle.mpw_rbac.specs.Internal.Holders.{Permissions}
+use Rattle.mpw_permissions.specs.Permissions.{Permissions}
 use Rattle.mpw_rbac.specs.Masked.{IsPolicy, KeptSessions, KeptUsers}
 use Rattle.mpw_rbac.specs.Policy.{policy_of}
 use Rattle.mpw_rbac.proofs.policy.Policy.copy.Goals as goal

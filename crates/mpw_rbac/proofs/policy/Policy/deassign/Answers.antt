@@ -1,12 +1,11 @@
 -- The assignment goes, and then the sessions are trimmed.
 use Rattle.std.proofs.Common.{◌≡◌, ◌∙◌, sym, ap, subst, true, Ok}
-use Rattle.indexmap.specs.IndexMap.{insert_entry}
 use Rattle.mpw_geom.specs.Names.{name_eq, contains_name, without_name}
 use Rattle.mpw_rbac.specs.Policy.{Policy, assigned_roles, trim, kept_sessions}
 use Rattle.mpw_rbac.specs.Internal.Policy.{users_and_roles}
 use Rattle.mpw_rbac.specs.Rows as rows
 use Rattle.mpw_rbac.specs.Sound.{Sound}
-use Rattle.mpw_rbac.specs.Table.{with_value}
+use Rattle.mpw_rbac.specs.Table.{with_value, insert_entry}
 use Rattle.mpw_rbac.proofs.KeepTrimmed.{keep-deassign}
 use Rattle.mpw_rbac.proofs.RowFacts.{deassign-ok, assigned-user}
 use Rattle.mpw_rbac.proofs.Shown.{shown}

@@ -1,6 +1,6 @@
 -- A role is active no longer.
 use Rattle.std.proofs.Common.{◌≡◌, ◌∙◌, sym, ap, subst, Ok, ◌==◌}
-use Rattle.indexmap.specs.IndexMap.{insert_entry}
+use Rattle.mpw_rbac.specs.Table.{insert_entry}
 use Rattle.mpw_geom.specs.Names.{without_name}
 use Rattle.mpw_rbac.specs.Policy.{Policy}
 use Rattle.mpw_rbac.specs.Rows as rows

@@ -36,7 +36,7 @@ asked c = λ i. least_broken c.args.roles.now (c.self.view_is i).ssd
 
 asked_too : (c : After-least_dynamic)
     → least_broken c.args.roles.now c.self.inside.sets.sets.dsd
-    (active_lists (sessions_in c.table.result.now.entries))
+    (active_lists (sessions_in c.table.result.now))
     ≡ least_broken c.args.roles.now c.args.self.now.dsd (active_lists c.args.self.now.sessions)
 asked_too c =
     ap (λ (s : List (ℕ × Session)). least_broken c.args.roles.now c.self.inside.sets.sets.dsd

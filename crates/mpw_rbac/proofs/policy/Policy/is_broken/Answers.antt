@@ -10,7 +10,7 @@ use Rattle.mpw_rbac.proofs.policy.Policy.is_broken.Goals as goal
 pub breaks_a_session-requires : goal.breaks_a_session-requires
 breaks_a_session-requires c =
     let kept = c.self.inside.sessions in
-    let es = c.table.result.now.entries in
+    let es = c.table.result.now in
     subst (λ (h : Hierarchy). AreBelow h (active_lists (sessions_in es)) (masks_in es))
     (sym c.roles-roles.ensures)
     (subst (λ (s : List (ℕ × Session)). AreBelow c.self.inside.permissions.roles (active_lists s)

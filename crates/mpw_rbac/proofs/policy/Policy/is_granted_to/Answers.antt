@@ -3,7 +3,8 @@ use Rattle.std.proofs.Common.{◌∙◌, sym, ap}
 use Rattle.std.specs.List.{list_any}
 use Rattle.mpw_roles.specs.Order.{roles_below}
 use Rattle.mpw_roles.specs.Places.{is_place_below}
-use Rattle.mpw_rbac.specs.Policy.{Policy, is_granted_to}
+use Rattle.mpw_rbac.specs.Policy.{Policy}
+use Rattle.mpw_permissions.specs.Grant.{is_granted_to}
 use Rattle.mpw_rbac.proofs.policy.Policy.is_granted_to.Goals as goal
 
 pub returns : goal.returns

@@ -1,10 +1,9 @@
 -- A session begins without active roles.
 use Rattle.std.proofs.Common.{◌≡◌, ◌∙◌, sym, ap, subst, true, false, [], ◌∷◌, ◌++◌, ◌==◌, is_some}
-use Rattle.indexmap.specs.IndexMap.{insert_entry}
 use Rattle.mpw_rbac.specs.Policy.{Policy, session_of}
 use Rattle.mpw_rbac.specs.Rows as rows
 use Rattle.mpw_rbac.specs.Sound.{Sound}
-use Rattle.mpw_rbac.specs.Table.{has_key}
+use Rattle.mpw_rbac.specs.Table.{has_key, insert_entry}
 use Rattle.mpw_rbac.proofs.RowLemmas.{open-ok, login-user}
 use Rattle.mpw_rbac.proofs.KeepLemmas.{keep-open}
 use Rattle.mpw_rbac.proofs.Shown.{shown}

@@ -3,8 +3,8 @@ use Rattle.std.proofs.Common.{◌≡◌, ◌∙◌, sym, ap, true, false, [], �
 use Rattle.std.specs.Prelude.{nat_lt}
 use Rattle.std.specs.List.{list_any}
 use Rattle.mpw_roles.specs.Hierarchy.{is_role}
-use Rattle.mpw_rbac.specs.Grant.{grant_eq}
-use Rattle.mpw_rbac.specs.Internal.Holders.{Permissions}
+use Rattle.mpw_permissions.specs.Grant.{grant_eq}
+use Rattle.mpw_permissions.specs.Permissions.{Permissions}
 use Rattle.mpw_rbac.specs.Policy.{Policy}
 use Rattle.mpw_rbac.proofs.RowFacts.{grant-ok}
 use Rattle.mpw_rbac.proofs.policy.Policy.permissions_with.Goals as goal

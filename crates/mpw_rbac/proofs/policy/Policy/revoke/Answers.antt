@@ -1,8 +1,8 @@
 -- The grant goes, and the others stay.
 use Rattle.std.proofs.Common.{◌≡◌, ◌∙◌, sym, ap, subst, true, Ok, not, filter}
 use Rattle.std.specs.List.{list_any}
-use Rattle.mpw_rbac.specs.Grant.{grant_eq}
-use Rattle.mpw_rbac.specs.Internal.Holders.{Permissions}
+use Rattle.mpw_permissions.specs.Grant.{grant_eq}
+use Rattle.mpw_permissions.specs.Permissions.{Permissions}
 use Rattle.mpw_rbac.specs.Policy.{Policy, policy_of}
 use Rattle.mpw_rbac.specs.Rows as rows
 use Rattle.mpw_rbac.specs.Sound.{Sound}

@@ -1,0 +1,52 @@
+//! The tests with which most rows begin: that the connection has a session, and that this may do an operation.
+ghost use Rattle.std.specs.Prelude.{◌≡◌, IfOk, IfErr};
+ghost use Rattle.mpw_rbac.specs.Rows.{user_of};
+ghost use Rattle.mpw_replies.specs.Rows.{Answers};
+ghost use Rattle.mpw_replies.specs.declared.row.Ending.{Ending as AnyEnding};
+ghost use Rattle.mpw_access.specs.Permitted.{EnteringDeniesWhatIsLacked, permitted, session_test};
+
+use mpw_geom::Name;
+use mpw_permissions::{Object, Operation};
+use mpw_rbac::Policy;
+use mpw_replies::{Denial, Ending, Fault};
+
+/// The connection has a session: what rows test that need no permission. A look-up.
+///
+/// # Errors
+/// A denial where there is none.
+pub fn need_session(policy: &Policy, connection: u32) -> Result<(), Fault>
+    ensures row { Answers (λ x. x) result (session_test policy.now connection) }
+    ensures told { IfErr result (λ fault. fault ≡ Fault.Told (Ending.Denied Denial.Session)) }
+{
+    if !policy.has_session(connection) {
+        return Err(Fault::Told(Ending::Denied(Denial::Session)));
+    }
+    Ok(())
+}
+
+/// The user of the connection's session, which may do the operation on the object: what most rows test first. A look-up.
+///
+/// # Errors
+/// A denial where there is no session, or where it lacks the permission; want of memory for the user's name.
+pub fn enter(
+    policy: &Policy,
+    connection: u32,
+    operation: Operation,
+    object: Object,
+) -> Result<Name, Fault>
+    ensures permitted { Answers (λ user. tt) result (permitted policy.now connection operation object) }
+    ensures user { IfOk result (λ user. user ≡ user_of policy.now connection) }
+{
+    let Some(user) = policy.user_of(connection) else {
+        return Err(Fault::Told(Ending::Denied(Denial::Session)));
+    };
+    if !policy.permits(connection, operation, &object) {
+        return Err(Fault::Told(Ending::Denied(Denial::Permission(operation, object))));
+    }
+    Ok(user.copy()?)
+}
+
+/// The denial that [`enter`] tells names a permission that the connection's session lacks. A law: the function does nothing.
+pub fn entering_denies_what_is_lacked()
+    ensures { EnteringDeniesWhatIsLacked }
+{}

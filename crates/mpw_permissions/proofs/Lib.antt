@@ -1,0 +1,6 @@
+pub mod BlockLemmas
+pub mod BucketLemmas
+pub mod GrantedLemmas
+pub mod HeldLemmas
+pub mod NamedLemmas
+pub mod ObjectLemmas

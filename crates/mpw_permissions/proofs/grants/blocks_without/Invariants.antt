@@ -1,0 +1,8 @@
+use Rattle.std.proofs.Common.{◌≡◌, take}
+use Rattle.std.specs.List.{flat_map}
+use Rattle.mpw_permissions.specs.Grant.{without_grant}
+use Rattle.mpw_permissions.proofs.grants.blocks_without.Given as goal
+
+abbrev pub invariant-loop-block : goal.invariant-loop-block
+invariant-loop-block l = flat_map (λ b. b) l.left.items ≡ without_grant
+    (flat_map (λ b. b) (take l.block-index l.blocks)) l.grant

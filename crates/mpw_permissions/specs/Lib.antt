@@ -1,0 +1,3 @@
+pub mod Grant
+pub mod Internal
+pub mod Permissions

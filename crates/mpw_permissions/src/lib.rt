@@ -1,0 +1,18 @@
+//! Permissions (ANSI INCITS 359-2004, core RBAC): operations, the objects that they are on, and which roles were granted them.
+//!
+//! [`Permissions`] has the roles and the grants to them in their order. Copies share both, and beside the grants stand masks of
+//! their roles, so that whether one of some roles was granted something is a look-up and an `and` of eight words.
+#![tactic(auto)]
+
+mod block;
+mod bucket;
+mod copies;
+mod grants;
+mod group;
+mod holders;
+mod permission;
+mod permissions;
+
+pub use copies::roomy_copy;
+pub use permission::{Grant, Object, Operation};
+pub use permissions::Permissions;

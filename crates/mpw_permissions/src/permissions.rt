@@ -1,0 +1,193 @@
+//! Roles and the grants to them, which copies of the policy share.
+//!
+//! Beside the grants stand the masks of their roles, by operation and object. So whether one of some roles was granted
+//! something is a look-up and an `and` of eight words. A grant more or less copies a block of the grants and a bucket of
+//! the masks of its operation. A change of pairs leaves both as they are, since masks hold places of roles, and so does a
+//! role more, since each grant is to a role. A role less makes the masks anew, in a pass over the grants for each operation.
+ghost use Rattle.std.specs.Prelude.{◌≡◌, ◌∷◌, ◌++◌, [], ℕ, List, true, false, length, map, nat_lt, IfOk, IfErr, Ok, Err};
+ghost use Rattle.std.specs.List.{list_any};
+ghost use Rattle.mpw_geom.specs.Names.{without_name};
+ghost use Rattle.mpw_roles.specs.Hierarchy.{role_names, is_role};
+ghost use Rattle.mpw_roles.specs.Mask.{has};
+ghost use Rattle.mpw_roles.specs.Order.{roles_below};
+ghost use Rattle.mpw_roles.specs.Places.{is_place_below};
+ghost use Rattle.mpw_permissions.specs.Grant.{grant_eq};
+ghost use Rattle.mpw_permissions.specs.Grant.{without_grant};
+ghost use Rattle.mpw_permissions.specs.Internal.Holders.{are_to_roles, grants_after};
+ghost use Rattle.mpw_permissions.specs.Permissions.{AreMoreNames};
+ghost use Rattle.mpw_permissions.specs.Grant.{is_granted_to};
+ghost use Rattle.mpw_permissions.specs.Grant.{ungranted};
+
+use crate::grants::Grants;
+use crate::holders::{SharedHolders, all_holders, holders_after, index, places_of};
+use crate::{Grant, Object, Operation};
+use mpw_geom::Name;
+use mpw_roles::{Mask, Roles};
+use std::alloc::{AllocError, Global};
+use std::marker::Model;
+use std::sync::Arc;
+
+/// Roles, and grants in the order in which they were added. A copy is three counts.
+pub struct Permissions {
+    roles: Arc<Roles>,
+    granted: Grants,
+    holders: Arc<Vec<SharedHolders>>,
+}
+
+impl Drop for Permissions {
+    fn drop(self) {
+        let Permissions {
+            roles,
+            granted,
+            holders,
+        } = self;
+        drop(roles);
+        drop(granted);
+        drop(holders);
+    }
+}
+
+impl Model for Permissions {
+    ghost use Rattle.mpw_roles.specs.Hierarchy.{role_names};
+    ghost use Rattle.mpw_permissions.specs.Internal.Holders.{ArePermissions};
+    ghost use Rattle.mpw_permissions.specs.Permissions.{Permissions as PermissionsState};
+
+    ghost Value = { PermissionsState };
+
+    ghost view = { λ p. record { roles = p.roles.value; granted = p.granted } };
+
+    ghost invariant = { λ p. ArePermissions (role_names p.roles.value) p.granted p.holders.value.items };
+}
+
+impl Permissions {
+    /// These roles and grants.
+    fn of(alloc: Global, roles: Arc<Roles>, granted: Grants) -> Result<Permissions, AllocError>
+        requires { are_to_roles (role_names roles.value) granted ≡ true }
+        ensures { IfOk result (λ next. next ≡ record { roles = roles.value; granted = granted }) }
+    {
+        let holders = all_holders(alloc, &roles, &granted)?;
+        Ok(Permissions {
+            roles,
+            granted,
+            holders,
+        })
+    }
+
+    /// These roles, and one grant to one of them.
+    pub fn new(alloc: Global, roles: Roles, grant: &Grant) -> Result<Permissions, AllocError>
+        requires { is_role roles grant.now.role ≡ true }
+        ensures { IfOk result (λ next. next ≡ record { roles = roles; granted = grant.now ∷ [] }) }
+    {
+        let roles = Arc::new(alloc, roles)?;
+        let granted = Grants::one(alloc, grant)?;
+        Permissions::of(alloc, roles, granted)
+    }
+
+    /// The roles.
+    pub fn roles(&self) -> &Roles
+        ensures { result.now ≡ self.now.roles }
+    {
+        &self.roles
+    }
+
+    /// Whether there are fewer grants than so many.
+    pub fn has_room(&self, limit: usize) -> bool
+        ensures { result ≡ nat_lt (length self.now.granted) limit }
+    {
+        self.granted.is_shorter(limit)
+    }
+
+    /// Whether that was granted: a look-up and a bit.
+    pub fn has_grant(&self, grant: &Grant) -> bool
+        ensures { result ≡ list_any (grant_eq grant.now) self.now.granted }
+    {
+        let Some(place) = self.roles.place(&grant.role) else {
+            return false;
+        };
+        let operation = index(grant.operation);
+        places_of(&self.holders[operation], &grant.object).contains(place)
+    }
+
+    /// Whether the operation on the object was granted to one of the roles of a mask: a look-up, and an `and` of eight
+    /// words. It takes no memory.
+    pub fn is_granted_to(&self, roles: &Mask, operation: Operation, object: &Object) -> bool
+        ensures { (seniors : List (List ℕ)) → ((place : ℕ) → has roles.now place ≡ is_place_below self.now.roles seniors place) → result ≡ list_any (is_granted_to (roles_below self.now.roles seniors) operation object.now) self.now.granted }
+    {
+        let place = index(operation);
+        places_of(&self.holders[place], object).meets(roles)
+    }
+
+    /// The grants with other roles: the same ones in their order, and maybe one more that goes last. The masks stay, since they
+    /// hold places, and nothing was granted to a new name.
+    pub fn with_roles(&self, roles: Roles) -> Result<Permissions, AllocError>
+        requires { AreMoreNames (role_names self.now.roles) (role_names roles) }
+        ensures { IfOk result (λ next. next ≡ record self.now { roles = roles }) }
+    {
+        roles.is_hierarchy();
+        let roles = Arc::new(roles.allocator(), roles)?;
+        let granted = self.granted.copy()?;
+        let holders = self.holders.clone()?;
+        Ok(Permissions {
+            roles,
+            granted,
+            holders,
+        })
+    }
+
+    /// With one more grant to a role, or without a grant: a copy of a block of the grants, and of a bucket of the masks of its
+    /// operation.
+    fn after(&self, grant: &Grant, more: bool) -> Result<Permissions, AllocError>
+        requires { more ≡ true → is_role self.now.roles grant.now.role ≡ true }
+        ensures { IfOk result (λ next. next ≡ record self.now { granted = grants_after more self.now.granted grant.now }) }
+    {
+        let holders = holders_after(&self.roles, &self.holders, grant, more)?;
+        let granted = self.granted.after(self.roles.allocator(), grant, more)?;
+        let roles = self.roles.clone()?;
+        Ok(Permissions {
+            roles,
+            granted,
+            holders,
+        })
+    }
+
+    /// With one more grant to a role.
+    pub fn with(&self, grant: &Grant) -> Result<Permissions, AllocError>
+        requires { is_role self.now.roles grant.now.role ≡ true }
+        ensures { IfOk result (λ next. next ≡ record self.now { granted = self.now.granted ++ grant.now ∷ [] }) }
+    {
+        self.after(grant, true)
+    }
+
+    /// Without a grant.
+    pub fn without(&self, grant: &Grant) -> Result<Permissions, AllocError>
+        ensures { IfOk result (λ next. next ≡ record self.now { granted = without_grant self.now.granted grant.now }) }
+    {
+        self.after(grant, false)
+    }
+
+    /// With other roles, and without the grants to a role.
+    pub fn without_role(&self, roles: Roles, role: &Name) -> Result<Permissions, AllocError>
+        requires { role_names roles ≡ without_name (role_names self.now.roles) role.now }
+        ensures { IfOk result (λ next. next ≡ record { roles = roles; granted = ungranted self.now.granted role.now }) }
+    {
+        let alloc = roles.allocator();
+        let granted = self.granted.without_grants_to(alloc, role)?;
+        let roles = Arc::new(alloc, roles)?;
+        let left = Permissions::of(alloc, roles, granted)?;
+        Ok(left)
+    }
+
+    /// The same roles and grants: three counts.
+    pub fn copy(&self) -> Result<Permissions, AllocError>
+        ensures { IfOk result (λ copy. copy ≡ self.now) }
+    {
+        let roles = self.roles.clone()?;
+        let granted = self.granted.copy()?;
+        let holders = self.holders.clone()?;
+        Ok(Permissions {
+            roles,
+            granted,
+            holders,
+        })
+    }
+}

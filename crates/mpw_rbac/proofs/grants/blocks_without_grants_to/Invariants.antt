@@ -1,8 +1,0 @@
-use Rattle.std.proofs.Common.{◌≡◌, take}
-use Rattle.std.specs.List.{flat_map}
-use Rattle.mpw_rbac.specs.Rows.{ungranted}
-use Rattle.mpw_rbac.proofs.grants.blocks_without_grants_to.Given as goal
-
-abbrev pub invariant-loop-block : goal.invariant-loop-block
-invariant-loop-block l = flat_map (λ b. b) l.left.items
-    ≡ ungranted (flat_map (λ b. b) (take l.block-index l.blocks)) l.role

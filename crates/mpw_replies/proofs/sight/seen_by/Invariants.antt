@@ -1,7 +1,0 @@
-use Rattle.std.proofs.Common.{◌≡◌, take}
-use Rattle.mpw_replies.specs.Sight.{seen_by}
-use Rattle.mpw_replies.proofs.sight.seen_by.Given as goal
-
-abbrev pub invariant-loop-submission : goal.invariant-loop-submission
-invariant-loop-submission l =
-    l.seen.items ≡ seen_by l.fn.policy l.fn.connection (take l.submission-index l.fn.submissions)
