@@ -16,3 +16,4 @@ pub mod PositionLemmas
 pub mod RegisterLemmas
 pub mod RenumberLemmas
 pub mod RoleLemmas
+pub mod SettledLemmas

@@ -112,6 +112,16 @@ module _ {X : Type 0} where
       twice None = refl
       twice (Some i) = ap Some (omega arith)
 
+  -- an item behind the others where the test fails changes nothing
+  pub position-behind : (p : X → Bool) (xs : List X) (x : X) → p x ≡ false
+      → position p (xs ++ x ∷ []) ≡ position p xs
+  position-behind p [] x fails =
+      position-cons p x [] ∙ ap (λ b. cond b (Some 0) None) fails
+  position-behind p (y ∷ ys) x fails =
+      position-cons p y (ys ++ x ∷ [])
+      ∙ ap (λ o. cond (p y) (Some 0) (option_map suc o)) (position-behind p ys x fails)
+      ∙ sym (position-cons p y ys)
+
   -- a test that passes at the same items finds the same place
   pub position-same : (p q : X → Bool) (xs : List X)
       → ((i : ℕ) (d : X) → i < length xs → p (get_or xs i d) ≡ q (get_or xs i d))

@@ -1,4 +1,5 @@
 -- What private functions and proofs alone need: no public contract speaks of it.
 pub mod Marks
 pub mod Register
+pub mod Settled
 pub mod Table
