@@ -4,23 +4,17 @@ ghost use Rattle.std.specs.Prelude.{◌≡◌, ◌<◌, [], ◌∷◌, ◌++◌,
 ghost use Rattle.std.specs.Option.{option_to_list};
 
 use crate::frame::Frame;
-use arrayvec::ArrayVec;
 use std::marker::Model;
 
 /// The greatest number of levels.
 const MAX_LEVELS: usize = 64;
 
 /// At most 64 frames, the last entered last.
+#[derive(Drop)]
 pub struct Frames<'a> {
-    /// Each place that is taken holds a frame; the others hold none.
-    places: ArrayVec<Option<Frame<'a>>, MAX_LEVELS>,
-}
-
-impl<'a> Drop for Frames<'a> {
-    fn drop(self) {
-        let Frames { places } = self;
-        drop(places);
-    }
+    /// The first places, as many as are taken, hold a frame each.
+    places: [Option<Frame<'a>>; MAX_LEVELS],
+    taken: usize,
 }
 
 impl<'a> Model for Frames<'a> {
@@ -28,9 +22,9 @@ impl<'a> Model for Frames<'a> {
 
     ghost Value = { Stack };
 
-    ghost view = { λ s. stack_of s.places.items };
+    ghost view = { λ s. stack_of s.places s.taken };
 
-    ghost invariant = { λ s. AreFrames s.places.items };
+    ghost invariant = { λ s. AreFrames s.places s.taken };
 }
 
 impl<'a> Frames<'a> {
@@ -39,7 +33,8 @@ impl<'a> Frames<'a> {
         ensures { result.items ≡ [] }
     {
         Frames {
-            places: ArrayVec::new(),
+            places: [None; MAX_LEVELS],
+            taken: 0,
         }
     }
 
@@ -48,7 +43,11 @@ impl<'a> Frames<'a> {
         requires { length self.old.items < 64 }
         ensures { self.new.items ≡ self.old.items ++ frame.entry ∷ [] }
     {
-        self.places.push(Some(frame));
+        let place = self.taken;
+        // An array of what refers to memory is reached into by a slice of it.
+        let places = &mut self.places[..];
+        places[place] = Some(frame);
+        self.taken = place + 1;
     }
 
     /// Takes the last frame.
@@ -56,6 +55,11 @@ impl<'a> Frames<'a> {
         ensures items { self.old.items ≡ self.new.items ++ option_to_list result }
         ensures none { IfNone result (self.old.items ≡ []) }
     {
-        self.places.pop()?
+        if self.taken == 0 {
+            return None;
+        }
+        self.taken -= 1;
+        let places = &self.places[..];
+        places[self.taken]
     }
 }

@@ -1,5 +1,5 @@
--- A stack of frames as the places of an array.
-use Rattle.std.specs.Prelude.{List, Option, is_some}
+-- A stack of frames as the first places of an array.
+use Rattle.std.specs.Prelude.{◌≡◌, ◌≤◌, ℕ, List, Option, is_some, length, take}
 use Rattle.std.specs.Option.{option_to_list}
 use Rattle.std.specs.List.{flat_map, AllPass}
 use Rattle.mpw_walk.specs.declared.frame.Frame.{Frame}
@@ -7,10 +7,10 @@ use Rattle.mpw_walk.specs.declared.frame.Frame.{Frame}
 pub record Stack : Type 0 where
   pub items : List Frame
 
--- The frames that the places hold.
-abbrev pub stack_of : List (Option Frame) → Stack
-stack_of places = record { items = flat_map option_to_list places }
+-- The frames that the first places hold, as many as are taken.
+abbrev pub stack_of : List (Option Frame) → (taken : ℕ) → Stack
+stack_of places taken = record { items = flat_map option_to_list (take taken places) }
 
--- Each place holds a frame.
-abbrev pub AreFrames : List (Option Frame) → Type 0
-AreFrames places = AllPass is_some places
+-- Each place that is taken holds a frame.
+abbrev pub AreFrames : List (Option Frame) → (taken : ℕ) → Type 0
+AreFrames places taken = (length places ≡ 64) × (taken ≤ 64) × AllPass is_some (take taken places)

@@ -1,15 +1,11 @@
-use Rattle.std.proofs.Common.{ap, length, arith}
-use Rattle.mpw_walk.specs.Internal.Stack.{Stack}
-use Rattle.mpw_walk.proofs.Stacked.{as_many}
+use Rattle.mpw_walk.proofs.Stacked.{is_place, put_behind, all_with}
 use Rattle.mpw_walk.proofs.frames.Frames.push.Goals as goal
 
-pub push-requires : goal.push-requires
-push-requires c = (
-  omega arith,
-  omega (
-    arith,
-    c.requires,
-    ap (λ (s : Stack). length s.items) c.self.view_is,
-    as_many c.self.inside.places.items c.self.invariant,
-  ),
-)
+pub bounds-places-place : goal.bounds-places-place
+bounds-places-place c = is_place _ _ _ c.self.invariant c.self.view_is c.requires
+
+pub invariant_of-self : goal.invariant_of-self
+invariant_of-self c = all_with _ _ _ c.self.invariant c.self.view_is c.requires c.args.frame
+
+pub returns : goal.returns
+returns c = put_behind _ _ _ c.self.invariant c.self.view_is c.requires c.args.frame
