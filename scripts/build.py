@@ -6,7 +6,8 @@
 The toolchain's `rattle` proves each crate from nothing over the libraries that it built of the crates below, and builds none that
 isn't proved. What the gate tries besides, as wrong bodies and the layout of the texts, is left to the gate. A crate begins as soon
 as those below are proved, where a processor and memory are free for it, that with the longest chain of crates above it first. It takes
-two processes, and more where fewer crates can be proved beside it; the longer the chains of those, the lower is its priority.
+one process, since each further one reads and checks again what the others did, and more where processors would else be idle, or where
+no crate has a longer chain; the longer the chains of those beside it, the lower is its priority.
 
 A library stays in the folder out/rlib of its crate, with a sum of all that it was made of: so a build that was broken off goes on
 where it stood, and another program's proves only what it has not in common. The way is told on the standard error.
@@ -33,8 +34,8 @@ MEMORY = 4_000_000
 NICER = 3
 # The bytes of sources that take a proof as long as each crate below does: a function takes long where its types lead to many others.
 REACH = 2000
-# The least processes of a proof: about a third of one is no work that can be shared.
-LEAST = 2
+# The least processes of the proof that most others wait for.
+FIRST = 3
 # The last line of a check that proved a crate, without a word that would leave something out of that.
 VERDICT = re.compile(
     r"logic=proved( (functions|axioms|target|cpu|threads|main|may-wait|sum)=\S+)+"
@@ -203,6 +204,14 @@ def free():
         return int(re.search(r"MemAvailable:\s+(\d+)", file.read())[1])
 
 
+def shares(crate, ready, running, chain, processors):
+    """Returns how many processes its proof takes, where those of the crates in running take so many each and it begins before the
+    others that are ready."""
+    idle = processors - sum(running.values()) - (len(ready) - 1)
+    is_first = all(chain[it] <= chain[crate] for it in running)
+    return max(min(FIRST, processors) if is_first else 1, min(processors, idle))
+
+
 def prove_all(crates, toolchain):
     """Proves the crates, telling the way. Returns what failed, or nothing."""
     began, chain, processors = time.monotonic(), chains(crates), len(os.sched_getaffinity(0))
@@ -211,17 +220,21 @@ def prove_all(crates, toolchain):
         if crate.root == "src/lib.rt" and done.issuperset(crate.below) and crate.is_kept(toolchain):
             done.add(crate)
             left.remove(crate)
-    lanes, running, total, failed = max(1, min(processors, free() // MEMORY)), {}, len(left), None
+    lanes, running, taken, total, failed = max(1, min(processors, free() // MEMORY)), {}, {}, len(left), None
     with concurrent.futures.ThreadPoolExecutor(lanes) as pool:
         while running or left and not failed:
             ready = [it for it in left if not failed and done.issuperset(it.uses)]
-            jobs = max(min(LEAST, processors), processors // (len(ready) + len(running) or 1))
-            for crate in ready[: lanes - len(running)]:
+            while ready and len(running) < lanes:
+                crate = ready[0]
                 left.remove(crate)
-                waited_for = sum(chain[it] > chain[crate] for it in running.values())
+                jobs = shares(crate, ready, taken, chain, processors)
+                waited_for = sum(chain[it] > chain[crate] for it in taken)
                 running[pool.submit(prove, crate, toolchain, jobs, NICER * waited_for)] = crate
+                taken[crate] = jobs
+                ready = ready[1:]
             for it in concurrent.futures.wait(running, return_when=concurrent.futures.FIRST_COMPLETED).done:
                 crate, why = running.pop(it), it.result()
+                del taken[crate]
                 if why:
                     failed = failed or f"{crate.name}:\n{why}"
                     continue
