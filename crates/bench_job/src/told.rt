@@ -3,7 +3,8 @@
 use crate::parts;
 use anyhow::Result;
 use mpw_deck::Rules;
-use mpw_job::{Answer, CutAnswer, Job, work_all};
+use mpw_job::work_all;
+use mpw_jobs::{Answer, CutAnswer, Job};
 use mpw_markers::{Book, Marker};
 use mpw_tiles::Snapshot;
 use std::thread::Threads;

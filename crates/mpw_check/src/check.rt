@@ -1,7 +1,7 @@
 //! Checking: the cut, a job a tile, and the stitching.
 
 ghost use Rattle.std.specs.Prelude.{◌≡◌, ◌≤◌, Some, map, All, IfOk, IfErr, IfSome};
-ghost use Rattle.mpw_job.specs.Layout.{AreLayoutMarkers};
+ghost use Rattle.mpw_jobs.specs.Layout.{AreLayoutMarkers};
 ghost use Rattle.mpw_tiles.specs.Placed.{WindowsLieInPlane};
 ghost use Rattle.mpw_tiles.specs.Plan.{tiles};
 ghost use Rattle.mpw_tiles.specs.Snapshots.{plan_for};
@@ -12,7 +12,8 @@ ghost use Rattle.mpw_check.specs.Internal.Tiled.{IsCut, jobs_of, markers_in, IsA
 use crate::fault::CheckFault;
 use crate::laws::tiles_make_the_layout;
 use crate::progress::Progress;
-use mpw_job::{Answer, Job, tile_job, work_all};
+use mpw_job::work_all;
+use mpw_jobs::{Answer, Job, tile_job};
 use mpw_markers::{Book, TileMarkers, stitch};
 use mpw_tiles::{Plan, Snapshot, Windows, cut};
 use std::alloc::{AllocError, Global};

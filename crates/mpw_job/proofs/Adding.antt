@@ -23,10 +23,11 @@ use Rattle.mpw_edges.specs.Steps.{IsPair}
 use Rattle.mpw_edges.specs.Pieces.{HasStep, piece_cmp, ComesBefore as IsPieceBefore}
 use Rattle.mpw_markers.specs.declared.marker.Key.{Key}
 use Rattle.mpw_markers.specs.declared.marker.Marker.{Marker}
-use Rattle.mpw_markers.specs.Markers.{key_of, box_on, IsFilled}
-use Rattle.mpw_job.specs.Layers.{Coverage, first_squares, second_squares}
-use Rattle.mpw_job.specs.Answers.{TileJob, listed_on, IsFoundIn, key_at, TellsMet, ComesBefore, Answers}
-use Rattle.mpw_job.specs.Internal.Found.{run_at, key_box, key_cmp, IsKey, IsKeyBefore, AddsRule, AreFirstKeys, AreKeys, AreMarkersOfKeys}
+use Rattle.mpw_markers.specs.Markers.{key_of, box_on}
+use Rattle.mpw_jobs.specs.Layers.{Coverage, first_squares, second_squares}
+use Rattle.mpw_jobs.specs.Answers.{TileJob, listed_on, IsFoundIn, key_at, TellsMet, ComesBefore, Answers}
+use Rattle.mpw_jobs.specs.Internal.Keys.{run_at, key_box}
+use Rattle.mpw_job.specs.Internal.Found.{key_cmp, IsKey, IsKeyBefore, AddsRule, AreFirstKeys, AreKeys, AreMarkersOfKeys}
 
 -- ---- mapped lists
 
@@ -254,8 +255,3 @@ answers_from job keys markers h g = record {
         ap (λ (k : Key). key_cmp k (key_of (get_or markers j d))) (sym first)
         ∙ ap (key_cmp (get_or (map key_of markers) i (key_of d))) (sym second)
         ∙ all i j (key_of d) lt (omega arith)
-
--- each marker of an answer has a row
-pub all_filled : (job : TileJob) (markers : List Marker) → Answers job markers → All IsFilled markers
-all_filled job markers h k d l =
-    (h.sound (get_or markers k d) (Contains-get_or markers k d l)).run.filled

@@ -11,9 +11,9 @@ use Rattle.std.proofs.lemmas.List.Sorted.{list_any-IsPermutation}
 use Rattle.mpw_geom.specs.declared.plane.Layer.{Layer}
 use Rattle.mpw_geom.specs.Plane.{has_square}
 use Rattle.mpw_tiles.specs.declared.listing.Rectangle.{Rectangle}
-use Rattle.mpw_job.specs.Layers.{same_layer}
+use Rattle.mpw_jobs.specs.Layers.{same_layer}
 use Rattle.mpw_job.specs.Internal.Layers.{layer_code}
-use Rattle.mpw_job.specs.Answers.{listed_on}
+use Rattle.mpw_jobs.specs.Answers.{listed_on}
 
 -- ---- parts
 

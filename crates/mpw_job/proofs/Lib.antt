@@ -1,12 +1,7 @@
-pub mod Tests
-pub mod Shapes
-pub mod Cores
-pub mod Made
 pub mod Areas
 pub mod ByLayer
 pub mod Meeting
 pub mod Adding
-pub mod Edges
-pub mod Unique
+pub mod RunsMeet
 pub mod Worked
 pub mod Serving

@@ -16,8 +16,9 @@ use Rattle.mpw_markers.specs.declared.marker.Marker.{Marker}
 use Rattle.mpw_markers.specs.Markers.{key_of}
 use Rattle.mpw_markers.specs.Met.{IsAscending}
 use Rattle.mpw_markers.specs.Whole.{IsMet}
-use Rattle.mpw_job.specs.Answers.{HasListed, TellsMet}
-use Rattle.mpw_job.specs.Internal.Found.{key_box, met_of, TellMet, MeetsSome, AreMarkersOfKeys}
+use Rattle.mpw_jobs.specs.Answers.{HasListed, TellsMet}
+use Rattle.mpw_jobs.specs.Internal.Keys.{key_box}
+use Rattle.mpw_job.specs.Internal.Found.{met_of, TellMet, MeetsSome, AreMarkersOfKeys}
 
 -- ---- rectangles with squares
 

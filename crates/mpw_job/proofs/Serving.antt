@@ -12,8 +12,8 @@ use Rattle.mpw_edges.specs.declared.run.Piece.{Piece}
 use Rattle.mpw_edges.specs.Edges.{Squares, exchanged}
 use Rattle.mpw_edges.specs.Steps.{IsPair}
 use Rattle.mpw_edges.specs.Pieces.{HasStep, IsPiece}
-use Rattle.mpw_job.specs.Layers.{Coverage, first_squares, second_squares}
-use Rattle.mpw_job.specs.Answers.{IsFoundIn}
+use Rattle.mpw_jobs.specs.Layers.{Coverage, first_squares, second_squares}
+use Rattle.mpw_jobs.specs.Answers.{IsFoundIn}
 use Rattle.mpw_job.specs.Internal.Shared.{squares_on, LooksAt}
 
 -- the pairs of a check are those of the layers that it looks at, as they are or exchanged

@@ -4,9 +4,9 @@ use Rattle.std.proofs.lemmas.List.{map-append}
 use Rattle.std.proofs.lemmas.List.Elements.{All-get_or}
 use Rattle.std.proofs.lemmas.Option.{slice_get-get_or, slice_get_within}
 use Rattle.std.specs.Prelude.{All}
-use Rattle.mpw_job.specs.declared.job.Job.{Job}
-use Rattle.mpw_job.specs.declared.answer.Answer.{Answer}
-use Rattle.mpw_job.specs.Carried.{job_of}
+use Rattle.mpw_jobs.specs.declared.job.Job.{Job}
+use Rattle.mpw_jobs.specs.declared.answer.Answer.{Answer}
+use Rattle.mpw_jobs.specs.Carried.{job_of}
 use Rattle.mpw_job.specs.Internal.Worked.{AreInPlace}
 
 -- where no place has an answer, each has none but its own

@@ -1,5 +1,4 @@
 -- What private functions and proofs alone need: no public contract speaks of it.
-pub mod Cores
 pub mod Found
 pub mod Layers
 pub mod Shared

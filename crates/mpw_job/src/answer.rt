@@ -1,142 +1,13 @@
-//! Answers, each with its job.
+//! The answer of a job.
 
 ghost use Rattle.std.specs.Prelude.{◌≡◌, IfOk};
-ghost use Rattle.mpw_job.specs.Jobs.{IsCutAnswer, IsTileAnswer};
-ghost use Rattle.mpw_job.specs.Carried.{job_of};
+ghost use Rattle.mpw_jobs.specs.Carried.{job_of};
 
 use crate::find::found;
-use crate::job::{CutJob, Job, TileJob};
+use mpw_jobs::{Answer, CutAnswer, CutJob, Job, TileAnswer, TileJob};
 use mpw_markers::TileMarkers;
-use mpw_tiles::{Windows, cut};
+use mpw_tiles::cut;
 use std::alloc::{AllocError, Global};
-use std::marker::Model;
-
-/// The windows of a snapshot, with the job of cutting it: contracts see both. The windows stand for the snapshot.
-pub struct CutAnswer {
-    job: CutJob,
-    windows: Windows,
-}
-
-impl Drop for CutAnswer {
-    fn drop(self) {
-        let CutAnswer { job, windows } = self;
-        drop(job);
-        drop(windows);
-    }
-}
-
-impl Model for CutAnswer {
-    ghost use Rattle.mpw_job.specs.Jobs.{CutWindows, IsCutAnswer};
-
-    ghost Value = { CutWindows };
-
-    ghost view = { λ a. record { job = a.job; windows = a.windows } };
-
-    ghost invariant = { λ a. IsCutAnswer (record { job = a.job; windows = a.windows }) };
-}
-
-impl CutAnswer {
-    /// The job.
-    pub fn job(&self) -> &CutJob
-        ensures { result.now ≡ self.now.job }
-    {
-        &self.job
-    }
-
-    /// The windows, by tile.
-    pub fn windows(&self) -> &Windows
-        ensures { result.now ≡ self.now.windows }
-    {
-        &self.windows
-    }
-
-    /// The same answer, which shares the snapshot's parts and the windows.
-    ///
-    /// # Errors
-    /// Where no more copies can be counted, or there is no memory for them.
-    pub fn copy(&self, alloc: Global) -> Result<CutAnswer, AllocError>
-        ensures { IfOk result (λ answer. answer ≡ self.now) }
-    {
-        Ok(CutAnswer {
-            job: self.job.copy(alloc)?,
-            windows: self.windows.copy()?,
-        })
-    }
-
-    /// The windows stand for the job's snapshot. A law: the function does nothing.
-    pub fn is_answer(&self)
-        ensures { IsCutAnswer self.now }
-    {
-        let _run = self.job.run;
-    }
-}
-
-/// The markers of a tile, with the job of finding them: contracts see both. The markers answer the job.
-pub struct TileAnswer {
-    job: TileJob,
-    markers: TileMarkers,
-}
-
-impl Drop for TileAnswer {
-    fn drop(self) {
-        let TileAnswer { job, markers } = self;
-        drop(job);
-        drop(markers);
-    }
-}
-
-impl Model for TileAnswer {
-    ghost use Rattle.mpw_job.specs.Jobs.{FoundMarkers, IsTileAnswer};
-
-    ghost Value = { FoundMarkers };
-
-    ghost view = { λ a. record { job = a.job; markers = a.markers } };
-
-    ghost invariant = { λ a. IsTileAnswer (record { job = a.job; markers = a.markers }) };
-}
-
-impl TileAnswer {
-    /// The job.
-    pub fn job(&self) -> &TileJob
-        ensures { result.now ≡ self.now.job }
-    {
-        &self.job
-    }
-
-    /// The markers, in order.
-    pub fn markers(&self) -> &TileMarkers
-        ensures { result.now ≡ self.now.markers }
-    {
-        &self.markers
-    }
-
-    /// The same answer, in constant time and without further memory.
-    ///
-    /// # Errors
-    /// Where no more copies can be counted.
-    pub fn copy(&self) -> Result<TileAnswer, AllocError>
-        ensures { IfOk result (λ answer. answer ≡ self.now) }
-    {
-        Ok(TileAnswer {
-            job: self.job.copy()?,
-            markers: self.markers.copy()?,
-        })
-    }
-
-    /// The markers answer the job. A law: the function does nothing.
-    pub fn is_answer(&self)
-        ensures { IsTileAnswer self.now }
-    {
-        let _job = &self.job;
-    }
-}
-
-/// What was done, with the job.
-#[derive(Drop)]
-pub enum Answer {
-    Cut(CutAnswer),
-    Tile(TileAnswer),
-}
 
 /// The bytes of the block that [`keep_freed`] takes.
 const KEPT: usize = 4 << 20;
@@ -157,7 +28,7 @@ fn cut_answer(alloc: Global, job: &CutJob) -> Result<CutAnswer, AllocError>
     keep_freed(alloc);
     let windows = cut(alloc, &job.snapshot)?;
     let job = job.copy(alloc)?;
-    Ok(CutAnswer { job, windows })
+    Ok(CutAnswer::new(job, windows))
 }
 
 /// The answer of a tile.
@@ -167,7 +38,7 @@ fn tile_answer(alloc: Global, job: &TileJob) -> Result<TileAnswer, AllocError>
     let markers = found(alloc, job)?;
     let markers = TileMarkers::from_vec(alloc, markers)?;
     let job = job.copy()?;
-    Ok(TileAnswer { job, markers })
+    Ok(TileAnswer::new(job, markers))
 }
 
 /// Does the job. The answer carries it, and its type keeps that it is right.

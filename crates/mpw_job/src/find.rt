@@ -3,18 +3,18 @@
 
 ghost use Rattle.std.specs.Prelude.{◌≡◌, ◌++◌, IfOk, OnOk, map};
 ghost use Rattle.mpw_geom.specs.declared.plane.Box2.{Box2 as BoxValue};
-ghost use Rattle.mpw_job.specs.Layers.{Coverage};
+ghost use Rattle.mpw_jobs.specs.Layers.{Coverage};
 ghost use Rattle.mpw_job.specs.Internal.Shared.{Serves, IsSharedOf};
-ghost use Rattle.mpw_job.specs.Answers.{key_at, Answers};
+ghost use Rattle.mpw_jobs.specs.Answers.{key_at, Answers};
 ghost use Rattle.mpw_job.specs.Internal.Found.{AddsRule, AreKeys};
 
-use crate::job::TileJob;
 use crate::layers::by_layer;
 use crate::met::markers_of;
 use crate::shared::{Shared, shared_for};
 use mpw_checks::pieces_in;
 use mpw_deck::Rule;
 use mpw_edges::Piece;
+use mpw_jobs::TileJob;
 use mpw_markers::{Key, Marker};
 use std::alloc::{AllocError, Global};
 

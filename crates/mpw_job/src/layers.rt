@@ -6,9 +6,9 @@
 ghost use Rattle.std.specs.Prelude.{◌≡◌, ◌≤◌, ◌<◌, ◌^◌, ℤ, All, IfOk, take, drop, length};
 ghost use Rattle.std.specs.List.Sorted.{IsPermutation};
 ghost use Rattle.mpw_region.specs.Squares.{covers};
-ghost use Rattle.mpw_job.specs.Layers.{same_layer};
+ghost use Rattle.mpw_jobs.specs.Layers.{same_layer};
 ghost use Rattle.mpw_job.specs.Internal.Layers.{layer_code, IsByLayer};
-ghost use Rattle.mpw_job.specs.Answers.{listed_on};
+ghost use Rattle.mpw_jobs.specs.Answers.{listed_on};
 
 use mpw_geom::{Box2, Layer};
 use mpw_tiles::Rectangle;

@@ -7,8 +7,9 @@ ghost use Rattle.std.specs.Prelude.{◌≡◌, ◌↔◌, ℕ, [], ◌∷◌, If
 ghost use Rattle.mpw_geom.specs.Plane.{Square, HasArea, IsOrdered};
 ghost use Rattle.mpw_markers.specs.Markers.{key_of};
 ghost use Rattle.mpw_origins.specs.Origins.{HasSquareOf};
-ghost use Rattle.mpw_job.specs.Answers.{HasListed};
-ghost use Rattle.mpw_job.specs.Internal.Found.{key_box, met_of, TellMet, MeetsSome, AreMarkersOfKeys};
+ghost use Rattle.mpw_jobs.specs.Answers.{HasListed};
+ghost use Rattle.mpw_jobs.specs.Internal.Keys.{key_box};
+ghost use Rattle.mpw_job.specs.Internal.Found.{met_of, TellMet, MeetsSome, AreMarkersOfKeys};
 
 use mpw_edges::Axis;
 use mpw_geom::Box2;

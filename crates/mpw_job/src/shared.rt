@@ -7,7 +7,7 @@
 ghost use Rattle.std.specs.Prelude.{◌≡◌, ◌↔◌, Some, ℤ, IfOk, IfSome, IsTrue};
 ghost use Rattle.mpw_geom.specs.Plane.{IsBoxInPlane};
 ghost use Rattle.mpw_region.specs.Squares.{covers};
-ghost use Rattle.mpw_job.specs.Answers.{listed_on};
+ghost use Rattle.mpw_jobs.specs.Answers.{listed_on};
 ghost use Rattle.mpw_job.specs.Internal.Layers.{IsByLayer};
 ghost use Rattle.mpw_job.specs.Internal.Shared.{squares_on, LooksAt, Serves, IsSharedOf};
 

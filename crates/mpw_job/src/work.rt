@@ -6,12 +6,12 @@
 
 ghost use Rattle.std.specs.Prelude.{◌≡◌, ◌<◌, List, IfOk, All, Some, length, map, slice_get};
 ghost use denote.Param.Send.{IsSync};
-ghost use Rattle.mpw_job.specs.declared.job.Job.{Job as JobValue};
-ghost use Rattle.mpw_job.specs.Carried.{job_of};
+ghost use Rattle.mpw_jobs.specs.declared.job.Job.{Job as JobValue};
+ghost use Rattle.mpw_jobs.specs.Carried.{job_of};
 ghost use Rattle.mpw_job.specs.Internal.Worked.{IsDone, AreInPlace};
 
-use crate::answer::{Answer, do_job, keep_freed};
-use crate::job::Job;
+use crate::answer::{do_job, keep_freed};
+use mpw_jobs::{Answer, Job};
 use rayon::current_num_threads;
 use std::alloc::{AllocError, Global};
 use std::sync::atomic::{AtomicUsize, Ordering};

@@ -10,18 +10,12 @@ use Rattle.mpw_edges.specs.Pieces.{piece_cmp, ComesBefore as IsPieceBefore}
 use Rattle.mpw_tiles.specs.declared.listing.Rectangle.{Rectangle}
 use Rattle.mpw_markers.specs.declared.marker.Key.{Key}
 use Rattle.mpw_markers.specs.declared.marker.Marker.{Marker}
-use Rattle.mpw_markers.specs.Markers.{key_of, box_on}
+use Rattle.mpw_markers.specs.Markers.{key_of}
 use Rattle.mpw_markers.specs.Met.{IsAscending}
 use Rattle.mpw_markers.specs.Whole.{IsMet}
-use Rattle.mpw_job.specs.Layers.{Coverage}
-use Rattle.mpw_job.specs.Answers.{TileJob, HasListed, listed_on, IsFoundIn, key_at, TellsMet}
-
--- The run of a key, and its closed box.
-abbrev pub run_at : Key → Piece
-run_at k = record { axis = k.axis; side = k.side; x1 = k.x1; x2 = k.x2; y0 = k.y0; y1 = k.y1 }
-
-abbrev pub key_box : Key → Box2
-key_box k = box_on k.axis k.x1 k.x2 k.y0 k.y1
+use Rattle.mpw_jobs.specs.Layers.{Coverage}
+use Rattle.mpw_jobs.specs.Answers.{TileJob, HasListed, listed_on, IsFoundIn, key_at, TellsMet}
+use Rattle.mpw_jobs.specs.Internal.Keys.{run_at, key_box}
 
 abbrev pub met_of : Marker → List ℕ
 met_of m = m.met

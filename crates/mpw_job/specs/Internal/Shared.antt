@@ -8,7 +8,7 @@ use Rattle.mpw_deck.specs.declared.rule.Rule.{Rule}
 use Rattle.mpw_edges.specs.Edges.{Squares}
 use Rattle.mpw_checks.specs.Strips.{AreStrips}
 use Rattle.mpw_job.specs.declared.shared.Shared.{Shared}
-use Rattle.mpw_job.specs.Layers.{Coverage, no_squares}
+use Rattle.mpw_jobs.specs.Layers.{Coverage, no_squares}
 
 -- The squares of a layer, where there is one.
 abbrev pub squares_on : Coverage → Option Layer → Squares

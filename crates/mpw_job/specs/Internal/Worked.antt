@@ -1,9 +1,9 @@
 -- The answers of jobs that were worked in any order.
 use Rattle.std.specs.Prelude.{◌≡◌, ℕ, List, Option, Some, slice_get}
-use Rattle.mpw_job.specs.declared.job.Job.{Job}
-use Rattle.mpw_job.specs.declared.answer.Answer.{Answer}
+use Rattle.mpw_jobs.specs.declared.job.Job.{Job}
+use Rattle.mpw_jobs.specs.declared.answer.Answer.{Answer}
 use Rattle.mpw_job.specs.declared.work.Done.{Done}
-use Rattle.mpw_job.specs.Carried.{job_of}
+use Rattle.mpw_jobs.specs.Carried.{job_of}
 
 -- The answer is that of the job at its place.
 abbrev pub IsDone : List Job → Done → Type 0

@@ -1,4 +1,4 @@
-use Rattle.mpw_job.proofs.Adding.{all_filled}
+use Rattle.mpw_jobs.proofs.Filled.{all_filled}
 use Rattle.mpw_job.proofs.answer.tile_answer.Goals as goal
 
 pub from_vec-requires : goal.from_vec-requires

@@ -1,6 +1,6 @@
 use Rattle.std.proofs.Common.{◌∙◌, ◌++◌, map, ap}
 use Rattle.std.proofs.lemmas.List.{take_all}
-use Rattle.mpw_job.specs.Answers.{key_at}
+use Rattle.mpw_jobs.specs.Answers.{key_at}
 use Rattle.mpw_job.proofs.Adding.{adds_one}
 use Rattle.mpw_job.proofs.find.add_keys.Goals as goal
 

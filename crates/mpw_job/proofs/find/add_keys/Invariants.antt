@@ -1,5 +1,5 @@
 use Rattle.std.proofs.Common.{◌≡◌, ◌++◌, map, take}
-use Rattle.mpw_job.specs.Answers.{key_at}
+use Rattle.mpw_jobs.specs.Answers.{key_at}
 use Rattle.mpw_job.proofs.find.add_keys.Given as goal
 
 abbrev pub invariant-loop-run : goal.invariant-loop-run

@@ -1,6 +1,6 @@
 use Rattle.std.proofs.Common.{◌≡◌, ◌++◌, List, map, subst}
 use Rattle.mpw_edges.specs.declared.run.Piece.{Piece}
-use Rattle.mpw_job.specs.Answers.{key_at}
+use Rattle.mpw_jobs.specs.Answers.{key_at}
 use Rattle.mpw_job.specs.Internal.Shared.{squares_on}
 use Rattle.mpw_job.proofs.Serving.{found_on}
 use Rattle.mpw_job.proofs.find.add_rule.Goals as goal

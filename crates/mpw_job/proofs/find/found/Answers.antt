@@ -3,9 +3,10 @@ use Rattle.std.specs.Prelude.{All}
 use Rattle.mpw_geom.specs.Plane.{IsOrdered}
 use Rattle.mpw_tiles.specs.declared.listing.Rectangle.{Rectangle}
 use Rattle.mpw_markers.specs.declared.marker.Key.{Key}
-use Rattle.mpw_job.specs.Internal.Found.{key_box, MeetsSome, AreMarkersOfKeys}
+use Rattle.mpw_jobs.specs.Internal.Keys.{key_box}
+use Rattle.mpw_job.specs.Internal.Found.{MeetsSome, AreMarkersOfKeys}
 use Rattle.mpw_job.proofs.Adding.{boxes_ordered, answers_from}
-use Rattle.mpw_job.proofs.Edges.{keys_meet}
+use Rattle.mpw_job.proofs.RunsMeet.{keys_meet}
 use Rattle.mpw_job.proofs.find.found.Goals as goal
 
 pub markers_of-requires-clause-ordered : goal.markers_of-requires-clause-ordered

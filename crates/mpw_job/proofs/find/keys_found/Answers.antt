@@ -2,7 +2,7 @@ use Rattle.std.proofs.Common.{◌≡◌, List, length, refl, sym, ap, ◌∙◌,
 use Rattle.std.specs.Prelude.{slice_get}
 use Rattle.std.proofs.lemmas.Option.{slice_get_read}
 use Rattle.mpw_deck.specs.declared.rule.Rule.{Rule}
-use Rattle.mpw_job.specs.Answers.{listed_on}
+use Rattle.mpw_jobs.specs.Answers.{listed_on}
 use Rattle.mpw_job.proofs.ByLayer.{same_on}
 use Rattle.mpw_job.proofs.Adding.{no_keys, keys_more, all_keys}
 use Rattle.mpw_job.proofs.find.keys_found.Goals as goal

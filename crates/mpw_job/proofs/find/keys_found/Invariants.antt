@@ -1,5 +1,5 @@
 use Rattle.std.specs.Prelude.{IfSome}
-use Rattle.mpw_job.specs.Answers.{listed_on}
+use Rattle.mpw_jobs.specs.Answers.{listed_on}
 use Rattle.mpw_job.specs.Internal.Found.{AreFirstKeys}
 use Rattle.mpw_job.specs.Internal.Shared.{IsSharedOf}
 use Rattle.mpw_job.proofs.find.keys_found.Given as goal

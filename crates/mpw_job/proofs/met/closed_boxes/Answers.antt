@@ -1,6 +1,6 @@
 use Rattle.std.proofs.Common.{◌∙◌, ◌++◌, [], ◌∷◌, map, ap, sym}
 use Rattle.std.proofs.lemmas.List.{take_all, map_more}
-use Rattle.mpw_job.specs.Internal.Found.{key_box}
+use Rattle.mpw_jobs.specs.Internal.Keys.{key_box}
 use Rattle.mpw_job.proofs.met.closed_boxes.Goals as goal
 
 pub loop-key-preserved : goal.loop-key-preserved

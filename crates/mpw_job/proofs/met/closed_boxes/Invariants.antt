@@ -1,5 +1,5 @@
 use Rattle.std.proofs.Common.{◌≡◌, map, take}
-use Rattle.mpw_job.specs.Internal.Found.{key_box}
+use Rattle.mpw_jobs.specs.Internal.Keys.{key_box}
 use Rattle.mpw_job.proofs.met.closed_boxes.Given as goal
 
 abbrev pub invariant-loop-key : goal.invariant-loop-key

@@ -1,5 +1,5 @@
 use Rattle.std.proofs.Common.{◌≡◌, length, map, take}
-use Rattle.mpw_job.specs.Carried.{job_of}
+use Rattle.mpw_jobs.specs.Carried.{job_of}
 use Rattle.mpw_job.specs.Internal.Worked.{AreInPlace}
 use Rattle.mpw_job.proofs.work.in_order.Given as goal
 

@@ -1,5 +1,5 @@
 use Rattle.std.proofs.Common.{◌≡◌, List, length, All}
-use Rattle.mpw_job.specs.declared.job.Job.{Job}
+use Rattle.mpw_jobs.specs.declared.job.Job.{Job}
 use Rattle.mpw_job.specs.Internal.Worked.{IsDone, AreInPlace}
 use Rattle.mpw_job.proofs.work.put_list.Given as goal
 

@@ -3,7 +3,7 @@ use mathlib.Core.Path.{fun_ext}
 use Rattle.mpw_region.specs.Squares.{covers}
 use Rattle.mpw_edges.specs.Edges.{Squares}
 use Rattle.mpw_checks.specs.Strips.{AreStrips}
-use Rattle.mpw_job.specs.Answers.{listed_on}
+use Rattle.mpw_jobs.specs.Answers.{listed_on}
 use Rattle.mpw_job.specs.Internal.Shared.{squares_on}
 use Rattle.mpw_job.proofs.shared.Shared.of.Goals as goal
 

@@ -1,5 +1,0 @@
-use Rattle.mpw_job.proofs.Unique.{one_list}
-use Rattle.mpw_job.proofs.laws.layout_determines_markers.Goals as goal
-
-pub returns : goal.returns
-returns c = one_list

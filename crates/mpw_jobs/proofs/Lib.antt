@@ -1,0 +1,7 @@
+pub mod Tests
+pub mod Shapes
+pub mod Cores
+pub mod Made
+pub mod Edges
+pub mod Unique
+pub mod Filled
