@@ -4,7 +4,7 @@
 ghost use Rattle.std.specs.Prelude.{◌≡◌, ◌<◌, ◌++◌, slice_get, length, map, IfOk, IfErr, OnOk, Some};
 ghost use Rattle.std.specs.List.{flat_map};
 ghost use Rattle.mpw_library.specs.Grammar.{library_of};
-ghost use Rattle.mpw_library.specs.Library.{IsLibrary};
+ghost use Rattle.mpw_layout.specs.Library.{IsLibrary};
 ghost use Rattle.mpw_hier.specs.Outline.{IsOutline};
 ghost use Rattle.mpw_hier.specs.Shelf.{bound_to};
 ghost use Rattle.mpw_hier.specs.declared.submission.Submission.{Submission as SubmissionTold};
@@ -23,7 +23,8 @@ use mpw_hier::{
     Bindings, HierFault, Outline, Shelf, Submission, reaching_is_decided,
     shelves_have_their_numbers,
 };
-use mpw_library::{Library, LibraryText};
+use mpw_layout::Library;
+use mpw_library::LibraryText;
 use mpw_rbac::{Access, Object, Operation, Policy};
 use mpw_replies::{Code, Denial, Ending, Fault, Line, Lines, enter};
 use std::alloc::{AllocError, Global};
