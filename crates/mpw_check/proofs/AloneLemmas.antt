@@ -7,7 +7,7 @@ use Rattle.mpw_hier.specs.declared.submission.Submission.{Submission}
 use Rattle.mpw_hier.specs.Limits.{IsRefused}
 use Rattle.mpw_hier.specs.Outside.{AreExternals}
 use Rattle.mpw_hier.specs.Shelf.{bound_to, present}
-use Rattle.mpw_library.specs.declared.structures.Structure.{Structure}
+use Rattle.mpw_structures.specs.declared.structures.Structure.{Structure}
 use Rattle.mpw_check.specs.Drawn.{offered, IsOfTop}
 use Rattle.mpw_check.specs.Internal.Drawn.{told}
 

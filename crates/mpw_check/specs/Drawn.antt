@@ -7,9 +7,9 @@ use Rattle.mpw_hier.specs.declared.submission.Submission.{Submission}
 use Rattle.mpw_hier.specs.Limits.{numbered, KeepsLimits, IsRefused}
 use Rattle.mpw_hier.specs.Outside.{AreExternals}
 use Rattle.mpw_hier.specs.Structures.{IsCyclic}
-use Rattle.mpw_library.specs.declared.structures.Structure.{Structure}
+use Rattle.mpw_structures.specs.declared.structures.Structure.{Structure}
 use Rattle.mpw_library.specs.Grammar.{library_of}
-use Rattle.mpw_library.specs.Places.{place_of}
+use Rattle.mpw_structures.specs.Places.{place_of}
 use Rattle.mpw_tiles.specs.Snapshots.{Snapshot}
 use Rattle.mpw_walk.specs.Roots.{root_at_origin}
 use Rattle.mpw_check.specs.declared.fault.CheckFault.{CheckFault}

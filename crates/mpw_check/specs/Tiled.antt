@@ -3,7 +3,7 @@ use Rattle.std.specs.Prelude.{◌≡◌, ℕ, List, None}
 use Rattle.mpw_hier.specs.Values.{flat}
 use Rattle.mpw_jobs.specs.Layout.{AreFlatMarkers, AreLayoutMarkers}
 use Rattle.mpw_deck.specs.Decks.{Deck}
-use Rattle.mpw_library.specs.declared.structures.Structure.{Structure}
+use Rattle.mpw_structures.specs.declared.structures.Structure.{Structure}
 use Rattle.mpw_markers.specs.declared.marker.Marker.{Marker}
 use Rattle.mpw_tiles.specs.Snapshots.{Snapshot, plan_for, shown_extent}
 use Rattle.mpw_check.specs.Drawn.{IsDrawn, drawn_shelf}

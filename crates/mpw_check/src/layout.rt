@@ -2,7 +2,7 @@
 
 ghost use Rattle.std.specs.Prelude.{◌≡◌, ◌∷◌, [], IfOk, IfErr};
 ghost use Rattle.mpw_hier.specs.Outline.{IsOutline};
-ghost use Rattle.mpw_library.specs.Library.{IsLibrary};
+ghost use Rattle.mpw_structures.specs.Library.{IsLibrary};
 ghost use Rattle.mpw_tiles.specs.Snapshots.{AreRoots};
 ghost use Rattle.mpw_walk.specs.Roots.{root_at_origin};
 ghost use Rattle.mpw_check.specs.Drawn.{offered, drawn_shelf, IsDrawn, IsDrawnFrom, IsOfTop, IsOfText};
@@ -13,7 +13,8 @@ use mpw_deck::Deck;
 use mpw_elements::ReadError;
 use mpw_geom::{Name, Orient, Placing, Point};
 use mpw_hier::{Bindings, HierFault, Outline, Shelf, Submission, shelves_have_their_numbers};
-use mpw_library::{Library, read_library};
+use mpw_structures::Library;
+use mpw_library::read_library;
 use mpw_tiles::Snapshot;
 use mpw_walk::{Root, roots_at_origin_show_their_submission};
 use std::alloc::{AllocError, Global};

@@ -1,11 +1,11 @@
 -- A reference is read exactly where the records derive it.
 use Rattle.std.proofs.Common.{◌≡◌, ℕ, false, eqb, List, [], ◌∷◌, ◌++◌, Ok, refl, ap, subst, ◌∙◌, inl, inr}
 use Rattle.std.proofs.lemmas.Bool.{eqb-true}
+use Rattle.mpw_structures.specs.declared.element.Reference.{Reference}
 use Rattle.mpw_records.specs.declared.kind.TheConstants.{XY, ENDEL, SNAME, COLROW, STRANS, MAG, ANGLE}
 use Rattle.mpw_records.specs.Records.{RawRecord, RecordOutcome}
 use Rattle.mpw_geom.specs.declared.plane.Orient.{Orient}
 use Rattle.mpw_geom.specs.declared.plane.Orient.TheVariants.{R0}
-use Rattle.mpw_elements.specs.declared.element.Reference.{Reference}
 use Rattle.mpw_elements.specs.Reading.{Reading, ◌>>=◌, field, demanded, expected, optional}
 use Rattle.mpw_elements.specs.Values.{origin_of, name_of, mirrored_of, magnification_of, turns_of, orient_of, counts_of, grid_of, no_point}
 use Rattle.mpw_elements.specs.Grammar.{orientation, single, array}

@@ -1,11 +1,11 @@
 -- A boundary and a path are read exactly where the records derive them.
 use Rattle.std.proofs.Common.{◌≡◌, ℕ, pos, false, List, [], ◌∷◌, ◌++◌, Ok, refl, ap, subst, ◌∙◌}
+use Rattle.mpw_structures.specs.declared.element.Boundary.{Boundary}
+use Rattle.mpw_structures.specs.declared.element.Path.{Path}
 use Rattle.mpw_records.specs.declared.kind.TheConstants.{LAYER, DATATYPE, WIDTH, XY, ENDEL, PATHTYPE, BGNEXTN, ENDEXTN}
 use Rattle.mpw_records.specs.Records.{RawRecord, RecordOutcome}
 use Rattle.std.specs.Prelude.{ℤ}
 use Rattle.mpw_geom.specs.declared.plane.Point.{Point}
-use Rattle.mpw_elements.specs.declared.element.Boundary.{Boundary}
-use Rattle.mpw_elements.specs.declared.element.Path.{Path}
 use Rattle.mpw_elements.specs.Reading.{Reading, ◌>>=◌, is_skipped, field, demanded, expected, optional}
 use Rattle.mpw_elements.specs.Values.{short_of, corners_of, centre_of, path_type_of, width_of, extension_of, lengthening}
 use Rattle.mpw_elements.specs.Grammar.{boundary, path}

@@ -1,9 +1,9 @@
 -- An element read by its parts is the element read record by record.
 use Rattle.std.proofs.Common.{◌≡◌, ℕ, pos, true, false, List, Result, Ok, Err, refl, sym}
+use Rattle.mpw_structures.specs.declared.element.Element.TheVariants as elements
 use Rattle.mpw_records.specs.declared.fault.ReadFault.{ReadFault}
 use Rattle.mpw_records.specs.declared.kind.TheConstants.{LAYER, DATATYPE, WIDTH, XY, ENDEL, SNAME, COLROW, PATHTYPE, BOXTYPE, BGNEXTN, ENDEXTN}
 use Rattle.mpw_records.specs.Records.{RawRecord, RecordOutcome}
-use Rattle.mpw_elements.specs.declared.element.Element.TheVariants as elements
 use Rattle.mpw_elements.specs.Reading.{◌>>=◌, field, demanded, expected, optional}
 use Rattle.mpw_elements.specs.Values.{corners_of, centre_of, origin_of, path_type_of, width_of, extension_of, name_of, counts_of, grid_of}
 use Rattle.mpw_elements.specs.Grammar.{boundary, path, orientation, single, array, element}

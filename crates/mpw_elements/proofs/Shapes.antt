@@ -13,10 +13,10 @@ use Rattle.std.proofs.lemmas.Int.{ints, to_z-of_z, fits_signed_from_abs}
 use Rattle.std.proofs.lemmas.List.Elements.{All-from_recursion}
 use Rattle.std.proofs.lemmas.List.FromFn.{length-map-range_with_len}
 use Rattle.mpw_geom.specs.declared.plane.Point.{Point}
+use Rattle.mpw_structures.specs.Element.{IsWithinReach, IsPointWithinReach, same_point, is_manhattan_step, is_segment, each_step, closed, IsCount}
 use Rattle.mpw_records.specs.declared.fault.Code.TheVariants.{NotManhattan, PointPath, OddWidth}
 use Rattle.mpw_records.specs.declared.fault.ReadFault.{ReadFault}
 use Rattle.mpw_records.specs.Records.{RawRecord}
-use Rattle.mpw_elements.specs.Element.{IsWithinReach, IsPointWithinReach, same_point, is_manhattan_step, is_segment, each_step, closed, IsCount}
 use Rattle.mpw_elements.specs.Internal.Element.{IsRing, IsLine, IsWidth}
 use Rattle.mpw_elements.specs.Reading.{fault_at}
 use Rattle.mpw_elements.specs.Values.{scaled, point_at, points_of, is_closing, without_closing, corners_of, centre_of, width_of, no_point, is_count}

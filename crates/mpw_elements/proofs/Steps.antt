@@ -3,7 +3,7 @@ use Rattle.std.proofs.Common.{◌≡◌, ℕ, zero, suc, ◌+◌, ◌-◌, ◌<�
 use Rattle.std.proofs.Common.{eqb, inl, inr}
 use Rattle.std.proofs.lemmas.Bool.Decides.{eqb_tells}
 use Rattle.mpw_geom.specs.declared.plane.Point.{Point}
-use Rattle.mpw_elements.specs.Element.{each_step, closed}
+use Rattle.mpw_structures.specs.Element.{each_step, closed}
 
 module _ (f : Point → Point → Bool) (d : Point) where
   pub step_at : (ps : List Point) (i : ℕ) → i + 1 < length ps

@@ -2,14 +2,14 @@
 use Rattle.std.specs.Prelude.{ℕ, ◌||◌, ◌==◌, pos, List, [], ◌∷◌, Option, Some, None, Ok, Err, if◌then◌else◌}
 use Rattle.mpw_geom.specs.declared.plane.Orient.{Orient}
 use Rattle.mpw_geom.specs.declared.plane.Orient.TheVariants.{R0}
+use Rattle.mpw_structures.specs.declared.element.Boundary.{Boundary}
+use Rattle.mpw_structures.specs.declared.element.Path.{Path}
+use Rattle.mpw_structures.specs.declared.element.Reference.{Reference}
+use Rattle.mpw_structures.specs.declared.element.Element.{Element}
+use Rattle.mpw_structures.specs.declared.element.Element.TheVariants as elements
 use Rattle.mpw_records.specs.declared.fault.Code.TheVariants.{Unexpected}
 use Rattle.mpw_records.specs.declared.kind.TheConstants.{ENDLIB, BOUNDARY, PATH, SREF, AREF, TEXT, LAYER, DATATYPE, WIDTH, XY, ENDEL, SNAME, COLROW, NODE, STRANS, MAG, ANGLE, PATHTYPE, BOX, BOXTYPE, BGNEXTN, ENDEXTN}
 use Rattle.mpw_records.specs.Records.{RawRecord, RecordOutcome}
-use Rattle.mpw_elements.specs.declared.element.Boundary.{Boundary}
-use Rattle.mpw_elements.specs.declared.element.Path.{Path}
-use Rattle.mpw_elements.specs.declared.element.Reference.{Reference}
-use Rattle.mpw_elements.specs.declared.element.Element.{Element}
-use Rattle.mpw_elements.specs.declared.element.Element.TheVariants as elements
 use Rattle.mpw_elements.specs.Reading.{Reading, ◌>>=◌, fault_at, field, demanded, expected, optional}
 use Rattle.mpw_elements.specs.Values.{short_of, corners_of, centre_of, origin_of, path_type_of, width_of, extension_of, lengthening, name_of, mirrored_of, magnification_of, turns_of, orient_of, counts_of, grid_of, no_point}
 

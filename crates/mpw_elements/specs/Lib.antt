@@ -1,4 +1,3 @@
-pub mod Element
 pub mod Reading
 pub mod Values
 pub mod Grammar

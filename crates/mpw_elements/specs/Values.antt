@@ -9,12 +9,12 @@ use Rattle.byteorder.specs.Endian.{big_number}
 use Rattle.mpw_geom.specs.declared.plane.Point.{Point}
 use Rattle.mpw_geom.specs.declared.plane.Orient.{Orient}
 use Rattle.mpw_geom.specs.declared.plane.Orient.TheVariants.{R0, R90, R180, R270, M0, M90, M180, M270}
+use Rattle.mpw_structures.specs.Element.{same_point, is_manhattan_step, each_step, closed}
 use Rattle.mpw_records.specs.declared.fault.Code.TheVariants.{BadName, BadSize, Magnification, Angle, NotManhattan, RoundPath, OddWidth, PointPath, Columns, Pitch, Absolute}
 use Rattle.mpw_records.specs.declared.fault.ReadFault.{ReadFault}
 use Rattle.mpw_records.specs.Records.{RawRecord}
 use Rattle.mpw_real8.specs.Real.{real_value, is_whole}
 use Rattle.mpw_elements.specs.declared.values.Grid.{Grid}
-use Rattle.mpw_elements.specs.Element.{same_point, is_manhattan_step, each_step, closed}
 use Rattle.mpw_elements.specs.Reading.{fault_at}
 
 -- ---- numbers

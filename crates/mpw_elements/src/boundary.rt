@@ -1,16 +1,16 @@
 //! BOUNDARY and BOX.
 
 ghost use Rattle.std.specs.Prelude.{◌≤◌, length, IfOk, IfSome};
+ghost use Rattle.mpw_structures.specs.Element.{IsElement};
 ghost use Rattle.mpw_records.specs.Format.{least_size};
-ghost use Rattle.mpw_elements.specs.Element.{IsElement};
 ghost use Rattle.mpw_elements.specs.Reading.{GivesReading};
 ghost use Rattle.mpw_elements.specs.Internal.Grammar.{boundary_by_layer};
 
-use crate::element::{Boundary, Element};
 use crate::fault::ReadError;
 use crate::layer::read_layer;
 use crate::reading::{end_element, expect};
 use crate::shape::corners;
+use mpw_structures::{Boundary, Element};
 use mpw_records::{Records, kind};
 use std::alloc::Global;
 

@@ -1,21 +1,21 @@
 //! PATH.
 
 ghost use Rattle.std.specs.Prelude.{◌≤◌, length, IfOk, IfSome, pos};
+ghost use Rattle.mpw_structures.specs.Element.{IsWithinReach, IsElement};
 ghost use Rattle.mpw_records.specs.declared.kind.TheConstants.{PATHTYPE, WIDTH};
 ghost use Rattle.mpw_records.specs.Format.{least_size};
 ghost use Rattle.mpw_records.specs.Records.{raw, IsSized};
-ghost use Rattle.mpw_elements.specs.Element.{IsWithinReach, IsElement};
 ghost use Rattle.mpw_elements.specs.Internal.Element.{IsWidth, IsBreadth};
 ghost use Rattle.mpw_elements.specs.Internal.Grammar.{breadth, path_by_breadth};
 ghost use Rattle.mpw_elements.specs.Reading.{GivesReading, optional};
 ghost use Rattle.mpw_elements.specs.Values.{path_type_of, width_of, extension_of};
 
-use crate::element::{Element, Path};
 use crate::fault::ReadError;
 use crate::layer::read_layer;
 use crate::reading::{demand, end_element, is_kind, next_field, value_and_next};
 use crate::shape::{centre, scale};
 use crate::values::{lengthening, path_type, width};
+use mpw_structures::{Element, Path};
 use mpw_records::{Record, Records, kind};
 use std::alloc::Global;
 

@@ -1,19 +1,19 @@
 //! Elements by their records.
 
 ghost use Rattle.std.specs.Prelude.{◌≡◌, ◌≤◌, [], length, IfOk, IfSome, OnErr};
+ghost use Rattle.mpw_structures.specs.Element.{IsElement};
 ghost use Rattle.mpw_records.specs.Format.{least_size};
 ghost use Rattle.mpw_records.specs.Records.{raw};
-ghost use Rattle.mpw_elements.specs.Element.{IsElement};
 ghost use Rattle.mpw_elements.specs.Reading.{GivesReading};
 ghost use Rattle.mpw_elements.specs.Grammar.{ignored, element};
 ghost use Rattle.mpw_elements.specs.Internal.Grammar.{element_by_parts};
 
 use crate::boundary::read_boundary;
-use crate::element::Element;
 use crate::fault::ReadError;
 use crate::path::read_path;
 use crate::reading::fault_of;
 use crate::reference::read_reference;
+use mpw_structures::Element;
 use mpw_records::{Code, ReadFault, Record, Records, kind};
 use std::alloc::Global;
 

@@ -1,14 +1,14 @@
 //! Reading on in the records of an element.
 
 ghost use Rattle.std.specs.Prelude.{◌≡◌, ◌≤◌, ◌==◌, length, IsTrue, IfOk, IfSome};
+ghost use Rattle.mpw_structures.specs.Element.{IsElement};
 ghost use Rattle.mpw_records.specs.Format.{least_size};
 ghost use Rattle.mpw_records.specs.Records.{raw, seen as raw_result, IsSized};
 ghost use Rattle.mpw_elements.specs.Reading.{GivesReading, is_skipped, field, demanded, expected, fault_at};
-ghost use Rattle.mpw_elements.specs.Element.{IsElement};
 ghost use Rattle.mpw_elements.specs.Internal.Grammar.{and_field, end_element};
 
-use crate::element::Element;
 use crate::fault::ReadError;
+use mpw_structures::Element;
 use mpw_records::{Code, ReadFault, Record, Records, kind};
 
 /// A fault of a record.

@@ -1,22 +1,22 @@
 //! SREF and AREF.
 
 ghost use Rattle.std.specs.Prelude.{◌≡◌, ◌≤◌, length, IfOk, IfSome};
+ghost use Rattle.mpw_structures.specs.Element.{IsElement};
 ghost use Rattle.mpw_records.specs.declared.kind.TheConstants.{MAG, ANGLE};
 ghost use Rattle.mpw_records.specs.Records.{raw, IsSized};
-ghost use Rattle.mpw_elements.specs.Element.{IsElement};
 ghost use Rattle.mpw_elements.specs.Reading.{GivesReading, optional};
 ghost use Rattle.mpw_elements.specs.Values.{magnification_of, turns_of};
 ghost use Rattle.mpw_geom.specs.Name.{IsName};
 ghost use Rattle.mpw_elements.specs.Grammar.{orientation};
 ghost use Rattle.mpw_elements.specs.Internal.Grammar.{single_behind, array_behind, reference};
 
-use crate::element::{Element, Reference};
 use crate::fault::ReadError;
 use crate::reading::{demand, end_element, expect, is_kind, next_field, value_and_next};
 use crate::values::{
     counts, is_mirrored, magnification, orient, place, read_grid, read_name, turns,
 };
 use mpw_geom::{Name, Orient, Point};
+use mpw_structures::{Element, Reference};
 use mpw_records::{Record, Records, kind};
 use std::alloc::Global;
 

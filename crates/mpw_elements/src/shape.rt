@@ -2,17 +2,17 @@
 
 ghost use Rattle.std.specs.Prelude.{◌≡◌, ◌+◌, ◌*◌, ◌<◌, ◌≤◌, ◌^◌, unsigned_abs, length, IfOk, IsTrue};
 ghost use Rattle.std.specs.List.{dedup};
+ghost use Rattle.mpw_structures.specs.Element.{same_point, is_manhattan_step, each_step, closed};
 ghost use Rattle.mpw_records.specs.Records.{raw};
-ghost use Rattle.mpw_elements.specs.Element.{same_point, is_manhattan_step, each_step, closed};
 ghost use Rattle.mpw_elements.specs.Reading.{GivesValue};
 ghost use Rattle.mpw_elements.specs.Values.{scaled, point_at, points_of, is_closing, without_closing, corners_of, centre_of};
 ghost use Rattle.mpw_elements.specs.Internal.Values.{IsNear};
 
 use crate::fault::ReadError;
-use crate::points::Points;
 use crate::reading::fault_of;
 use byteorder::{BigEndian, ByteOrder};
 use mpw_geom::Point;
+use mpw_structures::Points;
 use mpw_records::{Code, Record};
 use std::alloc::{AllocError, Global};
 

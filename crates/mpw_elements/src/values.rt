@@ -1,9 +1,9 @@
 //! What a record of an element tells, and the faults of its value.
 
 ghost use Rattle.std.specs.Prelude.{◌≡◌, ◌<◌, ◌≤◌, ◌^◌, ◌-ℤ◌, unsigned_abs, ℕ, pos, length, IfOk, IfSome};
+ghost use Rattle.mpw_structures.specs.Element.{IsWithinReach, IsPointWithinReach, IsCount};
 ghost use Rattle.mpw_records.specs.Records.{raw, IsSized};
 ghost use Rattle.mpw_geom.specs.Name.{IsName};
-ghost use Rattle.mpw_elements.specs.Element.{IsWithinReach, IsPointWithinReach, IsCount};
 ghost use Rattle.mpw_elements.specs.Internal.Element.{IsWidth};
 ghost use Rattle.mpw_elements.specs.Reading.{GivesValue};
 ghost use Rattle.mpw_elements.specs.Values.{short_of, origin_of, path_type_of, width_of, lengthening, without_nuls, name_of, mirrored_of, magnification_of, turns, turns_of, orient_of, counts_of, part_of, both, step_of, grid_of};

@@ -10,7 +10,7 @@ use Rattle.mpw_geom.specs.declared.plane.Box2.{Box2}
 use Rattle.mpw_geom.specs.declared.plane.Point.{Point}
 use Rattle.mpw_geom.specs.Plane.{box_between, joined}
 use Rattle.mpw_geom.specs.Placing.{placed_point, oriented_point}
-use Rattle.mpw_elements.specs.declared.element.Reference.{Reference}
+use Rattle.mpw_structures.specs.declared.element.Reference.{Reference}
 use Rattle.mpw_hier.specs.declared.size_array.WideBox.{WideBox}
 use Rattle.mpw_hier.specs.declared.size_array.WidePoint.{WidePoint}
 use Rattle.mpw_hier.specs.Items.{instance, row_of, instances}

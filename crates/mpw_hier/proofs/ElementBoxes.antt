@@ -6,9 +6,9 @@ use Rattle.std.proofs.lemmas.List.Elements.{All-drop}
 use Rattle.std.proofs.lemmas.Bool.Decides.{nat_tests}
 use Rattle.mpw_geom.specs.declared.plane.Box2.{Box2}
 use Rattle.mpw_geom.specs.declared.plane.Point.{Point}
-use Rattle.mpw_elements.specs.declared.element.Path.{Path}
-use Rattle.mpw_elements.specs.declared.element.Element.TheVariants as elements
-use Rattle.mpw_elements.specs.Element.{IsPath, IsWithinReach, IsPointWithinReach}
+use Rattle.mpw_structures.specs.declared.element.Path.{Path}
+use Rattle.mpw_structures.specs.declared.element.Element.TheVariants as elements
+use Rattle.mpw_structures.specs.Element.{IsPath, IsWithinReach, IsPointWithinReach}
 use Rattle.mpw_shapes.specs.declared.path.Wire.{Wire}
 use Rattle.mpw_shapes.specs.Path.{wire_box, wire_boxes}
 use Rattle.mpw_geom.specs.Plane.{box_at}

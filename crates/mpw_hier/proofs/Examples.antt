@@ -2,10 +2,10 @@
 use Rattle.std.proofs.Common.{◌≡◌, pos, negsuc, List, [], ◌∷◌, map, refl}
 use Rattle.mpw_geom.specs.declared.plane.Orient.TheVariants.{R0}
 use Rattle.mpw_geom.specs.declared.plane.Point.{Point}
-use Rattle.mpw_elements.specs.declared.element.Element.{Element}
-use Rattle.mpw_elements.specs.declared.element.Element.TheVariants as elements
-use Rattle.mpw_elements.specs.declared.element.Reference.{Reference}
-use Rattle.mpw_library.specs.declared.structures.Structure.{Structure}
+use Rattle.mpw_structures.specs.declared.element.Element.{Element}
+use Rattle.mpw_structures.specs.declared.element.Element.TheVariants as elements
+use Rattle.mpw_structures.specs.declared.element.Reference.{Reference}
+use Rattle.mpw_structures.specs.declared.structures.Structure.{Structure}
 use Rattle.mpw_hier.specs.Levels.{by_levels}
 use Rattle.mpw_hier.specs.Items.{Item, instances, items_of}
 

@@ -7,9 +7,9 @@ use Rattle.mpw_geom.specs.declared.plane.Box2.{Box2}
 use Rattle.mpw_geom.specs.declared.plane.Point.{Point}
 use Rattle.mpw_geom.specs.declared.placing.Placing.{Placing}
 use Rattle.mpw_geom.specs.Plane.{box_at, IsOrdered, joined}
-use Rattle.mpw_elements.specs.declared.element.Element.{Element}
-use Rattle.mpw_elements.specs.declared.element.Element.TheVariants as elements
-use Rattle.mpw_elements.specs.declared.element.Reference.{Reference}
+use Rattle.mpw_structures.specs.declared.element.Element.{Element}
+use Rattle.mpw_structures.specs.declared.element.Element.TheVariants as elements
+use Rattle.mpw_structures.specs.declared.element.Reference.{Reference}
 use Rattle.mpw_shapes.specs.Path.{wire_boxes}
 use Rattle.mpw_hier.specs.Items.{Item, placed_again, placed_item, placed_items, instances}
 use Rattle.mpw_hier.specs.Boxes.{hull, hull_of, hull_of_points, has_area, element_box, placed_box, item_box, extent_of}

@@ -6,8 +6,8 @@ use Rattle.std.proofs.lemmas.Option.{slice_get_within, slice_get_cases}
 use Rattle.std.proofs.lemmas.List.{length-map}
 use Rattle.std.proofs.lemmas.List.Elements.{Contains-append_right, Contains-append_cases, Contains-get_or}
 use Rattle.mpw_geom.specs.Names.{name_eq, contains_name}
-use Rattle.mpw_library.specs.declared.structures.Structure.{Structure}
-use Rattle.mpw_library.specs.Places.{place_from, place_of}
+use Rattle.mpw_structures.specs.declared.structures.Structure.{Structure}
+use Rattle.mpw_structures.specs.Places.{place_from, place_of}
 use Rattle.mpw_hier.specs.Structures.{referenced_names, refers, IsReachable, itself, chain, IsCyclic}
 use Rattle.mpw_hier.specs.Outside.{places_of, known_before, names_outside, unknown_before, places_from, graph_of}
 use Rattle.mpw_hier.specs.Graph.{targets, Leads, here, on, IsFromBelow}

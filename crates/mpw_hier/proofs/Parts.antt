@@ -8,9 +8,9 @@ use Rattle.std.specs.Ordering.{is_eq}
 use Rattle.std.specs.List.{AllZip}
 use Rattle.std.proofs.lemmas.List.{at_drop_more, take_more}
 use Rattle.mpw_geom.specs.Names.{name_eq, name_cmp, contains_name}
-use Rattle.mpw_elements.specs.declared.element.Element.{Element}
-use Rattle.mpw_elements.specs.declared.element.Element.TheVariants as elements
-use Rattle.mpw_elements.specs.declared.element.Reference.{Reference}
+use Rattle.mpw_structures.specs.declared.element.Element.{Element}
+use Rattle.mpw_structures.specs.declared.element.Element.TheVariants as elements
+use Rattle.mpw_structures.specs.declared.element.Reference.{Reference}
 use Rattle.mpw_hier.specs.declared.bindings.Binding.{Binding}
 use Rattle.mpw_hier.specs.declared.node.Child.{Child}
 use Rattle.mpw_hier.specs.declared.node.Node.{Node}

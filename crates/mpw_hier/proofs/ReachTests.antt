@@ -11,8 +11,8 @@ use Rattle.mpw_geom.specs.Names.{name_eq, contains_name}
 use Rattle.mpw_geom.specs.Links.{linked, is_linked, Leads, same as link_same, chain as link_chain}
 use Rattle.mpw_geom.proofs.Linked.{leads-sound, leads-complete, some_name, any_name}
 use Rattle.mpw_geom.proofs.NamesLemmas.{in_by_name, by_name-same}
-use Rattle.mpw_library.specs.declared.structures.Structure.{Structure}
-use Rattle.mpw_library.specs.Places.{place_from, place_of}
+use Rattle.mpw_structures.specs.declared.structures.Structure.{Structure}
+use Rattle.mpw_structures.specs.Places.{place_from, place_of}
 use Rattle.mpw_hier.specs.declared.submission.Submission.{Submission}
 use Rattle.mpw_hier.specs.Structures.{structure_at, structure_of, referenced_names, target_names, refers, IsReachable, itself, chain, IsCyclic, IsOutside}
 use Rattle.mpw_hier.specs.Outside.{names_outside, AreExternals}

@@ -4,7 +4,7 @@ use Rattle.std.specs.Int.{w128}
 use Rattle.std.specs.Int.RustNames.{unsigned_abs}
 use Rattle.std.proofs.Math.Nat.{mul-le-mul}
 use Rattle.std.proofs.lemmas.Int.{ints, to_z-of_z, unsigned_abs-mul, fits_signed_from_abs}
-use Rattle.mpw_elements.specs.Element.{IsWithinReach}
+use Rattle.mpw_structures.specs.Element.{IsWithinReach}
 use Rattle.mpw_hier.specs.Internal.SizeParts.{IsWide}
 
 abs_reach : (z : ℤ) → IsWithinReach z → unsigned_abs z ≤ 2 ^ 48

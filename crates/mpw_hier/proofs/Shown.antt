@@ -7,8 +7,8 @@ use Rattle.std.proofs.lemmas.List.{take_more, flat_map_more}
 use Rattle.std.proofs.lemmas.List.Folds.{list_any-append}
 use Rattle.std.proofs.lemmas.List.Elements.{Contains-append_right, Contains-append_cases, All-contains}
 use Rattle.mpw_geom.specs.Names.{name_eq, contains_name}
-use Rattle.mpw_library.specs.declared.structures.Structure.{Structure}
-use Rattle.mpw_library.specs.Places.{place_of}
+use Rattle.mpw_structures.specs.declared.structures.Structure.{Structure}
+use Rattle.mpw_structures.specs.Places.{place_of}
 use Rattle.mpw_hier.specs.Structures.{structure_of, referenced_names, target_names, refers, IsReachable, itself, chain, IsOutside}
 use Rattle.mpw_hier.specs.Outside.{names_outside, graph_of}
 use Rattle.mpw_hier.specs.Internal.Outside.{outside_from, outside_from_all}

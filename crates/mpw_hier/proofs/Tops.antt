@@ -4,8 +4,8 @@ use Rattle.std.specs.Prelude.{slice_get}
 use Rattle.std.proofs.lemmas.Option.{slice_get_within, slice_get-get_or, get_or_from_slice_get, slice_get_cases}
 use Rattle.std.proofs.lemmas.List.{get_or-take, get_or_past, length-take}
 use Rattle.mpw_geom.specs.Names.{contains_name}
-use Rattle.mpw_library.specs.declared.structures.Structure.{Structure}
-use Rattle.mpw_library.specs.Places.{place_of}
+use Rattle.mpw_structures.specs.declared.structures.Structure.{Structure}
+use Rattle.mpw_structures.specs.Places.{place_of}
 use Rattle.mpw_hier.specs.declared.node.Node.{Node}
 use Rattle.mpw_hier.specs.declared.node.Target.{Target}
 use Rattle.mpw_hier.specs.declared.node.Target.TheVariants as targets

@@ -5,8 +5,8 @@ use Rattle.mpw_geom.specs.declared.plane.Point.{Point}
 use Rattle.mpw_geom.specs.declared.placing.Placing.{Placing}
 use Rattle.mpw_geom.specs.Plane.{box_at, box_between, joined}
 use Rattle.mpw_geom.specs.Placing.{placed_point}
-use Rattle.mpw_elements.specs.declared.element.Element.{Element}
-use Rattle.mpw_elements.specs.declared.element.Element.TheVariants as elements
+use Rattle.mpw_structures.specs.declared.element.Element.{Element}
+use Rattle.mpw_structures.specs.declared.element.Element.TheVariants as elements
 use Rattle.mpw_shapes.specs.Path.{wire_boxes}
 use Rattle.mpw_hier.specs.Items.{Item}
 

@@ -1,6 +1,6 @@
 -- What a structure shows, from what its targets show.
 use Rattle.std.specs.Prelude.{ℕ, zero, suc, List, length, Option, Some, None}
-use Rattle.mpw_library.specs.declared.structures.Structure.{Structure}
+use Rattle.mpw_structures.specs.declared.structures.Structure.{Structure}
 use Rattle.mpw_hier.specs.Structures.{structure_of}
 
 -- What a structure shows, or what a name outside the library does.

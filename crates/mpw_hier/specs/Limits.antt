@@ -3,8 +3,8 @@ use Rattle.std.specs.Prelude.{◌≡◌, ℕ, ◌+◌, ◌^◌, ◌&&◌, ◌||�
 use Rattle.std.specs.Set.{distinct_count}
 use Rattle.mpw_geom.specs.Names.{name_eq}
 use Rattle.mpw_geom.specs.declared.plane.Box2.{Box2}
-use Rattle.mpw_library.specs.Library.{IsLibrary}
-use Rattle.mpw_library.specs.Places.{place_of}
+use Rattle.mpw_structures.specs.Library.{IsLibrary}
+use Rattle.mpw_structures.specs.Places.{place_of}
 use Rattle.mpw_hier.specs.declared.fault.HierFault.{HierFault}
 use Rattle.mpw_hier.specs.declared.fault.HierFault.TheVariants as faults
 use Rattle.mpw_hier.specs.declared.submission.Submission.{Submission}

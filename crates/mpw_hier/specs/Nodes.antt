@@ -1,12 +1,12 @@
 -- The hierarchy of a submission as nodes: the structures that its top reaches, each behind those that it places.
 use Rattle.std.specs.Prelude.{◌≡◌, ℕ, ◌+◌, ◌-◌, ◌<◌, ◌≤◌, ◌^◌, true, List, [], ◌∷◌, length, take, slice_get, Some, None, if◌then◌else◌}
 use Rattle.mpw_geom.specs.Names.{contains_name}
-use Rattle.mpw_elements.specs.declared.element.Element.{Element}
-use Rattle.mpw_elements.specs.declared.element.Element.TheVariants as elements
-use Rattle.mpw_elements.specs.declared.element.Reference.{Reference}
-use Rattle.mpw_library.specs.declared.structures.Structure.{Structure}
-use Rattle.mpw_library.specs.Library.{IsLibrary}
-use Rattle.mpw_library.specs.Places.{place_of}
+use Rattle.mpw_structures.specs.declared.element.Element.{Element}
+use Rattle.mpw_structures.specs.declared.element.Element.TheVariants as elements
+use Rattle.mpw_structures.specs.declared.element.Reference.{Reference}
+use Rattle.mpw_structures.specs.declared.structures.Structure.{Structure}
+use Rattle.mpw_structures.specs.Library.{IsLibrary}
+use Rattle.mpw_structures.specs.Places.{place_of}
 use Rattle.mpw_hier.specs.declared.node.Node.{Node}
 use Rattle.mpw_hier.specs.declared.node.Child.{Child}
 use Rattle.mpw_hier.specs.declared.node.Target.{Target}

@@ -1,7 +1,7 @@
 -- What of a library depends on the library and its top alone.
 use Rattle.std.specs.Prelude.{◌≡◌, ℕ, List, Some}
-use Rattle.mpw_library.specs.declared.structures.Structure.{Structure}
-use Rattle.mpw_library.specs.Places.{place_of}
+use Rattle.mpw_structures.specs.declared.structures.Structure.{Structure}
+use Rattle.mpw_structures.specs.Places.{place_of}
 use Rattle.mpw_hier.specs.declared.outline.Outline.{Outline}
 use Rattle.mpw_hier.specs.Outside.{graph_of, AreExternals}
 use Rattle.mpw_hier.specs.Graph.{IsFromBelow}

@@ -1,8 +1,8 @@
 -- What references name in a library, and what they name outside it.
 use Rattle.std.specs.Prelude.{◌≡◌, ℕ, List, [], ◌∷◌, map, Option, Some, None, true, ◌↔◌}
 use Rattle.mpw_geom.specs.Names.{by_name, contains_name}
-use Rattle.mpw_library.specs.declared.structures.Structure.{Structure}
-use Rattle.mpw_library.specs.Places.{place_of}
+use Rattle.mpw_structures.specs.declared.structures.Structure.{Structure}
+use Rattle.mpw_structures.specs.Places.{place_of}
 use Rattle.mpw_hier.specs.declared.fault.HierFault.{HierFault}
 use Rattle.mpw_hier.specs.declared.fault.HierFault.TheVariants as faults
 use Rattle.mpw_hier.specs.Structures.{referenced_names, IsCyclic, IsOutside}

@@ -4,8 +4,8 @@ use Rattle.std.specs.List.{list_any, flat_map}
 use Rattle.mpw_geom.specs.Names.{contains_name, by_name}
 use Rattle.mpw_geom.specs.Links.{Links, linked, leads}
 use Rattle.mpw_geom.specs.declared.plane.Box2.{Box2}
-use Rattle.mpw_library.specs.declared.structures.Structure.{Structure}
-use Rattle.mpw_library.specs.Places.{place_of}
+use Rattle.mpw_structures.specs.declared.structures.Structure.{Structure}
+use Rattle.mpw_structures.specs.Places.{place_of}
 use Rattle.mpw_hier.specs.declared.submission.Submission.{Submission}
 use Rattle.mpw_hier.specs.Structures.{referenced_names, IsCyclic, IsOutside}
 use Rattle.mpw_hier.specs.Outside.{names_outside, AreExternals}

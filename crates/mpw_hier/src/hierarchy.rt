@@ -4,8 +4,8 @@
 //! own shapes and of the sizes that stand there already.
 
 ghost use Rattle.std.specs.Prelude.{◌≡◌, ◌<◌, [], length, slice_set, IfOk, IfErr, OnOk, Err, Some};
-ghost use Rattle.mpw_library.specs.Library.{IsLibrary};
-ghost use Rattle.mpw_library.specs.Places.{place_of};
+ghost use Rattle.mpw_structures.specs.Library.{IsLibrary};
+ghost use Rattle.mpw_structures.specs.Places.{place_of};
 ghost use Rattle.mpw_hier.specs.Outline.{IsOutline};
 ghost use Rattle.mpw_hier.specs.Outside.{graph_of};
 ghost use Rattle.mpw_hier.specs.Graph.{IsFromBelow};
@@ -22,8 +22,8 @@ use crate::outline::Outline;
 use crate::size::{Size, size_of};
 use crate::submission::Submission;
 use crate::table::Table;
-use mpw_elements::Element;
 use mpw_geom::Name;
+use mpw_structures::Element;
 use std::alloc::{AllocError, Global};
 use std::collections::BTreeMap;
 

@@ -2,8 +2,8 @@
 
 ghost use Rattle.mpw_hier.specs.Reach.{CyclesAreFound, NamesOutsideAreFound, ExternalsAreOne, FarExtentsAreFound};
 ghost use Rattle.std.specs.Prelude.{◌≡◌, ℕ, List, length};
-ghost use Rattle.mpw_elements.specs.declared.element.Reference.{Reference};
-ghost use Rattle.mpw_library.specs.declared.structures.Structure.{Structure};
+ghost use Rattle.mpw_structures.specs.declared.element.Reference.{Reference};
+ghost use Rattle.mpw_structures.specs.declared.structures.Structure.{Structure};
 ghost use Rattle.mpw_hier.specs.declared.submission.Submission.{Submission};
 ghost use Rattle.mpw_hier.specs.Values.{flats};
 ghost use Rattle.mpw_hier.specs.Named.{OwnNamesAreShown, OuterNamesAreShown, LastNodesAreTops, OwnNamesAreListed, OuterNamesAreListed, TopsAreListed};

@@ -1,7 +1,7 @@
 //! A library as its top shows it: what depends on the library and the top alone, found once.
 
 ghost use Rattle.std.specs.Prelude.{◌≡◌, ◌↔◌, None, Err, IfOk, IfErr};
-ghost use Rattle.mpw_library.specs.Places.{place_of};
+ghost use Rattle.mpw_structures.specs.Places.{place_of};
 ghost use Rattle.mpw_hier.specs.Outside.{IsOfExternals};
 ghost use Rattle.mpw_hier.specs.Outline.{IsOutline};
 
@@ -9,7 +9,7 @@ use crate::fault::HierFault;
 use crate::order::order_from_below;
 use crate::outside::{graph_of, outside_from};
 use mpw_geom::{Name, Names};
-use mpw_library::Library;
+use mpw_structures::Library;
 use std::alloc::Global;
 
 /// The structures that a library's top reaches, and the names outside the library among what it reaches.

@@ -6,9 +6,8 @@ ghost use Rattle.mpw_hier.specs.Outside.{places_of, names_outside, graph_of};
 ghost use Rattle.mpw_hier.specs.Internal.Outside.{outside_from_all};
 
 use crate::graph::Graph;
-use mpw_elements::Element;
 use mpw_geom::Names;
-use mpw_library::Library;
+use mpw_structures::{Element, Library};
 use std::alloc::{AllocError, Global};
 
 /// The places of the structures to which elements refer in their library.

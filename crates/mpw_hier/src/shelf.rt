@@ -4,7 +4,7 @@ ghost use Rattle.mpw_geom.specs.Names.{by_name};
 ghost use Rattle.std.specs.Prelude.{◌≡◌, ◌<◌, ◌≤◌, ◌^◌, ◌++◌, ◌↔◌, IsTrue, true, ◌∷◌, [], length, map, Err, OnOk, OnErr, IfOk, IfErr, IfSome, IfNone, Some, None, option_copied, slice_get};
 ghost use Rattle.mpw_hier.specs.Shelf.{present, bound_to, IsOfBinding};
 ghost use Rattle.mpw_hier.specs.Limits.{IsBound, KeepsLimits, IsRefused, IsShelf, numbered};
-ghost use Rattle.mpw_library.specs.Library.{IsLibrary};
+ghost use Rattle.mpw_structures.specs.Library.{IsLibrary};
 ghost use Rattle.mpw_hier.specs.Nodes.{AreNodes, AreNodesOf};
 ghost use Rattle.mpw_hier.specs.Outline.{IsOutline};
 ghost use Rattle.mpw_hier.specs.Sizes.{IsSizeOf};

@@ -5,7 +5,7 @@
 
 ghost use Rattle.std.specs.Prelude.{◌≡◌, ◌+◌, ◌*◌, ◌^◌, ◌≤◌, ℕ, min, List, [], ◌∷◌, All, IfSome, IfNone, length};
 ghost use Rattle.std.specs.List.{AllZip};
-ghost use Rattle.mpw_elements.specs.Element.{IsElement, IsReference};
+ghost use Rattle.mpw_structures.specs.Element.{IsElement, IsReference};
 ghost use Rattle.mpw_hier.specs.Structures.{references, referenced_names};
 ghost use Rattle.mpw_hier.specs.Items.{Item, shown_items};
 ghost use Rattle.mpw_hier.specs.Values.{shown_height};
@@ -17,9 +17,8 @@ ghost use Rattle.mpw_hier.specs.Internal.SizeParts.{nothing, together, array_ext
 use crate::size_array::array_box;
 use crate::size_box::{hull, is_box_near};
 use crate::size_shape::element_box;
-use mpw_elements::{Element, Reference};
 use mpw_geom::Box2;
-use mpw_library::Structure;
+use mpw_structures::{Element, Reference, Structure};
 
 /// The count that stands for all beyond the limit of 2^20.
 const MANY: u32 = (1 << 20) + 1;

@@ -7,14 +7,14 @@
 ghost use Rattle.std.specs.Prelude.{◌≡◌, ◌-◌, ◌+ℤ◌, ◌*ℤ◌, pos, true, Some, IfSome, IfNone};
 ghost use Rattle.std.specs.Int.{int_min, int_max};
 ghost use Rattle.mpw_geom.specs.declared.plane.Box2.{Box2};
-ghost use Rattle.mpw_elements.specs.Element.{IsCount, IsWithinReach, IsPointWithinReach, IsReference};
+ghost use Rattle.mpw_structures.specs.Element.{IsCount, IsWithinReach, IsPointWithinReach, IsReference};
 ghost use Rattle.mpw_hier.specs.Boxes.{is_box_near, placed_box};
 ghost use Rattle.mpw_hier.specs.Internal.Sizes.{IsExtentFar};
 ghost use Rattle.mpw_hier.specs.Internal.SizeParts.{IsWide, IsWideBox, array_extent};
 
 use crate::size_box::is_near;
-use mpw_elements::Reference;
 use mpw_geom::{Box2, Placing, Point};
+use mpw_structures::Reference;
 
 /// A box in nm whose corners may lie beyond 64 bits.
 #[derive(Clone, Copy)]

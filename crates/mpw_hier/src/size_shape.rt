@@ -1,14 +1,14 @@
 //! The least boxes that hold the shapes of elements. Nothing here takes memory.
 
 ghost use Rattle.std.specs.Prelude.{◌≡◌, ◌≤◌, All, drop, length, if◌then◌else◌, Some, None};
-ghost use Rattle.mpw_elements.specs.Element.{IsElement, IsPath, IsPointWithinReach, IsWithinReach};
-ghost use Rattle.mpw_elements.specs.declared.element.Element.TheVariants as elements;
+ghost use Rattle.mpw_structures.specs.Element.{IsElement, IsPath, IsPointWithinReach, IsWithinReach};
+ghost use Rattle.mpw_structures.specs.declared.element.Element.TheVariants as elements;
 ghost use Rattle.mpw_hier.specs.Boxes.{hull, hull_of_points, has_area, element_box};
 ghost use Rattle.mpw_hier.specs.Internal.SizeParts.{wires_box};
 
 use crate::size_box::{has_area, hull};
-use mpw_elements::{Element, Path};
 use mpw_geom::{Box2, Point};
+use mpw_structures::{Element, Path};
 use mpw_shapes::{Wire, first_wire};
 
 /// The least box that holds the points.

@@ -4,7 +4,7 @@ ghost use Rattle.std.specs.Prelude.{◌≡◌, ◌↔◌, IfOk, IsTrue};
 
 use crate::bindings::Bindings;
 use mpw_geom::Name;
-use mpw_library::Library;
+use mpw_structures::Library;
 use mpw_lists::Same;
 use std::alloc::AllocError;
 

@@ -10,8 +10,8 @@ use Rattle.mpw_geom.specs.declared.plane.Orient.TheVariants.{R0, R90, R180, R270
 use Rattle.mpw_geom.specs.declared.placing.Placing.{Placing}
 use Rattle.mpw_geom.specs.Plane.{Square, has_square}
 use Rattle.mpw_geom.specs.Placing.{oriented_square, moved_square, placed_square}
-use Rattle.mpw_elements.specs.declared.element.Element.{Element}
-use Rattle.mpw_elements.specs.declared.element.Element.TheVariants as elements
+use Rattle.mpw_structures.specs.declared.element.Element.{Element}
+use Rattle.mpw_structures.specs.declared.element.Element.TheVariants as elements
 use Rattle.mpw_shapes.specs.Element.{element_has}
 use Rattle.mpw_hier.specs.Items.{Item}
 use Rattle.mpw_tiles.specs.declared.listing.Rectangle.{Rectangle}

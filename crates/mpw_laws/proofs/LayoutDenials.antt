@@ -9,9 +9,9 @@ use Rattle.mpw_permissions.specs.declared.permission.Operation.{Operation}
 use Rattle.mpw_permissions.specs.declared.permission.Operation.TheVariants.{Submit, Use, Read}
 use Rattle.mpw_rbac.specs.Policy.{Policy, session_of, permits}
 use Rattle.mpw_rbac.specs.Rows.{user_of}
-use Rattle.mpw_library.specs.declared.structures.Structure.{Structure}
+use Rattle.mpw_structures.specs.declared.structures.Structure.{Structure}
 use Rattle.mpw_library.specs.Grammar.{library_of}
-use Rattle.mpw_library.specs.Places.{place_of}
+use Rattle.mpw_structures.specs.Places.{place_of}
 use Rattle.mpw_hier.specs.declared.bindings.Binding.{Binding}
 use Rattle.mpw_hier.specs.declared.submission.Submission.{Submission}
 use Rattle.mpw_hier.specs.Shelf.{present, bound_to}

@@ -4,7 +4,7 @@
 ghost use Rattle.std.specs.Prelude.{◌≡◌, ◌<◌, ◌++◌, slice_get, length, map, IfOk, IfErr, OnOk, Some};
 ghost use Rattle.std.specs.List.{flat_map};
 ghost use Rattle.mpw_library.specs.Grammar.{library_of};
-ghost use Rattle.mpw_library.specs.Library.{IsLibrary};
+ghost use Rattle.mpw_structures.specs.Library.{IsLibrary};
 ghost use Rattle.mpw_hier.specs.Outline.{IsOutline};
 ghost use Rattle.mpw_hier.specs.Shelf.{bound_to};
 ghost use Rattle.mpw_hier.specs.declared.submission.Submission.{Submission as SubmissionTold};
@@ -23,7 +23,8 @@ use mpw_hier::{
     Bindings, HierFault, Outline, Shelf, Submission, reaching_is_decided,
     shelves_have_their_numbers,
 };
-use mpw_library::{Library, LibraryText};
+use mpw_structures::Library;
+use mpw_library::LibraryText;
 use mpw_permissions::{Object, Operation};
 use mpw_rbac::{Access, Policy};
 use mpw_access::enter;

@@ -2,9 +2,9 @@
 use Rattle.std.proofs.Common.{◌≡◌, ℕ, zero, suc, ◌<◌, Bool, true, false, cond, eqb, List, [], ◌∷◌, ◌++◌, length, Option, Some, None, Ok, Err, refl, sym, ap, subst, ◌∙◌, inl, inr, arith, append_assoc, length-append}
 use Rattle.std.proofs.lemmas.Bool.{eqb-true}
 use Rattle.std.proofs.lemmas.List.{append-nil}
+use Rattle.mpw_structures.specs.declared.element.Element.{Element}
 use Rattle.mpw_records.specs.declared.kind.TheConstants.{BOUNDARY, PATH, SREF, AREF, TEXT, ENDSTR, NODE, BOX}
 use Rattle.mpw_records.specs.Records.{RawRecord, RecordOutcome}
-use Rattle.mpw_elements.specs.declared.element.Element.{Element}
 use Rattle.mpw_elements.specs.Reading.{demanded}
 use Rattle.mpw_elements.specs.Grammar.{element}
 use Rattle.mpw_elements.specs.Derivation.{DerivesElement, records_then, Begins}

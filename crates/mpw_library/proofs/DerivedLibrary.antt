@@ -1,6 +1,7 @@
 -- A library is read exactly where its records derive it.
 use Rattle.std.proofs.Common.{◌≡◌, ℕ, zero, suc, ◌+◌, Bool, true, false, eqb, ◌||◌, ◌&&◌, not, List, [], ◌∷◌, ◌++◌, length, map, drop, Ok, Err, refl, sym, ap, subst, ◌∙◌, inl, inr}
 use Rattle.std.proofs.lemmas.Bool.{eqb-true}
+use Rattle.mpw_structures.specs.declared.structures.Structure.{Structure}
 use Rattle.mpw_records.specs.declared.kind.TheConstants.{HEADER, BGNLIB, LIBNAME, UNITS, ENDLIB}
 use Rattle.mpw_records.specs.Records.{RawRecord, RecordOutcome, told_length, front, is_last, outcomes, outcomes_of}
 use Rattle.std.specs.Prelude.{Result, IfOk}
@@ -8,7 +9,6 @@ use Rattle.mpw_elements.specs.Reading.{◌>>=◌, GivesValue}
 use Rattle.mpw_elements.specs.declared.fault.ReadError.{ReadError}
 use Rattle.mpw_elements.specs.Derivation.{Behind, records_then, Begins}
 use Rattle.mpw_elements.proofs.DerivedFields.{bind_ok, ok_is, chosen, equals, records_both, parts_both}
-use Rattle.mpw_library.specs.declared.structures.Structure.{Structure}
 use Rattle.mpw_library.specs.Grammar.{next_is, unit_of, ends_head, up_to, head, all_structures, library, library_of}
 use Rattle.mpw_library.specs.Derivation.{is_aside, HaveNamesApart, DerivesLibrary, IsTextOf, LibrariesAreDerived, OneDerivation}
 use Rattle.mpw_library.proofs.DerivedStructures.{StructuresIn, structures_sound, structures_complete, shorter}

@@ -2,15 +2,15 @@
 use Rattle.std.proofs.Common.{◌≡◌, ℕ, zero, suc, ◌<◌, false, cond, eqb, List, [], ◌∷◌, ◌++◌, length, Option, Some, None, is_some, Ok, Err, refl, sym, ap, subst, ◌∙◌, inl, inr, arith, append_assoc, length-append}
 use Rattle.std.proofs.lemmas.Bool.{eqb-true}
 use Rattle.std.proofs.lemmas.List.{append-nil}
+use Rattle.mpw_structures.specs.declared.element.Element.{Element}
+use Rattle.mpw_structures.specs.declared.structures.Structure.{Structure}
+use Rattle.mpw_structures.specs.Places.{place_of}
 use Rattle.mpw_records.specs.declared.kind.TheConstants.{ENDLIB, BGNSTR, STRNAME, ENDSTR}
 use Rattle.mpw_records.specs.Records.{RawRecord, RecordOutcome}
-use Rattle.mpw_elements.specs.declared.element.Element.{Element}
 use Rattle.mpw_elements.specs.Reading.{demanded}
 use Rattle.mpw_elements.specs.Values.{name_of}
 use Rattle.mpw_elements.specs.Derivation.{records_then, Begins}
 use Rattle.mpw_elements.proofs.DerivedFields.{bind_ok, ok_is, chosen, records_both, demanded_sound, demanded_complete}
-use Rattle.mpw_library.specs.declared.structures.Structure.{Structure}
-use Rattle.mpw_library.specs.Places.{place_of}
 use Rattle.mpw_library.specs.Grammar.{next_is, all_elements, untaken, structure, next_structure, added, structures_behind}
 use Rattle.mpw_library.specs.Derivation.{DerivesElements, DerivesStructure, DerivesStructures, HaveNamesApart}
 use Rattle.mpw_library.proofs.Apart.{apart_push, apart_front, apart_new}

@@ -6,12 +6,12 @@ use Rattle.std.specs.Cmp.Lexicographic.{pointwise}
 use Rattle.std.proofs.lemmas.Bool.{eqb-true, ltb-true, ltb-false}
 use Rattle.std.proofs.lemmas.List.{length-map}
 use native.Mathlib.Nat.{pow-succ'}
+use Rattle.mpw_structures.specs.declared.structures.Structure.{Structure}
+use Rattle.mpw_structures.specs.Places.{place_from}
 use Rattle.mpw_records.specs.declared.kind.TheConstants.{STRNAME}
 use Rattle.mpw_records.specs.Format.{data_fault}
 use Rattle.mpw_elements.specs.Values.{without_nuls, is_visible, is_name, name_of}
-use Rattle.mpw_library.specs.declared.structures.Structure.{Structure}
 use Rattle.mpw_library.specs.Fronts.{is_byte, is_formed}
-use Rattle.mpw_library.specs.Places.{place_from}
 use Rattle.mpw_library.proofs.FrontStructures.{Fresh}
 use Rattle.mpw_library.proofs.Samples.{sample}
 

@@ -1,12 +1,12 @@
 -- An element, and elements up to ENDSTR, refuse at the first record with which nothing goes on.
 use Rattle.std.proofs.Common.{◌≡◌, ℕ, ◌≤◌, Bool, true, false, eqb, List, [], ◌∷◌, ◌++◌, Option, Some, None, Ok, Err, refl, sym, ap, ◌∙◌}
 use Rattle.std.proofs.lemmas.Bool.{eqb-true}
+use Rattle.mpw_structures.specs.declared.element.Element.{Element}
+use Rattle.mpw_structures.specs.declared.element.Element.TheVariants as elements
 use Rattle.mpw_records.specs.declared.fault.Code.TheVariants.{Unexpected}
 use Rattle.mpw_records.specs.declared.fault.ReadFault.{ReadFault}
 use Rattle.mpw_records.specs.declared.kind.TheConstants.{ENDLIB, BOUNDARY, PATH, SREF, AREF, TEXT, DATATYPE, ENDEL, NODE, BOX, BOXTYPE}
 use Rattle.mpw_records.specs.Records.{RawRecord, RecordOutcome}
-use Rattle.mpw_elements.specs.declared.element.Element.{Element}
-use Rattle.mpw_elements.specs.declared.element.Element.TheVariants as elements
 use Rattle.mpw_elements.specs.Reading.{Reading, ◌>>=◌, fault_at}
 use Rattle.mpw_elements.specs.Grammar.{boundary, path, single, array, ignored, element}
 use Rattle.mpw_elements.specs.Derivation.{records_then}

@@ -1,12 +1,12 @@
 -- Elements up to ENDSTR refuse at the first record with which nothing goes on.
 use Rattle.std.proofs.Common.{◌≡◌, ℕ, zero, suc, ◌≤◌, Bool, true, false, cond, eqb, List, [], ◌∷◌, ◌++◌, length, Option, Ok, Err, refl, sym, ap, subst, ◌∙◌, inl, inr, arith}
 use Rattle.std.proofs.lemmas.Bool.{eqb-true}
+use Rattle.mpw_structures.specs.declared.element.Element.{Element}
 use Rattle.mpw_records.specs.declared.fault.Code.TheVariants.{Unexpected}
 use Rattle.mpw_records.specs.declared.fault.ReadFault.{ReadFault}
 use Rattle.mpw_records.specs.declared.kind.TheConstants.{ENDLIB, ENDSTR}
 use Rattle.mpw_records.specs.Format.{data_fault}
 use Rattle.mpw_records.specs.Records.{RawRecord, RecordOutcome}
-use Rattle.mpw_elements.specs.declared.element.Element.{Element}
 use Rattle.mpw_elements.specs.Reading.{Reading, ◌>>=◌, fault_at}
 use Rattle.mpw_elements.specs.Grammar.{element}
 use Rattle.mpw_elements.specs.Derivation.{records_then}

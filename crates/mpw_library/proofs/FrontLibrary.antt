@@ -1,5 +1,6 @@
 -- A library refuses at the first record with which no library's records begin.
 use Rattle.std.proofs.Common.{◌≡◌, ℕ, suc, ◌+◌, ◌<◌, ◌≤◌, ◌^◌, List, [], ◌∷◌, ◌++◌, length, Result, Ok, Err, refl, sym, ap, subst, ◌∙◌, inl, inr, arith, append_assoc}
+use Rattle.mpw_structures.specs.declared.structures.Structure.{Structure}
 use Rattle.mpw_records.specs.declared.fault.Code.{Code}
 use Rattle.mpw_records.specs.declared.fault.Code.TheVariants.{Unexpected}
 use Rattle.mpw_records.specs.declared.fault.ReadFault.{ReadFault}
@@ -10,7 +11,6 @@ use Rattle.mpw_elements.specs.declared.fault.ReadError.TheVariants as errors
 use Rattle.mpw_elements.specs.Reading.{Reading, ◌>>=◌, GivesValue, fault_at}
 use Rattle.mpw_elements.specs.Derivation.{records_then}
 use Rattle.mpw_elements.proofs.DerivedFields.{records_both, parts_both}
-use Rattle.mpw_library.specs.declared.structures.Structure.{Structure}
 use Rattle.mpw_library.specs.Derivation.{DerivesLibrary}
 use Rattle.mpw_library.specs.Fronts.{IsFront, UnexpectedIsFirst, IsToldFirst}
 use Rattle.mpw_library.specs.Grammar.{all_structures, structures_behind, library, library_of}

@@ -1,13 +1,13 @@
 -- Boundaries and paths refuse at the first record with which nothing goes on.
 use Rattle.std.proofs.Common.{◌≡◌, ℕ, ◌≤◌, Bool, true, false, cond, ℤ, pos, List, [], Result, Ok, Err, refl, ap}
 use Rattle.mpw_geom.specs.declared.plane.Point.{Point}
+use Rattle.mpw_structures.specs.declared.element.Boundary.{Boundary}
+use Rattle.mpw_structures.specs.declared.element.Path.{Path}
 use Rattle.mpw_records.specs.declared.fault.Code.{Code}
 use Rattle.mpw_records.specs.declared.fault.Code.TheVariants.{Unexpected, NotManhattan, RoundPath, OddWidth, PointPath}
 use Rattle.mpw_records.specs.declared.fault.ReadFault.{ReadFault}
 use Rattle.mpw_records.specs.declared.kind.TheConstants.{LAYER, DATATYPE, WIDTH, XY, ENDEL, PATHTYPE, BGNEXTN, ENDEXTN}
 use Rattle.mpw_records.specs.Records.{RawRecord, RecordOutcome}
-use Rattle.mpw_elements.specs.declared.element.Boundary.{Boundary}
-use Rattle.mpw_elements.specs.declared.element.Path.{Path}
 use Rattle.mpw_elements.specs.Reading.{Reading, ◌>>=◌, fault_at, expected}
 use Rattle.mpw_elements.specs.Values.{short_of, corners_of, centre_of, path_type_of, width_of, extension_of, lengthening}
 use Rattle.mpw_elements.specs.Grammar.{boundary, path}

@@ -1,16 +1,16 @@
 -- Structures up to ENDLIB refuse at the first record with which nothing goes on.
 use Rattle.std.proofs.Common.{◌≡◌, ℕ, ◌+◌, ◌<◌, ◌≤◌, Bool, true, false, cond, eqb, not, List, [], ◌∷◌, ◌++◌, length, Option, Some, None, is_some, Ok, Err, refl, sym, ap, ◌∙◌, arith, length-append}
+use Rattle.mpw_structures.specs.declared.element.Element.{Element}
+use Rattle.mpw_structures.specs.declared.structures.Structure.{Structure}
+use Rattle.mpw_structures.specs.Places.{place_of}
 use Rattle.mpw_records.specs.declared.fault.Code.TheVariants.{DoubleName}
 use Rattle.mpw_records.specs.declared.kind.TheConstants.{ENDLIB, BGNSTR, STRNAME}
 use Rattle.mpw_records.specs.Format.{data_fault}
 use Rattle.mpw_records.specs.Records.{RawRecord, RecordOutcome}
-use Rattle.mpw_elements.specs.declared.element.Element.{Element}
 use Rattle.mpw_elements.specs.Reading.{Reading, ◌>>=◌}
 use Rattle.mpw_elements.specs.Values.{name_of}
 use Rattle.mpw_elements.proofs.DerivedFields.{ok_is}
-use Rattle.mpw_library.specs.declared.structures.Structure.{Structure}
 use Rattle.mpw_library.specs.Fronts.{is_formed}
-use Rattle.mpw_library.specs.Places.{place_of}
 use Rattle.mpw_library.specs.Grammar.{next_is, all_elements, untaken, structure, next_structure, added, structures_behind}
 use Rattle.mpw_library.proofs.Loops.{structure_gone}
 use Rattle.mpw_library.proofs.Refusals.{unexpected_at, IsEnded, Completes, Refuses, Reads, Local, Any, IsOfValue, then_local, then_completes, done_local, done_completes, tested_local, tested_completes}

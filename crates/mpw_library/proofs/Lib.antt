@@ -14,7 +14,6 @@ pub mod FrontLoops
 pub mod FrontReferences
 pub mod FrontShapes
 pub mod FrontStructures
-pub mod Indexed
 pub mod Loops
 pub mod Options
 pub mod Refusals

@@ -2,12 +2,12 @@
 use Rattle.std.specs.Prelude.{◌≡◌, ◌↔◌, ℕ, ◌&&◌, ◌==◌, not, Bool, true, false, List, [], ◌∷◌, ◌++◌, map, Some, None, Ok}
 use Rattle.std.specs.List.{AllByRecursion}
 use Rattle.mpw_geom.specs.Names.{name_eq}
+use Rattle.mpw_structures.specs.declared.element.Element.{Element}
+use Rattle.mpw_structures.specs.declared.structures.Structure.{Structure}
 use Rattle.mpw_records.specs.declared.kind.TheConstants.{HEADER, BGNLIB, LIBNAME, UNITS, ENDLIB, BGNSTR, STRNAME, ENDSTR}
 use Rattle.mpw_records.specs.Records.{RawRecord, outcomes_of}
-use Rattle.mpw_elements.specs.declared.element.Element.{Element}
 use Rattle.mpw_elements.specs.Values.{name_of}
 use Rattle.mpw_elements.specs.Derivation.{Behind, DerivesElement}
-use Rattle.mpw_library.specs.declared.structures.Structure.{Structure}
 use Rattle.mpw_library.specs.Grammar.{unit_of, ends_head, is_between, library_of}
 
 -- {element}, with the records that may stand between them. TEXT and NODE give no element.

@@ -2,13 +2,13 @@
 -- records, and with it of none's.
 use Rattle.std.specs.Prelude.{◌≡◌, ◌<◌, ◌^◌, ℕ, ◌%◌, ◌&&◌, ◌==◌, Bool, true, nat_lt, List, [], ◌∷◌, ◌++◌, length, is_none, Ok, Err, ⊤}
 use Rattle.std.specs.List.{list_all}
+use Rattle.mpw_structures.specs.declared.structures.Structure.{Structure}
 use Rattle.mpw_records.specs.declared.fault.Code.TheVariants.{Unexpected}
 use Rattle.mpw_records.specs.Format.{data_fault}
 use Rattle.mpw_records.specs.Records.{RawRecord, RecordOutcome, outcomes_of}
 use Rattle.mpw_elements.specs.declared.fault.ReadError.{ReadError}
 use Rattle.mpw_elements.specs.declared.fault.ReadError.TheVariants as errors
 use Rattle.mpw_elements.specs.Derivation.{records_then}
-use Rattle.mpw_library.specs.declared.structures.Structure.{Structure}
 use Rattle.mpw_library.specs.Grammar.{library_of}
 use Rattle.mpw_library.specs.Derivation.{DerivesLibrary}
 

@@ -1,18 +1,18 @@
 -- A library by its records (GDSII Stream, "Stream syntax").
 use Rattle.std.specs.Prelude.{ℕ, zero, suc, ◌||◌, ◌==◌, Bool, true, false, drop, List, [], ◌∷◌, ◌++◌, length, is_some, Option, Some, None, Result, Ok, Err, if◌then◌else◌}
+use Rattle.mpw_structures.specs.declared.element.Element.{Element}
+use Rattle.mpw_structures.specs.declared.structures.Structure.{Structure}
+use Rattle.mpw_structures.specs.Places.{place_of}
 use Rattle.mpw_records.specs.declared.fault.Code.TheVariants.{Short, Unexpected, DoubleName, Unit as BadUnit}
 use Rattle.mpw_records.specs.declared.fault.ReadFault.{ReadFault}
 use Rattle.mpw_records.specs.declared.kind.TheConstants.{HEADER, BGNLIB, LIBNAME, UNITS, ENDLIB, BGNSTR, STRNAME, ENDSTR, PROPATTR, PROPVALUE, STRCLASS}
 use Rattle.mpw_records.specs.Records.{RawRecord, RecordOutcome, outcomes_of}
 use Rattle.mpw_real8.specs.Real.{real_value, nanometres}
-use Rattle.mpw_elements.specs.declared.element.Element.{Element}
 use Rattle.mpw_elements.specs.Reading.{Reading, ◌>>=◌, fault_at, demanded}
 use Rattle.mpw_elements.specs.Values.{name_of}
 use Rattle.mpw_elements.specs.Grammar.{element}
 use Rattle.mpw_library.specs.declared.read.Item.{Item}
 use Rattle.mpw_library.specs.declared.read.Item.TheVariants as items
-use Rattle.mpw_library.specs.declared.structures.Structure.{Structure}
-use Rattle.mpw_library.specs.Places.{place_of}
 
 -- What a text that ends without ENDLIB and without a fault would be. No text does.
 abbrev pub gone : ReadFault

@@ -1,17 +1,13 @@
-//! A whole GDSII library: its structures, each with its elements, in nm.
+//! Reading a whole GDSII library: its structures, each with its elements, in nm.
 //!
-//! `read_library(alloc, bytes)` reads a text from front to end once. It answers a [`Library`], or the
+//! `read_library(alloc, bytes)` reads a text from front to end once. It answers a `Library` of `mpw_structures`, or the
 //! first fault by offset.
 #![tactic(auto)]
 
 mod laws;
-mod library;
 mod read;
-mod structures;
 mod text;
 
 pub use laws::{libraries_are_derived, unexpected_is_first};
-pub use library::Library;
 pub use read::read_library;
-pub use structures::{Elements, Structure, Structures};
 pub use text::LibraryText;

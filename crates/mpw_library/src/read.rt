@@ -1,20 +1,19 @@
 //! Reading a whole text.
 
 ghost use Rattle.std.specs.Prelude.{◌≡◌, ◌<◌, ◌≤◌, ◌==◌, ◌||◌, None, length, IsTrue, OnOk, IfOk, IfErr, IfSome, All};
+ghost use Rattle.mpw_structures.specs.Element.{IsElement};
+ghost use Rattle.mpw_structures.specs.Library.{IsStructure, IsLibrary};
+ghost use Rattle.mpw_structures.specs.Places.{place_of};
 ghost use Rattle.mpw_records.specs.Format.{least_size};
 ghost use Rattle.mpw_records.specs.Records.{raw, IsSized};
-ghost use Rattle.mpw_elements.specs.Element.{IsElement};
 ghost use Rattle.mpw_elements.specs.Reading.{GivesReading, GivesValue, demanded};
 ghost use Rattle.mpw_library.specs.Grammar.{gone, next_record, next_is, unit_of, ends_head, up_to, head, is_between, item, all_elements, structure, next_structure, all_structures, library_of};
 ghost use Rattle.mpw_library.specs.Derivation.{IsTextOf};
 ghost use Rattle.mpw_library.specs.Fronts.{IsToldFirst};
-ghost use Rattle.mpw_library.specs.Library.{IsStructure, IsLibrary};
 ghost use Rattle.mpw_library.specs.Internal.Library.{IsItem};
-ghost use Rattle.mpw_library.specs.Places.{place_of};
 
-use crate::library::Library;
-use crate::structures::{Elements, Structure, Structures};
-use mpw_elements::{Element, ReadError, demand, fault_of, read_element, read_name};
+use mpw_elements::{ReadError, demand, fault_of, read_element, read_name};
+use mpw_structures::{Element, Elements, Library, Structure, Structures};
 use mpw_real8::Real8;
 use mpw_records::{Code, ReadFault, Record, Records, kind};
 use std::alloc::Global;

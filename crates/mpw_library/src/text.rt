@@ -1,13 +1,13 @@
 //! A GDSII text that was read.
 
 ghost use Rattle.std.specs.Prelude.{◌≡◌, IfOk};
+ghost use Rattle.mpw_structures.specs.Library.{IsLibrary};
 ghost use Rattle.mpw_elements.specs.Reading.{GivesValue};
 ghost use Rattle.mpw_library.specs.Grammar.{library_of};
-ghost use Rattle.mpw_library.specs.Library.{IsLibrary};
 
-use crate::library::Library;
 use crate::read::read_library;
 use mpw_elements::ReadError;
+use mpw_structures::Library;
 use mpw_records::ReadFault;
 use std::alloc::{AllocError, Global};
 use std::marker::Model;

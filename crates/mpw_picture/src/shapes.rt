@@ -1,7 +1,7 @@
 //! The rectangles of shapes in a window: those of each shape that the walk gives, placed, as far as they lie in it.
 
 ghost use Rattle.std.specs.Prelude.{◌≡◌, All, IfOk, OnOk};
-ghost use Rattle.mpw_elements.specs.Element.{IsElement};
+ghost use Rattle.mpw_structures.specs.Element.{IsElement};
 ghost use Rattle.mpw_geom.specs.Plane.{HasArea, IsBoxInPlane};
 ghost use Rattle.mpw_tiles.specs.Listing.{HasSquareOf};
 ghost use Rattle.mpw_tiles.specs.Shown.{ShowsSquare, IsShown};

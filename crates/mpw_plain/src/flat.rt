@@ -3,10 +3,9 @@
 
 use crate::named::{bound, own};
 use anyhow::{Context, Result, bail};
-use mpw_elements::{Boundary, Element, Path, Reference};
 use mpw_geom::{Layer, Name, Orient, Placing, Point};
 use mpw_hier::{Shelf, Submission};
-use mpw_library::Structure;
+use mpw_structures::{Boundary, Element, Path, Reference, Structure};
 use mpw_walk::Root;
 use std::alloc::Global;
 

@@ -3,7 +3,7 @@
 use anyhow::{Result, bail};
 use mpw_geom::Name;
 use mpw_hier::Submission;
-use mpw_library::Structure;
+use mpw_structures::Structure;
 
 /// The library's structure of the name.
 pub fn own<'a>(submission: &'a Submission, name: &Name) -> Option<&'a Structure> {

@@ -1,11 +1,12 @@
 //! Submissions on a shelf, and roots.
 
-ghost use Rattle.mpw_library.specs.Library.{IsLibrary};
+ghost use Rattle.mpw_structures.specs.Library.{IsLibrary};
 
 use anyhow::{Result, bail};
 use mpw_geom::Name;
 use mpw_hier::{HierFault, Outline, Shelf, Submission};
-use mpw_library::{Library, read_library};
+use mpw_structures::Library;
+use mpw_library::read_library;
 use mpw_samples::text_of_library;
 use mpw_walk::Root;
 use mpw_words::{number, placing};

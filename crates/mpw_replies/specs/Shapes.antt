@@ -1,6 +1,6 @@
 -- A shape of a listing, as it is given, and its line.
 use Rattle.mpw_geom.specs.Plane.{IsInPlane}
-use Rattle.mpw_elements.specs.Element.{IsElement}
+use Rattle.mpw_structures.specs.Element.{IsElement}
 use Rattle.mpw_replies.specs.declared.listing.ShapeView.{ShapeView}
 use Rattle.mpw_replies.specs.Listing.{Listed, shape}
 

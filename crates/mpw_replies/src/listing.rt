@@ -12,9 +12,9 @@ ghost use Rattle.mpw_replies.specs.Shapes.{IsPlaceableView, line_of};
 ghost use Rattle.mpw_replies.specs.Internal.Shapes.{lines_of};
 
 use crate::sight::is_seen;
-use mpw_elements::Element;
 use mpw_geom::{Name, Placing};
 use mpw_hier::{Shelf, shelves_have_their_numbers};
+use mpw_structures::Element;
 use mpw_walk::{Placed, Root, Walk};
 use std::marker::Model;
 use std::slice;

@@ -6,11 +6,11 @@ use Rattle.std.proofs.lemmas.Bool.{false≢true}
 use Rattle.std.proofs.lemmas.Bool.Decides.{Decides-eqb, Decides-int_eq}
 use Rattle.mpw_geom.specs.Names.{name_eq}
 use Rattle.mpw_geom.specs.declared.plane.Layer.{Layer}
-use Rattle.mpw_elements.specs.declared.element.Boundary.{Boundary as BoundaryParts}
-use Rattle.mpw_elements.specs.declared.element.Path.{Path as PathParts}
-use Rattle.mpw_elements.specs.declared.element.Reference.{Reference as ReferenceParts}
-use Rattle.mpw_elements.specs.declared.element.Element.TheVariants.{Boundary, Path, Reference}
-use Rattle.mpw_library.specs.declared.structures.Structure.{Structure}
+use Rattle.mpw_structures.specs.declared.element.Boundary.{Boundary as BoundaryParts}
+use Rattle.mpw_structures.specs.declared.element.Path.{Path as PathParts}
+use Rattle.mpw_structures.specs.declared.element.Reference.{Reference as ReferenceParts}
+use Rattle.mpw_structures.specs.declared.element.Element.TheVariants.{Boundary, Path, Reference}
+use Rattle.mpw_structures.specs.declared.structures.Structure.{Structure}
 use Rattle.mpw_deck.specs.Decks.{Deck}
 use Rattle.mpw_deck.specs.declared.rule.Check.{Check}
 use Rattle.mpw_deck.specs.declared.rule.Check.TheVariants.{Width, Space, Separation, Enclosing}

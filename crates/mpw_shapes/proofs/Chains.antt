@@ -10,7 +10,7 @@ use Rattle.std.proofs.lemmas.List.Sums.{sum_by_push}
 use Rattle.mpw_geom.proofs.Tests.{le_from_test, lt_from_test}
 use Rattle.mpw_geom.specs.declared.plane.Point.{Point}
 use Rattle.mpw_geom.specs.Plane.{Square}
-use Rattle.mpw_elements.specs.Element.{closed}
+use Rattle.mpw_structures.specs.Element.{closed}
 use Rattle.mpw_shapes.specs.declared.edge.Edge.{Edge}
 use Rattle.mpw_shapes.specs.Boundary.{count_steps, rises_across, upward, downward}
 use Rattle.mpw_shapes.specs.Internal.Edges.{HasEndsAmong, rises_in, falls_in, rises_left, falls_left}

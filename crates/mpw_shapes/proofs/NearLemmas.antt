@@ -8,7 +8,7 @@ use Rattle.std.proofs.lemmas.List.Elements.{All-weaker}
 use Rattle.std.proofs.lemmas.List.Sums.{AllPass-from_list_all}
 use Rattle.mpw_geom.specs.declared.plane.Point.{Point}
 use Rattle.mpw_geom.proofs.Tests.{le_from_test}
-use Rattle.mpw_elements.specs.Element.{IsPointWithinReach}
+use Rattle.mpw_structures.specs.Element.{IsPointWithinReach}
 use Rattle.mpw_shapes.specs.Internal.Near.{is_near}
 
 near_reach : (p : Point) → is_near p ≡ true → IsPointWithinReach p

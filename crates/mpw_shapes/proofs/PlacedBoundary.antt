@@ -11,7 +11,7 @@ use Rattle.mpw_geom.specs.declared.placing.Placing.{Placing}
 use Rattle.mpw_geom.specs.Plane.{Square}
 use Rattle.mpw_geom.specs.Placing.{mirrored_point, mirrored_square, turned_point, turned_square, moved_point, moved_square, oriented_point, oriented_square, placed_point, placed_square}
 use Rattle.mpw_geom.proofs.Tests.{same_tests}
-use Rattle.mpw_elements.specs.Element.{closed, each_step, is_manhattan_step}
+use Rattle.mpw_structures.specs.Element.{closed, each_step, is_manhattan_step}
 use Rattle.mpw_shapes.specs.Boundary.{count_steps, rises_across, upward, downward, winding, boundary_has}
 use Rattle.mpw_shapes.proofs.Chains.{last_of, last_of_push}
 use Rattle.mpw_shapes.proofs.Orientations.{each_orientation}

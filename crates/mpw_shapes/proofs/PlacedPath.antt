@@ -13,8 +13,8 @@ use Rattle.mpw_geom.specs.declared.placing.Placing.{Placing}
 use Rattle.mpw_geom.specs.Plane.{Square, any_has_square, has_square}
 use Rattle.mpw_geom.specs.Placing.{mirrored_point, mirrored_square, turned_point, turned_square, moved_point, moved_square, oriented_point, oriented_square, placed_point, placed_square}
 use Rattle.mpw_geom.proofs.Tests.{same_squares, same_tests}
-use Rattle.mpw_elements.specs.declared.element.Path.{Path}
-use Rattle.mpw_elements.specs.Element.{each_step, is_segment}
+use Rattle.mpw_structures.specs.declared.element.Path.{Path}
+use Rattle.mpw_structures.specs.Element.{each_step, is_segment}
 use Rattle.mpw_shapes.specs.Path.{wire_box, wire_boxes, path_has}
 use Rattle.mpw_shapes.proofs.Counts.{cases_lt_z}
 use Rattle.mpw_shapes.proofs.Orientations.{each_orientation}

@@ -9,7 +9,7 @@ use Rattle.mpw_geom.specs.declared.plane.Point.{Point}
 use Rattle.mpw_geom.specs.Plane.{Square}
 use Rattle.mpw_geom.specs.Placing.{mirrored_point, mirrored_square, turned_point, turned_square, moved_point, moved_square}
 use Rattle.mpw_geom.proofs.Tests.{le_from_test, test_from_le, lt_from_test, test_from_lt, same_tests}
-use Rattle.mpw_elements.specs.Element.{is_manhattan_step}
+use Rattle.mpw_structures.specs.Element.{is_manhattan_step}
 use Rattle.mpw_shapes.specs.Boundary.{rises_across}
 
 -- ---- tests of order

@@ -3,7 +3,7 @@ use Rattle.std.specs.Prelude.{ℕ, ◌+◌, Bool, not, ◌&&◌, if◌then◌els
 use Rattle.std.specs.Ordering.{int_eq}
 use Rattle.mpw_geom.specs.declared.plane.Point.{Point}
 use Rattle.mpw_geom.specs.Plane.{Square}
-use Rattle.mpw_elements.specs.Element.{closed}
+use Rattle.mpw_structures.specs.Element.{closed}
 
 -- the step from p to q goes up across the square's row, at the square's column or left of it
 unfoldable pub rises_across : Square → Point → Point → Bool

@@ -1,8 +1,8 @@
 -- The unit squares of an element.
 use Rattle.std.specs.Prelude.{Bool, false}
 use Rattle.mpw_geom.specs.Plane.{Square}
-use Rattle.mpw_elements.specs.declared.element.Element.{Element}
-use Rattle.mpw_elements.specs.declared.element.Element.TheVariants as elements
+use Rattle.mpw_structures.specs.declared.element.Element.{Element}
+use Rattle.mpw_structures.specs.declared.element.Element.TheVariants as elements
 use Rattle.mpw_shapes.specs.Boundary.{boundary_has}
 use Rattle.mpw_shapes.specs.Path.{path_has}
 

@@ -4,7 +4,7 @@ use Rattle.std.specs.Ordering.{int_eq}
 use Rattle.mpw_geom.specs.declared.plane.Box2.{Box2}
 use Rattle.mpw_geom.specs.declared.plane.Point.{Point}
 use Rattle.mpw_geom.specs.Plane.{Square, any_has_square}
-use Rattle.mpw_elements.specs.declared.element.Path.{Path}
+use Rattle.mpw_structures.specs.declared.element.Path.{Path}
 
 -- the segment from p to q, `before` longer at p and `behind` longer at q, with half the width on each side
 unfoldable pub wire_box : ℤ → ℤ → ℤ → Point → Point → Box2

@@ -4,8 +4,8 @@ use Rattle.mpw_geom.specs.declared.plane.Point.{Point}
 use Rattle.mpw_geom.specs.declared.placing.Placing.{Placing}
 use Rattle.mpw_geom.specs.Plane.{Square}
 use Rattle.mpw_geom.specs.Placing.{placed_point, placed_square}
-use Rattle.mpw_elements.specs.Element.{closed, each_step, is_manhattan_step, is_segment}
-use Rattle.mpw_elements.specs.declared.element.Path.{Path}
+use Rattle.mpw_structures.specs.Element.{closed, each_step, is_manhattan_step, is_segment}
+use Rattle.mpw_structures.specs.declared.element.Path.{Path}
 use Rattle.mpw_shapes.specs.Boundary.{boundary_has}
 use Rattle.mpw_shapes.specs.Path.{path_has}
 

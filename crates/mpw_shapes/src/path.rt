@@ -2,13 +2,13 @@
 
 ghost use Rattle.std.specs.Prelude.{◌≡◌, ℤ, pos, All, IfOk, int_div};
 ghost use Rattle.mpw_geom.specs.Plane.{Square, HasArea, any_has_square};
-ghost use Rattle.mpw_elements.specs.Element.{IsPath, IsWithinReach, IsPointWithinReach};
+ghost use Rattle.mpw_structures.specs.Element.{IsPath, IsWithinReach, IsPointWithinReach};
 ghost use Rattle.mpw_shapes.specs.Path.{path_has, wire_box};
 ghost use Rattle.mpw_shapes.specs.Internal.Wire.{along, across, framed};
 
 use crate::boxes::push_box;
-use mpw_elements::Path;
 use mpw_geom::{Box2, Point};
+use mpw_structures::Path;
 use std::alloc::{AllocError, Global};
 
 /// A stretch of an axis, in nm.

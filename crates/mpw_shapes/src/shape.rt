@@ -2,14 +2,14 @@
 
 ghost use Rattle.std.specs.Prelude.{◌≡◌, All, IfOk};
 ghost use Rattle.mpw_geom.specs.Plane.{Square, HasArea, any_has_square};
-ghost use Rattle.mpw_elements.specs.Element.{IsElement};
+ghost use Rattle.mpw_structures.specs.Element.{IsElement};
 ghost use Rattle.mpw_shapes.specs.Element.{element_has};
 ghost use Rattle.mpw_shapes.specs.Placed.{BoundarySquaresArePlaced, PathSquaresArePlaced};
 
 use crate::boundary::boundary_rectangles;
 use crate::path::path_rectangles;
-use mpw_elements::Element;
 use mpw_geom::Box2;
+use mpw_structures::Element;
 use std::alloc::{AllocError, Global};
 
 /// Rectangles whose union is the element's set of unit squares, in nm. They may overlap, and each

@@ -15,9 +15,9 @@ use Rattle.mpw_geom.specs.Placing.{placed_square}
 use Rattle.mpw_geom.proofs.Squares.{Decides-any_has_square}
 use Rattle.mpw_geom.proofs.Tests.{SquareIn, SquareIn-from_test, test_from_SquareIn, le_from_test, lt_from_test, test_from_lt}
 use Rattle.mpw_geom.proofs.Turns.{placed_squares}
-use Rattle.mpw_elements.specs.declared.element.Element.{Element}
-use Rattle.mpw_elements.specs.declared.element.Element.TheVariants.{Boundary, Path, Reference}
-use Rattle.mpw_elements.specs.Element.{closed}
+use Rattle.mpw_structures.specs.declared.element.Element.{Element}
+use Rattle.mpw_structures.specs.declared.element.Element.TheVariants.{Boundary, Path, Reference}
+use Rattle.mpw_structures.specs.Element.{closed}
 use Rattle.mpw_shapes.specs.Boundary.{rises_across, count_steps, upward, downward, winding, boundary_has}
 use Rattle.mpw_shapes.specs.Path.{wire_boxes, path_has}
 use Rattle.mpw_shapes.specs.Element.{element_has}

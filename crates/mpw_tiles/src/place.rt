@@ -10,8 +10,8 @@ ghost use Rattle.mpw_tiles.specs.Shown.{layer_of};
 ghost use Rattle.mpw_tiles.specs.Internal.Placed.{nearest_point};
 
 use crate::listing::Rectangle;
-use mpw_elements::Element;
 use mpw_geom::{Box2, Layer, Orient, Placing, Point};
+use mpw_structures::Element;
 use mpw_walk::Placed;
 
 /// What the rectangles of a shape have in common: its layer, the number of the submission from which it comes, and how it is

@@ -1,7 +1,7 @@
 //! Listing shapes: the rectangles of each, placed, go into the lists of the windows with which they share squares.
 
 ghost use Rattle.std.specs.Prelude.{◌≡◌, length, All, OnOk};
-ghost use Rattle.mpw_elements.specs.Element.{IsElement};
+ghost use Rattle.mpw_structures.specs.Element.{IsElement};
 ghost use Rattle.mpw_geom.specs.Plane.{HasArea};
 ghost use Rattle.mpw_walk.specs.Turns.{given};
 ghost use Rattle.mpw_walk.specs.Way.{item_of};

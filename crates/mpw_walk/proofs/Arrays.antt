@@ -4,7 +4,7 @@ use Rattle.std.proofs.lemmas.Int.{ints, to_z-of_z}
 use Rattle.mpw_geom.specs.declared.plane.Point.{Point}
 use Rattle.mpw_geom.specs.Plane.{IsInPlane}
 use Rattle.mpw_geom.proofs.Chains.{same_point}
-use Rattle.mpw_elements.specs.declared.element.Reference.{Reference}
+use Rattle.mpw_structures.specs.declared.element.Reference.{Reference}
 use Rattle.mpw_hier.specs.Items.{stepped}
 use Rattle.mpw_walk.specs.Frames.{IsShort, IsWithin}
 use Rattle.mpw_walk.specs.Internal.Frames.{IsNearArray}

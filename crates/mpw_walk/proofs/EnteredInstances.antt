@@ -7,7 +7,7 @@ use Rattle.mpw_geom.specs.Placing.{placed_point}
 use Rattle.mpw_geom.specs.declared.plane.Box2.{Box2}
 use Rattle.mpw_geom.specs.declared.plane.Point.{Point}
 use Rattle.mpw_geom.specs.declared.placing.Placing.{Placing}
-use Rattle.mpw_elements.specs.declared.element.Reference.{Reference}
+use Rattle.mpw_structures.specs.declared.element.Reference.{Reference}
 use Rattle.mpw_hier.specs.declared.node.Target.{Target}
 use Rattle.mpw_hier.specs.declared.submission.Submission.{Submission}
 use Rattle.mpw_hier.specs.Items.{Item, placed_item, placed_again, instance}

@@ -3,8 +3,8 @@ use Rattle.std.proofs.Common.{◌≡◌, ◌+◌, ◌<◌, true, false, [], ◌�
 use Rattle.std.specs.Prelude.{slice_get, slice_index}
 use Rattle.std.proofs.lemmas.List.{length-append}
 use Rattle.mpw_geom.specs.declared.placing.Placing.{Placing}
-use Rattle.mpw_elements.specs.Element.{IsElement}
-use Rattle.mpw_library.specs.Library.{IsStructure, IsLibrary}
+use Rattle.mpw_structures.specs.Element.{IsElement}
+use Rattle.mpw_structures.specs.Library.{IsStructure, IsLibrary}
 use Rattle.mpw_hier.specs.declared.submission.Submission.{Submission}
 use Rattle.mpw_hier.specs.Items.{Item}
 use Rattle.mpw_hier.specs.Boxes.{element_box}

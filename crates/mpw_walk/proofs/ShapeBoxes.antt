@@ -7,7 +7,7 @@ use Rattle.std.proofs.lemmas.List.Elements.{All-head}
 use Rattle.mpw_geom.specs.declared.plane.Box2.{Box2}
 use Rattle.mpw_geom.specs.Plane.{IsOrdered}
 use Rattle.mpw_geom.proofs.Tests.{test_from_le}
-use Rattle.mpw_elements.specs.declared.element.Element.{Element}
+use Rattle.mpw_structures.specs.declared.element.Element.{Element}
 use Rattle.mpw_hier.specs.Boxes.{element_box, extent_of, is_near, is_box_near}
 use Rattle.mpw_hier.specs.Holding.{IsInside, IsHeld}
 use Rattle.mpw_hier.specs.Sizes.{IsExtentNear}

@@ -2,10 +2,10 @@
 use Rattle.std.proofs.Common.{◌≡◌, ℕ, true, List, [], ◌∷◌, length, map, refl}
 use Rattle.std.specs.Prelude.{All}
 use Rattle.std.proofs.lemmas.List.Elements.{All-nil, All-cons, All-append, All-map}
-use Rattle.mpw_elements.specs.declared.element.Element.{Element}
-use Rattle.mpw_elements.specs.declared.element.Element.TheVariants as elements
-use Rattle.mpw_elements.specs.declared.element.Reference.{Reference}
-use Rattle.mpw_library.specs.declared.structures.Structure.{Structure}
+use Rattle.mpw_structures.specs.declared.element.Element.{Element}
+use Rattle.mpw_structures.specs.declared.element.Element.TheVariants as elements
+use Rattle.mpw_structures.specs.declared.element.Reference.{Reference}
+use Rattle.mpw_structures.specs.declared.structures.Structure.{Structure}
 use Rattle.mpw_hier.specs.declared.submission.Submission.{Submission}
 use Rattle.mpw_hier.specs.Structures.{references, is_shape}
 use Rattle.mpw_hier.specs.Items.{Item, own_items, placed_item, placed_items, shown_items, instances}

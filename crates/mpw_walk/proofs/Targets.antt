@@ -4,9 +4,9 @@ use Rattle.std.specs.Prelude.{slice_get, IfSome}
 use Rattle.std.specs.Borrow.{Bor}
 use Rattle.std.proofs.lemmas.Option.{slice_get_within, slice_get-get_or}
 use Rattle.std.proofs.lemmas.List.{length-take}
-use Rattle.mpw_elements.specs.declared.element.Element.TheVariants as elements
-use Rattle.mpw_elements.specs.declared.element.Reference.{Reference}
-use Rattle.mpw_library.specs.Places.{place_of}
+use Rattle.mpw_structures.specs.declared.element.Element.TheVariants as elements
+use Rattle.mpw_structures.specs.declared.element.Reference.{Reference}
+use Rattle.mpw_structures.specs.Places.{place_of}
 use Rattle.mpw_hier.specs.declared.node.Node.{Node}
 use Rattle.mpw_hier.specs.declared.node.Target.{Target}
 use Rattle.mpw_hier.specs.declared.node.Target.TheVariants as targets

@@ -4,8 +4,8 @@ use Rattle.std.specs.Prelude.{ℕ, List, [], ◌∷◌, ◌++◌, map, length, s
 use Rattle.std.specs.List.{flat_map}
 use Rattle.mpw_geom.specs.declared.plane.Box2.{Box2}
 use Rattle.mpw_geom.specs.declared.placing.Placing.{Placing}
-use Rattle.mpw_elements.specs.declared.element.Reference.{Reference}
-use Rattle.mpw_library.specs.declared.structures.Structure.{Structure}
+use Rattle.mpw_structures.specs.declared.element.Reference.{Reference}
+use Rattle.mpw_structures.specs.declared.structures.Structure.{Structure}
 use Rattle.mpw_hier.specs.declared.submission.Submission.{Submission}
 use Rattle.mpw_hier.specs.Structures.{references}
 use Rattle.mpw_hier.specs.Items.{Item, own_items, placed_item, placed_again, instances}

@@ -2,8 +2,8 @@
 use Rattle.std.specs.Prelude.{◌≡◌, ◌≤◌, ◌<◌, ◌+◌, ◌^◌, ℕ, List, ◌++◌, length, drop, slice_get, fold, All, Option, Some}
 use Rattle.mpw_geom.specs.declared.plane.Box2.{Box2}
 use Rattle.mpw_geom.specs.Plane.{IsInPlane}
-use Rattle.mpw_elements.specs.Element.{IsElement}
-use Rattle.mpw_library.specs.Library.{IsLibrary}
+use Rattle.mpw_structures.specs.Element.{IsElement}
+use Rattle.mpw_structures.specs.Library.{IsLibrary}
 use Rattle.mpw_hier.specs.declared.submission.Submission.{Submission}
 use Rattle.mpw_hier.specs.Items.{Item}
 use Rattle.mpw_walk.specs.declared.frame.Frame.{Frame}

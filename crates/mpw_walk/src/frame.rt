@@ -8,9 +8,9 @@ ghost use Rattle.mpw_walk.specs.Internal.Frames.{IsFront, ShowsName, IsNext, IsS
 
 use crate::laws::names_are_walked;
 use crate::root::Placed;
-use mpw_elements::{Element, Reference};
 use mpw_geom::{Orient, Placing, Point};
 use mpw_hier::{Node, Shelf, Target};
+use mpw_structures::{Element, Reference};
 
 const HERE: Placing = Placing {
     orient: Orient::R0,

@@ -1,7 +1,7 @@
 //! Where a walk begins, and what it gives.
 
-use mpw_elements::Element;
 use mpw_geom::Placing;
+use mpw_structures::Element;
 
 /// A submission, by number, and how it is placed.
 #[derive(Clone, Copy)]

@@ -17,9 +17,9 @@ use crate::frames::Frames;
 use crate::laws::names_are_walked;
 use crate::root::{Placed, Root};
 use crate::window::{is_given, is_in};
-use mpw_elements::Reference;
 use mpw_geom::Box2;
 use mpw_hier::{Shelf, Target};
+use mpw_structures::Reference;
 
 /// What a step found.
 #[derive(Clone, Copy)]

@@ -1,7 +1,7 @@
 //! Which instances a walk enters, and which shapes it gives.
 
 ghost use Rattle.std.specs.Prelude.{◌≡◌, option_map};
-ghost use Rattle.mpw_elements.specs.Element.{IsElement};
+ghost use Rattle.mpw_structures.specs.Element.{IsElement};
 ghost use Rattle.mpw_hier.specs.Boxes.{element_box, placed_box};
 ghost use Rattle.mpw_hier.specs.Sizes.{IsExtentNear};
 ghost use Rattle.mpw_walk.specs.Frames.{IsWithin};

@@ -4,8 +4,8 @@
 ghost use Rattle.std.specs.Prelude.{◌≡◌, All};
 ghost use Rattle.std.specs.List.{flat_map};
 ghost use Rattle.mpw_geom.specs.Plane.{IsInPlane};
-ghost use Rattle.mpw_elements.specs.Element.{IsPointWithinReach, IsBoundary, IsPath};
-ghost use Rattle.mpw_elements.specs.declared.element.Element.TheVariants as ElementTold;
+ghost use Rattle.mpw_structures.specs.Element.{IsPointWithinReach, IsBoundary, IsPath};
+ghost use Rattle.mpw_structures.specs.declared.element.Element.TheVariants as ElementTold;
 ghost use Rattle.mpw_replies.specs.Shapes.{IsPlaceableView, line_of};
 ghost use Rattle.mpw_wire.specs.Reply.{point_text, points_text, shape_end, boundary_head, path_head, shape_text, listed_text};
 ghost use Rattle.mpw_wire.specs.Writing.{Writes};
@@ -13,8 +13,8 @@ ghost use Rattle.mpw_wire.specs.Writing.{Writes};
 use crate::write::write_parts;
 use crate::{Sink, WireFault};
 use itoa::Buffer;
-use mpw_elements::{Boundary, Element, Path};
 use mpw_geom::{Layer, Name, Placing, Point};
+use mpw_structures::{Boundary, Element, Path};
 use mpw_replies::{ShapeListing, ShapeView};
 
 /// Writes a point, behind a space.

@@ -1,10 +1,9 @@
 //! The flat list of placed submissions by plain recursion, as a second opinion of walks.
 
 use anyhow::{Context, Result, bail};
-use mpw_elements::{Element, Reference};
 use mpw_geom::{Layer, Name, Orient, Placing, Point};
 use mpw_hier::{Shelf, Submission};
-use mpw_library::Structure;
+use mpw_structures::{Element, Reference, Structure};
 use mpw_plain::{bound, own};
 use mpw_walk::{Placed, Root, Walk};
 use std::alloc::Global;

@@ -1,9 +1,8 @@
 //! Libraries as lines.
 
 use anyhow::Result;
-use mpw_elements::{Boundary, Element, Path, Points, Reference};
 use mpw_geom::{Orient, Point};
-use mpw_library::{Library, Structure};
+use mpw_structures::{Boundary, Element, Library, Path, Points, Reference, Structure};
 use std::alloc::{AllocError, Global};
 
 fn orientation(orient: Orient) -> &'static str {

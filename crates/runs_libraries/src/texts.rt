@@ -3,7 +3,8 @@
 use crate::print;
 use anyhow::{Result, bail};
 use mpw_elements::ReadError;
-use mpw_library::{Library, LibraryText};
+use mpw_structures::Library;
+use mpw_library::LibraryText;
 use mpw_records::{ReadFault, Record, Records};
 use mpw_samples::text_of_library;
 use std::alloc::{AllocError, Global};

@@ -1,13 +1,13 @@
 //! Rectangles of elements, counted square by square.
 
-ghost use Rattle.mpw_elements.specs.Element.{IsElement};
-ghost use Rattle.mpw_library.specs.Library.{IsLibrary};
+ghost use Rattle.mpw_structures.specs.Element.{IsElement};
+ghost use Rattle.mpw_structures.specs.Library.{IsLibrary};
 
 use crate::figures;
 use anyhow::{Result, bail};
-use mpw_elements::Element;
 use mpw_geom::Box2;
-use mpw_library::{Library, read_library};
+use mpw_structures::{Element, Library};
+use mpw_library::read_library;
 use mpw_samples::{NANOMETRE, Sample, SampleError, text_of_library};
 use mpw_shapes::rectangles;
 use std::alloc::{AllocError, Global};

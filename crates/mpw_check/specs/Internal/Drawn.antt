@@ -5,7 +5,7 @@ use Rattle.mpw_hier.specs.declared.fault.HierFault.TheVariants as limits
 use Rattle.mpw_hier.specs.declared.submission.Submission.{Submission}
 use Rattle.mpw_hier.specs.Limits.{KeepsLimits}
 use Rattle.mpw_hier.specs.Outside.{AreExternals}
-use Rattle.mpw_library.specs.declared.structures.Structure.{Structure}
+use Rattle.mpw_structures.specs.declared.structures.Structure.{Structure}
 use Rattle.mpw_check.specs.declared.fault.CheckFault.{CheckFault}
 use Rattle.mpw_check.specs.declared.fault.CheckFault.TheVariants as faults
 use Rattle.mpw_check.specs.Drawn.{offered, drawn_shelf}

@@ -1,8 +1,8 @@
 -- What private functions and proofs need of this: what a read element satisfies.
 use Rattle.std.specs.Prelude.{◌≡◌, ℕ, ◌*◌, ◌≤◌, IsTrue, ℤ, pos, List, length, All}
 use Rattle.mpw_geom.specs.declared.plane.Point.{Point}
+use Rattle.mpw_structures.specs.Element.{IsWithinReach, IsPointWithinReach, is_manhattan_step, each_step, closed, is_segment}
 use Rattle.mpw_elements.specs.declared.path.Breadth.{Breadth}
-use Rattle.mpw_elements.specs.Element.{IsWithinReach, IsPointWithinReach, is_manhattan_step, each_step, closed, is_segment}
 
 -- Corners: at least one, and each edge, the closing one too, is horizontal or vertical.
 pub record IsRing (ps : List Point) : Type 0 where

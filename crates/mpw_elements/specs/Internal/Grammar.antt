@@ -2,12 +2,12 @@
 use Rattle.std.specs.Prelude.{ℕ, ◌||◌, ◌==◌, pos, Bool, true, false, List, Option, Some, None, Result, Ok, Err, if◌then◌else◌}
 use Rattle.mpw_geom.specs.declared.plane.Layer.{Layer}
 use Rattle.mpw_geom.specs.declared.plane.Orient.{Orient}
+use Rattle.mpw_structures.specs.declared.element.Element.{Element}
+use Rattle.mpw_structures.specs.declared.element.Element.TheVariants as elements
 use Rattle.mpw_records.specs.declared.fault.Code.TheVariants.{Unexpected}
 use Rattle.mpw_records.specs.declared.fault.ReadFault.{ReadFault}
 use Rattle.mpw_records.specs.declared.kind.TheConstants.{BOUNDARY, PATH, SREF, AREF, TEXT, DATATYPE, LAYER, WIDTH, XY, ENDEL, SNAME, COLROW, NODE, PATHTYPE, BOX, BOXTYPE, BGNEXTN, ENDEXTN}
 use Rattle.mpw_records.specs.Records.{RawRecord, RecordOutcome}
-use Rattle.mpw_elements.specs.declared.element.Element.{Element}
-use Rattle.mpw_elements.specs.declared.element.Element.TheVariants as elements
 use Rattle.mpw_elements.specs.declared.path.Breadth.{Breadth}
 use Rattle.mpw_elements.specs.Reading.{Reading, ◌>>=◌, fault_at, field, demanded, expected, optional}
 use Rattle.mpw_elements.specs.Grammar.{orientation, ignored}

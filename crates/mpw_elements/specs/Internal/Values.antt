@@ -1,8 +1,8 @@
 -- What private functions and proofs need of this: what the data of a record tells, and the faults of a value, at its record.
 use Rattle.std.specs.Prelude.{◌<◌, ◌^◌, unsigned_abs}
 use Rattle.mpw_geom.specs.declared.plane.Point.{Point}
+use Rattle.mpw_structures.specs.Element.{IsPointWithinReach}
 use Rattle.mpw_elements.specs.declared.values.Grid.{Grid}
-use Rattle.mpw_elements.specs.Element.{IsPointWithinReach}
 
 -- A point of a four-byte XY, at a unit of at most 1000 nm.
 pub record IsNear (p : Point) : Type 0 where

@@ -4,11 +4,11 @@ use Rattle.std.specs.BTreeMap as tree
 use Rattle.std.specs.BTreeMap.{BTreeMap}
 use Rattle.std.specs.List.{AllZip}
 use Rattle.mpw_geom.specs.Names.{name_cmp, contains_name}
-use Rattle.mpw_elements.specs.declared.element.Element.{Element}
+use Rattle.mpw_structures.specs.declared.element.Element.{Element}
 use Rattle.mpw_geom.specs.declared.plane.Box2.{Box2}
-use Rattle.mpw_library.specs.declared.structures.Structure.{Structure}
-use Rattle.mpw_library.specs.Library.{IsLibrary}
-use Rattle.mpw_library.specs.Places.{place_of}
+use Rattle.mpw_structures.specs.declared.structures.Structure.{Structure}
+use Rattle.mpw_structures.specs.Library.{IsLibrary}
+use Rattle.mpw_structures.specs.Places.{place_of}
 use Rattle.mpw_hier.specs.declared.bindings.Binding.{Binding}
 use Rattle.mpw_hier.specs.declared.node.Node.{Node}
 use Rattle.mpw_hier.specs.declared.size.Size.{Size}

@@ -1,7 +1,7 @@
 -- What private functions and proofs need of this: what references name in a library, and what they name outside it.
 use Rattle.std.specs.Prelude.{ℕ, List, slice_get}
 use Rattle.std.specs.List.{flat_map}
-use Rattle.mpw_library.specs.declared.structures.Structure.{Structure}
+use Rattle.mpw_structures.specs.declared.structures.Structure.{Structure}
 use Rattle.mpw_hier.specs.Structures.{target_names}
 use Rattle.mpw_hier.specs.Outside.{names_outside}
 

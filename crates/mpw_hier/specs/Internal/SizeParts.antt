@@ -2,9 +2,9 @@
 use Rattle.std.specs.Prelude.{◌+◌, ◌*◌, ◌^◌, suc, ℤ, pos, neg_ℤ, ◌≤ℤ◌, max, List, [], ◌∷◌, drop, map, filter, Option, Some, None}
 use Rattle.mpw_geom.specs.declared.plane.Box2.{Box2}
 use Rattle.mpw_geom.specs.declared.plane.Point.{Point}
-use Rattle.mpw_elements.specs.declared.element.Element.{Element}
-use Rattle.mpw_elements.specs.declared.element.Element.TheVariants as elements
-use Rattle.mpw_elements.specs.declared.element.Reference.{Reference}
+use Rattle.mpw_structures.specs.declared.element.Element.{Element}
+use Rattle.mpw_structures.specs.declared.element.Element.TheVariants as elements
+use Rattle.mpw_structures.specs.declared.element.Reference.{Reference}
 use Rattle.mpw_shapes.specs.Path.{wire_boxes}
 use Rattle.mpw_hier.specs.declared.size_array.WideBox.{WideBox}
 use Rattle.mpw_hier.specs.Items.{instances}

@@ -1,5 +1,5 @@
 -- What private functions and proofs need of this: what a read library satisfies.
-use Rattle.mpw_elements.specs.Element.{IsElement}
+use Rattle.mpw_structures.specs.Element.{IsElement}
 use Rattle.mpw_library.specs.declared.read.Item.{Item}
 use Rattle.mpw_library.specs.declared.read.Item.TheVariants as items
 

@@ -1,4 +1,4 @@
-use Rattle.mpw_elements.specs.Element.{IsWithinReach}
+use Rattle.mpw_structures.specs.Element.{IsWithinReach}
 use Rattle.mpw_elements.specs.Internal.Element.{IsWidth}
 use Rattle.mpw_elements.proofs.Shapes.{kept}
 use Rattle.mpw_elements.proofs.path.read_breadth.Goals as goal

@@ -1,5 +1,5 @@
+use Rattle.mpw_structures.specs.Element.{IsWithinReach}
 use Rattle.mpw_records.specs.Records.{raw}
-use Rattle.mpw_elements.specs.Element.{IsWithinReach}
 use Rattle.mpw_elements.specs.Internal.Element.{IsWidth, IsBreadth}
 use Rattle.mpw_elements.proofs.Shapes.{centre_line, kept}
 use Rattle.mpw_elements.proofs.path.read_path.Goals as goal

@@ -1,5 +1,5 @@
 use Rattle.std.proofs.Common.{◌≡◌, ◌-◌, drop}
-use Rattle.mpw_elements.specs.Element.{is_manhattan_step, each_step}
+use Rattle.mpw_structures.specs.Element.{is_manhattan_step, each_step}
 use Rattle.mpw_elements.proofs.shape.is_manhattan.Given as goal
 
 -- the steps that are left decide

@@ -1,5 +1,5 @@
 use Rattle.std.proofs.lemmas.List.Filters.{dedup_is}
-use Rattle.mpw_elements.specs.Element.{same_point}
+use Rattle.mpw_structures.specs.Element.{same_point}
 use Rattle.mpw_elements.proofs.shape.merge_repeats.Goals as goal
 
 pub returns : goal.returns

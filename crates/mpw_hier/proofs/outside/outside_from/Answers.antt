@@ -1,5 +1,5 @@
 use Rattle.std.proofs.Common.{get_or, ap, sym, ◌∙◌}
-use Rattle.mpw_library.specs.declared.structures.Structure.{Structure}
+use Rattle.mpw_structures.specs.declared.structures.Structure.{Structure}
 use Rattle.mpw_hier.specs.Internal.Outside.{outside_from_all}
 use Rattle.mpw_hier.proofs.Shown.{outside_next}
 use Rattle.mpw_hier.proofs.outside.outside_from.Goals as goal

@@ -1,5 +1,5 @@
 use Rattle.std.proofs.Common.{◌≤◌, length, All}
-use Rattle.mpw_elements.specs.Element.{IsElement}
+use Rattle.mpw_structures.specs.Element.{IsElement}
 use Rattle.mpw_library.specs.Grammar.{all_elements}
 use Rattle.mpw_library.proofs.Loops.{ElementsTo}
 use Rattle.mpw_library.proofs.read.read_elements.Given as goal

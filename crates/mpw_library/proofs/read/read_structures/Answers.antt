@@ -1,9 +1,9 @@
 use Rattle.std.proofs.Common.{Option, Ok, IfSome, ap, subst, ◌∙◌}
 use Rattle.std.proofs.lemmas.List.Elements.{All-push}
 use Rattle.std.proofs.lemmas.Result.{err_from_is_err_and}
-use Rattle.mpw_library.specs.declared.structures.Structure.{Structure}
+use Rattle.mpw_structures.specs.declared.structures.Structure.{Structure}
+use Rattle.mpw_structures.specs.Library.{IsStructure}
 use Rattle.mpw_library.specs.Grammar.{all_structures}
-use Rattle.mpw_library.specs.Library.{IsStructure}
 use Rattle.mpw_library.proofs.Loops.{structures_err, structures_end, structures_more}
 use Rattle.mpw_library.proofs.read.read_structures.Goals as goal
 

@@ -1,6 +1,6 @@
 use Rattle.std.proofs.Common.{length}
+use Rattle.mpw_structures.specs.Library.{IsLibrary}
 use Rattle.mpw_library.specs.Grammar.{all_structures}
-use Rattle.mpw_library.specs.Library.{IsLibrary}
 use Rattle.mpw_library.proofs.Loops.{StructuresTo}
 use Rattle.mpw_library.proofs.read.read_structures.Given as goal
 

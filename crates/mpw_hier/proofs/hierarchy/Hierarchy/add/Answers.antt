@@ -1,6 +1,6 @@
 use Rattle.std.proofs.Common.{◌≡◌, List, length, refl, sym, ap, subst, ◌∙◌, arith}
 use Rattle.std.proofs.lemmas.Option.{slice_get_within}
-use Rattle.mpw_elements.specs.declared.element.Element.{Element}
+use Rattle.mpw_structures.specs.declared.element.Element.{Element}
 use Rattle.mpw_hier.specs.declared.node.Node.{Node}
 use Rattle.mpw_hier.specs.Nodes.{AreChildren, shape_places, structure_levels}
 use Rattle.mpw_hier.specs.Internal.Building.{AreKnown}

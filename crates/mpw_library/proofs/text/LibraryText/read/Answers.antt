@@ -1,12 +1,12 @@
 use Rattle.std.proofs.Common.{◌≡◌, ℕ, List, Result, Ok, Err, sym, ap, subst, ◌∙◌}
 use Rattle.std.specs.Prelude.{IfOk}
+use Rattle.mpw_structures.specs.declared.structures.Structure.{Structure}
+use Rattle.mpw_structures.specs.Library.{IsLibrary}
 use Rattle.mpw_records.specs.declared.fault.ReadFault.{ReadFault}
 use Rattle.mpw_elements.specs.declared.fault.ReadError.{ReadError}
 use Rattle.mpw_elements.specs.declared.fault.ReadError.TheVariants as errors
 use Rattle.mpw_elements.specs.Reading.{GivesValue}
-use Rattle.mpw_library.specs.declared.structures.Structure.{Structure}
 use Rattle.mpw_library.specs.Grammar.{library_of}
-use Rattle.mpw_library.specs.Library.{IsLibrary}
 use Rattle.mpw_library.specs.Text.{IsRead}
 use Rattle.mpw_library.proofs.text.LibraryText.read.Goals as goal
 use Rattle.mpw_library.proofs.text.LibraryText.read.Goals.{in-Ok, in-Err-Fault}

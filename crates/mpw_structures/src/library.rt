@@ -1,7 +1,7 @@
-//! A library that was read.
+//! A library, whose copies share its structures.
 
 ghost use Rattle.std.specs.Prelude.{◌≡◌, ◌↔◌, IfOk, IsTrue};
-ghost use Rattle.mpw_library.specs.Places.{place_of};
+ghost use Rattle.mpw_structures.specs.Places.{place_of};
 
 use crate::structures::{Structure, Structures};
 use mpw_geom::Name;
@@ -23,7 +23,7 @@ impl Drop for Library {
 
 impl Model for Library {
     ghost use Rattle.std.specs.Prelude.{List};
-    ghost use Rattle.mpw_library.specs.declared.structures.Structure.{Structure};
+    ghost use Rattle.mpw_structures.specs.declared.structures.Structure.{Structure};
 
     ghost Value = { List Structure };
 

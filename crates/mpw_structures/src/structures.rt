@@ -1,9 +1,10 @@
 //! The structures of a library, in file order, and found by their names.
 
 ghost use Rattle.std.specs.Prelude.{◌≡◌, ◌↔◌, IsTrue, [], ◌∷◌, ◌++◌, None, OnOk, OnErr, is_some};
-ghost use Rattle.mpw_library.specs.Places.{place_of};
+ghost use Rattle.mpw_structures.specs.Places.{place_of};
 
-use mpw_elements::{Element, OwnedList};
+use crate::element::Element;
+use crate::list::OwnedList;
 use mpw_geom::Name;
 use mpw_lists::{Same, are_same};
 use std::alloc::{AllocError, Global};
@@ -51,11 +52,11 @@ impl Drop for Structures {
 
 impl Model for Structures {
     ghost use Rattle.std.specs.Prelude.{List};
-    ghost use Rattle.mpw_library.specs.declared.structures.Structure.{Structure};
+    ghost use Rattle.mpw_structures.specs.declared.structures.Structure.{Structure};
 
     ghost Value = { List Structure };
 
-    ghost use Rattle.mpw_library.specs.Places.{AreIndexed};
+    ghost use Rattle.mpw_structures.specs.Places.{AreIndexed};
 
     ghost view = { λ a. a.items.items };
 

@@ -1,8 +1,8 @@
 -- What a read library satisfies.
 use Rattle.std.specs.Prelude.{List, All}
 use Rattle.mpw_geom.specs.Name.{IsName}
-use Rattle.mpw_elements.specs.Element.{IsElement}
-use Rattle.mpw_library.specs.declared.structures.Structure.{Structure}
+use Rattle.mpw_structures.specs.Element.{IsElement}
+use Rattle.mpw_structures.specs.declared.structures.Structure.{Structure}
 
 pub record IsStructure (s : Structure) : Type 0 where
   pub name : IsName s.name

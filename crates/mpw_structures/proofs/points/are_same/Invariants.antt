@@ -1,5 +1,5 @@
 use Rattle.std.proofs.Common.{◌≡◌, take}
-use Rattle.mpw_elements.proofs.points.are_same.Given as goal
+use Rattle.mpw_structures.proofs.points.are_same.Given as goal
 
 -- the points before this one are the same
 abbrev pub invariant-loop-i : goal.invariant-loop-i

@@ -7,8 +7,8 @@ use Rattle.std.specs.BTreeMap.{BTreeMap}
 use Rattle.std.specs.Cmp.Lexicographic.{slice_cmp, pointwise, texts_ties}
 use Rattle.std.specs.Ordering.{nat_cmp, is_eq}
 use Rattle.std.proofs.lemmas.Slice.Eq.{bytes_eq-Decides}
-use Rattle.mpw_library.specs.declared.structures.Structure.{Structure}
-use Rattle.mpw_library.specs.Places.{place_from, place_of, AreIndexed}
+use Rattle.mpw_structures.specs.declared.structures.Structure.{Structure}
+use Rattle.mpw_structures.specs.Places.{place_from, place_of, AreIndexed}
 
 step : (b : Bool) (x : ℕ) (X Y Z : Option ℕ) → X ≡ option_or Y Z
     → cond b (Some x) X ≡ option_or (cond b (Some x) Y) Z

@@ -1,6 +1,6 @@
 use Rattle.std.proofs.Common.{◌≡◌, ◌↔◌, Bool, true, false, ◌&&◌, IsTrue, refl, ap}
-use Rattle.mpw_elements.specs.declared.element.Reference.{Reference}
-use Rattle.mpw_elements.proofs.element.Reference.is_same.Goals as goal
+use Rattle.mpw_structures.specs.declared.element.Reference.{Reference}
+use Rattle.mpw_structures.proofs.element.Reference.is_same.Goals as goal
 
 abbrev ArePlacedAlike : Reference → Reference → Type 0
 ArePlacedAlike a b = (a.name ≡ b.name) × (a.orient ≡ b.orient) × (a.origin ≡ b.origin)

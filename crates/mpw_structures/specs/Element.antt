@@ -3,11 +3,11 @@ use Rattle.std.specs.Prelude.{◌≡◌, ℕ, ◌*◌, ◌^◌, ◌≤◌, ◌&&
 use Rattle.std.specs.Ordering.{int_eq}
 use Rattle.mpw_geom.specs.declared.plane.Point.{Point}
 use Rattle.mpw_geom.specs.Name.{IsName}
-use Rattle.mpw_elements.specs.declared.element.Boundary.{Boundary}
-use Rattle.mpw_elements.specs.declared.element.Path.{Path}
-use Rattle.mpw_elements.specs.declared.element.Reference.{Reference}
-use Rattle.mpw_elements.specs.declared.element.Element.{Element}
-use Rattle.mpw_elements.specs.declared.element.Element.TheVariants as elements
+use Rattle.mpw_structures.specs.declared.element.Boundary.{Boundary}
+use Rattle.mpw_structures.specs.declared.element.Path.{Path}
+use Rattle.mpw_structures.specs.declared.element.Reference.{Reference}
+use Rattle.mpw_structures.specs.declared.element.Element.{Element}
+use Rattle.mpw_structures.specs.declared.element.Element.TheVariants as elements
 
 -- A value in nm that lies strictly between -2^48 and 2^48.
 pub record IsWithinReach (z : ℤ) : Type 0 where
