@@ -7,12 +7,12 @@ ghost use Rattle.mpw_placings.specs.Placements.{ArePlacings, roots_of};
 ghost use Rattle.mpw_replies.specs.Rows.{Answers, needed};
 ghost use Rattle.mpw_tiles.specs.Snapshots.{AreRoots, shown};
 
+use mpw_access::enter;
 use mpw_deck::Deck;
 use mpw_hier::Shelf;
-use mpw_placings::{Placings, Wafer};
 use mpw_permissions::{Object, Operation};
+use mpw_placings::{Placings, Wafer};
 use mpw_rbac::Policy;
-use mpw_access::enter;
 use mpw_replies::{Code, Fault};
 use mpw_run::{Phase, Planned, Run};
 use mpw_tiles::Snapshot;

@@ -5,9 +5,9 @@ ghost use Rattle.std.specs.Prelude.{◌≡◌, IfOk};
 ghost use Rattle.mpw_checking.specs.Checking as row;
 ghost use Rattle.mpw_replies.specs.Rows.{Answers};
 
+use mpw_access::{enter, need_session, seen_by};
 use mpw_permissions::{Object, Operation};
 use mpw_rbac::Policy;
-use mpw_access::{enter, need_session, seen_by};
 use mpw_replies::{Code, Fault, Line, Lines, MarkerListing, need};
 use mpw_run::{Checked, Phase, Run};
 use std::alloc::{AllocError, Global};

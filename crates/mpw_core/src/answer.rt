@@ -22,14 +22,14 @@ use crate::policy::make;
 use crate::run_answer::of_run;
 use crate::tables::Tables;
 use crate::{Event, Response};
+use mpw_access::enter;
 use mpw_checking::{NextRun, RunAnswer};
 use mpw_geom::Name;
 use mpw_hier::Shelf;
 use mpw_layouts::LayoutAnswer;
-use mpw_placings::Wafer;
 use mpw_permissions::{Object, Operation};
+use mpw_placings::Wafer;
 use mpw_rbac::{Identity, Policy, PolicyFault, Refusal};
-use mpw_access::enter;
 use mpw_replies::{Code, Denial, Fault, Line, Lines, Reply, Trail};
 use mpw_requests::{
     LayoutRequest, PolicyRequest, Request, RunRequest, SignOffRequest, WaferRequest,

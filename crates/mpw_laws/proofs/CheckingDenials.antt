@@ -12,10 +12,9 @@ use Rattle.mpw_permissions.specs.declared.permission.Operation.{Operation}
 use Rattle.mpw_permissions.specs.declared.permission.Operation.TheVariants as operations
 use Rattle.mpw_rbac.specs.Policy.{Policy, permits, session_of}
 use Rattle.mpw_requests.specs.declared.run.RunRequest.TheVariants as ask
-use Rattle.mpw_access.specs.Permitted.{EnteringDeniesWhatIsLacked}
+use Rattle.mpw_access.specs.Permitted.{EnteringDeniesWhatIsLacked, permitted, session_test}
 use Rattle.mpw_replies.specs.Listing.{Listed, stored}
 use Rattle.mpw_replies.specs.Rows.{denied, needed}
-use Rattle.mpw_access.specs.Permitted.{permitted, session_test}
 use Rattle.mpw_replies.specs.declared.reply.Code.TheVariants as code
 use Rattle.mpw_replies.specs.declared.reply.Denial.TheVariants as denial
 use Rattle.mpw_replies.specs.declared.reply.Reply.TheVariants as reply

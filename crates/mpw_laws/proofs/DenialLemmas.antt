@@ -27,9 +27,8 @@ use Rattle.mpw_laws.specs.WaferLaws.{WafersDenyWhatIsLacked}
 use Rattle.mpw_laws.specs.CheckingLaws.{RunsDenyWhatIsLacked}
 use Rattle.mpw_laws.specs.SignOffLaws.{SignOffsDenyWhatIsLacked}
 use Rattle.mpw_laws.proofs.RowParts.{denial_ended}
-use Rattle.mpw_access.specs.Permitted.{EnteringDeniesWhatIsLacked}
+use Rattle.mpw_access.specs.Permitted.{EnteringDeniesWhatIsLacked, permitted}
 use Rattle.mpw_replies.specs.Rows.{denied}
-use Rattle.mpw_access.specs.Permitted.{permitted}
 use Rattle.mpw_replies.specs.declared.row.Ending.{Ending}
 use Rattle.mpw_permissions.specs.declared.permission.Object.TheVariants as objects
 use Rattle.mpw_permissions.specs.declared.permission.Operation.TheVariants as operations

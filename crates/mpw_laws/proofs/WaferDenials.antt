@@ -15,9 +15,8 @@ use Rattle.mpw_permissions.specs.declared.permission.Operation.{Operation}
 use Rattle.mpw_permissions.specs.declared.permission.Operation.TheVariants as operations
 use Rattle.mpw_rbac.specs.Policy.{Policy, permits}
 use Rattle.mpw_requests.specs.declared.wafer.WaferRequest.TheVariants as ask
-use Rattle.mpw_access.specs.Permitted.{EnteringDeniesWhatIsLacked}
+use Rattle.mpw_access.specs.Permitted.{EnteringDeniesWhatIsLacked, permitted}
 use Rattle.mpw_replies.specs.Rows.{denied}
-use Rattle.mpw_access.specs.Permitted.{permitted}
 use Rattle.mpw_replies.specs.declared.reply.Denial.TheVariants as denial
 use Rattle.mpw_replies.specs.declared.reply.Reply.TheVariants as reply
 use Rattle.mpw_replies.specs.declared.row.Ending.{Ending}

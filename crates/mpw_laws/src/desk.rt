@@ -63,11 +63,11 @@ use crate::sign_off::{
 use crate::wafer::{
     denials_over_the_wafer_name_what_is_lacked, wafers_are_left_unless_a_request_is_accepted,
 };
+use mpw_access::entering_denies_what_is_lacked;
 use mpw_rbac_laws::{
     denied_only_for_the_least_broken_set, each_request_keeps_the_tables,
     own_requests_need_no_permission, sets_are_told_where_they_are_tested,
 };
-use mpw_access::entering_denies_what_is_lacked;
 
 /// In every state that calls lead to, each session is of a user who is authorized for each of its active roles.
 pub fn every_state_keeps_authorization()

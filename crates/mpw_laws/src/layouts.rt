@@ -1,8 +1,8 @@
 //! Laws of the requests over the shelf. Each function calls at most the laws that its own rests on: its contract is the law.
 ghost use Rattle.mpw_laws.specs.LayoutLaws.{LayoutsAreOfReadable, LayoutsDenyWhatIsLacked, NegativesLeaveTheShelf, ShapesAreNoReferences};
 
-use mpw_hier::shelves_have_their_numbers;
 use mpw_access::entering_denies_what_is_lacked;
+use mpw_hier::shelves_have_their_numbers;
 use mpw_walk::shapes_are_no_references;
 
 /// A denial of a permission names one that the connection's session lacks.

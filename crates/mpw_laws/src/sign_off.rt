@@ -4,8 +4,8 @@ ghost use Rattle.mpw_laws.specs.SignOffLaws.{AskedAreShown, AskersAreTold, Clean
 use crate::waivers::{
     denials_have_their_cause, none_unsigned_where_all_are_signed, signers_are_apart,
 };
-use mpw_markers::places_are_of_their_keys;
 use mpw_access::entering_denies_what_is_lacked;
+use mpw_markers::places_are_of_their_keys;
 use mpw_run::tests_are_exact;
 
 /// A waiver is signed by a user who neither asked for it nor submitted what its marker meets.

@@ -17,18 +17,18 @@ ghost use Rattle.mpw_rbac.specs.Rows.{user_of};
 ghost use Rattle.mpw_permissions.specs.declared.permission.Operation.TheVariants.{Read};
 
 use crate::sight::shapes_of;
+use mpw_access::enter;
 use mpw_elements::ReadError;
 use mpw_geom::{Name, Names};
 use mpw_hier::{
     Bindings, HierFault, Outline, Shelf, Submission, reaching_is_decided,
     shelves_have_their_numbers,
 };
-use mpw_structures::Library;
 use mpw_library::LibraryText;
 use mpw_permissions::{Object, Operation};
 use mpw_rbac::{Access, Policy};
-use mpw_access::enter;
 use mpw_replies::{Code, Denial, Ending, Fault, Line, Lines};
+use mpw_structures::Library;
 use std::alloc::{AllocError, Global};
 
 /// A fault of the shelf as what ends a row.

@@ -4,9 +4,9 @@ ghost use Rattle.std.specs.List.{flat_map};
 ghost use Rattle.mpw_hier.specs.Values.{flat};
 ghost use Rattle.mpw_layouts.specs.Layouts.{readable_shape};
 
+use mpw_access::seen_by;
 use mpw_hier::Shelf;
 use mpw_rbac::Policy;
-use mpw_access::seen_by;
 use mpw_replies::ShapeListing;
 use std::alloc::{AllocError, Global};
 

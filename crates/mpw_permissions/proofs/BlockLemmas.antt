@@ -7,9 +7,8 @@ use Rattle.std.proofs.lemmas.List.{length-append}
 use Rattle.std.proofs.lemmas.List.Folds.{list_any-append}
 use Rattle.mpw_roles.specs.declared.mask.Mask.{Mask}
 use Rattle.mpw_roles.specs.Mask.{has}
-use Rattle.mpw_permissions.specs.Grant.{operation_eq, object_eq, grant_eq}
+use Rattle.mpw_permissions.specs.Grant.{operation_eq, object_eq, grant_eq, without_grant}
 use Rattle.mpw_permissions.specs.Internal.Grants.{AreCovered, IsCovered, object_slot, role_slot}
-use Rattle.mpw_permissions.specs.Grant.{without_grant}
 use Rattle.mpw_permissions.specs.Internal.Holders.{hash, name_hash}
 use Rattle.mpw_roles.proofs.CallerLemmas.{same_name}
 use Rattle.mpw_geom.specs.Names.{name_eq}

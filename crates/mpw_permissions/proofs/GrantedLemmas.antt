@@ -13,10 +13,9 @@ use Rattle.mpw_roles.specs.Order.{is_below, roles_below, are_distinct}
 use Rattle.mpw_roles.specs.Places.{name_at, is_place_below}
 use Rattle.mpw_roles.proofs.CallerLemmas.{same_name, name_eq-refl, contains-roles_below}
 use Rattle.mpw_roles.proofs.MarksLemmas.{length-names}
-use Rattle.mpw_permissions.specs.Grant.{operation_index, operation_eq, object_eq, grant_eq}
+use Rattle.mpw_permissions.specs.Grant.{operation_index, operation_eq, object_eq, grant_eq, is_granted_to}
 use Rattle.mpw_permissions.specs.Internal.Holders.{Buckets, is_grant_of, is_place_granted, holds, grants_after, IsHeld, AreHeld, IsHeldAfter, AreHeldAfter, ArePermissions}
 use Rattle.mpw_permissions.specs.Permissions.{AreMoreNames}
-use Rattle.mpw_permissions.specs.Grant.{is_granted_to}
 use Rattle.mpw_permissions.specs.declared.permission.Grant.{Grant}
 use Rattle.mpw_permissions.specs.declared.permission.Object.{Object}
 use Rattle.mpw_permissions.specs.declared.permission.Operation.{Operation}

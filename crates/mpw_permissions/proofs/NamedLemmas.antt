@@ -6,9 +6,8 @@ use Rattle.mpw_roles.specs.Hierarchy.{Name}
 use Rattle.mpw_roles.specs.Order.{are_distinct}
 use Rattle.mpw_roles.proofs.CallerLemmas.{contains-filter, name_eq-refl, same_name, or_right}
 use Rattle.mpw_roles.proofs.RoleLemmas.{contains-append}
-use Rattle.mpw_permissions.specs.Grant.{operation_eq, object_eq, grant_eq}
+use Rattle.mpw_permissions.specs.Grant.{operation_eq, object_eq, grant_eq, ungranted}
 use Rattle.mpw_permissions.specs.Internal.Holders.{are_to_roles, grants_after}
-use Rattle.mpw_permissions.specs.Grant.{ungranted}
 use Rattle.mpw_permissions.specs.declared.permission.Grant.{Grant}
 use Rattle.mpw_roles.proofs.BoolLemmas.{refuted, and_both as both, and_parts as parts}
 

@@ -5,15 +5,13 @@
 ghost use Rattle.std.specs.Prelude.{◌≡◌, ◌<◌, ◌∷◌, ◌++◌, [], not, IfOk};
 ghost use Rattle.std.specs.List.{list_any};
 ghost use Rattle.mpw_geom.specs.Names.{name_eq};
-ghost use Rattle.mpw_permissions.specs.Grant.{grant_eq};
+ghost use Rattle.mpw_permissions.specs.Grant.{grant_eq, without_grant, ungranted};
 ghost use Rattle.mpw_permissions.specs.Internal.Grants.{AreCovered, AreSlots};
-ghost use Rattle.mpw_permissions.specs.Grant.{without_grant};
-ghost use Rattle.mpw_permissions.specs.Grant.{ungranted};
 
 use crate::Grant;
 use crate::bucket::{hash, name_hash};
-use crate::copies::roomy_copy;
 use mpw_geom::Name;
+use mpw_lists::roomy_copy;
 use mpw_roles::Mask;
 use std::alloc::{AllocError, Global};
 use std::marker::Model;

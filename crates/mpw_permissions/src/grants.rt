@@ -5,16 +5,14 @@
 //! in, which its slots tell apart from nearly all others, and costs a count for each other one, unless it stands in the last.
 ghost use Rattle.std.specs.Prelude.{◌≡◌, ◌∷◌, ◌++◌, [], length, nat_lt, IfOk, OnOk};
 ghost use Rattle.std.specs.List.{list_any, flat_map};
-ghost use Rattle.mpw_permissions.specs.Grant.{grant_eq};
+ghost use Rattle.mpw_permissions.specs.Grant.{grant_eq, without_grant, ungranted};
 ghost use Rattle.mpw_permissions.specs.Internal.Grants.{AreSlots};
-ghost use Rattle.mpw_permissions.specs.Grant.{without_grant};
 ghost use Rattle.mpw_permissions.specs.Internal.Holders.{grants_after};
-ghost use Rattle.mpw_permissions.specs.Grant.{ungranted};
 
 use crate::Grant;
 use crate::block::{Block, Slots};
-use crate::copies::roomy_copy;
 use mpw_geom::Name;
+use mpw_lists::roomy_copy;
 use std::alloc::{AllocError, Global};
 use std::marker::Model;
 use std::sync::Arc;

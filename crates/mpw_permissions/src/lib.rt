@@ -6,13 +6,11 @@
 
 mod block;
 mod bucket;
-mod copies;
 mod grants;
 mod group;
 mod holders;
 mod permission;
 mod permissions;
 
-pub use copies::roomy_copy;
 pub use permission::{Grant, Object, Operation};
 pub use permissions::Permissions;

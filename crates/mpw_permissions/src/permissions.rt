@@ -11,12 +11,9 @@ ghost use Rattle.mpw_roles.specs.Hierarchy.{role_names, is_role};
 ghost use Rattle.mpw_roles.specs.Mask.{has};
 ghost use Rattle.mpw_roles.specs.Order.{roles_below};
 ghost use Rattle.mpw_roles.specs.Places.{is_place_below};
-ghost use Rattle.mpw_permissions.specs.Grant.{grant_eq};
-ghost use Rattle.mpw_permissions.specs.Grant.{without_grant};
+ghost use Rattle.mpw_permissions.specs.Grant.{grant_eq, without_grant, is_granted_to, ungranted};
 ghost use Rattle.mpw_permissions.specs.Internal.Holders.{are_to_roles, grants_after};
 ghost use Rattle.mpw_permissions.specs.Permissions.{AreMoreNames};
-ghost use Rattle.mpw_permissions.specs.Grant.{is_granted_to};
-ghost use Rattle.mpw_permissions.specs.Grant.{ungranted};
 
 use crate::grants::Grants;
 use crate::holders::{SharedHolders, all_holders, holders_after, index, places_of};
@@ -74,6 +71,9 @@ impl Permissions {
     }
 
     /// These roles, and one grant to one of them.
+    ///
+    /// # Errors
+    /// Where there is no room.
     pub fn new(alloc: Global, roles: Roles, grant: &Grant) -> Result<Permissions, AllocError>
         requires { is_role roles grant.now.role ≡ true }
         ensures { IfOk result (λ next. next ≡ record { roles = roles; granted = grant.now ∷ [] }) }
@@ -119,6 +119,9 @@ impl Permissions {
 
     /// The grants with other roles: the same ones in their order, and maybe one more that goes last. The masks stay, since they
     /// hold places, and nothing was granted to a new name.
+    ///
+    /// # Errors
+    /// Where there is no room.
     pub fn with_roles(&self, roles: Roles) -> Result<Permissions, AllocError>
         requires { AreMoreNames (role_names self.now.roles) (role_names roles) }
         ensures { IfOk result (λ next. next ≡ record self.now { roles = roles }) }
@@ -151,6 +154,9 @@ impl Permissions {
     }
 
     /// With one more grant to a role.
+    ///
+    /// # Errors
+    /// Where there is no room.
     pub fn with(&self, grant: &Grant) -> Result<Permissions, AllocError>
         requires { is_role self.now.roles grant.now.role ≡ true }
         ensures { IfOk result (λ next. next ≡ record self.now { granted = self.now.granted ++ grant.now ∷ [] }) }
@@ -159,6 +165,9 @@ impl Permissions {
     }
 
     /// Without a grant.
+    ///
+    /// # Errors
+    /// Where there is no room.
     pub fn without(&self, grant: &Grant) -> Result<Permissions, AllocError>
         ensures { IfOk result (λ next. next ≡ record self.now { granted = without_grant self.now.granted grant.now }) }
     {
@@ -166,6 +175,9 @@ impl Permissions {
     }
 
     /// With other roles, and without the grants to a role.
+    ///
+    /// # Errors
+    /// Where there is no room.
     pub fn without_role(&self, roles: Roles, role: &Name) -> Result<Permissions, AllocError>
         requires { role_names roles ≡ without_name (role_names self.now.roles) role.now }
         ensures { IfOk result (λ next. next ≡ record { roles = roles; granted = ungranted self.now.granted role.now }) }
@@ -178,6 +190,9 @@ impl Permissions {
     }
 
     /// The same roles and grants: three counts.
+    ///
+    /// # Errors
+    /// Where there is no room.
     pub fn copy(&self) -> Result<Permissions, AllocError>
         ensures { IfOk result (λ copy. copy ≡ self.now) }
     {

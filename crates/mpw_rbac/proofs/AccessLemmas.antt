@@ -4,9 +4,8 @@ use Rattle.std.specs.List.{list_any}
 use Rattle.std.specs.Option.{option_map_or}
 use Rattle.mpw_roles.specs.Hierarchy.{Name, Hierarchy, role_names}
 use Rattle.mpw_roles.specs.Order.{is_below, roles_below}
-use Rattle.mpw_permissions.specs.Grant.{operation_eq, object_eq}
+use Rattle.mpw_permissions.specs.Grant.{operation_eq, object_eq, is_granted_to}
 use Rattle.mpw_rbac.specs.Policy.{Policy, session_of, session_permits, permits}
-use Rattle.mpw_permissions.specs.Grant.{is_granted_to}
 use Rattle.mpw_rbac.specs.Rows as rows
 use Rattle.mpw_permissions.specs.declared.permission.Grant.{Grant}
 use Rattle.mpw_permissions.specs.declared.permission.Object.{Object}

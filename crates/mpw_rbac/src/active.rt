@@ -177,7 +177,7 @@ impl Sessions {
         self.table.retain(
             |other: &Connected| -> bool
                 ensures { result ≡ not (connection == other.now.0) }
-            { !(connection == other.0) },
+            { connection != other.0 },
         );
     }
 

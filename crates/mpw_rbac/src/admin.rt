@@ -4,10 +4,9 @@ ghost use Rattle.std.specs.Option.{option_copied};
 ghost use Rattle.mpw_geom.specs.Names.{name_eq, contains_name, without_name};
 ghost use Rattle.mpw_roles.specs.Hierarchy.{is_role};
 ghost use Rattle.mpw_separation.specs.Separation.{least_broken, uses_role};
-ghost use Rattle.mpw_permissions.specs.Grant.{grant_eq};
+ghost use Rattle.mpw_permissions.specs.Grant.{grant_eq, ungranted};
 ghost use Rattle.mpw_rbac.specs.Policy.{max_users, is_user, assigned_roles};
 ghost use Rattle.mpw_rbac.specs.Rows.{IsFaultOf, administered, digest_of_user, unassigned};
-ghost use Rattle.mpw_permissions.specs.Grant.{ungranted};
 ghost use Rattle.mpw_rbac.specs.Rows as rows;
 ghost use Rattle.mpw_rbac.specs.Table.{without_key};
 

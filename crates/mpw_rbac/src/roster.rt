@@ -14,8 +14,7 @@ ghost use Rattle.mpw_rbac.specs.declared.session.User.{User as UserState};
 
 use crate::User;
 use mpw_geom::{Name, Names};
-use mpw_lists::Shared;
-use mpw_permissions::roomy_copy;
+use mpw_lists::{Shared, roomy_copy};
 use mpw_roles::Register;
 use std::alloc::{AllocError, Global};
 use std::marker::Model;

@@ -6,11 +6,10 @@ use Rattle.mpw_roles.specs.Decided.{decided}
 use Rattle.mpw_roles.specs.Hierarchy.{Name}
 use Rattle.mpw_roles.specs.Order.{roles_below}
 use Rattle.mpw_roles.proofs.CallerLemmas.{or_cases, or_right, roles_below-grows}
-use Rattle.mpw_permissions.specs.Grant.{operation_eq, object_eq}
+use Rattle.mpw_permissions.specs.Grant.{operation_eq, object_eq, is_granted_to}
 use Rattle.mpw_rbac.specs.Laws.{IsPart}
 use Rattle.mpw_rbac_laws.specs.Laws.{PermitsNoLess}
 use Rattle.mpw_rbac.specs.Policy.{Policy, permits}
-use Rattle.mpw_permissions.specs.Grant.{is_granted_to}
 use Rattle.mpw_rbac.specs.Rows as rows
 use Rattle.mpw_permissions.specs.declared.permission.Object.{Object}
 use Rattle.mpw_permissions.specs.declared.permission.Object.TheVariants.{Desk}

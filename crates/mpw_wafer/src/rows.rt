@@ -6,13 +6,13 @@ ghost use Rattle.mpw_wafer.specs.Internal.Answers.{fault_of};
 ghost use Rattle.mpw_wafer.specs.Wafers as row;
 ghost use Rattle.mpw_replies.specs.Rows.{Answers};
 
+use mpw_access::enter;
 use mpw_deck::{Deck, DeckError, DeckText};
 use mpw_geom::{Name, Placing};
 use mpw_hier::Shelf;
-use mpw_placings::{PlacingFault, Placings};
 use mpw_permissions::{Object, Operation};
+use mpw_placings::{PlacingFault, Placings};
 use mpw_rbac::Policy;
-use mpw_access::enter;
 use mpw_replies::{Code, Fault};
 use std::alloc::Global;
 

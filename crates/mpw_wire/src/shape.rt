@@ -14,8 +14,8 @@ use crate::write::write_parts;
 use crate::{Sink, WireFault};
 use itoa::Buffer;
 use mpw_geom::{Layer, Name, Placing, Point};
-use mpw_structures::{Boundary, Element, Path};
 use mpw_replies::{ShapeListing, ShapeView};
+use mpw_structures::{Boundary, Element, Path};
 
 /// Writes a point, behind a space.
 fn write_point<W: Sink>(writer: &mut W, point: Point) -> Result<(), WireFault>

@@ -1,9 +1,8 @@
 -- The slots of fewer grants are there.
 use Rattle.std.proofs.Common.{◌≡◌, ◌∙◌, sym, ap, subst, not}
 use Rattle.std.proofs.lemmas.Result.{MatchResult-weaker}
-use Rattle.mpw_permissions.specs.Grant.{grant_eq}
+use Rattle.mpw_permissions.specs.Grant.{grant_eq, without_grant}
 use Rattle.mpw_permissions.specs.Internal.Grants.{AreCovered}
-use Rattle.mpw_permissions.specs.Grant.{without_grant}
 use Rattle.mpw_permissions.proofs.BlockLemmas.{covered-less, without-none}
 use Rattle.mpw_permissions.proofs.block.Block.without.Goals as goal
 

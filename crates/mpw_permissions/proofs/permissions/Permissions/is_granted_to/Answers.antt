@@ -5,10 +5,9 @@ use Rattle.mpw_roles.specs.Hierarchy.{role_names}
 use Rattle.mpw_roles.specs.Mask.{has}
 use Rattle.mpw_roles.specs.Order.{roles_below}
 use Rattle.mpw_roles.specs.Places.{is_place_below}
-use Rattle.mpw_permissions.specs.Grant.{operation_index}
+use Rattle.mpw_permissions.specs.Grant.{operation_index, is_granted_to}
 use Rattle.mpw_permissions.specs.Internal.Holders.{holds, is_place_granted}
 use Rattle.mpw_permissions.specs.Permissions.{Permissions}
-use Rattle.mpw_permissions.specs.Grant.{is_granted_to}
 use Rattle.mpw_permissions.proofs.GrantedLemmas.{meets-granted}
 use Rattle.mpw_permissions.proofs.HeldLemmas.{there}
 use Rattle.mpw_permissions.proofs.permissions.Permissions.is_granted_to.Goals as goal

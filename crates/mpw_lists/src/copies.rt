@@ -4,6 +4,9 @@ ghost use Rattle.std.specs.Prelude.{◌≡◌, IfOk};
 use std::alloc::{AllocError, Global};
 
 /// The same items, with room for one more: what a clone of each costs.
+///
+/// # Errors
+/// Where there is no room.
 pub fn roomy_copy<T: Clone + Drop>(alloc: Global, items: &[T]) -> Result<Vec<T>, AllocError>
     requires { (item copy : T) → T.is_clone item copy → copy ≡ item }
     ensures { IfOk result (λ copy. copy.items ≡ items.now) }
