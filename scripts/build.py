@@ -35,7 +35,7 @@ NICER = 3
 # The bytes of sources that take a proof as long as each crate below does: a function takes long where its types lead to many others.
 REACH = 2000
 # The least processes of the proof that most others wait for.
-FIRST = 3
+FIRST = 2
 # The last line of a check that proved a crate, without a word that would leave something out of that.
 VERDICT = re.compile(
     r"logic=proved( (functions|axioms|target|cpu|threads|main|may-wait|sum)=\S+)+"
