@@ -32,8 +32,9 @@ PROOF = ("src", "specs", "proofs")
 # What a crate's proof may take, in kilobytes, and how much less its processes get for each crate that is waited for longer.
 MEMORY = 4_000_000
 NICER = 3
-# The bytes of sources that take a proof as long as each crate below does: a function takes long where its types lead to many others.
-REACH = 2000
+# The bytes of sources that take a proof as long as the least that each takes, and as each crate below does.
+LEAST = 4800
+REACH = 300
 # The least processes of the proof that most others wait for.
 FIRST = 2
 # The last line of a check that proved a crate, without a word that would leave something out of that.
@@ -104,9 +105,9 @@ class Crate:
 
     @functools.cached_property
     def size(self):
-        """What its proof takes, by the bytes of its sources and by what its types may lead to: lemmas take little."""
+        """What its proof takes, by the bytes of its sources and by the crates below: lemmas take little."""
         sources = (it for it in self.files if it.startswith(f"{self.folder}/src/"))
-        return sum(os.path.getsize(it) for it in sources) + REACH * len(self.below)
+        return sum(os.path.getsize(it) for it in sources) + LEAST + REACH * len(self.below)
 
     @functools.cached_property
     def sum(self):

@@ -10,8 +10,8 @@ use crate::fault::ReadError;
 use crate::layer::read_layer;
 use crate::reading::{end_element, expect};
 use crate::shape::corners;
-use mpw_structures::{Boundary, Element};
 use mpw_records::{Records, kind};
+use mpw_structures::{Boundary, Element};
 use std::alloc::Global;
 
 /// The boundary whose first record was read, which begins at `start`, as an element. A box has BOXTYPE in the place

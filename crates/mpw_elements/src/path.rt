@@ -15,8 +15,8 @@ use crate::layer::read_layer;
 use crate::reading::{demand, end_element, is_kind, next_field, value_and_next};
 use crate::shape::{centre, scale};
 use crate::values::{lengthening, path_type, width};
-use mpw_structures::{Element, Path};
 use mpw_records::{Record, Records, kind};
+use mpw_structures::{Element, Path};
 use std::alloc::Global;
 
 /// The width of a path and how far its ends are lengthened, in nm.

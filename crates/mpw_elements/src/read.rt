@@ -13,8 +13,8 @@ use crate::fault::ReadError;
 use crate::path::read_path;
 use crate::reading::fault_of;
 use crate::reference::read_reference;
-use mpw_structures::Element;
 use mpw_records::{Code, ReadFault, Record, Records, kind};
+use mpw_structures::Element;
 use std::alloc::Global;
 
 /// Goes on behind ENDEL.

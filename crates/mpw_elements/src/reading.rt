@@ -8,8 +8,8 @@ ghost use Rattle.mpw_elements.specs.Reading.{GivesReading, is_skipped, field, de
 ghost use Rattle.mpw_elements.specs.Internal.Grammar.{and_field, end_element};
 
 use crate::fault::ReadError;
-use mpw_structures::Element;
 use mpw_records::{Code, ReadFault, Record, Records, kind};
+use mpw_structures::Element;
 
 /// A fault of a record.
 pub fn fault_of(code: Code, at: Record<'_>) -> ReadFault

@@ -16,8 +16,8 @@ use crate::values::{
     counts, is_mirrored, magnification, orient, place, read_grid, read_name, turns,
 };
 use mpw_geom::{Name, Orient, Point};
-use mpw_structures::{Element, Reference};
 use mpw_records::{Record, Records, kind};
+use mpw_structures::{Element, Reference};
 use std::alloc::Global;
 
 /// Past MAG, if the record is one: the record behind it.

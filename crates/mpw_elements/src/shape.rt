@@ -12,8 +12,8 @@ use crate::fault::ReadError;
 use crate::reading::fault_of;
 use byteorder::{BigEndian, ByteOrder};
 use mpw_geom::Point;
-use mpw_structures::Points;
 use mpw_records::{Code, Record};
+use mpw_structures::Points;
 use std::alloc::{AllocError, Global};
 
 /// A four-byte signed number of database units, in nm.

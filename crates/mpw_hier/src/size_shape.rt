@@ -8,8 +8,8 @@ ghost use Rattle.mpw_hier.specs.Internal.SizeParts.{wires_box};
 
 use crate::size_box::{has_area, hull};
 use mpw_geom::{Box2, Point};
-use mpw_structures::{Element, Path};
 use mpw_shapes::{Wire, first_wire};
+use mpw_structures::{Element, Path};
 
 /// The least box that holds the points.
 fn points_box(points: &[Point]) -> Option<Box2>

@@ -4,8 +4,8 @@ ghost use Rattle.std.specs.Prelude.{◌≡◌, ◌↔◌, IfOk, IsTrue};
 
 use crate::bindings::Bindings;
 use mpw_geom::Name;
-use mpw_structures::Library;
 use mpw_lists::Same;
+use mpw_structures::Library;
 use std::alloc::AllocError;
 
 /// A version of a cell, with the library that shows it.

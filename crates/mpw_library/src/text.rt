@@ -7,8 +7,8 @@ ghost use Rattle.mpw_library.specs.Grammar.{library_of};
 
 use crate::read::read_library;
 use mpw_elements::ReadError;
-use mpw_structures::Library;
 use mpw_records::ReadFault;
+use mpw_structures::Library;
 use std::alloc::{AllocError, Global};
 use std::marker::Model;
 use std::sync::Arc;

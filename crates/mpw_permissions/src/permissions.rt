@@ -153,7 +153,7 @@ impl Permissions {
         })
     }
 
-    /// With one more grant to a role.
+    /// With one more grant to a role: a copy of a block of the grants, and of a bucket of the masks of its operation.
     ///
     /// # Errors
     /// Where there is no room.
@@ -164,7 +164,7 @@ impl Permissions {
         self.after(grant, true)
     }
 
-    /// Without a grant.
+    /// Without a grant, where it is one: what one more costs, and a look for it in the blocks.
     ///
     /// # Errors
     /// Where there is no room.
@@ -174,7 +174,7 @@ impl Permissions {
         self.after(grant, false)
     }
 
-    /// With other roles, and without the grants to a role.
+    /// With other roles, and without the grants to a role. The masks are made anew: a pass over the grants for each operation.
     ///
     /// # Errors
     /// Where there is no room.

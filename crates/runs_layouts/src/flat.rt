@@ -3,8 +3,8 @@
 use anyhow::{Context, Result, bail};
 use mpw_geom::{Layer, Name, Orient, Placing, Point};
 use mpw_hier::{Shelf, Submission};
-use mpw_structures::{Element, Reference, Structure};
 use mpw_plain::{bound, own};
+use mpw_structures::{Element, Reference, Structure};
 use mpw_walk::{Placed, Root, Walk};
 use std::alloc::Global;
 

@@ -3,10 +3,10 @@
 use crate::print;
 use anyhow::{Result, bail};
 use mpw_elements::ReadError;
-use mpw_structures::Library;
 use mpw_library::LibraryText;
 use mpw_records::{ReadFault, Record, Records};
 use mpw_samples::text_of_library;
+use mpw_structures::Library;
 use std::alloc::{AllocError, Global};
 
 type Outcome<'a> = std::result::Result<Record<'a>, ReadFault>;

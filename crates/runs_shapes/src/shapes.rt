@@ -6,10 +6,10 @@ ghost use Rattle.mpw_structures.specs.Library.{IsLibrary};
 use crate::figures;
 use anyhow::{Result, bail};
 use mpw_geom::Box2;
-use mpw_structures::{Element, Library};
 use mpw_library::read_library;
 use mpw_samples::{NANOMETRE, Sample, SampleError, text_of_library};
 use mpw_shapes::rectangles;
+use mpw_structures::{Element, Library};
 use std::alloc::{AllocError, Global};
 
 /// The rectangles of a copy of the element.

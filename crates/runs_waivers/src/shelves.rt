@@ -5,9 +5,9 @@ ghost use Rattle.mpw_structures.specs.Library.{IsLibrary};
 use anyhow::Result;
 use mpw_geom::Name;
 use mpw_hier::{HierFault, Outline, Shelf, Submission};
-use mpw_structures::Library;
 use mpw_library::read_library;
 use mpw_samples::text_of_library;
+use mpw_structures::Library;
 use std::alloc::Global;
 
 /// Submits the top of a library as a cell.
