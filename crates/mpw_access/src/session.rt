@@ -10,7 +10,7 @@ use mpw_permissions::{Object, Operation};
 use mpw_rbac::Policy;
 use mpw_replies::{Denial, Ending, Fault};
 
-/// The connection has a session: what rows test that need no permission. A look-up.
+/// The connection has a session: what rows test that need no permission. A look through the sessions.
 ///
 /// # Errors
 /// A denial where there is none.
@@ -24,7 +24,8 @@ pub fn need_session(policy: &Policy, connection: u32) -> Result<(), Fault>
     Ok(())
 }
 
-/// The user of the connection's session, which may do the operation on the object: what most rows test first. A look-up.
+/// The user of the connection's session, which may do the operation on the object: what most rows test first. A look through the
+/// sessions, and a look-up of the object.
 ///
 /// # Errors
 /// A denial where there is no session, or where it lacks the permission; want of memory for the user's name.

@@ -12,8 +12,8 @@ use mpw_permissions::{Object, Operation};
 use mpw_roles::Mask;
 use std::marker::Model;
 
-/// The access of a connection's session by one operation, of one policy. Making it takes no memory and costs a look-up;
-/// each object asked about then costs another.
+/// The access of a connection's session by one operation, of one policy. Making it takes no memory and costs a look through the
+/// sessions; each object asked about then costs a look-up.
 #[derive(Drop)]
 pub struct Access<'a> {
     policy: &'a Policy,

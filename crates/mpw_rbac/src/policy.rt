@@ -123,7 +123,7 @@ impl Policy {
     }
 
     /// Whether some acting role of the connection's session was granted the operation on the object. It takes no
-    /// memory, and costs a look-up of the session, one of the object, and an `and` of eight words.
+    /// memory, and costs a look through the sessions, a look-up of the object, and an `and` of eight words.
     pub fn permits(&self, connection: u32, operation: Operation, object: &Object) -> bool
         ensures { result ≡ permits self.now connection operation object.now }
     {
