@@ -10,6 +10,7 @@ use Rattle.mpw_geom.specs.Names.{name_eq, contains_name, without_name}
 use Rattle.mpw_roles.specs.Hierarchy.{Name, Hierarchy, is_role, with_juniors, without_role, entries_without}
 use Rattle.mpw_roles.proofs.CallerLemmas.{names-with_juniors, roles-left, contains-roles_below}
 use Rattle.mpw_separation.specs.Set.{SeparationSet}
+use Rattle.mpw_permissions.specs.Grant.{ungranted}
 use Rattle.mpw_permissions.specs.declared.permission.Grant.{Grant}
 use Rattle.mpw_rbac.specs.declared.session.User.{User}
 use Rattle.mpw_rbac.specs.declared.session.Session.{Session}
@@ -177,13 +178,13 @@ module _ (h : Hierarchy) (role : Name) where
       (all-filter _ (λ (e : Name × List Name). not (name_eq role e.0)) h all)
 
   pub grants-left : (granted : List Grant) → grants_roles h granted ≡ true
-      → grants_roles (without_role h role) (rows.ungranted granted role) ≡ true
+      → grants_roles (without_role h role) (ungranted granted role) ≡ true
   grants-left [] all = refl
   grants-left (g ∷ gs) all =
       let s = parts (is_role h g.role) (grants_roles h gs) all in
       elim (name_eq role g.role) as (λ b. name_eq role g.role ≡ b
       → grants_roles (without_role h role)
-      (cond (not b) (g ∷ rows.ungranted gs role) (rows.ungranted gs role)) ≡ true) [
+      (cond (not b) (g ∷ ungranted gs role) (ungranted gs role)) ≡ true) [
         | true ↦ λ same. grants-left gs s.1
         | false ↦ λ other. both (is_role (without_role h role) g.role) _
             (roles-left h role g.role s.0 other) (grants-left gs s.1)
