@@ -169,14 +169,15 @@ def chains(crates):
 
 
 def run(crate, words, nice):
-    """Runs a command in the crate's folder. Returns whether it ended well, and what it said."""
+    """Runs a command in the crate's folder. Returns whether it ended well, and what it said, or how it ended without a word."""
     how = {"cwd": crate.folder, "stdin": subprocess.DEVNULL, "stdout": subprocess.PIPE, "stderr": subprocess.STDOUT}
     ran = subprocess.run(["nice", "-n", str(nice), *words], **how, text=True, errors="replace", check=False)
-    return ran.returncode == 0, ran.stdout
+    return ran.returncode == 0, ran.stdout or f"{words[0]} ended with {ran.returncode}, without a word"
 
 
 def prove(crate, toolchain, jobs, nice):
-    """Proves and builds a crate. Returns what failed, or nothing."""
+    """Proves and builds a crate. Returns what failed, or nothing. What is kept tells the texts as they were before."""
+    wanted = crate.wanted(toolchain)
     words = [*toolchain.build(), *crate.words(toolchain), "--jobs", str(jobs)]
     if crate.root == "src/main.rt":
         with tempfile.TemporaryDirectory(prefix="mpw-build-") as room:
@@ -195,7 +196,7 @@ def prove(crate, toolchain, jobs, nice):
     if not well or not VERDICT.fullmatch(text.rstrip("\n").rpartition("\n")[2]):
         return text
     with open(f"{crate.folder}/{KEPT}", "w", encoding="utf-8") as file:
-        json.dump({**crate.wanted(toolchain), "build": secrets.token_hex(16)}, file)
+        json.dump({**wanted, "build": secrets.token_hex(16)}, file)
     return None
 
 
