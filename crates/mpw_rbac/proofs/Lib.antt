@@ -9,6 +9,7 @@ pub mod PlacedLemmas
 pub mod RowLemmas
 pub mod RowTests
 pub mod SeparationLemmas
+pub mod SessionLemmas
 pub mod SoundLemmas
 pub mod TableLemmas
 pub mod KeepTrimmed

@@ -13,7 +13,7 @@ use Rattle.mpw_rbac.specs.Internal.Pairs.{pair_row}
 use Rattle.mpw_rbac.specs.declared.active.Active.{Active}
 use Rattle.mpw_rbac.specs.declared.hierarchy.PairChange.{PairChange}
 use Rattle.mpw_rbac.specs.declared.hierarchy.PairChange.TheVariants.{Inherit, Uninherit}
-use Rattle.mpw_rbac.proofs.MaskedLemmas.{AreActive, active-head, active-tail}
+use Rattle.mpw_rbac.proofs.SessionLemmas.{AreActive, active-head, active-tail}
 use Rattle.mpw_rbac.proofs.RowFacts.{inherited-pair, uninherited-pair}
 
 -- a pair more or less moves no role

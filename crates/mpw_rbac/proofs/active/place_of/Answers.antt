@@ -4,7 +4,7 @@ use Rattle.std.specs.List.{list_any}
 use Rattle.std.proofs.lemmas.Bool.{eq-eqb}
 use Rattle.std.proofs.lemmas.List.{take_all}
 use Rattle.mpw_roles.proofs.PositionLemmas.{position-first, position-none}
-use Rattle.mpw_rbac.proofs.MaskedLemmas.{is_connected}
+use Rattle.mpw_rbac.proofs.SessionLemmas.{is_connected}
 use Rattle.mpw_rbac.proofs.active.place_of.Goals as goal
 
 pub returns-then-connection-table-clause-place : goal.returns-then-connection-table-clause-place

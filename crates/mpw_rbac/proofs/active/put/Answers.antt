@@ -1,7 +1,7 @@
 -- The session at the place of the connection, or behind the others.
 use Rattle.std.proofs.Common.{◌≡◌, ◌∙◌, ◌==◌, ℕ, List, Some, None, Option, ap, sym, position, slice_set}
 use Rattle.mpw_rbac.specs.declared.active.Active.{Active}
-use Rattle.mpw_rbac.proofs.MaskedLemmas.{is_connected, put-at, put-last}
+use Rattle.mpw_rbac.proofs.SessionLemmas.{is_connected, put-at, put-last}
 use Rattle.mpw_rbac.proofs.active.put.Goals as goal
 
 -- the place in the slice is that in the vector

@@ -1,5 +1,5 @@
 -- What stands at the place of the connection.
-use Rattle.mpw_rbac.proofs.MaskedLemmas.{found-at, found-nowhere}
+use Rattle.mpw_rbac.proofs.SessionLemmas.{found-at, found-nowhere}
 use Rattle.mpw_rbac.proofs.active.session_of.Goals as goal
 
 pub returns-in-Some : goal.returns-in-Some

@@ -8,7 +8,7 @@ use Rattle.mpw_roles.specs.Places.{is_place_of}
 use Rattle.mpw_separation.specs.Placed.{IsPlaced}
 use Rattle.mpw_separation.specs.Separation.{breaks, is_broken}
 use Rattle.mpw_rbac.specs.declared.active.Active.{Active}
-use Rattle.mpw_rbac.proofs.MaskedLemmas.{active_in, active-lists}
+use Rattle.mpw_rbac.proofs.SessionLemmas.{active_in, active-lists}
 use Rattle.mpw_rbac.proofs.HolderLemmas.{unbroken-entry, broken-entry}
 use Rattle.mpw_rbac.proofs.PlacedLemmas.{acting-at}
 use Rattle.mpw_rbac.proofs.separation.breaks_a_session.Goals.{After-is_broken_at}

@@ -1,6 +1,6 @@
 use Rattle.std.proofs.Common.{◌≡◌, take, map, false}
 use Rattle.mpw_separation.specs.Separation.{is_broken}
-use Rattle.mpw_rbac.proofs.MaskedLemmas.{active_in}
+use Rattle.mpw_rbac.proofs.SessionLemmas.{active_in}
 use Rattle.mpw_rbac.proofs.separation.breaks_a_session.Given as goal
 
 -- nobody so far breaks the set

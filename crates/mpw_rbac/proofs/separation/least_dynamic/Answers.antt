@@ -4,7 +4,7 @@ use Rattle.std.specs.Option.{option_copied}
 use Rattle.std.proofs.lemmas.Option.{slice_get-get_or}
 use Rattle.mpw_geom.specs.Least.{lesser, IsLeast}
 use Rattle.mpw_separation.specs.Separation.{broken_names, least_broken}
-use Rattle.mpw_rbac.proofs.MaskedLemmas.{active_in, active-lists}
+use Rattle.mpw_rbac.proofs.SessionLemmas.{active_in, active-lists}
 use Rattle.mpw_rbac.proofs.HolderLemmas.{least-entry, least-all, least-nobody}
 use Rattle.mpw_rbac.proofs.separation.least_dynamic.Goals as goal
 

@@ -2,7 +2,7 @@ use Rattle.std.proofs.Common.{take, map}
 use Rattle.std.specs.Option.{option_copied}
 use Rattle.mpw_geom.specs.Least.{IsLeast}
 use Rattle.mpw_separation.specs.Separation.{broken_names}
-use Rattle.mpw_rbac.proofs.MaskedLemmas.{active_in}
+use Rattle.mpw_rbac.proofs.SessionLemmas.{active_in}
 use Rattle.mpw_rbac.proofs.separation.least_dynamic.Given as goal
 
 -- the least name so far

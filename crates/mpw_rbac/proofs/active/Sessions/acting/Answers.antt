@@ -7,7 +7,8 @@ use Rattle.mpw_rbac.specs.Masked.{AreActing, KeptSessions}
 use Rattle.mpw_rbac.specs.Table.{value_at}
 use Rattle.mpw_rbac.specs.declared.active.Active.{Active}
 use Rattle.mpw_rbac.specs.declared.session.Session.{Session}
-use Rattle.mpw_rbac.proofs.MaskedLemmas.{session-found, acting-found, none-below}
+use Rattle.mpw_rbac.proofs.MaskedLemmas.{none-below}
+use Rattle.mpw_rbac.proofs.SessionLemmas.{session-found, acting-found}
 use Rattle.mpw_rbac.proofs.active.Sessions.acting.Goals as goal
 
 -- what is found in the slice is found in the vector

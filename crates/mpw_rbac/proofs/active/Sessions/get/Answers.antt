@@ -2,7 +2,7 @@
 use Rattle.std.proofs.Common.{◌≡◌, ◌∙◌, ◌==◌, ℕ, List, Option, ap, option_map}
 use Rattle.std.specs.Map.{lookup}
 use Rattle.mpw_rbac.specs.declared.active.Active.{Active}
-use Rattle.mpw_rbac.proofs.MaskedLemmas.{session-found}
+use Rattle.mpw_rbac.proofs.SessionLemmas.{session-found}
 use Rattle.mpw_rbac.proofs.active.Sessions.get.Goals as goal
 
 -- what is found in the slice is found in the vector

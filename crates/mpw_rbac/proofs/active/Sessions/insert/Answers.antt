@@ -2,7 +2,7 @@
 use Rattle.std.proofs.Common.{◌∙◌, sym, ap, subst, ◌==◌}
 use Rattle.mpw_rbac.specs.Table.{insert_entry}
 use Rattle.mpw_rbac.specs.Masked.{AreActing, KeptSessions, sessions_in}
-use Rattle.mpw_rbac.proofs.MaskedLemmas.{AreActive, sessions-insert, acting-insert}
+use Rattle.mpw_rbac.proofs.SessionLemmas.{AreActive, sessions-insert, acting-insert}
 use Rattle.mpw_rbac.proofs.active.Sessions.insert.Goals as goal
 
 pub returns-clause-ok : goal.returns-clause-ok

@@ -2,7 +2,7 @@
 use Rattle.std.proofs.Common.{rules, ◌∙◌, ap, true}
 use Rattle.mpw_rbac.specs.Masked.{KeptSessions, sessions_in}
 use Rattle.mpw_rbac.specs.declared.session.Session.{Session}
-use Rattle.mpw_rbac.proofs.MaskedLemmas.{all-kept, sessions-retained}
+use Rattle.mpw_rbac.proofs.SessionLemmas.{all-kept, sessions-retained}
 use Rattle.mpw_rbac.proofs.active.Sessions.remask.Goals as goal
 
 pub returns-clause-same : goal.returns-clause-same

@@ -4,7 +4,7 @@ use Rattle.std.proofs.lemmas.Fn.{filter_same}
 use Rattle.mpw_rbac.specs.Masked.{AreActing, KeptSessions, sessions_in}
 use Rattle.mpw_rbac.specs.Table.{without_key}
 use Rattle.mpw_rbac.specs.declared.active.Active.{Active}
-use Rattle.mpw_rbac.proofs.MaskedLemmas.{AreActive, sessions-filter, acting-filter}
+use Rattle.mpw_rbac.proofs.SessionLemmas.{AreActive, sessions-filter, acting-filter}
 use Rattle.mpw_rbac.proofs.active.Sessions.remove.Goals as goal
 
 pub returns-clause-sessions : goal.returns-clause-sessions

@@ -4,7 +4,7 @@ use Rattle.mpw_rbac.specs.Masked.{AreAuthorized, KeptSessions}
 use Rattle.mpw_rbac.specs.Policy.{is_user, kept_roles, kept_sessions}
 use Rattle.mpw_rbac.specs.Internal.Policy.{users_and_roles}
 use Rattle.mpw_rbac.specs.declared.session.Session.{Session}
-use Rattle.mpw_rbac.proofs.MaskedLemmas.{sessions-retained}
+use Rattle.mpw_rbac.proofs.SessionLemmas.{sessions-retained}
 use Rattle.mpw_rbac.proofs.active.Sessions.trim.Goals as goal
 
 pub returns-clause-kept : goal.returns-clause-kept
