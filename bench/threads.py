@@ -23,7 +23,7 @@ import runs
 HEADS = ['Layout', 'Tiles', 'Cut', 'Jobs, one thread', 'Jobs, all threads', 'Stitching', 'System, one', 'System, all',
          'Faults, one', 'Faults, all', 'By medians', 'By bests', 'Computing in C, by medians', 'By bests']
 # The jobs' threads, where there are as many tiles.
-THREADS = 2 * len(os.sched_getaffinity(0))
+THREADS = len(os.sched_getaffinity(0)) + 2
 
 
 def timed(path, side, threads):

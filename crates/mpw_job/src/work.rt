@@ -1,4 +1,4 @@
-//! Many jobs in at most twice as many threads as there are processors.
+//! Many jobs in at most two threads more than there are processors.
 //!
 //! A thread takes the next job that no thread has taken, so that one whose jobs are long, or which the system lets wait, does
 //! fewer of them. There are more threads than processors, since those that begin late cost little, and one that waits leaves
@@ -161,7 +161,7 @@ fn in_order(
     Ok(answers)
 }
 
-/// Does the jobs, in at most twice as many threads as there are processors, and as many as there are jobs. The answers
+/// Does the jobs, in at most two threads more than there are processors, and as many as there are jobs. The answers
 /// stand in the order of the jobs, and each carries its job. Beside the jobs it costs the threads, a count and two moves of its
 /// answer for each.
 ///
@@ -175,7 +175,7 @@ pub fn work_all(
     ensures { IfOk result (λ answers. map job_of answers.items ≡ jobs.now) }
 {
     let next = AtomicUsize::new(0);
-    let threads = current_num_threads(rt).saturating_mul(2).min(jobs.len());
+    let threads = current_num_threads(rt).saturating_add(2).min(jobs.len());
     let lists = lists_done(rt, alloc, jobs, &next, threads.saturating_sub(1))?;
     let mut places = no_answers(alloc, jobs.len())?;
     put_lists(&mut places, lists);
