@@ -1,2 +1,5 @@
 pub mod Fronts
 pub mod Sizes
+pub mod Near
+pub mod Scale
+pub mod Signs

@@ -1,14 +1,20 @@
-//! The records of a GDSII text, one after another, with the first fault in them.
+//! The records of a GDSII text, one after another, with the first fault in them, and its eight-byte reals.
 //!
 //! `Records::new(bytes)` takes a text, and `next` gives its records from the front, up to ENDLIB or
 //! the first fault. Nothing is copied, and no memory is taken.
+//!
+//! A [`Real8`] (GDSII Stream, "Eight-byte real") is a sign, a mantissa of 56 bits and a power of 16. To contracts it is a
+//! whole number, its value times 2^312, so that spellings of one value are equal. No machine float is used: the tests
+//! multiply within 128 bits, and the exponents that lead beyond are told apart before.
 #![tactic(auto)]
 
 mod fault;
 pub mod kind;
 mod reader;
+mod real8;
 mod record;
 
 pub use fault::{Code, ReadFault};
 pub use reader::Records;
+pub use real8::Real8;
 pub use record::Record;

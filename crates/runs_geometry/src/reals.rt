@@ -1,7 +1,7 @@
 //! Eight-byte reals.
 
 use anyhow::{Result, bail};
-use mpw_real8::Real8;
+use mpw_records::Real8;
 use std::alloc::Global;
 
 fn bytes(alloc: Global, word: &str) -> Result<[u8; 8]> {

@@ -1,7 +1,7 @@
 use Rattle.std.proofs.Common.{◌^◌, ◌∙◌, arith}
 use Rattle.std.proofs.lemmas.Nat.{mul-le}
-use Rattle.mpw_real8.proofs.Scale.{multiple_above, multiple_below, far_above, far_below, power_le}
-use Rattle.mpw_real8.proofs.real8.is_multiple.Goals as goal
+use Rattle.mpw_records.proofs.Scale.{multiple_above, multiple_below, far_above, far_below, power_le}
+use Rattle.mpw_records.proofs.real8.is_multiple.Goals as goal
 
 pub returns-then-above-gt8 : goal.returns-then-above-gt8
 returns-then-above-gt8 c =

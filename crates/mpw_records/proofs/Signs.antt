@@ -8,7 +8,7 @@ use Rattle.std.specs.Ordering.{int_eq}
 use Rattle.std.proofs.lemmas.Int.{unsigned_abs-mul}
 use Rattle.std.proofs.lemmas.Bool.{le-ltb}
 use Rattle.std.proofs.lemmas.Bool.Decides.{Decides-int_eq}
-use Rattle.mpw_real8.specs.Real.{signed, nanometres}
+use Rattle.mpw_records.specs.Real.{signed, nanometres}
 
 when_false : (b : Bool) → (b ≡ true → ⊥) → false ≡ b
 when_false true h = absurd (h refl)

@@ -1,10 +1,10 @@
 use Rattle.std.proofs.Common.{◌≡◌, ◌*◌, ◌^◌, ◌⊎◌, false, inl, inr, ap, sym, ◌∙◌, arith}
 use Rattle.std.proofs.lemmas.Nat.{mul-le}
-use Rattle.mpw_real8.specs.Real.{nanometres}
-use Rattle.mpw_real8.proofs.Scale.{power_pos}
-use Rattle.mpw_real8.proofs.Signs.{none_below, not_below}
-use Rattle.mpw_real8.proofs.real8.Real8.nanometres.Goals as goal
-use Rattle.mpw_real8.proofs.real8.Real8.nanometres.Goals.{else-self-via-then-self+else-self-ne0, else-self-via-else-self}
+use Rattle.mpw_records.specs.Real.{nanometres}
+use Rattle.mpw_records.proofs.Scale.{power_pos}
+use Rattle.mpw_records.proofs.Signs.{none_below, not_below}
+use Rattle.mpw_records.proofs.real8.Real8.nanometres.Goals as goal
+use Rattle.mpw_records.proofs.real8.Real8.nanometres.Goals.{else-self-via-then-self+else-self-ne0, else-self-via-else-self}
 
 pub returns-then-self-ne0-clause-value : goal.returns-then-self-ne0-clause-value
 returns-then-self-ne0-clause-value c =

@@ -2,9 +2,9 @@ use Rattle.std.proofs.Common.{◌*◌, ◌^◌, sym, ap, ◌∙◌, arith}
 use Rattle.std.proofs.lemmas.Bool.{eqb-true}
 use Rattle.std.proofs.lemmas.Int.{to_z-of_z}
 use mir.Syntax.{w32}
-use Rattle.mpw_real8.proofs.Scale.{whole}
-use Rattle.mpw_real8.proofs.Signs.{same_size}
-use Rattle.mpw_real8.proofs.real8.Real8.is_whole.Goals as goal
+use Rattle.mpw_records.proofs.Scale.{whole}
+use Rattle.mpw_records.proofs.Signs.{same_size}
+use Rattle.mpw_records.proofs.real8.Real8.is_whole.Goals as goal
 
 pub returns : goal.returns
 returns c =

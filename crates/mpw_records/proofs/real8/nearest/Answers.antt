@@ -1,6 +1,6 @@
 use Rattle.std.proofs.Common.{◌+◌, ◌*◌, ◌^◌, ◌-◌, sym, ◌∙◌, arith}
-use Rattle.mpw_real8.proofs.Near.{found, goes_on, none_left}
-use Rattle.mpw_real8.proofs.real8.nearest.Goals as goal
+use Rattle.mpw_records.proofs.Near.{found, goes_on, none_left}
+use Rattle.mpw_records.proofs.real8.nearest.Goals as goal
 
 pub returns-then-is_near-clause-value : goal.returns-then-is_near-clause-value
 returns-then-is_near-clause-value c =

@@ -1,7 +1,7 @@
 //! A real and the two questions that a layout asks of it.
 
 ghost use Rattle.std.specs.Prelude.{◌≡◌, ℕ, ◌*◌, ◌^◌, ◌<◌, ◌≤◌, ◌==◌, length, IfSome};
-ghost use Rattle.mpw_real8.specs.Real.{real_value, is_whole, nanometres, is_nanometres, first_near};
+ghost use Rattle.mpw_records.specs.Real.{real_value, is_whole, nanometres, is_nanometres, first_near};
 
 use byteorder::{BigEndian, ByteOrder};
 use std::marker::Model;
@@ -16,7 +16,7 @@ pub struct Real8 {
 
 impl Model for Real8 {
     ghost use Rattle.std.specs.Prelude.{ℤ, ◌*◌, ◌^◌, ◌<◌};
-    ghost use Rattle.mpw_real8.specs.Real.{signed};
+    ghost use Rattle.mpw_records.specs.Real.{signed};
 
     ghost Value = { ℤ };
 

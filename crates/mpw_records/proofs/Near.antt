@@ -1,6 +1,6 @@
 -- A search through numbers of nanometres, one step at a time.
 use Rattle.std.proofs.Common.{◌≡◌, ℕ, zero, suc, ◌+◌, ◌<◌, true, false, Some, None, refl, arith}
-use Rattle.mpw_real8.specs.Real.{is_nanometres, first_near}
+use Rattle.mpw_records.specs.Real.{is_nanometres, first_near}
 
 pub found : (value from count : ℕ) → 0 < count → is_nanometres value from ≡ true
     → first_near value from count ≡ Some from

@@ -1,6 +1,6 @@
 use Rattle.std.proofs.Common.{◌≡◌, ◌*◌, ◌^◌, ◌-◌}
-use Rattle.mpw_real8.specs.Real.{first_near}
-use Rattle.mpw_real8.proofs.real8.nearest.Given as goal
+use Rattle.mpw_records.specs.Real.{first_near}
+use Rattle.mpw_records.proofs.real8.nearest.Given as goal
 
 -- none of the numbers so far is near
 abbrev pub invariant-loop-number : goal.invariant-loop-number

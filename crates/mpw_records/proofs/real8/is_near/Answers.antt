@@ -1,7 +1,7 @@
 use Rattle.std.proofs.Common.{◌-◌, ◌^◌, arith}
 use Rattle.std.proofs.lemmas.Nat.{mul-le}
-use Rattle.mpw_real8.proofs.Scale.{near_above, near_below, near_far_below, power_le}
-use Rattle.mpw_real8.proofs.real8.is_near.Goals as goal
+use Rattle.mpw_records.proofs.Scale.{near_above, near_below, near_far_below, power_le}
+use Rattle.mpw_records.proofs.real8.is_near.Goals as goal
 
 pub returns-then-exponent-ge78 : goal.returns-then-exponent-ge78
 returns-then-exponent-ge78 c = near_above c.args.mantissa c.args.number c.args.exponent
