@@ -14,8 +14,7 @@ use crate::reading::fault_of;
 use crate::shape::{point, scale};
 use byteorder::{BigEndian, ByteOrder};
 use mpw_geom::{Name, NameFault, Orient, Point};
-use mpw_records::Real8;
-use mpw_records::{Code, ReadFault, Record};
+use mpw_records::{Code, ReadFault, Real8, Record};
 use std::alloc::Global;
 
 /// Where an array begins, and its steps, in nm.

@@ -4,7 +4,7 @@ ghost use Rattle.mpw_geom.specs.Plane.{IsBoxInPlane};
 ghost use Rattle.mpw_picture.specs.Text.{picture_text};
 ghost use Rattle.mpw_firm.specs.Keys.{IsRound, IsUnknown, unknown_text};
 ghost use Rattle.mpw_firm.specs.Told.{IsFailure, IsMisuse, Misuses};
-ghost use Rattle.mpw_writing.specs.Writing.{Adds};
+ghost use Rattle.mpw_text.specs.Writing.{Adds};
 
 use crate::fault::FirmFault;
 use crate::key::find_marker;

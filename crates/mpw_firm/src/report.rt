@@ -2,7 +2,7 @@
 ghost use Rattle.std.specs.Prelude.{IfErr};
 ghost use Rattle.mpw_firm.specs.Told.{IsFailure};
 ghost use Rattle.mpw_report.specs.Report.{report_text};
-ghost use Rattle.mpw_writing.specs.Writing.{Adds};
+ghost use Rattle.mpw_text.specs.Writing.{Adds};
 
 use crate::fault::FirmFault;
 use crate::told::unwritten_file;

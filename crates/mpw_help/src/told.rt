@@ -2,10 +2,10 @@
 ghost use Rattle.std.specs.Prelude.{◌≡◌};
 ghost use Rattle.std.specs.List.{flat_map, list_any};
 ghost use Rattle.mpw_help.specs.Help.{label_text, line_text, detail_text, entry_text, help_text, word_text, is_asked};
-ghost use Rattle.mpw_writing.specs.Writing.{Adds};
+ghost use Rattle.mpw_text.specs.Writing.{Adds};
 
 use crate::entry::{Detail, Entry};
-use mpw_writing::put;
+use mpw_text::put;
 use std::io::{self, Write};
 
 /// Whether some entry has the word, or the number of a code. One pass.

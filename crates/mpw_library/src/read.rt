@@ -13,8 +13,7 @@ ghost use Rattle.mpw_library.specs.Fronts.{IsToldFirst};
 ghost use Rattle.mpw_library.specs.Internal.Library.{IsItem};
 
 use mpw_elements::{ReadError, demand, fault_of, read_element, read_name};
-use mpw_records::Real8;
-use mpw_records::{Code, ReadFault, Record, Records, kind};
+use mpw_records::{Code, ReadFault, Real8, Record, Records, kind};
 use mpw_structures::{Element, Elements, Library, Structure, Structures};
 use std::alloc::Global;
 

@@ -1,7 +1,7 @@
 //! The drawing: the window's frame, and the rectangles by colour.
 ghost use Rattle.std.specs.List.{flat_map, range_with_len};
 ghost use Rattle.mpw_picture.specs.Text.{rectangle_text, rectangle_of, group_head, group_text, frame_text, drawing_text};
-ghost use Rattle.mpw_writing.specs.Writing.{Adds};
+ghost use Rattle.mpw_text.specs.Writing.{Adds};
 
 use crate::colour::layer_colour;
 use crate::mark::put_marks;
@@ -11,7 +11,7 @@ use itoa::Buffer;
 use mpw_deck::Rule;
 use mpw_geom::Box2;
 use mpw_tiles::Rectangle;
-use mpw_writing::put;
+use mpw_text::put;
 use std::io::{self, Write};
 
 /// How many colours layers have.

@@ -2,7 +2,7 @@
 ghost use Rattle.std.specs.Prelude.{◌≡◌, ◌<◌, ◌^◌, ◌*◌, length};
 ghost use Rattle.std.specs.List.{flat_map, enumerate_from};
 ghost use Rattle.mpw_picture.specs.Text.{bar_line, bar_text, swatch, swatches, count_of, row_head, row_end, row_text, legend_head, legend_text};
-ghost use Rattle.mpw_writing.specs.Writing.{Adds};
+ghost use Rattle.mpw_text.specs.Writing.{Adds};
 
 use crate::colour::{layer_colour, rule_colour};
 use crate::picture::{Mark, Picture};
@@ -11,7 +11,7 @@ use itoa::Buffer;
 use mpw_deck::{Check, Rule};
 use mpw_geom::{Box2, Layer};
 use mpw_report::{put_micrometres, put_rule};
-use mpw_writing::put;
+use mpw_text::put;
 use std::io::{self, Write};
 
 /// Writes the scale bar behind its length.

@@ -1,7 +1,7 @@
 //! Markers in a drawing.
 ghost use Rattle.std.specs.List.{flat_map};
 ghost use Rattle.mpw_picture.specs.Text.{outline, mark_text, mark_of, marks_head, marks_text};
-ghost use Rattle.mpw_writing.specs.Writing.{Adds};
+ghost use Rattle.mpw_text.specs.Writing.{Adds};
 
 use crate::colour::rule_colour;
 use crate::picture::{Mark, Picture};
@@ -10,7 +10,7 @@ use itoa::Buffer;
 use mpw_deck::Rule;
 use mpw_geom::Box2;
 use mpw_report::put_name;
-use mpw_writing::put;
+use mpw_text::put;
 use std::io::{self, Write};
 
 /// Writes the outline of a marker of the rule with that place, up to what it is named.

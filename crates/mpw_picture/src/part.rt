@@ -1,9 +1,9 @@
 //! The parts of a picture's text that are the same in each.
 ghost use Rattle.std.specs.Prelude.{◌≡◌};
 ghost use Rattle.mpw_picture.specs.Parts.{part_text};
-ghost use Rattle.mpw_writing.specs.Writing.{Adds};
+ghost use Rattle.mpw_text.specs.Writing.{Adds};
 
-use mpw_writing::put;
+use mpw_text::put;
 use std::io::{self, Write};
 
 /// A part of a picture's text that is the same in each.

@@ -1,6 +1,6 @@
 //! The whole picture's text.
 ghost use Rattle.mpw_picture.specs.Text.{head_text, picture_text};
-ghost use Rattle.mpw_writing.specs.Writing.{Adds};
+ghost use Rattle.mpw_text.specs.Writing.{Adds};
 
 use crate::drawing::put_drawing;
 use crate::legend::put_legend;
@@ -11,7 +11,7 @@ use itoa::Buffer;
 use mpw_deck::Rule;
 use mpw_geom::{Box2, Name};
 use mpw_report::put_name;
-use mpw_writing::put;
+use mpw_text::put;
 use std::io::{self, Write};
 
 /// Writes what stands before the drawing.

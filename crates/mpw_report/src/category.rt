@@ -2,14 +2,14 @@
 ghost use Rattle.std.specs.Prelude.{◌≡◌};
 ghost use Rattle.std.specs.List.{flat_map};
 ghost use Rattle.mpw_report.specs.Report.{layer_text, check_word, check_layers, rule_text, category_text};
-ghost use Rattle.mpw_writing.specs.Writing.{Adds};
+ghost use Rattle.mpw_text.specs.Writing.{Adds};
 
 use crate::name::put_name;
 use crate::part::{Part, put_part};
 use itoa::Buffer;
 use mpw_deck::{Check, Rule};
 use mpw_geom::Layer;
-use mpw_writing::put;
+use mpw_text::put;
 use std::io::{self, Write};
 
 /// Writes a layer as a deck has it, behind a space.

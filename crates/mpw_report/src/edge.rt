@@ -1,13 +1,13 @@
 //! Pairs of edges, in micrometres.
 ghost use Rattle.std.specs.Prelude.{◌≡◌};
 ghost use Rattle.mpw_report.specs.Report.{first_edge, second_edge, point_text, edge_text, pair_text};
-ghost use Rattle.mpw_writing.specs.Writing.{Adds};
+ghost use Rattle.mpw_text.specs.Writing.{Adds};
 
 use crate::length::put_micrometres;
 use mpw_edges::Axis;
 use mpw_geom::Point;
 use mpw_markers::Marker;
-use mpw_writing::put;
+use mpw_text::put;
 use std::io::{self, Write};
 
 /// An edge, from its start to its end, in nm.

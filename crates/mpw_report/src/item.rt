@@ -2,7 +2,7 @@
 ghost use Rattle.std.specs.Prelude.{slice_get};
 ghost use Rattle.std.specs.List.{flat_map};
 ghost use Rattle.mpw_report.specs.Report.{item_text, item_of};
-ghost use Rattle.mpw_writing.specs.Writing.{Adds};
+ghost use Rattle.mpw_text.specs.Writing.{Adds};
 
 use crate::edge::put_pair;
 use crate::name::{put_name, put_path};

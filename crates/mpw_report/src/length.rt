@@ -1,10 +1,10 @@
 //! Lengths in micrometres, exactly: as many decimals as they need, three at most.
 ghost use Rattle.std.specs.Prelude.{◌≡◌};
 ghost use Rattle.mpw_report.specs.Lengths.{last_digits, fraction, sign_text, micrometres};
-ghost use Rattle.mpw_writing.specs.Writing.{Adds};
+ghost use Rattle.mpw_text.specs.Writing.{Adds};
 
 use itoa::Buffer;
-use mpw_writing::put;
+use mpw_text::put;
 use std::io::{self, Write};
 
 /// Writes the last two of three decimals, without zeros at the end.

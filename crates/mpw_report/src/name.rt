@@ -1,10 +1,10 @@
 //! Names in a report.
 ghost use Rattle.std.specs.List.{flat_map};
 ghost use Rattle.mpw_report.specs.Escapes.{character, path_character, escaped, path_text};
-ghost use Rattle.mpw_writing.specs.Writing.{Adds};
+ghost use Rattle.mpw_text.specs.Writing.{Adds};
 
 use mpw_geom::Name;
-use mpw_writing::put;
+use mpw_text::put;
 use std::io::{self, Write};
 
 /// Writes a byte as XML's text.

@@ -1,9 +1,9 @@
 //! The parts of a report that are the same in each.
 ghost use Rattle.std.specs.Prelude.{◌≡◌};
 ghost use Rattle.mpw_report.specs.Parts.{part_text};
-ghost use Rattle.mpw_writing.specs.Writing.{Adds};
+ghost use Rattle.mpw_text.specs.Writing.{Adds};
 
-use mpw_writing::put;
+use mpw_text::put;
 use std::io::{self, Write};
 
 /// A part of a report that is the same in each.

@@ -1,6 +1,6 @@
 //! The whole report.
 ghost use Rattle.mpw_report.specs.Report.{head_text, cells_text, report_text};
-ghost use Rattle.mpw_writing.specs.Writing.{Adds};
+ghost use Rattle.mpw_text.specs.Writing.{Adds};
 
 use crate::category::put_categories;
 use crate::item::put_items;

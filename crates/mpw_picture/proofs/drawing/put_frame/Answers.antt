@@ -1,5 +1,5 @@
 use Rattle.std.proofs.Common.{refl}
-use Rattle.mpw_writing.proofs.Adding.{adds_same}
+use Rattle.mpw_text.proofs.Adding.{adds_same}
 use Rattle.mpw_picture.specs.Text.{frame_text}
 use Rattle.mpw_picture.proofs.drawing.put_frame.Goals as goal
 

@@ -1,5 +1,5 @@
 use Rattle.std.proofs.Common.{refl}
-use Rattle.mpw_writing.proofs.Adding.{adds_more, adds_same}
+use Rattle.mpw_text.proofs.Adding.{adds_more, adds_same}
 use Rattle.mpw_picture.specs.Text.{legend_text}
 use Rattle.mpw_picture.proofs.legend.put_legend.Goals as goal
 

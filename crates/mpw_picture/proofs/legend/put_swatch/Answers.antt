@@ -1,5 +1,5 @@
 use Rattle.std.proofs.Common.{refl}
-use Rattle.mpw_writing.proofs.Adding.{adds_same}
+use Rattle.mpw_text.proofs.Adding.{adds_same}
 use Rattle.mpw_picture.specs.Text.{swatch}
 use Rattle.mpw_picture.proofs.legend.put_swatch.Goals as goal
 

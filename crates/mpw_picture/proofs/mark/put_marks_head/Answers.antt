@@ -1,5 +1,5 @@
 use Rattle.std.proofs.Common.{refl}
-use Rattle.mpw_writing.proofs.Adding.{adds_same}
+use Rattle.mpw_text.proofs.Adding.{adds_same}
 use Rattle.mpw_picture.specs.Text.{marks_head}
 use Rattle.mpw_picture.proofs.mark.put_marks_head.Goals as goal
 

@@ -1,5 +1,5 @@
 use Rattle.mpw_report.specs.Report.{edge_text}
-use Rattle.mpw_writing.proofs.Adding.{adds_more}
+use Rattle.mpw_text.proofs.Adding.{adds_more}
 use Rattle.mpw_report.proofs.edge.put_edge.Goals as goal
 
 pub returns : goal.returns

@@ -1,6 +1,6 @@
 use Rattle.std.proofs.Common.{refl}
 use Rattle.mpw_report.specs.Report.{pair_text}
-use Rattle.mpw_writing.proofs.Adding.{adds_more, adds_same}
+use Rattle.mpw_text.proofs.Adding.{adds_more, adds_same}
 use Rattle.mpw_report.proofs.edge.put_pair.Goals as goal
 
 pub returns : goal.returns

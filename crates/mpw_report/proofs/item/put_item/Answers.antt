@@ -1,5 +1,5 @@
 use Rattle.mpw_report.specs.Report.{item_text}
-use Rattle.mpw_writing.proofs.Adding.{adds_more}
+use Rattle.mpw_text.proofs.Adding.{adds_more}
 use Rattle.mpw_report.proofs.item.put_item.Goals as goal
 
 pub returns : goal.returns
