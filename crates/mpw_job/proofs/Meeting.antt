@@ -9,8 +9,8 @@ use Rattle.mpw_geom.specs.declared.plane.Box2.{Box2}
 use Rattle.mpw_geom.specs.Plane.{HasArea, Square, has_square}
 use Rattle.mpw_geom.proofs.Tests.{SquareIn-from_test}
 use Rattle.mpw_tiles.specs.declared.listing.Rectangle.{Rectangle}
-use Rattle.mpw_origins.specs.declared.search.Rectangle.{Rectangle as Located}
-use Rattle.mpw_origins.specs.Origins.{HasSquareOf, AreMetOrigins}
+use Rattle.mpw_markers.specs.declared.search.Rectangle.{Rectangle as Located}
+use Rattle.mpw_markers.specs.Origins.{HasSquareOf, AreMetOrigins}
 use Rattle.mpw_markers.specs.declared.marker.Key.{Key}
 use Rattle.mpw_markers.specs.declared.marker.Marker.{Marker}
 use Rattle.mpw_markers.specs.Markers.{key_of}

@@ -45,7 +45,7 @@ fn tile_answer(alloc: Global, job: &TileJob) -> Result<TileAnswer, AllocError>
 ///
 /// A cut costs what [`cut`] does. A tile costs a sort of the window, what [`mpw_checks::strips_of`] takes for each group of
 /// rules that follow one another and look at the same layers, what [`mpw_checks::pieces_in`] takes for each rule, and where
-/// the window's rectangles are of several submissions what [`mpw_origins::met_origins`] takes for them and all runs together.
+/// the window's rectangles are of several submissions what [`mpw_markers::met_origins`] takes for them and all runs together.
 ///
 /// # Errors
 /// Where there is no memory.

@@ -6,15 +6,14 @@
 ghost use Rattle.std.specs.Prelude.{◌≡◌, ◌↔◌, ℕ, [], ◌∷◌, IfOk, IfSome, IsTrue, MatchBool, All, length, map};
 ghost use Rattle.mpw_geom.specs.Plane.{Square, HasArea, IsOrdered};
 ghost use Rattle.mpw_markers.specs.Markers.{key_of};
-ghost use Rattle.mpw_origins.specs.Origins.{HasSquareOf};
+ghost use Rattle.mpw_markers.specs.Origins.{HasSquareOf};
 ghost use Rattle.mpw_jobs.specs.Answers.{HasListed};
 ghost use Rattle.mpw_jobs.specs.Internal.Keys.{key_box};
 ghost use Rattle.mpw_job.specs.Internal.Found.{met_of, TellMet, MeetsSome, AreMarkersOfKeys};
 
 use mpw_edges::Axis;
 use mpw_geom::Box2;
-use mpw_markers::{Key, Marker, Met};
-use mpw_origins::met_origins;
+use mpw_markers::{Key, Marker, Met, met_origins};
 use mpw_tiles::Rectangle;
 use std::alloc::{AllocError, Global};
 
@@ -26,7 +25,7 @@ fn has_area(b: &Box2) -> bool
 }
 
 /// The rectangles that have a unit square, by area and origin.
-fn with_area(alloc: Global, window: &[Rectangle]) -> Result<Vec<mpw_origins::Rectangle>, AllocError>
+fn with_area(alloc: Global, window: &[Rectangle]) -> Result<Vec<mpw_markers::Rectangle>, AllocError>
     ensures areas { IfOk result (λ v. All (λ r. HasArea r.area) v.items) }
     ensures squares { IfOk result (λ v. (origin : ℕ) (s : Square) →
         HasSquareOf v.items origin s ↔ HasListed window.now origin s) }
@@ -34,7 +33,7 @@ fn with_area(alloc: Global, window: &[Rectangle]) -> Result<Vec<mpw_origins::Rec
     let mut found = Vec::new(alloc);
     for rectangle in window {
         if has_area(&rectangle.area) {
-            found.push(mpw_origins::Rectangle {
+            found.push(mpw_markers::Rectangle {
                 area: rectangle.area,
                 origin: rectangle.origin,
             })?;

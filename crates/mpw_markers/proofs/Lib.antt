@@ -6,3 +6,5 @@ pub mod Joins
 pub mod Unique
 mod Maximal
 mod Found
+mod Shared
+mod Filled

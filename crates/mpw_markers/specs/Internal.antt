@@ -2,3 +2,4 @@
 pub mod Order
 pub mod Places
 pub mod Runs
+pub mod Search

@@ -6,3 +6,4 @@ pub mod Stitched
 pub mod Whole
 pub mod Laws
 pub mod Internal
+pub mod Origins

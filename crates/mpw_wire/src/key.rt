@@ -16,8 +16,7 @@ use mpw_edges::Axis;
 use mpw_geom::Name;
 use mpw_markers::Key;
 use mpw_requests::MarkerName;
-use mpw_text::read_number;
-use mpw_text::with_colons;
+use mpw_text::{read_number, with_colons};
 use std::alloc::{AllocError, Global};
 
 /// Where a marker lies: its axis, its side, and its coordinates in nm.

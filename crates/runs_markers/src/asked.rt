@@ -7,8 +7,7 @@ ghost use Rattle.mpw_markers.specs.Markers.{IsFilled};
 
 use anyhow::{Result, bail};
 use mpw_geom::Box2;
-use mpw_markers::{Marker, Met, TileMarkers};
-use mpw_origins::{Rectangle, met_origins};
+use mpw_markers::{Marker, Met, Rectangle, TileMarkers, met_origins};
 use std::alloc::Global;
 
 /// Whether each number is less than the next.

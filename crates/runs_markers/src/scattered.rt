@@ -3,8 +3,7 @@
 use crate::asked::{met, origins};
 use anyhow::Result;
 use mpw_geom::Box2;
-use mpw_markers::Met;
-use mpw_origins::Rectangle;
+use mpw_markers::{Met, Rectangle};
 use mpw_words::{Random, number};
 use std::alloc::Global;
 

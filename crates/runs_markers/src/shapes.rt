@@ -3,7 +3,7 @@
 use crate::asked::origins;
 use anyhow::{Result, bail};
 use mpw_geom::Box2;
-use mpw_origins::Rectangle;
+use mpw_markers::Rectangle;
 use mpw_words::{coordinates, number};
 use std::alloc::Global;
 

@@ -3,8 +3,8 @@ use Rattle.std.specs.Prelude.{All}
 use Rattle.std.proofs.lemmas.List.Elements.{All-map}
 use Rattle.mpw_geom.specs.declared.plane.Box2.{Box2}
 use Rattle.mpw_geom.specs.Plane.{IsOrdered}
-use Rattle.mpw_origins.specs.declared.search.Rectangle.{Rectangle as Located}
-use Rattle.mpw_origins.specs.Origins.{AreMetOrigins}
+use Rattle.mpw_markers.specs.declared.search.Rectangle.{Rectangle as Located}
+use Rattle.mpw_markers.specs.Origins.{AreMetOrigins}
 use Rattle.mpw_jobs.specs.Internal.Keys.{key_box}
 use Rattle.mpw_job.proofs.Meeting.{tell_met}
 use Rattle.mpw_job.proofs.met.mets_of.Goals as goal

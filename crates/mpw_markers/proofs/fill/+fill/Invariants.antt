@@ -1,0 +1,4 @@
+use Rattle.mpw_markers.proofs.fill.+fill.Given as goal
+
+abbrev pub decreases-fill : goal.decreases-fill
+decreases-fill l = l.depth

@@ -1,0 +1,21 @@
+-- The origins that closed boxes meet.
+use Rattle.std.specs.Prelude.{◌≡◌, ◌<◌, ℕ, true, List, [], length, slice_index_or, All, Contains, ◌↔◌}
+use Rattle.mpw_geom.specs.declared.plane.Box2.{Box2}
+use Rattle.mpw_geom.specs.Plane.{Square, has_square}
+use Rattle.mpw_markers.specs.Met.{IsAscending}
+use Rattle.mpw_markers.specs.Whole.{IsMet}
+use Rattle.mpw_markers.specs.declared.search.Rectangle.{Rectangle}
+
+-- a rectangle of that origin has the unit square
+abbrev pub HasSquareOf : List Rectangle → ℕ → Square → Type 0
+HasSquareOf rectangles origin s =
+    (r : Rectangle) × Contains rectangles r × (r.origin ≡ origin) × (has_square r.area s ≡ true)
+
+-- for each box the origins, ascending, of which a unit square, taken closed, shares a point with the closed box
+pub record AreMetOrigins (rectangles : List Rectangle) (boxes : List Box2) (mets : List (List ℕ)) :
+    Type 0 where
+  pub count : length mets ≡ length boxes
+  pub ascending : All IsAscending mets
+  pub met : (k origin : ℕ) (d : Box2) → k < length boxes
+      → Contains (slice_index_or mets k []) origin
+      ↔ IsMet (HasSquareOf rectangles) (slice_index_or boxes k d) origin

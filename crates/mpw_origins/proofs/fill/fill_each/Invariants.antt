@@ -1,7 +1,0 @@
-use Rattle.std.proofs.Common.{take}
-use Rattle.mpw_origins.specs.Internal.Search.{Fills}
-use Rattle.mpw_origins.proofs.fill.fill_each.Given as goal
-
-abbrev pub invariant-loop-item : goal.invariant-loop-item
-invariant-loop-item l =
-    Fills l.common l.rectangles (take l.item-index l.items) l.initial.mets.items l.mets.items

@@ -1,5 +1,0 @@
-use Rattle.mpw_origins.proofs.Filled.{AreItemsBefore}
-use Rattle.mpw_origins.proofs.fill.items.Given as goal
-
-abbrev pub invariant-loop-place : goal.invariant-loop-place
-invariant-loop-place l = AreItemsBefore l.boxes l.place l.items.items

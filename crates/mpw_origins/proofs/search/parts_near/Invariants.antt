@@ -1,7 +1,0 @@
-use Rattle.std.proofs.Common.{take}
-use Rattle.mpw_origins.specs.Internal.Search.{AreAlikeIn}
-use Rattle.mpw_origins.proofs.search.parts_near.Given as goal
-
-abbrev pub invariant-loop-rectangle : goal.invariant-loop-rectangle
-invariant-loop-rectangle l =
-    AreAlikeIn l.hull l.common l.found.items (take l.rectangle-index l.rectangles) l.some.items
