@@ -13,7 +13,7 @@ use Rattle.mpw_run.specs.declared.phase.Phase.TheVariants.{Idle, Cutting, Checki
 use Rattle.mpw_run.specs.Run.{Tile, Checks, answered}
 use Rattle.mpw_run.specs.Same.{same_snapshot, same_tile_job}
 use Rattle.mpw_run.specs.Step.{Run, Offer, Outcome as RunOutcome, answered_by, next_from, handed, taken_in, cut_in, kept, job_of_tile, tile_compared, tile_checked, tile_in}
-use Rattle.mpw_checking.specs.Laws.{NumbersAreCounted}
+use Rattle.mpw_wafer.specs.Run.Laws.{NumbersAreCounted}
 use Rattle.mpw_permissions.specs.declared.permission.Object.TheVariants as object
 use Rattle.mpw_permissions.specs.declared.permission.Operation.TheVariants as operation
 use Rattle.mpw_access.specs.Permitted.{permitted}

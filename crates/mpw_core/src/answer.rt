@@ -6,7 +6,7 @@ ghost use Rattle.mpw_rbac.specs.Rows.{IsFaultOf};
 ghost use Rattle.mpw_rbac.specs.declared.refusal.Refusal.{Refusal as PolicyRefusal};
 ghost use Rattle.mpw_permissions.specs.declared.permission.Object.TheVariants.{Desk};
 ghost use Rattle.mpw_permissions.specs.declared.permission.Operation.TheVariants.{Audit};
-ghost use Rattle.mpw_checking.specs.Checking as checking;
+ghost use Rattle.mpw_wafer.specs.Run.Checking as checking;
 ghost use Rattle.mpw_layouts.specs.Layouts as layouts;
 ghost use Rattle.mpw_wafer.specs.Wafers as wafers;
 ghost use Rattle.mpw_replies.specs.Listing.{stored};
@@ -23,7 +23,6 @@ use crate::run_answer::of_run;
 use crate::tables::Tables;
 use crate::{Event, Response};
 use mpw_access::enter;
-use mpw_checking::{NextRun, RunAnswer};
 use mpw_geom::Name;
 use mpw_hier::Shelf;
 use mpw_layouts::LayoutAnswer;
@@ -37,6 +36,7 @@ use mpw_requests::{
 use mpw_run::Prepared;
 use mpw_signoff::{NextWaivers, SignOffAnswer};
 use mpw_wafer::WaferAnswer;
+use mpw_wafer::run::{NextRun, RunAnswer};
 use mpw_waiver::Waivers;
 use std::alloc::{AllocError, Global};
 
@@ -232,7 +232,7 @@ fn checking(
         run,
         ..
     } = tables;
-    let RunAnswer { reply, next } = mpw_checking::answer_request(
+    let RunAnswer { reply, next } = mpw_wafer::run::answer_request(
         alloc, policy, shelf, wafer, run, connection, request,
     )?;
     let response = Response::Told(reply);

@@ -9,9 +9,9 @@ ghost use Rattle.mpw_core.specs.declared.event.Event.TheVariants as event;
 ghost use Rattle.mpw_core.specs.declared.event.Response.{Response};
 ghost use Rattle.mpw_core.specs.declared.event.Call.{Call};
 
-use mpw_checking::a_request_counts_one_run_at_most;
 use mpw_placings::{each_change_keeps, later_submissions_keep};
 use mpw_wafer::changes_of_the_wafer_keep_its_placings;
+use mpw_wafer::run::a_request_counts_one_run_at_most;
 
 /// In every state that calls lead to, what is placed is sound on the shelf: no two placings have the same cell and label, each
 /// is of a submission of its cell, and a run can look at them.

@@ -26,7 +26,7 @@ use Rattle.mpw_run.specs.Run.{Planned}
 use Rattle.mpw_run.specs.Step.{Run, findings}
 use Rattle.mpw_placings.specs.declared.wafer.Wafer.{Wafer}
 use Rattle.mpw_laws.specs.CheckingLaws.{RunsDenyWhatIsLacked}
-use Rattle.mpw_checking.specs.Checking.{at_rest, going_on, cover_test, planning_over, snapshot_of, run_row, cancel_row, status, markers, checked_lines, phase_line, begun_outcome, left_off_outcome, listing_outcome}
+use Rattle.mpw_wafer.specs.Run.Checking.{at_rest, going_on, cover_test, planning_over, snapshot_of, run_row, cancel_row, status, markers, checked_lines, phase_line, begun_outcome, left_off_outcome, listing_outcome}
 
 -- ---- parts that deny no permission
 

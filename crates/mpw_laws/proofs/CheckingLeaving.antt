@@ -11,7 +11,7 @@ use Rattle.mpw_run.specs.Run.{Planned}
 use Rattle.mpw_run.specs.Step.{Run}
 use Rattle.mpw_placings.specs.declared.wafer.Wafer.{Wafer}
 use Rattle.mpw_laws.specs.CheckingLaws.{NegativesAreNoChange, NegativesLeaveTheRun}
-use Rattle.mpw_checking.specs.Checking.{run_row, cancel_row, status, markers, begun_outcome, left_off_outcome, listing_outcome, Outcome, outcome_of}
+use Rattle.mpw_wafer.specs.Run.Checking.{run_row, cancel_row, status, markers, begun_outcome, left_off_outcome, listing_outcome, Outcome, outcome_of}
 
 -- ---- denials and refusals
 

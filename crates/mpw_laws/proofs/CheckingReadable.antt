@@ -20,7 +20,7 @@ use Rattle.mpw_run.specs.declared.phase.Phase.TheVariants.{Idle, Cutting, Checki
 use Rattle.mpw_run.specs.Run.{Planned}
 use Rattle.mpw_run.specs.Step.{Run, findings}
 use Rattle.mpw_laws.specs.CheckingLaws.{MarkersAreOfReadable}
-use Rattle.mpw_checking.specs.Checking.{run_row, cancel_row, status, markers, checked_lines, phase_line, begun_outcome, left_off_outcome, listing_outcome}
+use Rattle.mpw_wafer.specs.Run.Checking.{run_row, cancel_row, status, markers, checked_lines, phase_line, begun_outcome, left_off_outcome, listing_outcome}
 
 module _ (policy : Policy) (connection : ℕ) where
   abbrev Readable : List Listed → Type 0

@@ -9,8 +9,8 @@ use Rattle.mpw_core.specs.declared.event.Response.{Response}
 use Rattle.mpw_permissions.specs.declared.permission.Operation.TheVariants as operation
 use Rattle.mpw_permissions.specs.declared.permission.Object.TheVariants as object
 use Rattle.mpw_deck.specs.Decks.{Deck}
-use Rattle.mpw_checking.specs.Checking as checking
-use Rattle.mpw_checking.specs.Checking.{run_row}
+use Rattle.mpw_wafer.specs.Run.Checking as checking
+use Rattle.mpw_wafer.specs.Run.Checking.{run_row}
 use Rattle.mpw_jobs.specs.declared.job.CutJob.{CutJob}
 use Rattle.mpw_replies.specs.Rows.{◌>>=◌, ended_by, needed}
 use Rattle.mpw_access.specs.Permitted.{permitted}

@@ -1,7 +1,7 @@
 -- What accepted requests needed.
 use Rattle.std.proofs.Common.{◌≡◌, ℕ, Bool, true, false, cond, List, Result, Ok, Err, refl, sym, ap, ◌∙◌}
 use Rattle.mpw_layouts.specs.Layouts as layouts
-use Rattle.mpw_checking.specs.Checking as checking
+use Rattle.mpw_wafer.specs.Run.Checking as checking
 use Rattle.mpw_permissions.specs.declared.permission.Object.{Object}
 use Rattle.mpw_permissions.specs.declared.permission.Object.TheVariants.{Cell, Desk}
 use Rattle.mpw_permissions.specs.declared.permission.Operation.{Operation}

@@ -12,7 +12,7 @@ use Rattle.mpw_replies.specs.declared.reply.Denial.TheVariants as denial
 use Rattle.mpw_replies.specs.declared.reply.Line.TheVariants as line
 use Rattle.mpw_replies.specs.declared.reply.Reply.TheVariants as reply
 use Rattle.mpw_replies.specs.declared.row.Ending.{Ending}
-use Rattle.mpw_checking.specs.Checking as checking
+use Rattle.mpw_wafer.specs.Run.Checking as checking
 use Rattle.mpw_jobs.specs.Jobs.{FoundMarkers}
 use Rattle.mpw_run.specs.Run.{Planned}
 use Rattle.mpw_run.specs.Step.{Outcome as RunOutcome, book_size, tile_answered}

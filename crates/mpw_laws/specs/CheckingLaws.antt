@@ -8,7 +8,7 @@ use Rattle.mpw_laws.specs.Readable.{IsOfReadable}
 use Rattle.mpw_replies.specs.Rows.{IsNegative}
 use Rattle.mpw_replies.specs.declared.reply.Denial.TheVariants as denial
 use Rattle.mpw_replies.specs.declared.reply.Reply.TheVariants as reply
-use Rattle.mpw_checking.specs.Laws.{EachOutcome}
+use Rattle.mpw_wafer.specs.Run.Laws.{EachOutcome}
 
 -- A permission that is denied is lacked.
 abbrev pub RunsDenyWhatIsLacked : Type 0

@@ -9,7 +9,7 @@ use Rattle.mpw_requests.specs.declared.request.Request.TheVariants as ask
 use Rattle.mpw_requests.specs.declared.run.RunRequest.{RunRequest}
 use Rattle.mpw_requests.specs.declared.run.RunRequest.TheVariants as run
 use Rattle.mpw_requests.specs.declared.sign_off.SignOffRequest.TheVariants as sign
-use Rattle.mpw_checking.specs.Checking as checking
+use Rattle.mpw_wafer.specs.Run.Checking as checking
 use Rattle.mpw_laws.specs.SignOffLaws.{PlacesAreLeft}
 use Rattle.mpw_core.specs.declared.event.Event.TheVariants as event
 use Rattle.mpw_core.specs.Step.{State, Outcome, after, no_change, outcome_of, over_run, settlement, step, not_kept_response, event_outcome}

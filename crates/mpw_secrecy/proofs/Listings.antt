@@ -22,7 +22,7 @@ use Rattle.mpw_replies.specs.declared.reply.Reply.{Reply}
 use Rattle.mpw_replies.specs.declared.reply.Reply.TheVariants as reply
 use Rattle.mpw_replies.specs.declared.row.Ending.{Ending}
 use Rattle.mpw_layouts.specs.Layouts as layouts
-use Rattle.mpw_checking.specs.Checking as checking
+use Rattle.mpw_wafer.specs.Run.Checking as checking
 use Rattle.mpw_signoff.specs.SigningOff as signing
 use Rattle.mpw_core.specs.declared.event.Event.TheVariants as event
 use Rattle.mpw_core.specs.declared.event.Response.TheVariants as response

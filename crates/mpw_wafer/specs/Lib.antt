@@ -1,4 +1,5 @@
 pub mod Answers
 pub mod Laws
+pub mod Run
 pub mod Wafers
 pub mod Internal

@@ -2,7 +2,7 @@
 //!
 //! Each is a function that gives its value, or what ends the row, or tells want of memory. Its parts have the same form.
 ghost use Rattle.std.specs.Prelude.{◌≡◌, IfOk};
-ghost use Rattle.mpw_checking.specs.Checking as row;
+ghost use Rattle.mpw_wafer.specs.Run.Checking as row;
 ghost use Rattle.mpw_replies.specs.Rows.{Answers};
 
 use mpw_access::{enter, need_session, seen_by};
@@ -25,7 +25,7 @@ fn goes_on(phase: &Phase) -> Result<(), Fault>
 }
 
 /// Whether the run may be left: it goes on, and the session may do so.
-#[tactic(auto, unfolding(crate::specs::Checking::cancel_row))]
+#[tactic(auto, unfolding(crate::specs::Run::Checking::cancel_row))]
 pub(crate) fn leave(policy: &Policy, run: &Run, connection: u32) -> Result<(), Fault>
     ensures { Answers (λ x. x) result (row.cancel_row policy.now run.now connection) }
 {
@@ -51,7 +51,7 @@ fn phase_line(run: &Run) -> Line
 }
 
 /// The line of `status`. Linear in the run's tiles.
-#[tactic(auto, unfolding(crate::specs::Checking::status))]
+#[tactic(auto, unfolding(crate::specs::Run::Checking::status))]
 pub(crate) fn status(
     alloc: Global,
     policy: &Policy,
@@ -83,7 +83,7 @@ fn checked_lines(
 }
 
 /// The lines of `markers`: a look-up for each submission on the run's shelf, and what the listing takes.
-#[tactic(auto, unfolding(crate::specs::Checking::markers))]
+#[tactic(auto, unfolding(crate::specs::Run::Checking::markers))]
 pub(crate) fn markers(
     alloc: Global,
     policy: &Policy,

@@ -5,8 +5,8 @@ use Rattle.mpw_replies.specs.Listing.{Listed}
 use Rattle.mpw_replies.specs.declared.row.Ending.{Ending}
 use Rattle.mpw_run.specs.Run.{Planned}
 use Rattle.mpw_run.specs.Step.{Run}
-use Rattle.mpw_checking.specs.Laws.{NumbersAreCounted}
-use Rattle.mpw_checking.specs.Checking.{run_row, cancel_row, status, markers, begun_outcome, left_off_outcome, listing_outcome}
+use Rattle.mpw_wafer.specs.Run.Laws.{NumbersAreCounted}
+use Rattle.mpw_wafer.specs.Run.Checking.{run_row, cancel_row, status, markers, begun_outcome, left_off_outcome, listing_outcome}
 
 -- ---- numbers
 

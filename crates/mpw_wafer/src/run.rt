@@ -2,7 +2,6 @@
 //!
 //! [`answer_request`] gives the reply to such a request, and what it changes in the run: a new run that was prepared, or that
 //! the run is left. It changes nothing itself.
-#![tactic(auto)]
 
 mod answer;
 mod begin;

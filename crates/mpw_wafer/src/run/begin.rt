@@ -2,7 +2,7 @@
 //!
 //! It is a function that gives its value, or what ends the row, or tells want of memory. Its parts have the same form.
 ghost use Rattle.std.specs.Prelude.{◌≡◌, IfOk, length};
-ghost use Rattle.mpw_checking.specs.Checking as row;
+ghost use Rattle.mpw_wafer.specs.Run.Checking as row;
 ghost use Rattle.mpw_placings.specs.Placements.{ArePlacings, roots_of};
 ghost use Rattle.mpw_replies.specs.Rows.{Answers, needed};
 ghost use Rattle.mpw_tiles.specs.Snapshots.{AreRoots, shown};
@@ -86,7 +86,7 @@ fn plan(snapshot: Snapshot) -> Result<Planned, Fault>
 }
 
 /// What a new run looks at, with the plan of its tiles. Linear in the placings and the deck's rules.
-#[tactic(auto, unfolding(crate::specs::Checking::run_row))]
+#[tactic(auto, unfolding(crate::specs::Run::Checking::run_row))]
 pub(crate) fn begin(
     alloc: Global,
     policy: &Policy,

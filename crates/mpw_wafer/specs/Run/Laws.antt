@@ -5,7 +5,7 @@ use Rattle.mpw_rbac.specs.Policy.{Policy}
 use Rattle.mpw_requests.specs.declared.run.RunRequest.{RunRequest}
 use Rattle.mpw_run.specs.Step.{Run}
 use Rattle.mpw_placings.specs.declared.wafer.Wafer.{Wafer}
-use Rattle.mpw_checking.specs.Checking.{Outcome, outcome_of}
+use Rattle.mpw_wafer.specs.Run.Checking.{Outcome, outcome_of}
 
 -- What holds of the outcome of each request, over each policy, shelf, wafer and run.
 abbrev pub EachOutcome : (Policy → Run → ℕ → Outcome → Type 0) → Type 0

@@ -1,15 +1,15 @@
 //! The answers to requests over the checking run.
 ghost use Rattle.std.specs.Prelude.{◌≡◌, ◌+◌, ◌<◌, ◌^◌, List, Result, IfOk};
-ghost use Rattle.mpw_checking.specs.Answers.{Gives};
-ghost use Rattle.mpw_checking.specs.Checking.{outcome_of, begun_outcome, left_off_outcome, listing_outcome};
+ghost use Rattle.mpw_wafer.specs.Run.Answers.{Gives};
+ghost use Rattle.mpw_wafer.specs.Run.Checking.{outcome_of, begun_outcome, left_off_outcome, listing_outcome};
 ghost use Rattle.mpw_placings.specs.Placements.{ArePlacings};
 ghost use Rattle.mpw_replies.specs.Listing.{Listed};
 ghost use Rattle.mpw_replies.specs.Rows.{Answers};
 ghost use Rattle.mpw_replies.specs.declared.row.Ending.{Ending as AnyEnding};
 ghost use Rattle.mpw_run.specs.Run.{Planned as PlannedTold};
 
-use crate::begin::begin;
-use crate::rows::{leave, markers, status};
+use crate::run::begin::begin;
+use crate::run::rows::{leave, markers, status};
 use mpw_hier::Shelf;
 use mpw_placings::Wafer;
 use mpw_rbac::Policy;

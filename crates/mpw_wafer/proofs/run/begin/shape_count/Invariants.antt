@@ -1,6 +1,6 @@
 use Rattle.std.proofs.Common.{◌≡◌, ◌≤◌, ◌*◌, ◌^◌, take}
 use Rattle.mpw_walk.specs.Roots.{roots_count}
-use Rattle.mpw_checking.proofs.begin.shape_count.Given as goal
+use Rattle.mpw_wafer.proofs.run.begin.shape_count.Given as goal
 
 abbrev pub invariant-loop-root : goal.invariant-loop-root
 invariant-loop-root l = record {

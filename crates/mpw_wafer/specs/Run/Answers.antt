@@ -2,10 +2,10 @@
 use Rattle.std.specs.Prelude.{◌≡◌, ⊤, Bool, true, false}
 use Rattle.mpw_run.specs.Prepared.{applied, IsFitting}
 use Rattle.mpw_run.specs.Step.{Run, cancelled}
-use Rattle.mpw_checking.specs.declared.answer.NextRun.{NextRun}
-use Rattle.mpw_checking.specs.declared.answer.NextRun.TheVariants.{Same, Start, Cancel}
-use Rattle.mpw_checking.specs.declared.answer.RunAnswer.{RunAnswer}
-use Rattle.mpw_checking.specs.Checking.{Outcome}
+use Rattle.mpw_wafer.specs.declared.run.answer.NextRun.{NextRun}
+use Rattle.mpw_wafer.specs.declared.run.answer.NextRun.TheVariants.{Same, Start, Cancel}
+use Rattle.mpw_wafer.specs.declared.run.answer.RunAnswer.{RunAnswer}
+use Rattle.mpw_wafer.specs.Run.Checking.{Outcome}
 
 -- The run behind an answer.
 abbrev pub run_after : Run → NextRun → Run
