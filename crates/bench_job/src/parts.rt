@@ -1,10 +1,10 @@
 //! The parts of a run: the cut, a job a tile, and the stitching.
 
 use anyhow::{Context, Result, bail};
-use mpw_job::do_job;
-use mpw_jobs::{Answer, CutAnswer, CutJob, Job, tile_job};
+use mpw_job::{Answer, CutAnswer, CutJob, Job, tile_job};
 use mpw_markers::{Book, Marker, TileMarkers, stitch};
 use mpw_tiles::{Snapshot, Windows};
+use mpw_work::do_job;
 use std::alloc::Global;
 
 /// The number of the run.

@@ -3,10 +3,10 @@
 use crate::parts;
 use anyhow::Result;
 use mpw_deck::Rules;
-use mpw_job::work_all;
-use mpw_jobs::{Answer, CutAnswer, Job};
+use mpw_job::{Answer, CutAnswer, Job};
 use mpw_markers::{Book, Marker};
 use mpw_tiles::Snapshot;
+use mpw_work::work_all;
 use std::thread::Threads;
 use std::time::{Clock, Instant};
 

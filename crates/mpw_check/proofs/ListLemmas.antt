@@ -3,9 +3,9 @@ use Rattle.std.proofs.Common.{◌≡◌, ◌∙◌, ◌+◌, ◌-◌, inl, inr, 
 use Rattle.std.specs.Prelude.{Contains, Result, Ok, Err, IfOk}
 use Rattle.std.proofs.lemmas.Bool.{cases_lt}
 use Rattle.std.proofs.lemmas.List.{get_or_append_left, get_or-append_right}
-use Rattle.mpw_jobs.specs.Answers.{Answers}
-use Rattle.mpw_jobs.specs.Laws.{AnswersMakeTheLayout, NoShapesNoMarkers}
-use Rattle.mpw_jobs.specs.Layout.{AreLayoutMarkers}
+use Rattle.mpw_job.specs.Answers.{Answers}
+use Rattle.mpw_job.specs.Laws.{AnswersMakeTheLayout, NoShapesNoMarkers}
+use Rattle.mpw_job.specs.Layout.{AreLayoutMarkers}
 use Rattle.mpw_markers.specs.Book.{IsBook}
 use Rattle.mpw_markers.specs.Laws.{ListsDetermineTheBook}
 use Rattle.mpw_markers.specs.Stitched.{IsStitched}

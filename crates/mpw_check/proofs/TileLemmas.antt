@@ -8,12 +8,12 @@ use Rattle.std.proofs.lemmas.List.FromFn.{get_or-map-range_with_len, length-map-
 use Rattle.std.proofs.lemmas.Option.{slice_get_cases}
 use Rattle.mpw_geom.specs.declared.plane.Box2.{Box2}
 use Rattle.mpw_deck.specs.Decks.{Deck}
-use Rattle.mpw_jobs.specs.Answers.{TileJob, Answers}
-use Rattle.mpw_jobs.specs.Carried.{job_of}
-use Rattle.mpw_jobs.specs.Laws.{tile_job_of}
-use Rattle.mpw_jobs.specs.declared.answer.Answer.{Answer}
-use Rattle.mpw_jobs.specs.declared.answer.Answer.TheVariants as answers
-use Rattle.mpw_jobs.specs.declared.job.Job.TheVariants as jobs
+use Rattle.mpw_job.specs.Answers.{TileJob, Answers}
+use Rattle.mpw_job.specs.Carried.{job_of}
+use Rattle.mpw_job.specs.Laws.{tile_job_of}
+use Rattle.mpw_job.specs.declared.answer.Answer.{Answer}
+use Rattle.mpw_job.specs.declared.answer.Answer.TheVariants as answers
+use Rattle.mpw_job.specs.declared.job.Job.TheVariants as jobs
 use Rattle.mpw_markers.specs.declared.marker.Marker.{Marker}
 use Rattle.mpw_tiles.specs.declared.listing.Rectangle.{Rectangle}
 use Rattle.mpw_tiles.specs.Plan.{Tiling, tiles}

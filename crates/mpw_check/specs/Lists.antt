@@ -5,8 +5,8 @@ use Rattle.mpw_geom.specs.declared.plane.Layer.{Layer}
 use Rattle.mpw_geom.specs.Plane.{Square, has_square}
 use Rattle.mpw_grid.specs.Grid.{ShareSquare}
 use Rattle.mpw_hier.specs.Items.{Item}
-use Rattle.mpw_jobs.specs.Answers.{TileJob, Answers}
-use Rattle.mpw_jobs.specs.Layout.{AreLayoutMarkers}
+use Rattle.mpw_job.specs.Answers.{TileJob, Answers}
+use Rattle.mpw_job.specs.Layout.{AreLayoutMarkers}
 use Rattle.mpw_markers.specs.Stitched.{IsStitched}
 use Rattle.mpw_markers.specs.declared.marker.Marker.{Marker}
 use Rattle.mpw_tiles.specs.Listing.{IsListed}

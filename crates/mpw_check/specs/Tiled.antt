@@ -1,7 +1,7 @@
 -- The jobs of the tiles of what is checked, and what keeps from it.
 use Rattle.std.specs.Prelude.{◌≡◌, ℕ, List, None}
 use Rattle.mpw_hier.specs.Values.{flat}
-use Rattle.mpw_jobs.specs.Layout.{AreFlatMarkers, AreLayoutMarkers}
+use Rattle.mpw_job.specs.Layout.{AreFlatMarkers, AreLayoutMarkers}
 use Rattle.mpw_deck.specs.Decks.{Deck}
 use Rattle.mpw_structures.specs.declared.structures.Structure.{Structure}
 use Rattle.mpw_markers.specs.declared.marker.Marker.{Marker}

@@ -1,7 +1,7 @@
 //! Checking: the cut, a job a tile, and the stitching.
 
 ghost use Rattle.std.specs.Prelude.{◌≡◌, ◌≤◌, Some, map, All, IfOk, IfErr, IfSome};
-ghost use Rattle.mpw_jobs.specs.Layout.{AreLayoutMarkers};
+ghost use Rattle.mpw_job.specs.Layout.{AreLayoutMarkers};
 ghost use Rattle.mpw_tiles.specs.Placed.{WindowsLieInPlane};
 ghost use Rattle.mpw_tiles.specs.Plan.{tiles};
 ghost use Rattle.mpw_tiles.specs.Snapshots.{plan_for};
@@ -12,10 +12,10 @@ ghost use Rattle.mpw_check.specs.Internal.Tiled.{IsCut, jobs_of, markers_in, IsA
 use crate::fault::CheckFault;
 use crate::laws::tiles_make_the_layout;
 use crate::progress::Progress;
-use mpw_job::work_all;
-use mpw_jobs::{Answer, Job, tile_job};
+use mpw_job::{Answer, Job, tile_job};
 use mpw_markers::{Book, TileMarkers, stitch};
 use mpw_tiles::{Plan, Snapshot, Windows, cut};
+use mpw_work::work_all;
 use std::alloc::{AllocError, Global};
 use std::thread::Threads;
 
@@ -185,7 +185,7 @@ pub fn tile_count(snapshot: &Snapshot) -> Option<u32>
 ///
 /// The layout is cut once; each of these tiles is a job, and the jobs are done in as many threads as there are processors, in
 /// batches of up to 128 tiles, whose jobs alone are held at a time. Progress is told behind the cut and behind each batch. It
-/// costs what [`mpw_tiles::cut`] and [`mpw_job::do_job`] for each of these tiles do.
+/// costs what [`mpw_tiles::cut`] and [`mpw_work::do_job`] for each of these tiles do.
 ///
 /// # Errors
 /// Want of memory.

@@ -3,7 +3,7 @@
 ghost use Rattle.mpw_check.specs.Lists.{TilesFollowOn, TilesMakeTheLayout};
 ghost use Rattle.mpw_check.specs.Tiled.{MarkersAreTheLibrarys};
 
-use mpw_jobs::{answers_make_the_layout, no_shapes_no_markers};
+use mpw_job::{answers_make_the_layout, no_shapes_no_markers};
 use mpw_markers::lists_determine_the_book;
 use mpw_walk::roots_at_origin_show_their_submission;
 

@@ -1,5 +1,5 @@
 //! What is large in events and responses, shared by their copies.
-use mpw_jobs::{CutAnswer, TileAnswer};
+use mpw_job::{CutAnswer, TileAnswer};
 use mpw_lists::Shared;
 use mpw_run::RunReply;
 

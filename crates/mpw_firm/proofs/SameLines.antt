@@ -9,7 +9,7 @@ use Rattle.mpw_structures.specs.declared.structures.Structure.{Structure}
 use Rattle.mpw_markers.specs.declared.marker.Marker.{Marker}
 use Rattle.mpw_markers.specs.Markers.{key_of}
 use Rattle.mpw_check.specs.Drawn.{drawn, drawn_shelf, IsDrawnFrom}
-use Rattle.mpw_jobs.specs.Laws.{LayoutDeterminesMarkers}
+use Rattle.mpw_job.specs.Laws.{LayoutDeterminesMarkers}
 use Rattle.mpw_parts.specs.Parts.{Checked, Found}
 use Rattle.mpw_replies.specs.Listing.{marker}
 use Rattle.mpw_replies.specs.Sight.{is_full, is_of, cells_on, met_cells, line_for, full_line, full_lines, masked_lines}

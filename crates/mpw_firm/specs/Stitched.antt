@@ -3,7 +3,7 @@ use Rattle.std.specs.Prelude.{◌≡◌, ◌==◌, ◌&&◌, ◌⊎◌, ℕ, Boo
 use Rattle.std.specs.List.{list_all}
 use Rattle.mpw_check.specs.Drawn.{IsDrawnFrom}
 use Rattle.mpw_deck.specs.Reading.{deck_of}
-use Rattle.mpw_jobs.specs.Layout.{AreLayoutMarkers}
+use Rattle.mpw_job.specs.Layout.{AreLayoutMarkers}
 use Rattle.mpw_markers.specs.declared.marker.Marker.{Marker}
 use Rattle.mpw_parts.specs.Parts.{Found}
 use Rattle.mpw_parts.specs.Reading.{part_of}

@@ -3,7 +3,7 @@ ghost use Rattle.std.specs.Prelude.{◌⊎◌, IfOk, IfErr};
 ghost use Rattle.std.specs.String.{string_bytes};
 ghost use Rattle.mpw_check.specs.Drawn.{IsDrawnFrom};
 ghost use Rattle.mpw_check.specs.Tiled.{IsOfPlan};
-ghost use Rattle.mpw_jobs.specs.Layout.{AreLayoutMarkers};
+ghost use Rattle.mpw_job.specs.Layout.{AreLayoutMarkers};
 ghost use Rattle.mpw_firm.specs.Drawings.{IsOfDeck, IsOfLibrary, IsReadFrom};
 ghost use Rattle.mpw_firm.specs.Told.{IsFailure, Tells};
 ghost use Rattle.mpw_firm.specs.ToldFaults.{check_told};

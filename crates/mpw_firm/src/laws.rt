@@ -1,7 +1,7 @@
 //! Laws of the definitions alone.
 ghost use Rattle.mpw_firm.specs.Stitched.{WholesAreListedAsChecks};
 
-use mpw_jobs::layout_determines_markers;
+use mpw_job::layout_determines_markers;
 use mpw_spread::parts_make_the_layout;
 
 /// What is listed of parts that are stitched is what a check lists of the files that the first of them was made of, byte for byte;

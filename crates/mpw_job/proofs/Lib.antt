@@ -1,7 +1,7 @@
-pub mod Areas
-pub mod ByLayer
-pub mod Meeting
-pub mod Adding
-pub mod RunsMeet
-pub mod Worked
-pub mod Serving
+pub mod Tests
+pub mod Shapes
+pub mod Cores
+pub mod Made
+pub mod Edges
+pub mod Unique
+pub mod Filled

@@ -1,5 +1,3 @@
 -- What private functions and proofs alone need: no public contract speaks of it.
-pub mod Found
-pub mod Layers
-pub mod Shared
-pub mod Worked
+pub mod Cores
+pub mod Keys

@@ -1,1 +1,7 @@
+pub mod Layers
+pub mod Answers
+pub mod Layout
+pub mod Laws
+pub mod Jobs
+pub mod Carried
 pub mod Internal

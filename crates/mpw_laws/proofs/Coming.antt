@@ -5,9 +5,9 @@ use Rattle.std.proofs.lemmas.Bool.{false≢true, eqb-true, eq-eqb, cases_eq}
 use Rattle.mpw_tiles.specs.Plan.{tiles}
 use Rattle.mpw_tiles.specs.Snapshots.{Snapshot, StandFor}
 use Rattle.mpw_markers.specs.declared.marker.Marker.{Marker}
-use Rattle.mpw_jobs.specs.Answers.{TileJob, Answers}
-use Rattle.mpw_jobs.specs.Jobs.{CutWindows, FoundMarkers, IsCutAnswer, IsTileAnswer}
-use Rattle.mpw_jobs.specs.Laws.{AnswersMakeTheLayout}
+use Rattle.mpw_job.specs.Answers.{TileJob, Answers}
+use Rattle.mpw_job.specs.Jobs.{CutWindows, FoundMarkers, IsCutAnswer, IsTileAnswer}
+use Rattle.mpw_job.specs.Laws.{AnswersMakeTheLayout}
 use Rattle.mpw_run.specs.declared.phase.Phase.{Phase}
 use Rattle.mpw_run.specs.declared.phase.Phase.TheVariants.{Idle, Cutting, Checking, Finished}
 use Rattle.mpw_run.specs.Run.{Tile, Checks, answered, IsPlanned, IsChecks}

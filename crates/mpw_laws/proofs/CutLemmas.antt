@@ -9,8 +9,8 @@ use Rattle.mpw_core.specs.Step.{of_run}
 use Rattle.mpw_core.specs.declared.event.Event.TheVariants as event
 use Rattle.mpw_core.specs.declared.event.Response.{Response}
 use Rattle.mpw_core.specs.declared.event.Response.TheVariants as response
-use Rattle.mpw_jobs.specs.Jobs.{CutWindows}
-use Rattle.mpw_jobs.specs.declared.job.CutJob.{CutJob}
+use Rattle.mpw_job.specs.Jobs.{CutWindows}
+use Rattle.mpw_job.specs.declared.job.CutJob.{CutJob}
 use Rattle.mpw_run.specs.declared.phase.Phase.{Phase}
 use Rattle.mpw_run.specs.declared.phase.Phase.TheVariants.{Cutting, Checking}
 use Rattle.mpw_run.specs.declared.phase.RunReply.TheVariants as told

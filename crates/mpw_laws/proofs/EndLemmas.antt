@@ -11,7 +11,7 @@ use Rattle.mpw_permissions.specs.declared.permission.Object.TheVariants as objec
 use Rattle.mpw_deck.specs.Decks.{Deck}
 use Rattle.mpw_wafer.specs.Run.Checking as checking
 use Rattle.mpw_wafer.specs.Run.Checking.{run_row}
-use Rattle.mpw_jobs.specs.declared.job.CutJob.{CutJob}
+use Rattle.mpw_job.specs.declared.job.CutJob.{CutJob}
 use Rattle.mpw_replies.specs.Rows.{◌>>=◌, ended_by, needed}
 use Rattle.mpw_access.specs.Permitted.{permitted}
 use Rattle.mpw_replies.specs.declared.reply.Code.TheVariants as code

@@ -9,7 +9,7 @@ use Rattle.mpw_core.specs.declared.event.Event.{Event}
 use Rattle.mpw_core.specs.declared.event.Event.TheVariants as event
 use Rattle.mpw_core.specs.declared.event.Response.{Response}
 use Rattle.mpw_core.specs.declared.event.Response.TheVariants as response
-use Rattle.mpw_jobs.specs.Jobs.{CutWindows, FoundMarkers}
+use Rattle.mpw_job.specs.Jobs.{CutWindows, FoundMarkers}
 use Rattle.mpw_run.specs.declared.phase.RunReply.TheVariants as told
 use Rattle.mpw_run.specs.Laws.{finishes}
 use Rattle.mpw_laws.specs.RunLaws.{is_finished}

@@ -5,8 +5,8 @@ use Rattle.std.proofs.lemmas.Bool.{false≢true, cases_eq, eqb-true, eq-eqb}
 use Rattle.std.proofs.lemmas.Option.{slice_get_within, same_Some, none-some}
 use Rattle.mpw_tiles.specs.Plan.{tiles}
 use Rattle.mpw_markers.specs.declared.marker.Marker.{Marker}
-use Rattle.mpw_jobs.specs.Jobs.{CutWindows, FoundMarkers}
-use Rattle.mpw_jobs.specs.Laws.{AnswersMakeTheLayout}
+use Rattle.mpw_job.specs.Jobs.{CutWindows, FoundMarkers}
+use Rattle.mpw_job.specs.Laws.{AnswersMakeTheLayout}
 use Rattle.mpw_run.specs.declared.phase.Phase.{Phase}
 use Rattle.mpw_run.specs.declared.phase.Phase.TheVariants.{Idle, Cutting, Checking, Finished}
 use Rattle.mpw_run.specs.declared.phase.RunReply.{RunReply}

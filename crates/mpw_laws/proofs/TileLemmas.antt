@@ -10,15 +10,15 @@ use Rattle.mpw_core.specs.declared.event.Event.{Event}
 use Rattle.mpw_core.specs.declared.event.Event.TheVariants as event
 use Rattle.mpw_core.specs.declared.event.Response.{Response}
 use Rattle.mpw_core.specs.declared.event.Response.TheVariants as response
-use Rattle.mpw_jobs.specs.Answers.{TileJob}
-use Rattle.mpw_jobs.specs.Carried.{job_of}
-use Rattle.mpw_jobs.specs.Jobs.{CutWindows, FoundMarkers}
-use Rattle.mpw_jobs.specs.Laws.{tile_job_of}
-use Rattle.mpw_jobs.specs.declared.answer.Answer.{Answer}
-use Rattle.mpw_jobs.specs.declared.answer.Answer.TheVariants as answers
-use Rattle.mpw_jobs.specs.declared.job.CutJob.{CutJob}
-use Rattle.mpw_jobs.specs.declared.job.Job.{Job}
-use Rattle.mpw_jobs.specs.declared.job.Job.TheVariants as jobs
+use Rattle.mpw_job.specs.Answers.{TileJob}
+use Rattle.mpw_job.specs.Carried.{job_of}
+use Rattle.mpw_job.specs.Jobs.{CutWindows, FoundMarkers}
+use Rattle.mpw_job.specs.Laws.{tile_job_of}
+use Rattle.mpw_job.specs.declared.answer.Answer.{Answer}
+use Rattle.mpw_job.specs.declared.answer.Answer.TheVariants as answers
+use Rattle.mpw_job.specs.declared.job.CutJob.{CutJob}
+use Rattle.mpw_job.specs.declared.job.Job.{Job}
+use Rattle.mpw_job.specs.declared.job.Job.TheVariants as jobs
 use Rattle.mpw_run.specs.declared.phase.Phase.{Phase}
 use Rattle.mpw_run.specs.declared.phase.Phase.TheVariants.{Checking, Finished}
 use Rattle.mpw_run.specs.declared.phase.RunReply.TheVariants as told

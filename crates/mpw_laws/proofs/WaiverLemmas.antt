@@ -13,7 +13,7 @@ use Rattle.mpw_replies.specs.declared.reply.Line.TheVariants as line
 use Rattle.mpw_replies.specs.declared.reply.Reply.TheVariants as reply
 use Rattle.mpw_replies.specs.declared.row.Ending.{Ending}
 use Rattle.mpw_wafer.specs.Run.Checking as checking
-use Rattle.mpw_jobs.specs.Jobs.{FoundMarkers}
+use Rattle.mpw_job.specs.Jobs.{FoundMarkers}
 use Rattle.mpw_run.specs.Run.{Planned}
 use Rattle.mpw_run.specs.Step.{Outcome as RunOutcome, book_size, tile_answered}
 use Rattle.mpw_run.specs.declared.phase.RunReply.{RunReply}

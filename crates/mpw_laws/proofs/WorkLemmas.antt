@@ -5,8 +5,8 @@ use Rattle.mpw_laws.specs.GoingOn.{GoesOnTo}
 use Rattle.mpw_core.specs.declared.event.Event.{Event}
 use Rattle.mpw_core.specs.declared.event.Event.TheVariants as event
 use Rattle.mpw_core.specs.declared.event.Response.{Response}
-use Rattle.mpw_jobs.specs.Jobs.{CutWindows}
-use Rattle.mpw_jobs.specs.declared.job.CutJob.{CutJob}
+use Rattle.mpw_job.specs.Jobs.{CutWindows}
+use Rattle.mpw_job.specs.declared.job.CutJob.{CutJob}
 use Rattle.mpw_requests.specs.declared.request.Request.{Request}
 use Rattle.mpw_serve.specs.Working.{CameOf, HandsOver, HandsTile, HandsTiles, WorksTiles, WorksCut, WorksOff, WorksWhere, WorksBehind, own_worker, is_begin, is_accepted}
 

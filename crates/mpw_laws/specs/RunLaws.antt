@@ -1,7 +1,7 @@
 -- What follows for a run from its events.
 use Rattle.std.specs.Prelude.{[], ◌≡◌, ◌↔◌, ◌<◌, ◌≤◌, ◌==◌, ◌&&◌, ◌||◌, ◌⊎◌, ℕ, Bool, true, false, List, ◌∷◌, map, Option, Some, None, slice_get}
 use Rattle.mpw_tiles.specs.Plan.{tiles}
-use Rattle.mpw_jobs.specs.Jobs.{CutWindows, FoundMarkers, IsCutAnswer, IsTileAnswer}
+use Rattle.mpw_job.specs.Jobs.{CutWindows, FoundMarkers, IsCutAnswer, IsTileAnswer}
 use Rattle.mpw_run.specs.declared.phase.Phase.{Phase}
 use Rattle.mpw_run.specs.declared.phase.Phase.TheVariants.{Idle, Cutting, Checking, Finished}
 use Rattle.mpw_run.specs.declared.phase.RunReply.{RunReply}

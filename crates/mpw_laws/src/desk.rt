@@ -14,7 +14,7 @@ ghost use Rattle.mpw_core.specs.History.{state_after, KeptDesk, IsHandled};
 ghost use Rattle.mpw_laws.specs.GoingOn.{GoesOnTo};
 ghost use Rattle.mpw_replies.specs.Listing.{Listed, stored};
 ghost use Rattle.mpw_replies.specs.declared.reply.Line.TheVariants as line;
-ghost use Rattle.mpw_jobs.specs.Jobs.{FoundMarkers};
+ghost use Rattle.mpw_job.specs.Jobs.{FoundMarkers};
 ghost use Rattle.mpw_run.specs.Step.{book_size};
 ghost use Rattle.mpw_run.specs.declared.phase.RunReply.TheVariants as told;
 ghost use Rattle.mpw_requests.specs.declared.run.RunRequest.TheVariants as run;

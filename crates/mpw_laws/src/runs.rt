@@ -2,7 +2,7 @@
 ghost use Rattle.mpw_laws.specs.RunLaws.{EachRunKeeps, FinishedOnceAllWereKept, UnkeptLeavesTheRun, RunsGoOnOrAreFinished, TakingCountsAlone, NextIsFewest};
 ghost use Rattle.mpw_run.specs.Step.{Run as RunValue};
 
-use mpw_jobs::answers_make_the_layout;
+use mpw_job::answers_make_the_layout;
 use mpw_run::stitched_computes;
 
 /// After any events a run is what runs are: the windows stand for its snapshot, what was kept for a

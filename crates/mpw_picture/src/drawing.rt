@@ -10,8 +10,8 @@ use crate::size::{breadth, corners_of, drawing_breadth, drawing_height, height};
 use itoa::Buffer;
 use mpw_deck::Rule;
 use mpw_geom::Box2;
-use mpw_tiles::Rectangle;
 use mpw_text::put;
+use mpw_tiles::Rectangle;
 use std::io::{self, Write};
 
 /// How many colours layers have.

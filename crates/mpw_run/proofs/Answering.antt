@@ -6,9 +6,9 @@ use Rattle.std.proofs.lemmas.Option.{slice_get-get_or}
 use Rattle.mpw_tiles.specs.declared.listing.Rectangle.{Rectangle}
 use Rattle.mpw_tiles.specs.Plan.{tiles}
 use Rattle.mpw_markers.specs.declared.marker.Marker.{Marker}
-use Rattle.mpw_jobs.specs.Answers.{TileJob, Answers}
-use Rattle.mpw_jobs.specs.Jobs.{CutWindows, FoundMarkers, IsCutAnswer, IsTileAnswer}
-use Rattle.mpw_jobs.specs.Laws.{AnswerTiles, AnswersMakeTheLayout}
+use Rattle.mpw_job.specs.Answers.{TileJob, Answers}
+use Rattle.mpw_job.specs.Jobs.{CutWindows, FoundMarkers, IsCutAnswer, IsTileAnswer}
+use Rattle.mpw_job.specs.Laws.{AnswerTiles, AnswersMakeTheLayout}
 use Rattle.mpw_run.specs.declared.phase.Phase.TheVariants.{Cutting, Checking}
 use Rattle.mpw_run.specs.declared.phase.RunReply.TheVariants as reply
 use Rattle.mpw_run.specs.declared.prepare.Change.TheVariants as change

@@ -6,10 +6,10 @@ use Rattle.std.proofs.lemmas.Option.{slice_get_within}
 use Rattle.mpw_tiles.specs.Plan.{tiles}
 use Rattle.mpw_tiles.specs.Snapshots.{Snapshot, StandFor}
 use Rattle.mpw_markers.specs.declared.marker.Marker.{Marker}
-use Rattle.mpw_jobs.specs.Answers.{TileJob, Answers}
-use Rattle.mpw_jobs.specs.Jobs.{CutWindows}
-use Rattle.mpw_jobs.specs.Laws.{AnswersMakeTheLayout}
-use Rattle.mpw_jobs.specs.declared.job.Job.TheVariants as job
+use Rattle.mpw_job.specs.Answers.{TileJob, Answers}
+use Rattle.mpw_job.specs.Jobs.{CutWindows}
+use Rattle.mpw_job.specs.Laws.{AnswersMakeTheLayout}
+use Rattle.mpw_job.specs.declared.job.Job.TheVariants as job
 use Rattle.mpw_run.specs.declared.phase.Phase.{Phase}
 use Rattle.mpw_run.specs.declared.phase.Phase.TheVariants.{Cutting, Checking, Finished}
 use Rattle.mpw_run.specs.declared.phase.RunReply.TheVariants as reply

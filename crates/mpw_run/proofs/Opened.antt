@@ -12,10 +12,10 @@ use Rattle.mpw_markers.specs.declared.marker.Marker.{Marker}
 use Rattle.mpw_markers.specs.Markers.{IsFilled}
 use Rattle.std.proofs.lemmas.List.{get_or_default}
 use Rattle.std.proofs.lemmas.List.Elements.{All-contains}
-use Rattle.mpw_jobs.proofs.Filled.{all_filled}
-use Rattle.mpw_jobs.specs.Answers.{Answers}
-use Rattle.mpw_jobs.specs.Laws.{tile_job_of, AnswerTiles, AnswersMakeTheLayout}
-use Rattle.mpw_jobs.specs.Layout.{AreLayoutMarkers}
+use Rattle.mpw_job.proofs.Filled.{all_filled}
+use Rattle.mpw_job.specs.Answers.{Answers}
+use Rattle.mpw_job.specs.Laws.{tile_job_of, AnswerTiles, AnswersMakeTheLayout}
+use Rattle.mpw_job.specs.Layout.{AreLayoutMarkers}
 use Rattle.mpw_run.specs.Run.{Planned, Tile, Checks, answers_of, answered, IsPlanned, IsChecks}
 use Rattle.mpw_run.specs.Step.{job_of_tile, with_tiles, raised, answered_by, new_tiles}
 use Rattle.mpw_run.specs.Stitching.{stitched, AreFilled}

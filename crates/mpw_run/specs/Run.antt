@@ -7,8 +7,8 @@ use Rattle.mpw_tiles.specs.Placed.{WindowsLieInPlane}
 use Rattle.mpw_tiles.specs.Plan.{Tiling, tiles}
 use Rattle.mpw_tiles.specs.Snapshots.{Snapshot, IsSnapshot, plan_for, StandFor}
 use Rattle.mpw_markers.specs.declared.marker.Marker.{Marker}
-use Rattle.mpw_jobs.specs.Answers.{Answers}
-use Rattle.mpw_jobs.specs.Laws.{tile_job_of}
+use Rattle.mpw_job.specs.Answers.{Answers}
+use Rattle.mpw_job.specs.Laws.{tile_job_of}
 
 -- A snapshot with the plan of its tiles.
 pub record Planned : Type 0 where

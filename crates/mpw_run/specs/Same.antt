@@ -25,7 +25,7 @@ use Rattle.mpw_hier.specs.declared.submission.Submission.{Submission}
 use Rattle.mpw_walk.specs.declared.root.Root.{Root}
 use Rattle.mpw_tiles.specs.declared.listing.Rectangle.{Rectangle}
 use Rattle.mpw_tiles.specs.Snapshots.{Snapshot}
-use Rattle.mpw_jobs.specs.Answers.{TileJob}
+use Rattle.mpw_job.specs.Answers.{TileJob}
 
 -- ---- the plane
 

@@ -3,12 +3,12 @@ use Rattle.std.specs.Prelude.{◌==◌, ⊤, ℕ, ◌+◌, List, [], ◌∷◌, 
 use Rattle.std.specs.Io.Iter.{u64_saturate}
 use Rattle.mpw_tiles.specs.Plan.{tiles}
 use Rattle.mpw_markers.specs.declared.marker.Marker.{Marker}
-use Rattle.mpw_jobs.specs.declared.job.CutJob.{CutJob}
-use Rattle.mpw_jobs.specs.declared.job.Job.TheVariants as job
-use Rattle.mpw_jobs.specs.Answers.{TileJob}
-use Rattle.mpw_jobs.specs.Jobs.{CutWindows, FoundMarkers}
-use Rattle.mpw_jobs.specs.Laws.{tile_job_of}
-use Rattle.mpw_jobs.specs.Layout.{AreLayoutMarkers}
+use Rattle.mpw_job.specs.declared.job.CutJob.{CutJob}
+use Rattle.mpw_job.specs.declared.job.Job.TheVariants as job
+use Rattle.mpw_job.specs.Answers.{TileJob}
+use Rattle.mpw_job.specs.Jobs.{CutWindows, FoundMarkers}
+use Rattle.mpw_job.specs.Laws.{tile_job_of}
+use Rattle.mpw_job.specs.Layout.{AreLayoutMarkers}
 use Rattle.mpw_run.specs.declared.phase.Checked.{Checked}
 use Rattle.mpw_run.specs.declared.phase.Phase.{Phase}
 use Rattle.mpw_run.specs.declared.phase.Phase.TheVariants.{Idle, Cutting, Checking, Finished}

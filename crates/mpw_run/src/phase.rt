@@ -9,7 +9,7 @@ ghost use Rattle.mpw_run.specs.Step.{Offer, findings, next_from, job_of_tile};
 ghost use Rattle.mpw_run.specs.Stitching.{stitched, AreFilled};
 
 use crate::tiles::Tiles;
-use mpw_jobs::{Job, TileJob, tile_job};
+use mpw_job::{Job, TileJob, tile_job};
 use mpw_markers::{Book, TileMarkers};
 use mpw_tiles::{Plan, Snapshot, Windows};
 use std::alloc::{AllocError, Global};

@@ -12,7 +12,7 @@ use crate::phase::{Checks, Phase, Planned, RunReply};
 use crate::prepare::{Change, Prepared, next_number, next_phase, next_size};
 use crate::same::{is_same_snapshot, is_same_tile_job};
 use crate::tiles::Tiles;
-use mpw_jobs::{CutAnswer, CutJob, Job, TileAnswer, answers_make_the_layout};
+use mpw_job::{CutAnswer, CutJob, Job, TileAnswer, answers_make_the_layout};
 use std::alloc::{AllocError, Global};
 use std::marker::Model;
 use std::mem;

@@ -4,7 +4,7 @@ ghost use Rattle.std.specs.Prelude.{◌≡◌};
 ghost use Rattle.mpw_run.specs.Same.{same_snapshot, same_tile_job};
 
 use crate::laws::tests_are_exact;
-use mpw_jobs::TileJob;
+use mpw_job::TileJob;
 use mpw_tiles::Snapshot;
 
 /// Whether the snapshots have equal decks, roots and submissions. It stops at the first difference,

@@ -6,8 +6,8 @@ use Rattle.std.proofs.lemmas.Option.{slice_get_within, get_or_from_slice_get}
 use Rattle.mpw_core.specs.History.{KeptDesk}
 use Rattle.mpw_core.specs.declared.event.Event.{Event}
 use Rattle.mpw_core.specs.declared.event.Event.TheVariants as event
-use Rattle.mpw_jobs.specs.Jobs.{CutWindows}
-use Rattle.mpw_jobs.specs.declared.job.CutJob.{CutJob}
+use Rattle.mpw_job.specs.Jobs.{CutWindows}
+use Rattle.mpw_job.specs.declared.job.CutJob.{CutJob}
 use Rattle.mpw_serve.specs.Working.{HandsCut, HandsOver, HandsTile, HandsTiles, WorksCut, WorksOff, WorksTiles, cut_of_call, own_worker}
 use Rattle.mpw_serve.specs.Internal.Working.{CallsFor}
 

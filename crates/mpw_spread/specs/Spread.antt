@@ -5,7 +5,7 @@ use Rattle.mpw_deck.specs.Decks.{Deck}
 use Rattle.mpw_deck.specs.Reading.{deck_of}
 use Rattle.mpw_check.specs.Drawn.{IsDrawnFrom}
 use Rattle.mpw_check.specs.Lists.{tile_count, AreOfTiles}
-use Rattle.mpw_jobs.specs.Layout.{AreLayoutMarkers}
+use Rattle.mpw_job.specs.Layout.{AreLayoutMarkers}
 use Rattle.mpw_markers.specs.declared.marker.Marker.{Marker}
 use Rattle.mpw_parts.specs.Parts.{Checked, Found}
 use Rattle.mpw_parts.specs.Stitching.{IsBookOf}

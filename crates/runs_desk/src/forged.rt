@@ -1,6 +1,6 @@
 //! Jobs with parts of others.
 
-use mpw_jobs::{CutAnswer, CutJob, Job, TileJob};
+use mpw_job::{CutAnswer, CutJob, Job, TileJob};
 use std::alloc::{AllocError, Global};
 
 /// The job of cutting what another answer cut, of a run of that number.

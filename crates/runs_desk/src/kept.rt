@@ -3,8 +3,8 @@
 use anyhow::{Result, bail};
 use mpw_core::{Event, SharedCut, SharedTile};
 use mpw_geom::Name;
-use mpw_job::do_job;
-use mpw_jobs::{Answer, Job};
+use mpw_job::{Answer, Job};
+use mpw_work::do_job;
 use std::alloc::{AllocError, Global};
 
 /// What came of a job.

@@ -5,12 +5,12 @@ use anyhow::{Context, Result, bail};
 use mpw_deck::{Deck, Rules};
 use mpw_edges::Axis;
 use mpw_geom::Box2;
-use mpw_job::work_all;
-use mpw_jobs::{Answer, Job, TileJob};
+use mpw_job::{Answer, Job, TileJob};
 use mpw_markers::{Book, Marker, TileMarkers, stitch};
 use mpw_plain::all_near;
 use mpw_tiles::{Plan, Rectangle, Window, Windows, windows_of};
 use mpw_words::{is_near, is_ordered};
+use mpw_work::work_all;
 use std::alloc::Global;
 use std::thread::Threads;
 

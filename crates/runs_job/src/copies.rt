@@ -4,9 +4,9 @@ use crate::words::{deck, rectangles};
 use anyhow::{Result, bail};
 use mpw_geom::Box2;
 use mpw_hier::Shelf;
-use mpw_job::do_job;
-use mpw_jobs::{Answer, CutJob, Job, TileJob};
+use mpw_job::{Answer, CutJob, Job, TileJob};
 use mpw_tiles::{Snapshot, Window, are_roots};
+use mpw_work::do_job;
 use std::alloc::Global;
 
 fn cut_job(alloc: Global) -> Result<Job> {

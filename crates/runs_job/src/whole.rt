@@ -1,10 +1,10 @@
 //! The book of a snapshot, by its jobs: the cut, a job a tile, and the stitching.
 
 use anyhow::{Context, Result, bail};
-use mpw_job::{do_job, work_all};
-use mpw_jobs::{Answer, CutAnswer, CutJob, Job, tile_job};
+use mpw_job::{Answer, CutAnswer, CutJob, Job, tile_job};
 use mpw_markers::{Book, TileMarkers, stitch};
 use mpw_tiles::{Snapshot, Windows};
+use mpw_work::{do_job, work_all};
 use std::alloc::Global;
 use std::thread::Threads;
 

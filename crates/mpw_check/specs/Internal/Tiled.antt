@@ -1,12 +1,12 @@
 -- What private functions and proofs need of this: a layout that is cut, and the jobs of its tiles.
 use Rattle.std.specs.Prelude.{◌≡◌, ℕ, ◌-◌, List, [], map, length, Some}
 use Rattle.std.specs.List.{range_with_len}
-use Rattle.mpw_jobs.specs.Answers.{Answers}
-use Rattle.mpw_jobs.specs.Laws.{tile_job_of}
-use Rattle.mpw_jobs.specs.declared.answer.Answer.{Answer}
-use Rattle.mpw_jobs.specs.declared.answer.Answer.TheVariants as answers
-use Rattle.mpw_jobs.specs.declared.job.Job.{Job}
-use Rattle.mpw_jobs.specs.declared.job.Job.TheVariants as jobs
+use Rattle.mpw_job.specs.Answers.{Answers}
+use Rattle.mpw_job.specs.Laws.{tile_job_of}
+use Rattle.mpw_job.specs.declared.answer.Answer.{Answer}
+use Rattle.mpw_job.specs.declared.answer.Answer.TheVariants as answers
+use Rattle.mpw_job.specs.declared.job.Job.{Job}
+use Rattle.mpw_job.specs.declared.job.Job.TheVariants as jobs
 use Rattle.mpw_markers.specs.declared.marker.Marker.{Marker}
 use Rattle.mpw_tiles.specs.declared.listing.Rectangle.{Rectangle}
 use Rattle.mpw_tiles.specs.Placed.{WindowsLieInPlane}

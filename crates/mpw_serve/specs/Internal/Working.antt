@@ -4,7 +4,7 @@ use Rattle.mpw_core.specs.History.{KeptDesk, restarts}
 use Rattle.mpw_core.specs.declared.event.Event.{Event}
 use Rattle.mpw_core.specs.declared.event.Event.TheVariants as event
 use Rattle.mpw_core.specs.declared.event.Response.{Response}
-use Rattle.mpw_jobs.specs.declared.job.CutJob.{CutJob}
+use Rattle.mpw_job.specs.declared.job.CutJob.{CutJob}
 use Rattle.mpw_serve.specs.Working.{own_worker, CameOf, cut_of_call}
 
 -- The event is of the run, and no restart.

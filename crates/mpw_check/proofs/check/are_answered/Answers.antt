@@ -2,7 +2,7 @@ use Rattle.std.proofs.Common.{List, subst}
 use Rattle.std.specs.Prelude.{All}
 use Rattle.std.proofs.lemmas.List.{take_all}
 use Rattle.std.proofs.lemmas.List.Elements.{All-more}
-use Rattle.mpw_jobs.specs.declared.answer.Answer.{Answer}
+use Rattle.mpw_job.specs.declared.answer.Answer.{Answer}
 use Rattle.mpw_check.specs.Internal.Tiled.{IsAnswered}
 use Rattle.mpw_check.proofs.check.are_answered.Goals as goal
 

@@ -1,7 +1,7 @@
 use Rattle.std.proofs.Common.{◌≡◌, ◌+◌, ◌-◌, ◌∷◌, [], ◌++◌, map, ap, ◌∙◌, arith}
 use Rattle.std.specs.List.{range_with_len}
 use Rattle.std.proofs.lemmas.List.FromFn.{map-range_with_len_more}
-use Rattle.mpw_jobs.specs.declared.job.Job.TheVariants as jobs
+use Rattle.mpw_job.specs.declared.job.Job.TheVariants as jobs
 use Rattle.mpw_check.specs.Internal.Tiled.{job_at}
 use Rattle.mpw_check.proofs.check.tile_jobs.Goals as goal
 

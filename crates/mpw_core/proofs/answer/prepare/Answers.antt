@@ -1,5 +1,5 @@
 use Rattle.std.proofs.Common.{refl, subst}
-use Rattle.mpw_jobs.specs.Jobs.{CutWindows, FoundMarkers}
+use Rattle.mpw_job.specs.Jobs.{CutWindows, FoundMarkers}
 use Rattle.mpw_run.specs.Prepared.{IsPrepared}
 use Rattle.mpw_run.specs.Step as run
 use Rattle.mpw_core.specs.Internal.Answer.{open_state}

@@ -1,5 +1,5 @@
 use Rattle.std.proofs.Common.{rules}
-use Rattle.mpw_jobs.specs.Carried.{job_of}
+use Rattle.mpw_job.specs.Carried.{job_of}
 use Rattle.mpw_serve.proofs.BatchLemmas.{front_grows}
 use Rattle.mpw_serve.proofs.working.all_done.Goals as goal
 

@@ -1,5 +1,5 @@
 use Rattle.std.proofs.Common.{◌≡◌, ◌-◌, ◌≤◌, map, take, length}
-use Rattle.mpw_jobs.specs.Carried.{job_of}
+use Rattle.mpw_job.specs.Carried.{job_of}
 use Rattle.mpw_serve.proofs.working.all_done.Given as goal
 
 abbrev pub invariant-loop-from : goal.invariant-loop-from

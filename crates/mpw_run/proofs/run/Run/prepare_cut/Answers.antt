@@ -1,5 +1,5 @@
 use Rattle.std.proofs.Common.{sym, ap, ◌∙◌}
-use Rattle.mpw_jobs.specs.declared.job.CutJob.{CutJob}
+use Rattle.mpw_job.specs.declared.job.CutJob.{CutJob}
 use Rattle.mpw_run.proofs.Exactness.{snapshots}
 use Rattle.mpw_run.proofs.run.Run.prepare_cut.Goals as goal
 

@@ -1,0 +1,262 @@
+-- What a tile's core finds, told by the whole layout.
+use Rattle.std.proofs.Common.{◌≡◌, ℕ, ◌≤◌, ◌<◌, Bool, true, false, List, [], get_or, Option, Some, None, refl, sym, subst, arith}
+use Rattle.std.specs.Prelude.{ℤ, pos, ◌+ℤ◌, ◌-ℤ◌, ◌<ℤ◌, Contains, ◌↔◌, if◌then◌else◌, nat_le}
+use Rattle.std.proofs.lemmas.Bool.{and_parts}
+use Rattle.std.proofs.lemmas.Int.{ints}
+use Rattle.mpw_geom.specs.declared.plane.Box2.{Box2}
+use Rattle.mpw_geom.specs.declared.plane.Layer.{Layer}
+use Rattle.mpw_geom.specs.Plane.{Square, has_square, IsBoxInPlane}
+use Rattle.mpw_geom.proofs.Tests.{test_from_SquareIn}
+use Rattle.mpw_deck.specs.declared.rule.Rule.{Rule}
+use Rattle.mpw_deck.specs.Decks.{Deck}
+use Rattle.mpw_edges.specs.declared.run.Axis.{Axis}
+use Rattle.mpw_edges.specs.declared.run.Axis.TheVariants.{V, H}
+use Rattle.mpw_edges.specs.declared.run.Piece.{Piece}
+use Rattle.mpw_edges.specs.Laws.{AreSameIn}
+use Rattle.mpw_grid.specs.Grid.{core_at}
+use Rattle.mpw_hier.specs.Items.{Item}
+use Rattle.mpw_tiles.specs.declared.listing.Rectangle.{Rectangle}
+use Rattle.mpw_tiles.specs.Laws as tiling
+use Rattle.mpw_tiles.specs.Placed.{IsSquareInPlane}
+use Rattle.mpw_tiles.specs.Plan.{Tiling, plan_of, tiles, tile_core, tile_window}
+use Rattle.mpw_tiles.specs.Snapshots.{Snapshot, shown, shown_extent, plan_over, plan_for, StandFor}
+use Rattle.mpw_markers.specs.declared.marker.Key.{Key}
+use Rattle.mpw_markers.specs.declared.marker.Marker.{Marker}
+use Rattle.mpw_markers.specs.Markers as marks
+use Rattle.mpw_markers.specs.Whole.{IsMet, IsMaximal, IsMarkerOf, AreMarkersOf}
+use Rattle.mpw_markers.specs.Laws.{steps_in}
+use Rattle.mpw_edges.specs.Computed.{TestDecidesPairSteps}
+use Rattle.mpw_job.specs.Layers.{first_squares, second_squares, steps_of}
+use Rattle.mpw_job.specs.Internal.Cores.{is_in_core}
+use Rattle.mpw_job.specs.Answers.{HasListed, listed_on, IsFoundIn, run_of, Answers}
+use Rattle.mpw_job.specs.Internal.Keys.{run_at}
+use Rattle.mpw_job.specs.Layout.{shown_on}
+use Rattle.mpw_job.specs.Laws.{tile_job_of, CoresLieInPlane}
+use Rattle.mpw_job.proofs.Tests.{same_first, same_second, get_contains, maximal_from, run_from, rule_of}
+use Rattle.mpw_job.proofs.Shapes.{tests_tell, tests_tell_listed, shown_by, by_from, by_as}
+
+-- ---- plans
+
+small : (t : Bool) (q plan : Tiling) → (if t then Some q else None) ≡ Some plan → plan ≡ q
+small true q plan e = sym cc
+small false q plan e = cc
+
+pub record IsOver (deck : Deck) (o : Option Box2) (plan : Tiling) : Type 0 where
+  pub extent : Box2
+  pub found : o ≡ Some extent
+  pub is : plan ≡ plan_of extent deck
+
+pub plan_is : (deck : Deck) (o : Option Box2) (plan : Tiling) → plan_over deck o ≡ Some plan
+    → IsOver deck o plan
+plan_is deck None plan e = cc
+plan_is deck (Some extent) plan e =
+    record {
+      extent = extent;
+      found = refl;
+      is = small (nat_le (tiles (plan_of extent deck)) 4096)
+          (plan_of extent deck) plan e;
+    }
+
+-- a core with area, whose squares' margin lies in the plane, lies in it
+core_near : (core : Box2) (margin : ℕ) → core.x0 <ℤ core.x1 → core.y0 <ℤ core.y1
+    → ((s : Square) → has_square (record {
+      x0 = core.x0 -ℤ pos margin;
+      y0 = core.y0 -ℤ pos margin;
+      x1 = core.x1 +ℤ pos margin;
+      y1 = core.y1 +ℤ pos margin;
+    }) s ≡ true → IsSquareInPlane s)
+    → IsBoxInPlane core
+core_near core margin w h near =
+    let window : Box2 = record {
+      x0 = core.x0 -ℤ pos margin;
+      y0 = core.y0 -ℤ pos margin;
+      x1 = core.x1 +ℤ pos margin;
+      y1 = core.y1 +ℤ pos margin;
+    } in
+    let low : Square = record { column = core.x0; row = core.y0 } in
+    let high : Square = record { column = core.x1 -ℤ pos 1; row = core.y1 -ℤ pos 1 } in
+    let a = near low (test_from_SquareIn window low
+    (record {
+      left = omega (arith, ints);
+      right = omega (arith, ints);
+      bottom = omega (arith, ints);
+      top = omega (arith, ints);
+    })) in
+    let b = near high (test_from_SquareIn window high
+    (record {
+      left = omega (arith, ints);
+      right = omega (arith, ints);
+      bottom = omega (arith, ints);
+      top = omega (arith, ints);
+    })) in
+    let a0 = a.left in
+    let a1 = a.right in
+    let a2 = a.bottom in
+    let a3 = a.top in
+    let b0 = b.left in
+    let b1 = b.right in
+    let b2 = b.bottom in
+    let b3 = b.top in
+    record {
+      x0 = record { low = omega (arith, ints); high = omega (arith, ints) };
+      y0 = record { low = omega (arith, ints); high = omega (arith, ints) };
+      x1 = record { low = omega (arith, ints); high = omega (arith, ints) };
+      y1 = record { low = omega (arith, ints); high = omega (arith, ints) };
+    }
+
+core_wide : (plan : Tiling) (tile : ℕ) → 1 ≤ plan.grid.side
+    → (tile_core plan tile).x0 <ℤ (tile_core plan tile).x1
+unfolding core_at
+core_wide plan tile h = omega (arith, ints)
+
+core_high : (plan : Tiling) (tile : ℕ) → 1 ≤ plan.grid.side
+    → (tile_core plan tile).y0 <ℤ (tile_core plan tile).y1
+unfolding core_at
+core_high plan tile h = omega (arith, ints)
+
+pub cores_in_plane : CoresLieInPlane
+cores_in_plane s plan tile h e near u =
+    let over = plan_is s.deck (shown_extent s) plan e in
+    let least = h.deck.short in
+    let side : 1 ≤ plan.grid.side = subst (λ (q : Tiling). 1 ≤ q.grid.side) (sym over.is)
+    (omega arith) in
+    core_near (tile_core plan tile) plan.margin (core_wide plan tile side)
+    (core_high plan tile side) (λ q w. near tile q u w)
+
+-- ---- boxes and what they meet
+
+pub same_boxes : (axis : Axis) (x1 x2 y0 y1 : ℤ)
+    → marks.box_on axis x1 x2 y0 y1 ≡ tiling.box_on axis x1 x2 y0 y1
+same_boxes V x1 x2 y0 y1 = refl
+same_boxes H x1 x2 y0 y1 = refl
+
+pub to_listed : (listed : List Rectangle) (b : Box2) (origin : ℕ)
+    → IsMet (HasListed listed) b origin → tiling.IsListedMet listed b origin
+to_listed listed b origin h = record {
+  layer = h.1.0.layer;
+  square = h.0;
+  is_listed = (h.1.0, h.1.1, record { on_layer = refl; of_origin = h.1.2; has = h.1.3 });
+  meets = h.2;
+}
+
+pub from_listed : (listed : List Rectangle) (b : Box2) (origin : ℕ)
+    → tiling.IsListedMet listed b origin → IsMet (HasListed listed) b origin
+from_listed listed b origin h =
+    (h.square, (h.is_listed.0, h.is_listed.1, h.is_listed.2.of_origin, h.is_listed.2.has), h.meets)
+
+pub to_shown : (items : List Item) (b : Box2) (origin : ℕ)
+    → IsMet (λ o s. shown_by items o s ≡ true) b origin → tiling.IsMet items b origin
+to_shown items b origin h = let p = by_from items origin h.0 h.1 in
+    record { layer = p.0; square = h.0; shown = p.1; meets = h.2 }
+
+pub from_shown : (items : List Item) (b : Box2) (origin : ℕ) → tiling.IsMet items b origin
+    → IsMet (λ o s. shown_by items o s ≡ true) b origin
+from_shown items b origin h = (h.square, by_as items origin h.square (h.layer, h.shown), h.meets)
+
+-- ---- a tile's answer
+
+pub record Laws : Type 0 where
+  pub decides : TestDecidesPairSteps
+  pub windows : tiling.WindowsShowLayers
+  pub found : tiling.EachWindowDecides
+  pub met : tiling.WindowsTellMet
+
+-- the windows and the layout show the same in a tile's window
+record IsAlike (s : Snapshot) (extent : Box2) (windows : List (List Rectangle)) (tile : ℕ) :
+    Type 0 where
+  same : (layer : Layer) → AreSameIn (tile_window (plan_of extent s.deck) tile)
+      (shown_on (shown s) layer) (listed_on (get_or windows tile []) layer)
+
+alike : Laws → (s : Snapshot) (extent : Box2) (windows : List (List Rectangle)) (tile : ℕ)
+    → plan_for s ≡ Some (plan_of extent s.deck) → StandFor s windows
+    → tile < tiles (plan_of extent s.deck) → IsAlike s extent windows tile
+alike laws s extent windows tile e stand u = record {
+  same = λ layer. laws.windows s (plan_of extent s.deck) windows tile layer
+      (shown_on (shown s) layer) (listed_on (get_or windows tile []) layer) e stand u
+      (tests_tell (shown s) layer) (tests_tell_listed (get_or windows tile []) layer);
+}
+
+-- what a rule finds among the rectangles is what it finds in the layout
+found_alike : Laws → (s : Snapshot) (extent : Box2) (windows : List (List Rectangle)) (tile : ℕ)
+    (rule : Rule) (p : Piece) → plan_for s ≡ Some (plan_of extent s.deck) → StandFor s windows
+    → tile < tiles (plan_of extent s.deck) → Contains s.deck.rules rule
+    → IsFoundIn (tile_core (plan_of extent s.deck) tile) (shown_on (shown s)) rule p
+    ↔ IsFoundIn (tile_core (plan_of extent s.deck) tile) (listed_on (get_or windows tile []))
+    rule p
+found_alike laws s extent windows tile rule p e stand u c =
+    let window = tile_window (plan_of extent s.deck) tile in
+    let layers = alike laws s extent windows tile e stand u in
+    laws.found extent s.deck rule tile
+    (first_squares rule.check (shown_on (shown s))) (second_squares rule.check (shown_on (shown s)))
+    (first_squares rule.check (listed_on (get_or windows tile [])))
+    (second_squares rule.check (listed_on (get_or windows tile []))) c
+    (same_first rule.check window (shown_on (shown s)) (listed_on (get_or windows tile []))
+    layers.same)
+    (same_second rule.check window (shown_on (shown s)) (listed_on (get_or windows tile []))
+    layers.same) p
+
+-- which origins the run's box meets
+met_alike : Laws → (s : Snapshot) (extent : Box2) (windows : List (List Rectangle)) (tile : ℕ)
+    (rule : Rule) (m : Marker) (origin : ℕ) → plan_for s ≡ Some (plan_of extent s.deck)
+    → StandFor s windows → tile < tiles (plan_of extent s.deck) → Contains s.deck.rules rule
+    → IsFoundIn (tile_core (plan_of extent s.deck) tile) (shown_on (shown s)) rule (run_of m)
+    → IsMet (λ o q. shown_by (shown s) o q ≡ true) (marks.box_of m) origin
+    ↔ IsMet (HasListed (get_or windows tile [])) (marks.box_of m) origin
+met_alike laws s extent windows tile rule m origin e stand u c run =
+    let box = same_boxes m.axis m.x1 m.x2 m.y0 m.y1 in
+    let tell = laws.met s (plan_of extent s.deck) windows rule tile
+    (first_squares rule.check (shown_on (shown s)))
+    (second_squares rule.check (shown_on (shown s))) (run_of m) origin e stand u c run in
+    let listed = get_or windows tile [] in (
+      λ h. subst (λ (b : Box2). IsMet (HasListed listed) b origin) (sym box)
+          (from_listed listed _ origin (tell.0
+          (to_shown (shown s) _ origin (subst
+          (λ (b : Box2). IsMet (λ o q. shown_by (shown s) o q ≡ true) b origin) box h)))),
+      λ h. subst (λ (b : Box2). IsMet (λ o q. shown_by (shown s) o q ≡ true) b origin) (sym box)
+          (from_shown (shown s) _ origin (tell.1
+          (to_listed listed _ origin (subst (λ (b : Box2). IsMet (HasListed listed) b origin) box
+          h)))),
+    )
+
+-- the answer of a tile has just the markers of its core
+pub answer_is : Laws → (s : Snapshot) (extent : Box2) (windows : List (List Rectangle))
+    (run tile : ℕ) (list : List Marker) → plan_for s ≡ Some (plan_of extent s.deck)
+    → StandFor s windows → tile < tiles (plan_of extent s.deck)
+    → Answers (tile_job_of s (plan_of extent s.deck) windows run tile) list
+    → AreMarkersOf (steps_in (steps_of s.deck.rules (shown_on (shown s)))
+    (is_in_core (tile_core (plan_of extent s.deck) tile)))
+    (λ o q. shown_by (shown s) o q ≡ true) list
+answer_is laws s extent windows run tile list e stand u answers =
+    record { sound = sound; complete = complete }
+  where
+    sound : (m : Marker) → Contains list m
+        → IsMarkerOf (steps_in (steps_of s.deck.rules (shown_on (shown s)))
+        (is_in_core (tile_core (plan_of extent s.deck) tile)))
+        (λ o q. shown_by (shown s) o q ≡ true) m
+    sound m c =
+        let a = answers.sound m c in
+        let in_deck = get_contains s.deck.rules m.rule a.rule a.at in
+        let found =
+        (found_alike laws s extent windows tile a.rule (run_of m) e stand u in_deck).1 a.run in
+        record {
+          run = maximal_from laws.decides s.deck.rules (shown_on (shown s))
+              (tile_core (plan_of extent s.deck) tile) (marks.key_of m) a.rule a.at found;
+          ascending = a.met.ascending;
+          met = λ origin.
+              let same =
+              met_alike laws s extent windows tile a.rule m origin e stand u in_deck found in
+              (λ k. same.1 ((a.met.exact origin).0 k), λ k. (a.met.exact origin).1 (same.0 k));
+        }
+
+    complete : (k : Key) → IsMaximal (steps_in (steps_of s.deck.rules (shown_on (shown s)))
+        (is_in_core (tile_core (plan_of extent s.deck) tile))) k → (m : Marker) × Contains list m
+        × (marks.key_of m ≡ k)
+    complete k m =
+        let first = and_parts (steps_of s.deck.rules (shown_on (shown s)) (marks.line_of_key k)
+        k.y0) _ (m.rows k.y0 (omega (arith, ints)) m.filled) in
+        let r = rule_of s.deck.rules (shown_on (shown s)) (marks.line_of_key k) k.y0 first.0 in
+        let in_deck = get_contains s.deck.rules k.rule r.rule r.at in
+        let found = run_from laws.decides s.deck.rules (shown_on (shown s))
+        (tile_core (plan_of extent s.deck) tile) k r.rule r.at m in
+        answers.complete k.rule r.rule (run_at k) r.at
+        ((found_alike laws s extent windows tile r.rule (run_at k) e stand u in_deck).0 found)

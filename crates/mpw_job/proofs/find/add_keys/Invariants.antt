@@ -1,7 +1,0 @@
-use Rattle.std.proofs.Common.{◌≡◌, ◌++◌, map, take}
-use Rattle.mpw_jobs.specs.Answers.{key_at}
-use Rattle.mpw_job.proofs.find.add_keys.Given as goal
-
-abbrev pub invariant-loop-run : goal.invariant-loop-run
-invariant-loop-run l =
-    l.keys.items ≡ l.initial.keys.items ++ map (key_at l.place) (take l.run-index l.runs)

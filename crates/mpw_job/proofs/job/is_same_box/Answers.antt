@@ -1,0 +1,5 @@
+use Rattle.mpw_geom.proofs.Boxes.{same_area}
+use Rattle.mpw_job.proofs.job.is_same_box.Goals as goal
+
+pub returns : goal.returns
+returns c = same_area c.args.a.now c.args.b.now c.eq.result c.eq.ensures

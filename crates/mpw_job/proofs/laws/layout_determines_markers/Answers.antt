@@ -1,0 +1,5 @@
+use Rattle.mpw_job.proofs.Unique.{one_list}
+use Rattle.mpw_job.proofs.laws.layout_determines_markers.Goals as goal
+
+pub returns : goal.returns
+returns c = one_list

@@ -1,5 +1,0 @@
-use Rattle.mpw_job.proofs.Areas.{HaveSquares}
-use Rattle.mpw_job.proofs.layers.areas_of.Given as goal
-
-abbrev pub invariant-loop-rectangle : goal.invariant-loop-rectangle
-invariant-loop-rectangle l = HaveSquares l.rectangles l.layer l.rectangle-index l.areas.items

@@ -1,6 +1,0 @@
-use Rattle.std.proofs.Common.{◌≡◌, map, take}
-use Rattle.mpw_jobs.specs.Internal.Keys.{key_box}
-use Rattle.mpw_job.proofs.met.closed_boxes.Given as goal
-
-abbrev pub invariant-loop-key : goal.invariant-loop-key
-invariant-loop-key l = l.boxes.items ≡ map key_box (take l.key-index l.keys)

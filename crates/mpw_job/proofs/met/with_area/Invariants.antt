@@ -1,6 +1,0 @@
-use Rattle.std.proofs.Common.{take}
-use Rattle.mpw_job.proofs.Meeting.{AreThose}
-use Rattle.mpw_job.proofs.met.with_area.Given as goal
-
-abbrev pub invariant-loop-rectangle : goal.invariant-loop-rectangle
-invariant-loop-rectangle l = AreThose (take l.rectangle-index l.window) l.found.items

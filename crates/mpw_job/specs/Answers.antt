@@ -1,0 +1,89 @@
+-- A tile's job, and the markers that answer it.
+use Rattle.std.specs.Prelude.{◌≡◌, ◌≤◌, ℕ, true, ◌&&◌, List, length, Contains, AllPairs, Some, slice_get, ◌↔◌}
+use Rattle.std.specs.List.{list_any}
+use Rattle.std.specs.Ordering.{nat_cmp, ordering_then}
+use Rattle.std.specs.declared.cmp.Ordering.{Ordering}
+use Rattle.std.specs.declared.cmp.Ordering.TheVariants.{Less}
+use Rattle.mpw_geom.specs.declared.plane.Box2.{Box2}
+use Rattle.mpw_geom.specs.Plane.{Square, has_square, IsBoxInPlane}
+use Rattle.mpw_deck.specs.declared.rule.Rule.{Rule}
+use Rattle.mpw_edges.specs.declared.run.Piece.{Piece}
+use Rattle.mpw_edges.specs.Pieces.{IsPiece, piece_cmp}
+use Rattle.mpw_tiles.specs.declared.listing.Rectangle.{Rectangle}
+use Rattle.mpw_markers.specs.declared.marker.Key.{Key}
+use Rattle.mpw_markers.specs.declared.marker.Marker.{Marker}
+use Rattle.mpw_markers.specs.Markers.{key_of, box_of}
+use Rattle.mpw_markers.specs.Met.{IsAscending}
+use Rattle.mpw_markers.specs.Whole.{IsMet}
+use Rattle.mpw_job.specs.Layers.{same_layer, Coverage, first_squares, second_squares}
+
+-- A tile of a run: its core, the rectangles of its window, and the rules.
+pub record TileJob : Type 0 where
+  pub run : ℕ
+  pub tile : ℕ
+  pub core : Box2
+  pub window : List Rectangle
+  pub rules : List Rule
+
+-- What is true of a tile's job: its core lies in the plane, and it has at most 256 rules, as a deck.
+pub record IsTileJob (job : TileJob) : Type 0 where
+  pub plane : IsBoxInPlane job.core
+  pub few : length job.rules ≤ 256
+
+-- A listed rectangle on the layer has the unit square.
+abbrev pub listed_on : List Rectangle → Coverage
+listed_on listed layer i j = list_any (λ (r : Rectangle). same_layer r.layer layer
+    && has_square r.area (record { column = i; row = j })) listed
+
+-- A listed rectangle of the origin, on any layer, has the unit square.
+abbrev pub HasListed : List Rectangle → ℕ → Square → Type 0
+HasListed listed origin s =
+    (r : Rectangle) × Contains listed r × (r.origin ≡ origin) × (has_square r.area s ≡ true)
+
+-- A maximal run of the rule's pair steps of the squares of the layers, within the core.
+abbrev pub IsFoundIn : Box2 → Coverage → Rule → Piece → Type 0
+IsFoundIn core on rule p =
+    IsPiece rule (first_squares rule.check on) (second_squares rule.check on) core p
+
+-- The marker as a run, and the key of a run of the rule at that place.
+abbrev pub run_of : Marker → Piece
+run_of m = record { axis = m.axis; side = m.side; x1 = m.x1; x2 = m.x2; y0 = m.y0; y1 = m.y1 }
+
+abbrev pub key_at : ℕ → Piece → Key
+key_at place p = record {
+  rule = place;
+  axis = p.axis;
+  side = p.side;
+  x1 = p.x1;
+  x2 = p.x2;
+  y0 = p.y0;
+  y1 = p.y1;
+}
+
+-- The marker's numbers are those of the origins listed with a closed unit square that meets its closed box, on any layer.
+pub record TellsMet (listed : List Rectangle) (m : Marker) : Type 0 where
+  pub ascending : IsAscending m.met
+  pub exact : (origin : ℕ) → Contains m.met origin ↔ IsMet (HasListed listed) (box_of m) origin
+
+-- A maximal run of the rule at the marker's place, with what it meets.
+pub record IsAnswer (job : TileJob) (m : Marker) : Type 0 where
+  pub rule : Rule
+  pub at : slice_get job.rules m.rule ≡ Some rule
+  pub run : IsFoundIn job.core (listed_on job.window) rule (run_of m)
+  pub met : TellsMet job.window m
+
+-- Markers by the rule's place, then by axis, V before H, side, x1, x2 and y0.
+abbrev pub marker_cmp : Marker → Marker → Ordering
+marker_cmp m n = ordering_then (nat_cmp m.rule n.rule) (piece_cmp (run_of m) (run_of n))
+
+abbrev pub ComesBefore : Marker → Marker → Type 0
+ComesBefore m n = marker_cmp m n ≡ Less
+
+-- The markers answer the job: for each rule, by its place, they are the maximal runs within the core of the pair steps of the window's
+-- rectangles, with the origins listed that each one's closed box meets. They stand in order, each once.
+pub record Answers (job : TileJob) (markers : List Marker) : Type 0 where
+  pub sound : (m : Marker) → Contains markers m → IsAnswer job m
+  pub complete : (place : ℕ) (rule : Rule) (p : Piece) → slice_get job.rules place ≡ Some rule
+      → IsFoundIn job.core (listed_on job.window) rule p
+      → (m : Marker) × Contains markers m × (key_of m ≡ key_at place p)
+  pub ordered : AllPairs ComesBefore markers

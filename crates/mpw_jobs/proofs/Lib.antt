@@ -1,7 +1,0 @@
-pub mod Tests
-pub mod Shapes
-pub mod Cores
-pub mod Made
-pub mod Edges
-pub mod Unique
-pub mod Filled

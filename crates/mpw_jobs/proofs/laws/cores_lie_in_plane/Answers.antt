@@ -1,5 +1,0 @@
-use Rattle.mpw_jobs.proofs.Cores.{cores_in_plane}
-use Rattle.mpw_jobs.proofs.laws.cores_lie_in_plane.Goals as goal
-
-pub returns : goal.returns
-returns c = cores_in_plane

@@ -1,5 +1,0 @@
-use Rattle.mpw_jobs.proofs.Edges.{each_meets}
-use Rattle.mpw_jobs.proofs.laws.each_marker_meets_some.Goals as goal
-
-pub returns : goal.returns
-returns c = each_meets c.test_decides_pair_steps.ensures

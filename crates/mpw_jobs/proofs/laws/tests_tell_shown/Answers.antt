@@ -1,5 +1,0 @@
-use Rattle.mpw_jobs.proofs.Shapes.{tests_tell}
-use Rattle.mpw_jobs.proofs.laws.tests_tell_shown.Goals as goal
-
-pub returns : goal.returns
-returns c = tests_tell

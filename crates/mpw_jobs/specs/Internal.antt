@@ -1,3 +1,0 @@
--- What private functions and proofs alone need: no public contract speaks of it.
-pub mod Cores
-pub mod Keys

@@ -1,7 +1,0 @@
-pub mod Layers
-pub mod Answers
-pub mod Layout
-pub mod Laws
-pub mod Jobs
-pub mod Carried
-pub mod Internal
