@@ -1,13 +1,13 @@
 #!/usr/bin/env python3
 """Times whole runs: the cut, the jobs of all tiles on one thread and on all, and the stitching.
 
-  bench/runs.py [ROUNDS] [KIND N SIDE]..     one round; KIND is wires or array; the four layouts where none is given
+  bench/runs.py [ROUNDS] [KIND N SIDE]..     at least one round; KIND is wires or array; the four layouts where none is given
 
 Needs crates/bench_job/out/bench_job (`scripts/build.py bench_job`). In each round a layout is run twice, with its jobs on one thread
-and on all, each in a process of its own. Where klayout is installed, its flat, tiled and deep modes stand behind them in the same round,
+and on all, each in a process of its own, and the rounds go on until ours took 20 seconds, since short runs swing. Where klayout is installed, its flat, tiled and deep modes stand behind them in the same round,
 each on one thread, until they have taken two minutes: times and memory of shielded checks, which are KLayout's faster ones. Its counts on up
 to 20,000 wires are those of unshielded ones, which are those of our rules. All times are those in the middle of the rounds, and ratios are those of
-such times. They are of wall time without reading, on a machine that should be idle; megabytes are the most that a process held, in the first round.
+such times, with that of the least times in brackets for threads. They are of wall time without reading, on a machine that should be idle; megabytes are the most that a process held, in the first round.
 Counts are width, space, separation, enclosing.
 """
 import multiprocessing
@@ -27,8 +27,10 @@ HERE = os.path.dirname(os.path.abspath(__file__))
 PROGRAM = os.path.join(HERE, '..', 'crates', 'bench_job', 'out', 'bench_job')
 RUNS = [('wires', 20000, 4096), ('wires', 200000, 8192), ('array', 64, 2048), ('array', 512, 8192)]
 MODES = ['flat', 'tiled', 'deep']
-HEADS = ['Layout', 'Tiles', 'Rounds', 'Cut', 'Jobs, one thread', 'Jobs, all threads', 'Times one', 'Stitching', 'Run on one thread', 'Memory',
+HEADS = ['Layout', 'Tiles', 'Rounds', 'Cut', 'Jobs, one thread', 'Jobs, all threads', 'Times one (by the least)', 'Stitching', 'Run on one thread', 'Memory',
          'Markers']
+# What ours has to have taken of a layout before no further round has it.
+LEAST_SECONDS = 20
 # What KLayout's modes may have taken of a layout before no further round has them.
 MOST_SECONDS = 120
 # On 200,000 wires unshielded checks take KLayout over 10 minutes.
@@ -111,10 +113,12 @@ def unshielded(kind, n, side, path, counts):
 def measured(path, side, rounds):
     """What each round found: of ours on one thread and on all, and of each of KLayout's modes."""
     found = {it: [] for it in ['one', 'all', *MODES]}
-    left = MOST_SECONDS if shutil.which('klayout') else 0
-    for _ in range(rounds):
+    left, taken = MOST_SECONDS if shutil.which('klayout') else 0, 0
+    while len(found['one']) < rounds or taken < LEAST_SECONDS:
+        began = time.monotonic()
         for threads in ('one', 'all'):
             found[threads].append(ours(path, side, threads))
+        taken += time.monotonic() - began
         if left > 0:
             began = time.monotonic()
             for mode in MODES:
@@ -139,9 +143,10 @@ def row(kind, n, side, folder, rounds):
     tiles, counts, _, megabytes = found['one'][0]
     cut, one, stitch = (statistics.median(it[2][part] for it in found['one']) for part in ('cut', 'jobs', 'stitch'))
     every = statistics.median(it[2]['jobs'] for it in found['all'])
+    least, least_of_all = (min(it[2]['jobs'] for it in found[threads]) for threads in ('one', 'all'))
     whole = statistics.median(it[2]['cut'] + it[2]['jobs'] + it[2]['stitch'] for it in found['one'])
-    cells = [f'{kind} {n}, side {side}', str(tiles), f'{rounds} and {len(found["flat"])}', f'{cut:.1f} ms', f'{one:.1f} ms', f'{every:.1f} ms',
-             f'{one / every:.2f}', f'{stitch:.1f} ms', f'{whole:.1f} ms', f'{megabytes:.0f} MB', ' '.join(map(str, counts))]
+    cells = [f'{kind} {n}, side {side}', str(tiles), f'{len(found["one"])} and {len(found["flat"])}', f'{cut:.1f} ms', f'{one:.1f} ms', f'{every:.1f} ms',
+             f'{one / every:.2f} ({least / least_of_all:.2f})', f'{stitch:.1f} ms', f'{whole:.1f} ms', f'{megabytes:.0f} MB', ' '.join(map(str, counts))]
     if found['flat']:
         cells += [*compared(found, whole, megabytes), unshielded(kind, n, side, path, found['flat'][0][0])]
     print('| ' + ' | '.join(cells) + ' |', flush=True)
