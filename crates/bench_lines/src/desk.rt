@@ -2,7 +2,7 @@
 
 use mpw_core::Core;
 use mpw_geom::Name;
-use mpw_wire::digest_of;
+use mpw_requests::digest_of;
 use std::alloc::{AllocError, Global};
 
 /// A new desk of the officer `root`, whose token is `abc`. It stands behind a pointer, so that to let it go is one step.

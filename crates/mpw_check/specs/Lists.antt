@@ -3,7 +3,7 @@ use Rattle.std.specs.Prelude.{◌≡◌, ◌≤◌, ◌<◌, ◌+◌, ◌↔◌,
 use Rattle.mpw_geom.specs.declared.plane.Box2.{Box2}
 use Rattle.mpw_geom.specs.declared.plane.Layer.{Layer}
 use Rattle.mpw_geom.specs.Plane.{Square, has_square}
-use Rattle.mpw_grid.specs.Grid.{ShareSquare}
+use Rattle.mpw_tiles.specs.Grid.{ShareSquare}
 use Rattle.mpw_hier.specs.Items.{Item}
 use Rattle.mpw_job.specs.Answers.{TileJob, Answers}
 use Rattle.mpw_job.specs.Layout.{AreLayoutMarkers}

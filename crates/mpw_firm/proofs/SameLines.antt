@@ -16,7 +16,7 @@ use Rattle.mpw_replies.specs.Sight.{is_full, is_of, cells_on, met_cells, line_fo
 use Rattle.mpw_replies.specs.declared.reply.Reply.TheVariants as reply
 use Rattle.mpw_spread.specs.Spread.{PartsMakeTheLayout}
 use Rattle.mpw_tiles.specs.Snapshots.{Snapshot}
-use Rattle.mpw_wire.specs.Reply.{reply_text}
+use Rattle.mpw_reply_text.specs.Reply.{reply_text}
 use Rattle.mpw_wire.specs.declared.fault.WireFault.{WireFault}
 use Rattle.mpw_firm.specs.Listed.{listed_text, Lists, ListsAsEach}
 use Rattle.mpw_firm.specs.Stitched.{IsNamed, IsWholeOf, IsListedAsCheck, WholesAreListedAsChecks}

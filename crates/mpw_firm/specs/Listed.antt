@@ -8,7 +8,7 @@ use Rattle.mpw_replies.specs.declared.reply.Reply.TheVariants as reply
 use Rattle.mpw_tiles.specs.Snapshots.{Snapshot}
 use Rattle.mpw_wire.specs.declared.fault.WireFault.{WireFault}
 use Rattle.mpw_wire.specs.declared.fault.WireFault.TheVariants as wire
-use Rattle.mpw_wire.specs.Reply.{reply_text}
+use Rattle.mpw_reply_text.specs.Reply.{reply_text}
 use Rattle.mpw_wire.specs.Writing.{Writes}
 
 abbrev pub listed_text : Snapshot → List Marker → List ℕ

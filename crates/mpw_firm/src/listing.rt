@@ -5,8 +5,9 @@ ghost use Rattle.mpw_replies.specs.Sight.{book_lines};
 
 use mpw_markers::Book;
 use mpw_replies::{Lines, MarkerListing, Reply};
+use mpw_reply_text::write_reply;
 use mpw_tiles::Snapshot;
-use mpw_wire::{Sink, WireFault, write_reply};
+use mpw_wire::{Sink, WireFault};
 use std::alloc::{AllocError, Global};
 
 /// The reply of a desk on which one who may read the only submission asks for these markers.

@@ -13,7 +13,7 @@ use Rattle.mpw_edges.specs.declared.run.Axis.{Axis}
 use Rattle.mpw_edges.specs.declared.run.Axis.TheVariants.{V, H}
 use Rattle.mpw_edges.specs.declared.run.Piece.{Piece}
 use Rattle.mpw_edges.specs.Laws.{AreSameIn}
-use Rattle.mpw_grid.specs.Grid.{core_at}
+use Rattle.mpw_tiles.specs.Grid.{core_at}
 use Rattle.mpw_hier.specs.Items.{Item}
 use Rattle.mpw_tiles.specs.declared.listing.Rectangle.{Rectangle}
 use Rattle.mpw_tiles.specs.Laws as tiling

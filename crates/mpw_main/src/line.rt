@@ -1,6 +1,6 @@
 //! The line on which a terminal is told how far a run that is worked off came.
 
-use mpw_script::Progress;
+use mpw_serve::Progress;
 use std::io::{IsTerminal, Stderr, Write};
 
 /// A line on the standard error, none where that isn't a terminal.

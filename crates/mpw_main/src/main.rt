@@ -5,7 +5,7 @@
 mod line;
 
 use line::Line;
-use mpw_script::run;
+use mpw_serve::run;
 use std::process::ExitCode;
 
 /// Exits with 0 where the connection ended, 2 at a usage fault, 3 where a device failed, and 5 where memory was

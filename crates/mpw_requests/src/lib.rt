@@ -1,6 +1,8 @@
 //! What connections ask of the desk, in groups: each group has its own enum, and is answered by its own rows.
+//! A token is digested where it is read ([`digest_of`]), and kept nowhere.
 #![tactic(auto)]
 
+mod digest;
 mod layouts;
 mod policy;
 mod request;
@@ -8,6 +10,7 @@ mod run;
 mod sign_off;
 mod wafer;
 
+pub use digest::{digest_of, read_digest};
 pub use layouts::LayoutRequest;
 pub use policy::{Digest, PolicyRequest};
 pub use request::{Request, SharedRequest, kept_request};

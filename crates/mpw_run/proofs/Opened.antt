@@ -4,7 +4,7 @@ use Rattle.std.specs.Prelude.{slice_get, slice_set}
 use Rattle.std.proofs.Math.ListN.{length-replicate}
 use Rattle.std.proofs.lemmas.Bool.{cases_eq}
 use Rattle.std.proofs.lemmas.Option.{slice_get_within, same_Some}
-use Rattle.mpw_grid.proofs.Cells.{some_columns, columns_few}
+use Rattle.mpw_tiles.proofs.Cells.{some_columns, columns_few}
 use Rattle.mpw_tiles.specs.declared.listing.Rectangle.{Rectangle}
 use Rattle.mpw_tiles.specs.Plan.{Tiling, tiles}
 use Rattle.mpw_tiles.specs.Snapshots.{Snapshot, StandFor}

@@ -13,9 +13,9 @@ use Rattle.mpw_wire.specs.declared.fault.WireFault.TheVariants.{Read, Write, Mem
 use Rattle.mpw_serve.specs.declared.serve.End.{End}
 use Rattle.mpw_serve.specs.declared.serve.End.TheVariants as end
 use Rattle.mpw_serve.specs.declared.serve.Served.{Served}
-use Rattle.mpw_wire.specs.declared.reply.LineRefusal.TheVariants as refusal
+use Rattle.mpw_reply_text.specs.declared.reply.LineRefusal.TheVariants as refusal
 use Rattle.mpw_wire.specs.Reading.{TakesLine, TakesTooLong, TakesCut, TakesNothing, BreaksRead, BreaksMemory, IsText}
-use Rattle.mpw_wire.specs.Reply.{reply_text, refusal_text}
+use Rattle.mpw_reply_text.specs.Reply.{reply_text, refusal_text}
 use Rattle.mpw_wire.specs.declared.request.LineAsk.TheVariants as ask
 use Rattle.mpw_wire.specs.Request.{ask_of}
 use Rattle.mpw_wire.specs.Writing.{fault_of}

@@ -9,10 +9,9 @@ ghost use Rattle.mpw_serve.specs.Internal.Serving.{answer_of, ServesLine};
 use crate::progress::Progress;
 use crate::working::work_behind;
 use mpw_core::{Core, Event, Keeper, Response};
+use mpw_reply_text::{LineRefusal, write_refusal, write_reply};
 use mpw_requests::SharedRequest;
-use mpw_wire::{
-    Asked, LineRefusal, Sink, Source, WireFault, read_request, write_refusal, write_reply,
-};
+use mpw_wire::{Asked, Sink, Source, WireFault, read_request};
 use std::alloc::Global;
 use std::thread::Threads;
 

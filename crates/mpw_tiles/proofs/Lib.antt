@@ -1,3 +1,9 @@
+pub mod Intervals
+pub mod Cells
+pub mod Cores
+pub mod Windows
+pub mod Reach
+pub mod Scalars
 pub mod Tiles
 pub mod Added
 pub mod Lists

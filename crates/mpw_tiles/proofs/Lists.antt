@@ -7,12 +7,12 @@ use Rattle.std.proofs.lemmas.List.Elements.{Contains-append_left, Contains-push,
 use Rattle.std.proofs.lemmas.List.{take_more}
 use Rattle.std.proofs.Math.ListN.{length-set}
 use Rattle.mpw_region.proofs.Held.{Held-push_left, Held-push_new, Held-push_cases}
-use Rattle.mpw_grid.specs.declared.grid.Block.{Block}
+use Rattle.mpw_tiles.specs.declared.grid.Block.{Block}
 use Rattle.mpw_geom.specs.declared.plane.Layer.{Layer}
 use Rattle.mpw_geom.specs.Plane.{Square, has_square}
 use Rattle.mpw_geom.proofs.Tests.{SquareIn-from_test}
-use Rattle.mpw_grid.specs.Grid.{Cells, columns, column_of, row_of, IsInBlock, ShareSquare}
-use Rattle.mpw_grid.proofs.Cells.{number_column, number_row, same_number}
+use Rattle.mpw_tiles.specs.Grid.{Cells, columns, column_of, row_of, IsInBlock, ShareSquare}
+use Rattle.mpw_tiles.proofs.Cells.{number_column, number_row, same_number}
 use Rattle.mpw_tiles.specs.declared.listing.Rectangle.{Rectangle}
 use Rattle.mpw_tiles.specs.Plan.{Tiling, tiles, tile_window}
 use Rattle.mpw_tiles.specs.Listing.{IsListed, HasSquareOf, AreWindowsOf}

@@ -14,7 +14,7 @@ use Rattle.mpw_geom.specs.Placing.{placed_point}
 use Rattle.mpw_geom.proofs.Tests.{SquareIn-from_test}
 use Rattle.mpw_deck.specs.declared.rule.Rule.{Rule}
 use Rattle.mpw_deck.specs.Decks.{Deck, IsRule, IsDeck}
-use Rattle.mpw_grid.specs.Laws.{WindowsReachNoFurther}
+use Rattle.mpw_tiles.specs.GridLaws.{WindowsReachNoFurther}
 use Rattle.mpw_hier.specs.declared.submission.Submission.{Submission}
 use Rattle.mpw_hier.specs.Boxes.{hull, placed_box, is_box_near}
 use Rattle.mpw_hier.proofs.Hulls.{hull_assoc, hull_none}

@@ -12,7 +12,7 @@ use Rattle.mpw_edges.specs.declared.run.Axis.{Axis}
 use Rattle.mpw_edges.specs.declared.run.Axis.TheVariants.{V, H}
 use Rattle.mpw_edges.specs.Edges.{Squares, exchanged}
 use Rattle.mpw_edges.specs.Pieces.{HasStep, IsPiece}
-use Rattle.mpw_grid.specs.Grid.{widened}
+use Rattle.mpw_tiles.specs.Grid.{widened}
 use Rattle.mpw_tiles.specs.declared.listing.Rectangle.{Rectangle}
 use Rattle.mpw_tiles.specs.Plan.{Tiling, greatest_distance, plan_of, tiles, tile_core, tile_window}
 use Rattle.mpw_tiles.specs.Snapshots.{Snapshot, shown, shown_extent, plan_over, plan_for, ShowItems, AreWindowsFor, StandFor}

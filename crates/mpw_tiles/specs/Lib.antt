@@ -1,3 +1,5 @@
+pub mod Grid
+pub mod GridLaws
 pub mod Plan
 pub mod Laws
 pub mod Listing

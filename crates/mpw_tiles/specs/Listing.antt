@@ -2,7 +2,7 @@
 use Rattle.std.specs.Prelude.{◌≡◌, ◌<◌, ℕ, true, List, [], length, slice_index_or, Contains, ◌↔◌}
 use Rattle.mpw_geom.specs.declared.plane.Layer.{Layer}
 use Rattle.mpw_geom.specs.Plane.{Square, has_square}
-use Rattle.mpw_grid.specs.Grid.{ShareSquare}
+use Rattle.mpw_tiles.specs.Grid.{ShareSquare}
 use Rattle.mpw_tiles.specs.declared.listing.Rectangle.{Rectangle}
 use Rattle.mpw_tiles.specs.Plan.{Tiling, tiles, tile_window}
 

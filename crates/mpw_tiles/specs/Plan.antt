@@ -3,7 +3,7 @@ use Rattle.std.specs.Prelude.{◌≤◌, ◌^◌, ℕ, ◌+◌, max, List, fold}
 use Rattle.mpw_geom.specs.declared.plane.Box2.{Box2}
 use Rattle.mpw_deck.specs.declared.rule.Rule.{Rule}
 use Rattle.mpw_deck.specs.Decks.{Deck}
-use Rattle.mpw_grid.specs.Grid.{Cells, cells, core_of, window_of}
+use Rattle.mpw_tiles.specs.Grid.{Cells, cells, core_of, window_of}
 
 -- A plan, by its grid and the margin of its windows, in nm.
 pub record Tiling : Type 0 where

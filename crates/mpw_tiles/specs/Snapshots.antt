@@ -4,7 +4,7 @@ use Rattle.mpw_geom.specs.declared.plane.Box2.{Box2}
 use Rattle.mpw_geom.specs.declared.plane.Layer.{Layer}
 use Rattle.mpw_geom.specs.Plane.{Square, has_square}
 use Rattle.mpw_deck.specs.Decks.{Deck, IsDeck}
-use Rattle.mpw_grid.specs.Grid.{ShareSquare}
+use Rattle.mpw_tiles.specs.Grid.{ShareSquare}
 use Rattle.mpw_hier.specs.declared.submission.Submission.{Submission}
 use Rattle.mpw_hier.specs.Boxes.{extent_of}
 use Rattle.mpw_hier.specs.Items.{Item}

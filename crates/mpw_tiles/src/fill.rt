@@ -4,14 +4,14 @@
 
 ghost use Rattle.std.specs.Prelude.{◌≡◌, ◌≤◌, ◌<◌, [], length, All, OnOk, IfOk};
 ghost use Rattle.mpw_geom.specs.Plane.{IsBoxInPlane};
-ghost use Rattle.mpw_grid.specs.Grid.{columns, rows, column_of, row_of, IsInBlock};
+ghost use Rattle.mpw_tiles.specs.Grid.{columns, rows, column_of, row_of, IsInBlock};
 ghost use Rattle.mpw_tiles.specs.Plan.{tiles};
 ghost use Rattle.mpw_tiles.specs.Listing.{HasSquareOf, IsListed, AreWindowsOf};
 ghost use Rattle.mpw_tiles.specs.Internal.Listing.{Lists, IsInRow, AddsSquares};
 
+use crate::grid::Block;
 use crate::listing::{Listed, Rectangle, Windows, list_at, windows_from};
 use crate::plan::Plan;
-use mpw_grid::Block;
 use std::alloc::{AllocError, Global};
 
 /// Adds the rectangle to the lists of a row's tiles, from one column up to before another.

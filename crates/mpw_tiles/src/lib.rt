@@ -1,8 +1,12 @@
 //! Tiles of a run: the grid over the layout, and the window of each tile.
 //!
-//! A [`Plan`] is a grid of half-open cores over the layout's extent. Each pair step of a rule belongs to exactly
-//! one core. What a core finds depends on the squares of its window, which is wider by the deck's greatest
-//! distance plus 1 on each side. [`windows_of`] sorts placed rectangles into the windows that they meet.
+//! A [`Grid`] covers a closed extent with square cells of one side, half-open cores: each point of the extent lies in exactly one.
+//! A cell's window is its core, widened on each side by a margin; [`Grid::meeting`] finds by division the cells whose windows
+//! share a square with a box, so that boxes are sorted into windows in constant time and what they are listed in.
+//!
+//! A [`Plan`] is such a grid over the layout's extent. Each pair step of a rule belongs to exactly one core. What a core finds
+//! depends on the squares of its window, which is wider by the deck's greatest distance plus 1 on each side. [`windows_of`]
+//! sorts placed rectangles into the windows that they meet.
 //!
 //! A [`Snapshot`] is what a run looks at: a deck, placed submissions and the shelf that they are on. Its plan is over the
 //! shapes that they show, and [`cut`] makes the windows that stand for it: by layer and origin they have the squares of
@@ -11,14 +15,19 @@
 
 mod extent;
 mod fill;
+mod grid;
+mod grid_laws;
 mod laws;
 mod listing;
 mod place;
 mod plan;
 mod shapes;
 mod snapshot;
+mod span;
 
 pub use fill::windows_of;
+pub use grid::{Block, Grid};
+pub use grid_laws::{each_point_has_one_core, windows_reach_no_further};
 pub use laws::{
     each_step_has_one_tile, each_window_decides, each_window_tells_met, squares_lie_in_boxes,
     windows_list_what_is_shown, windows_show_layers,

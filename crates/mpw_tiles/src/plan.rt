@@ -2,12 +2,12 @@
 
 ghost use Rattle.std.specs.Prelude.{◌≡◌, ◌↔◌, ◌≤◌, ◌<◌, ◌^◌, ℕ, ◌+◌, ◌*◌, IfOk, IfErr};
 ghost use Rattle.mpw_geom.specs.Plane.{IsBoxInPlane, IsOrdered, HasArea};
-ghost use Rattle.mpw_grid.specs.Grid.{columns, rows, column_of, row_of, IsBoxWithin, IsInBlock, ShareSquare};
+ghost use Rattle.mpw_tiles.specs.Grid.{columns, rows, column_of, row_of, IsBoxWithin, IsInBlock, ShareSquare};
 ghost use Rattle.mpw_tiles.specs.Plan.{greatest_distance, plan_of, tiles, tile_core, tile_window};
 
+use crate::grid::{Block, Grid};
 use mpw_deck::{Deck, Rule};
 use mpw_geom::Box2;
-use mpw_grid::{Block, Grid};
 use std::marker::Model;
 use thiserror::Error;
 

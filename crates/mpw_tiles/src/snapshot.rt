@@ -11,12 +11,12 @@ ghost use Rattle.mpw_tiles.specs.Snapshots.{AreRoots, IsSnapshot, shown_extent, 
 
 use crate::extent::roots_extent;
 use crate::fill::empty_lists;
+use crate::grid_laws::windows_reach_no_further;
 use crate::listing::{Windows, windows_from};
 use crate::plan::Plan;
 use crate::shapes::list_shapes;
 use mpw_deck::Deck;
 use mpw_geom::{Box2, Placing, Point};
-use mpw_grid::windows_reach_no_further;
 use mpw_hier::{Shelf, extents_are_least_boxes};
 use mpw_lists::SharedList;
 use mpw_walk::{Root, Walk, all_fit, roots_show_what_their_submissions_do};

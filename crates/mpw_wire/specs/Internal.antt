@@ -2,6 +2,4 @@
 pub mod Device
 pub mod Form
 pub mod Reading
-pub mod Setting
-pub mod Stored
 pub mod Words

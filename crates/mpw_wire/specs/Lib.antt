@@ -1,14 +1,8 @@
-pub mod Digest
 pub mod Keys
 pub mod Names
 pub mod Placement
 pub mod Reading
-pub mod Reply
 pub mod Request
-pub mod Rows
-pub mod Setting
-pub mod Stored
-pub mod FirstLine
 pub mod Words
 pub mod Writing
 pub mod Internal

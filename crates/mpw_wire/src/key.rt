@@ -1,109 +1,26 @@
-//! Keys of markers: the name of a rule, and behind colons where the marker lies.
+//! Keys of markers, as words: the name of a rule, and behind colons where the marker lies.
 //!
 //! A name may hold colons, so a key is read from its end.
 ghost use Rattle.std.specs.Prelude.{◌≡◌, Some, None, IfOk, IfSome, IfNone};
 ghost use Rattle.mpw_text.specs.Text.{number_of};
-ghost use Rattle.mpw_wire.specs.Keys.{spot_of, named_spot, axis_text, key_text, marker_key, cut_last, axis_of, greatest_side, last_coordinate, last_side, last_axis, last_spot, key_of};
-ghost use Rattle.mpw_wire.specs.Internal.Setting.{set_text};
-ghost use Rattle.mpw_wire.specs.Writing.{Writes};
+ghost use Rattle.mpw_wire.specs.Keys.{cut_last, axis_of, greatest_side, last_coordinate, last_side, last_axis, last_spot, key_of};
 
 use crate::operand::{Origin, is, name};
 use crate::placement::coordinate;
-use crate::setting::{Setting, write_set};
-use crate::{Sink, WireFault};
-use itoa::Buffer;
 use mpw_edges::Axis;
-use mpw_geom::Name;
-use mpw_markers::Key;
 use mpw_requests::MarkerName;
-use mpw_text::{read_number, with_colons};
+use mpw_text::read_number;
 use std::alloc::{AllocError, Global};
 
 /// Where a marker lies: its axis, its side, and its coordinates in nm.
 #[derive(Clone, Copy)]
-pub(crate) struct Spot {
+pub struct Spot {
     pub axis: Axis,
     pub side: u8,
     pub x1: i64,
     pub x2: i64,
     pub y0: i64,
     pub y1: i64,
-}
-
-impl Spot {
-    /// Where the marker of a key lies.
-    pub(crate) fn of_key(key: Key) -> Spot
-        ensures { result ≡ spot_of key }
-    {
-        Spot {
-            axis: key.axis,
-            side: key.side,
-            x1: key.x1,
-            x2: key.x2,
-            y0: key.y0,
-            y1: key.y1,
-        }
-    }
-
-    /// Where a marker lies that a request names.
-    pub(crate) fn of_name(marker: &MarkerName) -> Spot
-        ensures { result ≡ named_spot marker.now }
-    {
-        Spot {
-            axis: marker.axis,
-            side: marker.side,
-            x1: marker.x1,
-            x2: marker.x2,
-            y0: marker.y0,
-            y1: marker.y1,
-        }
-    }
-}
-
-/// The letter of an axis.
-#[tactic(auto, unfolding(crate::specs::Keys::axis_text))]
-pub(crate) fn axis_letter(axis: &Axis) -> &str
-    ensures { result.now ≡ axis_text axis.now }
-{
-    match axis {
-        Axis::V => "V",
-        Axis::H => "H",
-    }
-}
-
-/// Writes the key of a marker that lies there.
-pub(crate) fn write_key<W: Sink>(
-    writer: &mut W,
-    setting: Setting,
-    rule: &Name,
-    spot: Spot,
-) -> Result<(), WireFault>
-    ensures { Writes W.contents W.failures writer.old writer.new result (set_text setting (key_text rule.now spot)) }
-{
-    write_set(
-        writer,
-        setting,
-        &with_colons([
-            rule.as_str(),
-            axis_letter(&spot.axis),
-            Buffer::new().format(spot.side),
-            Buffer::new().format(spot.x1),
-            Buffer::new().format(spot.x2),
-            Buffer::new().format(spot.y0),
-            Buffer::new().format(spot.y1),
-        ]),
-    )
-}
-
-/// Writes the key of a marker that a request names.
-pub(crate) fn write_marker_key<W: Sink>(
-    writer: &mut W,
-    setting: Setting,
-    marker: &MarkerName,
-) -> Result<(), WireFault>
-    ensures { Writes W.contents W.failures writer.old writer.new result (set_text setting (marker_key marker.now)) }
-{
-    write_key(writer, setting, &marker.rule, Spot::of_name(marker))
 }
 
 /// What stands before the last colon, and what stands behind it. It looks from the end.

@@ -8,18 +8,17 @@ ghost use Rattle.mpw_wire.specs.Request.{token_of, digest_of, operation_of, is_o
 ghost use Rattle.mpw_wire.specs.Names.{visible_of, name_of};
 ghost use Rattle.mpw_wire.specs.Words.{words};
 
-use crate::digest::digest_of;
 use hex::FromHex;
 use mpw_geom::{Name, NameFault, Names, is_name};
 use mpw_permissions::{Grant, Object, Operation};
-use mpw_requests::Digest;
+use mpw_requests::{Digest, digest_of};
 use mpw_separation::SeparationSet;
 use mpw_text::{parts, read_count};
 use std::alloc::{AllocError, Global};
 
 /// Where a line stands.
 #[derive(Clone, Copy)]
-pub(crate) enum Origin {
+pub enum Origin {
     /// On a connection.
     Connection,
     /// In a store.
@@ -116,9 +115,9 @@ fn operation(word: &[u8]) -> Option<Operation>
     }
 }
 
-/// Whether the operation is on cells. The others are on the desk.
+/// Whether the operation is on cells. The others are on the desk. It takes no memory.
 #[tactic(auto, unfolding(crate::specs::Request::is_on_cells))]
-pub(crate) fn is_on_cells(operation: Operation) -> bool
+pub fn is_on_cells(operation: Operation) -> bool
     ensures { result ≡ is_on_cells operation }
 {
     match operation {

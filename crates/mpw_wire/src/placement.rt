@@ -1,6 +1,6 @@
 //! Placings, off the words of a line: an orientation, and coordinates in nm.
 ghost use Rattle.std.specs.Prelude.{◌≡◌, pos, IfOk, option_map};
-ghost use Rattle.mpw_wire.specs.Placement.{orient_text, orient_of, farthest_below, farthest_above, negative, coordinate_of};
+ghost use Rattle.mpw_wire.specs.Placement.{orient_of, farthest_below, farthest_above, negative, coordinate_of};
 ghost use Rattle.mpw_text.specs.Text.{number_of};
 ghost use Rattle.mpw_wire.specs.Request.{placing_by, placing_of, placement_of};
 ghost use Rattle.mpw_wire.specs.Words.{words};
@@ -14,23 +14,6 @@ use std::alloc::{AllocError, Global};
 
 /// How far from 0 a coordinate of a connection may lie, in nm.
 const MAX_COORDINATE: usize = 1 << 30;
-
-/// The word of an orientation.
-#[tactic(auto, unfolding(crate::specs::Placement::orient_text))]
-pub(crate) fn orient_word(orient: &Orient) -> &str
-    ensures { result.now ≡ orient_text orient.now }
-{
-    match orient {
-        Orient::R0 => "R0",
-        Orient::R90 => "R90",
-        Orient::R180 => "R180",
-        Orient::R270 => "R270",
-        Orient::M0 => "M0",
-        Orient::M90 => "M90",
-        Orient::M180 => "M180",
-        Orient::M270 => "M270",
-    }
-}
 
 /// The orientation that a word names.
 #[tactic(auto, unfolding(crate::specs::Placement::orient_of))]

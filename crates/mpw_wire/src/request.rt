@@ -254,8 +254,11 @@ fn ask_more(
     ask_policy(alloc, of_more(alloc, origin, verb, first, second, rest)?)
 }
 
-/// What a line asks that stands there, without its line feed.
-pub(crate) fn parse(alloc: Global, origin: Origin, line: &[u8]) -> Result<LineAsk, AllocError>
+/// What a line asks that stands there, without its line feed. Two passes at a token, and n log n comparisons at the roles of a set.
+///
+/// # Errors
+/// Where there is no room for a name.
+pub fn parse(alloc: Global, origin: Origin, line: &[u8]) -> Result<LineAsk, AllocError>
     ensures { IfOk result (λ ask. ask ≡ ask_by origin (words line.now)) }
 {
     let (verb, rest) = cut(line);
@@ -270,7 +273,7 @@ pub(crate) fn parse(alloc: Global, origin: Origin, line: &[u8]) -> Result<LineAs
     }
 }
 
-/// What a line asks, without its line feed. Two passes at a token, and n log n comparisons at the roles of a set.
+/// What a line of a connection asks, without its line feed; it costs what [`parse`] does.
 ///
 /// # Errors
 /// Where there is no room for a name.

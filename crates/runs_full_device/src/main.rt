@@ -1,7 +1,7 @@
 //! The program of the desk on an output that is full after 8 bytes: it exits with 3.
 #![tactic(auto)]
 
-use mpw_script::{Silent, run};
+use mpw_serve::{Silent, run};
 use std::process::ExitCode;
 
 fn main(rt: HostRuntime) -> ExitCode {

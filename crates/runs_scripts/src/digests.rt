@@ -1,7 +1,7 @@
 //! Digests by their hexadecimal digits.
 
 use anyhow::Result;
-use mpw_wire::{digest_of, read_digest};
+use mpw_requests::{digest_of, read_digest};
 
 /// Texts of digits, the first two of which spell the digest of `abc` (FIPS 180-4).
 const TEXTS: [&str; 6] = [

@@ -5,8 +5,8 @@ use crate::restart::tell_restart;
 use crate::serving::new_desk;
 use anyhow::Result;
 use mpw_core::{Core, Event, MAX_EVENTS, NoKeeper, Response};
+use mpw_reply_text::write_reply;
 use mpw_requests::{Request, SharedRequest};
-use mpw_wire::write_reply;
 use std::alloc::{AllocError, Global};
 
 /// Ends a connection so many times.

@@ -7,8 +7,7 @@ use anyhow::Result;
 use mpw_core::{Core, Event, Keeper, NoKeeper, Response};
 use mpw_geom::Name;
 use mpw_replies::Reply;
-use mpw_requests::{PolicyRequest, Request, SharedRequest};
-use mpw_wire::digest_of;
+use mpw_requests::{PolicyRequest, Request, SharedRequest, digest_of};
 use std::alloc::{AllocError, Global};
 
 /// The word of a response.

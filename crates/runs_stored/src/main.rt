@@ -13,7 +13,8 @@ use mpw_geom::Name;
 use mpw_library::LibraryText;
 use mpw_permissions::{Grant, Object, Operation};
 use mpw_requests::{LayoutRequest, PolicyRequest, Request, SharedRequest, WaferRequest};
-use mpw_wire::{LineAsk, parse_line, read_stored, stored_line, stored_payload};
+use mpw_stored_text::{read_stored, stored_line, stored_payload};
+use mpw_wire::{LineAsk, parse_line};
 use std::alloc::Global;
 
 fn zeros(alloc: Global, word: &str) -> Result<Vec<u8>> {

@@ -1,7 +1,7 @@
 //! The program of the desk on a command line that isn't one: it reads and writes nothing, and exits with 2.
 #![tactic(auto)]
 
-use mpw_script::{Silent, run};
+use mpw_serve::{Silent, run};
 use std::process::ExitCode;
 
 fn main(rt: HostRuntime) -> ExitCode {

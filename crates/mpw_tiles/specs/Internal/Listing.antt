@@ -4,8 +4,8 @@ use Rattle.mpw_geom.specs.declared.plane.Layer.{Layer}
 use Rattle.mpw_geom.specs.declared.plane.Box2.{Box2}
 use Rattle.mpw_geom.specs.Plane.{Square, has_square, any_has_square}
 use Rattle.mpw_geom.specs.Placing.{placed_square}
-use Rattle.mpw_grid.specs.declared.grid.Block.{Block}
-use Rattle.mpw_grid.specs.Grid.{Cells, column_of, row_of, ShareSquare}
+use Rattle.mpw_tiles.specs.declared.grid.Block.{Block}
+use Rattle.mpw_tiles.specs.Grid.{Cells, column_of, row_of, ShareSquare}
 use Rattle.mpw_tiles.specs.declared.listing.Rectangle.{Rectangle}
 use Rattle.mpw_tiles.specs.declared.place.PlacedShape.{PlacedShape}
 use Rattle.mpw_tiles.specs.Plan.{Tiling, tiles, tile_window}

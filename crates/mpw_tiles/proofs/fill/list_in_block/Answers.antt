@@ -1,5 +1,5 @@
 use Rattle.std.proofs.Common.{◌+◌, ◌⊎◌, arith}
-use Rattle.mpw_grid.specs.Grid.{column_of, row_of, IsInBlock}
+use Rattle.mpw_tiles.specs.Grid.{column_of, row_of, IsInBlock}
 use Rattle.mpw_tiles.specs.Internal.Listing.{IsInRow, IsInRows}
 use Rattle.mpw_tiles.proofs.Lists.{Lists-none, Lists-then, Lists-same, rows_more, rows_end, no_row}
 use Rattle.mpw_tiles.proofs.fill.list_in_block.Goals as goal

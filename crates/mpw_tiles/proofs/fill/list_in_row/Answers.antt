@@ -1,5 +1,5 @@
 use Rattle.std.proofs.Common.{◌≡◌, ℕ, ◌+◌, ◌*◌, ◌<◌, ◌⊎◌, subst, arith}
-use Rattle.mpw_grid.specs.Grid.{columns}
+use Rattle.mpw_tiles.specs.Grid.{columns}
 use Rattle.mpw_tiles.specs.Internal.Listing.{Lists, IsInRow}
 use Rattle.mpw_tiles.proofs.Lists.{Lists-none, Lists-then, Lists-same, row_more, row_end, no_column}
 use Rattle.mpw_tiles.proofs.fill.list_in_row.Goals as goal

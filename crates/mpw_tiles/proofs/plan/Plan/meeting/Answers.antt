@@ -1,7 +1,7 @@
 use Rattle.std.proofs.Common.{◌<◌, sym, subst}
 use Rattle.std.specs.Prelude.{◌↔◌}
-use Rattle.mpw_grid.specs.Grid.{column_of, row_of, IsInBlock, ShareSquare}
-use Rattle.mpw_grid.proofs.Cells.{column_within, row_within}
+use Rattle.mpw_tiles.specs.Grid.{column_of, row_of, IsInBlock, ShareSquare}
+use Rattle.mpw_tiles.proofs.Cells.{column_within, row_within}
 use Rattle.mpw_tiles.specs.Plan.{Tiling, tiles, tile_window}
 use Rattle.mpw_tiles.proofs.plan.Plan.meeting.Goals as goal
 

@@ -1,6 +1,0 @@
-use Rattle.std.proofs.Common.{rules}
-use Rattle.mpw_grid.proofs.Cells.{counted_rows}
-use Rattle.mpw_grid.proofs.grid.row_count.Goals as goal
-
-pub returns-clause-count : goal.returns-clause-count
-returns-clause-count c = counted_rows _ _ (search rules) (search rules) c.sides_between.ensures

@@ -1,8 +1,0 @@
--- What private functions and proofs alone need: no public contract speaks of it.
-use Rattle.std.specs.Prelude.{◌^◌, ℤ, pos, neg_ℤ, ◌≤ℤ◌, ◌<ℤ◌}
-
--- from low to high: some way, and none of it far off, as of a box of the plane with a margin
-pub record IsStretch (low high : ℤ) : Type 0 where
-  pub near : neg_ℤ (pos (2 ^ 50)) ≤ℤ low
-  pub some : low <ℤ high
-  pub within : high ≤ℤ pos (2 ^ 50)

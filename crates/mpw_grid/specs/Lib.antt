@@ -1,3 +1,0 @@
-pub mod Grid
-pub mod Laws
-pub mod Internal

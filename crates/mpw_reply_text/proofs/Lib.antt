@@ -1,0 +1,6 @@
+pub mod WritingLemmas
+mod EscapedLemmas
+mod FieldLemmas
+mod RowLemmas
+mod ReplyLemmas
+mod ListingLemmas

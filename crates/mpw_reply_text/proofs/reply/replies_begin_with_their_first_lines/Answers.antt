@@ -1,0 +1,5 @@
+use Rattle.mpw_reply_text.proofs.ReplyLemmas.{led_by_first_line}
+use Rattle.mpw_reply_text.proofs.reply.replies_begin_with_their_first_lines.Goals as goal
+
+pub returns : goal.returns
+returns c = led_by_first_line

@@ -1,0 +1,21 @@
+use Rattle.std.proofs.Common.{ap, rules}
+use Rattle.mpw_wire.specs.Keys.{marker_key}
+use Rattle.mpw_reply_text.specs.Reply.{asked_part, asked_text}
+use Rattle.mpw_wire.specs.Writing.{fault_of}
+use Rattle.mpw_reply_text.proofs.WritingLemmas.{Writes_first, Writes_both, handed_on}
+use Rattle.mpw_reply_text.proofs.reply_line.write_asked.Goals as goal
+
+pub returns-in_err-write_marker_key : goal.returns-in_err-write_marker_key
+unfolding asked_text
+returns-in_err-write_marker_key g c =
+    let fault = c.in_err-write_marker_key.field-0.0 in
+    Writes_first _ _ _ _ fault _ _ (marker_key c.args.marker.now) (asked_part c.args.asker.now)
+    (ap fault_of c.in_err-write_marker_key.was)
+    (handed_on c.from_residual.result fault c.from_residual.ensures.1)
+    c.write_marker_key.ensures
+
+pub returns : goal.returns
+unfolding asked_text
+returns g c =
+    Writes_both _ _ _ _ _ _ _ _ (marker_key c.args.marker.now) (asked_part c.args.asker.now)
+    (ap fault_of c.in_ok-write_marker_key.was) c.write_marker_key.ensures (search rules)

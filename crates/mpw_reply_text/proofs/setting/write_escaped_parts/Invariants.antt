@@ -1,0 +1,11 @@
+use Rattle.std.proofs.Common.{◌≡◌, take}
+use Rattle.std.specs.List.{flat_map}
+use Rattle.std.specs.Io.KnownBytes.{Appends}
+use Rattle.csv.specs.Writing.{default_writer, escaped}
+use Rattle.mpw_reply_text.proofs.setting.write_escaped_parts.Given as goal
+
+abbrev pub invariant-loop-part : goal.invariant-loop-part
+invariant-loop-part g l =
+    Appends (g.W.Sink.contents l.initial.writer) (g.W.Sink.contents l.writer)
+    (flat_map (λ part. escaped default_writer part.now) (take l.part-index l.parts))
+    × (g.W.Sink.failures l.writer ≡ g.W.Sink.failures l.initial.writer)

@@ -1,0 +1,88 @@
+//! Keys of markers: the name of a rule, and behind colons where the marker lies.
+ghost use Rattle.std.specs.Prelude.{◌≡◌};
+ghost use Rattle.mpw_wire.specs.Keys.{spot_of, named_spot, axis_text, key_text, marker_key};
+ghost use Rattle.mpw_wire.specs.Writing.{Writes};
+ghost use Rattle.mpw_reply_text.specs.Internal.Setting.{set_text};
+
+use crate::setting::{Setting, write_set};
+use itoa::Buffer;
+use mpw_edges::Axis;
+use mpw_geom::Name;
+use mpw_markers::Key;
+use mpw_requests::MarkerName;
+use mpw_text::with_colons;
+use mpw_wire::{Sink, Spot, WireFault};
+
+/// Where the marker of a key lies.
+pub(crate) fn spot_of(key: Key) -> Spot
+    ensures { result ≡ spot_of key }
+{
+    Spot {
+        axis: key.axis,
+        side: key.side,
+        x1: key.x1,
+        x2: key.x2,
+        y0: key.y0,
+        y1: key.y1,
+    }
+}
+
+/// Where a marker lies that a request names.
+fn named_spot(marker: &MarkerName) -> Spot
+    ensures { result ≡ named_spot marker.now }
+{
+    Spot {
+        axis: marker.axis,
+        side: marker.side,
+        x1: marker.x1,
+        x2: marker.x2,
+        y0: marker.y0,
+        y1: marker.y1,
+    }
+}
+
+/// The letter of an axis. It takes no memory.
+#[tactic(auto, unfolding(mpw_wire::specs::Keys::axis_text))]
+pub fn axis_letter(axis: &Axis) -> &str
+    ensures { result.now ≡ axis_text axis.now }
+{
+    match axis {
+        Axis::V => "V",
+        Axis::H => "H",
+    }
+}
+
+/// Writes the key of a marker that lies there.
+pub(crate) fn write_key<W: Sink>(
+    writer: &mut W,
+    setting: Setting,
+    rule: &Name,
+    spot: Spot,
+) -> Result<(), WireFault>
+    ensures { Writes W.contents W.failures writer.old writer.new result (set_text setting (key_text rule.now spot)) }
+{
+    write_set(
+        writer,
+        setting,
+        &with_colons([
+            rule.as_str(),
+            axis_letter(&spot.axis),
+            Buffer::new().format(spot.side),
+            Buffer::new().format(spot.x1),
+            Buffer::new().format(spot.x2),
+            Buffer::new().format(spot.y0),
+            Buffer::new().format(spot.y1),
+        ]),
+    )
+}
+
+/// Writes the key of a marker that a request names.
+pub(crate) fn write_marker_key<W: Sink>(
+    writer: &mut W,
+    setting: Setting,
+    marker: &MarkerName,
+) -> Result<(), WireFault>
+    ensures { Writes W.contents W.failures writer.old writer.new result (set_text setting (marker_key marker.now)) }
+{
+    write_key(writer, setting, &marker.rule, named_spot(marker))
+}

@@ -1,0 +1,22 @@
+//! Replies to lines of text.
+//!
+//! [`write_reply`] writes the text of a reply, and [`write_refusal`] that of a refusal of a line. They take no memory: a reply
+//! gives its lines one by one, and each is written as it comes.
+#![tactic(auto)]
+
+mod escaped;
+mod first_line;
+mod key;
+mod markers;
+mod quotes;
+mod reply;
+mod reply_line;
+mod setting;
+mod shape;
+mod trail;
+mod write;
+
+pub use first_line::operation_word;
+pub use key::axis_letter;
+pub use reply::{LineRefusal, replies_begin_with_their_first_lines, write_refusal, write_reply};
+pub use trail::run_word;

@@ -1,3 +1,0 @@
-pub mod Script
-pub mod Settings
-pub mod Status

@@ -1,0 +1,25 @@
+-- A script is one connection over a new desk.
+use Rattle.std.specs.Prelude.{◌≡◌, ℕ, List, Option, None, Result, Ok, Err}
+use Rattle.mpw_core.specs.History.{KeptDesk, new_desk, kept_desk}
+use Rattle.mpw_wire.specs.declared.fault.WireFault.{WireFault}
+use Rattle.mpw_wire.specs.Writing.{fault_of}
+use Rattle.mpw_serve.specs.declared.serve.Served.{Served}
+use Rattle.mpw_serve.specs.Serving.{Serves}
+use Rattle.mpw_settings.specs.declared.settings.Settings.{Settings}
+use Rattle.mpw_settings.specs.declared.settings.Settings.TheVariants.{Script}
+
+-- connection 1 is served from the new desk on, and no change could not be kept; or there is no room for that desk, and nothing
+-- is read or written
+abbrev pub ServesScript : {E : Type 0} → Settings → Option (List ℕ) → Option (List ℕ)
+    → Option (List ℕ) → Option (List ℕ) → Result Served E → Type 0
+ServesScript (Script officer digest) input input' output output' (Ok served) =
+    (desk : KeptDesk) × (desk.failures ≡ 0)
+    × Serves 1 input input' output output' (kept_desk (new_desk officer digest) None 0) desk
+    served
+ServesScript (Script officer digest) input input' output output' (Err fault) =
+    (input' ≡ input) × (output' ≡ output)
+
+-- the device that failed, of which there is none where there is no room for the desk
+abbrev pub fault_told : {E : Type 0} → Result Served E → Option WireFault
+fault_told (Ok served) = fault_of served.ended
+fault_told (Err fault) = None

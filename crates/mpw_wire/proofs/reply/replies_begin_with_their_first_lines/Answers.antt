@@ -1,5 +1,0 @@
-use Rattle.mpw_wire.proofs.ReplyLemmas.{led_by_first_line}
-use Rattle.mpw_wire.proofs.reply.replies_begin_with_their_first_lines.Goals as goal
-
-pub returns : goal.returns
-returns c = led_by_first_line
