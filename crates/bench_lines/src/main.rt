@@ -8,7 +8,8 @@ mod desk;
 mod part;
 
 use desk::new_desk;
-use mpw_core::{Core, NoKeeper};
+use mpw_core::Core;
+use mpw_events::NoKeeper;
 use mpw_serve::{Silent, serve_core};
 use mpw_wire::Counted;
 use part::{Part, accepted};

@@ -8,7 +8,7 @@ use Rattle.mpw_rbac.specs.Policy.{Policy}
 use Rattle.mpw_rbac.specs.Rows.{IsFaultOf}
 use Rattle.mpw_core.specs.declared.answer.Answer.{Answer}
 use Rattle.mpw_core.specs.Internal.Answer.{IsRefusal, Fits, Gives, state_with, is_change}
-use Rattle.mpw_core.specs.Step.{State, policy_outcome}
+use Rattle.mpw_events.specs.Step.{State, policy_outcome}
 
 pub refused-gives : (state : State) (row : Result Policy Refusal) (fault : PolicyFault)
     (result : Result Answer AllocError) → IsFaultOf row fault

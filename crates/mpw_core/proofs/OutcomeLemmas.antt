@@ -6,10 +6,10 @@ use Rattle.mpw_rbac.specs.declared.session.Identity.{Identity}
 use Rattle.mpw_rbac.specs.Policy.{Policy}
 use Rattle.mpw_replies.specs.declared.entry.Entry.{Entry}
 use Rattle.mpw_replies.specs.declared.row.Ending.{Ending}
-use Rattle.mpw_core.specs.declared.event.Call.{Call}
-use Rattle.mpw_core.specs.declared.event.Event.{Event}
-use Rattle.mpw_core.specs.History.{state_after}
-use Rattle.mpw_core.specs.Step.{State, Outcome, no_change, policy_outcome, query_outcome, trail_outcome, identity_lines, event_outcome, not_kept_response, settlement, step, trail_behind, after}
+use Rattle.mpw_events.specs.declared.event.Call.{Call}
+use Rattle.mpw_events.specs.declared.event.Event.{Event}
+use Rattle.mpw_events.specs.History.{state_after}
+use Rattle.mpw_events.specs.Step.{State, Outcome, no_change, policy_outcome, query_outcome, trail_outcome, identity_lines, event_outcome, not_kept_response, settlement, step, trail_behind, after}
 
 pub holds-policy : (P : State → Type 0)
     → ((s : State) (policy : Policy) → P s → P (record s { policy = policy }))

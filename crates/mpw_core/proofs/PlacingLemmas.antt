@@ -15,12 +15,12 @@ use Rattle.mpw_access.specs.Permitted.{permitted}
 use Rattle.mpw_replies.specs.declared.row.Ending.{Ending}
 use Rattle.mpw_layouts.specs.Layouts as layouts
 use Rattle.mpw_wafer.specs.Laws.{ChangesKeepPlacings}
-use Rattle.mpw_core.specs.PolicyRows.{row_of}
-use Rattle.mpw_core.specs.declared.event.Call.{Call}
-use Rattle.mpw_core.specs.declared.event.Event.{Event}
-use Rattle.mpw_core.specs.declared.event.Event.TheVariants as event
-use Rattle.mpw_core.specs.History.{state_after}
-use Rattle.mpw_core.specs.Step.{State, new_state, outcome_of, event_outcome, after}
+use Rattle.mpw_events.specs.PolicyRows.{row_of}
+use Rattle.mpw_events.specs.declared.event.Call.{Call}
+use Rattle.mpw_events.specs.declared.event.Event.{Event}
+use Rattle.mpw_events.specs.declared.event.Event.TheVariants as event
+use Rattle.mpw_events.specs.History.{state_after}
+use Rattle.mpw_events.specs.Step.{State, new_state, outcome_of, event_outcome, after}
 use Rattle.mpw_core.proofs.OutcomeLemmas.{holds-policy, holds-query, holds-trail, holds-step, holds-calls}
 
 abbrev Placed : State → Type 0

@@ -20,12 +20,12 @@ use Rattle.mpw_access.specs.Permitted.{permitted}
 use Rattle.mpw_replies.specs.declared.row.Ending.{Ending}
 use Rattle.mpw_requests.specs.declared.request.Request.{Request}
 use Rattle.mpw_requests.specs.declared.request.Request.TheVariants as ask
-use Rattle.mpw_core.specs.PolicyRows.{row_of}
-use Rattle.mpw_core.specs.declared.event.Call.{Call}
-use Rattle.mpw_core.specs.declared.event.Event.{Event}
-use Rattle.mpw_core.specs.declared.event.Event.TheVariants as event
-use Rattle.mpw_core.specs.History.{state_after}
-use Rattle.mpw_core.specs.Step.{State, Outcome, new_state, no_change, policy_outcome, query_outcome, trail_outcome, identity_lines, outcome_of, event_outcome, not_kept_response, settlement, step, after}
+use Rattle.mpw_events.specs.PolicyRows.{row_of}
+use Rattle.mpw_events.specs.declared.event.Call.{Call}
+use Rattle.mpw_events.specs.declared.event.Event.{Event}
+use Rattle.mpw_events.specs.declared.event.Event.TheVariants as event
+use Rattle.mpw_events.specs.History.{state_after}
+use Rattle.mpw_events.specs.Step.{State, Outcome, new_state, no_change, policy_outcome, query_outcome, trail_outcome, identity_lines, outcome_of, event_outcome, not_kept_response, settlement, step, after}
 
 -- ---- the run's own events leave its number
 

@@ -1,10 +1,10 @@
 -- What a prepared answer has to be.
 use Rattle.std.specs.Prelude.{Bool}
 use Rattle.mpw_run.specs.declared.phase.RunReply.{RunReply}
-use Rattle.mpw_core.specs.declared.event.Response.{Response}
-use Rattle.mpw_core.specs.declared.event.Response.TheVariants as response
+use Rattle.mpw_events.specs.declared.event.Response.{Response}
+use Rattle.mpw_events.specs.declared.event.Response.TheVariants as response
 use Rattle.mpw_core.specs.declared.tables.Tables.{Tables}
-use Rattle.mpw_core.specs.Step.{State}
+use Rattle.mpw_events.specs.Step.{State}
 
 -- the state of a desk with these tables
 abbrev pub state_of_tables : Tables → Bool → State

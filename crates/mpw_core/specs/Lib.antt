@@ -1,6 +1,3 @@
 pub mod Answer
-pub mod History
-pub mod Keeping
-pub mod PolicyRows
-pub mod Step
+pub mod Kept
 pub mod Internal

@@ -14,15 +14,15 @@ ghost use Rattle.mpw_access.specs.Permitted.{permitted};
 ghost use Rattle.mpw_replies.specs.Trail.{trail_lines};
 ghost use Rattle.mpw_signoff.specs.SigningOff as signing;
 ghost use Rattle.mpw_core.specs.Internal.Answer.{IsRefusal, IsReady, Gives, open_state};
-ghost use Rattle.mpw_core.specs.History.{restarts};
-ghost use Rattle.mpw_core.specs.PolicyRows.{row_of};
-ghost use Rattle.mpw_core.specs.Step.{State, reply_of, policy_outcome, query_outcome, trail_outcome, over_run, over_shelf, over_wafer, over_waivers, event_outcome, parting_outcome, outcome_of, identity_lines};
+ghost use Rattle.mpw_events.specs.History.{restarts};
+ghost use Rattle.mpw_events.specs.PolicyRows.{row_of};
+ghost use Rattle.mpw_events.specs.Step.{State, reply_of, policy_outcome, query_outcome, trail_outcome, over_run, over_shelf, over_wafer, over_waivers, event_outcome, parting_outcome, outcome_of, identity_lines};
 
 use crate::policy::make;
 use crate::run_answer::of_run;
 use crate::tables::Tables;
-use crate::{Event, Response};
 use mpw_access::enter;
+use mpw_events::{Event, Response};
 use mpw_geom::Name;
 use mpw_hier::Shelf;
 use mpw_layouts::LayoutAnswer;
@@ -358,7 +358,7 @@ fn parting(policy: &Policy, connection: u32) -> Result<Answer, AllocError>
 ///
 /// # Errors
 /// Where there is no room for it.
-#[tactic(auto, unfolding(crate::specs::Step::event_outcome))]
+#[tactic(auto, unfolding(mpw_events::specs::Step::event_outcome))]
 pub(crate) fn prepare(alloc: Global, tables: &Tables, event: &Event) -> Result<Answer, AllocError>
     requires { restarts event.now ≡ false → IsReady tables.now }
     ensures { IfOk result (λ answer. Gives (open_state tables.now) (event_outcome (open_state tables.now) event.now) answer.response answer.next) }

@@ -1,13 +1,13 @@
 //! Laws of the definitions alone. Each function calls at most the laws that its own rests on: its contract is the law.
 ghost use Rattle.std.specs.Prelude.{◌≤◌, ℕ, List, length};
-ghost use Rattle.mpw_core.specs.History.{state_after};
+ghost use Rattle.mpw_events.specs.History.{state_after};
 ghost use Rattle.mpw_placings.specs.Placements.{ArePlacings};
 ghost use Rattle.mpw_requests.specs.declared.run.RunRequest.TheVariants as run;
-ghost use Rattle.mpw_core.specs.Step.{new_state};
-ghost use Rattle.mpw_core.specs.declared.event.Event.{Event};
-ghost use Rattle.mpw_core.specs.declared.event.Event.TheVariants as event;
-ghost use Rattle.mpw_core.specs.declared.event.Response.{Response};
-ghost use Rattle.mpw_core.specs.declared.event.Call.{Call};
+ghost use Rattle.mpw_events.specs.Step.{new_state};
+ghost use Rattle.mpw_events.specs.declared.event.Event.{Event};
+ghost use Rattle.mpw_events.specs.declared.event.Event.TheVariants as event;
+ghost use Rattle.mpw_events.specs.declared.event.Response.{Response};
+ghost use Rattle.mpw_events.specs.declared.event.Call.{Call};
 
 use mpw_placings::{each_change_keeps, later_submissions_keep};
 use mpw_wafer::changes_of_the_wafer_keep_its_placings;

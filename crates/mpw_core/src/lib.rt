@@ -8,19 +8,13 @@
 
 mod answer;
 mod desk;
-mod event;
-mod keeper;
 mod laws;
 mod noting;
 mod policy;
 mod ready;
 mod run_answer;
 mod settling;
-mod shared;
 mod tables;
 
 pub use desk::{Core, MAX_EVENTS, replay};
-pub use event::{Call, Event, Response};
-pub use keeper::{Change, Keeper, KeptChange, NoKeeper, NotKept};
 pub use laws::{every_state_counts_its_runs, every_state_keeps_its_placings};
-pub use shared::{SharedCut, SharedRunReply, SharedTile};

@@ -3,7 +3,7 @@
 //! Each is made on a copy of the policy, which moves in where the request is accepted.
 ghost use Rattle.std.specs.Prelude.{◌≡◌, IfErr, OnOk, Ok};
 ghost use Rattle.mpw_rbac.specs.Rows.{IsFaultOf};
-ghost use Rattle.mpw_core.specs.PolicyRows.{row_of};
+ghost use Rattle.mpw_events.specs.PolicyRows.{row_of};
 
 use mpw_rbac::{Policy, PolicyFault};
 use mpw_requests::PolicyRequest;

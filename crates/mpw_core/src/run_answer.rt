@@ -5,11 +5,11 @@ ghost use Rattle.mpw_run.specs.Prepared.{IsPrepared};
 ghost use Rattle.mpw_run.specs.Step.{Outcome as RunOutcome};
 ghost use Rattle.mpw_core.specs.Answer.{run_response};
 ghost use Rattle.mpw_core.specs.Internal.Answer.{Gives, move_or_finish, places_for};
-ghost use Rattle.mpw_core.specs.Step.{State, of_run};
+ghost use Rattle.mpw_events.specs.Step.{State, of_run};
 ghost use Rattle.mpw_run.specs.Laws.{finishes};
 
 use crate::answer::{Answer, Next};
-use crate::{Response, SharedRunReply};
+use mpw_events::{Response, SharedRunReply};
 use mpw_run::{Prepared, Run, RunReply};
 use mpw_waiver::Waivers;
 use std::alloc::{AllocError, Global};

@@ -11,17 +11,17 @@ use Rattle.mpw_rbac_laws.specs.Laws.{DeniesRightly}
 use Rattle.mpw_rbac.specs.Policy.{Policy, authorized, permits}
 use Rattle.mpw_rbac.specs.Rows as rows
 use Rattle.mpw_rbac_laws.proofs.DenialLemmas as law
-use Rattle.mpw_core.specs.declared.event.Event.TheVariants as event
+use Rattle.mpw_events.specs.declared.event.Event.TheVariants as event
 use Rattle.mpw_requests.specs.declared.request.Request.{Request}
 use Rattle.mpw_requests.specs.declared.request.Request.TheVariants as ask
 use Rattle.mpw_requests.specs.declared.policy.PolicyRequest.{PolicyRequest}
 use Rattle.mpw_requests.specs.declared.policy.PolicyRequest.TheVariants.{Open, Close, Activate, DropRole, AddUser, DelUser, AddRole, DelRole, Assign, Deassign, Grant, Revoke, Inherit, Uninherit, Ssd, Dsd, UnSsd, UnDsd}
-use Rattle.mpw_core.specs.PolicyRows.{row_of}
+use Rattle.mpw_events.specs.PolicyRows.{row_of}
 use Rattle.mpw_replies.specs.declared.reply.Denial.{Denial}
 use Rattle.mpw_replies.specs.declared.reply.Denial.TheVariants as denial
 use Rattle.mpw_replies.specs.declared.reply.Reply.{Reply}
 use Rattle.mpw_replies.specs.declared.reply.Reply.TheVariants as reply
-use Rattle.mpw_core.specs.declared.event.Response.TheVariants as response
+use Rattle.mpw_events.specs.declared.event.Response.TheVariants as response
 use Rattle.mpw_laws.specs.LayoutLaws.{LayoutsDenyWhatIsLacked}
 use Rattle.mpw_laws.specs.WaferLaws.{WafersDenyWhatIsLacked}
 use Rattle.mpw_laws.specs.CheckingLaws.{RunsDenyWhatIsLacked}
@@ -32,7 +32,7 @@ use Rattle.mpw_replies.specs.Rows.{denied}
 use Rattle.mpw_replies.specs.declared.row.Ending.{Ending}
 use Rattle.mpw_permissions.specs.declared.permission.Object.TheVariants as objects
 use Rattle.mpw_permissions.specs.declared.permission.Operation.TheVariants as operations
-use Rattle.mpw_core.specs.Step.{State, Outcome, reply_of, policy_outcome, query_outcome, trail_outcome, identity_lines, outcome_of, event_outcome, step, response_of}
+use Rattle.mpw_events.specs.Step.{State, Outcome, reply_of, policy_outcome, query_outcome, trail_outcome, identity_lines, outcome_of, event_outcome, step, response_of}
 use Rattle.mpw_laws.proofs.RefusalLemmas.{settlement-denied}
 
 -- what is told alike is alike

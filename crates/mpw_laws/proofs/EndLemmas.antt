@@ -1,11 +1,11 @@
 -- The work behind an accepted run goes on until it is over.
 use Rattle.std.proofs.Common.{◌≡◌, ◌∙◌, ℕ, Bool, true, false, List, [], ◌∷◌, Option, Some, None, Result, Ok, Err, refl, sym, ap, subst}
 use Rattle.std.proofs.lemmas.Bool.{true≢false}
-use Rattle.mpw_core.specs.History.{KeptDesk, IsHandled, state_of}
-use Rattle.mpw_core.specs.Step.{State, Outcome, after, no_change, over_run, response_of, step, not_kept_response, event_outcome}
-use Rattle.mpw_core.specs.declared.event.Event.{Event}
-use Rattle.mpw_core.specs.declared.event.Event.TheVariants as event
-use Rattle.mpw_core.specs.declared.event.Response.{Response}
+use Rattle.mpw_events.specs.History.{KeptDesk, IsHandled, state_of}
+use Rattle.mpw_events.specs.Step.{State, Outcome, after, no_change, over_run, response_of, step, not_kept_response, event_outcome}
+use Rattle.mpw_events.specs.declared.event.Event.{Event}
+use Rattle.mpw_events.specs.declared.event.Event.TheVariants as event
+use Rattle.mpw_events.specs.declared.event.Response.{Response}
 use Rattle.mpw_permissions.specs.declared.permission.Operation.TheVariants as operation
 use Rattle.mpw_permissions.specs.declared.permission.Object.TheVariants as object
 use Rattle.mpw_deck.specs.Decks.{Deck}

@@ -2,13 +2,13 @@
 use Rattle.std.proofs.Common.{◌≡◌, ◌∙◌, ◌⊎◌, ℕ, Bool, true, false, List, [], ◌∷◌, ◌++◌, length, refl, sym, ap, subst, inl, inr}
 use Rattle.std.specs.Prelude.{◌||◌, ◌&&◌, not, nat_lt, if◌then◌else◌}
 use Rattle.std.proofs.lemmas.Bool.{true≢false}
-use Rattle.mpw_core.specs.History.{Handled, KeptDesk, IsHandled, state_of, state_after, max_events, limit_response, closed_response, restarts, nothing_added, answering, handling}
-use Rattle.mpw_core.specs.Step.{State, Outcome, after, no_change, with_trail, of_run, response_of, settlement, step, not_kept_response, event_outcome}
-use Rattle.mpw_core.specs.declared.event.Call.{Call}
-use Rattle.mpw_core.specs.declared.event.Event.{Event}
-use Rattle.mpw_core.specs.declared.event.Event.TheVariants as event
-use Rattle.mpw_core.specs.declared.event.Response.{Response}
-use Rattle.mpw_core.specs.declared.event.Response.TheVariants as response
+use Rattle.mpw_events.specs.History.{Handled, KeptDesk, IsHandled, state_of, state_after, max_events, limit_response, closed_response, restarts, nothing_added, answering, handling}
+use Rattle.mpw_events.specs.Step.{State, Outcome, after, no_change, with_trail, of_run, response_of, settlement, step, not_kept_response, event_outcome}
+use Rattle.mpw_events.specs.declared.event.Call.{Call}
+use Rattle.mpw_events.specs.declared.event.Event.{Event}
+use Rattle.mpw_events.specs.declared.event.Event.TheVariants as event
+use Rattle.mpw_events.specs.declared.event.Response.{Response}
+use Rattle.mpw_events.specs.declared.event.Response.TheVariants as response
 use Rattle.mpw_job.specs.Jobs.{CutWindows, FoundMarkers}
 use Rattle.mpw_run.specs.declared.phase.RunReply.TheVariants as told
 use Rattle.mpw_run.specs.Laws.{finishes}

@@ -32,11 +32,11 @@ use Rattle.mpw_requests.specs.declared.wafer.WaferRequest.{WaferRequest}
 use Rattle.mpw_requests.specs.declared.wafer.WaferRequest.TheVariants.{Place, Unplace, Deck}
 use Rattle.mpw_signoff.specs.SigningOff as signing
 use Rattle.mpw_wafer.specs.Wafers as wafers
-use Rattle.mpw_core.specs.declared.event.Event.TheVariants as event
-use Rattle.mpw_core.specs.declared.event.Response.TheVariants as response
+use Rattle.mpw_events.specs.declared.event.Event.TheVariants as event
+use Rattle.mpw_events.specs.declared.event.Response.TheVariants as response
 use Rattle.mpw_laws.specs.Permissions.{Has, session, permission, policy_need, layout_need, wafer_need, run_need, sign_off_need, need_of}
-use Rattle.mpw_core.specs.PolicyRows.{row_of}
-use Rattle.mpw_core.specs.Step.{State, Outcome, reply_of, policy_outcome, query_outcome, trail_outcome, identity_lines, outcome_of, event_outcome, step, response_of}
+use Rattle.mpw_events.specs.PolicyRows.{row_of}
+use Rattle.mpw_events.specs.Step.{State, Outcome, reply_of, policy_outcome, query_outcome, trail_outcome, identity_lines, outcome_of, event_outcome, step, response_of}
 use Rattle.mpw_laws.proofs.DenialLemmas.{inside}
 use Rattle.mpw_laws.proofs.ReadableLemmas.{never_ok, told_refusal}
 use Rattle.mpw_laws.proofs.RefusalLemmas.{settlement-ok}

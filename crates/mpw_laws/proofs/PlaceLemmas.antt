@@ -6,9 +6,9 @@ use Rattle.mpw_run.specs.declared.phase.Phase.TheVariants.{Idle, Cutting, Checki
 use Rattle.mpw_run.specs.Step.{book_size, restarted_phase}
 use Rattle.mpw_laws.specs.SignOffLaws.{PlacesAreLeft}
 use Rattle.mpw_waiver.specs.declared.waiver.Waiver.{Waiver}
-use Rattle.mpw_core.specs.declared.event.Call.{Call}
-use Rattle.mpw_core.specs.History.{state_after}
-use Rattle.mpw_core.specs.Step.{State, new_state}
+use Rattle.mpw_events.specs.declared.event.Call.{Call}
+use Rattle.mpw_events.specs.History.{state_after}
+use Rattle.mpw_events.specs.Step.{State, new_state}
 use Rattle.mpw_laws.proofs.WaivedLemmas.{waived-history}
 
 restarted-size : (phase : Phase) → book_size (restarted_phase phase) ≡ book_size phase

@@ -35,10 +35,10 @@ use Rattle.mpw_replies.specs.declared.reply.Line.{Line}
 use Rattle.mpw_replies.specs.declared.reply.Line.TheVariants.{User, Active, Authorized, Version}
 use Rattle.mpw_replies.specs.declared.reply.Reply.{Reply}
 use Rattle.mpw_replies.specs.declared.reply.Reply.TheVariants as reply
-use Rattle.mpw_core.specs.declared.event.Event.TheVariants as event
-use Rattle.mpw_core.specs.declared.event.Response.TheVariants as response
-use Rattle.mpw_core.specs.PolicyRows.{row_of}
-use Rattle.mpw_core.specs.Step.{State, Outcome, reply_of, policy_outcome, query_outcome, trail_outcome, identity_lines, outcome_of, event_outcome, step, response_of}
+use Rattle.mpw_events.specs.declared.event.Event.TheVariants as event
+use Rattle.mpw_events.specs.declared.event.Response.TheVariants as response
+use Rattle.mpw_events.specs.PolicyRows.{row_of}
+use Rattle.mpw_events.specs.Step.{State, Outcome, reply_of, policy_outcome, query_outcome, trail_outcome, identity_lines, outcome_of, event_outcome, step, response_of}
 use Rattle.mpw_laws.proofs.DenialLemmas.{inside}
 use Rattle.mpw_laws.proofs.RefusalLemmas.{settlement-ok}
 

@@ -1,10 +1,10 @@
 -- What a restart leaves.
 use Rattle.std.proofs.Common.{◌≡◌, ℕ, Bool, None, refl}
 use Rattle.mpw_rbac.specs.Policy.{session_of}
-use Rattle.mpw_core.specs.declared.event.Event.TheVariants as event
-use Rattle.mpw_core.specs.declared.event.Response.TheVariants as response
+use Rattle.mpw_events.specs.declared.event.Event.TheVariants as event
+use Rattle.mpw_events.specs.declared.event.Response.TheVariants as response
 use Rattle.mpw_run.specs.Step as run
-use Rattle.mpw_core.specs.Step.{State, event_outcome, step, response_of, after}
+use Rattle.mpw_events.specs.Step.{State, event_outcome, step, response_of, after}
 
 pub restart-told : (s : State) (kept : Bool) → response_of s event.Restart kept ≡ response.Restarted
 unfolding step event_outcome

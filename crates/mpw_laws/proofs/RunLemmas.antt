@@ -17,11 +17,11 @@ use Rattle.mpw_replies.specs.declared.row.Ending.{Ending}
 use Rattle.mpw_requests.specs.declared.request.Request.{Request}
 use Rattle.mpw_requests.specs.declared.request.Request.TheVariants as ask
 use Rattle.mpw_core.specs.Answer.{run_response}
-use Rattle.mpw_core.specs.PolicyRows.{row_of}
-use Rattle.mpw_core.specs.declared.event.Event.{Event}
-use Rattle.mpw_core.specs.declared.event.Event.TheVariants as event
-use Rattle.mpw_core.specs.declared.event.Response.TheVariants as response
-use Rattle.mpw_core.specs.Step.{State, Outcome, policy_outcome, query_outcome, trail_outcome, identity_lines, outcome_of, event_outcome, of_run, step, response_of}
+use Rattle.mpw_events.specs.PolicyRows.{row_of}
+use Rattle.mpw_events.specs.declared.event.Event.{Event}
+use Rattle.mpw_events.specs.declared.event.Event.TheVariants as event
+use Rattle.mpw_events.specs.declared.event.Response.TheVariants as response
+use Rattle.mpw_events.specs.Step.{State, Outcome, policy_outcome, query_outcome, trail_outcome, identity_lines, outcome_of, event_outcome, of_run, step, response_of}
 use Rattle.mpw_laws.proofs.RefusalLemmas.{settlement-run}
 
 -- ---- what is not kept leaves the state

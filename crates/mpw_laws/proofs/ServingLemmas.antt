@@ -1,9 +1,9 @@
 -- A connection that is served leads the desk on by calls.
 use Rattle.std.proofs.Common.{◌≡◌, ℕ, List, length, Option, sym, subst, Bool, true, false}
-use Rattle.mpw_core.specs.declared.event.Event.TheVariants as event
-use Rattle.mpw_core.specs.declared.event.Response.{Response}
-use Rattle.mpw_core.specs.declared.event.Event.{Event}
-use Rattle.mpw_core.specs.History.{KeptDesk, IsHandled}
+use Rattle.mpw_events.specs.declared.event.Event.TheVariants as event
+use Rattle.mpw_events.specs.declared.event.Response.{Response}
+use Rattle.mpw_events.specs.declared.event.Event.{Event}
+use Rattle.mpw_events.specs.History.{KeptDesk, IsHandled}
 use Rattle.mpw_laws.specs.GoingOn.{GoesOnTo}
 use Rattle.mpw_serve.specs.declared.serve.Served.{Served}
 use Rattle.mpw_laws.specs.WorkLaws.{WorkGoesOn}

@@ -5,10 +5,10 @@ use Rattle.mpw_rbac.specs.Laws.{KeepsSound}
 use Rattle.mpw_rbac_laws.proofs.SoundRows as law
 use Rattle.mpw_requests.specs.declared.policy.PolicyRequest.{PolicyRequest}
 use Rattle.mpw_requests.specs.declared.policy.PolicyRequest.TheVariants.{Open, Close, Activate, DropRole, AddUser, DelUser, AddRole, DelRole, Assign, Deassign, Grant, Revoke, Inherit, Uninherit, Ssd, Dsd, UnSsd, UnDsd}
-use Rattle.mpw_core.specs.declared.event.Call.{Call}
-use Rattle.mpw_core.specs.History.{state_after}
-use Rattle.mpw_core.specs.PolicyRows.{row_of}
-use Rattle.mpw_core.specs.Step.{new_state}
+use Rattle.mpw_events.specs.declared.event.Call.{Call}
+use Rattle.mpw_events.specs.History.{state_after}
+use Rattle.mpw_events.specs.PolicyRows.{row_of}
+use Rattle.mpw_events.specs.Step.{new_state}
 use Rattle.mpw_laws.proofs.KeptLemmas.{kept-history}
 
 sound-row : (connection : ℕ) (request : PolicyRequest)

@@ -4,12 +4,12 @@ use Rattle.std.specs.Prelude.{◌==◌, slice_get, slice_set, if◌then◌else�
 use Rattle.std.specs.List.{range_with_len}
 use Rattle.std.proofs.lemmas.Bool.{true≢false, cases_eq, cases_lt, eq-eqb}
 use Rattle.std.proofs.lemmas.Option.{slice_get_within}
-use Rattle.mpw_core.specs.History.{KeptDesk, IsHandled, state_of}
-use Rattle.mpw_core.specs.Step.{State, of_run, event_outcome}
-use Rattle.mpw_core.specs.declared.event.Event.{Event}
-use Rattle.mpw_core.specs.declared.event.Event.TheVariants as event
-use Rattle.mpw_core.specs.declared.event.Response.{Response}
-use Rattle.mpw_core.specs.declared.event.Response.TheVariants as response
+use Rattle.mpw_events.specs.History.{KeptDesk, IsHandled, state_of}
+use Rattle.mpw_events.specs.Step.{State, of_run, event_outcome}
+use Rattle.mpw_events.specs.declared.event.Event.{Event}
+use Rattle.mpw_events.specs.declared.event.Event.TheVariants as event
+use Rattle.mpw_events.specs.declared.event.Response.{Response}
+use Rattle.mpw_events.specs.declared.event.Response.TheVariants as response
 use Rattle.mpw_job.specs.Answers.{TileJob}
 use Rattle.mpw_job.specs.Carried.{job_of}
 use Rattle.mpw_job.specs.Jobs.{CutWindows, FoundMarkers}

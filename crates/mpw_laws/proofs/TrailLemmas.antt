@@ -8,10 +8,10 @@ use Rattle.mpw_requests.specs.declared.request.Request.{Request}
 use Rattle.mpw_requests.specs.declared.request.Request.TheVariants as ask
 use Rattle.mpw_access.specs.Permitted.{permitted}
 use Rattle.mpw_replies.specs.declared.entry.Entry.{Entry}
-use Rattle.mpw_core.specs.PolicyRows.{row_of}
-use Rattle.mpw_core.specs.declared.event.Event.{Event}
-use Rattle.mpw_core.specs.declared.event.Event.TheVariants as event
-use Rattle.mpw_core.specs.Step.{State, Outcome, no_change, outcome_of, event_outcome, not_kept_response, settlement, step, response_of, entries_of, after}
+use Rattle.mpw_events.specs.PolicyRows.{row_of}
+use Rattle.mpw_events.specs.declared.event.Event.{Event}
+use Rattle.mpw_events.specs.declared.event.Event.TheVariants as event
+use Rattle.mpw_events.specs.Step.{State, Outcome, no_change, outcome_of, event_outcome, not_kept_response, settlement, step, response_of, entries_of, after}
 use Rattle.mpw_core.proofs.SettlingLemmas.{trail-grows}
 use Rattle.mpw_core.proofs.OutcomeLemmas.{holds-policy, holds-query, holds-trail}
 

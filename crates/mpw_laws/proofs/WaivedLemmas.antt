@@ -26,12 +26,12 @@ use Rattle.mpw_requests.specs.declared.sign_off.SignOffRequest.{SignOffRequest}
 use Rattle.mpw_signoff.specs.SigningOff as signing
 use Rattle.mpw_waiver.specs.declared.waiver.Waiver.{Waiver}
 use Rattle.mpw_waiver.specs.Waivers.{none_asked}
-use Rattle.mpw_core.specs.PolicyRows.{row_of}
-use Rattle.mpw_core.specs.declared.event.Call.{Call}
-use Rattle.mpw_core.specs.declared.event.Event.{Event}
-use Rattle.mpw_core.specs.declared.event.Event.TheVariants as event
-use Rattle.mpw_core.specs.History.{state_after}
-use Rattle.mpw_core.specs.Step.{State, new_state, of_run, outcome_of, over_run, event_outcome, after}
+use Rattle.mpw_events.specs.PolicyRows.{row_of}
+use Rattle.mpw_events.specs.declared.event.Call.{Call}
+use Rattle.mpw_events.specs.declared.event.Event.{Event}
+use Rattle.mpw_events.specs.declared.event.Event.TheVariants as event
+use Rattle.mpw_events.specs.History.{state_after}
+use Rattle.mpw_events.specs.Step.{State, new_state, of_run, outcome_of, over_run, event_outcome, after}
 use Rattle.mpw_core.proofs.OutcomeLemmas.{holds-policy, holds-query, holds-trail, holds-step, holds-calls}
 
 module _

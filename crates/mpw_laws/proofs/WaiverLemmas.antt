@@ -22,10 +22,10 @@ use Rattle.mpw_laws.specs.SignOffLaws.{AskedAreShown, AskersAreTold, CleanIsSign
 use Rattle.mpw_signoff.specs.SigningOff as signing
 use Rattle.mpw_waiver.specs.Waivers.{none_asked}
 use Rattle.mpw_core.specs.Answer.{run_response}
-use Rattle.mpw_core.specs.declared.event.Event.TheVariants as event
-use Rattle.mpw_core.specs.declared.event.Response.TheVariants as response
+use Rattle.mpw_events.specs.declared.event.Event.TheVariants as event
+use Rattle.mpw_events.specs.declared.event.Response.TheVariants as response
 use Rattle.mpw_run.specs.Laws.{finishes}
-use Rattle.mpw_core.specs.Step.{State, Outcome, of_run, outcome_of, over_run, event_outcome, step, response_of, after}
+use Rattle.mpw_events.specs.Step.{State, Outcome, of_run, outcome_of, over_run, event_outcome, step, response_of, after}
 use Rattle.mpw_laws.proofs.DenialLemmas.{inside}
 use Rattle.mpw_laws.proofs.RefusalLemmas.{settlement-denied, settlement-ok, settlement-run}
 

@@ -1,10 +1,10 @@
 -- A desk on which a run is worked off goes on by calls.
 use Rattle.std.proofs.Common.{◌&&◌, Bool, true, false, List, Option, None, Some, sym, subst}
-use Rattle.mpw_core.specs.History.{KeptDesk, IsHandled}
+use Rattle.mpw_events.specs.History.{KeptDesk, IsHandled}
 use Rattle.mpw_laws.specs.GoingOn.{GoesOnTo}
-use Rattle.mpw_core.specs.declared.event.Event.{Event}
-use Rattle.mpw_core.specs.declared.event.Event.TheVariants as event
-use Rattle.mpw_core.specs.declared.event.Response.{Response}
+use Rattle.mpw_events.specs.declared.event.Event.{Event}
+use Rattle.mpw_events.specs.declared.event.Event.TheVariants as event
+use Rattle.mpw_events.specs.declared.event.Response.{Response}
 use Rattle.mpw_job.specs.Jobs.{CutWindows}
 use Rattle.mpw_job.specs.declared.job.CutJob.{CutJob}
 use Rattle.mpw_requests.specs.declared.request.Request.{Request}

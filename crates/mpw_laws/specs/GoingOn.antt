@@ -1,11 +1,11 @@
 -- How a desk goes on by calls, and what its keeper has of their changes.
 use Rattle.std.specs.Prelude.{[], ◌≡◌, List, ◌∷◌, ◌++◌}
-use Rattle.mpw_core.specs.declared.event.Call.{Call}
-use Rattle.mpw_core.specs.declared.keeper.KeptChange.{KeptChange}
+use Rattle.mpw_events.specs.declared.event.Call.{Call}
+use Rattle.mpw_events.specs.declared.keeper.KeptChange.{KeptChange}
 use Rattle.std.specs.Option.{option_to_list}
-use Rattle.mpw_core.specs.Keeping.{Grows, change_to_keep}
-use Rattle.mpw_core.specs.Step.{State, step, after}
-use Rattle.mpw_core.specs.History.{KeptDesk, state_of}
+use Rattle.mpw_events.specs.Keeping.{Grows, change_to_keep}
+use Rattle.mpw_events.specs.Step.{State, step, after}
+use Rattle.mpw_events.specs.History.{KeptDesk, state_of}
 
 -- the changes that calls had kept, in order
 abbrev pub changes_of : State → List Call → List KeptChange

@@ -1,6 +1,6 @@
 //! A law of connections. The function calls the laws that it rests on: its contract is the law.
 ghost use Rattle.std.specs.Prelude.{ℕ, List, Option};
-ghost use Rattle.mpw_core.specs.History.{KeptDesk};
+ghost use Rattle.mpw_events.specs.History.{KeptDesk};
 ghost use Rattle.mpw_laws.specs.GoingOn.{GoesOnTo};
 ghost use Rattle.mpw_serve.specs.Serving.{Serves};
 ghost use Rattle.mpw_serve.specs.declared.serve.Served.{Served};

@@ -5,6 +5,7 @@
 mod line;
 
 use line::Line;
+use mpw_core::Core;
 use mpw_serve::run;
 use std::process::ExitCode;
 
@@ -12,5 +13,5 @@ use std::process::ExitCode;
 /// wanting. A fault is told on the standard error, and where that is a terminal, how far a run that is worked off came.
 fn main(rt: HostRuntime) -> ExitCode {
     let mut line = Line::new(&rt);
-    run(&rt, &rt, rt.stdin(), rt.stdout(), &mut line)
+    run::<Core, _, _, _>(&rt, &rt, rt.stdin(), rt.stdout(), &mut line)
 }

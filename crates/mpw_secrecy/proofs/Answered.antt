@@ -11,8 +11,8 @@ use Rattle.mpw_requests.specs.declared.run.RunRequest.TheVariants as run
 use Rattle.mpw_requests.specs.declared.sign_off.SignOffRequest.TheVariants as sign
 use Rattle.mpw_wafer.specs.Run.Checking as checking
 use Rattle.mpw_laws.specs.SignOffLaws.{PlacesAreLeft}
-use Rattle.mpw_core.specs.declared.event.Event.TheVariants as event
-use Rattle.mpw_core.specs.Step.{State, Outcome, after, no_change, outcome_of, over_run, settlement, step, not_kept_response, event_outcome}
+use Rattle.mpw_events.specs.declared.event.Event.TheVariants as event
+use Rattle.mpw_events.specs.Step.{State, Outcome, after, no_change, outcome_of, over_run, settlement, step, not_kept_response, event_outcome}
 use Rattle.mpw_secrecy.specs.Questions.{is_of_run, is_of_view}
 use Rattle.mpw_secrecy.specs.Secrecy.{EqualViewsGiveEqualAnswers, EqualViewsGiveEqualAnswersToLists, EqualViewsStayEqual, IsOrderly}
 use Rattle.mpw_secrecy.specs.Views.{SameView}

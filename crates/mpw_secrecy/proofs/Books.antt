@@ -33,7 +33,7 @@ use Rattle.mpw_waiver.specs.Waivers.{waiver_at}
 use Rattle.mpw_signoff.specs.Named.{rule_place}
 use Rattle.mpw_signoff.specs.SigningOff as signing
 use Rattle.mpw_signoff.specs.WaiverLines.{waiver_line, rule_line, marker_line, shown_line, lines_from}
-use Rattle.mpw_core.specs.Step.{State}
+use Rattle.mpw_events.specs.Step.{State}
 use Rattle.mpw_secrecy.specs.Views.{BookSeen, MarkerSeen, RuleSeen, RunSeen, SameView, Stage, book_view, checked_view, marker_of, marker_seen, markers_seen, rules_seen, stage_of}
 use Rattle.mpw_secrecy.proofs.Parts.{inside, inside_tells, same_behind, same_session}
 

@@ -25,7 +25,7 @@ use Rattle.mpw_replies.specs.declared.reply.Line.TheVariants as line
 use Rattle.mpw_replies.specs.declared.row.Ending.{Ending}
 use Rattle.mpw_replies.specs.declared.row.Ending.TheVariants as ending
 use Rattle.mpw_layouts.specs.Layouts.{cell_line, cells, cells_of, numbered_at, present_submission, readable_line, readable_shape, shapes, present_number}
-use Rattle.mpw_core.specs.Step.{State}
+use Rattle.mpw_events.specs.Step.{State}
 use Rattle.mpw_secrecy.specs.Views.{CellSeen, ShapeSeen, SameView, shape_of, shape_seen, seen_at, cell_at, cell_view}
 use Rattle.mpw_secrecy.proofs.Names.{apart_both, told_alike}
 use Rattle.mpw_secrecy.proofs.Parts.{allowed_tells, cond_alike, one_alike, same_behind, same_grants, same_permitted, same_session}

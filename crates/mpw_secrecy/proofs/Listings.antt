@@ -24,9 +24,9 @@ use Rattle.mpw_replies.specs.declared.row.Ending.{Ending}
 use Rattle.mpw_layouts.specs.Layouts as layouts
 use Rattle.mpw_wafer.specs.Run.Checking as checking
 use Rattle.mpw_signoff.specs.SigningOff as signing
-use Rattle.mpw_core.specs.declared.event.Event.TheVariants as event
-use Rattle.mpw_core.specs.declared.event.Response.TheVariants as response
-use Rattle.mpw_core.specs.Step.{State, Outcome, after, query_outcome, identity_lines, no_change, outcome_of, over_run, over_shelf, over_waivers, settlement, step, not_kept_response, event_outcome}
+use Rattle.mpw_events.specs.declared.event.Event.TheVariants as event
+use Rattle.mpw_events.specs.declared.event.Response.TheVariants as response
+use Rattle.mpw_events.specs.Step.{State, Outcome, after, query_outcome, identity_lines, no_change, outcome_of, over_run, over_shelf, over_waivers, settlement, step, not_kept_response, event_outcome}
 use Rattle.mpw_secrecy.specs.Questions.{is_listing}
 use Rattle.mpw_secrecy.specs.Secrecy.{EqualViewsGiveEqualListings, ListingsLeaveTheViews, EqualViewsGiveEqualLists}
 use Rattle.mpw_secrecy.specs.Views.{SameView}

@@ -12,7 +12,7 @@ use Rattle.mpw_access.specs.Permitted.{permitted}
 use Rattle.mpw_replies.specs.declared.reply.Denial.TheVariants as denial
 use Rattle.mpw_replies.specs.declared.row.Ending.{Ending}
 use Rattle.mpw_replies.specs.declared.row.Ending.TheVariants as ending
-use Rattle.mpw_core.specs.Step.{State}
+use Rattle.mpw_events.specs.Step.{State}
 use Rattle.mpw_secrecy.specs.Views.{SameView}
 
 -- ---- rows

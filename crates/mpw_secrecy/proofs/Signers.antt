@@ -22,7 +22,7 @@ use Rattle.mpw_signoff.specs.SigningOff as signing
 use Rattle.mpw_waiver.specs.declared.waiver.Waiver.{Waiver}
 use Rattle.mpw_laws.specs.WaiverLaws.{IsApart}
 use Rattle.mpw_waiver.specs.Waivers.{none_asked, signed_by, waiver_at, with_asker, with_signer}
-use Rattle.mpw_core.specs.Step.{State}
+use Rattle.mpw_events.specs.Step.{State}
 use Rattle.mpw_laws.proofs.WaivedLemmas.{waived-history}
 use Rattle.mpw_secrecy.specs.Apart.{EveryStateIsSignedApart, IsSignedApart}
 

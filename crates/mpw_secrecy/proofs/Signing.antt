@@ -40,8 +40,8 @@ use Rattle.mpw_waiver.specs.Signing.{ask_test, least_own_cell, separation_test, 
 use Rattle.mpw_waiver.specs.Waivers.{signed_by, waiver_at}
 use Rattle.mpw_signoff.specs.Named.{Named, found_at, found_by, key_by, named_in, rule_place, with_place}
 use Rattle.mpw_signoff.specs.SigningOff as signing
-use Rattle.mpw_core.specs.declared.event.Response.TheVariants as response
-use Rattle.mpw_core.specs.Step.{State, over_waivers}
+use Rattle.mpw_events.specs.declared.event.Response.TheVariants as response
+use Rattle.mpw_events.specs.Step.{State, over_waivers}
 use Rattle.mpw_secrecy.specs.Secrecy.{IsOrderly}
 use Rattle.mpw_secrecy.specs.Views.{BookSeen, MarkerSeen, SameView, book_view, checked_view, marker_of, markers_seen, rules_seen}
 use Rattle.mpw_secrecy.proofs.Books.{names_from, rule_by_name}

@@ -11,7 +11,7 @@ use Rattle.mpw_run.specs.Step.{book_size}
 use Rattle.mpw_laws.specs.SignOffLaws.{IsSignedOff}
 use Rattle.mpw_waiver.specs.declared.waiver.Waiver.{Waiver}
 use Rattle.mpw_waiver.specs.Waivers.{is_signed, waiver_at}
-use Rattle.mpw_core.specs.Step.{State}
+use Rattle.mpw_events.specs.Step.{State}
 use Rattle.mpw_secrecy.specs.Apart.{AreSignedApart, IsSignedApart}
 use Rattle.mpw_secrecy.specs.Clean.{IsWaived, MayStart}
 

@@ -8,9 +8,9 @@ use Rattle.mpw_run.specs.declared.phase.Phase.TheVariants.{Finished}
 use Rattle.mpw_waiver.specs.declared.waiver.Waiver.{Waiver}
 use Rattle.mpw_laws.specs.WaiverLaws.{IsApart}
 use Rattle.mpw_waiver.specs.Waivers.{waiver_at}
-use Rattle.mpw_core.specs.declared.event.Call.{Call}
-use Rattle.mpw_core.specs.History.{state_after}
-use Rattle.mpw_core.specs.Step.{State, new_state}
+use Rattle.mpw_events.specs.declared.event.Call.{Call}
+use Rattle.mpw_events.specs.History.{state_after}
+use Rattle.mpw_events.specs.Step.{State, new_state}
 
 -- A run is finished, at that place of its book stands a marker, and the signer neither asked for its waiver nor submitted what it meets.
 pub record IsSignedApart (phase : Phase) (place : ℕ) (waiver : Waiver) (signer : Name) :

@@ -15,9 +15,9 @@ use Rattle.mpw_run.specs.declared.phase.Phase.TheVariants.{Finished}
 use Rattle.mpw_waiver.specs.declared.waiver.Waiver.{Waiver}
 use Rattle.mpw_laws.specs.WaiverLaws.{IsApart}
 use Rattle.mpw_waiver.specs.Waivers.{waiver_at}
-use Rattle.mpw_core.specs.declared.event.Event.TheVariants as event
-use Rattle.mpw_core.specs.declared.event.Response.TheVariants as response
-use Rattle.mpw_core.specs.Step.{State, response_of}
+use Rattle.mpw_events.specs.declared.event.Event.TheVariants as event
+use Rattle.mpw_events.specs.declared.event.Response.TheVariants as response
+use Rattle.mpw_events.specs.Step.{State, response_of}
 
 -- There is a waiver of a marker, and one signed it who neither asked for it nor submitted what the marker meets.
 pub record IsWaived (shelf : List Submission) (marker : Marker) (found : Option Waiver) :

@@ -2,9 +2,9 @@
 use Rattle.std.specs.Prelude.{◌≡◌, ℕ, Bool, true, List, [], ◌∷◌, length}
 use Rattle.mpw_requests.specs.declared.request.Request.{Request}
 use Rattle.mpw_run.specs.Step.{IsRun, book_size}
-use Rattle.mpw_core.specs.declared.event.Event.TheVariants as event
-use Rattle.mpw_core.specs.declared.event.Response.{Response}
-use Rattle.mpw_core.specs.Step.{State, after, response_of}
+use Rattle.mpw_events.specs.declared.event.Event.TheVariants as event
+use Rattle.mpw_events.specs.declared.event.Response.{Response}
+use Rattle.mpw_events.specs.Step.{State, after, response_of}
 use Rattle.mpw_secrecy.specs.Questions.{is_listing, is_of_view}
 use Rattle.mpw_secrecy.specs.Views.{SameView}
 

@@ -31,7 +31,7 @@ use Rattle.mpw_run.specs.Step.{Run}
 use Rattle.mpw_waiver.specs.declared.waiver.Waiver.{Waiver}
 use Rattle.mpw_waiver.specs.Signing.{own_cells}
 use Rattle.mpw_waiver.specs.Waivers.{waiver_at}
-use Rattle.mpw_core.specs.Step.{State}
+use Rattle.mpw_events.specs.Step.{State}
 
 -- ---- the session
 

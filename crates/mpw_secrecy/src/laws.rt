@@ -1,5 +1,5 @@
 //! Laws of the definitions alone. Each function calls at most the laws that its own rests on: its contract is the law.
-ghost use Rattle.mpw_core.specs.History.{state_of};
+ghost use Rattle.mpw_events.specs.History.{state_of};
 ghost use Rattle.mpw_secrecy.specs.Apart.{EveryStateIsSignedApart};
 ghost use Rattle.mpw_secrecy.specs.Clean.{CleanWafersMayStart};
 ghost use Rattle.mpw_secrecy.specs.Secrecy.{EqualViewsAreAnsweredAlike, EqualViewsGiveEqualAnswers, EqualViewsGiveEqualAnswersToLists, EqualViewsGiveEqualListings, EqualViewsGiveEqualLists, EqualViewsStayEqual, ListingsLeaveTheViews};

@@ -3,9 +3,9 @@ use Rattle.std.proofs.Common.{◌≡◌, ℕ, Bool, ◌+◌, List, [], ◌∷◌
 use Rattle.std.specs.Prelude.{slice_get}
 use Rattle.std.proofs.lemmas.List.{drop_more}
 use Rattle.std.proofs.lemmas.Option.{slice_get_within, get_or_from_slice_get}
-use Rattle.mpw_core.specs.History.{KeptDesk}
-use Rattle.mpw_core.specs.declared.event.Event.{Event}
-use Rattle.mpw_core.specs.declared.event.Event.TheVariants as event
+use Rattle.mpw_events.specs.History.{KeptDesk}
+use Rattle.mpw_events.specs.declared.event.Event.{Event}
+use Rattle.mpw_events.specs.declared.event.Event.TheVariants as event
 use Rattle.mpw_job.specs.Jobs.{CutWindows}
 use Rattle.mpw_job.specs.declared.job.CutJob.{CutJob}
 use Rattle.mpw_serve.specs.Working.{HandsCut, HandsOver, HandsTile, HandsTiles, WorksCut, WorksOff, WorksTiles, cut_of_call, own_worker}

@@ -1,6 +1,6 @@
 -- A script is one connection over a new desk.
 use Rattle.std.specs.Prelude.{◌≡◌, ℕ, List, Option, None, Result, Ok, Err}
-use Rattle.mpw_core.specs.History.{KeptDesk, new_desk, kept_desk}
+use Rattle.mpw_events.specs.History.{KeptDesk, new_desk, kept_desk}
 use Rattle.mpw_wire.specs.declared.fault.WireFault.{WireFault}
 use Rattle.mpw_wire.specs.Writing.{fault_of}
 use Rattle.mpw_serve.specs.declared.serve.Served.{Served}

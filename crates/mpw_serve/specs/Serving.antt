@@ -4,10 +4,10 @@ use Rattle.std.specs.List.{flat_map}
 use Rattle.std.specs.Io.KnownBytes.{Appends}
 use Rattle.std.specs.Io.Iter.{u64_saturate}
 use Rattle.mpw_requests.specs.declared.request.Request.{Request}
-use Rattle.mpw_core.specs.declared.event.Event.TheVariants as event
-use Rattle.mpw_core.specs.declared.event.Response.{Response}
-use Rattle.mpw_core.specs.declared.event.Response.TheVariants as response
-use Rattle.mpw_core.specs.History.{KeptDesk, IsHandled}
+use Rattle.mpw_events.specs.declared.event.Event.TheVariants as event
+use Rattle.mpw_events.specs.declared.event.Response.{Response}
+use Rattle.mpw_events.specs.declared.event.Response.TheVariants as response
+use Rattle.mpw_events.specs.History.{KeptDesk, IsHandled}
 use Rattle.mpw_wire.specs.declared.fault.WireFault.{WireFault}
 use Rattle.mpw_wire.specs.declared.fault.WireFault.TheVariants.{Read, Write, Memory}
 use Rattle.mpw_serve.specs.declared.serve.End.{End}

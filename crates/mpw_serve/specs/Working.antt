@@ -2,11 +2,11 @@
 -- in order. Want of memory ends it at any place, and leaves the run as it stands.
 use Rattle.std.specs.Prelude.{◌≡◌, ℕ, Bool, true, false, List, [], ◌∷◌, map, Option, None, Some, ◌&&◌}
 use Rattle.std.specs.List.{range_with_len}
-use Rattle.mpw_core.specs.History.{KeptDesk, IsHandled}
-use Rattle.mpw_core.specs.declared.event.Event.{Event}
-use Rattle.mpw_core.specs.declared.event.Event.TheVariants as event
-use Rattle.mpw_core.specs.declared.event.Response.{Response}
-use Rattle.mpw_core.specs.declared.event.Response.TheVariants as response
+use Rattle.mpw_events.specs.History.{KeptDesk, IsHandled}
+use Rattle.mpw_events.specs.declared.event.Event.{Event}
+use Rattle.mpw_events.specs.declared.event.Event.TheVariants as event
+use Rattle.mpw_events.specs.declared.event.Response.{Response}
+use Rattle.mpw_events.specs.declared.event.Response.TheVariants as response
 use Rattle.mpw_job.specs.Carried.{job_of}
 use Rattle.mpw_job.specs.Jobs.{CutWindows}
 use Rattle.mpw_job.specs.Laws.{tile_job_of}

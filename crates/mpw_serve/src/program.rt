@@ -3,6 +3,7 @@
 use crate::fault::{ProgramFault, exit_status};
 use crate::progress::Progress;
 use crate::script::serve_script;
+use mpw_events::Handler;
 use mpw_settings::{Settings, read_settings};
 use mpw_wire::{Counted, WireFault};
 use std::env;
@@ -23,7 +24,7 @@ fn words(rt: &HostRuntime) -> Result<Vec<String>, ProgramFault> {
 }
 
 /// Serves the input to the output as the settings say, and works runs off in these threads.
-fn serve<R: Read + Drop, W: Write + Drop, P: Progress>(
+fn serve<H: Handler + Drop, R: Read + Drop, W: Write + Drop, P: Progress>(
     rt: &HostRuntime,
     threads: &(impl Threads + Sync),
     settings: Settings,
@@ -38,7 +39,7 @@ fn serve<R: Read + Drop, W: Write + Drop, P: Progress>(
     let Ok(output) = BufWriter::new(alloc, output) else {
         return Err(ProgramFault::Memory);
     };
-    let served = serve_script(
+    let served = serve_script::<H, _, _, _>(
         threads,
         alloc,
         settings,
@@ -53,7 +54,7 @@ fn serve<R: Read + Drop, W: Write + Drop, P: Progress>(
 }
 
 /// Reads the command line, and serves.
-fn serve_words<R: Read + Drop, W: Write + Drop, P: Progress>(
+fn serve_words<H: Handler + Drop, R: Read + Drop, W: Write + Drop, P: Progress>(
     rt: &HostRuntime,
     threads: &(impl Threads + Sync),
     input: R,
@@ -63,7 +64,7 @@ fn serve_words<R: Read + Drop, W: Write + Drop, P: Progress>(
     let words = words(rt)?;
     let words: Vec<&str> = words.iter().map(|word| word.as_str()).collect(rt.alloc())?;
     let settings = read_settings(rt.alloc(), words.as_slice())?;
-    serve(rt, threads, settings, input, output, progress)
+    serve::<H, _, _, _>(rt, threads, settings, input, output, progress)
 }
 
 /// Reads the command line, and serves the input to the output as it says; both are buffered here. A fault is told on the
@@ -71,14 +72,14 @@ fn serve_words<R: Read + Drop, W: Write + Drop, P: Progress>(
 ///
 /// The exit status is 0 where the connection ended, 2 at a usage fault, 3 where a device failed, and 5 where memory was
 /// wanting.
-pub fn run<R: Read + Drop, W: Write + Drop, P: Progress>(
+pub fn run<H: Handler + Drop, R: Read + Drop, W: Write + Drop, P: Progress>(
     rt: &HostRuntime,
     threads: &(impl Threads + Sync),
     input: R,
     output: W,
     progress: &mut P,
 ) -> ExitCode {
-    let ended = serve_words(rt, threads, input, output, progress);
+    let ended = serve_words::<H, _, _, _>(rt, threads, input, output, progress);
     if let Err(fault) = &ended {
         let _ = eprintln!(rt; "{fault}");
     }

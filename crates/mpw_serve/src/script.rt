@@ -6,7 +6,7 @@ ghost use Rattle.mpw_serve.specs.Serving.{LeavesNothingPending, write_failures};
 
 use crate::progress::Progress;
 use crate::serve::{Served, serve_core};
-use mpw_core::{Core, NoKeeper};
+use mpw_events::{Handler, NoKeeper};
 use mpw_settings::Settings;
 use mpw_wire::{Sink, Source};
 use std::alloc::{AllocError, Global};
@@ -20,7 +20,7 @@ const CONNECTION: u32 = 1;
 ///
 /// # Errors
 /// Where there is no room for the new desk; nothing is read or written then.
-pub fn serve_script<R: Source, W: Sink, P: Progress>(
+pub fn serve_script<H: Handler + Drop, R: Source, W: Sink, P: Progress>(
     rt: &(impl Threads + Sync),
     alloc: Global,
     settings: Settings,
@@ -34,11 +34,11 @@ pub fn serve_script<R: Source, W: Sink, P: Progress>(
     ensures handed { LeavesNothingPending (fault_told result) (W.pending writer.old) (W.pending writer.new) }
 {
     let Settings::Script { officer, digest } = settings;
-    let mut core = Core::new_boxed(alloc, officer, digest)?;
+    let mut core = H::new_boxed(alloc, officer, digest)?;
     Ok(serve_core(
         rt,
         alloc,
-        &mut core,
+        &mut *core,
         &mut NoKeeper,
         CONNECTION,
         reader,

@@ -1,6 +1,6 @@
 //! Serving a connection: each line gets its reply, in order, until the connection ends.
 ghost use Rattle.std.specs.Prelude.{◌≡◌, ℕ, List, Option};
-ghost use Rattle.mpw_core.specs.History.{KeptDesk, kept_desk};
+ghost use Rattle.mpw_events.specs.History.{KeptDesk, kept_desk};
 ghost use Rattle.mpw_wire.specs.Reading.{read_failures};
 ghost use Rattle.mpw_wire.specs.Writing.{Writes, fault_of};
 ghost use Rattle.mpw_serve.specs.Serving.{Answer, with_end, IsAnswer, answer_text, response_text, ServesLines, IsGone, LeavesNothingPending, Serves, write_failures};
@@ -8,7 +8,7 @@ ghost use Rattle.mpw_serve.specs.Internal.Serving.{answer_of, ServesLine};
 
 use crate::progress::Progress;
 use crate::working::work_behind;
-use mpw_core::{Core, Event, Keeper, Response};
+use mpw_events::{Event, Handler, Keeper, Response};
 use mpw_reply_text::{LineRefusal, write_refusal, write_reply};
 use mpw_requests::SharedRequest;
 use mpw_wire::{Asked, Sink, Source, WireFault, read_request};
@@ -54,16 +54,16 @@ fn write_response<W: Sink>(response: &Response, writer: &mut W) -> Result<(), Wi
 }
 
 /// Has the desk answer a request, and works a run off that is accepted; none where memory is wanting.
-fn handle<K: Keeper, P: Progress>(
+fn handle<H: Handler, K: Keeper, P: Progress>(
     rt: &(impl Threads + Sync),
     alloc: Global,
-    core: &mut Core,
+    core: &mut H,
     keeper: &mut K,
     connection: u32,
     request: SharedRequest,
     progress: &mut P,
 ) -> Option<Response>
-    ensures { IsAnswer connection request (kept_desk core.old (K.kept keeper.old) (K.failures keeper.old)) (answer_of result) (kept_desk core.new (K.kept keeper.new) (K.failures keeper.new)) }
+    ensures { IsAnswer connection request (kept_desk (H.desk core.old) (K.kept keeper.old) (K.failures keeper.old)) (answer_of result) (kept_desk (H.desk core.new) (K.kept keeper.new) (K.failures keeper.new)) }
 {
     let asked = request.copy().ok()?;
     let response = core
@@ -80,17 +80,17 @@ fn handle<K: Keeper, P: Progress>(
 }
 
 /// Answers a request.
-fn answer<K: Keeper, W: Sink, P: Progress>(
+fn answer<H: Handler, K: Keeper, W: Sink, P: Progress>(
     rt: &(impl Threads + Sync),
     alloc: Global,
-    core: &mut Core,
+    core: &mut H,
     keeper: &mut K,
     connection: u32,
     request: SharedRequest,
     writer: &mut W,
     progress: &mut P,
 ) -> Result<(), WireFault>
-    ensures answer { (answer : Answer) × IsAnswer connection request (kept_desk core.old (K.kept keeper.old) (K.failures keeper.old)) answer (kept_desk core.new (K.kept keeper.new) (K.failures keeper.new)) × Writes W.contents W.failures writer.old writer.new result (answer_text answer) }
+    ensures answer { (answer : Answer) × IsAnswer connection request (kept_desk (H.desk core.old) (K.kept keeper.old) (K.failures keeper.old)) answer (kept_desk (H.desk core.new) (K.kept keeper.new) (K.failures keeper.new)) × Writes W.contents W.failures writer.old writer.new result (answer_text answer) }
     ensures handed { LeavesNothingPending (fault_of result) (W.pending writer.old) (W.pending writer.new) }
 {
     match handle(rt, alloc, core, keeper, connection, request, progress) {
@@ -110,17 +110,17 @@ fn with_end(end: Option<End>, written: Result<(), WireFault>) -> Result<Option<E
 }
 
 /// Serves one line. It answers `None` where the connection goes on.
-fn serve_line<K: Keeper, R: Source, W: Sink, P: Progress>(
+fn serve_line<H: Handler, K: Keeper, R: Source, W: Sink, P: Progress>(
     rt: &(impl Threads + Sync),
     alloc: Global,
-    core: &mut Core,
+    core: &mut H,
     keeper: &mut K,
     connection: u32,
     reader: &mut R,
     writer: &mut W,
     progress: &mut P,
 ) -> Result<Option<End>, WireFault>
-    ensures line { ServesLine connection (R.remaining reader.old) (R.remaining reader.new) (W.contents writer.old) (W.contents writer.new) (kept_desk core.old (K.kept keeper.old) (K.failures keeper.old)) (kept_desk core.new (K.kept keeper.new) (K.failures keeper.new)) result }
+    ensures line { ServesLine connection (R.remaining reader.old) (R.remaining reader.new) (W.contents writer.old) (W.contents writer.new) (kept_desk (H.desk core.old) (K.kept keeper.old) (K.failures keeper.old)) (kept_desk (H.desk core.new) (K.kept keeper.new) (K.failures keeper.new)) result }
     ensures reader { R.failures reader.new ≡ read_failures (fault_of result) (R.failures reader.old) }
     ensures writer { W.failures writer.new ≡ write_failures (fault_of result) (W.failures writer.old) }
     ensures handed { LeavesNothingPending (fault_of result) (W.pending writer.old) (W.pending writer.new) }
@@ -148,17 +148,17 @@ fn serve_line<K: Keeper, R: Source, W: Sink, P: Progress>(
 }
 
 /// Serves lines until the connection ends.
-fn serve_lines<K: Keeper, R: Source, W: Sink, P: Progress>(
+fn serve_lines<H: Handler, K: Keeper, R: Source, W: Sink, P: Progress>(
     rt: &(impl Threads + Sync),
     alloc: Global,
-    core: &mut Core,
+    core: &mut H,
     keeper: &mut K,
     connection: u32,
     reader: &mut R,
     writer: &mut W,
     progress: &mut P,
 ) -> Result<End, WireFault>
-    ensures lines { ServesLines connection (R.remaining reader.old) (R.remaining reader.new) (W.contents writer.old) (W.contents writer.new) (kept_desk core.old (K.kept keeper.old) (K.failures keeper.old)) (kept_desk core.new (K.kept keeper.new) (K.failures keeper.new)) result }
+    ensures lines { ServesLines connection (R.remaining reader.old) (R.remaining reader.new) (W.contents writer.old) (W.contents writer.new) (kept_desk (H.desk core.old) (K.kept keeper.old) (K.failures keeper.old)) (kept_desk (H.desk core.new) (K.kept keeper.new) (K.failures keeper.new)) result }
     ensures reader { R.failures reader.new ≡ read_failures (fault_of result) (R.failures reader.old) }
     ensures writer { W.failures writer.new ≡ write_failures (fault_of result) (W.failures writer.old) }
     ensures handed { LeavesNothingPending (fault_of result) (W.pending writer.old) (W.pending writer.new) }
@@ -176,8 +176,8 @@ fn serve_lines<K: Keeper, R: Source, W: Sink, P: Progress>(
 }
 
 /// Hands the desk the connection's end, and tells whether it was handed; it isn't where memory is wanting.
-fn hand_end<K: Keeper>(core: &mut Core, keeper: &mut K, connection: u32) -> bool
-    ensures { IsGone connection (kept_desk core.old (K.kept keeper.old) (K.failures keeper.old)) result (kept_desk core.new (K.kept keeper.new) (K.failures keeper.new)) }
+fn hand_end<H: Handler, K: Keeper>(core: &mut H, keeper: &mut K, connection: u32) -> bool
+    ensures { IsGone connection (kept_desk (H.desk core.old) (K.kept keeper.old) (K.failures keeper.old)) result (kept_desk (H.desk core.new) (K.kept keeper.new) (K.failures keeper.new)) }
 {
     core.handle(keeper, Event::Gone { connection }).is_ok()
 }
@@ -188,17 +188,17 @@ fn hand_end<K: Keeper>(core: &mut Core, keeper: &mut K, connection: u32) -> bool
 /// connection's end. What is accepted is handed to the keeper first, and each reply is flushed. While an accepted `run` is
 /// worked off, progress is told; it takes part in no clause. It costs the lines, and for each request what the core's step
 /// costs.
-pub fn serve_core<K: Keeper, R: Source, W: Sink, P: Progress>(
+pub fn serve_core<H: Handler, K: Keeper, R: Source, W: Sink, P: Progress>(
     rt: &(impl Threads + Sync),
     alloc: Global,
-    core: &mut Core,
+    core: &mut H,
     keeper: &mut K,
     connection: u32,
     reader: &mut R,
     writer: &mut W,
     progress: &mut P,
 ) -> Served
-    ensures served { Serves connection (R.remaining reader.old) (R.remaining reader.new) (W.contents writer.old) (W.contents writer.new) (kept_desk core.old (K.kept keeper.old) (K.failures keeper.old)) (kept_desk core.new (K.kept keeper.new) (K.failures keeper.new)) result }
+    ensures served { Serves connection (R.remaining reader.old) (R.remaining reader.new) (W.contents writer.old) (W.contents writer.new) (kept_desk (H.desk core.old) (K.kept keeper.old) (K.failures keeper.old)) (kept_desk (H.desk core.new) (K.kept keeper.new) (K.failures keeper.new)) result }
     ensures reader { R.failures reader.new ≡ read_failures (fault_of result.ended) (R.failures reader.old) }
     ensures writer { W.failures writer.new ≡ write_failures (fault_of result.ended) (W.failures writer.old) }
     ensures handed { LeavesNothingPending (fault_of result.ended) (W.pending writer.old) (W.pending writer.new) }

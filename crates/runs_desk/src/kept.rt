@@ -1,7 +1,7 @@
 //! Answers of jobs under names.
 
 use anyhow::{Result, bail};
-use mpw_core::{Event, SharedCut, SharedTile};
+use mpw_events::{Event, SharedCut, SharedTile};
 use mpw_geom::Name;
 use mpw_job::{Answer, Job};
 use mpw_work::do_job;

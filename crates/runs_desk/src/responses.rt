@@ -2,7 +2,7 @@
 
 use crate::replies::tell_reply;
 use anyhow::Result;
-use mpw_core::{Call, Response};
+use mpw_events::{Call, Response};
 use mpw_job::Job;
 use mpw_replies::Reply;
 use mpw_run::RunReply;

@@ -82,7 +82,7 @@ pub fn serve(
     let served = serve_core(
         threads,
         alloc,
-        &mut core,
+        &mut *core,
         &mut keeper,
         1,
         &mut reader,

@@ -1,9 +1,10 @@
 //! The program of the desk on a command line that isn't one: it reads and writes nothing, and exits with 2.
 #![tactic(auto)]
 
+use mpw_core::Core;
 use mpw_serve::{Silent, run};
 use std::process::ExitCode;
 
 fn main(rt: HostRuntime) -> ExitCode {
-    run(&rt, &rt, rt.stdin(), rt.stdout(), &mut Silent)
+    run::<Core, _, _, _>(&rt, &rt, rt.stdin(), rt.stdout(), &mut Silent)
 }

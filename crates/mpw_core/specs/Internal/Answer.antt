@@ -13,11 +13,11 @@ use Rattle.mpw_waiver.specs.Waivers.{none_asked, with_asker, with_signer}
 use Rattle.mpw_waiver.specs.declared.waiver.Waiver.{Waiver}
 use Rattle.mpw_core.specs.declared.answer.Next.{Next}
 use Rattle.mpw_core.specs.declared.answer.Next.TheVariants.{Nothing, NextPolicy, NextShelf, NextWafer, Start, Finish, Move, Cancel, Ask, Sign, Restart}
-use Rattle.mpw_core.specs.declared.event.Response.{Response}
-use Rattle.mpw_core.specs.declared.event.Response.TheVariants as response
+use Rattle.mpw_events.specs.declared.event.Response.{Response}
+use Rattle.mpw_events.specs.declared.event.Response.TheVariants as response
 use Rattle.mpw_core.specs.declared.tables.Tables.{Tables}
 use Rattle.mpw_run.specs.Laws.{finishes}
-use Rattle.mpw_core.specs.Step.{State, Outcome, reply_of}
+use Rattle.mpw_events.specs.Step.{State, Outcome, reply_of}
 use Rattle.mpw_core.specs.Answer.{state_of_tables}
 
 -- the refusal is told, and nothing changes; want of memory gives no answer

@@ -1,14 +1,12 @@
 -- What private functions and proofs need of this: what serving one line does.
 use Rattle.std.specs.Prelude.{ℕ, List, [], Option, None, Some, Result, Ok, Err}
 use Rattle.std.specs.Io.KnownBytes.{Appends}
-use Rattle.mpw_core.specs.declared.event.Response.{Response}
-use Rattle.mpw_core.specs.declared.event.Response.TheVariants as response
-use Rattle.mpw_core.specs.History.{KeptDesk}
+use Rattle.mpw_events.specs.declared.event.Response.{Response}
+use Rattle.mpw_events.specs.History.{KeptDesk}
 use Rattle.mpw_wire.specs.declared.fault.WireFault.{WireFault}
 use Rattle.mpw_serve.specs.declared.serve.End.{End}
-use Rattle.mpw_serve.specs.declared.serve.End.TheVariants as end
 use Rattle.mpw_wire.specs.Writing.{fault_of}
-use Rattle.mpw_serve.specs.Serving.{Answer, AnsweredLine, Stop, answered_text, stop_text, IsAnsweredLine, IsStop, Tells, Written, with_end}
+use Rattle.mpw_serve.specs.Serving.{Answer, AnsweredLine, Stop, answered_text, stop_text, IsAnsweredLine, IsStop, Tells, Written}
 
 abbrev pub answer_of : Option Response → Answer
 answer_of None = Answer.starved

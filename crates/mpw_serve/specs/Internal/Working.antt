@@ -1,9 +1,9 @@
 -- What private functions and proofs need of this: the events by which a run is worked off.
 use Rattle.std.specs.Prelude.{◌≡◌, false, Option, Some, IfSome}
-use Rattle.mpw_core.specs.History.{KeptDesk, restarts}
-use Rattle.mpw_core.specs.declared.event.Event.{Event}
-use Rattle.mpw_core.specs.declared.event.Event.TheVariants as event
-use Rattle.mpw_core.specs.declared.event.Response.{Response}
+use Rattle.mpw_events.specs.History.{KeptDesk, restarts}
+use Rattle.mpw_events.specs.declared.event.Event.{Event}
+use Rattle.mpw_events.specs.declared.event.Event.TheVariants as event
+use Rattle.mpw_events.specs.declared.event.Response.{Response}
 use Rattle.mpw_job.specs.declared.job.CutJob.{CutJob}
 use Rattle.mpw_serve.specs.Working.{own_worker, CameOf, cut_of_call}
 

@@ -3,7 +3,7 @@ use Rattle.mpw_job.specs.Jobs.{CutWindows, FoundMarkers}
 use Rattle.mpw_run.specs.Prepared.{IsPrepared}
 use Rattle.mpw_run.specs.Step as run
 use Rattle.mpw_core.specs.Internal.Answer.{open_state}
-use Rattle.mpw_core.specs.Step.{State, event_outcome}
+use Rattle.mpw_events.specs.Step.{State, event_outcome}
 use Rattle.mpw_core.proofs.answer.prepare.Goals as goal
 
 pub returns-in_ok-prepare_take-in-Take : goal.returns-in_ok-prepare_take-in-Take

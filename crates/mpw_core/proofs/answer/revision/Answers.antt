@@ -2,7 +2,7 @@
 use Rattle.std.proofs.Common.{◌≡◌, subst, IfErr, OnOk, Ok}
 use Rattle.mpw_rbac.specs.Policy.{Policy}
 use Rattle.mpw_rbac.specs.Rows.{IsFaultOf}
-use Rattle.mpw_core.specs.PolicyRows.{row_of}
+use Rattle.mpw_events.specs.PolicyRows.{row_of}
 use Rattle.mpw_core.proofs.answer.revision.Goals as goal
 
 pub returns : goal.returns

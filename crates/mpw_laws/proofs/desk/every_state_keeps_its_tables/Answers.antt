@@ -2,7 +2,7 @@ use Rattle.std.proofs.Common.{ℕ}
 use Rattle.mpw_rbac_laws.specs.Existing.{AreTablesSound, KeepsTables}
 use Rattle.mpw_requests.specs.declared.policy.PolicyRequest.{PolicyRequest}
 use Rattle.mpw_requests.specs.declared.policy.PolicyRequest.TheVariants.{Open, Close, Activate, DropRole, AddUser, DelUser, AddRole, DelRole, Assign, Deassign, Grant, Revoke, Inherit, Uninherit, Ssd, Dsd, UnSsd, UnDsd}
-use Rattle.mpw_core.specs.PolicyRows.{row_of}
+use Rattle.mpw_events.specs.PolicyRows.{row_of}
 use Rattle.mpw_laws.proofs.KeptLemmas.{kept-history}
 use Rattle.mpw_laws.proofs.desk.every_state_keeps_its_tables.Goals as goal
 

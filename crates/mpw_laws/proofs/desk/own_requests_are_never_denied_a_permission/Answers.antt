@@ -6,7 +6,7 @@ use Rattle.mpw_rbac.specs.Policy.{Policy}
 use Rattle.mpw_requests.specs.declared.policy.PolicyRequest.{PolicyRequest}
 use Rattle.mpw_requests.specs.declared.policy.PolicyRequest.TheVariants.{Open, Close, Activate, DropRole, AddUser, DelUser, AddRole, DelRole, Assign, Deassign, Grant, Revoke, Inherit, Uninherit, Ssd, Dsd, UnSsd, UnDsd}
 use Rattle.mpw_replies.specs.declared.reply.Denial.TheVariants as denial
-use Rattle.mpw_core.specs.PolicyRows.{row_of}
+use Rattle.mpw_events.specs.PolicyRows.{row_of}
 use Rattle.mpw_laws.specs.Requested.{is_administration}
 use Rattle.mpw_laws.proofs.DenialLemmas.{denied-row}
 use Rattle.mpw_laws.proofs.desk.own_requests_are_never_denied_a_permission.Goals as goal

@@ -1,4 +1,4 @@
-use Rattle.mpw_core.specs.History.{state_of}
+use Rattle.mpw_events.specs.History.{state_of}
 use Rattle.mpw_secrecy.proofs.Started.{may_start}
 use Rattle.mpw_secrecy.proofs.laws.clean_wafers_may_start.Goals as goal
 

@@ -1,4 +1,4 @@
-use Rattle.mpw_core.specs.History.{state_of}
+use Rattle.mpw_events.specs.History.{state_of}
 use Rattle.mpw_secrecy.proofs.laws.desks_of_equal_views_answer_alike.Goals as goal
 
 pub returns : goal.returns

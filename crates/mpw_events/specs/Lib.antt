@@ -1,0 +1,4 @@
+pub mod History
+pub mod Keeping
+pub mod PolicyRows
+pub mod Step
