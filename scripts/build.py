@@ -7,8 +7,8 @@ The toolchain's `rattle` proves each crate from nothing over the libraries that 
 isn't proved; the program is compiled by its own compiler, which takes three seconds where clang takes fifty, for code that is as
 fast. What the gate tries besides, as wrong bodies and the layout of the texts, is left to the gate. A crate begins as soon
 as those below are proved, where a processor and memory are free for it, that with the longest chain of crates above it first. It takes
-one process, since several read and check again two fifths of what one does, be they two or four, and all where more than one processor
-would else be idle; the longer the chains of those beside it, the lower is its priority.
+one process, since each further one reads and checks again what the others did, and more where processors would else be idle, or where
+no crate has a longer chain; the longer the chains of those beside it, the lower is its priority.
 
 A library stays in the folder out/rlib of its crate, with a sum of all that it was made of: so a build that was broken off goes on
 where it stood, and another program's proves only what it has not in common. The way is told on the standard error.
@@ -36,6 +36,8 @@ NICER = 3
 # The bytes of sources that take a proof as long as the least that each takes, and as each crate below does.
 LEAST = 4800
 REACH = 300
+# The least processes of the proof that most others wait for.
+FIRST = 2
 # The last line of a check that proved a crate, without a word that would leave something out of that, and what stands behind it
 # where the crate was compiled.
 VERDICT = re.compile(
@@ -215,11 +217,12 @@ def free():
         return int(re.search(r"MemAvailable:\s+(\d+)", file.read())[1])
 
 
-def shares(ready, running, processors):
-    """Returns how many processes the proof of the first that is ready takes, where those of the crates in running take so many each: as
-    many as there are processors where more than one of these would be idle, and else one."""
-    idle = processors - sum(running.values()) - (len(ready) - 1)
-    return processors if idle > 1 else 1
+def shares(crate, ready, running, chain, processors):
+    """Returns how many processes its proof takes, where those crates are running and it begins before the others that are ready. Each of
+    these and of those counts as one: where few crates are left, all processors are each one's."""
+    idle = processors - len(running) - (len(ready) - 1)
+    is_first = all(chain[it] <= chain[crate] for it in running)
+    return max(min(FIRST, processors) if is_first else 1, min(processors, idle))
 
 
 def prove_all(crates, toolchain):
@@ -230,21 +233,19 @@ def prove_all(crates, toolchain):
         if crate.root == "src/lib.rt" and done.issuperset(crate.below) and crate.is_kept(toolchain):
             done.add(crate)
             left.remove(crate)
-    lanes, running, taken, total, failed = max(1, min(processors, free() // MEMORY)), {}, {}, len(left), None
+    lanes, running, total, failed = max(1, min(processors, free() // MEMORY)), {}, len(left), None
     with concurrent.futures.ThreadPoolExecutor(lanes) as pool:
         while running or left and not failed:
             ready = [it for it in left if not failed and done.issuperset(it.uses)]
             while ready and len(running) < lanes:
                 crate = ready[0]
                 left.remove(crate)
-                jobs = shares(ready, taken, processors)
-                waited_for = sum(chain[it] > chain[crate] for it in taken)
+                jobs = shares(crate, ready, running.values(), chain, processors)
+                waited_for = sum(chain[it] > chain[crate] for it in running.values())
                 running[pool.submit(prove, crate, toolchain, jobs, NICER * waited_for)] = crate
-                taken[crate] = jobs
                 ready = ready[1:]
             for it in concurrent.futures.wait(running, return_when=concurrent.futures.FIRST_COMPLETED).done:
                 crate, why = running.pop(it), it.result()
-                del taken[crate]
                 if why:
                     failed = failed or f"{crate.name}:\n{why}"
                     continue
