@@ -49,6 +49,9 @@ COMPILED = re.compile(r"note: .* may call itself, .*|built: backend=rattle .*")
 PASSED = re.compile(r"(statements|logic) .*|fn \S+: proved")
 # What tells of a library of an earlier build.
 KEPT = "out/rlib/kept"
+# Where a folder is kept in memory, and what has to be free there, in bytes.
+IN_MEMORY = "/dev/shm"
+ROOM = 4_000_000_000
 
 
 def say(text):
@@ -191,7 +194,7 @@ def prove(crate, toolchain, jobs, nice):
     wanted = crate.wanted(toolchain)
     words = [*toolchain.build(), *crate.words(toolchain), "--jobs", str(jobs)]
     if crate.root == "src/main.rt":
-        with tempfile.TemporaryDirectory(prefix="mpw-build-") as room:
+        with tempfile.TemporaryDirectory() as room:
             made, program = f"{room}/{crate.name}.o", f"{room}/{crate.name}"
             well, text = run(crate, [*words, *toolchain.compiler(), "-o", made], nice)
             well = well and is_proved(text)
@@ -209,6 +212,14 @@ def prove(crate, toolchain, jobs, nice):
     with open(f"{crate.folder}/{KEPT}", "w", encoding="utf-8") as file:
         json.dump({**wanted, "build": secrets.token_hex(16)}, file)
     return None
+
+
+def place():
+    """Returns where the temporary files of all checks go: in memory where there is room, or nothing for the system's own place. A check
+    writes some ten thousand small files, reads and removes them; on a disk those at it wait for one another."""
+    if "TMPDIR" in os.environ or not os.access(IN_MEMORY, os.W_OK | os.X_OK):
+        return None
+    return IN_MEMORY if shutil.disk_usage(IN_MEMORY).free >= ROOM else None
 
 
 def free():
@@ -262,8 +273,9 @@ def main(words):
         say(f"{words[0]} is no program of this repository")
         return 2
     say(f"proving and building {words[0]}; docs/PROVING.md tells how long that takes where nothing is proved yet")
-    with open(f"{TOP}/crates.txt", encoding="utf-8") as lock:
+    with open(f"{TOP}/crates.txt", encoding="utf-8") as lock, tempfile.TemporaryDirectory(prefix="mpw-build-", dir=place()) as room:
         fcntl.flock(lock, fcntl.LOCK_EX)
+        os.environ["TMPDIR"] = room
         failed = prove_all(crates_of(words[0]), Toolchain())
     if failed:
         told = "\n".join(it for it in failed.splitlines() if not PASSED.fullmatch(it))
