@@ -10,7 +10,7 @@ pub trait Progress {
 }
 
 /// Tells nobody.
-#[derive(Clone, Copy, Debug, PartialEq, Eq)]
+#[derive(Clone, Copy, PartialEq, Eq)]
 pub struct Silent;
 
 impl Progress for Silent {

@@ -6,14 +6,14 @@ ghost use Rattle.mpw_geom.specs.Plane.{box_at, box_between, has_point, intersect
 ghost use Rattle.mpw_geom.specs.declared.plane.Point.{Point};
 
 /// A point, in nm.
-#[derive(Clone, Copy, Debug, PartialEq, Eq)]
+#[derive(Clone, Copy, PartialEq, Eq)]
 pub struct Point {
     pub x: i64,
     pub y: i64,
 }
 
 /// The closed box from `(x0, y0)` to `(x1, y1)`, in nm, with `x0 <= x1` and `y0 <= y1`.
-#[derive(Clone, Copy, Debug, PartialEq, Eq)]
+#[derive(Clone, Copy, PartialEq, Eq)]
 pub struct Box2 {
     pub x0: i64,
     pub y0: i64,

@@ -9,14 +9,14 @@ use mpw_geom::Box2;
 use std::alloc::{AllocError, Global};
 
 /// A rectangle of a shape where it is placed, in nm, and the number of the submission from which the shape comes.
-#[derive(Clone, Copy, Debug, PartialEq, Eq)]
+#[derive(Clone, Copy, PartialEq, Eq)]
 pub struct Rectangle {
     pub area: Box2,
     pub origin: u32,
 }
 
 /// A box, and the place of its answer.
-#[derive(Clone, Copy, Debug, PartialEq, Eq)]
+#[derive(Clone, Copy, PartialEq, Eq)]
 pub(crate) struct Item {
     pub place: usize,
     pub area: Box2,

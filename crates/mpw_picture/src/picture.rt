@@ -11,7 +11,7 @@ use mpw_tiles::{Rectangle, Snapshot};
 use std::alloc::{AllocError, Global};
 
 /// A marker in a picture: its closed box, in nm, and its rule's place in the deck.
-#[derive(Clone, Copy, Debug, PartialEq, Eq)]
+#[derive(Clone, Copy, PartialEq, Eq)]
 pub struct Mark {
     pub area: Box2,
     pub rule: u32,

@@ -7,7 +7,7 @@ use mpw_geom::Box2;
 use std::alloc::Global;
 
 /// A row with a pair of edges that a rule finds too near, by the order of markers: axis 0 is `V`, axis 1 `H`.
-#[derive(Clone, Copy, Debug, PartialEq, Eq, PartialOrd, Ord)]
+#[derive(Clone, Copy, PartialEq, Eq, PartialOrd, Ord)]
 struct Step {
     rule: u32,
     axis: u8,

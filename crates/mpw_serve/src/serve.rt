@@ -19,7 +19,7 @@ use std::thread::Threads;
 pub const MAX_LINES: usize = 4096;
 
 /// How a connection ended.
-#[derive(Clone, Copy, Debug, PartialEq, Eq)]
+#[derive(Clone, Copy, PartialEq, Eq)]
 pub enum End {
     /// The input was read to its end.
     Closed,
@@ -34,7 +34,7 @@ pub enum End {
 }
 
 /// What came of a connection.
-#[derive(Clone, Copy, Debug, PartialEq, Eq)]
+#[derive(Clone, Copy, PartialEq, Eq)]
 pub struct Served {
     /// How it ended, or the device that failed: `Read` the source, and `Write` the sink.
     pub ended: Result<End, WireFault>,
