@@ -6,9 +6,9 @@
 The toolchain's `rattle` proves each crate from nothing over the libraries that it built of the crates below, and builds none that
 isn't proved; the program is compiled by its own compiler, which takes three seconds where clang takes fifty, for code that is as
 fast. What the gate tries besides, as wrong bodies and the layout of the texts, is left to the gate. A crate begins as soon
-as those below are proved, where a processor and memory are free for it, that with the longest chain of crates above it first. It takes
-one process, since each further one reads and checks again what the others did, and more where processors would else be idle, or where
-no crate has a longer chain; the longer the chains of those beside it, the lower is its priority.
+as those below are proved, where there is memory for it, that with the longest chain of crates above it first, one more at a time than
+there are processors. It takes one process, since each further one reads and checks again what the others did, and more where
+processors would else be idle; the longer the chains of those beside it, the lower is its priority.
 
 A library stays in the folder out/rlib of its crate, with a sum of all that it was made of: so a build that was broken off goes on
 where it stood, and another program's proves only what it has not in common. The way is told on the standard error.
@@ -36,8 +36,6 @@ NICER = 3
 # The bytes of sources that take a proof as long as the least that each takes, and as each crate below does.
 LEAST = 4800
 REACH = 300
-# The least processes of the proof that most others wait for.
-FIRST = 2
 # The last line of a check that proved a crate, without a word that would leave something out of that, and what stands behind it
 # where the crate was compiled.
 VERDICT = re.compile(
@@ -110,10 +108,14 @@ class Crate:
         return sorted(f"{at}/{it}" for at, _, names in walked for it in names)
 
     @functools.cached_property
+    def sources(self):
+        """The bytes of its sources: lemmas take little of a proof."""
+        return sum(os.path.getsize(it) for it in self.files if it.startswith(f"{self.folder}/src/"))
+
+    @property
     def size(self):
-        """What its proof takes, by the bytes of its sources and by the crates below: lemmas take little."""
-        sources = (it for it in self.files if it.startswith(f"{self.folder}/src/"))
-        return sum(os.path.getsize(it) for it in sources) + LEAST + REACH * len(self.below)
+        """What its proof takes, by the bytes of its sources and by the crates below."""
+        return self.sources + LEAST + REACH * len(self.below)
 
     @functools.cached_property
     def sum(self):
@@ -228,12 +230,14 @@ def free():
         return int(re.search(r"MemAvailable:\s+(\d+)", file.read())[1])
 
 
-def shares(crate, ready, running, chain, processors):
-    """Returns how many processes its proof takes, where those crates are running and it begins before the others that are ready. Each of
-    these and of those counts as one: where few crates are left, all processors are each one's."""
+def shares(crate, ready, running, left, processors):
+    """Returns how many processes its proof takes, where those crates are running, it begins before the others that are ready, and these
+    are left. Each of the running and ready counts as one, and it takes what they leave. Where fewer are left beside it than there are
+    processors, it takes all: the others share them with it. No process is worth its reading for fewer bytes than a proof's least."""
+    beside = sum(crate not in it.below for it in (*running, *left))
     idle = processors - len(running) - (len(ready) - 1)
-    is_first = all(chain[it] <= chain[crate] for it in running)
-    return max(min(FIRST, processors) if is_first else 1, min(processors, idle))
+    wanted = processors if beside < processors else idle
+    return max(1, min(wanted, processors, -(-crate.sources // LEAST)))
 
 
 def prove_all(crates, toolchain):
@@ -244,14 +248,14 @@ def prove_all(crates, toolchain):
         if crate.root == "src/lib.rt" and done.issuperset(crate.below) and crate.is_kept(toolchain):
             done.add(crate)
             left.remove(crate)
-    lanes, running, total, failed = max(1, min(processors, free() // MEMORY)), {}, len(left), None
+    lanes, running, total, failed = max(1, min(processors + 1, free() // MEMORY)), {}, len(left), None
     with concurrent.futures.ThreadPoolExecutor(lanes) as pool:
         while running or left and not failed:
             ready = [it for it in left if not failed and done.issuperset(it.uses)]
             while ready and len(running) < lanes:
                 crate = ready[0]
                 left.remove(crate)
-                jobs = shares(crate, ready, running.values(), chain, processors)
+                jobs = shares(crate, ready, running.values(), left, processors)
                 waited_for = sum(chain[it] > chain[crate] for it in running.values())
                 running[pool.submit(prove, crate, toolchain, jobs, NICER * waited_for)] = crate
                 ready = ready[1:]
