@@ -17,18 +17,12 @@
 //! - `fill CONN N` ends a connection until the history has room for N calls.
 #![tactic(auto)]
 
-mod forged;
-mod kept;
-mod replies;
-mod requests;
-mod responses;
 mod table;
-mod words;
 
 use crate::table::Table;
 use anyhow::{Result, bail};
+use mpw_words::number;
 use std::fs;
-use words::number;
 
 /// Begins with a new desk that is asked what a data file says.
 fn begin(rt: &HostRuntime, table: &mut Table, name: &str) -> Result<()> {

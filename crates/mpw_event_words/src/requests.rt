@@ -1,6 +1,6 @@
 //! Requests by their words.
 
-use crate::words::{digest, distance, name, object, operation};
+use crate::words::{digest, name, object, operation};
 use anyhow::{Result, bail};
 use mpw_deck::DeckText;
 use mpw_geom::{Orient, Placing, Point};
@@ -10,6 +10,7 @@ use mpw_requests::{
     LayoutRequest, PolicyRequest, Request, RunRequest, SharedRequest, WaferRequest,
 };
 use mpw_samples::text_of_library;
+use mpw_words::coordinate;
 use std::alloc::{AllocError, Global};
 
 /// The text of a deck's lines, which stand behind one another with `; ` between them.
@@ -41,8 +42,8 @@ fn submission(alloc: Global, cell: &str, top: &str, notation: &str) -> Result<Sh
 /// To place a cell as it is drawn, so far away.
 fn placement(alloc: Global, cell: &str, label: &str, x: &str, y: &str) -> Result<SharedRequest> {
     let by = Point {
-        x: distance(x)?,
-        y: distance(y)?,
+        x: coordinate(x)?,
+        y: coordinate(y)?,
     };
     let placing = Placing {
         orient: Orient::R0,
@@ -122,7 +123,10 @@ fn assignment(alloc: Global, words: &[&str]) -> Result<PolicyRequest> {
     }
 }
 
-/// The request of some words, with a library or a deck.
+/// The request of some words, with a library in the notation of `mpw_samples`, or a deck's lines with `; ` between them.
+///
+/// # Errors
+/// Where the words are none of a request, or there is no memory.
 pub fn request(alloc: Global, words: &[&str], payload: &str) -> Result<SharedRequest> {
     match words {
         ["submit", cell, top] => submission(alloc, cell, top, payload),

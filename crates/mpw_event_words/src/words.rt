@@ -22,24 +22,11 @@ const OPERATIONS: [(&str, Operation); 11] = [
 ];
 
 /// The name that a word is.
+///
+/// # Errors
+/// Where it is none, or there is no memory.
 pub fn name(alloc: Global, word: &str) -> Result<Name> {
     Ok(Name::read(alloc, word.as_bytes())?)
-}
-
-/// The number that a word is.
-pub fn number(word: &str) -> Result<u32> {
-    match word.parse::<u32>() {
-        Ok(number) => Ok(number),
-        Err(_) => bail!("a number"),
-    }
-}
-
-/// A distance, in nm.
-pub fn distance(word: &str) -> Result<i64> {
-    match word.parse::<i64>() {
-        Ok(number) => Ok(number),
-        Err(_) => bail!("a distance"),
-    }
 }
 
 /// What stands for a token's digest: its bytes, and zeros behind them.

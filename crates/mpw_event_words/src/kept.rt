@@ -21,7 +21,10 @@ pub struct Kept {
     work: JobAnswer,
 }
 
-/// Does a job.
+/// Does a job. It takes what the job takes.
+///
+/// # Errors
+/// Where there is no memory.
 pub fn work(alloc: Global, job: &Job) -> Result<JobAnswer, AllocError> {
     match do_job(alloc, job)? {
         Answer::Cut(answer) => Ok(JobAnswer::Cut(SharedCut::new(alloc, answer)?)),
@@ -30,11 +33,17 @@ pub fn work(alloc: Global, job: &Job) -> Result<JobAnswer, AllocError> {
 }
 
 /// Keeps what came of a job under a name.
+///
+/// # Errors
+/// Where there is no memory.
 pub fn keep(kept: &mut Vec<Kept>, name: Name, work: JobAnswer) -> Result<()> {
     Ok(kept.push(Kept { name, work })?)
 }
 
-/// What is kept under a name. The latest counts.
+/// What is kept under a name, of which the latest counts, by a look at each.
+///
+/// # Errors
+/// Where nothing is.
 pub fn find<'a>(kept: &'a [Kept], name: &str) -> Result<&'a JobAnswer> {
     let mut found = None;
     for one in kept {
@@ -49,6 +58,9 @@ pub fn find<'a>(kept: &'a [Kept], name: &str) -> Result<&'a JobAnswer> {
 }
 
 /// The cut that is kept under a name.
+///
+/// # Errors
+/// Where nothing is, or a tile's answer.
 pub fn find_cut<'a>(kept: &'a [Kept], name: &str) -> Result<&'a SharedCut> {
     match find(kept, name)? {
         JobAnswer::Cut(answer) => Ok(answer),
@@ -56,7 +68,10 @@ pub fn find_cut<'a>(kept: &'a [Kept], name: &str) -> Result<&'a SharedCut> {
     }
 }
 
-/// The tile that is kept under a name.
+/// The tile's answer that is kept under a name.
+///
+/// # Errors
+/// Where nothing is, or a cut.
 pub fn find_tile<'a>(kept: &'a [Kept], name: &str) -> Result<&'a SharedTile> {
     match find(kept, name)? {
         JobAnswer::Tile(answer) => Ok(answer),
@@ -65,6 +80,9 @@ pub fn find_tile<'a>(kept: &'a [Kept], name: &str) -> Result<&'a SharedTile> {
 }
 
 /// The event that hands in what came of a job.
+///
+/// # Errors
+/// Where there is no memory.
 pub fn event_of(work: &JobAnswer) -> Result<Event, AllocError> {
     match work {
         JobAnswer::Cut(answer) => Ok(Event::Cut(answer.copy()?)),

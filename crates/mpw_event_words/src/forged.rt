@@ -4,12 +4,18 @@ use mpw_job::{CutAnswer, CutJob, Job, TileJob};
 use std::alloc::{AllocError, Global};
 
 /// The job of cutting what another answer cut, of a run of that number.
+///
+/// # Errors
+/// Where there is no memory.
 pub fn cut_job(alloc: Global, run: u32, of: &CutAnswer) -> Result<Job, AllocError> {
     let snapshot = of.job().snapshot.copy(alloc)?;
     Ok(Job::Cut(CutJob { run, snapshot }))
 }
 
 /// The job of a run and a tile of those numbers, with the core, the window and the rules of others.
+///
+/// # Errors
+/// Where there is no memory.
 pub fn tile_job(
     run: u32,
     tile: u32,

@@ -1,11 +1,12 @@
-//! Responses, told.
+//! Calls of the desk, and their responses, told.
 
 use crate::replies::tell_reply;
 use anyhow::Result;
-use mpw_events::{Call, Response};
+use mpw_events::{Call, Event, Response};
 use mpw_job::Job;
 use mpw_replies::Reply;
 use mpw_run::RunReply;
+use std::alloc::{AllocError, Global};
 
 /// The word of what the run answers.
 fn run_word(reply: &RunReply) -> &'static str {
@@ -59,7 +60,8 @@ fn is_alike(a: &Response, b: &Response) -> bool {
     word(a) == word(b) && count(a) == count(b) && handed_out(a) == handed_out(b)
 }
 
-/// How many calls are answered otherwise than those in their places.
+/// How many calls are answered otherwise than those in their places: by another word, with more or fewer lines, or with another
+/// job's numbers.
 pub fn different(calls: &[Call], others: &[Call]) -> usize {
     let mut different = 0usize;
     for (a, b) in calls.iter().zip(others) {
@@ -83,7 +85,10 @@ fn tell_job(rt: &impl Print, job: &Job) -> Result<()> {
     }
 }
 
-/// Tells a response.
+/// Tells a response, in lines that begin with four blanks.
+///
+/// # Errors
+/// Where it can't be printed, or isn't one of those that are told.
 pub fn tell_response(rt: &impl Print, response: &Response) -> Result<()> {
     match response {
         Response::Told(reply) => tell_reply(rt, reply),
@@ -92,5 +97,31 @@ pub fn tell_response(rt: &impl Print, response: &Response) -> Result<()> {
             reply => Ok(println!(rt; "    {}", run_word(reply))?),
         },
         _ => Ok(println!(rt; "    {}", word(response))?),
+    }
+}
+
+/// The events of calls, in order.
+///
+/// # Errors
+/// Where there is no memory.
+pub fn events_of(alloc: Global, calls: &[Call]) -> Result<Vec<Event>, AllocError> {
+    let mut events = Vec::new(alloc);
+    for call in calls {
+        events.push(call.event.copy()?)?;
+    }
+    Ok(events)
+}
+
+/// A copy of the job that a response hands out, or nothing.
+///
+/// # Errors
+/// Where there is no memory.
+pub fn job_of(alloc: Global, response: &Response) -> Result<Option<Job>, AllocError> {
+    match response {
+        Response::Run(reply) => match reply.get() {
+            RunReply::Taken(job) => Ok(Some(job.copy(alloc)?)),
+            _ => Ok(None),
+        },
+        _ => Ok(None),
     }
 }
