@@ -15,18 +15,17 @@ mod keeper;
 mod limit;
 mod restart;
 mod serving;
-mod transcript;
 
 use anyhow::Result;
 use devices::tell_flushes;
 use digests::tell_digests;
 use keeper::Fails;
 use limit::fill_a_history;
+use mpw_transcripts::{Transcript, read_transcript};
 use restart::restart_desks;
 use serving::{Devices, Served, gone_words, is_closed, is_front, pending_words, serve};
 use std::fs;
 use std::thread::Threads;
-use transcript::{Transcript, read_transcript};
 
 /// A line of the standard input.
 #[derive(Clone, Copy)]

@@ -2,11 +2,11 @@
 
 use crate::devices::{Paper, Text};
 use crate::keeper::{Fails, MemoryKeeper};
-use crate::transcript::Transcript;
 use mpw_core::Core;
 use mpw_geom::Name;
 use mpw_requests::digest_of;
 use mpw_serve::{End, Silent, serve_core};
+use mpw_transcripts::Transcript;
 use mpw_wire::WireFault;
 use std::alloc::{AllocError, Global};
 use std::thread::Threads;

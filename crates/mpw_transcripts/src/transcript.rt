@@ -38,7 +38,9 @@ impl<T: Drop> From<AllocFailed<T>> for TranscriptFault {
 /// A script and the replies that are written for it.
 #[derive(Drop)]
 pub struct Transcript {
+    /// What the desk reads.
     pub input: Vec<u8>,
+    /// What it writes.
     pub replies: Vec<u8>,
 }
 
@@ -180,6 +182,9 @@ fn push(alloc: Global, script: &mut Transcript, line: &str) -> Result<(), Transc
 }
 
 /// The script that a text is.
+///
+/// # Errors
+/// `Form` at a line of no form, `Memory` where there is none.
 pub fn read_transcript(alloc: Global, text: &str) -> Result<Transcript, TranscriptFault> {
     let mut script = Transcript {
         input: Vec::new(alloc),
