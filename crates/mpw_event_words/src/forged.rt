@@ -1,4 +1,7 @@
 //! Jobs with parts of others.
+ghost use Rattle.std.specs.Prelude.{◌≡◌, IfOk};
+ghost use Rattle.mpw_job.specs.declared.job.CutJob.{CutJob};
+ghost use Rattle.mpw_job.specs.declared.job.Job.TheVariants.{Cut, Tile};
 
 use mpw_job::{CutAnswer, CutJob, Job, TileJob};
 use std::alloc::{AllocError, Global};
@@ -7,7 +10,9 @@ use std::alloc::{AllocError, Global};
 ///
 /// # Errors
 /// Where there is no memory.
-pub fn cut_job(alloc: Global, run: u32, of: &CutAnswer) -> Result<Job, AllocError> {
+pub fn cut_job(alloc: Global, run: u32, of: &CutAnswer) -> Result<Job, AllocError>
+    ensures { IfOk result (λ job. job ≡ Cut (record { run = run; snapshot = of.now.job.snapshot })) }
+{
     let snapshot = of.job().snapshot.copy(alloc)?;
     Ok(Job::Cut(CutJob { run, snapshot }))
 }
@@ -22,7 +27,9 @@ pub fn tile_job(
     core: &TileJob,
     window: &TileJob,
     rules: &TileJob,
-) -> Result<Job, AllocError> {
+) -> Result<Job, AllocError>
+    ensures { IfOk result (λ job. job ≡ Tile (record { run = run; tile = tile; core = core.now.core; window = window.now.window; rules = rules.now.rules })) }
+{
     core.is_tile_job();
     rules.is_tile_job();
     let window = window.window().copy()?;

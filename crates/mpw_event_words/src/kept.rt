@@ -1,4 +1,6 @@
 //! Answers of jobs under names.
+ghost use Rattle.std.specs.Prelude.{◌≡◌, ◌++◌, ◌∷◌, [], IfOk, OnOk};
+ghost use Rattle.mpw_event_words.specs.Kept.{event_of, job_of};
 
 use anyhow::{Result, bail};
 use mpw_events::{Event, SharedCut, SharedTile};
@@ -17,15 +19,17 @@ pub enum JobAnswer {
 /// What came of a job, under a name.
 #[derive(Drop)]
 pub struct Kept {
-    name: Name,
-    work: JobAnswer,
+    pub name: Name,
+    pub work: JobAnswer,
 }
 
 /// Does a job. It takes what the job takes.
 ///
 /// # Errors
 /// Where there is no memory.
-pub fn work(alloc: Global, job: &Job) -> Result<JobAnswer, AllocError> {
+pub fn work(alloc: Global, job: &Job) -> Result<JobAnswer, AllocError>
+    ensures { IfOk result (λ work. job_of work ≡ job.now) }
+{
     match do_job(alloc, job)? {
         Answer::Cut(answer) => Ok(JobAnswer::Cut(SharedCut::new(alloc, answer)?)),
         Answer::Tile(answer) => Ok(JobAnswer::Tile(SharedTile::new(alloc, answer)?)),
@@ -36,7 +40,9 @@ pub fn work(alloc: Global, job: &Job) -> Result<JobAnswer, AllocError> {
 ///
 /// # Errors
 /// Where there is no memory.
-pub fn keep(kept: &mut Vec<Kept>, name: Name, work: JobAnswer) -> Result<()> {
+pub fn keep(kept: &mut Vec<Kept>, name: Name, work: JobAnswer) -> Result<()>
+    ensures { OnOk result (kept.new.items ≡ kept.old.items ++ record { name = name; work = work } ∷ []) }
+{
     Ok(kept.push(Kept { name, work })?)
 }
 
@@ -83,7 +89,9 @@ pub fn find_tile<'a>(kept: &'a [Kept], name: &str) -> Result<&'a SharedTile> {
 ///
 /// # Errors
 /// Where there is no memory.
-pub fn event_of(work: &JobAnswer) -> Result<Event, AllocError> {
+pub fn event_of(work: &JobAnswer) -> Result<Event, AllocError>
+    ensures { IfOk result (λ event. event ≡ event_of work.now) }
+{
     match work {
         JobAnswer::Cut(answer) => Ok(Event::Cut(answer.copy()?)),
         JobAnswer::Tile(answer) => Ok(Event::Tile(answer.copy()?)),

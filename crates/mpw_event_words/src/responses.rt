@@ -1,4 +1,6 @@
 //! Calls of the desk, and their responses, told.
+ghost use Rattle.std.specs.Prelude.{◌≡◌, IfOk, map};
+ghost use Rattle.mpw_event_words.specs.Responses.{event_in, is_accepted, job_in};
 
 use crate::replies::tell_reply;
 use anyhow::Result;
@@ -73,8 +75,13 @@ pub fn different(calls: &[Call], others: &[Call]) -> usize {
 }
 
 /// Whether the response is the reply to a request that is accepted.
-pub fn is_accepted(response: &Response) -> bool {
-    matches!(response, Response::Told(Reply::Ok(_)))
+pub fn is_accepted(response: &Response) -> bool
+    ensures { result ≡ is_accepted response.now }
+{
+    match response {
+        Response::Told(Reply::Ok(_)) => true,
+        _ => false,
+    }
 }
 
 /// Tells a job that is handed out.
@@ -104,7 +111,9 @@ pub fn tell_response(rt: &impl Print, response: &Response) -> Result<()> {
 ///
 /// # Errors
 /// Where there is no memory.
-pub fn events_of(alloc: Global, calls: &[Call]) -> Result<Vec<Event>, AllocError> {
+pub fn events_of(alloc: Global, calls: &[Call]) -> Result<Vec<Event>, AllocError>
+    ensures { IfOk result (λ events. events.items ≡ map event_in calls.now) }
+{
     let mut events = Vec::new(alloc);
     for call in calls {
         events.push(call.event.copy()?)?;
@@ -116,7 +125,9 @@ pub fn events_of(alloc: Global, calls: &[Call]) -> Result<Vec<Event>, AllocError
 ///
 /// # Errors
 /// Where there is no memory.
-pub fn job_of(alloc: Global, response: &Response) -> Result<Option<Job>, AllocError> {
+pub fn job_of(alloc: Global, response: &Response) -> Result<Option<Job>, AllocError>
+    ensures { IfOk result (λ job. job ≡ job_in response.now) }
+{
     match response {
         Response::Run(reply) => match reply.get() {
             RunReply::Taken(job) => Ok(Some(job.copy(alloc)?)),
