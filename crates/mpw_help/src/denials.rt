@@ -9,7 +9,7 @@ static DENIALS: [Entry; 8] = [
         form: "DENIED session",
         meaning: "the connection has no session",
         detail: Detail::Denial {
-            remedy: "open one; where one was opened, its open was denied",
+            remedy: "open one; where an open stands before, it was denied, or the session was closed, or its user was deleted",
         },
     },
     Entry {

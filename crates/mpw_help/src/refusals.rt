@@ -154,7 +154,7 @@ static STATES: [Entry; 9] = [
         meaning: "a run is cutting or checking",
         detail: Detail::Refusal {
             number: "37",
-            remedy: "wait until status says finished, or cancel it",
+            remedy: "cancel it, and run again; with mpw script memory was wanting for it, and nothing goes on by itself",
         },
     },
     Entry {
@@ -218,7 +218,7 @@ static LINES: [Entry; 9] = [
         meaning: "no run is finished",
         detail: Detail::Refusal {
             number: "43",
-            remedy: "run, and wait until status says finished",
+            remedy: "run; where status says cutting or checking, cancel before",
         },
     },
     Entry {
