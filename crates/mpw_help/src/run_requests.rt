@@ -7,7 +7,7 @@ static CELLS: [Entry; 6] = [
     Entry {
         word: "submit",
         form: "submit cell top length",
-        meaning: "submits the GDSII library of so many bytes behind the line as the next version \
+        meaning: "submits the GDSII library of so many bytes after the line as the next version \
             of the cell, which shows the structure top",
         detail: Detail::Request {
             tests: "a session (DENIED session); the permission submit on the cell (DENIED \
@@ -68,7 +68,7 @@ static CELLS: [Entry; 6] = [
     Entry {
         word: "deck",
         form: "deck length",
-        meaning: "brings the deck of so many bytes behind the line, in the place of the one before",
+        meaning: "brings the deck of so many bytes after the line, in the place of the one before",
         detail: Detail::Request {
             tests: "a session (DENIED session); the permission deck on the desk (DENIED permission \
                 deck desk); the bytes are a deck (the first fault, from 51 word to 57 rules)",
