@@ -49,7 +49,7 @@ pub fn done_in_turn(
     Ok(answers)
 }
 
-/// Does the jobs on as many threads as there are processors.
+/// Does the jobs on at most two threads more than there are processors.
 pub fn done_by_all(
     rt: &(impl Print + AllocGlobal + Clock + Threads + Sync),
     jobs: &[Job],

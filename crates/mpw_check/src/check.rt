@@ -92,7 +92,7 @@ fn are_answered(answers: &[Answer])
     }
 }
 
-/// The markers of the tiles from `first` to below `end`, found in as many threads as there are processors.
+/// The markers of the tiles from `first` to below `end`, found in at most two threads more than there are processors.
 #[tactic(auto, using(crate::proofs::TileLemmas::of_tiles))]
 fn batch_lists(
     rt: &(impl Threads + Sync),
@@ -112,7 +112,7 @@ fn batch_lists(
     lists_of(alloc, answers.as_slice())
 }
 
-/// The same, a batch behind the other; progress is told before the first and behind each.
+/// The same, one batch after another; progress is told before the first and after each.
 fn tile_lists<P: Progress>(
     rt: &(impl Threads + Sync),
     alloc: Global,
@@ -183,9 +183,9 @@ pub fn tile_count(snapshot: &Snapshot) -> Option<u32>
 /// The markers of the tiles from `first` to below `end`, counted from 0, a list for each. Lists of all tiles, found anywhere, are
 /// stitched to the markers of the layout ([`tiles_make_the_layout`]).
 ///
-/// The layout is cut once; each of these tiles is a job, and the jobs are done in as many threads as there are processors, in
-/// batches of up to 128 tiles, whose jobs alone are held at a time. Progress is told behind the cut and behind each batch. It
-/// costs what [`mpw_tiles::cut`] and [`mpw_work::do_job`] for each of these tiles do.
+/// The layout is cut once; each of these tiles is a job, and the jobs are done in at most two threads more than there are
+/// processors, in batches of up to 128 tiles, whose jobs alone are held at a time. Progress is told after the cut and after
+/// each batch. It costs what [`mpw_tiles::cut`] and [`mpw_work::do_job`] for each of these tiles do.
 ///
 /// # Errors
 /// Want of memory.

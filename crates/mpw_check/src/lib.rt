@@ -1,8 +1,9 @@
 //! A library's top checked by itself, under a deck, as a firm does before it submits.
 //!
 //! [`read_layout`] reads a library and places its top where it was drawn; [`check_layout`] cuts it into tiles, finds each
-//! tile's markers in as many threads as there are processors, and stitches them. The markers are those of the flat layout of
-//! that top alone, whatever the tiles' side ([`markers_are_the_librarys`]). A [`Progress`] is told how many tiles are checked.
+//! tile's markers in at most two threads more than there are processors, and stitches them. The markers are those of the flat
+//! layout of that top alone, whatever the tiles' side ([`markers_are_the_librarys`]). A [`Progress`] is told how many tiles
+//! are checked.
 //!
 //! [`check_tiles`] does the same for some tiles, so that the tiles can be spread over machines: the lists of all tiles, stitched, are
 //! the layout's markers again ([`tiles_make_the_layout`]).

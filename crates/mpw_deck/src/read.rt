@@ -71,7 +71,7 @@ fn side(alloc: Global, line: &[u8]) -> Result<u32, DeckFault>
 /// parted by one space: `tile S` first, then at most 256 rules, each
 /// `width NAME L/D d`, `space NAME L/D d`, `separation NAME L/D L/D d` or
 /// `enclosing NAME L/D L/D d`. The cost is one pass, and for each rule a look at the names before
-/// it.
+/// it. It keeps 16 bytes for each line of the text at once, also for the lines behind its first fault ([`lines`]).
 ///
 /// # Errors
 /// The first faulty line, counted from 1, with its first fault. A line is tested in this order.

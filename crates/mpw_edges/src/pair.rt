@@ -1,4 +1,7 @@
 //! Pairs of edges, one of each list, that are near each other in a row of a core.
+//!
+//! Each pair within the distance is told, as a rule is defined, and not the nearest alone. The edges of one list stand at
+//! least 2 nm apart in a row; so where many lie within the distance, an edge has up to half of it, in nm, of pairs in that row.
 
 ghost use Rattle.std.specs.Prelude.{
   ◌≡◌,
@@ -320,7 +323,8 @@ fn add_bands(
 ///
 /// The bands of both lists are gone through from below, by two pointers. In two bands with rows in
 /// common each edge of the first looks for the near ones of the second: a search from where that of the edge left of it
-/// ended, which is binary where it goes far, and the pairs that it finds.
+/// ended, which is binary where it goes far, and the pairs that it finds. Each of these is a run of its own: up to half the
+/// distance, in nm, for an edge and a band.
 pub(crate) fn add_pairs(
     runs: &mut Vec<Run>,
     side: u8,

@@ -11,14 +11,16 @@ use std::fmt;
 /// Why a library can't be put on the shelf.
 #[derive(Clone, Copy)]
 pub enum HierFault {
+    /// There was no room; it says nothing of the library.
     Memory,
     /// The library has no structure of the top's name.
     NoTop,
-    /// A structure below the top leads back to itself.
+    /// A structure that the top reaches, the top itself among them, leads back to itself.
     Cycle,
     /// A name outside the library is no cell with a submission.
     NoCell,
-    /// The extent of a structure below the top reaches beyond 2^30 nm.
+    /// The extent of a structure of the library that the top reaches, the top itself among them, in its own coordinates, goes
+    /// beyond -2^30 to 2^30 nm.
     Extent,
     /// More than 2^20 flat shapes.
     Shapes,

@@ -40,8 +40,8 @@ impl Outline {
     /// Linear in the library's references, with a search for each of them, and a sort of the names outside.
     ///
     /// # Errors
-    /// `NoTop` where the library has no structure of that name; `Cycle` where a structure below the top
-    /// leads back to itself; or want of memory.
+    /// `NoTop` where the library has no structure of that name; `Cycle` where a structure that the top reaches, the top
+    /// itself among them, leads back to itself; or want of memory.
     pub fn new(alloc: Global, library: &Library, top: &Name) -> Result<Outline, HierFault>
         ensures ok { IfOk result (IsOutline library.now top.now) }
         ensures no_top { (result ≡ Err HierFault.NoTop) ↔ (place_of library.now top.now ≡ None) }

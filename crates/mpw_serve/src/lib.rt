@@ -1,7 +1,8 @@
-//! Serving a connection: its lines are read, each is handled by the core, and its reply is written, in order.
+//! Serving a connection: its lines are read, each is handled by the desk, which is any [`mpw_events::Handler`], and its reply
+//! is written, in order.
 //!
-//! Behind an accepted `run` its work is done on the connection's own thread: the snapshot is cut, the jobs of its tiles are done
-//! in batches, and what comes of them is handed to the desk. Who serves is told how far they came ([`Progress`]).
+//! An accepted `run` is worked off before its reply is written: the snapshot is cut, the jobs of its tiles are done in batches,
+//! and what comes of them is handed to the desk. Who serves is told how far they came ([`Progress`]).
 //!
 //! The desk's program is here as a library: a program gives [`run`] its input, its output, and who is told how far the work came.
 #![tactic(auto)]

@@ -15,8 +15,8 @@ use std::thread::Threads;
 /// The connection of a script.
 const CONNECTION: u32 = 1;
 
-/// Serves the reader to the writer as connection 1 of a new desk. A run is worked off in as many threads as there are
-/// processors, and progress is told meanwhile; it takes part in no clause.
+/// Serves the reader to the writer as connection 1 of a new desk. A run is worked off in at most two threads more than
+/// there are processors, and progress is told meanwhile; it takes part in no clause.
 ///
 /// # Errors
 /// Where there is no room for the new desk; nothing is read or written then.

@@ -186,8 +186,8 @@ fn hand_end<H: Handler, K: Keeper>(core: &mut H, keeper: &mut K, connection: u32
 /// line is too long, the payload that it asks for is too large or cut off, there is no room for a request, 4096
 /// lines were answered, or a device failed; what was accepted before stays accepted. Then the desk is handed the
 /// connection's end. What is accepted is handed to the keeper first, and each reply is flushed. While an accepted `run` is
-/// worked off, progress is told; it takes part in no clause. It costs the lines, and for each request what the core's step
-/// costs.
+/// worked off, progress is told; it takes part in no clause. It costs the lines, and for each request what the desk's step
+/// costs, for an accepted `run` what [`work_behind`] does too.
 pub fn serve_core<H: Handler, K: Keeper, R: Source, W: Sink, P: Progress>(
     rt: &(impl Threads + Sync),
     alloc: Global,

@@ -32,7 +32,8 @@ fn heights_of(alloc: Global, corners: &[Point]) -> Result<Vec<i64>, AllocError>
 ///
 /// An error is want of memory. For n corners and m rectangles it takes O((n + m) log n). A rectangle
 /// that lies on the one before it and is as wide is joined with that, so that a simple polygon gives
-/// O(n).
+/// O(n). A boundary that crosses itself may have some n * n / 16 rectangles, since that is what it covers; the limits on
+/// shapes don't bound it, for they count it as one.
 pub(crate) fn boundary_rectangles(alloc: Global, corners: &[Point]) -> Result<Vec<Box2>, AllocError>
     ensures squares { IfOk result (λ boxes. (s : Square) → any_has_square boxes.items s ≡ boundary_has corners.now s) }
     ensures area { IfOk result (λ boxes. All HasArea boxes.items) }
