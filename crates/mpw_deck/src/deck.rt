@@ -98,13 +98,23 @@ impl Deck {
 /// What is wrong with a line of a deck's text.
 #[derive(Clone, Copy, PartialEq, Eq)]
 pub enum DeckKind {
+    /// The line has another number of words than it needs, a later line's first word is no check's name, or the rule's
+    /// name isn't 1 to 255 bytes of 21 to 7E hex without a colon. An empty later line is so too.
     Word,
+    /// The side of the tiles isn't a number from 256 to 2^30, or the distance none from 1 to 65535: decimal, without
+    /// sign or leading zero.
     Number,
+    /// A layer isn't `L/D`, two numbers from 0 to 65535.
     Layer,
+    /// The two layers of `separation` or `enclosing` are one.
     SameLayer,
+    /// A rule before has the name.
     DoubleRule,
+    /// The first line isn't there or doesn't begin with `tile`, or a later one does.
     Tile,
+    /// There are 256 rules before it.
     Rules,
+    /// There was no room to read on; it says nothing of the text.
     Memory,
 }
 
@@ -155,7 +165,9 @@ impl From<AllocError> for DeckKind {
 /// line is where reading stopped.
 #[derive(Clone, Copy, Debug, PartialEq, Eq)]
 pub struct DeckFault {
+    /// The first test that the line fails.
     pub kind: DeckKind,
+    /// Counted from 1. A text without lines has its fault at line 1.
     pub line: usize,
 }
 

@@ -15,8 +15,10 @@ use thiserror::Error;
 /// The first faulty line of a text, whose kind is never `Memory`, or want of memory.
 #[derive(Clone, Copy, Debug, Error)]
 pub enum DeckError {
+    /// There was no room to read the text, which says nothing of it.
     #[error("out of memory")]
     Memory,
+    /// The text spells no deck: its first faulty line, with that line's first fault.
     #[error("{0}")]
     Fault(DeckFault),
 }

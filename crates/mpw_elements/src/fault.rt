@@ -10,8 +10,10 @@ use thiserror::Error;
 /// The first fault of a text, or want of memory.
 #[derive(Clone, Copy, Debug, Error)]
 pub enum ReadError {
+    /// There was no room for what was read, which says nothing of the text.
     #[error("out of memory")]
     Memory,
+    /// The text is no library's: its first fault, with the offset in bytes.
     #[error("{0}")]
     Fault(ReadFault),
 }

@@ -22,8 +22,11 @@ use std::alloc::Global;
 /// The width of a path and how far its ends are lengthened, in nm.
 #[derive(Clone, Copy)]
 pub struct Breadth {
+    /// The whole width, even and not negative; 0 where there is no WIDTH.
     pub width: i64,
+    /// Beyond the first point, by PATHTYPE and BGNEXTN; it may be negative.
     pub begin: i64,
+    /// Beyond the last point, by PATHTYPE and ENDEXTN; it may be negative.
     pub end: i64,
 }
 

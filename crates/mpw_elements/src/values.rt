@@ -20,8 +20,11 @@ use std::alloc::Global;
 /// Where an array begins, and its steps, in nm.
 #[derive(Clone, Copy)]
 pub struct Grid {
+    /// Where the structure's origin comes in the first column of the first row.
     pub origin: Point,
+    /// From one column to the next, in any direction.
     pub column_step: Point,
+    /// From one row to the next, in any direction.
     pub row_step: Point,
 }
 

@@ -25,8 +25,10 @@ pub const MAX_NAME: usize = 255;
 /// Why bytes give no name.
 #[derive(Clone, Copy, Debug, PartialEq, Eq, Error)]
 pub enum NameFault {
+    /// There is no byte or more than 255, or one outside 21 to 7E hex.
     #[error("a name is 1 to 255 bytes of 21 to 7E hex")]
     BadName,
+    /// There was no room for the name's bytes.
     #[error("out of memory")]
     Memory,
 }

@@ -14,7 +14,9 @@ use crate::plane::{Box2, Orient, Point};
 /// How a structure stands in its parent: mirrored and turned by `orient`, then moved by `by`, in nm.
 #[derive(Clone, Copy)]
 pub struct Placing {
+    /// How it is mirrored and turned, about the origin of its own coordinates.
     pub orient: Orient,
+    /// Where that origin comes.
     pub by: Point,
 }
 

@@ -8,23 +8,31 @@ ghost use Rattle.mpw_geom.specs.declared.plane.Point.{Point};
 /// A point, in nm.
 #[derive(Clone, Copy, PartialEq, Eq)]
 pub struct Point {
+    /// Grows to the right. Callers keep it within -2^48 to 2^48.
     pub x: i64,
+    /// Grows upwards. Callers keep it within -2^48 to 2^48.
     pub y: i64,
 }
 
 /// The closed box from `(x0, y0)` to `(x1, y1)`, in nm, with `x0 <= x1` and `y0 <= y1`.
 #[derive(Clone, Copy, PartialEq, Eq)]
 pub struct Box2 {
+    /// The left side.
     pub x0: i64,
+    /// The lower side.
     pub y0: i64,
+    /// The right side; of the unit squares of the box the last column is the one before it.
     pub x1: i64,
+    /// The upper side; of the unit squares of the box the last row is the one before it.
     pub y1: i64,
 }
 
 /// A layer number with its datatype, each 0 to 65535 (GDSII Stream, LAYER and DATATYPE).
 #[derive(Clone, Copy, PartialEq, Eq)]
 pub struct Layer {
+    /// The number of LAYER.
     pub layer: u16,
+    /// The number of DATATYPE, of a BOX that of BOXTYPE.
     pub datatype: u16,
 }
 
@@ -32,13 +40,21 @@ pub struct Layer {
 /// about the x axis first and then turns.
 #[derive(Clone, Copy, PartialEq, Eq)]
 pub enum Orient {
+    /// Leaves (x, y).
     R0,
+    /// Takes (x, y) to (-y, x).
     R90,
+    /// Takes (x, y) to (-x, -y).
     R180,
+    /// Takes (x, y) to (y, -x).
     R270,
+    /// Takes (x, y) to (x, -y).
     M0,
+    /// Takes (x, y) to (y, x).
     M90,
+    /// Takes (x, y) to (-x, y).
     M180,
+    /// Takes (x, y) to (-y, -x).
     M270,
 }
 

@@ -6,7 +6,9 @@ use mpw_lists::{Same, SharedList};
 /// A name outside a library with the number of the submission to which it is bound.
 #[derive(Drop)]
 pub struct Binding {
+    /// A name that the top reaches and its library has no structure of.
     pub name: Name,
+    /// What was the present submission of the cell of that name when this one came, counted from 0.
     pub submission: u32,
 }
 

@@ -17,6 +17,7 @@ pub enum Target {
 pub struct Child {
     /// Where the reference stands among the structure's elements.
     pub element: usize,
+    /// What the reference places, which shows a shape at least.
     pub target: Target,
 }
 
@@ -28,6 +29,7 @@ pub struct Node {
     pub shapes: Vec<usize>,
     /// Its references that show something, in file order.
     pub children: Vec<Child>,
+    /// How much the structure shows with all that it places.
     pub size: Size,
 }
 

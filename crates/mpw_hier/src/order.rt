@@ -42,8 +42,11 @@ impl Drop for Descent {
 /// What a step found.
 #[derive(Clone, Copy, PartialEq, Eq)]
 pub enum Step {
+    /// There is more to do.
     On,
+    /// The way is empty: all that the top reaches is in order.
     Done,
+    /// The place that a reference leads to is on the way already.
     Cycle,
 }
 

@@ -10,11 +10,13 @@ use std::alloc::AllocError;
 
 /// A version of a cell, with the library that shows it.
 pub struct Submission {
+    /// The cell's name, by which other libraries refer to it.
     pub cell: Name,
     /// Counted from 1 for each cell.
     pub version: u32,
     /// The user who submitted it.
     pub submitter: Name,
+    /// The structures as they were read, those that the top doesn't reach too.
     pub library: Library,
     /// The structure of the library that the cell shows.
     pub top: Name,

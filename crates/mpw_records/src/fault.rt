@@ -92,7 +92,9 @@ impl Error for Code {}
 /// the number of bytes.
 #[derive(Clone, Copy, Debug, PartialEq, Eq)]
 pub struct ReadFault {
+    /// The first test that the record fails.
     pub code: Code,
+    /// In bytes from the text's front: where the record begins, or the number of bytes where none is left.
     pub offset: usize,
 }
 

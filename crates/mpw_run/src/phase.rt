@@ -156,16 +156,22 @@ impl Checks {
 /// A run whose tiles are all answered: its snapshot with the plan, and its book.
 #[derive(Drop)]
 pub struct Checked {
+    /// What was checked, with the tiles into which it was cut.
     pub planned: Planned,
+    /// The markers of the snapshot's flat layout, stitched from the answers of all its tiles.
     pub book: Book,
 }
 
 /// How far a run is.
 #[derive(Drop)]
 pub enum Phase {
+    /// There was no run yet, or the last one was cancelled.
     Idle,
+    /// A run has begun, and its windows haven't come yet. A restart takes a run that is checking back to here.
     Cutting(Planned),
+    /// The snapshot is cut, and a tile at least has no answer yet.
     Checking(Checks),
+    /// Each tile was answered, and the book is stitched. A restart leaves it so.
     Finished(Checked),
 }
 
@@ -183,12 +189,25 @@ impl Phase {
 
 /// What an event is answered.
 pub enum RunReply {
+    /// To a call for a job: while the run is cutting its cut, while it is checking the tile without an answer that was
+    /// handed out fewest times, the least number among these. A job can be handed out again until it is answered.
     Taken(Job),
+    /// To a call for a job: the run is idle or finished.
     NoJob,
+    /// To the windows of the cutting run's own snapshot: they are kept, and checking begins. To the markers of a tile:
+    /// they are kept, and another tile has no answer yet. A run that begins gives it too.
     Kept,
+    /// To the markers of the last tile without an answer: they are kept, the book is stitched, and the run is finished.
     Finished,
+    /// To the windows of another snapshot than the cutting run's; to the markers of a tile that were found in another
+    /// core or window or by other rules than its own, of a tile that the run doesn't have, or while the run is cutting.
+    /// They aren't kept.
     Stranger,
+    /// To windows where the run is checking or finished, and to the markers of a tile that has an answer: they aren't
+    /// kept, whatever they are.
     Double,
+    /// To windows or markers with the number of another run, or where the run is idle: they aren't kept, whatever they
+    /// are. It is tested first.
     OldRun,
 }
 

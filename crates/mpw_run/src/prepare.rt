@@ -24,6 +24,7 @@ pub(crate) enum Change {
 /// The reply to an event, and what it changes in the run that it was prepared for.
 #[derive(Drop)]
 pub struct Prepared {
+    /// What the event is answered where the change is made.
     pub reply: RunReply,
     pub(crate) change: Change,
 }

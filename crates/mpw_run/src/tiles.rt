@@ -15,7 +15,9 @@ use std::marker::Model;
 
 /// A tile of a run: how often it was handed out, and the markers that were kept for it.
 pub(crate) struct Tile {
+    /// How often it was handed out, up to 2^64 - 1.
     pub taken: u64,
+    /// The markers that were kept; none before it is answered.
     pub answer: Option<TileMarkers>,
 }
 

@@ -10,7 +10,9 @@ use std::alloc::AllocError;
 /// A polygon by its corners in file order, without the closing point (GDSII Stream, BOUNDARY and
 /// BOX). Other repeats stay. The edge from the last corner to the first is implied.
 pub struct Boundary {
+    /// Its layer with its datatype, of a BOX with its BOXTYPE.
     pub layer: Layer,
+    /// The corners, one at least, in nm.
     pub points: Points,
 }
 
@@ -23,6 +25,7 @@ impl Drop for Boundary {
 
 /// A wire along a centre line (GDSII Stream, PATH). Consecutive repeats are taken as one point.
 pub struct Path {
+    /// Its layer with its datatype.
     pub layer: Layer,
     /// The whole width in nm, even, 0 where none was given.
     pub width: i64,
@@ -30,6 +33,7 @@ pub struct Path {
     pub begin: i64,
     /// How far the last segment is lengthened forwards, in nm. It may be negative.
     pub end: i64,
+    /// The points of the centre line, in file order, in nm.
     pub points: Points,
 }
 
@@ -50,6 +54,7 @@ impl Drop for Path {
 pub struct Reference {
     /// The structure that is placed.
     pub name: Name,
+    /// How each instance is mirrored and turned, about the structure's own origin.
     pub orient: Orient,
     /// Where the structure's origin comes, for the first column of the first row, in nm.
     pub origin: Point,
@@ -81,8 +86,11 @@ impl Drop for Reference {
 /// An element of a structure.
 #[derive(Drop)]
 pub enum Element {
+    /// Of a BOUNDARY or a BOX.
     Boundary(Boundary),
+    /// Of a PATH.
     Path(Path),
+    /// Of an SREF or an AREF. It covers nothing by itself.
     Reference(Reference),
 }
 

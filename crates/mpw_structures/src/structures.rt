@@ -16,7 +16,9 @@ pub type Elements = OwnedList<Element>;
 
 /// A structure: a name and what stands in it.
 pub struct Structure {
+    /// By which references of its library find it.
     pub name: Name,
+    /// What stands in it, in its own coordinates.
     pub elements: Elements,
 }
 
