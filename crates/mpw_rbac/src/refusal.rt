@@ -43,7 +43,9 @@ pub enum Refusal {
 /// Why a call changed nothing.
 #[derive(Drop)]
 pub enum PolicyFault {
+    /// The first test of the request's row that fails.
     Refused(Refusal),
+    /// There was no room; the policy is as it was.
     Memory,
 }
 

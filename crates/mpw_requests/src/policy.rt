@@ -9,23 +9,41 @@ pub type Digest = [u8; 32];
 
 /// A request that changes the policy (ANSI INCITS 359-2004, 6).
 pub enum PolicyRequest {
+    /// Begin a session of the user, whose token has that SHA-256, without active roles (CreateSession, 6.1).
     Open { user: Name, digest: Digest },
+    /// End the connection's session (DeleteSession, 6.1).
     Close,
+    /// Make a role active in the session (AddActiveRole, 6.1).
     Activate { role: Name },
+    /// Take an active role from the session (DropActiveRole, 6.1).
     DropRole { role: Name },
+    /// Add a user whose token has that SHA-256 (AddUser, 6.1).
     AddUser { user: Name, digest: Digest },
+    /// Delete a user with its assignments and sessions (DeleteUser, 6.1).
     DelUser { user: Name },
+    /// Add a role (AddRole, 6.1).
     AddRole { role: Name },
+    /// Delete a role with its pairs, assignments and grants (DeleteRole, 6.1).
     DelRole { role: Name },
+    /// Assign a role to a user (AssignUser, 6.1).
     Assign { user: Name, role: Name },
+    /// Take an assignment back (DeassignUser, 6.1).
     Deassign { user: Name, role: Name },
+    /// Grant an operation on an object to a role (GrantPermission, 6.1).
     Grant { grant: Grant },
+    /// Take a grant back (RevokePermission, 6.1).
     Revoke { grant: Grant },
+    /// Make a role an immediate junior of another (AddInheritance, 6.2).
     Inherit { senior: Name, junior: Name },
+    /// Take an immediate pair back (DeleteInheritance, 6.2).
     Uninherit { senior: Name, junior: Name },
+    /// Make a static set (CreateSsdSet, 6.3).
     Ssd { set: SeparationSet },
+    /// Make a dynamic set (CreateDsdSet, 6.4).
     Dsd { set: SeparationSet },
+    /// Delete the static set of that name (DeleteSsdSet, 6.3).
     UnSsd { name: Name },
+    /// Delete the dynamic set of that name (DeleteDsdSet, 6.4).
     UnDsd { name: Name },
 }
 

@@ -6,12 +6,19 @@ use mpw_geom::Name;
 /// A marker as a request names it: the name of its rule, and where it lies. Sides are 0 or 1, coordinates in nm, -2^30 to
 /// 2^30; they need not be in order.
 pub struct MarkerName {
+    /// 1 to 255 bytes of 21 to 7E hex; with a colon in it no deck's rule has it.
     pub rule: Name,
+    /// The direction of the marker's edges.
     pub axis: Axis,
+    /// Which of the two kinds of pairs that a rule of two layers finds; 0 of other rules.
     pub side: u8,
+    /// The first edge, across the rows.
     pub x1: i64,
+    /// The second edge, across the rows.
     pub x2: i64,
+    /// The first row.
     pub y0: i64,
+    /// The row behind the last one.
     pub y1: i64,
 }
 

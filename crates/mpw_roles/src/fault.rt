@@ -10,11 +10,17 @@ use std::fmt;
 /// Why a command on the hierarchy was refused.
 #[derive(Clone, Copy)]
 pub enum RolesFault {
+    /// What is named is no role (DeleteRole, AddInheritance).
     NoRole,
+    /// The role is there (AddRole), or the two are an immediate pair (AddInheritance).
     Known,
+    /// The junior is at least the senior, so the pair would close a cycle (AddInheritance).
     Cycle,
+    /// The two are no immediate pair (DeleteInheritance).
     NoPair,
+    /// There are 512 roles (AddRole).
     Full,
+    /// There was no room; the roles are as they were.
     Memory,
 }
 

@@ -9,9 +9,13 @@ use std::fmt;
 /// Why a command on the sets was refused.
 #[derive(Clone, Copy)]
 pub enum SetsFault {
+    /// A set of the kind has the name (CreateSsdSet, CreateDsdSet).
     Known,
+    /// No set of the kind has the name (DeleteSsdSet, DeleteDsdSet).
     Unknown,
+    /// There are 64 sets of the kind (CreateSsdSet, CreateDsdSet).
     Full,
+    /// There was no room; the sets are as they were.
     Memory,
 }
 
