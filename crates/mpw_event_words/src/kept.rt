@@ -12,14 +12,18 @@ use std::alloc::{AllocError, Global};
 /// What came of a job.
 #[derive(Drop)]
 pub enum JobAnswer {
+    /// The windows of a snapshot.
     Cut(SharedCut),
+    /// The markers of a tile.
     Tile(SharedTile),
 }
 
 /// What came of a job, under a name.
 #[derive(Drop)]
 pub struct Kept {
+    /// By which it is found; one that was kept later under the same name is found in its place.
     pub name: Name,
+    /// What the desk can be handed.
     pub work: JobAnswer,
 }
 

@@ -55,9 +55,13 @@ impl Model for ShapeListing {
 /// A shape that a listing shows: the cell and the version that it comes from, and how it is placed.
 #[derive(Clone, Copy)]
 pub struct ShapeView<'a> {
+    /// The cell of the submission from which the shape comes.
     pub cell: &'a Name,
+    /// The version of that submission, from 1.
     pub version: u32,
+    /// From the coordinates of the shape's structure to those of the listed cell's top.
     pub placing: Placing,
+    /// A boundary or a path, where its library has it: not placed yet.
     pub element: &'a Element,
 }
 

@@ -69,8 +69,11 @@ impl Model for MarkerListing {
 /// A marker that a listing shows in full: the name of its rule, its key, and the cells that it meets.
 #[derive(Drop)]
 pub struct MarkerView<'a> {
+    /// The rule's name in the run's deck.
     pub rule: &'a Name,
+    /// Its line and rows, with the rule's place in the deck.
     pub key: Key,
+    /// The cells of the submissions that it meets, each once, by name.
     pub cells: MetCells<'a>,
 }
 
@@ -98,7 +101,9 @@ impl<'a> Model for MarkerViews<'a> {
 /// The lines of a listing: those of the markers that are shown in full, and then the numbers of those that are masked.
 #[derive(Drop)]
 pub struct MarkerLines<'a> {
+    /// In the order of the book; they come first.
     pub full: MarkerViews<'a>,
+    /// In the order of the deck's rules.
     pub masked: MaskedViews<'a>,
 }
 

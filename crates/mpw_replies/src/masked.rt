@@ -14,7 +14,9 @@ use std::marker::Model;
 /// How many markers of a rule are masked, of that rule's name.
 #[derive(Clone, Copy)]
 pub struct MaskedView<'a> {
+    /// The rule's name in the run's deck.
     pub rule: &'a Name,
+    /// At least 1.
     pub number: usize,
 }
 

@@ -11,7 +11,9 @@ use std::alloc::AllocError;
 /// What ends a row: a denial or a refusal.
 #[derive(Drop)]
 pub enum Ending {
+    /// What the session lacks, or why its user may not sign.
     Denied(Denial),
+    /// Any other reason, by its code.
     Refused(Code),
 }
 
@@ -32,6 +34,7 @@ impl Ending {
 pub enum Fault {
     /// What ends the row.
     Told(Ending),
+    /// There was no room; the row tells nothing.
     Memory,
 }
 

@@ -8,10 +8,13 @@ use thiserror::Error;
 /// What failed while lines were read or replies were written.
 #[derive(Clone, Copy, Debug, PartialEq, Eq, Error)]
 pub enum WireFault {
+    /// The source failed; the connection ends without a further reply.
     #[error("the input could not be read")]
     Read,
+    /// The sink failed; the connection ends without a further reply.
     #[error("the output could not be written")]
     Write,
+    /// There was no room to read a line.
     #[error("out of memory")]
     Memory,
 }

@@ -15,11 +15,17 @@ use std::alloc::{AllocError, Global};
 /// Where a marker lies: its axis, its side, and its coordinates in nm.
 #[derive(Clone, Copy)]
 pub struct Spot {
+    /// `V` or `H`, the direction of the edges.
     pub axis: Axis,
+    /// 0 or 1.
     pub side: u8,
+    /// -2^30 to 2^30, as the other three.
     pub x1: i64,
+    /// In a marker `x1` or more.
     pub x2: i64,
+    /// The first row.
     pub y0: i64,
+    /// The row behind the last one, in a marker above `y0`.
     pub y1: i64,
 }
 
