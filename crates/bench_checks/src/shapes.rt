@@ -42,6 +42,7 @@ fn rule_of(alloc: Global, word: &str, distance: i64) -> Option<Rule> {
 }
 
 impl Shapes {
+    /// No rectangles. It takes no memory.
     pub fn new(alloc: Global) -> Shapes {
         Shapes {
             first: Vec::new(alloc),

@@ -5,8 +5,11 @@ use std::alloc::{AllocError, Global};
 /// The lines of a connection.
 #[derive(Drop)]
 pub struct Part {
+    /// What it is called in the table of times.
     pub name: String,
+    /// The lines, each with its line feed.
     pub text: String,
+    /// How many lines the text has.
     pub lines: usize,
 }
 

@@ -7,14 +7,23 @@ use std::alloc::{AllocError, Global};
 /// A change that the officer's session makes.
 #[derive(Clone, Copy)]
 pub enum Change {
+    /// A grant of reading a new cell.
     Grant,
+    /// The first grant is taken back.
     Revoke,
+    /// A new user.
     AddUser,
+    /// A role of the tree's second row, to the user at its top.
     Assign,
+    /// A new role.
     AddRole,
+    /// A pair of the two roles of the tree's second row.
     Inherit,
+    /// The user at the top of the tree, whose session ends.
     DelUser,
+    /// A role of the tree's second row, with its grants.
     DelRole,
+    /// A pair at the top of the tree is taken back.
     Uninherit,
 }
 

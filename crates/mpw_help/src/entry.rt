@@ -34,13 +34,16 @@ pub struct Entry {
     pub form: &'static str,
     /// What it does, or when it is told.
     pub meaning: &'static str,
+    /// By what it is: tests and reply, statuses, or what to do.
     pub detail: Detail,
 }
 
 /// The entries of a subject.
 #[derive(Clone, Copy)]
 pub struct Table {
+    /// The subject.
     pub title: &'static str,
+    /// In the order in which they are told.
     pub entries: &'static [Entry],
 }
 

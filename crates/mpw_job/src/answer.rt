@@ -148,6 +148,8 @@ impl TileAnswer {
 /// What was done, with the job.
 #[derive(Drop)]
 pub enum Answer {
+    /// The windows of a snapshot.
     Cut(CutAnswer),
+    /// The markers of a tile.
     Tile(TileAnswer),
 }

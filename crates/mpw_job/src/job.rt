@@ -11,7 +11,9 @@ use std::marker::Model;
 
 /// The job of cutting a snapshot into the windows of its tiles, for the run of that number.
 pub struct CutJob {
+    /// The run's number, counted from 1, by which its answer is known.
     pub run: u32,
+    /// What is cut.
     pub snapshot: Snapshot,
 }
 
@@ -177,7 +179,9 @@ impl TileJob {
 /// Something to do for a run.
 #[derive(Drop)]
 pub enum Job {
+    /// Cutting a run's snapshot, which comes before its tiles.
     Cut(CutJob),
+    /// Finding the markers of one tile of a snapshot that is cut.
     Tile(TileJob),
 }
 

@@ -18,7 +18,9 @@ use std::alloc::{AllocError, Global};
 /// The reply to a request over the shelf, and the shelf that it leaves where that is another.
 #[derive(Drop)]
 pub struct LayoutAnswer {
+    /// What the request is answered.
     pub reply: Reply,
+    /// The shelf with the new submission; none where it stays as it is.
     pub next: Option<Shelf>,
 }
 

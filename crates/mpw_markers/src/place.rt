@@ -9,18 +9,26 @@ use mpw_edges::Axis;
 /// A line by numbers that are in the order of lines: axis 0 is `V`, and 1 is `H`.
 #[derive(Clone, Copy, PartialEq, Eq, PartialOrd, Ord)]
 pub(crate) struct LinePlace {
+    /// The rule's place in the deck, from 0.
     pub rule: u32,
+    /// 0 or 1.
     pub axis: u8,
+    /// 0 or 1.
     pub side: u8,
+    /// The first edge, in nm.
     pub x1: i64,
+    /// The second edge, in nm.
     pub x2: i64,
 }
 
 /// Where a marker stands in a book: its line and its rows.
 #[derive(Clone, Copy, PartialEq, Eq, PartialOrd, Ord)]
 pub(crate) struct Place {
+    /// What it is ordered by first.
     pub line: LinePlace,
+    /// The first row, in nm.
     pub y0: i64,
+    /// The row behind the last one, in nm.
     pub y1: i64,
 }
 

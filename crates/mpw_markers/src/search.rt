@@ -11,14 +11,18 @@ use std::alloc::{AllocError, Global};
 /// A rectangle of a shape where it is placed, in nm, and the number of the submission from which the shape comes.
 #[derive(Clone, Copy, PartialEq, Eq)]
 pub struct Rectangle {
+    /// It is met where it shares a point with a box, a corner too.
     pub area: Box2,
+    /// Counted from 0.
     pub origin: u32,
 }
 
 /// A box, and the place of its answer.
 #[derive(Clone, Copy, PartialEq, Eq)]
 pub(crate) struct Item {
+    /// From 0, in the list of all boxes.
     pub place: usize,
+    /// Closed, in nm.
     pub area: Box2,
 }
 
@@ -63,7 +67,9 @@ fn is_within(b: &Box2, hull: &Box2) -> bool
 /// Origins that all boxes of a part meet, each once, and the rectangles that some of them may meet.
 #[derive(Drop)]
 pub(crate) struct Near {
+    /// Those of rectangles that have the part's whole hull too.
     pub common: Met,
+    /// Those that meet the hull and don't have all of it.
     pub rectangles: Vec<Rectangle>,
 }
 

@@ -13,15 +13,20 @@ use std::alloc::{AllocError, Global};
 /// A marker in a picture: its closed box, in nm, and its rule's place in the deck.
 #[derive(Clone, Copy, PartialEq, Eq)]
 pub struct Mark {
+    /// From its `x1` and `y0` to its `x2` and `y1`, on axis `H` with the coordinates exchanged.
     pub area: Box2,
+    /// Counted from 0; it decides on the colour.
     pub rule: u32,
 }
 
 /// What is drawn: a window, in nm, the rectangles in it, and the markers that meet it.
 #[derive(Drop)]
 pub struct Picture {
+    /// What is drawn of the plane.
     pub window: Box2,
+    /// Where they are placed; what lies beyond the window isn't drawn.
     pub rectangles: Vec<Rectangle>,
+    /// In the order of their keys.
     pub marks: Vec<Mark>,
 }
 

@@ -8,9 +8,13 @@ use mpw_geom::Box2;
 /// Where a box lies in a drawing, in nm: x from its left edge, and y down from its top edge.
 #[derive(Clone, Copy)]
 pub(crate) struct Corners {
+    /// 0 at the window's left side.
     pub left: i128,
+    /// 0 at the window's upper side.
     pub top: i128,
+    /// `left` or more.
     pub right: i128,
+    /// `top` or more.
     pub bottom: i128,
 }
 

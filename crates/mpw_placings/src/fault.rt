@@ -27,6 +27,7 @@ pub enum PlacingFault {
     /// There is no placing of that cell and label.
     #[error("the cell is not placed under that label")]
     Unknown,
+    /// There was no room; the placings are as they were.
     #[error("out of memory")]
     Memory,
 }

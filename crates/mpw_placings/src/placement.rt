@@ -9,7 +9,9 @@ use std::alloc::AllocError;
 
 /// A submission that is placed in the assembled top. Its cell and its label together are its name.
 pub struct Placement {
+    /// The cell of the submission.
     pub cell: Name,
+    /// A name of which the cell has no other placement.
     pub label: Name,
     /// The submission, by number, with its orientation and displacement.
     pub root: Root,

@@ -8,7 +8,9 @@ use std::alloc::{AllocError, Global};
 
 /// The placings of the assembled top, and the deck of its checks, where there is one. Copies share both.
 pub struct Wafer {
+    /// In the order in which they were made, at most 4096.
     pub placings: Placings,
+    /// The last one that was brought; none at first.
     pub deck: Option<Deck>,
 }
 

@@ -18,14 +18,18 @@ const REACH: i64 = 90;
 /// A unit square, by its lower left corner.
 #[derive(Clone, Copy, PartialEq, Eq)]
 pub struct Cell {
+    /// Its column, in nm.
     pub x: i64,
+    /// Its row, in nm.
     pub y: i64,
 }
 
 /// A shape of a submission under placings, the innermost first.
 #[derive(Drop)]
 pub struct Shown<'a> {
+    /// The submission's number, from 0.
     pub origin: u32,
+    /// A boundary or a path, as its library has it.
     pub element: &'a Element,
     placings: Vec<Placing>,
 }

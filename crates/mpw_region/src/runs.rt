@@ -11,16 +11,22 @@ use std::alloc::{AllocError, Global};
 /// What tells the lines apart on which runs lie: a side and two numbers, in nm.
 #[derive(Clone, Copy, PartialEq, Eq, PartialOrd, Ord)]
 pub struct Line {
+    /// 0 or 1 of the runs that checks make.
     pub side: u8,
+    /// The edge at `x1` of the runs that checks make.
     pub first: i64,
+    /// The edge at `x2` of the runs that checks make.
     pub second: i64,
 }
 
 /// The places from `from` to before `to` on a line, in nm.
 #[derive(Clone, Copy, PartialEq, Eq, PartialOrd, Ord)]
 pub struct Run {
+    /// Where it lies.
     pub line: Line,
+    /// The first place.
     pub from: i64,
+    /// The place behind the last one.
     pub to: i64,
 }
 

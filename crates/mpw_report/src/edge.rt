@@ -13,7 +13,9 @@ use std::io::{self, Write};
 /// An edge, from its start to its end, in nm.
 #[derive(Clone, Copy)]
 pub(crate) struct Edge {
+    /// Where KLayout's edge begins.
     pub start: Point,
+    /// Where KLayout's edge ends.
     pub end: Point,
 }
 

@@ -5,6 +5,7 @@ use crate::words::{NotationError, layer, number, points, short};
 use mpw_records::kind;
 use std::alloc::{AllocError, Global};
 
+/// A BOUNDARY: its layer, and two opposite corners in database units.
 pub fn add_rectangle(text: &mut Sample, words: &[&str]) -> Result<(), NotationError> {
     let [on, x0, y0, x1, y1] = words else {
         return Err(NotationError::Notation);
@@ -15,6 +16,7 @@ pub fn add_rectangle(text: &mut Sample, words: &[&str]) -> Result<(), NotationEr
     Ok(text.boundary(layer, datatype, &corners)?)
 }
 
+/// A BOUNDARY: its layer, and its points in database units, the closing one too where it is wanted.
 pub fn add_polygon(text: &mut Sample, alloc: Global, words: &[&str]) -> Result<(), NotationError> {
     let [on, rest @ ..] = words else {
         return Err(NotationError::Notation);
@@ -43,6 +45,8 @@ fn add_path_head(text: &mut Sample, on: &str, form: &str) -> Result<(), Notation
     Ok(text.short(kind::PATHTYPE, short(form)?)?)
 }
 
+/// A PATH: its layer, PATHTYPE, WIDTH, BGNEXTN and ENDEXTN, each left out where its word is `.`, and its points, all in
+/// database units.
 pub fn add_path(text: &mut Sample, alloc: Global, words: &[&str]) -> Result<(), NotationError> {
     let [on, form, width, begin, end, rest @ ..] = words else {
         return Err(NotationError::Notation);
@@ -55,7 +59,7 @@ pub fn add_path(text: &mut Sample, alloc: Global, words: &[&str]) -> Result<(), 
     Ok(text.record(kind::ENDEL, 0, &[])?)
 }
 
-/// Squares with sides of 4 nm, beside one another.
+/// So many squares with sides of 4 database units, each 1 to the right of the one before, so that they overlap.
 pub fn add_grid(text: &mut Sample, words: &[&str]) -> Result<(), NotationError> {
     let [count] = words else {
         return Err(NotationError::Notation);

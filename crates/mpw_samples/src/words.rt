@@ -8,8 +8,10 @@ use thiserror::Error;
 /// Why a notation gives no text.
 #[derive(Clone, Copy, Debug, Error)]
 pub enum NotationError {
+    /// A word or an item isn't one of the notation.
     #[error("not in the notation of samples")]
     Notation,
+    /// There was no room for the text.
     #[error("out of memory")]
     Memory,
 }
@@ -29,6 +31,7 @@ impl From<AllocError> for NotationError {
     }
 }
 
+/// A coordinate or a length, -2^31 to 2^31 - 1.
 pub fn number(word: &str) -> Result<i32, NotationError> {
     match word.parse::<i32>() {
         Ok(number) => Ok(number),
@@ -36,6 +39,7 @@ pub fn number(word: &str) -> Result<i32, NotationError> {
     }
 }
 
+/// A layer, a datatype or a count, 0 to 65535.
 pub fn short(word: &str) -> Result<u16, NotationError> {
     match word.parse::<u16>() {
         Ok(number) => Ok(number),
@@ -43,6 +47,7 @@ pub fn short(word: &str) -> Result<u16, NotationError> {
     }
 }
 
+/// How often something is done, 0 to 2^32 - 1.
 pub fn count_of(word: &str) -> Result<u32, NotationError> {
     match word.parse::<u32>() {
         Ok(number) => Ok(number),

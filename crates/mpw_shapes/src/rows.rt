@@ -15,12 +15,14 @@ use std::alloc::{AllocError, Global};
 /// A row right of the edges passed so far.
 #[derive(Clone, Copy)]
 pub(crate) struct State {
+    /// How many of the edges passed go up across the row, less those that go down.
     pub winding: i64,
     /// Where the squares began that are in no box yet, or 0 where the winding number is 0.
     pub since: i64,
 }
 
 impl State {
+    /// Left of all edges.
     pub const ZERO: State = State {
         winding: 0,
         since: 0,
@@ -67,6 +69,7 @@ impl State {
 /// What is added to the winding numbers of rows.
 #[derive(Clone, Copy)]
 pub(crate) struct Added {
+    /// May be negative.
     pub winding: i64,
 }
 
@@ -87,7 +90,9 @@ impl Added {
 /// alone, so that no contract says how wide it is.
 #[derive(Clone, Copy)]
 pub(crate) struct Gap {
+    /// Where the gap begins; a row's winding number may be this one.
     pub down: i64,
+    /// Where the gap ends; a row's winding number may be this one.
     pub up: i64,
 }
 
@@ -157,7 +162,9 @@ pub(crate) enum Rows {
 #[cycle(rows)]
 #[derive(Drop)]
 pub(crate) struct Halves {
+    /// The lower rows.
     pub below: Rows,
+    /// The upper rows.
     pub above: Rows,
     /// What is still to be added to the rows of both halves.
     pub added: Added,

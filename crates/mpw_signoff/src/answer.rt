@@ -31,7 +31,9 @@ pub enum NextWaivers {
 /// The reply to a request over the waivers, and what it changes in them.
 #[derive(Drop)]
 pub struct SignOffAnswer {
+    /// What the request is answered.
     pub reply: Reply,
+    /// What has to be done to the waivers for it; nothing where it lists, or is denied or refused.
     pub next: NextWaivers,
 }
 

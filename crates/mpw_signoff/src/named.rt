@@ -15,7 +15,9 @@ use mpw_requests::MarkerName;
 /// A marker of a book with its place.
 #[derive(Clone, Copy)]
 pub(crate) struct Named<'a> {
+    /// Its place in the book, from 0.
     pub place: usize,
+    /// The marker that stands there.
     pub marker: &'a Marker,
 }
 

@@ -26,7 +26,9 @@ use std::alloc::{AllocError, Global};
 /// A user, with the place of the marker whose waiver the user asks for or signs.
 #[derive(Drop)]
 pub struct ByUser {
+    /// The marker's place in the run's book, from 0.
     pub place: usize,
+    /// The session's user.
     pub user: Name,
 }
 

@@ -47,9 +47,13 @@ impl Model for Grid {
 /// Cells in consecutive columns and rows: from the first up to before the second.
 #[derive(Clone, Copy)]
 pub struct Block {
+    /// The first column, from 0.
     pub column0: u32,
+    /// The column behind the last one.
     pub column1: u32,
+    /// The first row, from 0.
     pub row0: u32,
+    /// The row behind the last one.
     pub row1: u32,
 }
 

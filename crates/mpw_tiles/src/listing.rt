@@ -15,8 +15,11 @@ use std::marker::Model;
 /// from which the shape comes.
 #[derive(Clone, Copy, PartialEq, Eq)]
 pub struct Rectangle {
+    /// It has the unit squares from its lower left corner to before its upper right one.
     pub area: Box2,
+    /// Of the shape.
     pub layer: Layer,
+    /// Counted from 0.
     pub origin: u32,
 }
 

@@ -18,8 +18,11 @@ use mpw_walk::Placed;
 /// placed.
 #[derive(Clone, Copy)]
 pub struct PlacedShape {
+    /// Of the element.
     pub layer: Layer,
+    /// Counted from 0.
     pub origin: u32,
+    /// From the element's own coordinates to those of the roots.
     pub placing: Placing,
 }
 

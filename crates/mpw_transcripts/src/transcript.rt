@@ -17,8 +17,10 @@ use thiserror::Error;
 /// Why a text is no script.
 #[derive(Clone, Copy, Debug, PartialEq, Eq, Error)]
 pub enum TranscriptFault {
+    /// A line isn't one of a script.
     #[error("a line of a script is of no form")]
     Form,
+    /// There was no room for what the lines spell.
     #[error("out of memory")]
     Memory,
 }

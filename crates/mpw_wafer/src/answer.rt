@@ -21,7 +21,9 @@ use std::alloc::{AllocError, Global};
 /// The reply to a request over the wafer, and the wafer that it leaves where that is another.
 #[derive(Drop)]
 pub struct WaferAnswer {
+    /// What the request is answered.
     pub reply: Reply,
+    /// The wafer with the change; none where it stays as it is.
     pub next: Option<Wafer>,
 }
 

@@ -22,9 +22,11 @@ const HERE: Placing = Placing {
 pub struct Frame<'a> {
     /// The submission, by number, and its nodes.
     pub submission: u32,
+    /// Those of the submission, each behind those that it places.
     pub nodes: &'a [Node],
     /// The structure's node and its elements.
     pub node: &'a Node,
+    /// All of the structure, in file order, references too.
     pub elements: &'a [Element],
     /// How the structure is placed.
     pub placing: Placing,
@@ -32,7 +34,9 @@ pub struct Frame<'a> {
     pub shape: usize,
     /// The next child of the node, and the next of its instances.
     pub child: usize,
+    /// The next instance's row, from 0.
     pub row: u16,
+    /// The next instance's column, from 0; it runs faster than the row.
     pub column: u16,
 }
 

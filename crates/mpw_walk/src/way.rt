@@ -24,14 +24,19 @@ use mpw_structures::Reference;
 /// What a step found.
 #[derive(Clone, Copy)]
 pub enum Step<'a> {
+    /// It went on, and gave no item.
     On,
+    /// The next item.
     Given(Placed<'a>),
+    /// There are no more items.
     Ended,
 }
 
 /// The structures that a walk has entered.
 pub struct Way<'a> {
+    /// What the roots' submissions stand on.
     pub shelf: &'a Shelf,
+    /// All roots, in the order in which they are walked.
     pub roots: &'a [Root],
     /// The window that the walk keeps to, if any.
     pub window: Option<Box2>,

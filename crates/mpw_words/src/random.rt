@@ -7,6 +7,7 @@ pub struct Random {
 }
 
 impl Random {
+    /// The numbers of a seed.
     pub fn new(seed: u64) -> Random {
         Random { state: seed }
     }

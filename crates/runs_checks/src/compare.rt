@@ -146,9 +146,13 @@ impl Count {
 /// The kinds of random layouts.
 #[derive(Clone, Copy)]
 pub enum Kind {
+    /// Nine boxes a layer, narrower than 32.
     Few,
+    /// 60 boxes a layer, narrower than 8.
     Crowded,
+    /// 40 boxes a layer, narrower than 32, with borders at multiples of eight.
     Aligned,
+    /// 120 boxes a layer over a place of 3,000 by 300.
     Wide,
 }
 

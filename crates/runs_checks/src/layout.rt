@@ -66,6 +66,7 @@ fn told(alloc: Global, pieces: &[Piece]) -> Result<String, AllocError> {
 }
 
 impl Shapes {
+    /// No boxes, and the core that holds all.
     pub fn new(alloc: Global) -> Shapes {
         Shapes {
             first: Vec::new(alloc),

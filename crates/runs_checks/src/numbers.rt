@@ -11,10 +11,12 @@ pub const SIZE: i64 = 64;
 /// Numbers that look random, the same in each run.
 #[derive(Drop)]
 pub struct Numbers {
+    /// The state of a linear congruential generator; the first one is the seed.
     pub state: u64,
 }
 
 impl Numbers {
+    /// The next number, from 0 to before `n`.
     pub fn below(&mut self, n: u32) -> i64
         requires { 0 < n }
     {
@@ -26,6 +28,7 @@ impl Numbers {
         i64::try_from(drawn).unwrap_or(0)
     }
 
+    /// A box within the layout's columns and rows, narrower than `n`. It may have no area.
     pub fn place(&mut self, n: u32) -> Box2
         requires { 0 < n }
     {

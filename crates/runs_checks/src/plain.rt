@@ -17,8 +17,11 @@ struct Edge {
 /// What is looked for: a check, its distance, and the core of the lower left points.
 #[derive(Clone, Copy)]
 pub struct Search {
+    /// Which edges are looked at.
     pub check: Check,
+    /// Edges nearer than this are too near.
     pub distance: i64,
+    /// Half-open; it has the lower left points that are looked for.
     pub core: Box2,
 }
 

@@ -41,6 +41,7 @@ fn index(x: i64, y: i64) -> Option<usize> {
 }
 
 impl Grid {
+    /// The squares that some box has, of those that lie in the grid.
     pub fn painted(alloc: Global, boxes: &[Box2]) -> Result<Grid, AllocError> {
         let mut squares = vec![in alloc; false; 4096]?;
         for b in boxes {
@@ -80,10 +81,15 @@ impl Grid {
 /// A random layout: two layers, a check, a distance and a core.
 #[derive(Drop)]
 pub struct Layout {
+    /// The squares of the check's first layer.
     pub first: Grid,
+    /// The squares of the check's second layer.
     pub second: Grid,
+    /// Which edges are looked at.
     pub check: Check,
+    /// Edges nearer than this are too near.
     pub distance: i64,
+    /// Half-open; it has the point of the edge at `x1` and the row.
     pub core: Box2,
 }
 
@@ -134,6 +140,7 @@ impl Layout {
         Ok(())
     }
 
+    /// What the check finds, by asking each pair of columns in each row of the core: by axis, side, x1, x2 and row.
     pub fn pieces(&self, alloc: Global) -> Result<Vec<Piece>, AllocError> {
         let mut pieces = Vec::new(alloc);
         for axis in [Axis::V, Axis::H] {

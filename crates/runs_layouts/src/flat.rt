@@ -166,6 +166,7 @@ fn flatten<'a>(
     Ok(())
 }
 
+/// The flat list of the roots, by going down each reference anew: what a walk has to give.
 pub fn flat_list<'a>(alloc: Global, shelf: &'a Shelf, roots: &[Root]) -> Result<Vec<Shown<'a>>> {
     let mut list = Vec::new(alloc);
     for root in roots {

@@ -44,6 +44,7 @@ fn name_of(number: u16) -> &'static str {
 }
 
 impl Random {
+    /// The shelves of a seed.
     pub fn new(seed: u64) -> Random {
         Random {
             state: seed,

@@ -9,10 +9,13 @@ use std::alloc::Global;
 /// Rules, coordinates, rows and submissions of random lists are below these.
 pub const RULES: u32 = 2;
 
+/// `x1` and `x2` are below this.
 pub const COORDINATES: u32 = 2;
 
+/// Rows are below this.
 pub const ROWS: u32 = 24;
 
+/// The numbers of the submissions that are met are below this.
 pub const SUBMISSIONS: u32 = 6;
 
 fn has_row(all: &[Marker], line: &Line, row: i64) -> bool {

@@ -15,6 +15,7 @@ pub struct Shapes {
 }
 
 impl Shapes {
+    /// No rectangles and no boxes.
     pub fn new(alloc: Global) -> Shapes {
         Shapes {
             rectangles: Vec::new(alloc),

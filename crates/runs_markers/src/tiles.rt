@@ -17,6 +17,7 @@ pub struct Tiles {
 }
 
 impl Tiles {
+    /// No lists, no markers, and an empty book.
     pub fn new(alloc: Global) -> Tiles {
         Tiles {
             lists: Vec::new(alloc),
@@ -25,6 +26,7 @@ impl Tiles {
         }
     }
 
+    /// Forgets all of it.
     pub fn clear(&mut self, alloc: Global) -> Result<()> {
         *self = Tiles::new(alloc);
         Ok(())

@@ -16,6 +16,7 @@ const DRAWN: Placing = Placing {
     by: Point { x: 0, y: 0 },
 };
 
+/// What the lines made: the shelf, and the placings on it.
 #[derive(Drop)]
 pub struct Top {
     shelf: Shelf,
@@ -40,6 +41,7 @@ fn print_told(rt: &impl Print, told: Result<&str, PlacingFault>) -> Result<()> {
 }
 
 impl Top {
+    /// An empty shelf, and no placings.
     pub fn new(alloc: Global) -> Top {
         Top {
             shelf: Shelf::new(alloc),
@@ -47,6 +49,7 @@ impl Top {
         }
     }
 
+    /// Submits a cell: the structure of that name, of a library in the notation of samples.
     pub fn submit(&mut self, alloc: Global, cell: &str, name: &str, notation: &str) -> Result<()> {
         submit(alloc, &mut self.shelf, cell, name, notation)
     }
@@ -59,6 +62,7 @@ impl Top {
         Ok(println!(rt; "    version {version}")?)
     }
 
+    /// Places a cell's present submission under a label, and tells its version, or why not.
     pub fn place(
         &mut self,
         rt: &(impl Print + AllocGlobal),
@@ -78,6 +82,7 @@ impl Top {
         self.print_version(rt, &cell, &label)
     }
 
+    /// Takes a placing away, and tells so, or why not.
     pub fn unplace(
         &mut self,
         rt: &(impl Print + AllocGlobal),
@@ -102,6 +107,8 @@ impl Top {
         Ok(())
     }
 
+    /// Places a cell so many times where it was drawn, under the labels 0, 1 and so on, and tells how many placings
+    /// there are.
     pub fn fill(&mut self, rt: &(impl Print + AllocGlobal), cell: &str, count: &str) -> Result<()> {
         let cell = Name::read(rt.alloc(), cell.as_bytes())?;
         let Ok(count) = count.parse::<u32>() else {
@@ -140,6 +147,7 @@ impl Top {
         Ok(Snapshot::new(alloc, deck, roots, shelf)?)
     }
 
+    /// Tells how many tiles of that side, in nm, the placings have, or that there is no plan.
     pub fn tiles(&self, rt: &(impl Print + AllocGlobal), side: &str) -> Result<()> {
         let snapshot = self.snapshot(rt.alloc(), side)?;
         match snapshot.plan() {

@@ -9,9 +9,13 @@ use std::io::Write;
 /// A text that a source gives, byte by byte, and the place at which it fails.
 #[derive(Drop)]
 pub struct Text<'a> {
+    /// All bytes, those that were given too.
     pub bytes: &'a [u8],
+    /// The place of the next byte.
     pub at: usize,
+    /// Where it fails, at each call, in place of what it would give there.
     pub fails_at: usize,
+    /// How often it failed.
     pub failures: u64,
 }
 
@@ -38,9 +42,13 @@ impl Source for Text<'_> {
 /// What a sink took, how much it takes before it fails, and whether it took bytes since it was flushed.
 #[derive(Drop)]
 pub struct Paper {
+    /// What it took so far.
     pub bytes: Vec<u8>,
+    /// How many bytes it takes still.
     pub room: usize,
+    /// How often it failed.
     pub failures: u64,
+    /// Whether bytes came since it was flushed.
     pub is_pending: bool,
 }
 

@@ -14,8 +14,11 @@ use std::thread::Threads;
 /// The places at which the devices and the keeper fail.
 #[derive(Clone, Copy)]
 pub struct Devices {
+    /// The byte of the input at which the source fails, from 0.
     pub source: usize,
+    /// How many bytes the sink takes.
     pub sink: usize,
+    /// Which calls of the keeper fail.
     pub keeper: Fails,
 }
 
@@ -23,11 +26,17 @@ pub struct Devices {
 /// the numbers of calls in the history and of changes that were kept.
 #[derive(Drop)]
 pub struct Served {
+    /// What the sink took.
     pub text: Vec<u8>,
+    /// The word of how it ended, or of the device that failed.
     pub end: &'static str,
+    /// Whether the desk was handed its end.
     pub is_gone: bool,
+    /// Whether the sink took bytes since it was flushed.
     pub is_pending: bool,
+    /// How many calls the desk's history has.
     pub calls: usize,
+    /// How many changes the keeper has.
     pub kept: usize,
 }
 

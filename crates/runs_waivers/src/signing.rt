@@ -7,6 +7,7 @@ use mpw_hier::Shelf;
 use mpw_waiver::{Waiver, WaiverFault, Waivers};
 use std::alloc::Global;
 
+/// What the lines made: the shelf, and the waivers of a book's markers.
 #[derive(Drop)]
 pub struct Desk {
     shelf: Shelf,
@@ -52,6 +53,7 @@ fn print_waiver(rt: &impl Print, place: usize, waiver: &Waiver) -> Result<()> {
 }
 
 impl Desk {
+    /// An empty shelf, and a book without markers.
     pub fn new(alloc: Global) -> Result<Desk> {
         Ok(Desk {
             shelf: Shelf::new(alloc),
@@ -59,6 +61,7 @@ impl Desk {
         })
     }
 
+    /// Begins anew with an empty shelf, and so many markers without a waiver.
     pub fn begin(&mut self, alloc: Global, size: &str) -> Result<()> {
         let waivers = Waivers::new(alloc, place_of(size)?)?;
         self.shelf = Shelf::new(alloc);
@@ -66,6 +69,7 @@ impl Desk {
         Ok(())
     }
 
+    /// Puts a version of a cell on the shelf, which the user submitted, and tells its number.
     pub fn submit(
         &mut self,
         rt: &(impl Print + AllocGlobal),
@@ -78,6 +82,7 @@ impl Desk {
         Ok(println!(rt; "    {number}")?)
     }
 
+    /// Asks for the waiver of the marker at a place, and tells so, or why not.
     pub fn ask(&mut self, rt: &(impl Print + AllocGlobal), place: &str, user: &str) -> Result<()> {
         let place = place_of(place)?;
         let user = Name::read(rt.alloc(), user.as_bytes())?;
@@ -88,6 +93,8 @@ impl Desk {
         Ok(println!(rt; "    asked")?)
     }
 
+    /// Signs the waiver of the marker at a place, which meets the submissions of these numbers, and tells so, or why
+    /// not.
     pub fn sign(
         &mut self,
         rt: &(impl Print + AllocGlobal),
@@ -108,6 +115,7 @@ impl Desk {
         Ok(println!(rt; "    signed")?)
     }
 
+    /// Tells the waivers, by place.
     pub fn list(&self, rt: &impl Print) -> Result<()> {
         for place in 0..self.waivers.len() {
             if let Some(waiver) = self.waivers.waiver_at(place) {
@@ -117,6 +125,7 @@ impl Desk {
         Ok(())
     }
 
+    /// Tells how many markers have no signed waiver.
     pub fn open(&self, rt: &impl Print) -> Result<()> {
         let unsigned = self.waivers.count_unsigned();
         Ok(println!(rt; "    {unsigned} open")?)

@@ -32,7 +32,9 @@ pub enum NextRun {
 /// The reply to a request over the run, and what it changes in the run.
 #[derive(Drop)]
 pub struct RunAnswer {
+    /// What the request is answered.
     pub reply: Reply,
+    /// What has to be done to the run for it; nothing where it lists, or is denied or refused.
     pub next: NextRun,
 }
 
