@@ -8,7 +8,7 @@ use mpw_lists::{Same, SharedList};
 pub struct Binding {
     /// A name that the top reaches and its library has no structure of.
     pub name: Name,
-    /// What was the present submission of the cell of that name when this one came, counted from 0.
+    /// The number of the submission that was the present one of the cell of that name when this one came, from 0.
     pub submission: u32,
 }
 

@@ -42,7 +42,7 @@ impl Drop for Descent {
 /// What a step found.
 #[derive(Clone, Copy, PartialEq, Eq)]
 pub enum Step {
-    /// There is more to do.
+    /// The search went on: it entered a target, passed one that is done, or went back from a place.
     On,
     /// The way is empty: all that the top reaches is in order.
     Done,

@@ -13,7 +13,7 @@ use std::marker::Model;
 pub struct CutJob {
     /// The run's number, counted from 1, by which its answer is known.
     pub run: u32,
-    /// What is cut.
+    /// The deck, the placed submissions and the shelf that the run looks at.
     pub snapshot: Snapshot,
 }
 

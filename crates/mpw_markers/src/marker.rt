@@ -16,7 +16,7 @@ use std::sync::Arc;
 /// the side, 0 or 1, and the two coordinates, in nm.
 #[derive(Clone, Copy, PartialEq, Eq, PartialOrd, Ord)]
 pub struct Line {
-    /// Its place in the deck, from 0.
+    /// The rule's place in the deck, from 0.
     pub rule: u32,
     /// The direction of the edges; `V` comes before `H`.
     pub axis: Axis,
@@ -31,7 +31,7 @@ pub struct Line {
 /// A marker without the submissions that it meets.
 #[derive(Clone, Copy, PartialEq, Eq)]
 pub struct Key {
-    /// Its place in the deck, from 0.
+    /// The rule's place in the deck, from 0.
     pub rule: u32,
     /// The direction of the edges.
     pub axis: Axis,
@@ -50,21 +50,21 @@ pub struct Key {
 /// A maximal run of the rows from `y0` to before `y1` with a pair step of a rule at `x1` and `x2`, in nm. The
 /// closed box from `(x1, y0)` to `(x2, y1)`, on axis `H` with its coordinates exchanged, meets the submissions of `met`.
 pub struct Marker {
-    /// Its place in the deck, from 0.
+    /// The rule's place in the deck, from 0.
     pub rule: u32,
     /// The direction of the edges.
     pub axis: Axis,
     /// Which of the two kinds of pairs that a rule of two layers finds; 0 of other rules.
     pub side: u8,
-    /// The first edge.
+    /// The first edge, in nm.
     pub x1: i64,
-    /// The second edge: `x1` or more, by less than the rule's distance.
+    /// The second edge, in nm: `x1` or more, by less than the rule's distance.
     pub x2: i64,
-    /// The first row.
+    /// The first row, in nm.
     pub y0: i64,
-    /// The row behind the last one, above `y0`.
+    /// The row behind the last one, above `y0`, in nm.
     pub y1: i64,
-    /// Their numbers, ascending, each once.
+    /// The numbers of the submissions that it meets, ascending, each once.
     pub met: Met,
 }
 

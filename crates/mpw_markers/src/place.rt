@@ -11,9 +11,9 @@ use mpw_edges::Axis;
 pub(crate) struct LinePlace {
     /// The rule's place in the deck, from 0.
     pub rule: u32,
-    /// 0 or 1.
+    /// 0 of vertical edges, 1 of horizontal ones.
     pub axis: u8,
-    /// 0 or 1.
+    /// Which of the two kinds of pairs that a rule of two layers finds; 0 of other rules.
     pub side: u8,
     /// The first edge, in nm.
     pub x1: i64,
@@ -24,7 +24,7 @@ pub(crate) struct LinePlace {
 /// Where a marker stands in a book: its line and its rows.
 #[derive(Clone, Copy, PartialEq, Eq, PartialOrd, Ord)]
 pub(crate) struct Place {
-    /// What it is ordered by first.
+    /// The line, by which places are ordered first.
     pub line: LinePlace,
     /// The first row, in nm.
     pub y0: i64,

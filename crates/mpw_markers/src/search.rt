@@ -11,18 +11,18 @@ use std::alloc::{AllocError, Global};
 /// A rectangle of a shape where it is placed, in nm, and the number of the submission from which the shape comes.
 #[derive(Clone, Copy, PartialEq, Eq)]
 pub struct Rectangle {
-    /// It is met where it shares a point with a box, a corner too.
+    /// The rectangle, closed: a box meets it that shares a corner with it alone.
     pub area: Box2,
-    /// Counted from 0.
+    /// The submission's number on the shelf, from 0.
     pub origin: u32,
 }
 
 /// A box, and the place of its answer.
 #[derive(Clone, Copy, PartialEq, Eq)]
 pub(crate) struct Item {
-    /// From 0, in the list of all boxes.
+    /// Where its answer stands in the list of all answers, from 0.
     pub place: usize,
-    /// Closed, in nm.
+    /// The box, closed, in nm.
     pub area: Box2,
 }
 
@@ -67,9 +67,9 @@ fn is_within(b: &Box2, hull: &Box2) -> bool
 /// Origins that all boxes of a part meet, each once, and the rectangles that some of them may meet.
 #[derive(Drop)]
 pub(crate) struct Near {
-    /// Those of rectangles that have the part's whole hull too.
+    /// The origins that each box meets, of the rectangles too that have the whole hull of the boxes.
     pub common: Met,
-    /// Those that meet the hull and don't have all of it.
+    /// The rectangles that meet the hull, and don't have all of it.
     pub rectangles: Vec<Rectangle>,
 }
 

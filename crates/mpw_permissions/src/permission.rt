@@ -51,7 +51,7 @@ impl Drop for Object {
 pub struct Grant {
     /// What may be done. It may stand with an object of the other kind, which no request needs.
     pub operation: Operation,
-    /// What it may be done to.
+    /// The object that it may be done to: of submit, use, read and place a cell, of all others the desk.
     pub object: Object,
     /// A session in which a role at or above it is active is permitted it.
     pub role: Name,

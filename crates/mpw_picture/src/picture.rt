@@ -13,20 +13,20 @@ use std::alloc::{AllocError, Global};
 /// A marker in a picture: its closed box, in nm, and its rule's place in the deck.
 #[derive(Clone, Copy, PartialEq, Eq)]
 pub struct Mark {
-    /// From its `x1` and `y0` to its `x2` and `y1`, on axis `H` with the coordinates exchanged.
+    /// The marker's closed box, on axis `H` with the coordinates of its edges and rows exchanged.
     pub area: Box2,
-    /// Counted from 0; it decides on the colour.
+    /// The rule's place in the deck, from 0, by which its name and its colour are found.
     pub rule: u32,
 }
 
 /// What is drawn: a window, in nm, the rectangles in it, and the markers that meet it.
 #[derive(Drop)]
 pub struct Picture {
-    /// What is drawn of the plane.
+    /// The box of the plane that is drawn.
     pub window: Box2,
-    /// Where they are placed; what lies beyond the window isn't drawn.
+    /// What lies in the window of the shapes that are shown, by layer and submission; none goes beyond it.
     pub rectangles: Vec<Rectangle>,
-    /// In the order of their keys.
+    /// The markers whose closed boxes share a point with the window, in their order.
     pub marks: Vec<Mark>,
 }
 

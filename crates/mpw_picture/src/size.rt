@@ -8,13 +8,13 @@ use mpw_geom::Box2;
 /// Where a box lies in a drawing, in nm: x from its left edge, and y down from its top edge.
 #[derive(Clone, Copy)]
 pub(crate) struct Corners {
-    /// 0 at the window's left side.
+    /// Its left side: 0 is that of the window.
     pub left: i128,
-    /// 0 at the window's upper side.
+    /// Its upper side: 0 is that of the window.
     pub top: i128,
-    /// `left` or more.
+    /// Its right side, `left` or more.
     pub right: i128,
-    /// `top` or more.
+    /// Its lower side, `top` or more.
     pub bottom: i128,
 }
 

@@ -11,22 +11,22 @@ use std::alloc::{AllocError, Global};
 /// What tells the lines apart on which runs lie: a side and two numbers, in nm.
 #[derive(Clone, Copy, PartialEq, Eq, PartialOrd, Ord)]
 pub struct Line {
-    /// 0 or 1 of the runs that checks make.
+    /// Of the runs that checks find, the side of their pair steps, 0 or 1.
     pub side: u8,
-    /// The edge at `x1` of the runs that checks make.
+    /// Of the runs that checks find, `x1` of their pair steps.
     pub first: i64,
-    /// The edge at `x2` of the runs that checks make.
+    /// Of the runs that checks find, `x2` of their pair steps.
     pub second: i64,
 }
 
 /// The places from `from` to before `to` on a line, in nm.
 #[derive(Clone, Copy, PartialEq, Eq, PartialOrd, Ord)]
 pub struct Run {
-    /// Where it lies.
+    /// The line on which it lies; runs of several lines never touch.
     pub line: Line,
-    /// The first place.
+    /// The first place, in nm.
     pub from: i64,
-    /// The place behind the last one.
+    /// The place behind the last one, above `from` where the run has a place.
     pub to: i64,
 }
 

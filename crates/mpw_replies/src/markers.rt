@@ -101,9 +101,9 @@ impl<'a> Model for MarkerViews<'a> {
 /// The lines of a listing: those of the markers that are shown in full, and then the numbers of those that are masked.
 #[derive(Drop)]
 pub struct MarkerLines<'a> {
-    /// In the order of the book; they come first.
+    /// The markers in full, in the order of the book; they come first.
     pub full: MarkerViews<'a>,
-    /// In the order of the deck's rules.
+    /// How many markers of a rule are masked, where there are such, in the order of the deck's rules.
     pub masked: MaskedViews<'a>,
 }
 

@@ -16,7 +16,7 @@ use std::marker::Model;
 pub struct MaskedView<'a> {
     /// The rule's name in the run's deck.
     pub rule: &'a Name,
-    /// At least 1.
+    /// How many of its markers the session may read in part, at least 1.
     pub number: usize,
 }
 

@@ -13,11 +13,11 @@ use std::alloc::{AllocError, Global};
 /// A vertical edge of a boundary, from `low` to above it at `high`, in nm.
 #[derive(Clone, Copy)]
 pub(crate) struct Edge {
-    /// Where it stands.
+    /// Its x coordinate.
     pub x: i64,
-    /// Its lower end.
+    /// The y coordinate of its lower end.
     pub low: i64,
-    /// Its upper end, above `low`.
+    /// The y coordinate of its upper end, above `low`.
     pub high: i64,
     /// Whether the boundary runs up along it.
     pub is_up: bool,

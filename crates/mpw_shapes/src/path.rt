@@ -14,9 +14,9 @@ use std::alloc::{AllocError, Global};
 /// A stretch of an axis, in nm.
 #[derive(Clone, Copy)]
 pub(crate) struct Stretch {
-    /// Where it begins.
+    /// The coordinate where it begins.
     pub low: i64,
-    /// Where it ends; below `low` where a lengthening takes more than the segment has.
+    /// The coordinate where it ends; below `low` where a lengthening takes more than the segment has.
     pub high: i64,
 }
 

@@ -69,7 +69,7 @@ impl State {
 /// What is added to the winding numbers of rows.
 #[derive(Clone, Copy)]
 pub(crate) struct Added {
-    /// May be negative.
+    /// How many edges up, less those down; it may be negative.
     pub winding: i64,
 }
 

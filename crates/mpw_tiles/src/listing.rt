@@ -15,11 +15,11 @@ use std::marker::Model;
 /// from which the shape comes.
 #[derive(Clone, Copy, PartialEq, Eq)]
 pub struct Rectangle {
-    /// It has the unit squares from its lower left corner to before its upper right one.
+    /// Its squares are those from the lower left corner to before the upper right one, in nm.
     pub area: Box2,
-    /// Of the shape.
+    /// The layer of the shape, with its datatype.
     pub layer: Layer,
-    /// Counted from 0.
+    /// The number of the submission from which the shape comes, from 0.
     pub origin: u32,
 }
 

@@ -18,11 +18,11 @@ use mpw_walk::Placed;
 /// placed.
 #[derive(Clone, Copy)]
 pub struct PlacedShape {
-    /// Of the element.
+    /// The layer of the shape, with its datatype.
     pub layer: Layer,
-    /// Counted from 0.
+    /// The number of the submission from which it comes, from 0.
     pub origin: u32,
-    /// From the element's own coordinates to those of the roots.
+    /// From the coordinates of the shape's structure to those in which the rectangles lie.
     pub placing: Placing,
 }
 

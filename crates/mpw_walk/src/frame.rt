@@ -22,11 +22,11 @@ const HERE: Placing = Placing {
 pub struct Frame<'a> {
     /// The submission, by number, and its nodes.
     pub submission: u32,
-    /// Those of the submission, each behind those that it places.
+    /// The nodes of that submission, each behind those that it places, the top last.
     pub nodes: &'a [Node],
     /// The structure's node and its elements.
     pub node: &'a Node,
-    /// All of the structure, in file order, references too.
+    /// The elements of the structure in file order, references too.
     pub elements: &'a [Element],
     /// How the structure is placed.
     pub placing: Placing,

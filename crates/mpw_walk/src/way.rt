@@ -34,7 +34,7 @@ pub enum Step<'a> {
 
 /// The structures that a walk has entered.
 pub struct Way<'a> {
-    /// What the roots' submissions stand on.
+    /// The shelf on which the roots' submissions stand.
     pub shelf: &'a Shelf,
     /// All roots, in the order in which they are walked.
     pub roots: &'a [Root],

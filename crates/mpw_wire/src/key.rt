@@ -17,15 +17,15 @@ use std::alloc::{AllocError, Global};
 pub struct Spot {
     /// `V` or `H`, the direction of the edges.
     pub axis: Axis,
-    /// 0 or 1.
+    /// Which of the two kinds of pairs that a rule of two layers finds, 0 or 1; 0 of other rules.
     pub side: u8,
-    /// -2^30 to 2^30, as the other three.
+    /// The first edge: from -2^30 to 2^30, as the other three.
     pub x1: i64,
-    /// In a marker `x1` or more.
+    /// The second edge: in a marker `x1` or more, in a request any.
     pub x2: i64,
     /// The first row.
     pub y0: i64,
-    /// The row behind the last one, in a marker above `y0`.
+    /// The row behind the last one: in a marker above `y0`, in a request any.
     pub y1: i64,
 }
 
