@@ -1,6 +1,6 @@
 //! The nodes of a submission, made from below.
 //!
-//! Each structure is looked at once, behind all those that it places, so that its size is that of its
+//! Each structure is looked at once, after all those that it places, so that its size is that of its
 //! own shapes and of the sizes that stand there already.
 
 ghost use Rattle.std.specs.Prelude.{◌≡◌, ◌<◌, [], length, slice_set, IfOk, IfErr, OnOk, Err, Some};

@@ -187,7 +187,7 @@ pub fn own_requests_are_never_denied_a_permission()
     own_requests_need_no_permission();
 }
 
-/// The trail behind an event is that before it and, behind a request, an entry of it: its user, and what its reply says first.
+/// The trail after an event is that before it and, after a request, an entry of it: its user, and what its reply says first.
 /// So it has each request that is a call of the history, in order, and nothing else.
 pub fn the_trail_has_each_request()
     ensures { (state : State) (event : Event) (kept : Bool) → (after state event kept).trail ≡ state.trail ++ entries_of state.policy (after state event kept).policy event (response_of state event kept) }

@@ -1,7 +1,7 @@
 //! Laws of waivers. Each function has an empty body: its contract is the law.
 ghost use Rattle.mpw_laws.specs.WaiverLaws.{PutOrBefore, NoneAtFirst, SignersAreApart, ApartMaySign, SubmitterIsLeast, AskerAsked, ReachedHaveTheirSize, ReachedAreSignedApart, NoneIsUnsigned};
 
-/// Behind a waiver that was put, one that stands at a place was put there or stood there before; at first none stands anywhere.
+/// After a waiver was put, one that stands at a place was put there or stood there before; at first none stands anywhere.
 pub fn waivers_stand_where_they_were_put()
     ensures put { PutOrBefore }
     ensures none { NoneAtFirst }

@@ -4,7 +4,7 @@ ghost use Rattle.mpw_laws.specs.WorkLaws.{WorkEnds, WorkGoesOn};
 use crate::desk::keepers_have_the_changes_in_order;
 use mpw_run::tests_are_exact;
 
-/// The work behind an accepted `run` goes on until the run is finished, or the desk answers no event of a run any more,
+/// The work after an accepted `run` goes on until the run is finished, or the desk answers no event of a run any more,
 /// unless memory is wanting.
 pub fn work_ends()
     ensures { WorkEnds }

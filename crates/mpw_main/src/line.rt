@@ -23,7 +23,7 @@ impl Line {
 }
 
 impl Progress for Line {
-    /// Writes the line anew, and ends it behind the last job. A terminal that fails keeps nothing from being worked off.
+    /// Writes the line anew, and ends it after the last job. A terminal that fails keeps nothing from being worked off.
     fn tell(&mut self, done: usize, total: usize) {
         if let Some(stderr) = &mut self.terminal {
             let end = if done == total { "\n" } else { "" };

@@ -14,7 +14,7 @@ use mpw_laws::{
 use mpw_markers::places_are_of_their_keys;
 
 /// Two desks of which a connection's sessions have the same view list the same to it, and the views are the same again
-/// behind that: for each of `whoami`, `cells`, `shapes`, `status`, `markers` and `waivers`, and so for every list of them.
+/// after that: for each of `whoami`, `cells`, `shapes`, `status`, `markers` and `waivers`, and so for every list of them.
 pub fn equal_views_give_equal_listings()
     ensures told { EqualViewsGiveEqualListings }
     ensures left { ListingsLeaveTheViews }
@@ -24,7 +24,7 @@ pub fn equal_views_give_equal_listings()
 }
 
 /// The same of `waive` and `sign` too: two desks of which a connection's sessions have the same view answer them alike, and the
-/// views are the same again behind them, with the waiver that was asked for or signed; and so for every list of these requests.
+/// views are the same again after them, with the waiver that was asked for or signed; and so for every list of these requests.
 /// That the states are orderly is true of every desk.
 pub fn equal_views_give_equal_answers()
     ensures told { EqualViewsGiveEqualAnswers }
@@ -37,7 +37,7 @@ pub fn equal_views_give_equal_answers()
 }
 
 /// So it is of any two desks: over every list of these requests they give the same answers to a connection's sessions that have
-/// the same view, and the views are the same again behind it.
+/// the same view, and the views are the same again after it.
 pub fn desks_of_equal_views_answer_alike(first: &Core, second: &Core)
     ensures { EqualViewsAreAnsweredAlike (state_of first.now) (state_of second.now) }
 {

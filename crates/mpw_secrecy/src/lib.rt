@@ -6,7 +6,7 @@
 //! those of which the user submitted what it meets and its waiver, and per rule its name and how many are masked. Two desks of
 //! which a connection's sessions have the same view give the same answers to `whoami`, `cells`, `shapes`, `status`, `markers`, `waivers`, `waive` and `sign`,
 //! whatever else they hold, where neither desk is closed or at its limit and both or neither keep each change. The views are the
-//! same again behind them.
+//! same again after them.
 //!
 //! Two requests tell more than the view, each to those with a permission of its own: `verdict` counts all markers, and `trail` shows
 //! the requests of all users.

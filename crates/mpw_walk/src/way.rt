@@ -1,7 +1,7 @@
 //! The way of a walk: the structures that it has entered, from a root down.
 //!
 //! A turn gives the next shape of the last frame, or enters its next instance, which becomes the last
-//! frame. A frame behind its last turn is dropped, and what misses the window is passed over, which are no
+//! frame. A frame is dropped after its last turn, and what misses the window is passed over, which are no
 //! turns. Each structure has fewer levels than the one that places it, so there are never more frames than
 //! levels.
 

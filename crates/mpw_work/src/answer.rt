@@ -13,7 +13,7 @@ use std::alloc::{AllocError, Global};
 const KEPT: usize = 4 << 20;
 
 /// Takes a block and gives it back untouched, since the C library's heap then keeps twice as much of what is freed. Until it
-/// was given back a large block it returns the end of the heap to the system wherever 128 KiB of it are free, as behind each
+/// was given back a large block it returns the end of the heap to the system wherever 128 KiB of it are free, as after each
 /// tile, and a page that is taken again costs a fault. The blocks after the first come from the thread's own heap, which so
 /// grows by one call of the system, where it would else grow page by page. Where there is no memory nothing changes.
 pub(crate) fn keep_freed(alloc: Global) {

@@ -7,7 +7,7 @@
 //! - `submit CELL TOP | ..` puts a library on the shelf, and prints what it shows;
 //! - `fill C N | ..` submits the library's `TOP` to the cells C0 to C(N-1), and `again CELL N | ..` N times to one;
 //! - `same N N` compares two submissions and their libraries by value, `apart CELL TOP | ..` a copy of the shelf before
-//!   and behind a submission to the copy alone;
+//!   and after a submission to the copy alone;
 //! - `walk N R90 x y, ..` prints each shape of placed submissions, `count N R90 x y, ..` their number;
 //! - `within x0 y0 x1 y1, N R90 x y, ..` prints each shape of placed submissions that meets a window;
 //! - `walks N` compares walks over random shelves with a plain flattening.

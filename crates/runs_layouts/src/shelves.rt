@@ -78,7 +78,7 @@ fn same(rt: &impl Print, shelf: &Shelf, first: &str, second: &str) -> Result<()>
     Ok(println!(rt; "    libraries {libraries}, submissions {submissions}")?)
 }
 
-/// Submits to a copy of the shelf, and prints whether it is the same as the shelf before and behind that.
+/// Submits to a copy of the shelf, and prints whether it is the same as the shelf before and after that.
 fn apart(
     rt: &(impl Print + AllocGlobal),
     shelf: &Shelf,

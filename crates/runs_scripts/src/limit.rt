@@ -47,7 +47,7 @@ pub fn tell_whoami(rt: &HostRuntime, core: &mut Core) -> Result<()> {
     Ok(())
 }
 
-/// Fills a history up to its last call but one, and tells what the next two requests are answered, and a restart behind
+/// Fills a history up to its last call but one, and tells what the next two requests are answered, and a restart after
 /// them.
 fn fill(rt: &HostRuntime, core: &mut Core) -> Result<()> {
     end_connections(core, MAX_EVENTS - 1)?;
