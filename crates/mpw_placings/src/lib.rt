@@ -1,4 +1,4 @@
-//! The placings of the assembled top: which submissions are placed, and where.
+//! The placings on the wafer: which submissions are placed, and where.
 //!
 //! A placing is known by its cell and its label together, and keeps the submission that was the cell's
 //! present one when it was made. [`Placings`] is the table of them, which copies share: [`Placings::place`]

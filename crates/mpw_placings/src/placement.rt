@@ -1,4 +1,4 @@
-//! One placing of the assembled top.
+//! One placing on the wafer.
 
 ghost use Rattle.std.specs.Prelude.{◌≡◌, IfOk};
 ghost use Rattle.mpw_placings.specs.Placements.{is_at};
@@ -7,7 +7,7 @@ use mpw_geom::Name;
 use mpw_walk::Root;
 use std::alloc::AllocError;
 
-/// A submission that is placed in the assembled top. Its cell and its label together are its name.
+/// A submission that is placed on the wafer. It is known by its cell and its label together.
 pub struct Placement {
     /// The cell of the submission.
     pub cell: Name,

@@ -6,7 +6,7 @@ use crate::Placings;
 use mpw_deck::Deck;
 use std::alloc::{AllocError, Global};
 
-/// The placings of the assembled top, and the deck of its checks, where there is one. Copies share both.
+/// The placings on the wafer, and the deck that it is checked by, where there is one. Copies share both.
 pub struct Wafer {
     /// In the order in which they were made, at most 4096.
     pub placings: Placings,

@@ -1,4 +1,4 @@
-//! The assembled top: a shelf and the placings on it.
+//! What lies on the wafer: a shelf, and the placings of its submissions.
 
 use crate::decks;
 use anyhow::{Result, bail};
@@ -16,7 +16,7 @@ const DRAWN: Placing = Placing {
     by: Point { x: 0, y: 0 },
 };
 
-/// What the lines made: the shelf, and the placings on it.
+/// What the lines made: the shelf, and the placings of its submissions.
 #[derive(Drop)]
 pub struct Top {
     shelf: Shelf,
