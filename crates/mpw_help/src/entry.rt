@@ -41,7 +41,7 @@ pub struct Entry {
 /// The entries of a subject.
 #[derive(Clone, Copy)]
 pub struct Table {
-    /// The subject.
+    /// The subject, which stands before the entries' words where `mpw help` lists them.
     pub title: &'static str,
     /// In the order in which they are told.
     pub entries: &'static [Entry],

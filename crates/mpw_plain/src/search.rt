@@ -20,9 +20,9 @@ struct Step {
 /// A maximal run of rows, from `y0` to before `y1`, with the submissions that it meets.
 #[derive(Drop)]
 pub struct PlainMarker {
-    /// Its place in the deck, from 0.
+    /// The rule's place in the deck, from 0.
     pub rule: u32,
-    /// Whether its edges are: then x and y are exchanged.
+    /// Whether its edges are horizontal; its coordinates are exchanged then.
     pub is_horizontal: bool,
     /// Which of the two kinds of pairs that a rule of two layers finds; 0 of other rules.
     pub side: u8,
@@ -34,7 +34,7 @@ pub struct PlainMarker {
     pub y0: i64,
     /// The row behind the last one, in nm.
     pub y1: i64,
-    /// Their numbers, ascending, each once.
+    /// The numbers of the submissions that it meets, ascending, each once.
     pub met: Vec<u32>,
 }
 

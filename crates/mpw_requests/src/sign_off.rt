@@ -10,7 +10,7 @@ pub struct MarkerName {
     pub rule: Name,
     /// The direction of the marker's edges.
     pub axis: Axis,
-    /// Which of the two kinds of pairs that a rule of two layers finds; 0 of other rules.
+    /// Which of the two kinds of pairs that a rule of two layers finds; in markers of other rules it is 0.
     pub side: u8,
     /// The first edge, across the rows.
     pub x1: i64,

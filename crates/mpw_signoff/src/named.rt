@@ -17,7 +17,7 @@ use mpw_requests::MarkerName;
 pub(crate) struct Named<'a> {
     /// Its place in the book, from 0.
     pub place: usize,
-    /// The marker that stands there.
+    /// The marker that stands at that place.
     pub marker: &'a Marker,
 }
 
