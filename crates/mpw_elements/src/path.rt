@@ -24,9 +24,9 @@ use std::alloc::Global;
 pub struct Breadth {
     /// The whole width, even and not negative; 0 where there is no WIDTH.
     pub width: i64,
-    /// Beyond the first point, by PATHTYPE and BGNEXTN; it may be negative.
+    /// How far it goes beyond the first point, by PATHTYPE and BGNEXTN; it may be negative.
     pub begin: i64,
-    /// Beyond the last point, by PATHTYPE and ENDEXTN; it may be negative.
+    /// How far it goes beyond the last point, by PATHTYPE and ENDEXTN; it may be negative.
     pub end: i64,
 }
 

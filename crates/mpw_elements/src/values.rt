@@ -22,9 +22,9 @@ use std::alloc::Global;
 pub struct Grid {
     /// Where the structure's origin comes in the first column of the first row.
     pub origin: Point,
-    /// From one column to the next, in any direction.
+    /// The step from one column to the next, in any direction.
     pub column_step: Point,
-    /// From one row to the next, in any direction.
+    /// The step from one row to the next, in any direction.
     pub row_step: Point,
 }
 

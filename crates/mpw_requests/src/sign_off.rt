@@ -12,9 +12,9 @@ pub struct MarkerName {
     pub axis: Axis,
     /// Which of the two kinds of pairs that a rule of two layers finds; in markers of other rules it is 0.
     pub side: u8,
-    /// The first edge, across the rows.
+    /// The coordinate of the first edge.
     pub x1: i64,
-    /// The second edge, across the rows.
+    /// The coordinate of the second edge.
     pub x2: i64,
     /// The first row.
     pub y0: i64,

@@ -33,7 +33,7 @@ pub struct Path {
     pub begin: i64,
     /// How far the last segment is lengthened forwards, in nm. It may be negative.
     pub end: i64,
-    /// The points of the centre line, in file order, in nm.
+    /// The points of the centre line in file order, in nm: two at least, each apart from the one before.
     pub points: Points,
 }
 
