@@ -16,6 +16,9 @@ use std::alloc::Global;
 
 /// The boundary whose first record was read, which begins at `start`, as an element. A box has BOXTYPE in the place
 /// of DATATYPE.
+///
+/// # Errors
+/// The first fault of its records, or want of memory.
 #[tactic(auto, unfolding(crate::specs::Internal::Grammar::boundary_by_layer, mpw_records::specs::Format::least_size))]
 pub fn read_boundary(
     alloc: Global,

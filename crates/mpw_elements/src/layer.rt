@@ -12,6 +12,9 @@ use mpw_geom::Layer;
 use mpw_records::{Records, kind};
 
 /// The layer of an element that begins at `start`. A box has BOXTYPE in the place of DATATYPE.
+///
+/// # Errors
+/// The first fault of its two records.
 #[tactic(auto, unfolding(crate::specs::Internal::Grammar::layer, mpw_records::specs::Format::least_size))]
 pub fn read_layer(records: &mut Records<'_>, start: usize, datatype: u8) -> Result<Layer, ReadError>
     requires { 2 ≤ least_size datatype }

@@ -119,6 +119,9 @@ fn read_breadth<'a>(
 }
 
 /// The path whose first record was read, which begins at `start`, as an element.
+///
+/// # Errors
+/// The first fault of its records, or want of memory.
 #[tactic(auto, unfolding(crate::specs::Internal::Grammar::path_by_breadth, mpw_records::specs::Format::least_size))]
 pub fn read_path(
     alloc: Global,

@@ -31,6 +31,9 @@ fn is_skipped(kind: u8) -> bool
 }
 
 /// The next record of the element that began at `start`, without those that say nothing of it.
+///
+/// # Errors
+/// The record's fault; `Unexpected` at `start` where there are no more records.
 pub fn next_field<'a>(records: &mut Records<'a>, start: usize) -> Result<Record<'a>, ReadError>
     ensures field { GivesReading raw result records.new (field start records.old) }
     ensures rest { length records.new ≤ length records.old }
@@ -49,6 +52,9 @@ pub fn next_field<'a>(records: &mut Records<'a>, start: usize) -> Result<Record<
 }
 
 /// The value that a record told, and the next record of the element. A fault of the value comes first.
+///
+/// # Errors
+/// The value's fault, or that of [`next_field`].
 pub fn value_and_next<'a, T: Copy>(
     records: &mut Records<'a>,
     start: usize,
@@ -90,6 +96,9 @@ pub fn demand(found: Record<'_>, kind: u8) -> Result<Record<'_>, ReadFault>
 }
 
 /// The next record of the element, which must be of a type.
+///
+/// # Errors
+/// The fault of [`next_field`], or `Unexpected` at a record of another type.
 #[tactic(auto, unfolding(crate::specs::Reading::expected))]
 pub fn expect<'a>(
     records: &mut Records<'a>,
@@ -105,6 +114,9 @@ pub fn expect<'a>(
 }
 
 /// The element, whose next record must be ENDEL.
+///
+/// # Errors
+/// The fault of [`next_field`], or `Unexpected` at another record.
 #[tactic(auto, unfolding(crate::specs::Internal::Grammar::end_element))]
 pub fn end_element(
     records: &mut Records<'_>,

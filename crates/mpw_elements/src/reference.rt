@@ -141,6 +141,9 @@ fn read_array(
 }
 
 /// The reference whose SREF or AREF was read, which begins at `start`, as an element.
+///
+/// # Errors
+/// The first fault of its records, or want of memory.
 #[tactic(auto, unfolding(crate::specs::Internal::Grammar::reference, mpw_records::specs::Format::least_size))]
 pub fn read_reference(
     alloc: Global,

@@ -115,6 +115,9 @@ fn merge_repeats(mut points: Vec<Point>) -> Vec<Point>
 }
 
 /// The corners of a boundary.
+///
+/// # Errors
+/// `NotManhattan` where an edge, the closing one too, is neither horizontal nor vertical; or want of memory.
 #[tactic(auto, unfolding(crate::specs::Values::corners_of))]
 pub fn corners(alloc: Global, unit: u16, xy: Record<'_>) -> Result<Points, ReadError>
     requires { unit ≤ 1000 }
@@ -128,6 +131,10 @@ pub fn corners(alloc: Global, unit: u16, xy: Record<'_>) -> Result<Points, ReadE
 }
 
 /// The centre line of a path.
+///
+/// # Errors
+/// `PointPath` where all points are one, and then `NotManhattan` where a segment is neither horizontal nor vertical; or
+/// want of memory.
 #[tactic(auto, unfolding(crate::specs::Values::centre_of))]
 pub fn centre(alloc: Global, unit: u16, xy: Record<'_>) -> Result<Points, ReadError>
     requires { unit ≤ 1000 }

@@ -37,6 +37,9 @@ pub fn short(from: Record<'_>) -> u16
 }
 
 /// The one point of a reference.
+///
+/// # Errors
+/// `BadSize` where there isn't just one point.
 #[tactic(auto, using(crate::proofs::Shapes::near_point), unfolding(crate::specs::Values::origin_of))]
 pub fn place(unit: u16, xy: Record<'_>) -> Result<Point, ReadFault>
     requires { unit ≤ 1000 }
@@ -50,6 +53,9 @@ pub fn place(unit: u16, xy: Record<'_>) -> Result<Point, ReadFault>
 }
 
 /// PATHTYPE: 0, 2 or 4.
+///
+/// # Errors
+/// `RoundPath` for another type.
 #[tactic(auto, unfolding(crate::specs::Values::path_type_of))]
 pub fn path_type(from: Record<'_>) -> Result<u16, ReadFault>
     requires { 2 ≤ length from.bytes.now }
@@ -64,6 +70,9 @@ pub fn path_type(from: Record<'_>) -> Result<u16, ReadFault>
 }
 
 /// WIDTH as an absolute value in nm.
+///
+/// # Errors
+/// `OddWidth` where it is odd in nm.
 #[tactic(auto, unfolding(crate::specs::Values::width_of))]
 pub fn width(unit: u16, from: Record<'_>) -> Result<i64, ReadFault>
     requires unit { unit ≤ 1000 }
@@ -118,6 +127,9 @@ pub fn read_name(alloc: Global, from: Record<'_>) -> Result<Name, ReadError>
 }
 
 /// Whether STRANS mirrors.
+///
+/// # Errors
+/// `Absolute` where bit 0002 hex says that the angle is. Other bits than that and 8000 are ignored.
 #[tactic(auto, unfolding(crate::specs::Values::mirrored_of))]
 pub fn is_mirrored(from: Record<'_>) -> Result<bool, ReadFault>
     requires { 2 ≤ length from.bytes.now }
@@ -131,6 +143,9 @@ pub fn is_mirrored(from: Record<'_>) -> Result<bool, ReadFault>
 }
 
 /// A magnification of 1.
+///
+/// # Errors
+/// `Magnification` where it isn't exactly 1.
 #[tactic(auto, unfolding(crate::specs::Values::magnification_of))]
 pub fn magnification(from: Record<'_>) -> Result<(), ReadFault>
     requires { 8 ≤ length from.bytes.now }
@@ -163,6 +178,9 @@ fn quarter_turns(angle: &Real8) -> Option<u8>
 }
 
 /// The quarter turns of ANGLE.
+///
+/// # Errors
+/// `Angle` where it isn't a multiple of 90 degrees from -360 to 360.
 pub fn turns(from: Record<'_>) -> Result<u8, ReadFault>
     requires { 8 ≤ length from.bytes.now }
     ensures { result ≡ turns_of (raw from.entry) }
@@ -190,6 +208,9 @@ pub fn orient(mirrored: bool, turns: u8) -> Orient
 }
 
 /// The columns and the rows of COLROW.
+///
+/// # Errors
+/// `Columns` where one of them isn't 1 to 32767.
 #[tactic(auto, unfolding(crate::specs::Values::counts_of))]
 pub fn counts(from: Record<'_>) -> Result<(u16, u16), ReadFault>
     requires { 4 ≤ length from.bytes.now }
@@ -253,6 +274,9 @@ fn step(count: u16, from: Point, to: Point) -> Option<Point>
 }
 
 /// Where an array of so many columns and rows begins, and its steps.
+///
+/// # Errors
+/// `BadSize` where there aren't three points, and then `Pitch` where a step isn't a whole number of nm.
 #[tactic(auto, unfolding(crate::specs::Values::grid_of))]
 pub fn read_grid(unit: u16, columns: u16, rows: u16, xy: Record<'_>) -> Result<Grid, ReadFault>
     requires unit { unit ≤ 1000 }

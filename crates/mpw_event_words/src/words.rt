@@ -40,6 +40,9 @@ pub fn digest(token: &str) -> Digest {
 }
 
 /// The operation of a word.
+///
+/// # Errors
+/// Where it is no operation's word.
 pub fn operation(word: &str) -> Result<Operation> {
     for (text, operation) in OPERATIONS {
         if text == word {
@@ -60,6 +63,9 @@ pub fn operation_word(operation: Operation) -> &'static str {
 }
 
 /// The object that a word is.
+///
+/// # Errors
+/// Where it is no name, or there is no room for it.
 pub fn object(alloc: Global, word: &str) -> Result<Object> {
     if word == "desk" {
         return Ok(Object::Desk);

@@ -44,6 +44,9 @@ impl Graph {
     }
 
     /// Adds a place that leads to these.
+    ///
+    /// # Errors
+    /// Where there is no room for it.
     pub fn push(&mut self, places: Vec<usize>) -> Result<(), AllocError>
         ensures { OnOk result (self.new ≡ self.old ++ places.items ∷ []) }
     {

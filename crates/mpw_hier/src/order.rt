@@ -137,6 +137,9 @@ impl Descent {
 /// The places to which the top leads, each behind all of its targets; none where there is a cycle.
 ///
 /// Linear in the places and their targets.
+///
+/// # Errors
+/// Where there is no room for them.
 pub fn order_from_below(
     alloc: Global,
     graph: &Graph,

@@ -30,6 +30,9 @@ fn places_of(
 }
 
 /// The structures of a library as places, each with those to which it refers.
+///
+/// # Errors
+/// Where there is no room for it.
 pub fn graph_of(alloc: Global, library: &Library) -> Result<Graph, AllocError>
     ensures { IfOk result (λ graph. graph ≡ graph_of library.now) }
 {
@@ -55,6 +58,9 @@ fn add_outside(names: &mut Names, library: &Library, elements: &[Element]) -> Re
 }
 
 /// The names outside the library to which the structures at these places refer.
+///
+/// # Errors
+/// Where there is no room for them.
 pub fn outside_from(alloc: Global, library: &Library, places: &[usize]) -> Result<Names, AllocError>
     requires { All (λ place. place < length library.now) places.now }
     ensures { IfOk result (λ names. names ≡ outside_from_all library.now places.now) }

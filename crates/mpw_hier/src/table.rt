@@ -178,6 +178,9 @@ impl Table {
     }
 
     /// Adds a submission with its nodes and its version.
+    ///
+    /// # Errors
+    /// Where there is no room for it; the table is then as it was.
     pub fn append(&mut self, submission: Submission, nodes: Nodes) -> Result<u32, AllocError>
         requires nodes { AreNodesOf (flats self.old) (heights self.old) submission nodes }
         requires submitted { IsSubmitted self.old submission }

@@ -55,6 +55,10 @@ fn fault_of_data(kind: u8, data_type: u8, size: usize) -> Option<Code>
 }
 
 /// The record that begins at the offset, or its first fault.
+///
+/// # Errors
+/// `Short` where fewer than four bytes are left; `BadLength` where the length is below 4 or odd; `Short` where the
+/// record passes the end of the text; `BadType`, and then `BadSize`, where its data isn't what the type has.
 pub fn record_at(bytes: &[u8], offset: usize) -> Result<Record<'_>, ReadFault>
     requires { offset ≤ length bytes.now }
     ensures outcome { seen result ≡ front bytes.now offset }

@@ -113,6 +113,10 @@ impl Draft {
 }
 
 /// The text of a library in the notation.
+///
+/// # Errors
+/// `Notation` where an item or a word isn't one of the notation, or a record gets more than 65531 bytes of data;
+/// `Memory`.
 pub fn text_of_library(alloc: Global, notation: &str) -> Result<Vec<u8>, NotationError> {
     let mut draft = Draft::new(alloc)?;
     for item in notation.split(';') {

@@ -30,6 +30,9 @@ fn add(text: &mut Vec<u8>, new: NewRecord<'_>) -> Result<(), SampleError>
 }
 
 /// The text of records, one behind another.
+///
+/// # Errors
+/// `TooLong` where a record's data has more than 65531 bytes; `Memory`.
 pub fn text_of(alloc: Global, records: &[NewRecord<'_>]) -> Result<Vec<u8>, SampleError>
     ensures { Gives (λ text. text.items) result [] (map raw records.now) }
 {

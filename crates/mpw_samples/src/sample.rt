@@ -44,6 +44,9 @@ impl Sample {
     }
 
     /// A library with this unit in metres, up to UNITS.
+    ///
+    /// # Errors
+    /// Want of memory.
     pub fn new(alloc: Global, unit: [u8; 8]) -> Result<Sample, SampleError>
         ensures { Gives (λ sample. sample) result [] (head unit) }
     {
