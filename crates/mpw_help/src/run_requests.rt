@@ -10,13 +10,14 @@ static CELLS: [Entry; 6] = [
         meaning: "submits the GDSII library of so many bytes after the line as the next version \
             of the cell, which shows the structure top",
         detail: Detail::Request {
-            tests: "a session (DENIED session); the permission submit on the cell (DENIED \
-                permission submit cell); the bytes are a library (the first fault, from 1 short to \
-                18 absolute); it has the top (20 notop); nothing below the top reaches itself (21 \
-                cycle); the permission use on each name outside the library (DENIED permission use \
-                cell, the first by name); each of these has a submission (23 nocell); within -2^30 \
-                to 2^30 nm (24 extent); at most 2^20 shapes (25 shapes); at most 64 levels (26 \
-                deep); at most 1024 cells and 4096 submissions (27 full)",
+            tests: "a session (DENIED session); the permission submit on the cell (DENIED permission \
+                submit cell); the bytes are a library (the first fault, from 1 short to 18 \
+                absolute); it has the top (20 notop); neither the top nor a structure that it \
+                reaches leads back to itself (21 cycle); the permission use on each name outside \
+                the library (DENIED permission use cell, the first by name); each of these has a \
+                submission (23 nocell); within -2^30 to 2^30 nm (24 extent); at most 2^20 shapes \
+                (25 shapes); at most 64 levels (26 deep); at most 1024 cells and 4096 \
+                submissions (27 full)",
             reply: "OK 1, and version V",
         },
     },
