@@ -9,7 +9,7 @@ use Rattle.mpw_wire.specs.declared.fault.WireFault.{WireFault}
 use Rattle.mpw_wire.specs.declared.fault.WireFault.TheVariants.{Read, Write, Memory}
 use Rattle.mpw_wire.specs.declared.request.LineAsk.{LineAsk}
 use Rattle.mpw_wire.specs.Reading.{IsUnbroken, Breaks, TakesTooFew, TakesUpTo, TakesOffer, TakesCut, TakesOfferFront, following}
-use Rattle.mpw_wire.specs.Internal.Device.{GivesByte}
+use Rattle.mpw_wire.specs.Device.{GivesByte}
 use Rattle.mpw_wire.specs.Internal.Reading.{BreaksBytes}
 use Rattle.mpw_wire.specs.declared.operand.Origin.{Origin}
 use Rattle.mpw_wire.specs.Names.{name_of, ◌>>=◌}

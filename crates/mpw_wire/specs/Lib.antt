@@ -1,3 +1,4 @@
+pub mod Device
 pub mod Keys
 pub mod Names
 pub mod Placement

@@ -3,11 +3,11 @@
 //! A [`Source`] tells which bytes it has left and a [`Sink`] which it holds, where that is known, and both count their
 //! failures; a sink also tells whether it was handed bytes since it was flushed. [`Counted`] makes them of std's readers
 //! and writers.
-ghost use Rattle.std.specs.Prelude.{◌≡◌, ℕ, Bool, true, false, List, ◌+◌, ◌<◌, ◌≤◌, length, IfOk, Option};
+ghost use Rattle.std.specs.Prelude.{◌≡◌, ℕ, Bool, false, List, ◌+◌, ◌<◌, ◌≤◌, length, IfOk, Option};
 ghost use Rattle.std.specs.Io.KnownBytes.{Keeps, ReadConsumes, WriteAppends};
 ghost use Rattle.std.specs.Io.Iter.{u64_saturate};
 ghost use Rattle.std.specs.Io.{ReadsAtMost, WritesAtMost};
-ghost use Rattle.mpw_wire.specs.Internal.Device.{GivesByte, failures_after};
+ghost use Rattle.mpw_wire.specs.Device.{GivesByte, failures_after, pending_after_write, pending_after_flush};
 
 use std::io;
 use std::io::{ErrorKind, Read, Write};
@@ -44,13 +44,13 @@ pub trait Sink {
         ensures bound { IfOk result (λ taken. taken ≤ length bytes.now) }
         ensures some { IfOk result (λ taken. 0 < length bytes.now → 0 < taken) }
         ensures bytes { WriteAppends (contents self.old) (contents self.new) result bytes.now }
-        ensures pending { IfOk result (λ taken. 0 < taken → pending self.new ≡ true) }
+        ensures pending { pending self.new ≡ pending_after_write result (pending self.old) }
         ensures failures { failures self.new ≡ failures_after result (failures self.old) };
 
     /// Hands on what was taken.
     fn flush(&mut self) -> Result<(), DeviceFault>
         ensures bytes { Keeps (contents self.old) (contents self.new) }
-        ensures handed { IfOk result (λ _. pending self.new ≡ false) }
+        ensures pending { pending self.new ≡ pending_after_flush result (pending self.old) }
         ensures failures { failures self.new ≡ failures_after result (failures self.old) };
 }
 
@@ -78,6 +78,7 @@ impl<D> Counted<D> {
     /// Counts a failure, up to 2^64 - 1.
     fn fail(&mut self) -> DeviceFault
         ensures device { self.new.device ≡ self.old.device }
+        ensures pending { self.new.is_pending ≡ self.old.is_pending }
         ensures failures { self.new.failures ≡ u64_saturate (self.old.failures + 1) }
     {
         self.failures = self.failures.saturating_add(1);
@@ -138,9 +139,8 @@ impl<W: Write> Sink for Counted<W> {
     fn write(&mut self, bytes: &[u8]) -> Result<usize, DeviceFault> {
         match write_again(&mut self.device, bytes) {
             Ok(0) if !bytes.is_empty() => Err(self.fail()),
-            Ok(0) => Ok(0),
             Ok(taken) => {
-                self.is_pending = true;
+                self.is_pending |= taken > 0;
                 Ok(taken)
             }
             Err(_) => Err(self.fail()),
