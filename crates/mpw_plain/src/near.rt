@@ -1,6 +1,6 @@
 //! Rectangles that lie in the plane.
 
-ghost use Rattle.std.specs.Prelude.{◌≡◌, true, All};
+ghost use Rattle.std.specs.Prelude.{◌≡◌, ◌↔◌, true, All};
 ghost use Rattle.mpw_geom.specs.Plane.{IsBoxInPlane};
 
 use mpw_tiles::Rectangle;
@@ -8,7 +8,7 @@ use mpw_words::is_near;
 
 /// Whether the corners of all rectangles lie within -2^48 to 2^48 nm.
 pub fn all_near(rectangles: &[Rectangle]) -> bool
-    ensures { result ≡ true → All (λ r. IsBoxInPlane r.area) rectangles.now }
+    ensures { (result ≡ true) ↔ All (λ r. IsBoxInPlane r.area) rectangles.now }
 {
     rectangles.iter().all(|rectangle| is_near(&rectangle.area))
 }

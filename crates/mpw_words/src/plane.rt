@@ -1,6 +1,6 @@
 //! Orientations, placings and boxes.
 
-ghost use Rattle.std.specs.Prelude.{◌≡◌, true};
+ghost use Rattle.std.specs.Prelude.{◌≡◌, ◌↔◌, true};
 ghost use Rattle.mpw_geom.specs.Plane.{IsCoordinate, IsBoxInPlane, IsOrdered};
 
 use crate::numerals::coordinate;
@@ -76,21 +76,21 @@ pub fn coordinates(words: &[&str]) -> Result<Box2> {
 
 /// Whether a coordinate lies within -2^48 to 2^48 nm.
 pub fn is_coordinate(z: i64) -> bool
-    ensures { result ≡ true → IsCoordinate z }
+    ensures { (result ≡ true) ↔ IsCoordinate z }
 {
     -FAR <= z && z <= FAR
 }
 
 /// Whether the box's corners lie within -2^48 to 2^48 nm.
 pub fn is_near(b: &Box2) -> bool
-    ensures { result ≡ true → IsBoxInPlane b.now }
+    ensures { (result ≡ true) ↔ IsBoxInPlane b.now }
 {
-    is_coordinate(b.x0) && is_coordinate(b.y0) && is_coordinate(b.x1) && is_coordinate(b.y1)
+    is_coordinate(b.x0) & is_coordinate(b.y0) & is_coordinate(b.x1) & is_coordinate(b.y1)
 }
 
 /// Whether the box's first corner is its lower left one.
 pub fn is_ordered(b: &Box2) -> bool
-    ensures { result ≡ true → IsOrdered b.now }
+    ensures { (result ≡ true) ↔ IsOrdered b.now }
 {
     b.x0 <= b.x1 && b.y0 <= b.y1
 }
