@@ -4,7 +4,7 @@
 //! [`Roles`] keeps the commanded pairs, and for each role a [`Mask`]: the places of the roles at or below it, a bit
 //! each. The place of a role is where it stands in the order of the roles. So a question of order is one bit, and the
 //! roles below several others are their masks joined. A change of pairs keeps the masks right: a new pair joins masks,
-//! and where a pair or a role goes, a search over the pairs writes them anew.
+//! and where a pair or a role goes, all are written anew by a pass over them for each pair that is left.
 #![tactic(auto)]
 
 mod below;

@@ -181,13 +181,14 @@ impl Roles {
         Ok(())
     }
 
-    /// Takes back that the senior is an immediate senior of the junior.
+    /// Takes back that the senior is an immediate senior of the junior. It takes no memory, and costs a pass over the masks for
+    /// each pair.
     ///
     /// # Errors
-    /// `NoPair`; or `Memory`. The roles are then as they were.
+    /// `NoPair`. The roles are then as they were.
     pub fn uninherit(&mut self, senior: &Name, junior: &Name) -> Result<(), RolesFault>
         ensures ok { OnOk result (rows.uninherit self.old senior.now junior.now ≡ Ok self.new) }
-        ensures refused { IfErr result (λ fault. (fault ≡ RolesFault.Memory) ⊎ (rows.uninherit self.old senior.now junior.now ≡ Err fault)) }
+        ensures refused { IfErr result (λ fault. rows.uninherit self.old senior.now junior.now ≡ Err fault) }
         ensures err { OnErr result (self.new ≡ self.old) }
     {
         if !self.is_immediate(senior, junior) {

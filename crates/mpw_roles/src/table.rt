@@ -105,7 +105,8 @@ impl Table {
         })
     }
 
-    /// The same roles with other numbers, each its place: a hash for each role, and two look-ups for each pair.
+    /// The same roles with other numbers, each its place: a hash for each role, and for each pair two looks through the
+    /// order of the roles.
     fn copy_with_new_numbers(&self) -> Result<Table, AllocError>
         ensures { IfOk result (λ table. table ≡ self.now) }
     {
