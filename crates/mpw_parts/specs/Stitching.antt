@@ -1,5 +1,5 @@
 -- Parts put together.
-use Rattle.std.specs.Prelude.{◌≡◌, ◌<◌, ◌≤◌, ◌+◌, ◌==◌, ◌&&◌, ◌⊎◌, not, nat_le, nat_lt, ℕ, Bool, List, [], ◌∷◌, codes, length, slice_get, slice_index_or, All, Contains, Option, None, Some, if◌then◌else◌}
+use Rattle.std.specs.Prelude.{◌≡◌, ◌<◌, ◌≤◌, ◌+◌, ◌==◌, ◌&&◌, ◌⊎◌, not, nat_le, nat_lt, ℕ, Bool, List, [], ◌∷◌, codes, length, slice_get, slice_index_or, take, All, Contains, Option, None, Some, if◌then◌else◌}
 use Rattle.std.specs.List.{flat_map, count_by}
 use Rattle.std.specs.List.Sorted.{IsPermutation}
 use Rattle.mpw_geom.specs.Names.{name_eq}
@@ -25,9 +25,13 @@ FollowOn from [] end = from ≡ end
 FollowOn from (part ∷ parts) end =
     BeginsAt from part × FollowOn (from + length part.lists) parts end
 
+-- The parts are of this check.
+abbrev pub AreAllOf : Checked → List Found → Type 0
+AreAllOf subject parts = All (λ (part : Found). part.subject ≡ subject) parts
+
 -- They are parts of one check, and in that order they have each tile of its plan once.
 pub record ArePartsOf (subject : Checked) (parts ordered : List Found) : Type 0 where
-  pub same : All (λ (part : Found). part.subject ≡ subject) parts
+  pub same : AreAllOf subject parts
   pub reordered : IsPermutation parts ordered
   pub once : FollowOn 0 ordered subject.tiles
 
@@ -53,10 +57,10 @@ word_of other.Deck = codes "deck"
 word_of other.Top = codes "structure"
 word_of other.Plan = codes "plan of tiles"
 
--- A part is of another check than this one.
+-- The part at a place is of another check than this one, and those before it are of this one.
 abbrev pub IsOther : Checked → List Found → PartsFault → Type 0
 IsOther first parts (faults.Other place what) = (part : Found) × (slice_get parts place ≡ Some part)
-    × (difference_of first part.subject ≡ Some what)
+    × (difference_of first part.subject ≡ Some what) × AreAllOf first (take place parts)
 IsOther first parts fault = ⊥
 
 -- How many of the parts have the tile.
@@ -75,16 +79,17 @@ IsOfTiles tiles parts faults.Memory = Unit {0}
 IsOfTiles tiles parts (faults.Other place what) = ⊥
 IsOfTiles tiles parts faults.NoPart = ⊥
 
--- Why parts aren't stitched: there are none; one is of another check than the first; a tile of the plan is in none of them, or in more
--- than one; or there is no room.
+-- Why parts aren't stitched: there are none; one is of another check than the first; all are of one check, and a tile of the plan is in
+-- none of them, or in more than one; or there is no room.
 abbrev pub IsFaultOf : List Found → PartsFault → Type 0
 IsFaultOf parts faults.Memory = Unit {0}
 IsFaultOf parts faults.NoPart = parts ≡ []
 IsFaultOf parts (faults.Other place what) = (first : Found) × (slice_get parts 0 ≡ Some first)
     × IsOther first.subject parts (faults.Other place what)
 IsFaultOf parts (faults.Missing tile) = (first : Found) × (slice_get parts 0 ≡ Some first)
-    × IsOfTiles first.subject.tiles parts (faults.Missing tile)
-IsFaultOf parts (faults.Doubled tile) = 2 ≤ holders tile parts
+    × AreAllOf first.subject parts × IsOfTiles first.subject.tiles parts (faults.Missing tile)
+IsFaultOf parts (faults.Doubled tile) = (first : Found) × (slice_get parts 0 ≡ Some first)
+    × AreAllOf first.subject parts × IsOfTiles first.subject.tiles parts (faults.Doubled tile)
 
 -- The list is that of the tile in one of the parts.
 abbrev pub IsListOf : List Found → ℕ → List Marker → Type 0

@@ -4,7 +4,7 @@
 //! of the plan has one list, and no table of tiles is needed.
 ghost use Rattle.std.specs.Prelude.{◌≡◌, ◌++◌, ◌↔◌, All, IfOk, IfErr, IsTrue};
 ghost use Rattle.std.specs.List.Sorted.{IsPermutation};
-ghost use Rattle.mpw_parts.specs.Stitching.{lists_of, BeginsAt, FollowOn, IsBookOf, IsFaultOf, IsOther, IsOfTiles, difference_of};
+ghost use Rattle.mpw_parts.specs.Stitching.{lists_of, AreAllOf, BeginsAt, FollowOn, IsBookOf, IsFaultOf, IsOther, IsOfTiles, difference_of};
 ghost use Rattle.mpw_parts.specs.Internal.Stitching.{AreInOrder, AreListsOf, fault_at};
 
 use crate::fault::{Difference, PartsFault};
@@ -35,7 +35,7 @@ fn difference(first: &Subject, other: &Subject) -> Option<Difference>
 /// # Errors
 /// The first that isn't.
 fn are_of_one(first: &Subject, parts: &[Part]) -> Result<(), PartsFault>
-    ensures same { IfOk result (λ _. All (λ part. part.subject ≡ first.now) parts.now) }
+    ensures same { IfOk result (λ _. AreAllOf first.now parts.now) }
     ensures other { IfErr result (IsOther first.now parts.now) }
 {
     for (place, part) in parts.iter().enumerate() {
@@ -121,8 +121,8 @@ fn lists_of(alloc: Global, tiles: usize, parts: Vec<Part>) -> Result<Vec<TileMar
 /// any order. It costs a sort of the parts and what [`stitch`] does.
 ///
 /// # Errors
-/// `NoPart` without parts, `Other` at the first that isn't of the first part's check, `Missing` and `Doubled` with a tile of the plan
-/// that no part has or that more than one has, or `Memory`.
+/// `NoPart` without parts, `Other` at the first that isn't of the first part's check; where all are, `Missing` and `Doubled` with a
+/// tile of the plan that no part has or that more than one has; or `Memory`.
 pub fn stitch_parts(alloc: Global, parts: Vec<Part>) -> Result<Book, PartsFault>
     ensures ok { IfOk result (IsBookOf parts.items) }
     ensures faults { IfErr result (IsFaultOf parts.items) }
