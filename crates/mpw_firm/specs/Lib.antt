@@ -5,6 +5,7 @@ pub mod Drawings
 pub mod Keys
 pub mod Listed
 pub mod Places
+pub mod Ranges
 pub mod Sentences
 pub mod Status
 pub mod Stitched

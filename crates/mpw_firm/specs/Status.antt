@@ -1,5 +1,5 @@
 -- The exit status of a check.
-use Rattle.std.specs.Prelude.{ℕ, Bool, List, length, Result, Ok, Err, nat_lt, if◌then◌else◌}
+use Rattle.std.specs.Prelude.{ℕ, ◌-◌, ◌^◌, min, sum_by, Bool, List, length, Result, Ok, Err, nat_lt, if◌then◌else◌}
 use Rattle.mpw_markers.specs.declared.marker.Marker.{Marker}
 use Rattle.mpw_firm.specs.declared.fault.FirmFault.{FirmFault}
 use Rattle.mpw_firm.specs.declared.fault.FirmFault.TheVariants.{Usage, Device, Refused, Memory}
@@ -20,3 +20,7 @@ exit_of (Err fault) = status_of fault
 -- Some tile's list has a marker: status 1.
 abbrev pub has_some : List Marker → Bool
 has_some list = nat_lt 0 (length list)
+
+-- How many markers the tiles' lists have together, up to the greatest number of 64 bits.
+abbrev pub count_of : List (List Marker) → ℕ
+count_of lists = min (sum_by (λ list. length list) lists) (2 ^ 64 - 1)

@@ -2,7 +2,8 @@
 ghost use Rattle.std.specs.Prelude.{IfOk, IfErr};
 ghost use Rattle.mpw_spread.specs.Spread.{IsPartOf};
 ghost use Rattle.mpw_firm.specs.Drawings.{IsReadFrom};
-ghost use Rattle.mpw_firm.specs.Told.{IsFailure};
+ghost use Rattle.mpw_firm.specs.Ranges.{HasTilesOf, IsOfRange};
+ghost use Rattle.mpw_firm.specs.Told.{Fails, output_text};
 
 use crate::asked::{drawn_of, now, refusal_of};
 use crate::fault::FirmFault;
@@ -27,7 +28,7 @@ fn write_out(rt: &HostRuntime, part: &Part) -> io::Result<()> {
 
 /// Prints a part on the standard output.
 fn print_part(rt: &HostRuntime, part: &Part) -> Result<(), FirmFault>
-    ensures { IfErr result IsFailure }
+    ensures { IfErr result (Fails output_text) }
 {
     match write_out(rt, part) {
         Ok(()) => Ok(()),
@@ -47,9 +48,10 @@ fn part_of(
     range: TileRange,
 ) -> Result<Part, FirmFault>
     requires { IsReadFrom deck.items options.now.top text.now snapshot.now }
-    ensures { IfOk result (IsPartOf (record { deck = deck.items; top = options.now.top; library = text.now })) }
+    ensures made { IfOk result (IsPartOf (record { deck = deck.items; top = options.now.top; library = text.now })) }
+    ensures asked { IfOk result (HasTilesOf snapshot.now range) }
+    ensures refused { IfErr result (IsOfRange options.now snapshot.now range) }
 {
-    let start = now(rt)?;
     let Some(tiles) = tile_count(snapshot) else {
         return Err(refusal_of(rt, options, &CheckFault::Tiles, &[]));
     };
@@ -61,9 +63,7 @@ fn part_of(
     line.tell_read(snapshot);
     let part = check_part(threads, rt.alloc(), subject, snapshot, span, &mut line);
     line.end();
-    let part = part?;
-    let _ = tell_part(rt, snapshot, span, part.lists(), &start);
-    Ok(part)
+    Ok(part?)
 }
 
 /// Checks the tiles that the command line asks for, prints their part and tells how many markers the tiles have.
@@ -79,7 +79,9 @@ pub fn check_range(
     let deck = read_file(rt, options.deck.as_str())?;
     let text = read_file(rt, options.file.as_str())?;
     let snapshot = drawn_of(rt, options, &deck, &text)?;
+    let start = now(rt)?;
     let part = part_of(rt, threads, options, deck, &text, &snapshot, range)?;
+    let _ = tell_part(rt, &snapshot, &part, &start);
     print_part(rt, &part)?;
     Ok(count_of(part.lists()))
 }

@@ -1,12 +1,12 @@
 //! What is told on the standard error of a check that has ended.
 ghost use Rattle.std.specs.Prelude.{◌≡◌, nat_lt};
 ghost use Rattle.std.specs.List.{list_any};
-ghost use Rattle.mpw_firm.specs.Status.{has_some};
+ghost use Rattle.mpw_firm.specs.Status.{count_of, has_some};
 
 use mpw_check::tile_count;
 use mpw_deck::Rules;
 use mpw_markers::{Marker, TileMarkers};
-use mpw_spread::Span;
+use mpw_parts::Part;
 use mpw_tiles::Snapshot;
 use std::io;
 use std::time::Instant;
@@ -56,9 +56,10 @@ pub fn tell_summary(
     tell_time(rt, start)
 }
 
-/// How many markers the lists have together.
+/// How many markers the lists have together, up to 2^64 - 1.
 pub fn count_of(lists: &[TileMarkers]) -> usize
-    ensures { nat_lt 0 result ≡ list_any has_some lists.now }
+    ensures count { result ≡ count_of lists.now }
+    ensures some { nat_lt 0 result ≡ list_any has_some lists.now }
 {
     let mut count = 0usize;
     for list in lists {
@@ -71,16 +72,15 @@ pub fn count_of(lists: &[TileMarkers]) -> usize
 pub fn tell_part(
     rt: &HostRuntime,
     snapshot: &Snapshot,
-    span: Span,
-    lists: &[TileMarkers],
+    part: &Part,
     start: &Instant,
 ) -> io::Result<()> {
-    let (tiles, checked) = (tiles_of(snapshot), lists.len());
+    let (tiles, checked) = (tiles_of(snapshot), part.lists().len());
     let shapes = snapshot.shelf().count(0);
     eprint!(rt;
         "{shapes} shapes, {checked} of {tiles} tiles from {}, {} markers in them",
-        span.first,
-        count_of(lists)
+        part.first(),
+        count_of(part.lists())
     )?;
     tell_time(rt, start)
 }
