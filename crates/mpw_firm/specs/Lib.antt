@@ -4,6 +4,7 @@ pub mod Commands
 pub mod Drawings
 pub mod Keys
 pub mod Listed
+pub mod OutFiles
 pub mod Places
 pub mod Ranges
 pub mod Sentences
