@@ -6,7 +6,8 @@ use Rattle.mpw_geom.specs.Names.{name_eq}
 use Rattle.mpw_geom.specs.declared.plane.Box2.{Box2}
 use Rattle.mpw_markers.specs.declared.marker.Marker.{Marker}
 use Rattle.mpw_markers.specs.Markers.{key_of}
-use Rattle.mpw_picture.specs.Windows.{marker_window}
+use Rattle.mpw_picture.specs.Windows.{marker_window, whole_window}
+use Rattle.mpw_tiles.specs.Snapshots.{Snapshot, shown_extent}
 use Rattle.mpw_wire.specs.Keys.{key_text, spot_of}
 use Rattle.mpw_firm.specs.declared.fault.FirmFault.{FirmFault}
 use Rattle.mpw_firm.specs.declared.fault.FirmFault.TheVariants.{Memory}
@@ -41,3 +42,14 @@ abbrev pub IsUnknown : List Rule → List ℕ → List Marker → FirmFault → 
 IsUnknown rules word markers fault =
     (fault ≡ Memory)
     ⊎ ((marker_named rules word markers ≡ None) × Misuses (unknown_text word) fault)
+
+-- ---- the window of the picture that is asked for: round the marker of its key, or round all where it names none
+
+abbrev pub IsWindowOf : Option (List ℕ) → Snapshot → List Marker → Box2 → Type 0
+IsWindowOf None s markers window = window ≡ whole_window (shown_extent s)
+IsWindowOf (Some word) s markers window = IsRound s.deck.rules word markers window
+
+-- It isn't there: no marker has the key.
+abbrev pub IsOfKey : Option (List ℕ) → Snapshot → List Marker → FirmFault → Type 0
+IsOfKey None s markers fault = ⊥
+IsOfKey (Some word) s markers fault = IsUnknown s.deck.rules word markers fault

@@ -1,9 +1,10 @@
 //! The picture of a check.
-ghost use Rattle.std.specs.Prelude.{IfOk, IfErr};
+ghost use Rattle.std.specs.Prelude.{option_map, IfOk, IfErr};
+ghost use Rattle.std.specs.String.{string_bytes};
 ghost use Rattle.mpw_geom.specs.Plane.{IsBoxInPlane};
 ghost use Rattle.mpw_picture.specs.Text.{picture_text};
-ghost use Rattle.mpw_firm.specs.Keys.{IsRound, IsUnknown, unknown_text};
-ghost use Rattle.mpw_firm.specs.Told.{IsFailure, IsMisuse, Misuses};
+ghost use Rattle.mpw_firm.specs.Keys.{IsOfKey, IsRound, IsUnknown, IsWindowOf, unknown_text};
+ghost use Rattle.mpw_firm.specs.Told.{Fails, Misuses, unwritten_text};
 ghost use Rattle.mpw_text.specs.Writing.{Adds};
 
 use crate::fault::FirmFault;
@@ -58,7 +59,8 @@ pub fn window_of(
     book: &Book,
 ) -> Result<Box2, FirmFault>
     ensures plane { IfOk result IsBoxInPlane }
-    ensures refused { IfErr result IsMisuse }
+    ensures window { IfOk result (IsWindowOf (option_map string_bytes wanted.now.key) snapshot.now book.now) }
+    ensures refused { IfErr result (IsOfKey (option_map string_bytes wanted.now.key) snapshot.now book.now) }
 {
     match &wanted.key {
         Some(key) => window_round(alloc, snapshot, book, key.as_str()),
@@ -104,7 +106,7 @@ pub fn picture(
     book: &Book,
 ) -> Result<(), FirmFault>
     requires { IsBoxInPlane window }
-    ensures { IfErr result IsFailure }
+    ensures { IfErr result (Fails (unwritten_text file.now)) }
 {
     let picture = draw(rt.alloc(), snapshot, book.as_slice(), window)?;
     match write_file(rt, file, snapshot, top, &picture) {
