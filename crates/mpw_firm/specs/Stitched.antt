@@ -1,7 +1,8 @@
 -- What comes of parts that are stitched, and what is refused.
 use Rattle.std.specs.Prelude.{◌≡◌, ◌==◌, ◌&&◌, ◌⊎◌, ℕ, Bool, true, false, nat_lt, List, [], ◌∷◌, codes, length, slice_get, All, None, Some, Ok}
 use Rattle.std.specs.List.{list_all}
-use Rattle.mpw_check.specs.Drawn.{IsDrawnFrom}
+use Rattle.mpw_check.specs.Drawn.{IsDrawnFrom, IsOfText}
+use Rattle.mpw_check.specs.declared.fault.CheckFault.{CheckFault}
 use Rattle.mpw_deck.specs.Reading.{deck_of}
 use Rattle.mpw_job.specs.Layout.{AreLayoutMarkers}
 use Rattle.mpw_markers.specs.declared.marker.Marker.{Marker}
@@ -15,9 +16,11 @@ use Rattle.mpw_firm.specs.declared.fault.FirmFault.{FirmFault}
 use Rattle.mpw_firm.specs.declared.fault.FirmFault.TheVariants.{Memory}
 use Rattle.mpw_firm.specs.declared.whole.Subject.{Subject}
 use Rattle.mpw_firm.specs.declared.whole.Whole.{Whole}
+use Rattle.mpw_firm.specs.Blanks.{blank_text}
 use Rattle.mpw_firm.specs.Drawings.{IsOfDeck}
 use Rattle.mpw_firm.specs.Listed.{listed_text}
 use Rattle.mpw_firm.specs.Told.{Refuses, Tells}
+use Rattle.mpw_firm.specs.ToldFaults.{check_told}
 use Rattle.mpw_firm.specs.ToldParts.{Holder, no_markers_text, no_part_text, fault_text}
 
 -- A file is refused whose text is no part; or there is no room.
@@ -80,6 +83,22 @@ IsOfFirst holders parts fault =
     ⊎ ((first : Found)
     × (slice_get parts 0 ≡ Some first)
     × IsOfDeck (first_name holders) first.subject.deck fault)
+
+-- The library with an empty structure of that name isn't checked, and why is told.
+abbrev pub IsOfBlank : List ℕ → FirmFault → Type 0
+IsOfBlank top fault =
+    (why : CheckFault) × IsOfText top (blank_text top) why
+    × Tells (check_told (codes "mpw stitch") top why []) fault
+
+-- The first of the parts tells nothing; or it does, and the parts have no book under its deck and its plan, or there is one and no layout
+-- of the structure's name.
+abbrev pub IsOfWhole : List Holder → List Found → FirmFault → Type 0
+IsOfWhole holders parts fault =
+    IsOfFirst holders parts fault
+    ⊎ ((subject : Subject)
+    × IsSubjectOf parts subject
+    × (IsOfBook holders subject.tiles (length subject.deck.rules) parts fault
+    ⊎ ((book : List Marker) × IsBookOf parts book × IsOfBlank subject.top fault)))
 
 -- The layout is drawn of some library's structure of that name.
 abbrev pub IsNamed : List ℕ → Snapshot → Type 0

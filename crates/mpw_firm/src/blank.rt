@@ -1,6 +1,6 @@
 //! A layout without shapes: what a listing needs of a structure of which only the name is at hand.
-ghost use Rattle.std.specs.Prelude.{◌≡◌, IfOk};
-ghost use Rattle.mpw_check.specs.Drawn.{IsDrawnFrom};
+ghost use Rattle.std.specs.Prelude.{◌≡◌, IfOk, IfErr};
+ghost use Rattle.mpw_check.specs.Drawn.{IsDrawnFrom, IsOfText};
 ghost use Rattle.mpw_firm.specs.Blanks.{blank_text};
 
 use mpw_check::{CheckFault, read_layout};
@@ -47,9 +47,10 @@ fn blank_text(alloc: Global, top: &Name) -> Result<Vec<u8>, AllocError>
 /// each layout of a structure of that name gives.
 ///
 /// # Errors
-/// Want of memory.
+/// Want of memory, or what keeps the library of its text from being checked.
 pub fn blank_layout(alloc: Global, deck: Deck, top: &Name) -> Result<Snapshot, CheckFault>
-    ensures { IfOk result (IsDrawnFrom deck top.now (blank_text top.now)) }
+    ensures drawn { IfOk result (IsDrawnFrom deck top.now (blank_text top.now)) }
+    ensures faults { IfErr result (IsOfText top.now (blank_text top.now)) }
 {
     let text = blank_text(alloc, top)?;
     read_layout(alloc, deck, top, &text)

@@ -2,8 +2,7 @@
 ghost use Rattle.std.specs.Prelude.{◌≡◌, true, IfOk, IfErr};
 ghost use Rattle.mpw_parts.specs.Stitching.{IsBookOf};
 ghost use Rattle.mpw_firm.specs.Listed.{ListsAsEach};
-ghost use Rattle.mpw_firm.specs.Stitched.{are_alone, first_name, is_alone, IsListedAsCheck, IsNamed, IsSubjectOf, IsWholeOf, IsOfBook, IsOfFirst, IsOfMarkers, IsOfParts};
-ghost use Rattle.mpw_firm.specs.Told.{IsRefusal};
+ghost use Rattle.mpw_firm.specs.Stitched.{are_alone, first_name, is_alone, IsListedAsCheck, IsNamed, IsSubjectOf, IsWholeOf, IsOfBlank, IsOfBook, IsOfFirst, IsOfMarkers, IsOfParts, IsOfWhole};
 
 use crate::blank::blank_layout;
 use crate::fault::FirmFault;
@@ -139,7 +138,7 @@ fn book_of(
 fn layout_of(alloc: Global, deck: Deck, top: &Name) -> Result<Snapshot, FirmFault>
     ensures deck { IfOk result (λ layout. layout.deck ≡ deck) }
     ensures named { IfOk result (IsNamed top.now) }
-    ensures refused { IfErr result IsRefusal }
+    ensures refused { IfErr result (IsOfBlank top.now) }
 {
     match blank_layout(alloc, deck, top) {
         Ok(layout) => Ok(layout),
@@ -150,7 +149,7 @@ fn layout_of(alloc: Global, deck: Deck, top: &Name) -> Result<Snapshot, FirmFaul
 /// The same, without what the law tells of it.
 fn make_whole(alloc: Global, files: &[PartFile<'_>], parts: Vec<Part>) -> Result<Whole, FirmFault>
     ensures whole { IfOk result (IsWholeOf parts.items) }
-    ensures refused { IfErr result IsRefusal }
+    ensures refused { IfErr result (IsOfWhole files.now parts.items) }
 {
     let Subject { deck, top, tiles } = subject_of(alloc, files, parts.as_slice())?;
     let rules = deck.rules().as_slice().len();
@@ -167,11 +166,12 @@ fn make_whole(alloc: Global, files: &[PartFile<'_>], parts: Vec<Part>) -> Result
 /// The whole that parts of these files make. What is listed of it is what a check lists of the files that the first part was made of.
 ///
 /// # Errors
-/// `Refused` where the parts don't fit, and `Memory`.
+/// `Refused` without parts, where the first one's deck has a fault, where the parts don't fit, and where they have markers that no check
+/// finds, in this order; and `Memory`.
 pub fn whole_of(alloc: Global, files: &[PartFile<'_>], parts: Vec<Part>) -> Result<Whole, FirmFault>
     ensures whole { IfOk result (IsWholeOf parts.items) }
     ensures listed { IfOk result (IsListedAsCheck parts.items) }
-    ensures refused { IfErr result IsRefusal }
+    ensures refused { IfErr result (IsOfWhole files.now parts.items) }
 {
     wholes_are_listed_as_checks();
     make_whole(alloc, files, parts)
