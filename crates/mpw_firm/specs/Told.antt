@@ -1,26 +1,14 @@
 -- What a fault tells.
 use Rattle.std.specs.Prelude.{◌≡◌, ℕ, List, ◌++◌, codes, Option, None, Some}
 use Rattle.std.specs.String.{string_bytes}
+use Rattle.mpw_wire.specs.declared.fault.WireFault.{WireFault}
+use Rattle.mpw_wire.specs.declared.fault.WireFault.TheVariants as wire
 use Rattle.mpw_firm.specs.declared.fault.FirmFault.{FirmFault}
 use Rattle.mpw_firm.specs.declared.fault.FirmFault.TheVariants.{Usage, Device, Refused, Memory}
 
--- ---- by its kind: each may be want of memory in its place
+-- ---- by its kind
 
--- A library, a deck or parts are refused.
-abbrev pub IsRefusal : FirmFault → Type 0
-IsRefusal (Refused told) = Unit {0}
-IsRefusal (Usage told) = ⊥
-IsRefusal (Device told) = ⊥
-IsRefusal Memory = Unit {0}
-
--- A file or a device failed.
-abbrev pub IsFailure : FirmFault → Type 0
-IsFailure (Device told) = Unit {0}
-IsFailure (Usage told) = ⊥
-IsFailure (Refused told) = ⊥
-IsFailure Memory = Unit {0}
-
--- A command line isn't one.
+-- A command line isn't one; or there is no room.
 abbrev pub IsMisuse : FirmFault → Type 0
 IsMisuse (Usage told) = Unit {0}
 IsMisuse (Device told) = ⊥
@@ -63,5 +51,16 @@ unread_text file = file ++ codes ": can't be read"
 unfoldable pub unwritten_text : List ℕ → List ℕ
 unwritten_text file = file ++ codes ": can't be written"
 
+-- The file that is wanted can't be written, where one is.
+abbrev pub IsUnwritten : Option (List ℕ) → FirmFault → Type 0
+IsUnwritten None fault = ⊥
+IsUnwritten (Some file) fault = Fails (unwritten_text file) fault
+
 unfoldable pub output_text : List ℕ
 output_text = codes "the standard output failed"
+
+-- What is told where the standard output didn't take a text: want of memory as such, and each other fault as the output's.
+abbrev pub IsOfOutput : WireFault → FirmFault → Type 0
+IsOfOutput wire.Memory fault = fault ≡ Memory
+IsOfOutput wire.Write fault = Fails output_text fault
+IsOfOutput wire.Read fault = Fails output_text fault

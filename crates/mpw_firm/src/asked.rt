@@ -1,11 +1,11 @@
 //! A check of a whole layout, done.
-ghost use Rattle.std.specs.Prelude.{◌⊎◌, IfOk, IfErr};
+ghost use Rattle.std.specs.Prelude.{◌⊎◌, codes, option_map, IfOk, IfErr};
 ghost use Rattle.std.specs.String.{string_bytes};
 ghost use Rattle.mpw_check.specs.Drawn.{IsDrawnFrom};
 ghost use Rattle.mpw_check.specs.Tiled.{IsOfPlan};
 ghost use Rattle.mpw_job.specs.Layout.{AreLayoutMarkers};
-ghost use Rattle.mpw_firm.specs.Drawings.{IsOfDeck, IsOfLibrary, IsReadFrom};
-ghost use Rattle.mpw_firm.specs.Told.{IsFailure, Tells};
+ghost use Rattle.mpw_firm.specs.Drawings.{IsOfLibrary, IsOfTexts, IsReadFrom};
+ghost use Rattle.mpw_firm.specs.Told.{Fails, IsOfOutput, IsUnwritten, Tells, output_text, unread_text};
 ghost use Rattle.mpw_firm.specs.ToldFaults.{check_told};
 
 use crate::fault::FirmFault;
@@ -34,7 +34,7 @@ pub fn drawn_of(
     text: &[u8],
 ) -> Result<Snapshot, FirmFault>
     ensures drawn { IfOk result (IsReadFrom deck.now options.now.top text.now) }
-    ensures refused { IfErr result (λ fault. IsOfDeck (string_bytes options.now.deck) deck.now fault ⊎ IsOfLibrary (string_bytes options.now.file) options.now.top text.now fault) }
+    ensures refused { IfErr result (IsOfTexts options.now deck.now text.now) }
 {
     match deck_of(rt.alloc(), options.deck.as_str(), deck) {
         Ok(deck) => drawn_under(rt, options, deck, text),
@@ -78,7 +78,7 @@ pub fn refusal_of(rt: &HostRuntime, options: &Options, fault: &CheckFault, text:
 /// # Errors
 /// `Device` where there is no clock.
 pub fn now(rt: &HostRuntime) -> Result<Instant, FirmFault>
-    ensures { IfErr result IsFailure }
+    ensures { IfErr result (Fails (unread_text (codes "the clock"))) }
 {
     match Instant::now(rt) {
         Ok(now) => Ok(now),
@@ -90,7 +90,8 @@ pub fn now(rt: &HostRuntime) -> Result<Instant, FirmFault>
 pub fn outcome_of_print(rt: &HostRuntime, written: Result<(), WireFault>) -> Result<(), FirmFault>
     ensures ok { IfOk written (λ _. IfErr result (λ _. ⊥)) }
     ensures failed { IfErr written (λ _. IfOk result (λ _. ⊥)) }
-    ensures failure { IfErr result IsFailure }
+    ensures told { IfErr written (λ why. IfErr result (IsOfOutput why)) }
+    ensures failure { IfErr result (Fails output_text) }
 {
     match written {
         Ok(()) => Ok(()),
@@ -104,7 +105,7 @@ pub fn outcome_of_print(rt: &HostRuntime, written: Result<(), WireFault>) -> Res
 /// # Errors
 /// `Device` where that failed, and `Memory`.
 pub fn print(rt: &HostRuntime, snapshot: &Snapshot, book: Book) -> Result<(), FirmFault>
-    ensures { IfErr result IsFailure }
+    ensures { IfErr result (Fails output_text) }
 {
     let Ok(output) = BufWriter::new(rt.alloc(), rt.stdout()) else {
         return Err(FirmFault::Memory);
@@ -120,7 +121,7 @@ fn write_listed(
     snapshot: &Snapshot,
     book: &Book,
 ) -> Result<(), FirmFault>
-    ensures { IfErr result IsFailure }
+    ensures { IfErr result (λ fault. Fails output_text fault ⊎ IsUnwritten (option_map string_bytes options.now.report) fault) }
 {
     print(rt, snapshot, book.copy()?)?;
     report(rt, &options.report, &options.top, snapshot, book)

@@ -5,7 +5,7 @@
 #![tactic(auto)]
 
 ghost use Rattle.std.specs.Prelude.{◌≡◌, IfOk, IfErr};
-ghost use Rattle.mpw_firm.specs.Told.{IsFailure, IsMisuse};
+ghost use Rattle.mpw_firm.specs.Told.{Fails, IsMisuse, output_text};
 
 mod asked;
 mod blank;
@@ -58,7 +58,7 @@ fn words(rt: &HostRuntime) -> Result<Vec<String>, FirmFault>
 /// Prints the help or the version.
 fn print_told(rt: &HostRuntime, text: &str) -> Result<usize, FirmFault>
     ensures none { IfOk result (λ markers. markers ≡ 0) }
-    ensures failed { IfErr result IsFailure }
+    ensures failed { IfErr result (Fails output_text) }
 {
     match print!(rt; "{text}") {
         Ok(()) => Ok(0),

@@ -2,7 +2,7 @@
 ghost use Rattle.std.specs.Prelude.{◌≡◌, Ok, IfOk, IfErr};
 ghost use Rattle.mpw_deck.specs.Reading.{deck_of};
 ghost use Rattle.mpw_firm.specs.Drawings.{IsOfDeck};
-ghost use Rattle.mpw_firm.specs.Told.{IsFailure};
+ghost use Rattle.mpw_firm.specs.Told.{Fails, unread_text};
 
 use crate::fault::FirmFault;
 use crate::told::{deck_fault, device_fault};
@@ -24,7 +24,7 @@ fn read_input(rt: &HostRuntime) -> io::Result<Vec<u8>> {
 /// # Errors
 /// `Device` where it can't be read, and `Memory`.
 pub fn read_file(rt: &HostRuntime, file: &str) -> Result<Vec<u8>, FirmFault>
-    ensures { IfErr result IsFailure }
+    ensures { IfErr result (Fails (unread_text file.now)) }
 {
     let read = if file == "-" {
         read_input(rt)

@@ -1,6 +1,7 @@
 //! The report of a check, which KLayout's marker browser opens.
-ghost use Rattle.std.specs.Prelude.{IfErr};
-ghost use Rattle.mpw_firm.specs.Told.{IsFailure};
+ghost use Rattle.std.specs.Prelude.{option_map, IfErr};
+ghost use Rattle.std.specs.String.{string_bytes};
+ghost use Rattle.mpw_firm.specs.Told.{IsUnwritten};
 ghost use Rattle.mpw_report.specs.Report.{report_text};
 ghost use Rattle.mpw_text.specs.Writing.{Adds};
 
@@ -50,7 +51,7 @@ pub fn report(
     snapshot: &Snapshot,
     book: &Book,
 ) -> Result<(), FirmFault>
-    ensures { IfErr result IsFailure }
+    ensures { IfErr result (IsUnwritten (option_map string_bytes file.now)) }
 {
     let Some(file) = file else {
         return Ok(());

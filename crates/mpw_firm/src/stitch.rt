@@ -2,7 +2,7 @@
 ghost use Rattle.std.specs.Prelude.{◌≡◌, Some, IfOk, IfErr};
 ghost use Rattle.mpw_parts.specs.Reading.{part_of};
 ghost use Rattle.mpw_firm.specs.Stitched.{IsNamed, IsOfFile};
-ghost use Rattle.mpw_firm.specs.Told.{IsFailure};
+ghost use Rattle.mpw_firm.specs.Told.{Fails, output_text};
 
 use crate::asked::outcome_of_print;
 use crate::fault::FirmFault;
@@ -58,7 +58,7 @@ fn tell_stitched(rt: &HostRuntime, parts: usize, whole: &Whole) -> io::Result<()
 /// Prints the markers of a whole on the standard output.
 fn print_whole(rt: &HostRuntime, whole: &Whole) -> Result<(), FirmFault>
     requires { IsNamed whole.now.top whole.now.layout }
-    ensures { IfErr result IsFailure }
+    ensures { IfErr result (Fails output_text) }
 {
     let Ok(output) = BufWriter::new(rt.alloc(), rt.stdout()) else {
         return Err(FirmFault::Memory);
