@@ -12,7 +12,7 @@ use Rattle.mpw_separation.specs.Rows.{make}
 use Rattle.mpw_separation.specs.Separation.{Sets, sets_of, least_broken, is_broken, has_set}
 use Rattle.mpw_separation.specs.Set.{SeparationSet}
 use Rattle.mpw_rbac.specs.declared.refusal.Refusal.TheVariants.{Full}
-use Rattle.mpw_rbac.specs.Internal.Fault.{fault_of_sets}
+use Rattle.mpw_rbac.specs.Fault.{fault_of_sets}
 use Rattle.mpw_rbac.specs.Internal.Kinds.{other, kind_sets, sets_with, with_sets, bound_lists, set_refusal, make_set}
 use Rattle.mpw_rbac.specs.Laws.{KeepsSound}
 use Rattle.mpw_rbac.specs.Policy.{Policy}

@@ -1,4 +1,5 @@
 pub mod Access
+pub mod Fault
 pub mod Laws
 pub mod Masked
 pub mod Policy

@@ -56,7 +56,7 @@ abbrev pub assigned_roles : Policy → Name → List Name
 assigned_roles policy user =
     option_map_or (λ (u : User). u.roles) (value_at name_eq policy.users user) []
 
--- the roles that a user is authorized for: those at or below an assigned one (authorized_users)
+-- the roles that a user is authorized for: those at or below an assigned one (AuthorizedRoles)
 abbrev pub authorized : Policy → Name → List Name
 authorized policy user = roles_below policy.roles (assigned_roles policy user)
 
@@ -68,7 +68,7 @@ session_of policy connection = value_at (λ a b. a == b) policy.sessions connect
 abbrev pub acting : Policy → Session → List Name
 acting policy session = roles_below policy.roles session.active
 
--- whether some acting role of the session was granted the operation on the object (check_access)
+-- whether some acting role of the session was granted the operation on the object (CheckAccess)
 abbrev pub session_permits : Policy → Session → Operation → Object → Bool
 session_permits policy session operation object =
     list_any (is_granted_to (acting policy session) operation object) policy.granted

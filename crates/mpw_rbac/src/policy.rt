@@ -1,5 +1,5 @@
 //! The policy's tables, the questions that they answer, and sessions.
-ghost use Rattle.std.specs.Prelude.{◌≡◌, ℕ, [], ◌∷◌, ◌++◌, true, IfOk, IfErr, IfSome, OnOk, OnErr, Ok, Err, Some, codes, is_some, nat_lt, length};
+ghost use Rattle.std.specs.Prelude.{◌≡◌, ◌≢◌, ℕ, [], ◌∷◌, ◌++◌, true, IfOk, IfErr, IfSome, OnOk, OnErr, Ok, Err, Some, codes, is_some, nat_lt, length};
 ghost use Rattle.mpw_permissions.specs.Grant.{grant_eq};
 ghost use Rattle.std.specs.List.{list_any};
 ghost use Rattle.std.specs.Option.{option_copied};
@@ -122,8 +122,8 @@ impl Policy {
         self.permissions.has_room(MAX_GRANTS)
     }
 
-    /// Whether some acting role of the connection's session was granted the operation on the object. It takes no
-    /// memory, and costs a look through the sessions, a look-up of the object, and an `and` of eight words.
+    /// Whether some acting role of the connection's session was granted the operation on the object (CheckAccess). It takes
+    /// no memory, and costs a look through the sessions, a look-up of the object, and an `and` of eight words.
     pub fn permits(&self, connection: u32, operation: Operation, object: &Object) -> bool
         ensures { result ≡ permits self.now connection operation object.now }
     {
@@ -134,6 +134,7 @@ impl Policy {
     pub(crate) fn administers(&self, connection: u32) -> Result<(), PolicyFault>
         ensures ok { OnOk result (administered self.now connection ≡ Ok self.now) }
         ensures refused { IfErr result (IsFaultOf (administered self.now connection)) }
+        ensures memory { IfErr result (λ fault. fault ≢ PolicyFault.Memory) }
     {
         if self.session(connection).is_none() {
             return Err(PolicyFault::Refused(Refusal::NoSession));

@@ -1,7 +1,7 @@
 //! Why the policy refuses a request.
 ghost use Rattle.std.specs.Prelude.{◌≡◌};
 ghost use Rattle.mpw_rbac.specs.declared.refusal.PolicyFault.TheVariants.{Memory};
-ghost use Rattle.mpw_rbac.specs.Internal.Fault.{fault_of_roles, fault_of_sets};
+ghost use Rattle.mpw_rbac.specs.Fault.{fault_of_roles, fault_of_sets};
 
 use mpw_geom::Name;
 use mpw_permissions::{Object, Operation};

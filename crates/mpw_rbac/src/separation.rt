@@ -1,5 +1,5 @@
 //! The administrative requests of separation of duty.
-ghost use Rattle.std.specs.Prelude.{◌≡◌, ◌⊎◌, true, false, [], ◌∷◌, map, IfErr, OnOk, OnErr, Ok, Err};
+ghost use Rattle.std.specs.Prelude.{◌≡◌, ◌≢◌, ◌⊎◌, true, false, [], ◌∷◌, map, IfErr, OnOk, OnErr, Ok, Err};
 ghost use Rattle.std.specs.List.{list_all};
 ghost use Rattle.std.specs.Option.{option_copied};
 ghost use Rattle.mpw_roles.specs.Hierarchy.{is_role, role_names};
@@ -184,6 +184,7 @@ impl Policy {
     pub fn unssd(&mut self, connection: u32, name: &Name) -> Result<(), PolicyFault>
         ensures ok { OnOk result (rows.unssd self.old connection name.now ≡ Ok self.new) }
         ensures refused { IfErr result (IsFaultOf (rows.unssd self.old connection name.now)) }
+        ensures memory { IfErr result (λ fault. fault ≢ PolicyFault.Memory) }
         ensures err { OnErr result (self.new ≡ self.old) }
     {
         self.remove_set(connection, Kind::Static, name)
@@ -196,6 +197,7 @@ impl Policy {
     pub fn undsd(&mut self, connection: u32, name: &Name) -> Result<(), PolicyFault>
         ensures ok { OnOk result (rows.undsd self.old connection name.now ≡ Ok self.new) }
         ensures refused { IfErr result (IsFaultOf (rows.undsd self.old connection name.now)) }
+        ensures memory { IfErr result (λ fault. fault ≢ PolicyFault.Memory) }
         ensures err { OnErr result (self.new ≡ self.old) }
     {
         self.remove_set(connection, Kind::Dynamic, name)
@@ -246,6 +248,7 @@ impl Policy {
     fn remove_set(&mut self, connection: u32, kind: Kind, name: &Name) -> Result<(), PolicyFault>
         ensures ok { OnOk result (kinds.remove_set kind self.old connection name.now ≡ Ok self.new) }
         ensures refused { IfErr result (IsFaultOf (kinds.remove_set kind self.old connection name.now)) }
+        ensures memory { IfErr result (λ fault. fault ≢ PolicyFault.Memory) }
         ensures err { OnErr result (self.new ≡ self.old) }
     {
         self.administers(connection)?;

@@ -1,5 +1,5 @@
 //! Sessions: of one connection and one user each, with the active roles that the session chose.
-ghost use Rattle.std.specs.Prelude.{◌≡◌, true, false, is_some, [], ◌∷◌, ◌++◌, IfOk, IfErr, OnOk, OnErr, Ok, Err};
+ghost use Rattle.std.specs.Prelude.{◌≡◌, ◌≢◌, true, false, is_some, [], ◌∷◌, ◌++◌, IfOk, IfErr, OnOk, OnErr, Ok, Err};
 ghost use Rattle.std.specs.Option.{option_copied};
 ghost use Rattle.mpw_geom.specs.Names.{contains_name, without_name, by_name};
 ghost use Rattle.mpw_separation.specs.Separation.{least_broken};
@@ -57,6 +57,7 @@ impl Policy {
     pub fn close(&mut self, connection: u32) -> Result<(), PolicyFault>
         ensures ok { OnOk result (rows.close_session self.old connection ≡ Ok self.new) }
         ensures refused { IfErr result (IsFaultOf (rows.close_session self.old connection)) }
+        ensures memory { IfErr result (λ fault. fault ≢ PolicyFault.Memory) }
         ensures err { OnErr result (self.new ≡ self.old) }
     {
         if !self.has_session(connection) {
