@@ -1,6 +1,6 @@
 -- Why parts don't follow on: a tile that none has, or that more than one has.
 use Rattle.std.proofs.Common.{◌≡◌, ◌∙◌, ◌<◌, ◌≤◌, ◌+◌, inl, inr, ℕ, Bool, true, false, cond, List, [], ◌∷◌, ◌++◌, length, take, drop, get_or, refl, sym, ap, subst, arith, rules, append_assoc}
-use Rattle.std.specs.Prelude.{All, nat_lt, slice_get, Some}
+use Rattle.std.specs.Prelude.{All, nat_lt}
 use Rattle.std.specs.List.Sorted.{IsPermutation, IsSortedByKey}
 use Rattle.std.specs.Fn.{Called, ComputesKey}
 use Rattle.std.specs.Ordering.{nat_cmp, is_lt}
@@ -15,7 +15,7 @@ use Rattle.std.proofs.lemmas.List.Elements.{All-head, All-tail}
 use Rattle.std.proofs.lemmas.List.Sorted.{All-permutation, sorted_far, ranks_by, sum_by-IsPermutation}
 use Rattle.std.proofs.lemmas.List.Sums.{sum_by-cons, sum_by-append}
 use Rattle.mpw_parts.specs.Parts.{Found}
-use Rattle.mpw_parts.specs.Stitching.{AreAllOf, BeginsAt, FollowOn, has_tile, holders, IsOfTiles, IsFaultOf}
+use Rattle.mpw_parts.specs.Stitching.{BeginsAt, FollowOn, has_tile, holders, IsOfTiles}
 use Rattle.mpw_parts.specs.Internal.Stitching.{AreInOrder, fault_at}
 use Rattle.mpw_parts.specs.declared.fault.PartsFault.{PartsFault}
 use Rattle.mpw_parts.specs.declared.fault.PartsFault.TheVariants as faults
@@ -209,16 +209,6 @@ of_tiles_again tiles parts ordered (faults.Doubled tile) permuted of =
 of_tiles_again tiles parts ordered faults.Memory permuted of = of
 of_tiles_again tiles parts ordered (faults.Other place what) permuted of = absurd of
 of_tiles_again tiles parts ordered faults.NoPart permuted of = absurd of
-
--- Where all parts are of the first one's check, what is wrong with their tiles is why they aren't stitched.
-pub of_parts : (parts : List Found) (first : Found) (fault : PartsFault)
-    → slice_get parts 0 ≡ Some first → AreAllOf first.subject parts
-    → IsOfTiles first.subject.tiles parts fault → IsFaultOf parts fault
-of_parts parts first (faults.Missing tile) at same of = (first, at, same, of)
-of_parts parts first (faults.Doubled tile) at same of = (first, at, same, of)
-of_parts parts first faults.Memory at same of = of
-of_parts parts first (faults.Other place what) at same of = absurd of
-of_parts parts first faults.NoPart at same of = absurd of
 
 -- ---- the order of a sort
 
