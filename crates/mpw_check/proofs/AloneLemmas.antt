@@ -8,8 +8,7 @@ use Rattle.mpw_hier.specs.Limits.{IsRefused}
 use Rattle.mpw_hier.specs.Outside.{AreExternals}
 use Rattle.mpw_hier.specs.Shelf.{bound_to, present}
 use Rattle.mpw_structures.specs.declared.structures.Structure.{Structure}
-use Rattle.mpw_check.specs.Drawn.{offered, IsOfTop}
-use Rattle.mpw_check.specs.Internal.Drawn.{told}
+use Rattle.mpw_check.specs.Drawn.{offered, told, IsOfTop}
 
 -- No names are bound to nothing.
 pub none-bound : (names : List (List ℕ)) (bound : List Binding) → names ≡ [] → bound ≡ []

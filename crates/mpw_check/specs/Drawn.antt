@@ -76,3 +76,14 @@ IsOfText top text (faults.Library fault) = library_of text ≡ Err fault
 IsOfText top text (faults.Outside names) = IsOfLibrary top text (faults.Outside names)
 IsOfText top text (faults.Structure fault) = IsOfLibrary top text (faults.Structure fault)
 IsOfText top text faults.Tiles = ⊥
+
+-- What is told of a structure's fault.
+abbrev pub told : HierFault → CheckFault
+told limits.Memory = faults.Memory
+told limits.NoTop = faults.Structure limits.NoTop
+told limits.Cycle = faults.Structure limits.Cycle
+told limits.NoCell = faults.Structure limits.NoCell
+told limits.Extent = faults.Structure limits.Extent
+told limits.Shapes = faults.Structure limits.Shapes
+told limits.Deep = faults.Structure limits.Deep
+told limits.Full = faults.Structure limits.Full

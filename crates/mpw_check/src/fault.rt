@@ -1,7 +1,7 @@
 //! Why a library's top isn't checked.
 
 ghost use Rattle.std.specs.Prelude.{◌≡◌};
-ghost use Rattle.mpw_check.specs.Internal.Drawn.{told};
+ghost use Rattle.mpw_check.specs.Drawn.{told};
 ghost use Rattle.mpw_check.specs.declared.fault.CheckFault.TheVariants.{Memory};
 
 use mpw_geom::Names;

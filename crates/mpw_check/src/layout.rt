@@ -5,8 +5,8 @@ ghost use Rattle.mpw_hier.specs.Outline.{IsOutline};
 ghost use Rattle.mpw_structures.specs.Library.{IsLibrary};
 ghost use Rattle.mpw_tiles.specs.Snapshots.{AreRoots};
 ghost use Rattle.mpw_walk.specs.Roots.{root_at_origin};
-ghost use Rattle.mpw_check.specs.Drawn.{offered, drawn_shelf, IsDrawn, IsDrawnFrom, IsOfTop, IsOfText};
-ghost use Rattle.mpw_check.specs.Internal.Drawn.{IsShelved, told};
+ghost use Rattle.mpw_check.specs.Drawn.{offered, drawn_shelf, told, IsDrawn, IsDrawnFrom, IsOfTop, IsOfText};
+ghost use Rattle.mpw_check.specs.Internal.Drawn.{IsShelved};
 
 use crate::fault::CheckFault;
 use mpw_deck::Deck;

@@ -1,13 +1,9 @@
--- What private functions and proofs need of this: a library's top, placed where it was drawn, under a deck; and why it can't be.
+-- What private functions and proofs need of this: a library's top, placed where it was drawn, under a deck.
 use Rattle.std.specs.Prelude.{◌≡◌, ℕ, List, []}
-use Rattle.mpw_hier.specs.declared.fault.HierFault.{HierFault}
-use Rattle.mpw_hier.specs.declared.fault.HierFault.TheVariants as limits
 use Rattle.mpw_hier.specs.declared.submission.Submission.{Submission}
 use Rattle.mpw_hier.specs.Limits.{KeepsLimits}
 use Rattle.mpw_hier.specs.Outside.{AreExternals}
 use Rattle.mpw_structures.specs.declared.structures.Structure.{Structure}
-use Rattle.mpw_check.specs.declared.fault.CheckFault.{CheckFault}
-use Rattle.mpw_check.specs.declared.fault.CheckFault.TheVariants as faults
 use Rattle.mpw_check.specs.Drawn.{offered, drawn_shelf}
 
 -- A shelf with a library's top, which names nothing outside the library and keeps to the limits of a submission.
@@ -16,14 +12,3 @@ pub record IsShelved (top : List ℕ) (library : List Structure) (shelf : List S
   pub whole : AreExternals library top []
   pub limited : KeepsLimits [] (offered top library)
   pub shelf_is : shelf ≡ drawn_shelf top library
-
--- What is told of a structure's fault.
-abbrev pub told : HierFault → CheckFault
-told limits.Memory = faults.Memory
-told limits.NoTop = faults.Structure limits.NoTop
-told limits.Cycle = faults.Structure limits.Cycle
-told limits.NoCell = faults.Structure limits.NoCell
-told limits.Extent = faults.Structure limits.Extent
-told limits.Shapes = faults.Structure limits.Shapes
-told limits.Deep = faults.Structure limits.Deep
-told limits.Full = faults.Structure limits.Full
