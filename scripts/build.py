@@ -4,7 +4,7 @@
   scripts/build.py PROGRAM
 
 The toolchain's `rattle` proves each crate from nothing over the libraries that it built of the crates below, and builds none that
-isn't proved; the program is compiled by its own compiler, which takes three seconds where clang takes fifty, for code that is as
+isn't proved; the program is compiled by its own compiler, which takes a few seconds where clang takes fifty, for code that is as
 fast. What the gate tries besides, as wrong bodies and the layout of the texts, is left to the gate. A crate begins as soon
 as those below are proved, where there is memory for it, that with the longest chain of crates above it first, one more at a time than
 there are processors. It takes one process, since each further one reads and checks again what the others did, and more where
