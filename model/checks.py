@@ -30,6 +30,7 @@ class Marker:
 
     @property
     def cells(self):
+        """The cells of all that the marker meets."""
         return {submission.cell for submission in self.met}
 
 
@@ -120,4 +121,5 @@ def pair_steps(rule, first, second=()):
 
 
 def edges_of(intervals):
+    """Where intervals begin, and where they end."""
     return [rise for rise, _ in intervals], [fall for _, fall in intervals]

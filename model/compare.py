@@ -4,10 +4,10 @@
   model/compare.py PROGRAM [--rounds N] [--first K] [GROUP ..]
   model/compare.py --squares [--rounds N] [--first K]
 
-The first makes a script of each group (or of those named) for each of N numbers from K, runs `PROGRAM script` on it, and
-tells which replies or which exit status differ, with the file of the script. At its end stand how often each
-request was accepted, and how often each denial and each code was told. The second compares the model with itself: the
-markers of small runs with what the definition says of them square by square. The exit status is 0 where nothing
+The first makes a script of each group (or of those named) for each of N numbers from K, runs `PROGRAM script` on it,
+and tells which replies or which exit status differ, with the file of the script. At its end stand how often each
+request was accepted, and how often each denial and each code was told. The second compares the model with itself:
+the markers of small runs with what the definition says of them square by square. The exit status is 0 where nothing
 differs, else 1.
 """
 import argparse
@@ -43,6 +43,7 @@ class Comparison:
 
     @property
     def words(self):
+        """The words of the command line."""
         return ["script", "--officer", self.officer, "--digest", self.digest]
 
 
@@ -93,6 +94,7 @@ def keep(comparison, found, expected):
 
 
 def tell_difference(comparison, found, status, expected):
+    """Tells a script that differs, its exit status, and the first reply that isn't as expected."""
     path = keep(comparison, found, expected)
     print(f"{comparison.group}-{comparison.number} differs: {' '.join(comparison.words)} < {path}")
     if status != 0:
@@ -105,6 +107,7 @@ def tell_difference(comparison, found, status, expected):
 
 
 def shortened(line):
+    """A line as it is told: its first 160 bytes, without others than those of a terminal."""
     return "no line" if line is None else repr(line[:160].decode("latin1"))
 
 
@@ -117,6 +120,7 @@ class Tally:
         self.scripts = Counter()
 
     def add(self, comparison, connection):
+        """Counts a script's replies."""
         self.scripts[comparison.group] += 1
         for entry in connection.desk.trail.entries:
             self.requests[entry.first_line.split(" ")[0]][entry.verb] += 1
@@ -131,6 +135,7 @@ class Tally:
             self.told[kind[0]] += 1
 
     def show(self):
+        """Prints the tables."""
         verbs = sorted(set().union(*self.requests.values()))
         print(f"{'request':12}" + "".join(f"{word:>10}" for word in self.requests))
         for verb in verbs:

@@ -21,6 +21,8 @@ class Rule(NamedTuple):
 
 
 class Deck(NamedTuple):
+    """The side of tiles, and the rules in the order of their lines."""
+
     tile: int
     rules: tuple
 

@@ -1,4 +1,7 @@
-"""The elements of a structure in nm: boundaries, paths and references. A BOX is a boundary; texts and nodes are none."""
+"""The elements of a structure in nm: boundaries, paths and references.
+
+A BOX is a boundary; texts and nodes are no elements.
+"""
 from dataclasses import dataclass, field
 
 import records as kinds
@@ -29,6 +32,7 @@ class Boundary:
 
     @property
     def words(self):
+        """The words of a shape's line in the reply to `shapes`."""
         return "boundary"
 
 
@@ -52,6 +56,7 @@ class Path:
 
     @property
     def words(self):
+        """The words of a shape's line in the reply to `shapes`."""
         return f"path {self.width} {self.begin} {self.end}"
 
 
@@ -150,6 +155,7 @@ def path_behind(reader, layer, unit):
 
 
 def without_repeats(points):
+    """The points but for those that repeat the one before them."""
     return points[:1] + [point for before, point in zip(points, points[1:]) if point != before]
 
 

@@ -27,6 +27,7 @@ class Key(NamedTuple):
 
     @property
     def word(self):
+        """The key as a word of a request or a reply."""
         return ":".join(map(str, self))
 
 
@@ -67,23 +68,27 @@ def name(word):
 
 
 def token(word):
+    """A token has the bytes of a name, and may be `-`."""
     test(is_name(word), "form")
     return word
 
 
 def operation(word):
+    """An operation is on a cell or on the desk."""
     found = word.decode("latin1")
     test(found in CELL_OPERATIONS + DESK_OPERATIONS, "form")
     return found
 
 
 def orientation(word):
+    """An orientation: R or M, and the degrees of its turn."""
     found = word.decode("latin1")
     test(found in ORIENTATIONS, "form")
     return found
 
 
 def coordinate(word):
+    """A coordinate lies within -2^30 to 2^30."""
     found = whole_number(word, -LIMIT, LIMIT)
     test(found is not None, "form")
     return found

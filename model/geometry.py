@@ -6,6 +6,8 @@ LIMIT = 1 << 30
 
 
 class Point(NamedTuple):
+    """A point of the plane."""
+
     x: int
     y: int
 
@@ -46,11 +48,13 @@ UNPLACED = placing_of("R0", 0, 0)
 
 
 def placed_point(placing, point):
+    """Where a point is placed."""
     x, y = point
     return Point(placing.xx * x + placing.xy * y + placing.dx, placing.yx * x + placing.yy * y + placing.dy)
 
 
 def placed_box(placing, box):
+    """Where a box is placed: its corners may change places."""
     one = placed_point(placing, (box.left, box.bottom))
     other = placed_point(placing, (box.right, box.top))
     return Box(min(one.x, other.x), min(one.y, other.y), max(one.x, other.x), max(one.y, other.y))

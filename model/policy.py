@@ -28,6 +28,7 @@ class SeparationSet(NamedTuple):
     roles: frozenset
 
     def is_broken(self, roles):
+        """Whether somebody has as many of its roles among these."""
         return len(self.roles & roles) >= self.number
 
 
@@ -40,6 +41,7 @@ class Session:
 
 
 def digest_of(token):
+    """A token is known by its SHA-256 alone."""
     return hashlib.sha256(token).digest()
 
 
@@ -85,6 +87,7 @@ class Policy:
         return any(Grant(operation, about, role) in self.grants for role in self.acting())
 
     def need_session(self):
+        """That the connection has a session."""
         if self.session is None:
             raise Denied("session")
 
@@ -95,11 +98,13 @@ class Policy:
             raise Denied(f"permission {operation} {about}")
 
     def need_admin(self):
+        """That the session may administer the policy."""
         self.need("admin", "desk")
 
     # Separation of duty.
 
     def least_broken(self, kind, roles_of_each):
+        """The least name of a set that is broken by the roles of somebody; none where none is."""
         broken = [name for name, separation in self.sets[kind].items() if any(map(separation.is_broken, roles_of_each))]
         return min(broken, default=None)
 
@@ -143,6 +148,7 @@ class Policy:
         self.session = Session(user)
 
     def close(self):
+        """The session ends."""
         self.need_session()
         self.session = None
 
@@ -155,6 +161,7 @@ class Policy:
         self.add_tested(self.session.active, role, "dsd")
 
     def drop(self, role):
+        """An active role is active no more."""
         self.need_session()
         test(role in self.session.active, "unknown")
         self.session.active.remove(role)
@@ -168,6 +175,7 @@ class Policy:
     # Users, roles and grants.
 
     def add_user(self, user, token):
+        """A user without roles."""
         self.need_admin()
         test(user not in self.users, "known")
         test(len(self.users) < MOST_USERS, "full")
@@ -182,6 +190,7 @@ class Policy:
         self.trim()
 
     def add_role(self, role):
+        """A role without pairs."""
         self.need_admin()
         test(role not in self.roles, "known")
         test(len(self.roles) < MOST_ROLES, "full")
@@ -200,12 +209,14 @@ class Policy:
         self.trim()
 
     def assign(self, user, role):
+        """A role for a user; static sets are tested with it and its juniors."""
         self.need_admin()
         test(user in self.users and role in self.roles, "unknown")
         test((user, role) not in self.assignments, "known")
         self.add_tested(self.assignments, (user, role), "ssd")
 
     def deassign(self, user, role):
+        """An assignment is taken back."""
         self.need_admin()
         test((user, role) in self.assignments, "unknown")
         self.assignments.remove((user, role))
@@ -220,6 +231,7 @@ class Policy:
         self.grants.add(Grant(operation, about, role))
 
     def revoke(self, operation, about, role):
+        """A grant is taken back."""
         self.need_admin()
         test(Grant(operation, about, role) in self.grants, "unknown")
         self.grants.remove(Grant(operation, about, role))
@@ -235,6 +247,7 @@ class Policy:
         self.add_tested(self.pairs, (senior, junior), "ssd", "dsd")
 
     def uninherit(self, senior, junior):
+        """An immediate pair is taken back; what chains through it gave is gone."""
         self.need_admin()
         test((senior, junior) in self.pairs, "unknown")
         self.pairs.remove((senior, junior))
@@ -255,6 +268,7 @@ class Policy:
             raise
 
     def delete_set(self, kind, name):
+        """A set of a kind is gone."""
         self.need_admin()
         test(name in self.sets[kind], "unknown")
         del self.sets[kind][name]

@@ -29,6 +29,7 @@ class Record(NamedTuple):
 
 
 def has_size(data, size):
+    """Whether data has the size that its record has to have."""
     if size is SOME:
         return len(data) >= 2
     if size is SOME_PAIRS:
@@ -82,6 +83,7 @@ def of_kind(record, *kinds):
 
 
 def unsigned(data):
+    """The number of bytes, the first of most weight."""
     return int.from_bytes(data, "big")
 
 

@@ -4,13 +4,14 @@ A rule is tested where it stands in the code, and the first test that fails rais
 changed by then, and a change that is tested as a whole is taken back first.
 """
 
+# Those that a script of one connection can be told, but for `memory`.
 CODE_WORDS = {
     1: "short", 2: "badlength", 3: "badtype", 4: "unexpected", 5: "badsize", 6: "badname", 7: "unit", 8: "mag",
     9: "angle", 10: "notmanhattan", 11: "roundpath", 12: "oddwidth", 13: "pointpath", 14: "columns", 15: "pitch",
-    16: "doublename", 17: "memory", 18: "absolute", 20: "notop", 21: "cycle", 23: "nocell", 24: "extent",
+    16: "doublename", 18: "absolute", 20: "notop", 21: "cycle", 23: "nocell", 24: "extent",
     25: "shapes", 26: "deep", 27: "full", 28: "tiles", 30: "opened", 31: "norun", 32: "unknown", 33: "known",
-    35: "used", 36: "loop", 37: "running", 38: "nodeck", 39: "empty", 40: "form", 41: "long", 42: "cut",
-    43: "notfinished", 44: "marker", 45: "nowaiver", 46: "ended", 51: "word", 52: "number", 53: "layer",
+    35: "used", 36: "loop", 38: "nodeck", 39: "empty", 40: "form", 41: "long", 42: "cut",
+    43: "notfinished", 44: "marker", 45: "nowaiver", 51: "word", 52: "number", 53: "layer",
     54: "samelayer", 55: "doublerule", 56: "tile", 57: "rules",
 }
 CODES = {word: code for code, word in CODE_WORDS.items()}

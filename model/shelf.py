@@ -35,6 +35,7 @@ class Submission:
 
     @property
     def whole(self):
+        """The measures of what the submission shows."""
         return self.measures[self.top]
 
 
@@ -47,6 +48,7 @@ class Item(NamedTuple):
 
 
 def references_of(elements):
+    """The references among elements."""
     return [element for element in elements if isinstance(element, Reference)]
 
 

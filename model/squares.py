@@ -68,7 +68,7 @@ def squares_of(item):
 
 
 def steps_in_row(rule, row, first, second):
-    """The pair steps of a row: each pair of edges of the kinds that the rule names, in their order, that are too near."""
+    """The pair steps of a row: each two edges of the kinds that the rule names, in their order, that are too near."""
     columns = [i for i, j in first | second if j == row]
     edges = range(min(columns), max(columns) + 2)
 

@@ -22,6 +22,7 @@ class Root(NamedTuple):
 
     @property
     def placing(self):
+        """The orientation, then the displacement."""
         return placing_of(self.orientation, self.x, self.y)
 
     @property
@@ -77,6 +78,7 @@ class Wafer:
 
     @property
     def roots(self):
+        """The placed submissions in order, without labels."""
         return [placement.root for placement in self.placements]
 
     def placement_at(self, cell, label):
@@ -99,12 +101,14 @@ class Wafer:
         return [f"version {root.submission.version}"]
 
     def unplace(self, cell, label):
+        """A placement is taken away, by its cell and label."""
         self.policy.need("place", cell)
         place = self.placement_at(cell, label)
         test(place is not None, "unknown")
         del self.placements[place]
 
     def bring_deck(self, text):
+        """A deck's text takes the place of the last deck; one with a fault leaves it."""
         self.policy.need("deck", "desk")
         self.deck = deck_of(text)
 
@@ -127,5 +131,6 @@ class Wafer:
         raise Refused("norun")
 
     def status(self):
+        """Idle before the first run, then finished: a run ends before the next request."""
         self.policy.need_session()
         return [f"finished {self.run.number}" if self.run else "idle"]

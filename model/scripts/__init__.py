@@ -27,6 +27,7 @@ GROUPS = {
 
 
 def random_of(group, number):
+    """The random numbers of a group's script of a number."""
     return Random(f"{group}-{number}")
 
 

@@ -10,34 +10,42 @@ LENGTHS = [
 
 
 def long_line(random):
+    """A line of as many bytes as there may be, or of more."""
     return b"x" * random.choice([4095, 4096, 4097, 4098, 5000]) + random.choice([b"", b"\n", b"\nwhoami\n"])
 
 
 def cut_deck(_):
+    """A deck that ends inside its payload."""
     return b"deck 10\ntil"
 
 
 def cut_library(random):
+    """A library of another length than its bytes have."""
     return b"submit pad TOP %d\nabc\n" % random.choice([4, 5, 16777216, 16777217, 99999999, 10**40])
 
 
 def no_line_feed(_):
+    """A last line may lack its line feed."""
     return b"whoami"
 
 
 def any_length(random):
+    """Lengths in other spellings, or too great ones."""
     return b"deck %s\nabc\nwhoami\n" % random.choice(LENGTHS)
 
 
 def empty_lines(random):
+    """Empty lines, and carriage returns, which part no words."""
     return b"\n\nwhoami\r\nwhoami\n" + random.choice([b"", b" ", b"\r"])
 
 
 def behind_payload(random):
+    """The next line begins right behind a payload."""
     return b"deck 8\ntile 256" + random.choice([b"whoami\n", b"\nwhoami\n", b"", b"\n"])
 
 
 def long_name(random):
+    """A name that is none, in a line that is hardly too long."""
     return b"open " + b"u" * random.choice([4091, 4088, 4090]) + b" abc\nwhoami"
 
 
@@ -53,6 +61,7 @@ def changed(random, text):
 
 
 def cut_anywhere(random, text):
+    """A script that ends anywhere."""
     return text[:random.randrange(len(text) + 1)]
 
 
@@ -68,6 +77,7 @@ def first_lines(random):
 
 
 def connection_script(random):
+    """The first lines of a script, with an end or with other bytes."""
     script = first_lines(random)
     end = random.choice([*ENDS, changed, cut_anywhere])
     if end in ENDS:

@@ -8,9 +8,10 @@ from .written import library, rectangle
 NAMES = ["sp", "w", "se", "en", "~", "-", "!", "r,1", 'q"', "sp2", "a", "R" * 64, "b", "c"]
 TILES = [256, 256, 256, 257, 300, 512, 1000, 1 << 30]
 STRANGE_WORDS = [
-    "", "-", "0", "-0", "05", "+5", "65536", "65535", "1/", "/1", "1/2/3", "1/65536", "01/0", "a", "x:y", "tile", "width",
-    "255", "1073741825", "99999999999999999999", "\t", "\xff", "x" * 256, "x" * 255, "1/-1", "-1/1",
+    "", "-", "0", "-0", "05", "+5", "65536", "65535", "1/", "/1", "1/2/3", "1/65536", "01/0", "a", "x:y", "tile",
+    "width", "255", "1073741825", "99999999999999999999", "\t", "\xff", "x" * 256, "x" * 255, "1/-1", "-1/1",
 ]
+BOXES = [((1, 0), 0, 0, 10, 50), ((1, 0), 15, 0, 22, 40), ((2, 0), 2, 3, 20, 9), ((65535, 65535), -4, 0, -1, 99)]
 STRANGE_LINES = [
     "tile 256", "tile", "width w", "space sp 1/0 5", "separation s 1/0 1/0 5", "enclosing s 1/0 1/0 0", "Width a 1/0 5",
     "", "width sp 1/0 70000", "separation sp 1/0 1/0 5", "tile 255",
@@ -26,6 +27,7 @@ DAMAGED_WORDS = [
 
 
 def rule_line(random, name, layers):
+    """A line of one of the four checks."""
     check = random.choice(["width", "space", "separation", "enclosing"])
     near = [1, 2, 5, 6, 10, 11, 16, 20, 31, 40, 100, random.randrange(1, 120), 255, 256, 300]
     distance = random.choice(near) if random.random() < .97 else 65535
@@ -51,32 +53,39 @@ def deck_text(random, layers, good=.9):
 # Each of these changes the lines of a deck, at a place.
 
 def empty_line(_, lines, place):
+    """Nothing between two line feeds."""
     lines[place] = ""
 
 
 def other_word(random, lines, place):
+    """Another word in its place."""
     words = lines[place].split(" ")
     words[random.randrange(len(words))] = random.choice(STRANGE_WORDS)
     lines[place] = " ".join(words)
 
 
 def longer_line(random, lines, place):
+    """More at a line's end."""
     lines[place] += random.choice([" ", " 5", "\r", "\0"])
 
 
 def no_line(_, lines, place):
+    """A line that lacks."""
     del lines[place]
 
 
 def strange_line(random, lines, place):
+    """Another line before it."""
     lines.insert(place, random.choice(STRANGE_LINES))
 
 
 def repeated_line(random, lines, place):
+    """Any of the lines once more."""
     lines.insert(place, random.choice(lines))
 
 
 def shorter_line(random, lines, place):
+    """A word that lacks."""
     words = lines[place].split(" ")
     if len(words) > 1:
         del words[random.randrange(len(words))]
@@ -84,10 +93,12 @@ def shorter_line(random, lines, place):
 
 
 def wider_line(_, lines, place):
+    """Two spaces in place of one."""
     lines[place] = lines[place].replace(" ", "  ", 1)
 
 
 def other_first_line(random, lines, _):
+    """A first line that may be none of tiles."""
     lines[0] = random.choice(STRANGE_FIRST_LINES)
 
 
@@ -128,8 +139,7 @@ def deck_script(random):
         script.begin()
         script.grant_to_officer("desk", "deck", "run", "verdict", "audit")
         script.grant_to_officer("pad", *CELL_OPERATIONS)
-        boxes = [((1, 0), 0, 0, 10, 50), ((1, 0), 15, 0, 22, 40), ((2, 0), 2, 3, 20, 9), ((65535, 65535), -4, 0, -1, 99)]
-        script.submit("pad", "T", library({"T": [rectangle(*box) for box in boxes]}))
+        script.submit("pad", "T", library({"T": [rectangle(*box) for box in BOXES]}))
         script.line("place", "pad", "c1", "R0", 0, 0)
         for _ in range(random.choice([20, 40])):
             text = deck_text(random, random.choice(LAYERS), .25)

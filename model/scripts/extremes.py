@@ -10,6 +10,7 @@ GREATEST = 2**31 - 1
 
 
 def wide_box(random):
+    """A box that reaches the limits of an extent, or one more."""
     right = random.choice([LIMIT, LIMIT + 1])
     return {"T": [rectangle(LAYER, random.choice([-LIMIT, -LIMIT - 1, 0]), 0, right, 10)]}
 
@@ -43,6 +44,7 @@ def unreached_trouble(_):
 
 
 def maybe_a_cycle(random):
+    """The last reference may lead back to a structure above it."""
     return {
         "T": [single("A", 0, 0)], "A": [single("B", 0, 0)], "B": [single(random.choice("ATBC"), 0, 0)], "C": [SQUARE],
     }

@@ -18,7 +18,8 @@ STRANGE = [
     Written(0x99, 9, b"zz"),
 ]
 BAD_NAMES = [
-    b"\0\0", b"a b\0", b"\x80a", b"A\0B\0", b"x" * 256, b"x" * 254, even(b"x" * 255), b"\0A", b"AA", b"\x7fa", b"!~", b"- ",
+    b"\0\0", b"a b\0", b"\x80a", b"A\0B\0", b"x" * 256, b"x" * 254, even(b"x" * 255), b"\0A", b"AA", b"\x7fa", b"!~",
+    b"- ",
 ]
 BAD_UNITS = [
     bytes(8), real_bytes(1001, 10**9), real_bytes(5, 2 * 10**9), real_bytes(1), real_bytes(-1, 10**9),
@@ -28,6 +29,7 @@ BAD_SIZES = [(0, 1), (1, 0), (0xFFFF, 1), (1, 0x8000), (2, 3), (0, 0)]
 
 
 def other_name(random, _):
+    """Another name, which is mostly none."""
     return random.choice(BAD_NAMES)
 
 
@@ -55,22 +57,27 @@ OTHER_VALUES = {
 # Each of these changes a list of records, at a place that was drawn before.
 
 def leave_out(_, records, place):
+    """A record that lacks."""
     del records[place]
 
 
 def put_in(random, records, place):
+    """A record too many."""
     records.insert(place, random.choice(STRANGE))
 
 
 def put_other(random, records, place):
+    """A record in the place of another."""
     records[place] = random.choice(STRANGE)
 
 
 def other_data_type(random, records, place):
+    """Another data type."""
     records[place] = records[place]._replace(data_type=random.choice([0, 1, 2, 3, 4, 5, 6, 7, 255]))
 
 
 def other_size(random, records, place):
+    """Less data, or more."""
     data = records[place].data
     if random.random() < .5:
         data = data[:random.randrange(0, len(data) + 1, 2)]
@@ -80,11 +87,13 @@ def other_size(random, records, place):
 
 
 def exchange(random, records, place):
+    """Two records in each other's place."""
     other = random.randrange(len(records))
     records[place], records[other] = records[other], records[place]
 
 
 def repeat(random, records, place):
+    """A record of another place once more."""
     records.insert(place, records[random.randrange(len(records))])
 
 
@@ -118,6 +127,7 @@ CHANGES = [
 # Each of these changes the bytes of a text.
 
 def cut_off(random, text, _):
+    """A text that ends anywhere."""
     return text[:random.randrange(len(text) + 1)]
 
 
@@ -133,6 +143,7 @@ def other_length(random, text, records):
 
 
 def other_bytes(random, text, _):
+    """Some bytes are others."""
     changed = bytearray(text)
     for _ in range(random.choice([1, 1, 2, 4])):
         changed[random.randrange(len(changed))] = random.randrange(256)

@@ -1,7 +1,7 @@
 """Lines that are no requests, or hardly: each tries one condition of the form of a request."""
 LINES = [
-    "", " ", "frob", "whoami ", " whoami", "WHOAMI", "open", "open a", "open  a b", "close x", "ssd s", "ssd s 2", "ssd",
-    "grant read pad", "grant read pad a b", "submit pad TOP", "submit pad TOP x", "submit pad TOP -1",
+    "", " ", "frob", "whoami ", " whoami", "WHOAMI", "open", "open a", "open  a b", "close x", "ssd s", "ssd s 2",
+    "ssd", "grant read pad", "grant read pad a b", "submit pad TOP", "submit pad TOP x", "submit pad TOP -1",
     "submit pad TOP 01", "submit - TOP 3", "submit pad - 3", "deck", "deck x", "deck 01", "deck +1", "deck 1 1",
     "place pad l R0 0", "place pad l R45 0 0", "place pad l r0 0 0", "place pad l R0 -0 0", "place pad l R0 00 0",
     "place pad l R0 1073741825 0", "place pad l R0 0 -1073741825", "place pad - R0 0 0", "place pad l R0 +1 0",
@@ -17,4 +17,5 @@ LINES = [
 
 
 def write_junk(script):
+    """Writes one of them."""
     script.line(script.choice(LINES))

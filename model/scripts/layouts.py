@@ -50,6 +50,7 @@ def submit_one(script, cells, coordinates, layers):
 
 
 def layout_script(random):
+    """Submissions of several users, some at the limits, and at the end what each user may see of all cells."""
     script = Script(random)
     cells = random.sample(CELLS, random.choice([2, 3, 4]))
     coordinates, layers = random.choice(COORDINATES), random.choice(LAYERS)

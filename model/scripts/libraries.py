@@ -10,8 +10,8 @@ from .written import (
 
 STRUCTURES = ["A", "B", "C", "D", "TOP1", "~", "-", "pad", "chip", "x" * 64, "n" * 31]
 BEFORE_NAME = [
-    Written(0x1F, 6, b"lib1"), Written(0x22, 2, two_bytes(3)), Written(0x33, 2, b"\0\0"), Written(0x2B, 2, two_bytes(1)),
-    Written(0x08, 0), Written(0x34, 6), Written(0x11, 0), Written(0x07, 0),
+    Written(0x1F, 6, b"lib1"), Written(0x22, 2, two_bytes(3)), Written(0x33, 2, b"\0\0"),
+    Written(0x2B, 2, two_bytes(1)), Written(0x08, 0), Written(0x34, 6), Written(0x11, 0), Written(0x07, 0),
 ]
 BEHIND_NAME = [
     Written(0x20, 6, b"f" * 4), Written(0x22, 2, two_bytes(3)), Written(0x26, 1), Written(0x34, 6),

@@ -21,6 +21,7 @@ def submit(script, cell, *elements):
 
 
 def users(script):
+    """512 users and one more; who is deleted makes room."""
     for number in range(513):
         script.line("adduser", f"u{number}", "abc")
     write(script, "adduser u3 abc", "deluser u4", "adduser zz abc", "adduser zy abc")

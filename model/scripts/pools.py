@@ -5,7 +5,8 @@ USERS = [
     "y" * 255, "0", "ann.", "Ann", "an",
 ]
 ROLES = [
-    "a", "b", "c", "d", "e", "f", "g", "officer", "desk", "root", "r,s", '"', "~~", "z" * 64, "z" * 255, "-1", "A", "aa",
+    "a", "b", "c", "d", "e", "f", "g", "officer", "desk", "root", "r,s", '"', "~~", "z" * 64, "z" * 255, "-1", "A",
+    "aa",
 ]
 NO_NAMES = ["-", "", "x" * 256, "a\x7f", "\xe9", "a\tb", "a\x00", "\r", "a\r", "x" * 300]
 

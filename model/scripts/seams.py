@@ -1,4 +1,4 @@
-"""Scripts of runs over several tiles: arrays and boxes with edges about the seams, and versions of several submitters."""
+"""Scripts of runs over several tiles: arrays and boxes with edges about the seams, versions of several submitters."""
 from geometry import LIMIT, ORIENTATIONS
 
 from .script import OFFICER, Script, Spent
@@ -117,6 +117,7 @@ class SeamLines:
 
 
 def seam_script(random):
+    """Submissions and placements of several users, and one run or two with looks and waivers behind each."""
     script = Script(random)
     lines = SeamLines(script)
     try:

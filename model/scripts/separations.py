@@ -76,6 +76,7 @@ class SetLines:
 
 
 def separation_script(random):
+    """A few roles, of which some may administer the policy, and many sets and pairs of them."""
     script = Script(random)
     roles = list("abcdef")[:random.choice([4, 5, 6])]
     lines = SetLines(script, roles)

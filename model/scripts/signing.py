@@ -106,6 +106,7 @@ class SignLines:
 
 
 def sign_script(random):
+    """A run with some markers, lines of sign-off, and at the end what each user sees."""
     script = Script(random)
     lines = SignLines(script)
     try:

@@ -34,6 +34,7 @@ def begin_with_wafer(script, cells, users, roles):
 
 
 def grant_some(script, operations, about, role):
+    """Grants a role each of some operations with its probability."""
     for operation, probability in operations.items():
         if script.chance(probability):
             script.line("grant", operation, about, role)

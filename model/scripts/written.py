@@ -16,10 +16,12 @@ class Written(NamedTuple):
 
 
 def two_bytes(*values):
+    """Numbers of two bytes each."""
     return b"".join(struct.pack(">H", value & 0xFFFF) for value in values)
 
 
 def four_bytes(*values):
+    """Numbers of four bytes each, in two's complement."""
     return b"".join(struct.pack(">i", value) for value in values)
 
 
@@ -70,30 +72,37 @@ ENDLIB = Written(kinds.ENDLIB, 0)
 
 
 def libname(name):
+    """A library's name."""
     return Written(kinds.LIBNAME, 6, even(name))
 
 
 def strname(name):
+    """A structure's name."""
     return Written(kinds.STRNAME, 6, even(name))
 
 
 def sname(name):
+    """The name of a reference's target."""
     return Written(kinds.SNAME, 6, even(name))
 
 
 def units(user, database):
+    """The two units, as reals."""
     return Written(kinds.UNITS, 5, user + database)
 
 
 def layer(number):
+    """A layer's number."""
     return Written(kinds.LAYER, 2, two_bytes(number))
 
 
 def datatype(number):
+    """A datatype's number."""
     return Written(kinds.DATATYPE, 2, two_bytes(number))
 
 
 def xy(*points):
+    """Points."""
     return Written(kinds.XY, 3, b"".join(four_bytes(*point) for point in points))
 
 
