@@ -172,7 +172,7 @@ def main(words):
     parser.add_argument("--rounds", type=int, default=20, metavar="N")
     parser.add_argument("--first", type=int, default=0, metavar="K")
     parser.add_argument("--squares", action="store_true")
-    given = parser.parse_args(words)
+    given = parser.parse_intermixed_args(words)
     numbers = range(given.first, given.first + given.rounds)
     if given.squares:
         return 1 if squares.compare(numbers) else 0
