@@ -16,4 +16,3 @@ pub mod PositionLemmas
 pub mod RegisterLemmas
 pub mod RenumberLemmas
 pub mod RoleLemmas
-pub mod SettledLemmas

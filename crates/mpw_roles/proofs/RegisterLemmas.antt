@@ -1,14 +1,15 @@
 -- Names, each once, in two lists.
-use Rattle.std.proofs.Common.{◌≡◌, ℕ, ◌+◌, length, None, Some, Option, is_some, arith, true, false, cond, not, ◌||◌, List, [], ◌∷◌, ◌++◌, refl, sym, ap, ◌∙◌, true≢false}
+use Rattle.std.proofs.Common.{◌≡◌, ℕ, ◌+◌, length, None, Some, Option, is_some, arith, true, false, cond, not, ◌||◌, List, [], ◌∷◌, ◌++◌, refl, sym, ap, ◌∙◌, true≢false, append_assoc}
 use Rattle.std.specs.Prelude.{position}
 use Rattle.std.specs.Option.{option_map}
 use Rattle.mpw_geom.specs.Names.{name_eq, contains_name}
 use Rattle.mpw_geom.proofs.Linked.{name_eq-refl}
 use Rattle.mpw_roles.specs.Hierarchy.{Name}
 use Rattle.mpw_roles.specs.Order.{are_distinct}
+use Rattle.indexmap.specs.IndexSet.{insert_key}
 use Rattle.mpw_roles.proofs.PositionLemmas.{position-any, position-cons, position-right}
 use Rattle.mpw_roles.proofs.RoleLemmas.{contains-append, name_eq-apart}
-use Rattle.mpw_roles.proofs.BoolLemmas.{and_parts, not_true, neither}
+use Rattle.mpw_roles.proofs.BoolLemmas.{and_parts, and_both, not_true, neither}
 
 -- what stands behind some names is none of them
 pub name-next : (xs ys : List Name) (n : Name) → are_distinct (xs ++ n ∷ ys) ≡ true
@@ -21,6 +22,23 @@ name-next (x ∷ xs) ys n once =
     let apart = (neither (name_eq x n) (contains_name ys x)
     (neither (contains_name xs x) (contains_name (n ∷ ys) x) none).1).0 in
     (λ i. name_eq-apart x n apart i || name-next xs ys n p.1 i)
+
+-- the first names are each there once too
+pub distinct-left : (xs ys : List Name) → are_distinct (xs ++ ys) ≡ true → are_distinct xs ≡ true
+distinct-left [] ys once = refl
+distinct-left (x ∷ xs) ys once =
+    let p = and_parts (not (contains_name (xs ++ ys) x)) (are_distinct (xs ++ ys)) once in
+    let none = neither (contains_name xs x) (contains_name ys x) (sym (contains-append xs ys x)
+    ∙ not_true (contains_name (xs ++ ys) x) p.0) in
+    and_both (not (contains_name xs x)) (are_distinct xs) (ap not none.0)
+    (distinct-left xs ys p.1)
+
+-- the next name goes into the set
+pub next-inserted : (set rest all : List Name) (n : Name) → are_distinct all ≡ true
+    → set ++ n ∷ rest ≡ all → insert_key name_eq set n ++ rest ≡ all
+next-inserted set rest all n once is =
+    let new : contains_name set n ≡ false = name-next set rest n (ap are_distinct is ∙ once) in
+    ap (λ b. cond b set (set ++ n ∷ []) ++ rest) new ∙ append_assoc set (n ∷ []) rest ∙ is
 
 -- a new name gets the next number
 pub last-number : (names : List Name) (n : Name) (number : ℕ) → contains_name names n ≡ false

@@ -1,5 +1,4 @@
 -- What private functions and proofs alone need: no public contract speaks of it.
 pub mod Marks
 pub mod Register
-pub mod Settled
 pub mod Table
