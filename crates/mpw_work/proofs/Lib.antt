@@ -3,5 +3,5 @@ pub mod ByLayer
 pub mod Meeting
 pub mod Adding
 pub mod RunsMeet
-pub mod Worked
 pub mod Serving
+pub mod Collected

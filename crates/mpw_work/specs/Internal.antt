@@ -2,4 +2,3 @@
 pub mod Found
 pub mod Layers
 pub mod Shared
-pub mod Worked
