@@ -32,7 +32,7 @@ counts_from : (ss : List Submission) (n : ℕ) (ps : List Placement)
 counts_from ss n [] = refl
 counts_from ss n (p ∷ ps) = counts_from ss (n + count ss p.root.submission) ps
 
-counts_same : (ss : List Submission) (ps : List Placement)
+pub counts_same : (ss : List Submission) (ps : List Placement)
     → roots_count ss (roots_of ps) ≡ shape_count ss ps
 counts_same ss ps = counts_from ss 0 ps
 

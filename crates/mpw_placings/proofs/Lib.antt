@@ -1,4 +1,6 @@
 pub mod Inverted
 pub mod Keeping
-pub mod Tests
+pub mod Maps
+pub mod Parts
 pub mod Placing
+pub mod Tests

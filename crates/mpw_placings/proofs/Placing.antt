@@ -1,5 +1,5 @@
 -- What placing gives, by the two calls that decide it: which number the cell's present submission has, and the refusal.
-use Rattle.std.proofs.Common.{◌≡◌, ℕ, ◌+◌, ◌^◌, ◌<◌, length, List, [], ◌∷◌, ◌++◌, Option, Some, None, Ok, Err, sym, ap, ◌∙◌}
+use Rattle.std.proofs.Common.{◌≡◌, ℕ, ◌+◌, ◌^◌, ◌<◌, false, length, List, [], ◌∷◌, ◌++◌, Option, Some, None, Ok, Err, sym, ap, ◌∙◌}
 use Rattle.std.specs.Prelude.{nat_lt, nat_le}
 use Rattle.std.proofs.lemmas.Bool.{leb-false}
 use Rattle.mpw_geom.specs.declared.placing.Placing.{Placing}
@@ -39,7 +39,12 @@ module _ (ss : List Submission) (ps : List Placement) (cell label : List ℕ) (p
       ≡ Ok (ps ++ record { cell = cell; label = label; root = rooted number placing } ∷ [])
   placed number e f = decided number None e f
 
-  -- what isn't refused has room
+  -- what isn't refused is new
+  pub is_new : (number : ℕ) → None ≡ refusal ss ps cell label (rooted number placing)
+      → is_taken ps cell label ≡ false
+  is_new number e = (first_none (is_taken ps cell label) Known _ (sym e)).0
+
+  -- and has room
   pub has_room : (number : ℕ) → None ≡ refusal ss ps cell label (rooted number placing)
       → length ps < 4096
   has_room number e =

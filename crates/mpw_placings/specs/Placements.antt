@@ -10,6 +10,11 @@ use Rattle.mpw_hier.specs.Values.{count}
 use Rattle.mpw_walk.specs.declared.root.Root.{Root}
 use Rattle.mpw_tiles.specs.Snapshots.{AreRoots}
 use Rattle.mpw_placings.specs.declared.placement.Placement.{Placement}
+use Rattle.mpw_placings.specs.declared.placement.PlacementRef.{PlacementRef}
+
+-- The placing that is lent.
+abbrev pub placement_shown : PlacementRef → Placement
+placement_shown p = record { cell = p.cell.now; label = p.label.now; root = p.root }
 
 -- Whether the placing is of that cell and has that label.
 abbrev pub is_at : List ℕ → List ℕ → Placement → Bool

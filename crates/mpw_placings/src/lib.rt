@@ -10,12 +10,14 @@
 mod fault;
 mod laws;
 mod limits;
+mod map;
+mod name;
 mod placement;
 mod placings;
 mod wafer;
 
 pub use fault::PlacingFault;
 pub use laws::{each_change_keeps, later_submissions_keep};
-pub use placement::Placement;
+pub use placement::{Placement, PlacementRef};
 pub use placings::Placings;
 pub use wafer::Wafer;

@@ -1,11 +1,11 @@
 //! One placing on the wafer.
 
-ghost use Rattle.std.specs.Prelude.{◌≡◌, IfOk};
-ghost use Rattle.mpw_placings.specs.Placements.{is_at};
+ghost use Rattle.std.specs.Prelude.{◌≡◌};
+ghost use Rattle.mpw_placings.specs.Internal.Maps.{placement_of};
 
+use crate::name::PlacementName;
 use mpw_geom::Name;
 use mpw_walk::Root;
-use std::alloc::AllocError;
 
 /// A submission that is placed on the wafer. It is known by its cell and its label together.
 pub struct Placement {
@@ -30,24 +30,22 @@ impl Drop for Placement {
 }
 
 impl Placement {
-    /// The same placing, in constant time and without further memory.
-    ///
-    /// # Errors
-    /// Where no more copies of a name can be counted.
-    pub fn copy(&self) -> Result<Placement, AllocError>
-        ensures { IfOk result (λ placement. placement ≡ self.now) }
+    /// What it is known by, and what is placed.
+    pub(crate) fn into_entry(self) -> (PlacementName, Root)
+        ensures { placement_of result ≡ self }
     {
-        Ok(Placement {
-            cell: self.cell.copy()?,
-            label: self.label.copy()?,
-            root: self.root,
-        })
+        let Placement { cell, label, root } = self;
+        (PlacementName { cell, label }, root)
     }
+}
 
-    /// Whether the placing is of that cell and has that label.
-    pub(crate) fn is_at(&self, cell: &Name, label: &Name) -> bool
-        ensures { result ≡ is_at cell.now label.now self.now }
-    {
-        (self.cell == *cell) & (self.label == *label)
-    }
+/// A placing as the table lends it.
+#[derive(Clone, Copy)]
+pub struct PlacementRef<'a> {
+    /// The cell of the submission.
+    pub cell: &'a Name,
+    /// A name of which the cell has no other placement.
+    pub label: &'a Name,
+    /// The submission, by number, with its orientation and displacement.
+    pub root: Root,
 }

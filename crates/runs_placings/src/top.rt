@@ -5,7 +5,7 @@ use anyhow::{Result, bail};
 use mpw_deck::DeckError;
 use mpw_geom::{Name, Orient, Placing, Point};
 use mpw_hier::Shelf;
-use mpw_placings::{Placement, PlacingFault, Placings};
+use mpw_placings::{PlacementRef, PlacingFault, Placings};
 use mpw_plain::submit;
 use mpw_tiles::{Snapshot, are_roots};
 use mpw_words::orient_word;
@@ -23,7 +23,7 @@ pub struct Top {
     placings: Placings,
 }
 
-fn print_placement(rt: &impl Print, placement: &Placement) -> Result<()> {
+fn print_placement(rt: &impl Print, placement: PlacementRef<'_>) -> Result<()> {
     let cell = placement.cell.as_str();
     let label = placement.label.as_str();
     let submission = placement.root.submission;
@@ -126,7 +126,10 @@ impl Top {
         let placings = self.placings.copy()?;
         let count = placings.len();
         println!(rt; "    {count} placings")?;
-        for placement in placings.as_slice() {
+        for place in 0..count {
+            let Some(placement) = placings.get(place) else {
+                bail!("a placing");
+            };
             print_placement(rt, placement)?;
         }
         Ok(())

@@ -1,7 +1,7 @@
-use Rattle.std.proofs.Common.{◌∙◌, ◌+◌, ◌++◌, [], ◌∷◌, Ok, length, ap, sym, arith}
-use Rattle.std.proofs.lemmas.List.{length_push}
+use Rattle.std.proofs.Common.{◌∙◌, ◌++◌, [], ◌∷◌, Ok, ap, sym}
 use Rattle.mpw_walk.specs.declared.root.Root.{Root}
-use Rattle.mpw_placings.proofs.Placing.{without_cell, has_room, placed, refused}
+use Rattle.mpw_placings.specs.Placements.{is_taken}
+use Rattle.mpw_placings.proofs.Placing.{without_cell, is_new, has_room, placed, refused}
 use Rattle.mpw_placings.proofs.placings.Placings.place.Goals as goal
 
 pub refusal-requires : goal.refusal-requires
@@ -23,17 +23,22 @@ returns c =
     let root : Root = record { submission = c.in-Some.submission; placing = c.args.placing } in
     placed c.args.shelf.now c.args.self.now c.args.cell.now c.args.label.now c.args.placing
     c.in-Some.submission c.in-Some.ensures c.in_default-refusal.ensures
-    ∙ ap Ok (sym (c.in_ok-from_vec.ensures ∙ c.in_ok-placements.ensures
-    ∙ (λ k. c.as_slice.ensures.all k ++ record {
+    ∙ ap Ok (sym (c.in_ok-with.ensures ∙ (λ k. c.args.self.now ++ record {
       cell = c.in_ok-copy.ensures k;
       label = c.in_ok-copy-2.ensures k;
       root = root;
     } ∷ [])))
 
-pub from_vec-requires : goal.from_vec-requires
-from_vec-requires c =
-    let room = has_room c.args.shelf.now c.args.self.now c.args.cell.now c.args.label.now
-    c.args.placing c.in-Some.submission c.in_default-refusal.ensures in
-    let long = ap length c.in_ok-placements.ensures ∙ length_push c.as_slice.result.now _
-    ∙ ap (λ ps. length ps + 1) c.as_slice.ensures.all in
-    omega (arith, room, long)
+pub with-requires : goal.with-requires
+with-requires c =
+    let shelf = c.args.shelf.now in
+    let ps = c.args.self.now in
+    let cell = c.args.cell.now in
+    let label = c.args.label.now in
+    let number = c.in-Some.submission in
+    let none = c.in_default-refusal.ensures in
+    record {
+      new = (λ i. is_taken ps (c.in_ok-copy.ensures i) (c.in_ok-copy-2.ensures i))
+          ∙ is_new shelf ps cell label c.args.placing number none;
+      room = has_room shelf ps cell label c.args.placing number none;
+    }
