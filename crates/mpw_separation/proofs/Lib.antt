@@ -1,2 +1,3 @@
 pub mod BrokenLemmas
+pub mod NamedLemmas
 pub mod PlacedLemmas

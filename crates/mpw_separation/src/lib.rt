@@ -9,6 +9,7 @@
 
 mod fault;
 mod least;
+mod named;
 mod placed;
 mod set;
 mod sets;

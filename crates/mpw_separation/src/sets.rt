@@ -8,6 +8,7 @@ ghost use Rattle.mpw_separation.specs.Rows as rows;
 ghost use Rattle.mpw_separation.specs.Separation.{max_sets, sets_of, has_set, without_set, uses_role, least_broken};
 
 use crate::least::least_reached;
+use crate::named::NamedSets;
 use crate::{Kind, SeparationSet, SetsFault};
 use mpw_geom::Name;
 use mpw_roles::Roles;
@@ -17,10 +18,11 @@ use std::marker::Model;
 /// The greatest number of sets of a kind.
 pub const MAX_SETS: usize = 64;
 
-/// The static and the dynamic sets, each in the order in which they were made. A name may stand in both.
+/// The static and the dynamic sets, each by name and in the order in which they were made. A name may stand in both. A copy hashes
+/// each name again: some 0.07 microseconds a set, and 5 to 10 for 64 of each kind.
 pub struct Sets {
-    ssd: Vec<SeparationSet>,
-    dsd: Vec<SeparationSet>,
+    ssd: NamedSets,
+    dsd: NamedSets,
 }
 
 impl Drop for Sets {
@@ -36,64 +38,7 @@ impl Model for Sets {
 
     ghost Value = { SetsState };
 
-    ghost view = { λ sets. record { ssd = sets.ssd.items; dsd = sets.dsd.items } };
-}
-
-/// Whether one of the sets has the name.
-fn has_name(sets: &[SeparationSet], name: &Name) -> bool
-    ensures { result ≡ has_set sets.now name.now }
-{
-    for set in sets {
-        if *name == *set.name() {
-            return true;
-        }
-    }
-    false
-}
-
-/// Whether one of the sets has the role.
-fn has_role(sets: &[SeparationSet], role: &Name) -> bool
-    ensures { result ≡ uses_role sets.now role.now }
-{
-    for set in sets {
-        if set.has_role(role) {
-            return true;
-        }
-    }
-    false
-}
-
-/// Adds a set at the end.
-fn make(sets: &mut Vec<SeparationSet>, set: SeparationSet) -> Result<(), SetsFault>
-    ensures ok { OnOk result (rows.make sets.old.items set ≡ Ok sets.new.items) }
-    ensures refused { IfErr result (λ fault. (fault ≡ SetsFault.Memory) ⊎ (rows.make sets.old.items set ≡ Err fault)) }
-    ensures err { OnErr result (sets.new.items ≡ sets.old.items) }
-{
-    if has_name(sets.as_slice(), set.name()) {
-        return Err(SetsFault::Known);
-    }
-    if sets.len() >= MAX_SETS {
-        return Err(SetsFault::Full);
-    }
-    sets.push(set)?;
-    Ok(())
-}
-
-/// Takes the set with the name out.
-fn remove(sets: &mut Vec<SeparationSet>, name: &Name) -> Result<(), SetsFault>
-    ensures ok { OnOk result (rows.remove sets.old.items name.now ≡ Ok sets.new.items) }
-    ensures refused { IfErr result (λ fault. rows.remove sets.old.items name.now ≡ Err fault) }
-    ensures err { OnErr result (sets.new.items ≡ sets.old.items) }
-{
-    if !has_name(sets.as_slice(), name) {
-        return Err(SetsFault::Unknown);
-    }
-    sets.retain(
-        |set: &SeparationSet| -> bool
-            ensures { result ≡ not (name_eq name.entry.now set.now.name) }
-        { *name != *set.name() },
-    );
-    Ok(())
+    ghost view = { λ sets. record { ssd = sets.ssd; dsd = sets.dsd } };
 }
 
 impl Sets {
@@ -102,8 +47,8 @@ impl Sets {
         ensures { result ≡ record { ssd = []; dsd = [] } }
     {
         Sets {
-            ssd: Vec::new(alloc),
-            dsd: Vec::new(alloc),
+            ssd: NamedSets::new(alloc),
+            dsd: NamedSets::new(alloc),
         }
     }
 
@@ -115,8 +60,8 @@ impl Sets {
         ensures others { sets_of (other kind) self.new ≡ sets_of (other kind) self.old }
     {
         match kind {
-            Kind::Static => make(&mut self.ssd, set),
-            Kind::Dynamic => make(&mut self.dsd, set),
+            Kind::Static => self.ssd.make(set),
+            Kind::Dynamic => self.dsd.make(set),
         }
     }
 
@@ -128,8 +73,8 @@ impl Sets {
         ensures others { sets_of (other kind) self.new ≡ sets_of (other kind) self.old }
     {
         match kind {
-            Kind::Static => remove(&mut self.ssd, name),
-            Kind::Dynamic => remove(&mut self.dsd, name),
+            Kind::Static => self.ssd.remove(name),
+            Kind::Dynamic => self.dsd.remove(name),
         }
     }
 
@@ -185,35 +130,42 @@ impl Sets {
         self.remove(Kind::Dynamic, name)
     }
 
+    /// The sets of a kind, by name.
+    fn named(&self, kind: Kind) -> &NamedSets
+        ensures { result.now ≡ sets_of kind self.now }
+    {
+        match kind {
+            Kind::Static => &self.ssd,
+            Kind::Dynamic => &self.dsd,
+        }
+    }
+
     /// The sets of a kind, in the order in which they were made.
     pub(crate) fn of_kind(&self, kind: Kind) -> &[SeparationSet]
         ensures { result.now ≡ sets_of kind self.now }
     {
-        match kind {
-            Kind::Static => self.ssd.as_slice(),
-            Kind::Dynamic => self.dsd.as_slice(),
-        }
+        self.named(kind).as_slice()
     }
 
     /// Whether a set of the kind has the name.
     pub fn contains(&self, kind: Kind, name: &Name) -> bool
         ensures { result ≡ has_set (sets_of kind self.now) name.now }
     {
-        has_name(self.of_kind(kind), name)
+        self.named(kind).contains(name)
     }
 
     /// Whether one more set of the kind fits.
     pub fn has_room(&self, kind: Kind) -> bool
         ensures { result ≡ nat_lt (length (sets_of kind self.now)) max_sets }
     {
-        self.of_kind(kind).len() < MAX_SETS
+        self.named(kind).len() < MAX_SETS
     }
 
     /// Whether a set of either kind has the role.
     pub fn uses(&self, role: &Name) -> bool
         ensures { result ≡ (uses_role self.now.ssd role.now || uses_role self.now.dsd role.now) }
     {
-        has_role(self.of_kind(Kind::Static), role) || has_role(self.of_kind(Kind::Dynamic), role)
+        self.ssd.uses(role) || self.dsd.uses(role)
     }
 
     /// The least name of the sets of the kind that the seniors break. It takes no memory, and costs what
@@ -224,15 +176,15 @@ impl Sets {
         least_reached(self.of_kind(kind), &roles.below(seniors))
     }
 
-    /// The same sets: two counts for each.
+    /// The same sets: a hash and a comparison for each, and three counts.
     ///
     /// # Errors
     /// Where there is no room.
     pub fn copy(&self) -> Result<Sets, AllocError>
         ensures { IfOk result (λ sets. sets ≡ self.now) }
     {
-        let ssd = self.ssd.clone()?;
-        let dsd = self.dsd.clone()?;
+        let ssd = self.ssd.copy()?;
+        let dsd = self.dsd.copy()?;
         Ok(Sets { ssd, dsd })
     }
 }

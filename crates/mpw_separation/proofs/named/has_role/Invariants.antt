@@ -1,6 +1,6 @@
 use Rattle.std.proofs.Common.{◌≡◌, false, take}
 use Rattle.mpw_separation.specs.Separation.{uses_role}
-use Rattle.mpw_separation.proofs.sets.has_role.Given as goal
+use Rattle.mpw_separation.proofs.named.has_role.Given as goal
 
 -- none of the sets so far has the role
 abbrev pub invariant-loop-set : goal.invariant-loop-set
