@@ -1,5 +1,5 @@
-//! Tells what a whole run takes: the cut, the jobs of all tiles on one thread and on at most two more than there are
-//! processors, and the stitching, each with its milliseconds, and how many markers each rule has.
+//! Tells what a whole run takes: the cut, the jobs of all tiles on one thread and on at most two for each
+//! processor, and the stitching, each with its milliseconds, and how many markers each rule has.
 //!
 //! `bench_job FILE SIDE [THREADS]` reads the library of the file, places its structure `TOP` where it was drawn, and checks
 //! it by tiles of that side: layer 1/0 for width 56 and space 51, and layers 1/0 and 2/0 for separation 9 and enclosing 10.

@@ -49,7 +49,7 @@ pub fn done_in_turn(
     Ok(answers)
 }
 
-/// Does the jobs on at most two threads more than there are processors.
+/// Does the jobs in at most two threads for each processor.
 pub fn done_by_all(
     rt: &(impl Print + AllocGlobal + Clock + Threads + Sync),
     jobs: &[Job],

@@ -92,7 +92,7 @@ fn are_answered(answers: &[Answer])
     }
 }
 
-/// The markers of the tiles from `first` to below `end`, found in at most two threads more than there are processors.
+/// The markers of the tiles from `first` to below `end`, found in at most two threads for each processor.
 #[tactic(auto, using(crate::proofs::TileLemmas::of_tiles))]
 fn batch_lists(
     rt: &(impl Threads + Sync),
@@ -183,8 +183,8 @@ pub fn tile_count(snapshot: &Snapshot) -> Option<u32>
 /// The markers of the tiles from `first` to below `end`, counted from 0, a list for each. Lists of all tiles, found anywhere, are
 /// stitched to the markers of the layout ([`tiles_make_the_layout`]).
 ///
-/// The layout is cut once; each of these tiles is a job, and the jobs are done in at most two threads more than there are
-/// processors, in batches of up to 128 tiles, whose jobs alone are held at a time. Progress is told after the cut and after
+/// The layout is cut once; each of these tiles is a job, and the jobs are done in at most two threads for each
+/// processor, in batches of up to 128 tiles, whose jobs alone are held at a time. Progress is told after the cut and after
 /// each batch. It costs what [`mpw_tiles::cut`] and [`mpw_work::do_job`] for each of these tiles do.
 ///
 /// # Errors

@@ -1,7 +1,7 @@
 //! A library's top checked by itself, under a deck, as a firm does before it submits.
 //!
 //! [`read_layout`] reads a library and places its top where it was drawn; [`check_layout`] cuts it into tiles, finds each
-//! tile's markers in at most two threads more than there are processors, and stitches them. The markers are those of the flat
+//! tile's markers in at most two threads for each processor, and stitches them. The markers are those of the flat
 //! layout of that top alone, whatever the tiles' side ([`markers_are_the_librarys`]). A [`Progress`] is told how many tiles
 //! are checked.
 //!
