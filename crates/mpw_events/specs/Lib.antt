@@ -1,4 +1,6 @@
+pub mod GoingOn
 pub mod History
 pub mod Keeping
 pub mod PolicyRows
+pub mod Restoring
 pub mod Step

@@ -7,9 +7,11 @@
 mod event;
 mod handler;
 mod keeper;
+mod laws;
 mod shared;
 
 pub use event::{Call, Event, Response};
 pub use handler::Handler;
 pub use keeper::{Change, Keeper, KeptChange, NoKeeper, NotKept};
+pub use laws::{an_event_adds_its_call_or_nothing, keepers_have_the_changes_in_order};
 pub use shared::{SharedCut, SharedRunReply, SharedTile};
