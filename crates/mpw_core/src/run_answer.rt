@@ -5,12 +5,14 @@ ghost use Rattle.mpw_run.specs.Prepared.{IsPrepared};
 ghost use Rattle.mpw_run.specs.Step.{Outcome as RunOutcome};
 ghost use Rattle.mpw_core.specs.Answer.{run_response};
 ghost use Rattle.mpw_core.specs.Internal.Answer.{Gives, move_or_finish, places_for};
+ghost use Rattle.mpw_events.specs.Restoring.{job_cut};
 ghost use Rattle.mpw_events.specs.Step.{State, of_run};
 ghost use Rattle.mpw_run.specs.Laws.{finishes};
 
 use crate::answer::{Answer, Next};
 use mpw_events::{Response, SharedRunReply};
-use mpw_run::{Prepared, Run, RunReply};
+use mpw_job::CutJob;
+use mpw_run::{Phase, Prepared, Run, RunReply};
 use mpw_waiver::Waivers;
 use std::alloc::{AllocError, Global};
 
@@ -89,5 +91,21 @@ pub(crate) fn of_run(alloc: Global, run: &Run, prepared: Prepared) -> Result<Ans
             next: move_or_finish(prepared, made.places),
         }),
         Err(error) => Err(error),
+    }
+}
+
+/// The job of cutting the run's snapshot, where the run is cutting.
+///
+/// # Errors
+/// Where no more copies can be counted, or there is no memory for them.
+pub(crate) fn cut_job(alloc: Global, run: &Run) -> Result<Option<CutJob>, AllocError>
+    ensures { IfOk result (λ job. job ≡ job_cut run.now) }
+{
+    match run.phase() {
+        Phase::Cutting(planned) => Ok(Some(CutJob {
+            run: run.number(),
+            snapshot: planned.snapshot().copy(alloc)?,
+        })),
+        Phase::Idle | Phase::Checking(_) | Phase::Finished(_) => Ok(None),
     }
 }

@@ -9,7 +9,6 @@ pub mod DenialLemmas
 pub mod EndLemmas
 pub mod EventLemmas
 pub mod Fewest
-pub mod GoingOnLemmas
 pub mod HiddenLemmas
 pub mod Keeping
 pub mod KeptLemmas

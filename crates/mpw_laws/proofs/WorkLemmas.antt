@@ -1,7 +1,7 @@
 -- A desk on which a run is worked off goes on by calls.
 use Rattle.std.proofs.Common.{◌&&◌, Bool, true, false, List, Option, None, Some, sym, subst}
 use Rattle.mpw_events.specs.History.{KeptDesk, IsHandled}
-use Rattle.mpw_laws.specs.GoingOn.{GoesOnTo}
+use Rattle.mpw_events.specs.GoingOn.{GoesOnTo}
 use Rattle.mpw_events.specs.declared.event.Event.{Event}
 use Rattle.mpw_events.specs.declared.event.Event.TheVariants as event
 use Rattle.mpw_events.specs.declared.event.Response.{Response}

@@ -1,5 +1,4 @@
 pub mod CheckingLaws
-pub mod GoingOn
 pub mod LayoutLaws
 pub mod ListingLaws
 pub mod Permissions

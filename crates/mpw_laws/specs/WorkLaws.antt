@@ -1,7 +1,7 @@
 -- Laws of working a run off.
 use Rattle.std.specs.Prelude.{◌≡◌, ⊤, ℕ, Bool, true, false, List, length, nat_lt, Option, None, Some}
 use Rattle.mpw_events.specs.History.{KeptDesk, IsHandled, state_of, max_events}
-use Rattle.mpw_laws.specs.GoingOn.{GoesOnTo}
+use Rattle.mpw_events.specs.GoingOn.{GoesOnTo}
 use Rattle.mpw_events.specs.declared.event.Event.{Event}
 use Rattle.mpw_events.specs.declared.event.Event.TheVariants as event
 use Rattle.mpw_events.specs.declared.event.Response.{Response}

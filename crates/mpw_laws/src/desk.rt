@@ -10,8 +10,7 @@ ghost use Rattle.mpw_rbac.specs.Sound.{active_authorized, Sound};
 ghost use Rattle.mpw_requests.specs.declared.policy.PolicyRequest.{PolicyRequest as AnyPolicyRequest};
 ghost use Rattle.mpw_laws.specs.Permissions.{Has, need_of};
 ghost use Rattle.mpw_laws.specs.Requested.{is_administration, requested_policy};
-ghost use Rattle.mpw_events.specs.History.{state_after, KeptDesk, IsHandled};
-ghost use Rattle.mpw_laws.specs.GoingOn.{GoesOnTo};
+ghost use Rattle.mpw_events.specs.History.{state_after};
 ghost use Rattle.mpw_replies.specs.Listing.{Listed, stored};
 ghost use Rattle.mpw_replies.specs.declared.reply.Line.TheVariants as line;
 ghost use Rattle.mpw_job.specs.Jobs.{FoundMarkers};
@@ -119,14 +118,6 @@ pub fn a_restart_ends_every_session()
     ensures ended { (state : State) (kept : Bool) (connection : ℕ) → session_of (after state event.Restart kept).policy connection ≡ None }
     ensures cut { (state : State) (kept : Bool) → (after state event.Restart kept).run ≡ restarted state.run }
     ensures rest { (state : State) (kept : Bool) → record (after state event.Restart kept) { policy = record (after state event.Restart kept).policy { sessions = state.policy.sessions }; run = state.run } ≡ state }
-{}
-
-/// A desk goes on by calls, and a keeper whose list is known has just their changes behind those before, in order: where an
-/// event is handled, where nothing is, and so over every list of events.
-pub fn keepers_have_the_changes_in_order()
-    ensures handled { (d left : KeptDesk) (event : Event) (answered : Response) → IsHandled d event answered left → GoesOnTo d left }
-    ensures stays { (d : KeptDesk) → GoesOnTo d d }
-    ensures on { (a b c : KeptDesk) → GoesOnTo a b → GoesOnTo b c → GoesOnTo a c }
 {}
 
 /// Whatever the request, a line of its reply that tells of a cell, or shows a shape of one, is of a cell that the connection's

@@ -1,7 +1,7 @@
 //! Laws of working a run off. Each function calls the laws that its own rests on: its contract is the law.
 ghost use Rattle.mpw_laws.specs.WorkLaws.{WorkEnds, WorkGoesOn};
 
-use crate::desk::keepers_have_the_changes_in_order;
+use mpw_events::keepers_have_the_changes_in_order;
 use mpw_run::tests_are_exact;
 
 /// The work after an accepted `run` goes on until the run is finished, or the desk answers no event of a run any more,

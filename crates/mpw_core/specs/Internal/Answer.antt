@@ -84,6 +84,10 @@ pub record Gives (state : State) (outcome : Outcome) (answered : Response) (next
 abbrev pub open_state : Tables → State
 open_state tables = state_of_tables tables false
 
+-- so many calls leave room for the number of one more run
+unfoldable pub most_calls : ℕ
+most_calls = 2147483648
+
 -- what a request over the run may rest on: what is placed is on the shelf, and one more run can be counted
 pub record IsRunReady (shelf : List Submission) (placed : List Placement) (number : ℕ) :
     Type 0 where

@@ -1,5 +1,0 @@
-use Rattle.mpw_laws.proofs.GoingOnLemmas.{handling-goes-on, stays, goes-on}
-use Rattle.mpw_laws.proofs.desk.keepers_have_the_changes_in_order.Goals as goal
-
-pub returns : goal.returns
-returns c = record { handled = handling-goes-on; stays = stays; on = goes-on }
