@@ -1,0 +1,6 @@
+mod Seats
+pub mod Calls
+pub mod Adding
+mod Handing
+pub mod Allowed
+pub mod Known

@@ -1,0 +1,5 @@
+pub mod Calls
+pub mod Internal
+pub mod Laws
+pub mod Owner
+pub mod Values
