@@ -5,6 +5,8 @@ use std::alloc::{AllocError, Global};
 /// The lines of a connection.
 #[derive(Drop)]
 pub struct Part {
+    /// The connection's number.
+    pub connection: u32,
     /// What it is called in the table of times.
     pub name: String,
     /// The lines, each with its line feed.
@@ -15,8 +17,9 @@ pub struct Part {
 
 impl Part {
     /// A connection without lines.
-    pub fn new(alloc: Global, name: &str) -> Result<Part, AllocError> {
+    pub fn new(alloc: Global, connection: u32, name: &str) -> Result<Part, AllocError> {
         Ok(Part {
+            connection,
             name: String::from_str(alloc, name)?,
             text: String::new(alloc),
             lines: 0,

@@ -12,6 +12,6 @@ use std::process::ExitCode;
 /// Exits with 0 where the connection ended, 2 at a usage fault, 3 where a device failed, and 5 where memory was
 /// wanting. A fault is told on the standard error, and where that is a terminal, how far a run that is worked off came.
 fn main(rt: HostRuntime) -> ExitCode {
-    let mut line = Line::new(&rt);
-    run::<Core, _, _, _>(&rt, &rt, rt.stdin(), rt.stdout(), &mut line)
+    let line = Line::new(&rt);
+    run::<Core, _, _, _>(&rt, &rt, rt.stdin(), rt.stdout(), line)
 }

@@ -1,3 +1,6 @@
 mod BatchLemmas
 mod HandingLemmas
-pub mod ServingLemmas
+pub mod ServedLemmas
+mod StatusLemmas
+mod OwnDeskLemmas
+mod ServingLemmas

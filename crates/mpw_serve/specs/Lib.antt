@@ -1,4 +1,5 @@
 pub mod Serving
+pub mod OwnDesk
 pub mod Working
 pub mod Script
 pub mod Status

@@ -5,6 +5,7 @@ use Rattle.mpw_wire.specs.declared.fault.WireFault.{WireFault}
 use Rattle.mpw_wire.specs.Writing.{fault_of}
 use Rattle.mpw_serve.specs.declared.serve.Served.{Served}
 use Rattle.mpw_serve.specs.Serving.{Serves}
+use Rattle.mpw_serve.specs.OwnDesk.{IsAnswer, IsGone}
 use Rattle.mpw_settings.specs.declared.settings.Settings.{Settings}
 use Rattle.mpw_settings.specs.declared.settings.Settings.TheVariants.{Script}
 
@@ -14,8 +15,8 @@ abbrev pub ServesScript : {E : Type 0} → Settings → Option (List ℕ) → Op
     → Option (List ℕ) → Option (List ℕ) → Result Served E → Type 0
 ServesScript (Script officer digest) input input' output output' (Ok served) =
     (desk : KeptDesk) × (desk.failures ≡ 0)
-    × Serves 1 input input' output output' (kept_desk (new_desk officer digest) None 0) desk
-    served
+    × Serves (IsAnswer 1) (IsGone 1) input input' output output'
+    (kept_desk (new_desk officer digest) None 0) desk served
 ServesScript (Script officer digest) input input' output output' (Err fault) =
     (input' ≡ input) × (output' ≡ output)
 

@@ -1,13 +1,11 @@
 -- What serving a connection does: the lines that were answered, one by one, and what ended it.
-use Rattle.std.specs.Prelude.{◌≡◌, ◌<◌, ⊤, ℕ, Bool, true, false, ◌+◌, List, [], ◌∷◌, ◌++◌, length, Option, None, Some, Result, Ok, Err}
+use Rattle.std.specs.Prelude.{◌≡◌, ◌<◌, ⊤, ℕ, Bool, false, ◌+◌, List, [], ◌∷◌, ◌++◌, length, Option, None, Some, Result, Ok, Err}
 use Rattle.std.specs.List.{flat_map}
 use Rattle.std.specs.Io.KnownBytes.{Appends}
 use Rattle.std.specs.Io.Iter.{u64_saturate}
 use Rattle.mpw_requests.specs.declared.request.Request.{Request}
-use Rattle.mpw_events.specs.declared.event.Event.TheVariants as event
 use Rattle.mpw_events.specs.declared.event.Response.{Response}
 use Rattle.mpw_events.specs.declared.event.Response.TheVariants as response
-use Rattle.mpw_events.specs.History.{KeptDesk, IsHandled}
 use Rattle.mpw_wire.specs.declared.fault.WireFault.{WireFault}
 use Rattle.mpw_wire.specs.declared.fault.WireFault.TheVariants.{Read, Write, Memory}
 use Rattle.mpw_serve.specs.declared.serve.End.{End}
@@ -19,9 +17,8 @@ use Rattle.mpw_reply_text.specs.Reply.{reply_text, refusal_text}
 use Rattle.mpw_wire.specs.declared.request.LineAsk.TheVariants as ask
 use Rattle.mpw_wire.specs.Request.{ask_of}
 use Rattle.mpw_wire.specs.Writing.{fault_of}
-use Rattle.mpw_serve.specs.Working.{WorksBehind}
 
--- what a request got: the desk's response, or the word that memory was wanting
+-- what a request was told: a response, or that memory was wanting
 pub data Answer : Type 0 where
   replied : Response → Answer
   starved : Answer
@@ -68,52 +65,51 @@ stop_text unreadable = []
 stop_text spent = []
 stop_text (unwritten turn) = answered_text turn
 
--- the desk's response is its own, and the desk goes on with it, its keeper too; a run that is accepted is then worked off. Want of memory
--- leaves both
-abbrev pub IsAnswer : ℕ → Request → KeptDesk → Answer → KeptDesk → Type 0
-IsAnswer connection request desk (replied response) desk' =
-    (asked : KeptDesk) × IsHandled desk (event.Ask connection request) response asked
-    × WorksBehind request response asked desk'
-IsAnswer connection request desk starved desk' = desk' ≡ desk
-
--- the text is taken off the input, and it gets what it asks; a line that is no request's text leaves the desk
-abbrev pub IsAnsweredLine : ℕ → Option (List ℕ) → KeptDesk → AnsweredLine → Option (List ℕ)
-    → KeptDesk → Type 0
-IsAnsweredLine connection input desk (asked line request answer) input' desk' =
-    IsText input input' line request × IsAnswer connection request desk answer desk'
-IsAnsweredLine connection input desk (malformed line) input' desk' =
-    TakesLine input input' line × (ask_of line ≡ ask.Form) × (desk' ≡ desk)
-
--- the lines were answered one after the other
-pub data IsTrace (connection : ℕ) (input : Option (List ℕ)) (desk : KeptDesk) : List AnsweredLine
-    → Option (List ℕ) → KeptDesk → Type 0 where
-  none : IsTrace connection input desk [] input desk
-  then : (turns : List AnsweredLine) (turn : AnsweredLine) (input' input'' : Option (List ℕ))
-      (desk' desk'' : KeptDesk)
-      → IsTrace connection input desk turns input' desk'
-      → IsAnsweredLine connection input' desk' turn input'' desk''
-      → IsTrace connection input desk (turns ++ turn ∷ []) input'' desk''
+-- the same by what answered it: none where memory was wanting
+abbrev pub answer_of : Option Response → Answer
+answer_of None = starved
+answer_of (Some response) = replied response
 
 -- the greatest number of lines of one connection
 abbrev pub max_lines : ℕ
 max_lines = 4096
 
--- what ended the connection did so, after that many lines
-abbrev pub IsStop : ℕ → ℕ → Option (List ℕ) → KeptDesk → Stop → Option (List ℕ) → KeptDesk → Type 0
-IsStop connection lines input desk closed input' desk' =
-    (lines < max_lines) × TakesNothing input input' × (desk' ≡ desk)
-IsStop connection lines input desk long input' desk' =
-    (lines < max_lines) × TakesTooLong input input' × (desk' ≡ desk)
-IsStop connection lines input desk cut input' desk' =
-    (lines < max_lines) × TakesCut input input' × (desk' ≡ desk)
-IsStop connection lines input desk starving input' desk' =
-    (lines < max_lines) × BreaksMemory input input' × (desk' ≡ desk)
-IsStop connection lines input desk unreadable input' desk' =
-    (lines < max_lines) × BreaksRead input input' × (desk' ≡ desk)
-IsStop connection lines input desk spent input' desk' =
-    (lines ≡ max_lines) × (input' ≡ input) × (desk' ≡ desk)
-IsStop connection lines input desk (unwritten turn) input' desk' =
-    (lines < max_lines) × IsAnsweredLine connection input desk turn input' desk'
+-- ---- lines, by whom they are put to: `told` says what a request may be told in a state, and the state that this leaves
+
+module _ {A : Type 0} (told : A → Request → Answer → A → Type 0) where
+  -- the text is taken off the input, and it is told what it asks; a line that is no request's text leaves the state
+  abbrev pub IsAnsweredLine : Option (List ℕ) → A → AnsweredLine → Option (List ℕ) → A → Type 0
+  IsAnsweredLine input a (asked line request answer) input' a' =
+      IsText input input' line request × told a request answer a'
+  IsAnsweredLine input a (malformed line) input' a' =
+      TakesLine input input' line × (ask_of line ≡ ask.Form) × (a' ≡ a)
+
+  -- the lines were answered one after the other
+  pub data IsTrace (input : Option (List ℕ)) (a : A) : List AnsweredLine → Option (List ℕ) → A
+      → Type 0 where
+    none : IsTrace input a [] input a
+    then : (turns : List AnsweredLine) (turn : AnsweredLine) (input' input'' : Option (List ℕ))
+        (a' a'' : A)
+        → IsTrace input a turns input' a'
+        → IsAnsweredLine input' a' turn input'' a''
+        → IsTrace input a (turns ++ turn ∷ []) input'' a''
+
+  -- what ended the connection did so, after that many lines
+  abbrev pub IsStop : ℕ → Option (List ℕ) → A → Stop → Option (List ℕ) → A → Type 0
+  IsStop lines input a closed input' a' =
+      (lines < max_lines) × TakesNothing input input' × (a' ≡ a)
+  IsStop lines input a long input' a' =
+      (lines < max_lines) × TakesTooLong input input' × (a' ≡ a)
+  IsStop lines input a cut input' a' =
+      (lines < max_lines) × TakesCut input input' × (a' ≡ a)
+  IsStop lines input a starving input' a' =
+      (lines < max_lines) × BreaksMemory input input' × (a' ≡ a)
+  IsStop lines input a unreadable input' a' =
+      (lines < max_lines) × BreaksRead input input' × (a' ≡ a)
+  IsStop lines input a spent input' a' =
+      (lines ≡ max_lines) × (input' ≡ input) × (a' ≡ a)
+  IsStop lines input a (unwritten turn) input' a' =
+      (lines < max_lines) × IsAnsweredLine input a turn input' a'
 
 -- the end that is told where no device failed
 abbrev pub end_of : Stop → Option End
@@ -157,33 +153,31 @@ write_failures (Some Read) failures = failures
 write_failures (Some Write) failures = u64_saturate (failures + 1)
 write_failures (Some Memory) failures = failures
 
+-- ---- a connection
+
 -- the lines of a connection: those that were answered, what ended it, and the text of all that
-pub record ServesLines (connection : ℕ) (input input' output output' : Option (List ℕ))
-    (desk desk' : KeptDesk) (result : Result End WireFault) : Type 0 where
+pub record ServesLines {A : Type 0} (told : A → Request → Answer → A → Type 0)
+    (input input' output output' : Option (List ℕ)) (a a' : A) (result : Result End WireFault) :
+    Type 0 where
   pub turns : List AnsweredLine
   pub left : Option (List ℕ)
-  pub reached : KeptDesk
+  pub reached : A
   pub stop : Stop
-  pub answered : IsTrace connection input desk turns left reached
-  pub stopped : IsStop connection (length turns) left reached stop input' desk'
-  pub told : Tells stop result
+  pub answered : IsTrace told input a turns left reached
+  pub stopped : IsStop told (length turns) left reached stop input' a'
+  pub tells : Tells stop result
   pub written : Written output output' (fault_of result) (flat_map answered_text turns)
       (stop_text stop)
 
--- whether the end of the connection was handed to the desk: it was, with the desk's response; or there was no memory, and
--- the desk is left
-abbrev pub IsGone : ℕ → KeptDesk → Bool → KeptDesk → Type 0
-IsGone connection desk true desk' =
-    (response : Response) × IsHandled desk (event.Gone connection) response desk'
-IsGone connection desk false desk' = desk' ≡ desk
-
--- a connection: its lines, and then its end, however the lines ended
-abbrev pub Serves : ℕ → Option (List ℕ) → Option (List ℕ) → Option (List ℕ) → Option (List ℕ)
-    → KeptDesk → KeptDesk → Served → Type 0
-Serves connection input input' output output' desk desk' served =
-    (reached : KeptDesk) × ServesLines connection input input' output output' desk reached
-    served.ended
-    × IsGone connection reached served.is_gone desk'
+-- a connection: its lines, and then its end, however the lines ended. `parted` says whether that end may be handed in, and the
+-- state that this leaves
+abbrev pub Serves : {A : Type 0} (told : A → Request → Answer → A → Type 0)
+    (parted : A → Bool → A → Type 0)
+    → Option (List ℕ) → Option (List ℕ) → Option (List ℕ) → Option (List ℕ) → A → A → Served
+    → Type 0
+Serves {A} told parted input input' output output' a a' served =
+    (reached : A) × ServesLines told input input' output output' a reached served.ended
+    × parted reached served.is_gone a'
 
 -- where nothing was pending in the sink, nothing is, unless the sink failed
 abbrev pub LeavesNothingPending : Option WireFault → Bool → Bool → Type 0

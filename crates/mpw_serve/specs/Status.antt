@@ -1,10 +1,19 @@
--- The exit status of the program.
-use Rattle.std.specs.Prelude.{⊤, ℕ, Result, Ok, Err}
+-- How the program ends, and its exit status.
+use Rattle.std.specs.Prelude.{◌≡◌, ℕ, Bool, List, Option, Result, Ok, Err}
+use Rattle.std.specs.declared.alloc.AllocError.{AllocError}
+use Rattle.mpw_wire.specs.Reading.{read_failures}
+use Rattle.mpw_wire.specs.declared.fault.WireFault.{WireFault}
 use Rattle.mpw_wire.specs.declared.fault.WireFault.TheVariants as wire
+use Rattle.mpw_settings.specs.Settings.{AreGiven, GiveNone, IsFaultOf}
 use Rattle.mpw_settings.specs.declared.fault.SettingsFault.{SettingsFault}
 use Rattle.mpw_settings.specs.declared.fault.SettingsFault.TheVariants as settings
+use Rattle.mpw_settings.specs.declared.settings.Settings.{Settings}
 use Rattle.mpw_serve.specs.declared.fault.ProgramFault.{ProgramFault}
 use Rattle.mpw_serve.specs.declared.fault.ProgramFault.TheVariants.{Usage, Wire, Memory}
+use Rattle.mpw_serve.specs.declared.serve.End.{End}
+use Rattle.mpw_serve.specs.declared.serve.Served.{Served}
+use Rattle.mpw_serve.specs.Script.{ServesScript, fault_told}
+use Rattle.mpw_serve.specs.Serving.{LeavesNothingPending, write_failures}
 
 -- 2 where the command line isn't one, 3 where a device failed, 5 where memory was wanting
 abbrev pub status_of : ProgramFault → ℕ
@@ -15,11 +24,77 @@ status_of (Wire wire.Memory) = 5
 status_of Memory = 5
 
 -- 0 where the connection ended
-abbrev pub exit_of : Result ⊤ ProgramFault → ℕ
-exit_of (Ok ended) = 0
+abbrev pub exit_of : Result End ProgramFault → ℕ
+exit_of (Ok end) = 0
 exit_of (Err fault) = status_of fault
+
+-- the status is that of some end
+abbrev pub IsStatus : ℕ → Type 0
+IsStatus status = (ended : Result End ProgramFault) × (status ≡ exit_of ended)
 
 -- a fault of the command line, as the program's
 abbrev pub fault_by : SettingsFault → ProgramFault
 fault_by (settings.Usage text) = Usage text
 fault_by settings.Memory = Memory
+
+-- ---- what came of serving
+
+-- the end of the connection, or the device that failed, as the program's fault
+abbrev pub end_told : Result End WireFault → Result End ProgramFault
+end_told (Ok end) = Ok end
+end_told (Err fault) = Err (Wire fault)
+
+-- how the program ends by what came of the script
+abbrev pub script_end : Result Served AllocError → Result End ProgramFault
+script_end (Ok served) = end_told served.ended
+script_end (Err fault) = Err Memory
+
+-- what is known of the source and the sink: the bytes, how often each failed, and whether some are pending
+pub record Devices : Type 0 where
+  pub input : Option (List ℕ)
+  pub failed_reads : ℕ
+  pub output : Option (List ℕ)
+  pub failed_writes : ℕ
+  pub pending : Bool
+
+-- a source and a sink, by what each tells of itself
+abbrev pub devices : {R W : Type 0} → (R → Option (List ℕ)) → (R → ℕ) → (W → Option (List ℕ))
+    → (W → ℕ)
+    → (W → Bool) → R → W → Devices
+devices remaining read_failures contents write_failures pending reader writer = record {
+  input = remaining reader;
+  failed_reads = read_failures reader;
+  output = contents writer;
+  failed_writes = write_failures writer;
+  pending = pending writer;
+}
+
+-- the script was served between these devices, and the program ends as that did
+pub record EndsAsServed (settings : Settings) (d d' : Devices) (ended : Result End ProgramFault) :
+    Type 0 where
+  pub came : Result Served AllocError
+  pub served : ServesScript settings d.input d'.input d.output d'.output came
+  pub reads : d'.failed_reads ≡ read_failures (fault_told came) d.failed_reads
+  pub writes : d'.failed_writes ≡ write_failures (fault_told came) d.failed_writes
+  pub leaves : LeavesNothingPending (fault_told came) d.pending d'.pending
+  pub ends : ended ≡ script_end came
+
+-- the words of the command line give no settings, or there is no room to read them, and nothing is read or written; or they
+-- give settings, by which the script was served
+pub data EndsByWords (words : List (List ℕ)) (d : Devices) : Devices → Result End ProgramFault
+    → Type 0 where
+  unset : (fault : SettingsFault) → IsFaultOf (GiveNone words) fault
+      → EndsByWords words d d (Err (fault_by fault))
+  set : (settings : Settings) (d' : Devices) (ended : Result End ProgramFault)
+      → AreGiven settings words → EndsAsServed settings d d' ended → EndsByWords words d d' ended
+
+-- the command line had no words that can be told, or there was no room for them, and nothing is read or written; or it had words
+pub data Ends (d : Devices) : Devices → Result End ProgramFault → Type 0 where
+  wordless : (fault : SettingsFault) → Ends d d (Err (fault_by fault))
+  worded : (words : List (List ℕ)) (d' : Devices) (ended : Result End ProgramFault)
+      → EndsByWords words d d' ended → Ends d d' ended
+
+-- the program ended so, and its status is that
+abbrev pub ExitsWith : Devices → Devices → ℕ → Type 0
+ExitsWith d d' status =
+    (ended : Result End ProgramFault) × Ends d d' ended × (status ≡ exit_of ended)

@@ -3,6 +3,7 @@ ghost use Rattle.std.specs.Prelude.{◌≡◌};
 ghost use Rattle.mpw_serve.specs.declared.fault.ProgramFault.TheVariants.{Usage, Wire, Memory};
 ghost use Rattle.mpw_serve.specs.Status.{exit_of, fault_by, status_of};
 
+use crate::serve::End;
 use mpw_settings::SettingsFault;
 use mpw_wire::WireFault;
 use std::alloc::AllocError;
@@ -35,12 +36,12 @@ impl ProgramFault {
     }
 }
 
-/// The exit status of the program: 0 where the connection ended, and else the fault's.
-pub fn exit_status(ended: &Result<(), ProgramFault>) -> u8
+/// The exit status of the program by how it ended: 0 where the connection did, and else the fault's.
+pub fn exit_status(ended: &Result<End, ProgramFault>) -> u8
     ensures { result ≡ exit_of ended.now }
 {
     match ended {
-        Ok(()) => 0,
+        Ok(_) => 0,
         Err(fault) => fault.status(),
     }
 }

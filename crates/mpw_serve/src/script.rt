@@ -4,29 +4,29 @@ ghost use Rattle.mpw_serve.specs.Script.{ServesScript, fault_told};
 ghost use Rattle.mpw_wire.specs.Reading.{read_failures};
 ghost use Rattle.mpw_serve.specs.Serving.{LeavesNothingPending, write_failures};
 
+use crate::executor::Executor;
+use crate::own_desk::{OwnDesk, serve_core};
 use crate::progress::Progress;
-use crate::serve::{Served, serve_core};
+use crate::serve::Served;
 use mpw_events::{Handler, NoKeeper};
 use mpw_settings::Settings;
 use mpw_wire::{Sink, Source};
-use std::alloc::{AllocError, Global};
+use std::alloc::AllocError;
 use std::thread::Threads;
 
 /// The connection of a script.
 const CONNECTION: u32 = 1;
 
-/// Serves the reader to the writer as connection 1 of a new desk. A run is worked off in at most two threads more than
-/// there are processors, and progress is told meanwhile; it takes part in no clause.
+/// Serves the reader to the writer as connection 1 of a new desk, whose keeper keeps nothing. Runs are worked off by the
+/// executor. A script over another desk, with a keeper or a connection of its own, is served by [`serve_core`].
 ///
 /// # Errors
 /// Where there is no room for the new desk; nothing is read or written then.
-pub fn serve_script<H: Handler + Drop, R: Source, W: Sink, P: Progress>(
-    rt: &(impl Threads + Sync),
-    alloc: Global,
+pub fn serve_script<H: Handler + Drop, T: Threads + Sync, P: Progress + Drop, R: Source, W: Sink>(
+    executor: Executor<'_, T, P>,
     settings: Settings,
     reader: &mut R,
     writer: &mut W,
-    progress: &mut P,
 ) -> Result<Served, AllocError>
     ensures served { ServesScript settings (R.remaining reader.old) (R.remaining reader.new) (W.contents writer.old) (W.contents writer.new) result }
     ensures reader { R.failures reader.new ≡ read_failures (fault_told result) (R.failures reader.old) }
@@ -34,15 +34,9 @@ pub fn serve_script<H: Handler + Drop, R: Source, W: Sink, P: Progress>(
     ensures handed { LeavesNothingPending (fault_told result) (W.pending writer.old) (W.pending writer.new) }
 {
     let Settings::Script { officer, digest } = settings;
-    let mut core = H::new_boxed(alloc, officer, digest)?;
-    Ok(serve_core(
-        rt,
-        alloc,
-        &mut *core,
-        &mut NoKeeper,
-        CONNECTION,
-        reader,
-        writer,
-        progress,
-    ))
+    let core = H::new_boxed(executor.alloc, officer, digest)?;
+    let mut own = OwnDesk::new(core, NoKeeper, CONNECTION, executor);
+    let served = serve_core(&mut own, reader, writer);
+    let (_core, _keeper) = own.into_parts();
+    Ok(served)
 }

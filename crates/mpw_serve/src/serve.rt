@@ -1,19 +1,19 @@
 //! Serving a connection: each line gets its reply, in order, until the connection ends.
-ghost use Rattle.std.specs.Prelude.{◌≡◌, ℕ, List, Option};
-ghost use Rattle.mpw_events.specs.History.{KeptDesk, kept_desk};
+//!
+//! The lines are put to a [`Responder`], one by one, and so the loop is the same over a desk of one's own and over one that many
+//! connections share.
+ghost use Rattle.std.specs.Prelude.{◌≡◌};
 ghost use Rattle.mpw_wire.specs.Reading.{read_failures};
 ghost use Rattle.mpw_wire.specs.Writing.{Writes, fault_of};
-ghost use Rattle.mpw_serve.specs.Serving.{Answer, with_end, IsAnswer, answer_text, response_text, ServesLines, IsGone, LeavesNothingPending, Serves, write_failures};
-ghost use Rattle.mpw_serve.specs.Internal.Serving.{answer_of, ServesLine};
+ghost use Rattle.mpw_serve.specs.Serving.{Answer, with_end, answer_text, response_text, ServesLines, LeavesNothingPending, Serves, write_failures};
+ghost use Rattle.mpw_serve.specs.Internal.Serving.{ServesLine};
 
-use crate::progress::Progress;
-use crate::working::work_behind;
-use mpw_events::{Event, Handler, Keeper, Response};
+use crate::responder::Responder;
+use mpw_events::Response;
 use mpw_reply_text::{LineRefusal, write_refusal, write_reply};
 use mpw_requests::SharedRequest;
 use mpw_wire::{Asked, Sink, Source, WireFault, read_request};
 use std::alloc::Global;
-use std::thread::Threads;
 
 /// The greatest number of answered lines of one connection.
 pub const MAX_LINES: usize = 4096;
@@ -38,7 +38,7 @@ pub enum End {
 pub struct Served {
     /// How it ended, or the device that failed: `Read` the source, and `Write` the sink.
     pub ended: Result<End, WireFault>,
-    /// Whether the desk was handed the connection's end; it isn't where memory is wanting.
+    /// Whether the connection's end was handed in; it isn't where memory is wanting.
     pub is_gone: bool,
 }
 
@@ -53,47 +53,17 @@ fn write_response<W: Sink>(response: &Response, writer: &mut W) -> Result<(), Wi
     }
 }
 
-/// Has the desk answer a request, and works a run off that is accepted; none where memory is wanting.
-fn handle<H: Handler, K: Keeper, P: Progress>(
-    rt: &(impl Threads + Sync),
-    alloc: Global,
-    core: &mut H,
-    keeper: &mut K,
-    connection: u32,
-    request: SharedRequest,
-    progress: &mut P,
-) -> Option<Response>
-    ensures { IsAnswer connection request (kept_desk (H.desk core.old) (K.kept keeper.old) (K.failures keeper.old)) (answer_of result) (kept_desk (H.desk core.new) (K.kept keeper.new) (K.failures keeper.new)) }
-{
-    let asked = request.copy().ok()?;
-    let response = core
-        .handle(
-            keeper,
-            Event::Ask {
-                connection,
-                request,
-            },
-        )
-        .ok()?;
-    work_behind(rt, alloc, core, keeper, asked.get(), &response, progress);
-    Some(response)
-}
-
-/// Answers a request.
-fn answer<H: Handler, K: Keeper, W: Sink, P: Progress>(
-    rt: &(impl Threads + Sync),
-    alloc: Global,
-    core: &mut H,
-    keeper: &mut K,
-    connection: u32,
+/// Has a request answered, and writes what is told of it.
+fn answer<A: Responder, W: Sink>(
+    responder: &mut A,
     request: SharedRequest,
     writer: &mut W,
-    progress: &mut P,
 ) -> Result<(), WireFault>
-    ensures answer { (answer : Answer) × IsAnswer connection request (kept_desk (H.desk core.old) (K.kept keeper.old) (K.failures keeper.old)) answer (kept_desk (H.desk core.new) (K.kept keeper.new) (K.failures keeper.new)) × Writes W.contents W.failures writer.old writer.new result (answer_text answer) }
+    requires { A.can_ask }
+    ensures answer { (answer : Answer) × A.told responder.old request answer responder.new × Writes W.contents W.failures writer.old writer.new result (answer_text answer) }
     ensures handed { LeavesNothingPending (fault_of result) (W.pending writer.old) (W.pending writer.new) }
 {
-    match handle(rt, alloc, core, keeper, connection, request, progress) {
+    match responder.ask(request) {
         Some(response) => write_response(&response, writer),
         None => write_refusal(LineRefusal::Memory, writer),
     }
@@ -110,28 +80,20 @@ fn with_end(end: Option<End>, written: Result<(), WireFault>) -> Result<Option<E
 }
 
 /// Serves one line. It answers `None` where the connection goes on.
-fn serve_line<H: Handler, K: Keeper, R: Source, W: Sink, P: Progress>(
-    rt: &(impl Threads + Sync),
+fn serve_line<A: Responder, R: Source, W: Sink>(
     alloc: Global,
-    core: &mut H,
-    keeper: &mut K,
-    connection: u32,
+    responder: &mut A,
     reader: &mut R,
     writer: &mut W,
-    progress: &mut P,
 ) -> Result<Option<End>, WireFault>
-    ensures line { ServesLine connection (R.remaining reader.old) (R.remaining reader.new) (W.contents writer.old) (W.contents writer.new) (kept_desk (H.desk core.old) (K.kept keeper.old) (K.failures keeper.old)) (kept_desk (H.desk core.new) (K.kept keeper.new) (K.failures keeper.new)) result }
+    requires { A.can_ask }
+    ensures line { ServesLine A.told (R.remaining reader.old) (R.remaining reader.new) (W.contents writer.old) (W.contents writer.new) responder.old responder.new result }
     ensures reader { R.failures reader.new ≡ read_failures (fault_of result) (R.failures reader.old) }
     ensures writer { W.failures writer.new ≡ write_failures (fault_of result) (W.failures writer.old) }
     ensures handed { LeavesNothingPending (fault_of result) (W.pending writer.old) (W.pending writer.new) }
 {
     match read_request(alloc, reader) {
-        Ok(Asked::Request(request)) => with_end(
-            None,
-            answer(
-                rt, alloc, core, keeper, connection, request, writer, progress,
-            ),
-        ),
+        Ok(Asked::Request(request)) => with_end(None, answer(responder, request, writer)),
         Ok(Asked::Form) => with_end(None, write_refusal(LineRefusal::Form, writer)),
         Ok(Asked::Long) => with_end(Some(End::Long), write_refusal(LineRefusal::Long, writer)),
         Ok(Asked::Cut) => with_end(Some(End::Cut), write_refusal(LineRefusal::Cut, writer)),
@@ -148,25 +110,20 @@ fn serve_line<H: Handler, K: Keeper, R: Source, W: Sink, P: Progress>(
 }
 
 /// Serves lines until the connection ends.
-fn serve_lines<H: Handler, K: Keeper, R: Source, W: Sink, P: Progress>(
-    rt: &(impl Threads + Sync),
+fn serve_lines<A: Responder, R: Source, W: Sink>(
     alloc: Global,
-    core: &mut H,
-    keeper: &mut K,
-    connection: u32,
+    responder: &mut A,
     reader: &mut R,
     writer: &mut W,
-    progress: &mut P,
 ) -> Result<End, WireFault>
-    ensures lines { ServesLines connection (R.remaining reader.old) (R.remaining reader.new) (W.contents writer.old) (W.contents writer.new) (kept_desk (H.desk core.old) (K.kept keeper.old) (K.failures keeper.old)) (kept_desk (H.desk core.new) (K.kept keeper.new) (K.failures keeper.new)) result }
+    requires { A.can_ask }
+    ensures lines { ServesLines A.told (R.remaining reader.old) (R.remaining reader.new) (W.contents writer.old) (W.contents writer.new) responder.old responder.new result }
     ensures reader { R.failures reader.new ≡ read_failures (fault_of result) (R.failures reader.old) }
     ensures writer { W.failures writer.new ≡ write_failures (fault_of result) (W.failures writer.old) }
     ensures handed { LeavesNothingPending (fault_of result) (W.pending writer.old) (W.pending writer.new) }
 {
     for _ in 0..MAX_LINES {
-        match serve_line(
-            rt, alloc, core, keeper, connection, reader, writer, progress,
-        ) {
+        match serve_line(alloc, responder, reader, writer) {
             Ok(None) => {}
             Ok(Some(end)) => return Ok(end),
             Err(fault) => return Err(fault),
@@ -175,37 +132,23 @@ fn serve_lines<H: Handler, K: Keeper, R: Source, W: Sink, P: Progress>(
     Ok(End::Spent)
 }
 
-/// Hands the desk the connection's end, and tells whether it was handed; it isn't where memory is wanting.
-fn hand_end<H: Handler, K: Keeper>(core: &mut H, keeper: &mut K, connection: u32) -> bool
-    ensures { IsGone connection (kept_desk (H.desk core.old) (K.kept keeper.old) (K.failures keeper.old)) result (kept_desk (H.desk core.new) (K.kept keeper.new) (K.failures keeper.new)) }
-{
-    core.handle(keeper, Event::Gone { connection }).is_ok()
-}
-
-/// Serves a connection: the lines of the reader get their replies on the writer, in order, until the input ends, a
-/// line is too long, the payload that it asks for is too large or cut off, there is no room for a request, 4096
-/// lines were answered, or a device failed; what was accepted before stays accepted. Then the desk is handed the
-/// connection's end. What is accepted is handed to the keeper first, and each reply is flushed. While an accepted `run` is
-/// worked off, progress is told; it takes part in no clause. It costs the lines, and for each request what the desk's step
-/// costs, for an accepted `run` what [`work_behind`] does too.
-pub fn serve_core<H: Handler, K: Keeper, R: Source, W: Sink, P: Progress>(
-    rt: &(impl Threads + Sync),
+/// Serves a connection: the lines of the reader are put to the responder and get their replies on the writer, in order, until
+/// the input ends, a line is too long, the payload that it asks for is too large or cut off, there is no room for a request, 4096
+/// lines were answered, or a device failed; what was accepted before stays accepted. Then the responder is handed the
+/// connection's end. Each reply is flushed. It costs the lines, and for each request what the responder takes.
+pub fn serve_connection<A: Responder, R: Source, W: Sink>(
     alloc: Global,
-    core: &mut H,
-    keeper: &mut K,
-    connection: u32,
+    responder: &mut A,
     reader: &mut R,
     writer: &mut W,
-    progress: &mut P,
 ) -> Served
-    ensures served { Serves connection (R.remaining reader.old) (R.remaining reader.new) (W.contents writer.old) (W.contents writer.new) (kept_desk (H.desk core.old) (K.kept keeper.old) (K.failures keeper.old)) (kept_desk (H.desk core.new) (K.kept keeper.new) (K.failures keeper.new)) result }
+    requires { A.can_ask }
+    ensures served { Serves A.told A.parted (R.remaining reader.old) (R.remaining reader.new) (W.contents writer.old) (W.contents writer.new) responder.old responder.new result }
     ensures reader { R.failures reader.new ≡ read_failures (fault_of result.ended) (R.failures reader.old) }
     ensures writer { W.failures writer.new ≡ write_failures (fault_of result.ended) (W.failures writer.old) }
     ensures handed { LeavesNothingPending (fault_of result.ended) (W.pending writer.old) (W.pending writer.new) }
 {
-    let ended = serve_lines(
-        rt, alloc, core, keeper, connection, reader, writer, progress,
-    );
-    let is_gone = hand_end(core, keeper, connection);
+    let ended = serve_lines(alloc, responder, reader, writer);
+    let is_gone = responder.part();
     Served { ended, is_gone }
 }

@@ -7,5 +7,5 @@ use std::process::ExitCode;
 
 fn main(rt: HostRuntime) -> ExitCode {
     let mut room = [0u8; 8];
-    run::<Core, _, _, _>(&rt, &rt, rt.stdin(), &mut room[..], &mut Silent)
+    run::<Core, _, _, _>(&rt, &rt, rt.stdin(), &mut room[..], Silent)
 }

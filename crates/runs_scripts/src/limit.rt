@@ -1,6 +1,5 @@
 //! The end of a history.
 
-use crate::devices::Paper;
 use crate::restart::tell_restart;
 use crate::serving::new_desk;
 use anyhow::Result;
@@ -8,6 +7,7 @@ use mpw_core::{Core, MAX_EVENTS};
 use mpw_events::{Event, NoKeeper, Response};
 use mpw_reply_text::write_reply;
 use mpw_requests::{Request, SharedRequest};
+use mpw_transcripts::Paper;
 use std::alloc::{AllocError, Global};
 
 /// Ends a connection so many times.

@@ -1,12 +1,11 @@
 //! One connection over a new desk of the officer `root`, whose token is `abc`.
 
-use crate::devices::{Paper, Text};
 use crate::keeper::{Fails, MemoryKeeper};
 use mpw_core::Core;
 use mpw_geom::Name;
 use mpw_requests::digest_of;
-use mpw_serve::{End, Silent, serve_core};
-use mpw_transcripts::Transcript;
+use mpw_serve::{End, Executor, OwnDesk, Silent, serve_core};
+use mpw_transcripts::{Paper, Text, Transcript};
 use mpw_wire::WireFault;
 use std::alloc::{AllocError, Global};
 use std::thread::Threads;
@@ -69,7 +68,7 @@ pub fn serve(
     bytes: &[u8],
     devices: &Devices,
 ) -> Result<Served, AllocError> {
-    let mut core = new_desk(alloc)?;
+    let core = new_desk(alloc)?;
     let mut reader = Text {
         bytes,
         at: 0,
@@ -82,22 +81,20 @@ pub fn serve(
         failures: 0,
         is_pending: false,
     };
-    let mut keeper = MemoryKeeper {
+    let keeper = MemoryKeeper {
         kept: Vec::new(alloc),
         fails: devices.keeper,
         asked: 0,
         failures: 0,
     };
-    let served = serve_core(
+    let executor = Executor {
         threads,
         alloc,
-        &mut *core,
-        &mut keeper,
-        1,
-        &mut reader,
-        &mut writer,
-        &mut Silent,
-    );
+        progress: Silent,
+    };
+    let mut own = OwnDesk::new(core, keeper, 1, executor);
+    let served = serve_core(&mut own, &mut reader, &mut writer);
+    let (core, keeper) = own.into_parts();
     Ok(Served {
         text: writer.bytes,
         end: end_word(served.ended),

@@ -6,5 +6,5 @@ use mpw_serve::{Silent, run};
 use std::process::ExitCode;
 
 fn main(rt: HostRuntime) -> ExitCode {
-    run::<Core, _, _, _>(&rt, &rt, rt.stdin(), rt.stdout(), &mut Silent)
+    run::<Core, _, _, _>(&rt, &rt, rt.stdin(), rt.stdout(), Silent)
 }

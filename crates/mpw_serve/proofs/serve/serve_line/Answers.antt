@@ -11,7 +11,8 @@ returns-in-Ok-Request-clause-line g c =
     (g.R.Source.remaining c.read_request.new.reader)) c.in-Ok-Request.field-0-is
     c.in-Ok-Request.ensures.asked in
     let answered = c.answer.ensures.answer in
-    serves_turn _ _ _ _ _ _ _ _ _ (AnsweredLine.asked asked.0 c.in-Ok-Request.request answered.0)
+    serves_turn g.A.Responder.told _ _ _ _ _ _ _ _
+    (AnsweredLine.asked asked.0 c.in-Ok-Request.request answered.0)
     c.answer.result c.with_end.result c.with_end.ensures (asked.1, answered.1) answered.2
 
 pub returns-in-Ok-Form-clause-line : goal.returns-in-Ok-Form-clause-line
@@ -19,7 +20,8 @@ returns-in-Ok-Form-clause-line g c =
     let asked = subst (Reads (g.R.Source.remaining c.args.reader.now)
     (g.R.Source.remaining c.read_request.new.reader)) c.in-Ok-Form.field-0-is
     c.in-Ok-Form.ensures.asked in
-    serves_turn _ _ _ _ _ _ _ _ _ (AnsweredLine.malformed asked.0) c.write_refusal.result
+    serves_turn g.A.Responder.told _ _ _ _ _ _ _ _ (AnsweredLine.malformed asked.0)
+    c.write_refusal.result
     c.with_end-in-Ok-Form.result c.with_end-in-Ok-Form.ensures (asked.1, asked.2, refl)
     c.write_refusal.ensures.text
 
@@ -28,7 +30,7 @@ returns-in-Ok-Long-clause-line g c =
     let asked = subst (Reads (g.R.Source.remaining c.args.reader.now)
     (g.R.Source.remaining c.read_request.new.reader)) c.in-Ok-Long.field-0-is
     c.in-Ok-Long.ensures.asked in
-    serves_stop _ _ _ _ _ _ _ _ Stop.long _ c.write_refusal-in-Ok-Long.result
+    serves_stop g.A.Responder.told _ _ _ _ _ _ _ Stop.long _ c.write_refusal-in-Ok-Long.result
     c.with_end-in-Ok-Long.result c.with_end-in-Ok-Long.ensures (omega arith, asked, refl) refl
     tt
     c.write_refusal-in-Ok-Long.ensures.text
@@ -38,7 +40,7 @@ returns-in-Ok-Cut-clause-line g c =
     let asked = subst (Reads (g.R.Source.remaining c.args.reader.now)
     (g.R.Source.remaining c.read_request.new.reader)) c.in-Ok-Cut.field-0-is
     c.in-Ok-Cut.ensures.asked in
-    serves_stop _ _ _ _ _ _ _ _ Stop.cut _ c.write_refusal-in-Ok-Cut.result
+    serves_stop g.A.Responder.told _ _ _ _ _ _ _ Stop.cut _ c.write_refusal-in-Ok-Cut.result
     c.with_end-in-Ok-Cut.result
     c.with_end-in-Ok-Cut.ensures (omega arith, asked, refl) refl tt
     c.write_refusal-in-Ok-Cut.ensures.text
@@ -51,13 +53,14 @@ returns-in-Ok-End-clause-line g c =
     record {
       stop = Stop.closed;
       stopped = (omega arith, asked, refl);
-      told = refl;
+      tells = refl;
       written = Appends-nil (g.W.Sink.contents c.args.writer.now);
     }
 
 pub returns-in-Err-Memory-clause-line : goal.returns-in-Err-Memory-clause-line
 returns-in-Err-Memory-clause-line g c =
-    serves_stop _ _ _ _ _ _ _ _ Stop.starving _ c.write_refusal-in-Err-Memory.result
+    serves_stop g.A.Responder.told _ _ _ _ _ _ _ Stop.starving _
+    c.write_refusal-in-Err-Memory.result
     c.with_end-in-Err-Memory.result c.with_end-in-Err-Memory.ensures (
       omega arith,
       subst (Breaks (g.R.Source.remaining c.args.reader.now)
@@ -77,7 +80,7 @@ returns-in-Err-Read-clause-line g c =
             c.in-Err-Read.ensures.fault,
         refl,
       );
-      told = refl;
+      tells = refl;
       written = Appends-nil (g.W.Sink.contents c.args.writer.now);
     }
 
