@@ -1,0 +1,7 @@
+use Rattle.mpw_desk.specs.Passes.{Works}
+use Rattle.mpw_desk.proofs.shared.Shared.worker.Given as goal
+
+abbrev pub invariant-loop : goal.invariant-loop
+invariant-loop g l =
+    (goal.iterator-loop g).can_next l.iterator' × (goal.iterator-loop g).is_finite l.iterator'
+    × Works l.initial.pass l.pass

@@ -1,0 +1,51 @@
+-- What a worker does next, and when it ends.
+use Rattle.std.specs.Prelude.{◌≡◌, ◌<◌, ⊤, ℕ}
+use Rattle.mpw_events.specs.declared.event.Event.{Event}
+use Rattle.mpw_events.specs.declared.event.Response.{Response}
+use Rattle.mpw_desk.specs.declared.worker.Next.{Next}
+use Rattle.mpw_desk.specs.declared.worker.Next.TheVariants.{Do, End, Pause, Rest}
+use Rattle.mpw_desk.specs.declared.worker.Instruction.{Instruction}
+use Rattle.mpw_desk.specs.declared.worker.Instruction.TheVariants as instruction
+use Rattle.mpw_events.specs.declared.event.Response.TheVariants as response
+use Rattle.mpw_job.specs.declared.job.Job.TheVariants as job
+use Rattle.mpw_run.specs.declared.phase.RunReply.{RunReply}
+use Rattle.mpw_run.specs.declared.phase.RunReply.TheVariants as reply
+use Rattle.mpw_desk.specs.Passes.{IsLast, no_job}
+use Rattle.mpw_desk.specs.Steps.{MayHandInBesides}
+use Rattle.mpw_desk.specs.Values.{PassView}
+
+-- any pass may hand the event in
+abbrev pub AnyMayHandIn : Event → Type 0
+AnyMayHandIn event = (connection : ℕ) → MayHandInBesides connection event
+
+-- where it ends, it is with that response, which is a last one
+abbrev pub EndsAs : Next → Response → Type 0
+EndsAs (End told) response = (told ≡ response) × IsLast told
+EndsAs (Do told) response = ⊤
+EndsAs Pause response = ⊤
+EndsAs Rest response = ⊤
+
+-- where it ends, it is with a last response, and with a call more where there was no job
+abbrev pub EndsRightly : Next → PassView → PassView → Type 0
+EndsRightly (End told) p p' = IsLast told × (told ≡ no_job → p.count < p'.count)
+EndsRightly (Do told) p p' = ⊤
+EndsRightly Pause p p' = ⊤
+EndsRightly Rest p p' = ⊤
+
+-- what a reply of the run, and what a response, is to a worker
+abbrev pub instruction_by : RunReply → Instruction
+instruction_by (reply.Taken (job.Cut j)) = instruction.Cut j.run
+instruction_by (reply.Taken (job.Tile j)) = instruction.Tile
+instruction_by reply.NoJob = instruction.NoJob
+instruction_by reply.Kept = instruction.Else
+instruction_by reply.Finished = instruction.Else
+instruction_by reply.Stranger = instruction.Else
+instruction_by reply.Double = instruction.Else
+instruction_by reply.OldRun = instruction.Else
+
+abbrev pub instruction_of : Response → Instruction
+instruction_of (response.Told r) = instruction.Else
+instruction_of (response.Run r) = instruction_by r
+instruction_of response.Gone = instruction.Else
+instruction_of response.Restarted = instruction.Else
+instruction_of response.Ended = instruction.Ended

@@ -1,0 +1,55 @@
+-- What one critical section does: to the desk, and to the pass that handed an event in.
+use Rattle.std.specs.Prelude.{◌≡◌, ◌⊎◌, ◌+◌, ⊤, ℕ, Bool, List, [], ◌∷◌, ◌++◌, Option, None, Some}
+use Rattle.mpw_events.specs.declared.event.Call.{Call}
+use Rattle.mpw_events.specs.declared.event.Event.{Event}
+use Rattle.mpw_events.specs.declared.event.Event.TheVariants as event
+use Rattle.mpw_events.specs.declared.event.Response.{Response}
+use Rattle.mpw_events.specs.GoingOn.{IsEnded}
+use Rattle.mpw_events.specs.History.{IsHandled, with_call}
+use Rattle.mpw_desk.specs.Values.{LockedDesk, PassView}
+
+-- what a pass may hand in: a request and an end of its own connection, and what is nobody's; never a restart
+abbrev pub MayHandIn : ℕ → Event → Type 0
+MayHandIn connection (event.Ask asker request) = asker ≡ connection
+MayHandIn connection (event.Gone gone) = gone ≡ connection
+MayHandIn connection (event.Take worker) = ⊤
+MayHandIn connection (event.Cut answer) = ⊤
+MayHandIn connection (event.Tile answer) = ⊤
+MayHandIn connection event.Restart = ⊥
+
+-- the same but requests, after which a worker may have to be told
+abbrev pub MayHandInBesides : ℕ → Event → Type 0
+MayHandInBesides connection (event.Ask asker request) = ⊥
+MayHandInBesides connection (event.Gone gone) = gone ≡ connection
+MayHandInBesides connection (event.Take worker) = ⊤
+MayHandInBesides connection (event.Cut answer) = ⊤
+MayHandInBesides connection (event.Tile answer) = ⊤
+MayHandInBesides connection event.Restart = ⊥
+
+abbrev pub call_of : Event → Response → Bool → Call
+call_of event response kept = record { event = event; response = response; kept = kept }
+
+-- receipts with a call more, where it is a connection's
+abbrev pub with_own : List Call → Call → Event → List Call
+with_own receipts call (event.Ask asker request) = receipts ++ call ∷ []
+with_own receipts call (event.Gone gone) = receipts ++ call ∷ []
+with_own receipts call (event.Take worker) = receipts
+with_own receipts call (event.Cut answer) = receipts
+with_own receipts call (event.Tile answer) = receipts
+with_own receipts call event.Restart = receipts
+
+-- the call is recorded: the pass counts one more, and its receipts have it where it is a connection's
+pub record Records (event : Event) (response : Response) (kept : Bool) (p p' : PassView) : Type 0 where
+  pub receipts : p'.receipts ≡ with_own p.receipts (call_of event response kept) event
+  pub count : p'.count ≡ p.count + 1
+  pub connection : p'.connection ≡ p.connection
+
+-- the step of the desk, and what was recorded of it: nothing, where the desk is closed or its history full, or one call, in the history and
+-- in the pass
+pub record Steps (event : Event) (response : Response) (l l' : LockedDesk) (p p' : PassView) :
+    Type 0 where
+  pub handled : IsHandled l.kept event response l'.kept
+  pub next : l'.next ≡ l.next
+  pub recorded : ((l'.kept.desk ≡ l.kept.desk) × (l'.calls ≡ l.calls) × (p' ≡ p) × IsEnded event response)
+      ⊎ ((kept : Bool) × (l'.kept.desk ≡ with_call l.kept.desk event kept response)
+      × (l'.calls ≡ l.calls ++ call_of event response kept ∷ []) × Records event response kept p p')

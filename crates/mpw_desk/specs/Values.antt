@@ -1,0 +1,27 @@
+-- What contracts see of the desk under the lock, of a pass, and of a ledger with a register that have no name yet.
+use Rattle.std.specs.Prelude.{ℕ, List, [], None}
+use Rattle.atomic_table.specs.Seated.{TableId}
+use Rattle.mpw_events.specs.declared.event.Call.{Call}
+use Rattle.mpw_events.specs.History.{KeptDesk, kept_desk, new_desk}
+
+-- the desk with its keeper, the calls since it was shared, and the number of the next pass's connection
+pub record LockedDesk : Type 0 where
+  pub kept : KeptDesk
+  pub calls : List Call
+  pub next : ℕ
+
+-- a pass: the number of its connection, the calls of that connection, and how many calls the pass made, a worker's among them
+pub record PassView : Type 0 where
+  pub connection : ℕ
+  pub receipts : List Call
+  pub count : ℕ
+
+-- the name and the parts of the ledger, and the table of the register
+pub record BlankView : Type 0 where
+  pub name : ℕ
+  pub parts : ℕ
+  pub table : TableId
+
+-- what stands in the place of a desk where there is none
+abbrev pub no_desk : KeptDesk
+no_desk = kept_desk (new_desk [] []) None 0

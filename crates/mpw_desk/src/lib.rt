@@ -1,0 +1,28 @@
+//! The desk that many connections share: one lock, and one critical section for each event.
+//!
+//! Under the lock lie the core, its keeper, and a register of the calls since the desk was shared. Who asks has a [`Pass`]: the number
+//! of its connection, with receipts that exist in the proofs alone. [`Shared::ask`] takes the lock, hands one event to the core, and
+//! adds the call to the history, to the register and to the pass's receipts; the lock is held for that alone. Workers take a run's jobs
+//! under the lock and do them outside it ([`Shared::work`]). At the end [`Shared::finish`] compares what the passes counted with the
+//! history: then every call of the history was made by one of these passes, and each pass's receipts are the calls of its connection,
+//! each once, in order.
+//!
+//! Begin with `locked.rt`, which has the critical section as a function that waits for nobody; `shared.rt` only takes the lock.
+#![tactic(auto)]
+
+mod hints;
+mod laws;
+mod lent;
+mod locked;
+mod pass;
+mod room;
+mod shared;
+mod step;
+mod worker;
+
+pub use laws::passes_receive_the_calls_of_their_lines;
+pub use lent::serve_pass;
+pub use locked::{Locked, MOST_PASSES, ask_in, event_in};
+pub use pass::Pass;
+pub use room::{Blank, Room};
+pub use shared::{Mismatch, Shared};

@@ -1,0 +1,275 @@
+//! What lies under the lock, and the critical section itself, as functions that wait for nobody.
+ghost use Rattle.std.specs.Prelude.{◌≡◌, ◌+◌, ◌≤◌, ◌<◌, ◌^◌, ℕ, [], length, IfOk, IfSome, IfNone, OnErr};
+ghost use Rattle.mpw_desk.specs.Finished.{IsFinished};
+ghost use Rattle.mpw_desk.specs.Steps.{MayHandIn, MayHandInBesides, Steps};
+ghost use Rattle.mpw_events.specs.History.{kept_desk};
+ghost use Rattle.mpw_events.specs.declared.event.Event.TheVariants as event;
+ghost use Rattle.mpw_receipts.specs.Calls.{calls_of};
+ghost use Rattle.mpw_receipts.specs.Owner.{owner_of};
+
+use crate::hints::{Asked, Hints};
+use crate::pass::Pass;
+use crate::room::{Blank, Room};
+use crate::shared::Mismatch;
+use crate::step::{last_call, step};
+use mpw_events::{Call, Event, Handler, Keeper, Response, keepers_have_the_changes_in_order};
+use mpw_receipts::Register;
+use mpw_requests::SharedRequest;
+use std::alloc::AllocError;
+use std::marker::Model;
+use std::sync::ledger::{Book, Share};
+
+/// The greatest number of passes of one shared desk.
+pub const MOST_PASSES: u32 = 1 << 20;
+
+/// The core with its keeper, the register of the calls since the desk was shared, the ledger's book, and the parts for passes to
+/// come. Contracts see the desk with its keeper, and the number of the next connection.
+pub struct Locked<H: Handler + Drop, K: Keeper + Drop, N: Room> {
+    core: Box<H>,
+    keeper: K,
+    register: Register<Call, N>,
+    book: Book<N>,
+    rest: Share<N>,
+    /// The number of calls when the desk was shared.
+    base: usize,
+    made: u32,
+    next: u32,
+    pub(crate) hints: Hints,
+}
+
+impl<H: Handler + Drop, K: Keeper + Drop, N: Room> Drop for Locked<H, K, N> {
+    fn drop(self) {
+        let Locked {
+            core,
+            keeper,
+            register,
+            book,
+            rest,
+            base: _,
+            made: _,
+            next: _,
+            hints: _,
+        } = self;
+        drop(core);
+        drop(keeper);
+        drop(register);
+        drop(book);
+        drop(rest);
+    }
+}
+
+impl<H: Handler + Drop, K: Keeper + Drop, N: Room> Model for Locked<H, K, N> {
+    ghost use Rattle.std.specs.Prelude.{◌≡◌};
+    ghost use Rattle.mpw_desk.specs.Locked.{IsLocked};
+    ghost use Rattle.mpw_desk.specs.Values.{LockedDesk};
+    ghost use Rattle.mpw_events.specs.History.{kept_desk};
+
+    ghost Value = { LockedDesk };
+
+    ghost view = { λ l. record { kept = kept_desk (H.desk l.core.value) (K.kept l.keeper) (K.failures l.keeper); calls = l.register.calls; next = l.register.next } };
+
+    ghost invariant = { λ l. (l.register.next ≡ l.next) × IsLocked N.begun (kept_desk (H.desk l.core.value) (K.kept l.keeper) (K.failures l.keeper)) l.register.calls l.base l.book.total N.all l.rest.parts l.rest.amount l.made };
+}
+
+impl<H: Handler + Drop, K: Keeper + Drop, N: Room> Locked<H, K, N> {
+    /// A desk that is shared from now on, under its name. The next connection has that number. It takes no memory, and costs as many
+    /// steps as numbers are skipped.
+    pub fn new(core: Box<H>, keeper: K, blank: Blank, first: u32) -> Locked<H, K, N>
+        requires begun { N.begun ≡ kept_desk (H.desk core.value) (K.kept keeper) (K.failures keeper) }
+        requires name { blank.name ≡ N.name }
+        requires parts { (blank.parts ≡ N.parts) × (N.all ≡ N.parts) × (1048577 ≤ N.all) }
+        requires table { blank.table ≡ N.table }
+        requires first { 0 < first }
+        ensures kept { result.kept ≡ kept_desk (H.desk core.value) (K.kept keeper) (K.failures keeper) }
+        ensures calls { result.calls ≡ [] }
+        ensures next { result.next ≡ first }
+    {
+        keepers_have_the_changes_in_order();
+        let (parts, register) = blank.into_parts();
+        let mut register = register.named::<N>();
+        for _ in 1..first {
+            drop(register.admit());
+        }
+        let (book, rest) = parts.open::<N>();
+        let base = core.calls().len();
+        Locked {
+            core,
+            keeper,
+            register,
+            book,
+            rest,
+            base,
+            made: 0,
+            next: first,
+            hints: Hints::new(),
+        }
+    }
+
+    /// A pass for the next connection, or for a worker; none after 2^20 passes, or where no number is left.
+    pub fn admit(&mut self) -> Option<Pass<N>>
+        ensures some { IfSome result (λ p. (p.connection ≡ self.old.next) × (p.receipts ≡ []) × (p.count ≡ 0) × (self.new.next ≡ self.old.next + 1)) }
+        ensures kept { (self.new.kept ≡ self.old.kept) × (self.new.calls ≡ self.old.calls) }
+        ensures none { IfNone result (self.new ≡ self.old) }
+    {
+        if self.made >= MOST_PASSES || self.next == u32::MAX {
+            return None;
+        }
+        let receipts = self.register.admit();
+        let share = self.rest.split_off(1, 0);
+        let connection = self.next;
+        self.made += 1;
+        self.next += 1;
+        Some(Pass {
+            receipts,
+            connection,
+            calls: 0,
+            share,
+        })
+    }
+
+    /// The core.
+    pub fn core(&self) -> &H
+        ensures { H.desk result.now ≡ self.now.kept.desk }
+    {
+        &self.core
+    }
+
+    /// The number of calls since the desk was shared.
+    fn len(&self) -> u64
+        ensures { result ≡ length self.now.calls }
+    {
+        (self.core.calls().len() - self.base) as u64
+    }
+
+    /// The core with its keeper.
+    fn into_desk(self) -> (Box<H>, K)
+        ensures { kept_desk (H.desk result.0.value) (K.kept result.1) (K.failures result.1) ≡ self.kept }
+    {
+        let Locked {
+            core,
+            keeper,
+            register,
+            book,
+            rest,
+            base: _,
+            made: _,
+            next: _,
+            hints: _,
+        } = self;
+        drop(register);
+        drop(book);
+        drop(rest);
+        (core, keeper)
+    }
+
+    /// Takes a pass in: its calls are counted, and its receipts compared. There are so many calls at most.
+    fn take_in(&mut self, pass: Pass<N>, all: &mut Share<N>, count: u64, most: u64) -> u64
+        requires amount { all.old.amount ≡ count }
+        requires most { length self.old.calls ≤ most }
+        ensures same { self.new ≡ self.old }
+        ensures count { result ≡ count + pass.count }
+        ensures all { all.new.amount ≡ result }
+        ensures receipts { pass.receipts ≡ calls_of owner_of pass.connection self.old.calls }
+    {
+        let Locked { register, book, .. } = self;
+        let (calls, share) = pass.compared(register);
+        all.merge(share);
+        book.audit(all);
+        count + calls
+    }
+
+    /// The core with its keeper, where these passes made all the calls since the desk was shared. It costs the passes.
+    ///
+    /// # Errors
+    /// Where they made another number of calls, as where a pass was kept back.
+    pub fn finish(mut self, passes: Vec<Pass<N>>) -> Result<(Box<H>, K), Mismatch>
+        ensures { IfOk result (λ left. IsFinished N.begun (kept_desk (H.desk left.0.value) (K.kept left.1) (K.failures left.1)) passes.items) }
+    {
+        let mut all = self.rest.empty();
+        let most = self.len();
+        let mut count = 0;
+        let mut left = passes;
+        while let Some(pass) = left.pop() {
+            count = self.take_in(pass, &mut all, count, most);
+        }
+        if count != most {
+            return Err(Mismatch);
+        }
+        Ok(self.into_desk())
+    }
+}
+
+/// Hands an event in by a pass.
+///
+/// # Errors
+/// Where there is no room; nothing has changed.
+fn hand_in<H: Handler + Drop, K: Keeper + Drop, N: Room>(
+    locked: &mut Locked<H, K, N>,
+    pass: &mut Pass<N>,
+    event: Event,
+) -> Result<Response, AllocError>
+    requires own { MayHandIn pass.old.connection event }
+    ensures ok { IfOk result (λ response. Steps event response locked.old locked.new pass.old pass.new) }
+    ensures err { OnErr result ((locked.new ≡ locked.old) × (pass.new ≡ pass.old)) }
+{
+    keepers_have_the_changes_in_order();
+    let Locked {
+        core,
+        keeper,
+        register,
+        book,
+        ..
+    } = locked;
+    let core = &mut **core;
+    let (response, is_added) = step(core, keeper, event)?;
+    if !is_added {
+        return Ok(response);
+    }
+    let made = core.calls().len();
+    let call = last_call(core);
+    pass.record(register, book, call, made);
+    Ok(response)
+}
+
+/// One event of a pass but a request: the end of its own connection, or an event of the run, which is nobody's. It waits for nobody, and
+/// costs the core's step.
+///
+/// # Errors
+/// Where there is no room; nothing has changed.
+pub fn event_in<H: Handler + Drop, K: Keeper + Drop, N: Room>(
+    locked: &mut Locked<H, K, N>,
+    pass: &mut Pass<N>,
+    event: Event,
+) -> Result<Response, AllocError>
+    requires own { MayHandInBesides pass.old.connection event }
+    ensures ok { IfOk result (λ response. Steps event response locked.old locked.new pass.old pass.new) }
+    ensures err { OnErr result ((locked.new ≡ locked.old) × (pass.new ≡ pass.old)) }
+{
+    hand_in(locked, pass, event)
+}
+
+/// A request of the pass's connection. It waits for nobody, and costs the core's step.
+///
+/// # Errors
+/// Where there is no room; nothing has changed.
+pub fn ask_in<H: Handler + Drop, K: Keeper + Drop, N: Room>(
+    locked: &mut Locked<H, K, N>,
+    pass: &mut Pass<N>,
+    request: SharedRequest,
+) -> Result<Response, AllocError>
+    ensures ok { IfOk result (λ response. Steps (event.Ask pass.old.connection request) response locked.old locked.new pass.old pass.new) }
+    ensures err { OnErr result ((locked.new ≡ locked.old) × (pass.new ≡ pass.old)) }
+{
+    let asked = Asked::of(request.get());
+    let connection = pass.connection;
+    let response = hand_in(
+        locked,
+        pass,
+        Event::Ask {
+            connection,
+            request,
+        },
+    )?;
+    locked.hints.note_request(asked, &response);
+    Ok(response)
+}

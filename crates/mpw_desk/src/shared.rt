@@ -1,0 +1,115 @@
+//! The desk that threads share, and its end.
+ghost use Rattle.std.specs.Prelude.{◌≡◌, ◌≤◌, ◌<◌, [], IfOk, IfSome, OnErr};
+ghost use Rattle.mpw_desk.specs.Finished.{IsFinished};
+ghost use Rattle.mpw_desk.specs.Passes.{Grows};
+ghost use Rattle.mpw_events.specs.History.{kept_desk};
+ghost use Rattle.mpw_events.specs.declared.event.Event.TheVariants as event;
+
+use crate::hints::{Asked, Waking};
+use crate::locked::{Locked, ask_in, event_in};
+use crate::pass::Pass;
+use crate::room::{Blank, Room};
+use mpw_events::{Event, Handler, Keeper, Response};
+use mpw_requests::SharedRequest;
+use std::alloc::AllocError;
+use std::sync::{Condvar, Mutex, Wait};
+
+/// The passes made another number of calls than the desk has.
+#[derive(Clone, Copy, PartialEq, Eq, Debug)]
+pub struct Mismatch;
+
+/// A desk that threads share: each call takes its lock once.
+pub struct Shared<H: Handler + Drop, K: Keeper + Drop, N: Room> {
+    pub(crate) locked: Mutex<Locked<H, K, N>>,
+    pub(crate) moved: Condvar,
+}
+
+impl<H: Handler + Drop, K: Keeper + Drop, N: Room> Drop for Shared<H, K, N> {
+    fn drop(self) {
+        let Shared { locked, moved } = self;
+        drop(locked);
+        drop(moved);
+    }
+}
+
+impl<H: Handler + Drop, K: Keeper + Drop, N: Room> Shared<H, K, N> {
+    /// Shares a desk, whose next connection has that number. It takes no memory.
+    pub fn new(core: Box<H>, keeper: K, blank: Blank, first: u32) -> Shared<H, K, N>
+        requires begun { N.begun ≡ kept_desk (H.desk core.value) (K.kept keeper) (K.failures keeper) }
+        requires name { blank.name ≡ N.name }
+        requires parts { (blank.parts ≡ N.parts) × (N.all ≡ N.parts) × (1048577 ≤ N.all) }
+        requires table { blank.table ≡ N.table }
+        requires first { 0 < first }
+    {
+        Shared {
+            locked: Mutex::new(Locked::new(core, keeper, blank, first)),
+            moved: Condvar::new(),
+        }
+    }
+
+    /// A pass for a connection or a worker; none after 2^20 passes, or where no number is left.
+    pub fn pass<R: Wait>(&self, rt: &R) -> Option<Pass<N>>
+        ensures { IfSome result (λ p. (p.receipts ≡ []) × (p.count ≡ 0)) }
+    {
+        self.locked.lock(rt).admit()
+    }
+
+    /// Puts a request of the pass's connection to the desk. The lock is held for the desk's step alone.
+    ///
+    /// # Errors
+    /// Where there is no room; the pass is as it was.
+    pub fn ask<R: Wait>(
+        &self,
+        rt: &R,
+        pass: &mut Pass<N>,
+        request: SharedRequest,
+    ) -> Result<Response, AllocError>
+        ensures ok { IfOk result (λ response. Grows pass.old (event.Ask pass.old.connection request) response pass.new) }
+        ensures err { OnErr result (pass.new ≡ pass.old) }
+    {
+        let asked = Asked::of(request.get());
+        let response = ask_in(&mut *self.locked.lock(rt), pass, request)?;
+        self.wake(Waking::after_request(asked, &response));
+        Ok(response)
+    }
+
+    /// Hands in the end of the pass's connection.
+    ///
+    /// # Errors
+    /// Where there is no room; the pass is as it was.
+    pub fn gone<R: Wait>(&self, rt: &R, pass: &mut Pass<N>) -> Result<Response, AllocError>
+        ensures ok { IfOk result (λ response. Grows pass.old (event.Gone pass.old.connection) response pass.new) }
+        ensures err { OnErr result (pass.new ≡ pass.old) }
+    {
+        let connection = pass.connection();
+        event_in(&mut *self.locked.lock(rt), pass, Event::Gone { connection })
+    }
+
+    /// No worker waits any more: each takes once more, and returns where there is no job.
+    pub fn stop<R: Wait>(&self, rt: &R) {
+        self.locked.lock(rt).hints.is_stopped = true;
+        self.moved.notify_all();
+    }
+
+    /// Wakes workers that wait.
+    pub(crate) fn wake(&self, waking: Waking) {
+        match waking {
+            Waking::Nobody => {}
+            Waking::OneWorker => self.moved.notify_one(),
+            Waking::AllWorkers => self.moved.notify_all(),
+        }
+    }
+
+    /// The core with its keeper, where these passes made all the calls since the desk was shared; their receipts are then the calls
+    /// of their connections. It costs the passes.
+    ///
+    /// # Errors
+    /// Where they made another number of calls, as where a pass was kept back.
+    pub fn finish(self, passes: Vec<Pass<N>>) -> Result<(Box<H>, K), Mismatch>
+        ensures { IfOk result (λ left. IsFinished N.begun (kept_desk (H.desk left.0.value) (K.kept left.1) (K.failures left.1)) passes.items) }
+    {
+        let Shared { locked, moved } = self;
+        drop(moved);
+        locked.into_inner().finish(passes)
+    }
+}

@@ -1,0 +1,242 @@
+//! A worker: it takes a job under the lock, does it outside, hands in what came of it, and waits where there is nothing to take.
+//!
+//! An idle worker makes no call, since each call counts against the history's limit: hints beside the model say whether there may be a
+//! job. A job for which there is no memory is tried again after a pause, for the same reason.
+ghost use Rattle.std.specs.Prelude.{◌≡◌, ◌<◌, ◌≤◌, ℕ, IfOk, OnErr};
+ghost use Rattle.mpw_desk.specs.Internal.Working.{AnyMayHandIn, EndsAs, EndsRightly, instruction_by, instruction_of};
+ghost use Rattle.mpw_desk.specs.Passes.{IsLast, Works, no_job};
+ghost use Rattle.mpw_events.specs.declared.event.Response.TheVariants as response;
+
+use crate::hints::{Hints, Waking};
+use crate::locked::{Locked, event_in};
+use crate::pass::Pass;
+use crate::room::Room;
+use crate::shared::Shared;
+use mpw_events::{Event, Handler, Keeper, Response, SharedCut, SharedTile};
+use mpw_job::{Answer, Gate, Job};
+use mpw_run::RunReply;
+use mpw_work::do_job;
+use std::alloc::{AllocError, Global};
+use std::sync::Wait;
+use std::thread;
+use std::time::{Clock, Duration};
+
+/// How long a worker waits after want of memory, in seconds.
+const PAUSE: u64 = 1;
+
+/// What a worker does next.
+#[derive(Drop)]
+pub(crate) enum Next {
+    /// The job that it was told.
+    Do(Response),
+    /// It ends, as it was told.
+    End(Response),
+    /// It tries again, since there was no memory.
+    Pause,
+    /// It waits until it is woken.
+    Rest,
+}
+
+/// What a response to a call for a job is to a worker.
+#[derive(Clone, Copy)]
+pub(crate) enum Instruction {
+    Cut(u32),
+    Tile,
+    NoJob,
+    Ended,
+    Else,
+}
+
+/// What a reply of the run is to a worker.
+fn instruction_by(reply: &RunReply) -> Instruction
+    ensures { result ≡ instruction_by reply.now }
+{
+    match reply {
+        RunReply::Taken(Job::Cut(job)) => Instruction::Cut(job.run),
+        RunReply::Taken(Job::Tile(_)) => Instruction::Tile,
+        RunReply::NoJob => Instruction::NoJob,
+        _ => Instruction::Else,
+    }
+}
+
+/// What the response is to a worker.
+fn instruction_of(response: &Response) -> Instruction
+    ensures { result ≡ instruction_of response.now }
+{
+    match response {
+        Response::Run(reply) => instruction_by(reply.get()),
+        Response::Ended => Instruction::Ended,
+        _ => Instruction::Else,
+    }
+}
+
+/// What a worker does that was told that, and what the others are told of it.
+fn next_of(hints: &mut Hints, response: Response) -> Next
+    ensures { EndsAs result response }
+{
+    match instruction_of(&response) {
+        Instruction::Cut(run) => {
+            hints.note_cutting(run);
+            Next::Do(response)
+        }
+        Instruction::Tile => Next::Do(response),
+        Instruction::NoJob if hints.is_stopped => Next::End(response),
+        Instruction::NoJob => {
+            hints.note_no_job();
+            Next::Rest
+        }
+        Instruction::Ended => Next::End(response),
+        Instruction::Else => Next::Rest,
+    }
+}
+
+/// The job of a response, where there is one.
+fn job_in(response: &Response) -> Option<&Job> {
+    match response {
+        Response::Run(reply) => match reply.get() {
+            RunReply::Taken(job) => Some(job),
+            _ => None,
+        },
+        _ => None,
+    }
+}
+
+/// Calls for a job under the lock.
+fn take<H: Handler + Drop, K: Keeper + Drop, N: Room>(
+    locked: &mut Locked<H, K, N>,
+    pass: &mut Pass<N>,
+) -> Next
+    ensures works { Works pass.old pass.new }
+    ensures last { EndsRightly result pass.old pass.new }
+{
+    let worker = pass.connection;
+    match event_in(locked, pass, Event::Take { worker }) {
+        Ok(response) => next_of(&mut locked.hints, response),
+        Err(_) => Next::Pause,
+    }
+}
+
+/// Does a job, and gives the event that hands in what came of it.
+///
+/// # Errors
+/// Where there is no memory.
+fn outcome_of(alloc: Global, job: &Job) -> Result<Event, AllocError>
+    ensures { IfOk result AnyMayHandIn }
+{
+    match do_job(alloc, job)? {
+        Answer::Cut(answer) => Ok(Event::Cut(SharedCut::new(alloc, answer)?)),
+        Answer::Tile(answer) => Ok(Event::Tile(SharedTile::new(alloc, answer)?)),
+    }
+}
+
+/// The run that the job cuts, where it is a cut.
+fn run_cut(job: &Job) -> Option<u32> {
+    match job {
+        Job::Cut(job) => Some(job.run),
+        Job::Tile(_) => None,
+    }
+}
+
+impl<H: Handler + Drop, K: Keeper + Drop, N: Room> Shared<H, K, N> {
+    /// The next job, or the worker's end; it waits where there is nothing to take. An eager worker calls for a job whatever the hints
+    /// say.
+    fn next_job<R: Wait>(&self, rt: &R, pass: &mut Pass<N>, is_eager: bool) -> Next
+        ensures works { Works pass.old pass.new }
+        ensures last { EndsRightly result pass.old pass.new }
+    {
+        let mut is_eager = is_eager;
+        let mut guard = self.locked.lock(rt);
+        for _ in rt.forever() {
+            let hints = guard.hints;
+            if is_eager || hints.is_stopped || hints.may_take() {
+                is_eager = false;
+                match take(&mut *guard, pass) {
+                    Next::Rest => {}
+                    next => return next,
+                }
+            }
+            guard = self.moved.wait(rt, guard);
+        }
+        unreachable!()
+    }
+
+    /// Hands in what came of a job, and tells whether there was memory for it.
+    fn hand_in<R: Wait>(&self, rt: &R, pass: &mut Pass<N>, cut: Option<u32>, event: Event) -> bool
+        requires { AnyMayHandIn event }
+        ensures { Works pass.old pass.new }
+    {
+        let mut guard = self.locked.lock(rt);
+        let answered = event_in(&mut *guard, pass, event);
+        if let Some(run) = cut {
+            guard.hints.note_cut(run);
+        }
+        drop(guard);
+        match answered {
+            Ok(response) => {
+                self.wake(Waking::after_job(cut.is_some(), &response));
+                true
+            }
+            Err(_) => false,
+        }
+    }
+
+    /// Does a job outside the lock and hands in what came of it, and tells whether there was memory for it.
+    fn work_off<R: Wait, G: Gate>(
+        &self,
+        rt: &R,
+        alloc: Global,
+        pass: &mut Pass<N>,
+        gate: &G,
+        response: &Response,
+    ) -> bool
+        ensures { Works pass.old pass.new }
+    {
+        let Some(job) = job_in(response) else {
+            return true;
+        };
+        if let Job::Tile(tile) = job {
+            gate.pass(tile.run(), tile.tile());
+        }
+        let cut = run_cut(job);
+        match outcome_of(alloc, job) {
+            Ok(event) => self.hand_in(rt, pass, cut, event),
+            Err(_) => {
+                if let Some(run) = cut {
+                    self.locked.lock(rt).hints.note_cut(run);
+                }
+                false
+            }
+        }
+    }
+
+    /// Works jobs off until nothing is answered any more, or the desk was stopped and there is no job; that is told. Its calls are
+    /// counted on the pass, whose receipts stay as they are. Each job is done outside the lock, which a tile's reaches once it passed
+    /// the gate.
+    pub fn worker<R: Wait + Clock, G: Gate>(
+        &self,
+        rt: &R,
+        alloc: Global,
+        pass: &mut Pass<N>,
+        gate: &G,
+    ) -> Response
+        ensures receipts { pass.new.receipts ≡ pass.old.receipts }
+        ensures connection { pass.new.connection ≡ pass.old.connection }
+        ensures last { IsLast result }
+        ensures count { result ≡ no_job → pass.old.count < pass.new.count }
+    {
+        let mut is_eager = true;
+        for _ in rt.forever() {
+            let was_done = match self.next_job(rt, pass, is_eager) {
+                Next::Do(response) => self.work_off(rt, alloc, pass, gate, &response),
+                Next::End(response) => return response,
+                Next::Pause => false,
+                Next::Rest => true,
+            };
+            is_eager = !was_done;
+            if is_eager {
+                thread::sleep(rt, Duration::from_secs(PAUSE));
+            }
+        }
+        unreachable!()
+    }
+}
