@@ -407,7 +407,7 @@ class Pipe(unittest.TestCase):
         self.assertEqual(process.returncode, 0)
 
     def test_a_program(self):
-        self.ask([sys.executable, os.path.join(os.path.dirname(__file__), "piped.py")])
+        self.ask([sys.executable, "-SB", os.path.join(os.path.dirname(__file__), "piped.py")])
 
     def test_the_program(self):
         program = os.path.join(TOP, "crates", "mpw_main", "out", "mpw_main")
