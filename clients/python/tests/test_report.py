@@ -1,0 +1,103 @@
+"""mpw_report: the form of mpw check --report, with waivers as tags; and that a file is written whole or not at all."""
+import os
+import shutil
+import stat
+import subprocess
+import tempfile
+import unittest
+import xml.etree.ElementTree as ElementTree
+from unittest import mock
+
+from asked import ask_module
+from mpw_desk import Axis, Key, Marker, Markers, Masked, Waiver
+from mpw_report import report_of, rules_of
+from stand_in import TOP
+
+HOSTILE = "a'b\\c<d>&\"e</value>--><!--,#"
+KEYS = [Key("w", Axis.V, 0, 0, 50, 0, 600), Key(HOSTILE, Axis.H, 1, -5, 1000, -1, 2)]
+
+
+class Report(unittest.TestCase):
+    def test_as_the_program_writes_it(self):
+        run = os.path.join(TOP, "crates", "runs_report")
+        with open(os.path.join(run, "stdin"), encoding="ascii") as file:
+            deck, rest = file.read().split("--\n")
+        top, *lines = rest.rstrip("\n").split("\n")
+        rules, markers = [rule for rule, _ in rules_of(deck)], []
+        for rule, axis, *numbers in (line.split(" ") for line in lines):
+            if int(rule) < len(rules):
+                markers.append(Marker(Key(rules[int(rule)], Axis(axis), *map(int, numbers)), (top,)))
+        with open(os.path.join(run, "stdout"), encoding="ascii") as file:
+            expected = file.read().replace("<generator>mpw check<", "<generator>mpw-ask<")
+        self.assertEqual(report_of(Markers(markers, []), [], deck, top), expected)
+
+    def test_names_and_tags(self):
+        markers = Markers([Marker(key, (HOSTILE,)) for key in KEYS], [Masked("other", 3)])
+        waivers = [Waiver(KEYS[0], "ann", None), Waiver(KEYS[1], HOSTILE, "dora")]
+        report = ElementTree.fromstring(report_of(markers, waivers, top=HOSTILE))
+        self.assertEqual([it.text for it in report.findall("categories/category/name")], ["w", HOSTILE, "other"])
+        self.assertEqual([it.text for it in report.findall("tags/tag/name")], ["asked by ann", "waived", f"asked by {HOSTILE}", "signed by dora"])
+        self.assertEqual({it.text for it in report.iter("cell") if len(it) == 0}, {HOSTILE})
+        quoted = "'" + HOSTILE.replace("\\", "\\\\").replace("'", "\\'") + "'"
+        self.assertEqual([it.text for it in report.findall("items/item/category")], ["'w'", quoted])
+        tags = [it.text for it in report.findall("items/item/tags")]
+        self.assertEqual(tags, ["'asked by ann'", f"waived,'asked by {quoted[1:]},'signed by dora'"])
+
+    @unittest.skipUnless(shutil.which("klayout"), "KLayout isn't installed")
+    def test_as_klayout_reads_it(self):
+        markers, waivers = Markers([Marker(key, ("c",)) for key in KEYS], []), [Waiver(KEYS[1], HOSTILE, "dora")]
+        with tempfile.TemporaryDirectory() as folder:
+            report, script = os.path.join(folder, "a.lyrdb"), os.path.join(folder, "a.rb")
+            with open(report, "w", encoding="ascii") as file:
+                file.write(report_of(markers, waivers))
+            with open(script, "w", encoding="ascii") as file:
+                file.write("d = RBA::ReportDatabase.new('r')\nd.load($r)\n"
+                           "d.each_item { |i| puts [d.category_by_id(i.category_id).name, i.tags_str].join(' ') }\n")
+            words = ["klayout", "-b", "-zz", "-r", script, "-rd", f"r={report}"]
+            told = subprocess.run(words, stdout=subprocess.PIPE, env={**os.environ, "QT_QPA_PLATFORM": "offscreen"}, check=True).stdout.decode()
+        quoted = HOSTILE.replace("\\", "\\\\").replace("'", "\\'")
+        self.assertEqual(told.splitlines(), ["w ", f"{HOSTILE} waived,'asked by {quoted}','signed by dora'"])
+
+
+class Whole(unittest.TestCase):
+    """An existing file stays whole where writing fails, and nothing is left beside it."""
+
+    def setUp(self):
+        self.folder = tempfile.mkdtemp()
+        self.addCleanup(shutil.rmtree, self.folder)
+        self.path = os.path.join(self.folder, "out.lyrdb")
+        self.ask = ask_module()
+
+    def content(self):
+        with open(self.path, encoding="ascii") as file:
+            return file.read(), os.listdir(self.folder)
+
+    def test_written(self):
+        self.ask.write_whole(self.path, "old\n")
+        os.chmod(self.path, 0o640)
+        self.ask.write_whole(self.path, "new\n")
+        self.assertEqual(self.content(), ("new\n", ["out.lyrdb"]))
+        self.assertEqual(stat.S_IMODE(os.stat(self.path).st_mode), 0o640)
+
+    def test_kept(self):
+        self.ask.write_whole(self.path, "old\n")
+        for broken in "os.replace", "os.fsync":
+            with mock.patch(broken, side_effect=OSError(28, "No space left on device")):
+                self.assertRaises(self.ask.FileFault, self.ask.write_whole, self.path, "new\n")
+            self.assertEqual(self.content(), ("old\n", ["out.lyrdb"]))
+
+    def test_through_a_link(self):
+        link = os.path.join(self.folder, "link")
+        os.symlink(self.path, link)
+        self.ask.write_whole(link, "new\n")
+        self.assertTrue(os.path.islink(link))
+        self.assertEqual(self.content()[0], "new\n")
+
+    def test_no_file(self):
+        self.assertRaises(self.ask.FileFault, self.ask.write_whole, self.folder, "new\n")
+        self.assertRaises(self.ask.FileFault, self.ask.write_whole, os.path.join(self.folder, "none", "out"), "new\n")
+        self.assertRaises(self.ask.FileFault, self.ask.write_whole, "/dev/null", "new\n")
+
+
+if __name__ == "__main__":
+    unittest.main()
