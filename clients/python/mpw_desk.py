@@ -9,9 +9,10 @@
         for marker in desk.markers().full:
             print(marker.key, marker.key.distance, marker.cells)
 
-`Desk` has a method for each request, of the request's name and with its words as arguments. It returns what the reply's lines
-say, and raises `Denied` or `Refused` where the request wasn't accepted. Nothing waits without a limit: `Lost` is raised where no
-reply comes, and `NotADesk` where what comes is none; the connection is closed then. All coordinates and lengths are in nm.
+`Desk` has a method for each request, of the request's name and with its words as arguments. It returns what the reply's
+lines say, and raises `Denied` or `Refused` where the request wasn't accepted. Nothing waits without a limit: `Lost` is
+raised where no reply comes, and `NotADesk` where what comes is none; the connection is closed then. All coordinates and
+lengths are in nm.
 
 A word that would break the line, as one with a blank or a line feed, is refused before anything is sent (`BadWord`).
 This file needs Python 3.6 or later, and nothing else.
@@ -20,9 +21,11 @@ import csv
 import enum
 import hashlib
 import os
+import queue
 import re
 import socket
 import subprocess
+import threading
 import time
 from collections import deque
 from operator import index
@@ -81,7 +84,8 @@ class DeskError(Exception):
 
 
 class Denied(DeskError):
-    """The desk denied the request. `words` says what is lacking: session, login, permission, ssd, dsd, submitter or asker."""
+    """The desk denied the request. `words` says why: session, login, permission, ssd, dsd, submitter or asker, and
+    what stands behind that."""
 
     def __init__(self, words):
         super().__init__("DENIED " + " ".join(words))
@@ -101,7 +105,7 @@ class BadWord(DeskError, ValueError):
 
 
 class Lost(DeskError):
-    """There is no connection, or it is gone, or no reply came in time."""
+    """There is no connection, or it is gone, no reply came in time, or it was too large."""
 
 
 class NotADesk(DeskError):
@@ -135,7 +139,7 @@ class Reply(NamedTuple):
 
 
 class Key(NamedTuple):
-    """A marker's key. On axis V its edges stand at x = x1 and x2, from y = y0 to y1; on axis H with x and y exchanged."""
+    """A marker's key. On axis V its edges stand at x = x1 and x2, from y = y0 to y1; on axis H with x for y."""
 
     rule: str
     axis: Axis
@@ -254,8 +258,8 @@ class Verdict(NamedTuple):
 
 
 class TrailRow(NamedTuple):
-    """A request that was answered: its number, the user (`-` where there was none), its first word, its object (`-` where it
-    has none), and the first line of its reply."""
+    """A request that was answered: its number, the user (`-` where there was none), its first word, its object (`-`
+    where it has none), and the first line of its reply."""
 
     number: int
     user: str
@@ -313,12 +317,12 @@ def granted(operation, about):
 
 
 def line_bytes(line):
-    """A line as it is sent, without its line feed."""
-    data = line.encode("utf-8", "surrogateescape")
+    """A line as it is sent, without its line feed. Errors show its first word alone: a token may stand behind."""
+    data, verb = line.encode("utf-8", "surrogateescape"), shortened(line.split(" ")[0])
     if b"\n" in data:
-        raise BadWord(f"{shortened(line)}: a line has no line feed")
+        raise BadWord(f"{verb}: a line has no line feed")
     if len(data) > LONGEST_LINE:
-        raise BadWord(f"{shortened(line)}: a line has at most {LONGEST_LINE} bytes, and this has {len(data)}")
+        raise BadWord(f"{verb}: a line has at most {LONGEST_LINE} bytes, and this has {len(data)}")
     return data
 
 
@@ -327,7 +331,7 @@ def library_bytes(library):
     if isinstance(library, (bytes, bytearray, memoryview)):
         return bytes(library)
     with open(library, "rb") as file:
-        return file.read()
+        return file.read(LARGEST_PAYLOAD + 1)
 
 
 def deck_bytes(deck):
@@ -338,7 +342,7 @@ def deck_bytes(deck):
 def read_token(path: File) -> str:
     """The token that a file has, without line feeds at its end."""
     with open(path, encoding="utf-8", errors="surrogateescape") as file:
-        return file.read().rstrip("\r\n")
+        return file.read(LONGEST_LINE).rstrip("\r\n")
 
 
 def digest_of(token: str) -> str:
@@ -441,7 +445,7 @@ def role_of(line):
 
 
 def count_of(line):
-    """How many lines belong to a reply, by its first line; raises where it is a denial, a refusal, or nothing of a desk."""
+    """How many lines belong to a reply, by its first line; raises where that is a denial, a refusal, or no desk's."""
     accepted = re.fullmatch(r"OK (0|[1-9][0-9]{0,9})", line)
     if accepted:
         return int(accepted[1])
@@ -501,10 +505,11 @@ class Channel:
         except OSError as error:
             raise Lost(f"the connection is gone: {error.strerror or error}") from None
         if not data:
-            raise Lost("the other end closed the connection" + (" in the middle of a line" if self.begun else "") + self.ended())
+            where = " in the middle of a line" if self.begun else ""
+            raise Lost(f"the other end closed the connection{where}{self.ended()}")
         deadline.received += len(data)
         if deadline.received > LARGEST_REPLY:
-            raise NotADesk(f"the other end is no desk: its reply has more than {LARGEST_REPLY} bytes")
+            raise Lost(f"a reply of more than {LARGEST_REPLY} bytes isn't read")
         return data
 
     def line(self, deadline):
@@ -542,14 +547,30 @@ class Channel:
                 pass
 
 
+def addresses_of(host, port, deadline):
+    """The addresses of a host. Python gives no limit to who looks them up, so that is done aside."""
+    found = queue.Queue()
+
+    def look_up():
+        try:
+            found.put((socket.getaddrinfo(host, port, type=socket.SOCK_STREAM), None))
+        except (OSError, UnicodeError, OverflowError) as error:
+            found.put(([], error))
+
+    threading.Thread(target=look_up, daemon=True).start()
+    try:
+        addresses, error = found.get(timeout=deadline.left)
+    except queue.Empty:
+        addresses, error = [], f"its address wasn't found within {deadline.seconds:g} s"
+    if error is not None:
+        raise Lost(f"no connection to {host}:{port}: {error}")
+    return addresses
+
+
 def connected(host, port, seconds):
     """A socket to the first address of a host that answers."""
     deadline, told = Deadline(seconds), "it has no address"
-    try:
-        addresses = socket.getaddrinfo(host, port, type=socket.SOCK_STREAM)
-    except (OSError, UnicodeError, OverflowError) as error:
-        raise Lost(f"no connection to {host}:{port}: {error}") from None
-    for family, kind, protocol, _, address in addresses:
+    for family, kind, protocol, _, address in addresses_of(host, port, deadline):
         end = socket.socket(family, kind, protocol)
         try:
             end.settimeout(deadline.left)
@@ -575,7 +596,8 @@ class Desk:
 
     @classmethod
     def over(cls, command: Sequence[str], reply_limit: float = 60.0, run_limit: float = 3600.0, **popen) -> "Desk":
-        """Starts `mpw script` by the words of its command line. It answers `run` when the run is finished: within run_limit."""
+        """Starts `mpw script` by the words of its command line. It answers `run` when that is finished, which may take
+        as long as run_limit says."""
         ours, its = socket.socketpair()
         try:
             process = subprocess.Popen(command, stdin=its, stdout=its, **popen)
@@ -606,20 +628,21 @@ class Desk:
     # Asking.
 
     def tell(self, line: str, payload: Optional[bytes] = None, limit: Optional[float] = None) -> Reply:
-        """Sends a line as it is, with the length of its payload and the payload where there is one; the reply as it came.
+        """Sends a line as it is; one with a payload with its length, and then the payload. The reply as it came.
 
         A `submit` or `deck` without its payload isn't sent: the desk would take the next lines for it."""
         if payload is None and line.split(" ")[0] in ("submit", "deck"):
             raise BadWord(f"{shortened(line)}: its payload is missing")
         if payload is not None and len(payload) > LARGEST_PAYLOAD:
-            raise BadWord(f"{shortened(line)}: a payload has at most {LARGEST_PAYLOAD} bytes, and this has {len(payload)}")
+            raise BadWord(f"{shortened(line)}: a payload has at most {LARGEST_PAYLOAD} bytes")
         data = line_bytes(line if payload is None else f"{line} {len(payload)}") + b"\n" + (payload or b"")
         if self.gone is not None:
             raise Lost(str(self.gone))
         try:
             return self.reply_to(data, limit or self.reply_limit)
         except BaseException as error:
-            self.leave(error if isinstance(error, DeskError) else Lost("the connection was left in the middle of a reply"))
+            is_told = isinstance(error, DeskError)
+            self.leave(error if is_told else Lost("the connection was left in the middle of a reply"))
             raise
 
     def reply_to(self, data, seconds):
@@ -642,9 +665,8 @@ class Desk:
 
     def ask(self, *words: str, payload: Optional[bytes] = None, limit: Optional[float] = None) -> List[str]:
         """Sends a request by its words; the lines of its reply. Raises Denied and Refused where it isn't accepted."""
-        for word in words:
-            if not is_visible(word):
-                raise BadWord(f"{shortened(str(word))}: no word of a request")
+        if not all(map(is_visible, words)):
+            raise BadWord(f"{shortened(str(words[0]))}: the words of a request have visible ASCII characters alone")
         reply = self.tell(" ".join(words), payload, limit)
         count_of(reply.first_line)
         return reply.lines
@@ -655,7 +677,8 @@ class Desk:
         try:
             return [parser(line) for line in lines]
         except ValueError as error:
-            raise self.leave(NotADesk(f"the other end is no desk: it answered {words[0]} by {shortened(str(error))}")) from None
+            told = f"the other end is no desk: it answered {words[0]} by {shortened(str(error))}"
+            raise self.leave(NotADesk(told)) from None
 
     def told(self, parser, *words, payload=None, limit=None):
         """What a parser reads in the one line of a reply."""
@@ -693,7 +716,8 @@ class Desk:
         (kind, user), *roles = self.listed(role_of, "whoami") or [("", "")]
         if kind != "user" or any(kind == "user" for kind, _ in roles):
             raise self.leave(NotADesk("the other end is no desk: whoami has to tell one user"))
-        return Whoami(user, *(tuple(role for kind, role in roles if kind == wanted) for wanted in ("active", "authorized")))
+        active, authorized = (tuple(it for kind, it in roles if kind == wanted) for wanted in ("active", "authorized"))
+        return Whoami(user, active, authorized)
 
     # Users, roles and grants.
 
@@ -796,11 +820,13 @@ class Desk:
         """How far the run is."""
         return self.told(status_of, "status")
 
-    def wait(self, poll: float = 1.0, limit: float = 3600.0, progress: Optional[Callable[[Status], None]] = None) -> Status:
+    def wait(
+            self, poll: float = 1.0, limit: float = 3600.0,
+            progress: Optional[Callable[[Status], None]] = None) -> Status:
         """Asks for the status until the run is finished, and returns that status; `progress` is called with each.
 
-        Each question is a line of the connection and a row of the trail: the pauses grow from `poll` seconds to ten times that.
-        Raises NotFinished after `limit` seconds, and at once where no run goes on."""
+        Each question is a line of the connection and a row of the trail, so the pauses grow from `poll` seconds to ten
+        times that. Raises NotFinished after `limit` seconds, and at once where no run goes on."""
         end, pause = time.monotonic() + limit, poll
         while True:
             status = self.status()

@@ -1,7 +1,7 @@
 """Writes what a session sees of shapes and markers as one page for a browser, by the template page.html.
 
-The template says what its data is: reply lines as they came, as JSON. Nothing is reckoned here, so another program can fill in
-the same template.
+The template says what its data is: reply lines as they came, as JSON. Nothing is reckoned here, so another program can
+fill in the same template.
 """
 import json
 import os
@@ -14,14 +14,14 @@ DATA = "@DATA@"  # in the template, once
 
 
 def shapes_of(desk, cells, placements):
-    """The lines of `shapes` of each cell that is drawn: of those that are placed where that is known, and else of all."""
+    """The lines of `shapes` of each cell that is drawn: of those that are placed, where that is known, else of all."""
     placed = {words.split(" ")[0] for words in placements}
     drawn = [cell for cell in cells if not placed or cell in placed]
     return [[cell, desk.ask("shapes", cell)] for cell in drawn]
 
 
 def data_of(desk: Desk, placements: Iterable[str] = (), deck: str = "", made: str = "") -> dict:
-    """Asks a desk for what its session sees. A placement is the words behind `place`; the deck is its text; made, the time."""
+    """Asks a desk for what its session sees. A placement is the words behind `place`; the deck is its text."""
     status, placements = desk.status(), list(placements)
     is_finished = status.state is State.FINISHED
     cells = desk.ask("cells")
@@ -29,7 +29,7 @@ def data_of(desk: Desk, placements: Iterable[str] = (), deck: str = "", made: st
         "made": made,
         "user": desk.whoami().user,
         "status": str(status),
-        "deck": deck.split("\n")[:-1] if deck.endswith("\n") else deck.split("\n"),
+        "deck": [line for line in deck.split("\n") if line],
         "placements": placements,
         "cells": cells,
         "shapes": shapes_of(desk, [line.split(" ")[0] for line in cells], placements),

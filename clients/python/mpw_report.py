@@ -1,7 +1,7 @@
-"""Writes markers as a report database of KLayout's, in the form that `mpw check --report` writes, with their waivers as tags.
+"""Writes markers as a report database of KLayout's, in the form of `mpw check --report`, with their waivers as tags.
 
-A signed waiver is KLayout's own tag `waived`, which its marker browser shows; who asked and who signed are tags too. So a report
-has what the session sees in full at that time, and no more.
+A signed waiver is KLayout's own tag `waived`, which its marker browser shows; who asked and who signed are tags too. A
+report has what the session sees in full at that time, and no more.
 """
 from typing import List, Tuple
 
@@ -82,13 +82,15 @@ def edge_pair(key) -> str:
 
 
 def rules_of(deck: str) -> List[Tuple[str, str]]:
-    """The rules of a deck, each by its name and its line. The desk reads decks; here a line without a name is passed over."""
+    """The rules of a deck, each by its name and its line. Only the desk tells faults: a line without a name is passed
+    over here."""
     lines = [line for line in deck.split("\n")[1:] if len(line.split(" ")) > 1]
     return [(line.split(" ")[1], line) for line in lines]
 
 
 def categories_of(deck, markers):
-    """A category for each rule of the deck in order, then for each other rule of which a marker is told, with its name alone."""
+    """A category for each rule of the deck in order, then for each other one of which a marker is told, with its name
+    alone."""
     found = dict(rules_of(deck))
     for rule in [*(marker.key.rule for marker in markers.full), *(masked.rule for masked in markers.masked)]:
         found.setdefault(rule, rule)
@@ -107,13 +109,13 @@ def item_of(marker, waiver, top):
     """The item of a marker."""
     tags = ",".join(tag if tag == "waived" else quoted(tag) for tag in tags_of(waiver))
     return ITEM.format(
-        tags=f"<tags>{escaped(tags)}</tags>" if tags else "<tags/>", category=escaped(quoted(marker.key.rule)), top=escaped(top),
-        value=edge_pair(marker.key))
+        tags=f"<tags>{escaped(tags)}</tags>" if tags else "<tags/>", category=escaped(quoted(marker.key.rule)),
+        top=escaped(top), value=edge_pair(marker.key))
 
 
 def report_of(markers, waivers, deck="", top="wafer") -> str:
-    """The report of what `Desk.markers` and `Desk.waivers` gave, under a cell of that name. The deck's text gives the rules
-    without a marker, and each rule's line as its description."""
+    """The report of what `Desk.markers` and `Desk.waivers` gave, under a cell of that name. The deck's text gives the
+    rules without a marker, and each rule's line as its description."""
     of_marker = {waiver.key: waiver for waiver in waivers}
     tags = dict.fromkeys(tag for waiver in waivers for tag in tags_of(waiver))
     head = HEAD.format(

@@ -8,6 +8,8 @@ import subprocess
 import tempfile
 import time
 
+# What is kept of what the browser tells: errors and other words of the console, and what is loaded.
+KEPT = ("Runtime.exceptionThrown", "Runtime.consoleAPICalled", "Log.entryAdded", "Network.requestWillBeSent")
 NAMES = ("chromium", "chromium-browser", "google-chrome", "google-chrome-stable")
 
 
@@ -25,12 +27,13 @@ class Browser:
         self.given, theirs_out = os.pipe()
         words = [
             installed(), "--headless=new", "--remote-debugging-pipe", "--no-first-run", "--disable-gpu", "--no-sandbox",
-            "--disable-background-networking", "--hide-scrollbars", f"--user-data-dir={self.folder}", f"--window-size={size[0]},{size[1]}",
-            "about:blank"]
+            "--disable-background-networking", "--hide-scrollbars", f"--user-data-dir={self.folder}",
+            f"--window-size={size[0]},{size[1]}", "about:blank"]
         # The browser reads from the descriptor 3 and writes to 4.
         shell = ["sh", "-c", f'exec "$@" 3<&{theirs_in} 4>&{theirs_out}', "sh"]
+        nowhere = subprocess.DEVNULL
         self.process = subprocess.Popen(
-            shell + words, pass_fds=(theirs_in, theirs_out), stdin=subprocess.DEVNULL, stdout=subprocess.DEVNULL, stderr=subprocess.DEVNULL)
+            shell + words, pass_fds=(theirs_in, theirs_out), stdin=nowhere, stdout=nowhere, stderr=nowhere)
         os.close(theirs_in)
         os.close(theirs_out)
         self.number, self.rest, self.session, self.console = 0, b"", None, []
@@ -77,7 +80,7 @@ class Browser:
             self.rest += data
         first, self.rest = self.rest.split(b"\0", 1)
         told = json.loads(first)
-        if told.get("method") in ("Runtime.exceptionThrown", "Runtime.consoleAPICalled", "Log.entryAdded", "Network.requestWillBeSent"):
+        if told.get("method") in KEPT:
             self.console.append(told)
         return told
 
@@ -113,6 +116,17 @@ class Browser:
         self.ask("Input.dispatchMouseEvent", type="mouseMoved", x=x, y=y)
         for kind in ("mousePressed", "mouseReleased"):
             self.ask("Input.dispatchMouseEvent", type=kind, x=x, y=y, button="left", clickCount=1)
+
+    def drag(self, x, y, to_x, to_y):
+        """Moves the mouse with its button pressed."""
+        for kind, at in (
+                ("mouseMoved", (x, y)), ("mousePressed", (x, y)), ("mouseMoved", (to_x, to_y)),
+                ("mouseReleased", (to_x, to_y))):
+            self.ask("Input.dispatchMouseEvent", type=kind, x=at[0], y=at[1], button="left", buttons=1, clickCount=1)
+
+    def wheel(self, x, y, turned):
+        """Turns the wheel at a point: away from the user where that is below 0."""
+        self.ask("Input.dispatchMouseEvent", type="mouseWheel", x=x, y=y, deltaX=0, deltaY=turned)
 
     def key(self, key):
         """Presses a key."""

@@ -2,7 +2,9 @@
 import os
 import sys
 
-sys.path.append(os.path.join(os.path.dirname(os.path.dirname(os.path.dirname(os.path.dirname(os.path.abspath(__file__))))), "examples"))
+from stand_in import TOP
+
+sys.path.append(os.path.join(TOP, "examples"))
 
 from make import box, library, path, placed, structure  # noqa: E402
 

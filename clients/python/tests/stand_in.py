@@ -17,8 +17,8 @@ OFFICER, TOKEN = "root", "abc"
 
 
 class StandIn:
-    """A desk that serves connections as the model answers them: line by line, each with its own session. A run is finished
-    at once."""
+    """A desk that serves connections as the model answers them: line by line, each with its own session. A run is
+    finished at once."""
 
     def __init__(self, officer=OFFICER, digest=digest_of(TOKEN.encode())):
         self.desk = model.Desk(officer, digest)

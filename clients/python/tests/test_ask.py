@@ -1,4 +1,4 @@
-"""mpw-ask: what it prints, what it tells, its exit status, the files that it sends and writes, and where a token may stand."""
+"""mpw-ask: what it prints and tells, its exit status, the files that it sends and writes, and where a token may be."""
 import os
 import pty
 import shutil
@@ -14,6 +14,7 @@ from asked import PROGRAM, ask, environment
 from stand_in import OFFICER, TOKEN, StandIn, listening, saying
 
 HERE = os.path.dirname(os.path.abspath(__file__))
+WHOAMI = "OK 3\nuser root\nactive officer\nauthorized officer\n"
 PIPED = f"{sys.executable} -SB {os.path.join(HERE, 'piped.py')}"
 
 
@@ -23,7 +24,8 @@ class WithFiles(unittest.TestCase):
     def setUp(self):
         self.folder = tempfile.mkdtemp()
         self.addCleanup(shutil.rmtree, self.folder)
-        for name, data in ("pad.gds", layouts.pad()), ("rules.deck", b"tile 256\nwidth w 1/0 11\n"), ("root.token", b"abc\n"):
+        deck = b"tile 256\nwidth w 1/0 11\n"
+        for name, data in ("pad.gds", layouts.pad()), ("rules.deck", deck), ("root.token", b"abc\n"):
             with open(self.file(name), "wb") as file:
                 file.write(data)
 
@@ -51,7 +53,7 @@ class AtADesk(WithFiles):
         self.assertEqual(self.ask(*lines), (0, "OK 0\n" * len(lines), ""))
 
     def test_replies_as_they_came(self):
-        self.assertEqual(self.ask("whoami", "cells"), (0, "OK 3\nuser root\nactive officer\nauthorized officer\nOK 0\n", ""))
+        self.assertEqual(self.ask("whoami", "cells"), (0, f"{WHOAMI}OK 0\n", ""))
 
     def test_one_that_is_not_accepted(self):
         told = "mpw-ask: deluser bob: REFUSED 32 unknown\nmpw-ask: shapes pad: DENIED permission read pad\n"
@@ -60,12 +62,13 @@ class AtADesk(WithFiles):
         self.assertEqual(self.ask("whoami", token="abd"), (1, "", "mpw-ask: open root: DENIED login\n"))
         self.assertEqual(ask(self.address, "whoami"), (1, "DENIED session\n", "mpw-ask: whoami: DENIED session\n"))
         status, printed, told = self.ask("--role", "nobody", "whoami")
-        self.assertEqual((status, printed, told), (1, "", "mpw-ask: activate nobody: DENIED permission activate nobody\n"))
+        self.assertEqual((status, printed), (1, ""))
+        self.assertEqual(told, "mpw-ask: activate nobody: DENIED permission activate nobody\n")
 
     def test_standard_input(self):
         given = "whoami\n\n# a comment\nshapes  pad\ncells"
         status, printed, told = self.ask(given=given)
-        self.assertEqual(printed, "OK 3\nuser root\nactive officer\nauthorized officer\nREFUSED 40 form\nOK 0\n")
+        self.assertEqual(printed, f"{WHOAMI}REFUSED 40 form\nOK 0\n")
         self.assertEqual((status, told), (1, "mpw-ask: line 4: shapes  pad: REFUSED 40 form\n"))
         status, printed, told = self.ask(given="cells\nsubmit pad PAD 12\ncells\n")
         self.assertEqual((status, printed), (2, "OK 0\n"))
@@ -77,9 +80,9 @@ class AtADesk(WithFiles):
         self.grant_all()
         lines = ["submit pad PAD @pad.gds", "deck @rules.deck", "place pad p R0 0 0", "run", "status", "markers"]
         status, printed, told = self.ask("--wait", *lines, cwd=self.folder)
-        key = "w:V:0:0:10:0:100 pad"
         self.assertEqual((status, told), (0, ""))
-        self.assertEqual(printed, f"OK 1\nversion 1\nOK 0\nOK 1\nversion 1\nOK 1\nrun 1\nOK 1\nfinished 1\nOK 1\n{key}\n")
+        replies = ["version 1", "", "version 1", "run 1", "finished 1", "w:V:0:0:10:0:100 pad"]
+        self.assertEqual(printed, "".join(f"OK 1\n{line}\n" if line else "OK 0\n" for line in replies))
         status, printed, told = self.ask(f"submit pad PAD @{self.file('rules.deck')}")
         self.assertEqual((status, printed), (1, "REFUSED 2 badlength 0\n"))
         self.assertIn("submit pad PAD @", told)
@@ -92,7 +95,8 @@ class AtADesk(WithFiles):
         self.assertEqual(self.ask(line, token=None, given="")[0], 2)
         token = "--token-file", self.file("root.token")
         self.assertEqual(self.ask(*token, line, token=None), (0, "OK 0\n", ""))
-        self.assertEqual(ask(self.address, f"open bob @{self.file('root.token')}", "whoami")[:2], (0, "OK 0\nOK 1\nuser bob\n"))
+        line = f"open bob @{self.file('root.token')}"
+        self.assertEqual(ask(self.address, line, "whoami")[:2], (0, "OK 0\nOK 1\nuser bob\n"))
         for line in "open root abc", "adduser eve abc":
             status, printed, told = ask(self.address, line)
             self.assertEqual((status, printed), (2, ""))
@@ -106,8 +110,8 @@ class AtADesk(WithFiles):
         self.grant_all()
         self.ask("submit pad PAD @pad.gds", "deck @rules.deck", "place pad p R0 0 0", cwd=self.folder)
         words = "--report", self.file("out.lyrdb"), "--deck", self.file("rules.deck")
-        status, printed, told = self.ask(*words)
-        self.assertEqual((status, printed, told), (1, "", f"mpw-ask: --report {self.file('out.lyrdb')}: REFUSED 43 notfinished\n"))
+        told = f"mpw-ask: --report {self.file('out.lyrdb')}: REFUSED 43 notfinished\n"
+        self.assertEqual(self.ask(*words), (1, "", told))
         self.assertFalse(os.path.exists(self.file("out.lyrdb")))
         self.assertEqual(self.ask("run", "waive w:V:0:0:10:0:100", *words), (0, "OK 1\nrun 1\nOK 0\n", ""))
         report = ElementTree.parse(self.file("out.lyrdb"))
@@ -119,11 +123,13 @@ class AtADesk(WithFiles):
 
     def test_page(self):
         self.grant_all()
-        lines = ["submit pad PAD @pad.gds", "deck @rules.deck", "place pad p R0 0 0", "place pad q R90 5000 0", "unplace pad q", "run"]
+        lines = ["submit pad PAD @pad.gds", "deck @rules.deck", "place pad p R0 0 0", "place pad q R90 5000 0"]
+        lines += ["unplace pad q", "run"]
         self.assertEqual(self.ask(*lines, "--page", "out.html", cwd=self.folder)[0], 0)
         self.assertIn('"placements":["pad p R0 0 0"]', self.read("out.html"))
         with open(self.file("placed.txt"), "w", encoding="ascii") as file:
-            file.write("# of the shuttle\nplace pad a R0 0 0\nplace pad b M90 7 -8\nplace other c R0 0 0\nunplace pad a\n")
+            file.write("# of the shuttle\nplace pad a R0 0 0\nplace pad b M90 7 -8\n")
+            file.write("place other c R0 0 0\nunplace pad a\n")
         self.assertEqual(self.ask("--placements", "placed.txt", "--page", "out.html", cwd=self.folder)[0], 0)
         self.assertIn('"placements":["pad b M90 7 -8","other c R0 0 0"]', self.read("out.html"))
         with open(self.file("placed.txt"), "w", encoding="ascii") as file:
@@ -134,7 +140,8 @@ class AtADesk(WithFiles):
         """A prompt stands on a terminal alone, and a line that isn't one doesn't end the conversation there."""
         ours, its = pty.openpty()
         words = [*PROGRAM, self.address, "--user", OFFICER]
-        process = subprocess.Popen(words, stdin=its, stdout=subprocess.PIPE, stderr=subprocess.PIPE, env=environment(TOKEN))
+        pipe = subprocess.PIPE
+        process = subprocess.Popen(words, stdin=its, stdout=pipe, stderr=pipe, env=environment(TOKEN))
         os.write(ours, b"deck 12\nwhoami\nactivate x\n\x04")
         printed, told = process.communicate(timeout=30)
         os.close(ours)
@@ -147,8 +154,10 @@ class AtADesk(WithFiles):
 
 class Statuses(WithFiles):
     def test_usage(self):
-        for words in (), ("desk",), ("desk:x",), ("desk:70000",), ("desk:1", "--nothing"), ("desk:1", "submit"), ("desk:1", "deck 12"), \
-                ("desk:1", "--role", "x", "cells"), ("desk:1", "cells", "--limit", "x"), ("desk:1", "--us", "x", "cells"):
+        for text in (
+                "", "desk", "desk:x", "desk:70000", "desk:1 --nothing", "desk:1 submit", "desk:1 deck~12",
+                "desk:1 --role x cells", "desk:1 cells --limit x", "desk:1 --us x cells"):
+            words = [word.replace("~", " ") for word in text.split()]
             status, printed, told = ask(*words)
             self.assertEqual((status, printed), (2, ""), words)
             self.assertTrue(told, words)
@@ -188,7 +197,8 @@ class Statuses(WithFiles):
     def test_closed_output(self):
         with listening(StandIn().serve) as port:
             words = f"{' '.join(PROGRAM)} 127.0.0.1:{port} whoami whoami whoami | true; echo ${{PIPESTATUS[0]}}"
-            ended = subprocess.run(["bash", "-c", words], stdout=subprocess.PIPE, stderr=subprocess.PIPE, env=environment())
+            pipe = subprocess.PIPE
+            ended = subprocess.run(["bash", "-c", words], stdout=pipe, stderr=pipe, env=environment())
         self.assertIn(ended.stdout, (b"1\n", b"4\n"))
         self.assertNotIn(b"Traceback", ended.stderr)
 
@@ -196,8 +206,9 @@ class Statuses(WithFiles):
 class Tokens(WithFiles):
     @unittest.skipUnless(os.path.exists("/proc/self/cmdline"), "there is no /proc")
     def test_never_on_a_command_line(self):
-        """While it waits for a reply, neither its own command line nor that of the program that it started has the token."""
-        command = [*PROGRAM, "--user", OFFICER, "--script", f"{sys.executable} -c 'import time; time.sleep(30)'", "cells"]
+        """While it waits, neither its own command line nor what the program that it started was given has the token."""
+        silent = f"{sys.executable} -c 'import time; time.sleep(30)'"
+        command = [*PROGRAM, "--user", OFFICER, "--script", silent, "cells"]
         process = subprocess.Popen(command, env=environment("secret-token"), stderr=subprocess.DEVNULL)
         try:
             seen = b""
@@ -235,7 +246,8 @@ class Script(WithFiles):
     def test_a_trial(self):
         lines = ["activate officer", "grant submit pad officer", "submit pad PAD @pad.gds"]
         for more in (), ("--user", "eve"):
-            self.assertEqual(ask("--script", PIPED, *more, *lines, token=None, cwd=self.folder), (0, "OK 0\nOK 0\nOK 1\nversion 1\n", ""))
+            found = ask("--script", PIPED, *more, *lines, token=None, cwd=self.folder)
+            self.assertEqual(found, (0, "OK 0\nOK 0\nOK 1\nversion 1\n", ""))
         status, printed, told = ask("--script", "/no/such/program", "cells")
         self.assertEqual((status, printed), (3, ""))
 

@@ -7,14 +7,35 @@ import sys
 import tempfile
 import time
 import unittest
+from unittest import mock
 
 import layouts
 import mpw_desk
 from mpw_desk import (
-    Axis, BadWord, Boundary, Cell, Denied, Desk, Key, Lost, Marker, Masked, NotADesk, NotFinished, Operation, Orientation,
-    Path, Refused, Ruling, State, Status, TrailRow, Verdict, Waiver, Whoami, digest_of)
+    Axis, BadWord, Boundary, Cell, Denied, Desk, Key, Lost, Marker, Masked, NotADesk, NotFinished, Operation,
+    Orientation, Path, Refused, Ruling, State, Status, TrailRow, Verdict, Waiver, Whoami, digest_of)
 from stand_in import OFFICER, TOKEN, TOP, StandIn, listening, saying
 
+GRANTS = """
+submit pad pads
+read pad pads
+sign desk pads
+submit chip chips
+read chip chips
+use pad chips
+place chip shuttle
+deck desk shuttle
+run desk shuttle
+read pad shuttle
+read chip shuttle
+waive desk shuttle
+sign desk shuttle
+read pad quality
+read chip quality
+sign desk quality
+verdict desk quality
+audit desk officer
+"""
 SPACE = Key("sp", Axis.V, 0, 10, 20, 0, 100)
 
 
@@ -26,13 +47,8 @@ def filled(desk):
         desk.adduser(user, f"token-of-{user}")
         desk.addrole(role)
         desk.assign(user, role)
-    for operation, about, role in (
-            ("submit", "pad", "pads"), ("read", "pad", "pads"), ("submit", "chip", "chips"), ("read", "chip", "chips"),
-            ("use", "pad", "chips"), ("place", "chip", "shuttle"), ("deck", "desk", "shuttle"), ("run", "desk", "shuttle"),
-            ("read", "pad", "shuttle"), ("read", "chip", "shuttle"), ("waive", "desk", "shuttle"), ("sign", "desk", "shuttle"),
-            ("read", "pad", "quality"), ("read", "chip", "quality"), ("sign", "desk", "quality"), ("verdict", "desk", "quality"),
-            ("sign", "desk", "pads"), ("read", "chip", "officer"), ("audit", "desk", "officer")):
-        desk.grant(operation, about, role)
+    for line in GRANTS.strip().split("\n"):
+        desk.grant(*line.split(" "))
     desk.close()
 
 
@@ -132,7 +148,8 @@ class Requests(WithStandIn):
             self.assertEqual(desk.submit("pad", "PAD", file), 1)
             self.assertEqual(desk.submit("pad", "PAD", layouts.pad()), 2)
             self.assertRaises(FileNotFoundError, desk.submit, "pad", "PAD", os.path.join(folder, "none.gds"))
-        self.assertEqual(self.refused(1, "short", desk.submit, "pad", "PAD", layouts.pad()[:-2]), str(len(layouts.pad()) - 4))
+        place = self.refused(1, "short", desk.submit, "pad", "PAD", layouts.pad()[:-2])
+        self.assertEqual(place, str(len(layouts.pad()) - 4))
         self.refused(20, "notop", desk.submit, "pad", "NONE", layouts.pad())
         self.assertEqual(desk.cells(), [Cell("pad", 2, "ann")])
         box = ((0, 0), (10, 0), (10, 100), (0, 100))
@@ -231,7 +248,8 @@ class Words(unittest.TestCase):
             for call in (
                     lambda: desk.open(word, "abc"), lambda: desk.activate(word), lambda: desk.submit(word, "T", b""),
                     lambda: desk.submit("c", word, b""), lambda: desk.place("c", word, "R0", 0, 0),
-                    lambda: desk.grant("read", word, "r"), lambda: desk.ssd("s", 2, ["r", word]), lambda: desk.waive(word)):
+                    lambda: desk.grant("read", word, "r"), lambda: desk.ssd("s", 2, ["r", word]),
+                    lambda: desk.waive(word)):
                 self.assertRaises(BadWord, call)
         for word in "", "a b", "a\nclose", "x" * 256:
             self.assertRaises(BadWord, desk.open, "ann", word)
@@ -256,9 +274,13 @@ class Words(unittest.TestCase):
         self.nothing_came()
 
     def test_no_error_shows_a_token(self):
-        with self.assertRaises(BadWord) as caught:
-            self.desk.open("ann", "secret token")
-        self.assertNotIn("secret", str(caught.exception))
+        desk = self.desk
+        for call in (
+                lambda: desk.open("ann", "secret token"), lambda: desk.ask("open", "ann", "secret token"),
+                lambda: desk.tell("open ann secret\nclose"), lambda: desk.tell("open ann secret" + "x" * 4096)):
+            with self.assertRaises(BadWord) as caught:
+                call()
+            self.assertNotIn("secret", str(caught.exception))
 
     def nothing_came(self):
         self.its.setblocking(False)
@@ -295,8 +317,9 @@ class OtherEnds(unittest.TestCase):
         self.told(Lost, saying(b"", then=drip))
 
     def test_garbage(self):
-        for text in b"HTTP/1.1 400 Bad Request\r\n", b"\xff\xfe\x00\n", b"OK\n", b"OK -1\n", b"OK 01\n", b"OK 1 2\n", b"\n", b"DENIED\n", \
-                b"DENIED  x\n", b"REFUSED x y\n", b"ok 0\n", b"OK 0\r\n", b"OK 0\x1b[2J\n":
+        for text in (
+                b"HTTP/1.1 400 Bad Request\r\n", b"\xff\xfe\x00\n", b"OK\n", b"OK -1\n", b"OK 01\n", b"OK 1 2\n", b"\n",
+                b"DENIED\n", b"DENIED  x\n", b"REFUSED x y\n", b"ok 0\n", b"OK 0\r\n", b"OK 0\x1b[2J\n"):
             self.assertIn("no desk", self.told(NotADesk, saying(text)))
 
     def test_endless_line(self):
@@ -313,19 +336,28 @@ class OtherEnds(unittest.TestCase):
 
         most, mpw_desk.LARGEST_REPLY = mpw_desk.LARGEST_REPLY, 1 << 20
         try:
-            self.assertIn("more than 1048576 bytes", self.told(NotADesk, saying(b"OK 9999999999\n", then=pour), limit=20))
+            told = self.told(Lost, saying(b"OK 9999999999\n", then=pour), limit=20)
+            self.assertIn("more than 1048576 bytes", told)
         finally:
             mpw_desk.LARGEST_REPLY = most
 
     def test_other_lines_than_the_request_has(self):
-        for call, text in (
-                (Desk.cells, b"OK 1\npad\n"), (Desk.status, b"OK 0\n"), (Desk.status, b"OK 1\ndone 3\n"), (Desk.status, b"OK 1\nidle 3\n"),
-                (Desk.run, b"OK 1\nversion 1\n"), (Desk.verdict, b"OK 2\nclean\nclean\n"), (Desk.verdict, b"OK 1\nopen\n"),
-                (Desk.markers, b"OK 1\nsp:V:0:1:2:3:4\n"), (Desk.markers, b"OK 1\nsp:V:0:1:2:3 pad\n"), (Desk.markers, b"OK 1\nmasked sp\n"),
-                (Desk.waivers, b"OK 1\nsp:V:0:1:2:3:4 asked a b\n"), (Desk.trail, b"OK 1\n1,a,b\n"), (Desk.trail, b'OK 1\n1,"a,b,c,d\n'),
-                (Desk.whoami, b"OK 1\nactive x\n"), (Desk.whoami, b"OK 0\n"), (Desk.close, b"OK 1\nx\n"),
-                (lambda desk: desk.shapes("c"), b"OK 1\nc 1 1/0 boundary 0 0 1\n"), (lambda desk: desk.shapes("c"), b"OK 1\nc 1 1/0 path 2 0\n")):
-            self.told(NotADesk, saying(text), call)
+        def shapes(desk):
+            desk.shapes("c")
+
+        for call, texts in (
+                (Desk.cells, [b"OK 1\npad\n"]),
+                (Desk.status, [b"OK 0\n", b"OK 1\ndone 3\n", b"OK 1\nidle 3\n"]),
+                (Desk.run, [b"OK 1\nversion 1\n"]),
+                (Desk.verdict, [b"OK 2\nclean\nclean\n", b"OK 1\nopen\n"]),
+                (Desk.markers, [b"OK 1\nsp:V:0:1:2:3:4\n", b"OK 1\nsp:V:0:1:2:3 pad\n", b"OK 1\nmasked sp\n"]),
+                (Desk.waivers, [b"OK 1\nsp:V:0:1:2:3:4 asked a b\n"]),
+                (Desk.trail, [b"OK 1\n1,a,b\n", b'OK 1\n1,"a,b,c,d\n']),
+                (Desk.whoami, [b"OK 1\nactive x\n", b"OK 0\n"]),
+                (Desk.close, [b"OK 1\nx\n"]),
+                (shapes, [b"OK 1\nc 1 1/0 boundary 0 0 1\n", b"OK 1\nc 1 1/0 path 2 0\n"])):
+            for text in texts:
+                self.told(NotADesk, saying(text), call)
 
     def test_more_than_was_asked_for(self):
         with listening(saying(b"OK 0\nOK 0\n", b"")) as port, Desk.connect("127.0.0.1", port) as desk:
@@ -337,6 +369,10 @@ class OtherEnds(unittest.TestCase):
             pass
         self.assertRaises(Lost, Desk.connect, "127.0.0.1", port, 2)
         self.assertRaises(Lost, Desk.connect, "no such host", 1, 2)
+        with mock.patch("socket.getaddrinfo", side_effect=lambda *words, **more: time.sleep(2)):
+            begun = time.monotonic()
+            self.assertRaises(Lost, Desk.connect, "slow", 1, .3)
+            self.assertLess(time.monotonic() - begun, 1.8)
         self.assertRaises(Lost, Desk.over, ["/no/such/program"])
 
     def test_refused_before_all_was_taken(self):

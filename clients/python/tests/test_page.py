@@ -16,16 +16,20 @@ from mpw_page import DATA, TEMPLATE, data_of, json_text, page_of
 from stand_in import OFFICER, TOKEN, StandIn, listening
 
 HOSTILE = "</script><img/src=x/onerror=alert(1)>&amp;<!--'\"\\"
+VIEW = "byId('stage').dataset.view.split(' ').map(Number)"
 KEY = "w:V:0:0:10:0:100"
 
 
 def data(**more):
     """The data of a small page: a boundary, a path, two rules with three markers, and masked ones."""
     found = {
-        "made": "", "user": HOSTILE, "status": "finished 2", "deck": ["tile 256", "width w 1/0 11", "space s 1/0 9", "width other 5/0 7"],
+        "made": "", "user": HOSTILE, "status": "finished 2",
+        "deck": ["tile 256", "width w 1/0 11", "space s 1/0 9", "width other 5/0 7"],
         "placements": [f"{HOSTILE} {HOSTILE} R0 0 0"], "cells": [f"{HOSTILE} 1 ann"],
-        "shapes": [[HOSTILE, [f"{HOSTILE} 1 1/0 boundary 0 0 0 100 10 100 10 0", "pad 3 13/0 path 20 5 -10 0 300 200 300 200 500"]]],
-        "markers": [f"{KEY} {HOSTILE} pad", "w:H:0:290:310:0:200 pad", f"{HOSTILE}:V:1:10:10:-50:400 pad", "masked s 3"],
+        "shapes": [[HOSTILE, [
+            f"{HOSTILE} 1 1/0 boundary 0 0 0 100 10 100 10 0", "pad 3 13/0 path 20 5 -10 0 300 200 300 200 500"]]],
+        "markers": [
+            f"{KEY} {HOSTILE} pad", "w:H:0:290:310:0:200 pad", f"{HOSTILE}:V:1:10:10:-50:400 pad", "masked s 3"],
         "waivers": [f"{KEY} signed ann {HOSTILE}", "w:H:0:290:310:0:200 asked ann"]}
     return {**found, **more}
 
@@ -56,7 +60,7 @@ class Filled(unittest.TestCase):
         self.assertEqual(text.count(DATA), 1)
         (script,) = re.findall(r"<script>(.*?)</script>", text, re.DOTALL)
         sum_of_script = base64.b64encode(hashlib.sha256(script.encode()).digest()).decode()
-        self.assertIn(f"script-src 'sha256-{sum_of_script}'", text, "the script was changed: write its sum into the first meta element")
+        self.assertIn(f"script-src 'sha256-{sum_of_script}'", text, "its script was changed: write this sum into it")
         self.assertIsNone(re.search(r"https?:|//[a-z]+\.|@import|url\(", text), "nothing is loaded from elsewhere")
         self.assertIsNone(re.search(r"innerHTML|outerHTML|insertAdjacentHTML|document\.write|eval\(", text))
 
@@ -86,7 +90,8 @@ class Filled(unittest.TestCase):
             self.assertEqual(data_of(desk, ["pad p R0 0 0", "other q R0 0 0"], "tile 256\nwidth w 1/0 11\n", "now"), {
                 "made": "now", "user": "root", "status": "finished 1", "deck": ["tile 256", "width w 1/0 11"],
                 "placements": ["pad p R0 0 0", "other q R0 0 0"], "cells": ["pad 1 root"],
-                "shapes": [["pad", ["pad 1 1/0 boundary 0 0 10 0 10 100 0 100", "pad 1 7/0 path 20 5 -10 0 300 200 300 200 500"]]],
+                "shapes": [["pad", [
+                    "pad 1 1/0 boundary 0 0 10 0 10 100 0 100", "pad 1 7/0 path 20 5 -10 0 300 200 300 200 500"]]],
                 "markers": [f"{KEY} pad"], "waivers": [f"{KEY} asked root"]})
 
 
@@ -123,7 +128,9 @@ class InBrowser(unittest.TestCase):
 
     def settled_view(self):
         """The view once it moves no longer."""
-        self.browser.until("new Promise(done => {const before = byId('stage').dataset.view; setTimeout(() => done(byId('stage').dataset.view === before), 400)})")
+        self.browser.until(
+            "new Promise(done => {const before = byId('stage').dataset.view;"
+            " setTimeout(() => done(byId('stage').dataset.view === before), 400)})")
         return self.view()
 
     def test_list(self):
@@ -137,7 +144,8 @@ class InBrowser(unittest.TestCase):
         self.assertEqual(self.text("#layers .switch .mono"), ["1/0", "13/0"])
         self.assertEqual(self.text("#placements .placement div"), [f"{HOSTILE} \u00b7 {HOSTILE}"])
         self.assertEqual(self.text("img"), [])
-        colours = self.browser.run("[...document.querySelectorAll('.rule .swatch')].map(it => it.style.getPropertyValue('--colour'))")
+        colours = self.browser.run(
+            "[...document.querySelectorAll('.rule .swatch')].map(it => it.style.getPropertyValue('--colour'))")
         self.assertEqual(len(set(colours)), 3)
 
     def test_click_on_a_row_shows_its_marker(self):
@@ -158,13 +166,38 @@ class InBrowser(unittest.TestCase):
     def test_click_on_a_marker_selects_it(self):
         self.show(data())
         self.browser.click(*self.browser.run(
-            "(() => {const box = byId('stage').getBoundingClientRect(), [x, y, scale] = byId('stage').dataset.view.split(' ').map(Number);"
-            " return [box.left + box.width / 2 + (100 - x) * scale, box.top + box.height / 2 - (300 - y) * scale];})()"))
+            f"(() => {{const box = byId('stage').getBoundingClientRect(), [x, y, scale] = {VIEW};"
+            " return [box.left + box.width / 2 + (100 - x) * scale,"
+            " box.top + box.height / 2 - (300 - y) * scale];})()"))
         self.assertEqual(self.text(".marker.selected .mono"), ["H:0:290:310:0:200"])
         self.assertIn("13/0 pad", self.text("#under")[0])
         self.assertRegex(self.text("#at")[0], r"x (99|100|101)  y (299|300|301) nm")
         self.browser.key("Escape")
         self.assertEqual(self.text(".marker.selected"), [])
+        self.is_calm()
+
+    def test_mouse_and_keys_move_the_view(self):
+        self.show(data())
+        x, y, scale = self.view()
+        left, top, width, height = self.browser.run(
+            "(({left, top, width, height}) => [left, top, width, height])(byId('stage').getBoundingClientRect())")
+        middle, corner = (left + width / 2, top + height / 2), (left + width / 4, top + height / 4)
+        self.browser.drag(*middle, middle[0] + 30, middle[1] - 20)
+        for found, wanted in zip(self.settled_view(), (x - 30 / scale, y - 20 / scale, scale)):
+            self.assertAlmostEqual(found, wanted, 6)
+        self.browser.key("f")
+        self.assertEqual(self.settled_view(), [x, y, scale])
+        self.browser.wheel(*corner, -100)
+        after = self.settled_view()
+        self.assertGreater(after[2], scale)
+        self.assertAlmostEqual(after[0] - width / 4 / after[2], x - width / 4 / scale, delta=1 / scale)
+        self.assertAlmostEqual(after[1] + height / 4 / after[2], y + height / 4 / scale, delta=1 / scale)
+        for key, moved in ("ArrowRight", (1, 0)), ("ArrowUp", (0, 1)), ("+", (0, 0)), ("-", (0, 0)):
+            before = self.settled_view()
+            self.browser.key(key)
+            self.browser.until(f"byId('stage').dataset.view !== {json.dumps(' '.join(map(str, before)))}")
+            after = self.settled_view()
+            self.assertEqual([(one > other) - (one < other) for one, other in zip(after, before)][:2], list(moved))
         self.is_calm()
 
     def test_search_and_switches(self):
@@ -174,7 +207,8 @@ class InBrowser(unittest.TestCase):
         self.assertEqual((self.text(".marker .mono"), self.text("#found")), (["H:0:290:310:0:200"], ["1 of 3 markers"]))
         self.browser.run(search % json.dumps("nothing"))
         self.assertEqual(self.text("#list .empty"), ["No marker has all of these words."])
-        self.browser.run(search % '""' + "; byId('state').value = 'signed'; byId('state').dispatchEvent(new Event('change'))")
+        self.browser.run(search % '""')
+        self.browser.run("byId('state').value = 'signed'; byId('state').dispatchEvent(new Event('change'))")
         self.assertEqual(self.text(".marker .mono"), ["V:0:0:10:0:100"])
         self.browser.run("document.querySelector('#layers .switch').click()")
         self.assertEqual(self.text("#layers .off .mono"), ["1/0"])
@@ -200,26 +234,29 @@ class InBrowser(unittest.TestCase):
         self.assertEqual(self.settled_view()[:2], [100, 300])
 
     def test_no_run_and_nothing_to_see(self):
-        self.show(data(status="checking 2 1 4", markers=[], waivers=[], deck=[""]))
+        self.show(data(status="checking 2 1 4", markers=[], waivers=[], deck=[]))
         self.assertEqual(self.text("#list .empty"), ["Markers are told when a run is finished."])
-        self.show(data(markers=[], waivers=[], shapes=[], cells=[], placements=[], deck=[""]))
+        self.show(data(markers=[], waivers=[], shapes=[], cells=[], placements=[], deck=[]))
         self.assertEqual(self.text("#missing"), ["This session sees no shapes and no markers."])
 
     def test_without_placements(self):
-        inner = [["chip", ["chip 1 1/0 boundary 0 0 9 0 9 9 0 9", "pad 1 1/0 boundary 20 0 29 0 29 9 20 9"]], ["pad", ["pad 1 1/0 boundary 0 0 9 0 9 9 0 9"]]]
-        self.show(data(placements=[], shapes=inner))
+        chip = ["chip 1 1/0 boundary 0 0 9 0 9 9 0 9", "pad 1 1/0 boundary 20 0 29 0 29 9 20 9"]
+        self.show(data(placements=[], shapes=[["chip", chip], ["pad", ["pad 1 1/0 boundary 0 0 9 0 9 9 0 9"]]]))
         self.assertFalse(self.browser.run("byId('unplaced').hidden"))
         self.assertEqual(self.text("#placements .off .placement div"), ["pad"])
         self.assertEqual(self.browser.run("byId('stage').dataset.drawn"), "2")
 
     def test_pixels(self):
-        """The hole to which a slit leads stays open, and a path has its lengthenings; both are turned with their placement."""
+        """The hole to which a slit leads stays open, and a path has its lengthenings; a placement turns both."""
         ring = "c 1 1/0 boundary 0 0 400 0 400 400 0 400 0 100 100 100 100 300 300 300 300 100 100 100 0 100"
         path = "c 1 2/0 path 20 30 -40 600 0 700 0"
-        self.show(data(placements=["c p R90 0 0"], cells=["c 1 ann"], shapes=[["c", [ring, path]]], markers=[], waivers=[]))
+        shapes = [["c", [ring, path]]]
+        self.show(data(placements=["c p R90 0 0"], cells=["c 1 ann"], shapes=shapes, markers=[], waivers=[]))
         script = (
-            "(points => {const [x, y, scale] = byId('stage').dataset.view.split(' ').map(Number), canvas = byId('shapes'), pen = canvas.getContext('2d');"
-            " return points.map(([px, py]) => [...pen.getImageData((px - x) * scale + canvas.width / 2 | 0, (y - py) * scale + canvas.height / 2 | 0, 1, 1).data].join())})")
+            f"(points => {{const [x, y, scale] = {VIEW}, canvas = byId('shapes'), pen = canvas.getContext('2d');"
+            " const pixel = (px, py) => pen.getImageData("
+            "(px - x) * scale + canvas.width / 2 | 0, (y - py) * scale + canvas.height / 2 | 0, 1, 1);"
+            " return points.map(point => [...pixel(...point).data].join())})")
         inside, hole, outside, begin, end, gap = self.browser.run(
             f"({script})([[-50, 205], [-205, 195], [-205, -77], [3, 580], [3, 655], [3, 667]])")
         self.assertEqual(hole, outside)
@@ -236,7 +273,8 @@ class InBrowser(unittest.TestCase):
             lines.append(f"c 1 {at % 7 + 1}/0 boundary {x} {y} {x + 120} {y} {x + 120} {y + 90} {x} {y + 90}")
             if at % 10 == 0:
                 markers.append(f"rule{at % 130 // 10}:V:0:{x}:{x + 40}:{y}:{y + 90} c")
-        self.show(data(placements=["c p R0 0 0"], cells=["c 1 ann"], shapes=[["c", lines]], markers=markers, waivers=[], deck=[""]), 60)
+        shown = data(placements=["c p R0 0 0"], cells=["c 1 ann"], shapes=[["c", lines]], markers=markers, waivers=[])
+        self.show({**shown, "deck": []}, 60)
         self.assertEqual(self.browser.run("byId('list').dataset.found"), str(len(markers)))
         self.assertEqual(self.browser.run("byId('stage').dataset.drawn"), str(side * side))
         self.assertLess(int(self.browser.run("byId('stage').dataset.milliseconds")), 10000)

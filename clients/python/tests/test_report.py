@@ -36,7 +36,8 @@ class Report(unittest.TestCase):
         waivers = [Waiver(KEYS[0], "ann", None), Waiver(KEYS[1], HOSTILE, "dora")]
         report = ElementTree.fromstring(report_of(markers, waivers, top=HOSTILE))
         self.assertEqual([it.text for it in report.findall("categories/category/name")], ["w", HOSTILE, "other"])
-        self.assertEqual([it.text for it in report.findall("tags/tag/name")], ["asked by ann", "waived", f"asked by {HOSTILE}", "signed by dora"])
+        names = ["asked by ann", "waived", f"asked by {HOSTILE}", "signed by dora"]
+        self.assertEqual([it.text for it in report.findall("tags/tag/name")], names)
         self.assertEqual({it.text for it in report.iter("cell") if len(it) == 0}, {HOSTILE})
         quoted = "'" + HOSTILE.replace("\\", "\\\\").replace("'", "\\'") + "'"
         self.assertEqual([it.text for it in report.findall("items/item/category")], ["'w'", quoted])
@@ -54,7 +55,8 @@ class Report(unittest.TestCase):
                 file.write("d = RBA::ReportDatabase.new('r')\nd.load($r)\n"
                            "d.each_item { |i| puts [d.category_by_id(i.category_id).name, i.tags_str].join(' ') }\n")
             words = ["klayout", "-b", "-zz", "-r", script, "-rd", f"r={report}"]
-            told = subprocess.run(words, stdout=subprocess.PIPE, env={**os.environ, "QT_QPA_PLATFORM": "offscreen"}, check=True).stdout.decode()
+            offscreen = {**os.environ, "QT_QPA_PLATFORM": "offscreen"}
+            told = subprocess.run(words, stdout=subprocess.PIPE, env=offscreen, check=True).stdout.decode()
         quoted = HOSTILE.replace("\\", "\\\\").replace("'", "\\'")
         self.assertEqual(told.splitlines(), ["w ", f"{HOSTILE} waived,'asked by {quoted}','signed by dora'"])
 
