@@ -149,6 +149,7 @@ class AtADesk(WithFiles):
         self.assertEqual(printed.decode(), "OK 2\nuser root\nauthorized officer\nDENIED permission activate x\n")
         self.assertEqual(told.decode().count("mpw> "), 4)
         self.assertIn("mpw-ask: deck 12: name the file", told.decode())
+        self.assertIn("mpw-ask: line 3: activate x: DENIED", told.decode())
         self.assertEqual(process.returncode, 1)
 
 
