@@ -326,6 +326,23 @@ def line_bytes(line):
     return data
 
 
+def check_payload(line, payload):
+    """Refuses a payload where the desk wouldn't take it, or a line that would take the lines behind it for its payload.
+
+    A line of another form takes none, and the desk then reads the payload as lines: what is in it would be asked."""
+    verb, *words = line.split(" ")
+    if payload is None:
+        if verb in ("submit", "deck"):
+            raise BadWord(f"{shortened(line)}: its payload is missing")
+        return
+    if (verb, len(words)) not in (("submit", 2), ("deck", 0)):
+        raise BadWord(f"{shortened(line)}: only 'submit CELL TOP' and 'deck' have a payload")
+    for word in words:
+        name(word)
+    if len(payload) > LARGEST_PAYLOAD:
+        raise BadWord(f"{shortened(line)}: a payload has at most {LARGEST_PAYLOAD} bytes")
+
+
 def library_bytes(library):
     """The bytes of a library, which is given by its path or as such."""
     if isinstance(library, (bytes, bytearray, memoryview)):
@@ -628,13 +645,9 @@ class Desk:
     # Asking.
 
     def tell(self, line: str, payload: Optional[bytes] = None, limit: Optional[float] = None) -> Reply:
-        """Sends a line as it is; one with a payload with its length, and then the payload. The reply as it came.
-
-        A `submit` or `deck` without its payload isn't sent: the desk would take the next lines for it."""
-        if payload is None and line.split(" ")[0] in ("submit", "deck"):
-            raise BadWord(f"{shortened(line)}: its payload is missing")
-        if payload is not None and len(payload) > LARGEST_PAYLOAD:
-            raise BadWord(f"{shortened(line)}: a payload has at most {LARGEST_PAYLOAD} bytes")
+        """Sends a line as it is; `submit CELL TOP` and `deck` with their payload's length, and then the payload. The
+        reply as it came."""
+        check_payload(line, payload)
         data = line_bytes(line if payload is None else f"{line} {len(payload)}") + b"\n" + (payload or b"")
         if self.gone is not None:
             raise Lost(str(self.gone))

@@ -86,6 +86,7 @@ class AtADesk(WithFiles):
         status, printed, told = self.ask(f"submit pad PAD @{self.file('rules.deck')}")
         self.assertEqual((status, printed), (1, "REFUSED 2 badlength 0\n"))
         self.assertIn("submit pad PAD @", told)
+        self.assertEqual(self.ask("submit pa\td PAD @pad.gds", cwd=self.folder)[:2], (2, ""))
         status, printed, told = self.ask("cells", "submit pad PAD @none.gds", "cells")
         self.assertEqual((status, printed), (4, "OK 1\npad 1 root\n"))
         self.assertIn("none.gds", told)

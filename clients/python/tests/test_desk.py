@@ -265,6 +265,9 @@ class Words(unittest.TestCase):
         self.assertRaises(ValueError, desk.place, "c", "l", "R45", 0, 0)
         self.assertRaises(TypeError, desk.place, "c", "l", "R0", 0.5, 0)
         self.assertRaises(BadWord, desk.submit, "c", "t", bytes((1 << 24) + 1))
+        for line in (
+                "submit c", "submit c t 4", "submit c\tt t", "submit - t", "submit  t", "deck 4", "cells", "deck ", " deck"):
+            self.assertRaises(BadWord, desk.tell, line, b"OK 0\nclose\n")
         self.assertRaises(BadWord, desk.tell, "submit c t 4")
         self.assertRaises(BadWord, desk.tell, "deck 4")
         self.assertRaises(BadWord, desk.tell, "cells\nclose")
