@@ -319,6 +319,15 @@ class OtherEnds(unittest.TestCase):
 
         self.told(Lost, saying(b"", then=drip))
 
+    def test_in_pieces(self):
+        def piecemeal(end):
+            for byte in b"OK 2\nchip 3 bob\npad 1 ann\n":
+                end.sendall(bytes([byte]))
+                time.sleep(.002)
+
+        with listening(saying(b"", then=piecemeal)) as port, Desk.connect("127.0.0.1", port) as desk:
+            self.assertEqual(desk.cells(), [Cell("chip", 3, "bob"), Cell("pad", 1, "ann")])
+
     def test_garbage(self):
         for text in (
                 b"HTTP/1.1 400 Bad Request\r\n", b"\xff\xfe\x00\n", b"OK\n", b"OK -1\n", b"OK 01\n", b"OK 1 2\n", b"\n",
