@@ -1,20 +1,21 @@
--- What a parse found, by name.
-use Rattle.std.proofs.Common.{rules, ◌≡◌, ◌∙◌, inl, inr, sym, subst, ℕ, length, codes, Bool, true, false, List, [], ◌∷◌, Option, Some, None, refl, ap, map, find, option_map, option_and_then, Result, Ok, Err, slice_get, if◌then◌else◌}
-use Rattle.std.specs.Prelude.{IfErr}
+-- What a parse found, by name, and what gives no settings.
+use Rattle.std.proofs.Common.{◌≡◌, ◌∙◌, inl, inr, sym, subst, ℕ, length, codes, Bool, true, false, List, [], ◌∷◌, Option, Some, None, refl, ap, map, find, option_map, option_and_then, Result, Ok, Err, slice_get, if◌then◌else◌}
+use Rattle.std.specs.Prelude.{◌≢◌, IfErr}
+use Rattle.std.specs.Result.{IsErrAnd}
 use Rattle.std.specs.Str.{bytes_eq}
-use Rattle.clap.specs.declared.parser.matches.Found.{Found}
-use Rattle.clap.specs.Words.{Text, first_of, first_value, rows_of}
-use Rattle.clap.specs.Walk.{row_of}
-use Rattle.clap.specs.Facts.{Entry}
 use Rattle.std.specs.Borrow.{Bor}
-use Rattle.clap.specs.Words.{HasKind, Row, kind_of}
 use Rattle.clap.specs.declared.error.Error.{Error}
-use Rattle.clap.specs.declared.error.kind.ErrorKind.TheVariants.{OutOfMemory}
-use Rattle.mpw_geom.specs.Name.{IsName}
+use Rattle.clap.specs.declared.error.kind.ErrorKind.TheVariants.{DisplayHelp, OutOfMemory}
+use Rattle.clap.specs.declared.parser.matches.Found.{Found}
+use Rattle.clap.specs.Facts.{Entry}
+use Rattle.clap.specs.Walk.{row_of}
+use Rattle.clap.specs.Words.{HasKind, IsAmong, Kinds, Row, Text, fault_of, first_of, first_value, kind_of, rows_of, subcommand_of}
 use Rattle.mpw_requests.specs.Digest.{Spells}
-use Rattle.mpw_settings.specs.Settings.{GiveNoOptions, IsFaultOf}
+use Rattle.mpw_settings.specs.Forms.{program_app}
+use Rattle.mpw_settings.specs.Settings.{AreGiven, AreOf, GiveNone, GivesNone, GivesOfficer, IsFaultOf}
 use Rattle.mpw_settings.specs.declared.fault.SettingsFault.{SettingsFault}
-use Rattle.mpw_settings.specs.declared.settings.Settings.TheVariants.{Script}
+use Rattle.mpw_settings.specs.declared.settings.Settings.{Settings}
+use Rattle.mpw_settings.specs.declared.settings.Settings.TheVariants.{Script, Serve, Help}
 
 find-map : {X Y : Type 0} (f : X → Y) (p : Y → Bool) (xs : List X)
     → find p (map f xs) ≡ option_map f (find (λ x. p (f x)) xs)
@@ -44,25 +45,15 @@ first_is_value f id = ap (option_and_then (λ r. slice_get r.values 0))
 same-text : (a b : Text) → Some a ≡ Some b → a ≡ b
 same-text a b e = cc
 
--- options that give no settings
-pub no-officer : (rows : List Row) → first_of (codes "officer") rows ≡ None → GiveNoOptions rows
-no-officer rows none (Script officer digest) given =
-    let e : None ≡ Some officer = sym none ∙ given.0 in cc
+-- ---- refusals
 
-pub no-digits : (rows : List Row) → first_of (codes "digest") rows ≡ None → GiveNoOptions rows
-no-digits rows none (Script officer digest) given =
-    let e : None ≡ Some given.2.0 = sym none ∙ given.2.1 in cc
-
-pub bad-officer : (rows : List Row) (text : Text) → first_of (codes "officer") rows ≡ Some text
-    → (IsName text → ⊥) → GiveNoOptions rows
-bad-officer rows text found bad (Script officer digest) given =
-    bad (subst IsName (same-text officer text (sym given.0 ∙ found)) given.1)
-
+-- digits that spell no digest
 pub bad-digits : (rows : List Row) (text : Text) → first_of (codes "digest") rows ≡ Some text
-    → ((digest : List ℕ) → Spells text digest → length digest ≡ 32 → ⊥) → GiveNoOptions rows
-bad-digits rows text found bad (Script officer digest) given =
-    bad digest (subst (λ t. Spells t digest) (same-text given.2.0 text (sym given.2.1 ∙ found))
-    given.2.2) given.3
+    → ((digest : List ℕ) → Spells text digest → length digest ≡ 32 → ⊥) → GivesNone
+    (GivesOfficer rows)
+bad-digits rows text found bad officer given =
+    bad officer.digest (subst (λ t. Spells t officer.digest)
+    (same-text given.2.0 text (sym given.2.1 ∙ found)) given.2.2) given.3
 
 pub told-more : (first second : Type 0) (fault : SettingsFault) → (first → second)
     → IsFaultOf first fault → IsFaultOf second fault
@@ -74,7 +65,51 @@ pub refused-more : {X : Type 0} (result : Result X SettingsFault) (first second 
 refused-more (Ok x) first second more told = tt
 refused-more (Err fault) first second more told = told-more first second fault more told
 
--- no kind of error is left but want of memory
-pub no-kind : (error : Error) → (kind_of error ≡ OutOfMemory → ⊥) → HasKind [] error → ⊥
-no-kind error other (inl memory) = other memory
-no-kind error other (inr never) = never
+-- what is refused is passed on
+pub passed-on : {X : Type 0} (result : Result X SettingsFault) (fault : SettingsFault)
+    (first second : Type 0) → IsErrAnd result (λ told. told ≡ fault) → (first → second)
+    → IsFaultOf first fault → IfErr result (IsFaultOf second)
+passed-on (Ok x) fault first second is more told = tt
+passed-on (Err told) fault first second is more of =
+    subst (IsFaultOf second) (sym is) (told-more first second fault more of)
+
+-- ---- the whole command line
+
+-- the settings of the subcommand that the words name
+pub given-of : (words : List Text) (settings : Settings) (named : Option (Text × List Row))
+    → fault_of program_app words ≡ [] → named ≡ subcommand_of program_app words
+    → AreOf named settings → AreGiven settings words
+given-of words (Script officer) named taken is of =
+    (taken, subst (λ n. AreOf n (Script officer)) is of)
+given-of words (Serve service) named taken is of =
+    (taken, subst (λ n. AreOf n (Serve service)) is of)
+given-of words (Help text) named taken is of = absurd of
+
+pub none-of : (words : List Text) (named : Option (Text × List Row))
+    → fault_of program_app words ≡ [] → named ≡ subcommand_of program_app words
+    → GivesNone (AreOf named) → GiveNone words
+none-of words named taken is none = record {
+  unset = λ _. subst (λ n. GivesNone (AreOf n)) is none;
+  unhelped = λ help. let e : [] ≡ DisplayHelp ∷ [] = sym taken ∙ help in cc;
+}
+
+-- an error of help is among the kinds
+pub help-among : (kinds : Kinds) (error : Error) → kind_of error ≡ DisplayHelp
+    → HasKind kinds error → IsAmong DisplayHelp kinds
+help-among kinds error is (inl memory) =
+    let e : DisplayHelp ≡ OutOfMemory = sym is ∙ memory in cc
+help-among kinds error is (inr among) = subst (λ k. IsAmong k kinds) is among
+
+-- another error comes of words that give no settings and don't ask for help alone
+pub other-none : (words : List Text) (error : Error)
+    → (kind_of error ≢ OutOfMemory) × (kind_of error ≢ DisplayHelp)
+    → HasKind (fault_of program_app words) error → GiveNone words
+other-none words error other (inl memory) = absurd (other.0 memory)
+other-none words error other (inr among) = record {
+  unset = λ taken. absurd (subst (IsAmong (kind_of error)) taken among);
+  unhelped = λ help. alone (subst (IsAmong (kind_of error)) help among);
+}
+  where
+    alone : IsAmong (kind_of error) (DisplayHelp ∷ []) → ⊥
+    alone (inl is) = other.1 is
+    alone (inr never) = never

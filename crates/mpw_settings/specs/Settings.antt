@@ -1,51 +1,85 @@
--- The command line `mpw script --officer NAME --digest HEX`, as a simple command of `clap`, and what it gives.
-use Rattle.std.specs.Prelude.{◌≡◌, ◌⊎◌, List, [], codes, length, Some, true}
-use Rattle.clap.specs.declared.builder.action.ArgAction.TheVariants.{Set}
-use Rattle.clap.specs.Words.{App, Row, Rule, Text, fault_of, first_of, new_app, new_rule, subcommand_of, with_rule, with_subcommand}
-use Rattle.mpw_requests.specs.Digest.{Spells}
+-- What the words of a command line give.
+use Rattle.std.specs.Prelude.{◌≡◌, ◌≢◌, ◌⊎◌, ◌↔◌, ℕ, Bool, IsTrue, List, [], ◌∷◌, codes, length, Option, None, Some}
+use Rattle.std.specs.String.{string_bytes}
+use Rattle.clap.specs.declared.error.kind.ErrorKind.TheVariants.{DisplayHelp}
+use Rattle.clap.specs.Words.{IsAmong, Row, Text, fault_of, first_of, subcommand_of}
 use Rattle.mpw_geom.specs.Name.{IsName}
+use Rattle.mpw_requests.specs.Digest.{Spells}
+use Rattle.mpw_text.specs.Text.{number_of}
+use Rattle.mpw_settings.specs.Forms.{program_app}
 use Rattle.mpw_settings.specs.declared.fault.SettingsFault.{SettingsFault}
 use Rattle.mpw_settings.specs.declared.fault.SettingsFault.TheVariants.{Memory}
+use Rattle.mpw_settings.specs.declared.officer.Officer.{Officer}
+use Rattle.mpw_settings.specs.declared.service.Log.{Log}
+use Rattle.mpw_settings.specs.declared.service.Log.TheVariants.{Nowhere, StandardError, File}
+use Rattle.mpw_settings.specs.declared.service.Service.{Service}
 use Rattle.mpw_settings.specs.declared.settings.Settings.{Settings}
-use Rattle.mpw_settings.specs.declared.settings.Settings.TheVariants.{Script}
+use Rattle.mpw_settings.specs.declared.settings.Settings.TheVariants.{Script, Serve, Help}
 
--- an option that has to be given, with one value
-abbrev pub required_option : Text → Rule
-required_option name =
-    record (new_rule name) { long = Some name; value_names = 1; required = true; action = Some Set }
+-- ---- what the row of an option gives
 
-abbrev pub script_app : App
-script_app = with_rule (with_rule (new_app (codes "script")) (required_option (codes "officer")))
-    (required_option (codes "digest"))
+-- its value is the text
+abbrev pub Gives : Text → List Row → Text → Type 0
+Gives name rows text = first_of name rows ≡ Some text
 
-abbrev pub top_app : App
-top_app = let new = new_app (codes "mpw") in
-    record new { top = record new.top { subcommand_required = true } }
+-- its value spells the number, which lies from least to most, decimal without a sign or a leading zero
+abbrev pub GivesNumber : Text → ℕ → ℕ → List Row → ℕ → Type 0
+GivesNumber name least most rows number =
+    (text : Text) × Gives name rows text × (number_of least most text ≡ Some number)
 
--- the command line's form
-unfoldable pub program_app : App
-program_app = with_subcommand top_app script_app.top
+-- the flag is set
+abbrev pub GivesFlag : Text → List Row → Bool → Type 0
+GivesFlag name rows is_set = IsTrue is_set ↔ Gives name rows (codes "true")
 
--- the options give the officer's name, and digits that spell the digest, of 32 bytes
-abbrev pub AreOptions : Settings → List Row → Type 0
-AreOptions (Script officer digest) rows =
-    (first_of (codes "officer") rows ≡ Some officer) × IsName officer
-    × ((digits : Text) × (first_of (codes "digest") rows ≡ Some digits) × Spells digits digest)
-    × (length digest ≡ 32)
+-- the officer's name, and digits that spell the digest, of 32 bytes
+abbrev pub GivesOfficer : List Row → Officer → Type 0
+GivesOfficer rows officer =
+    Gives (codes "officer") rows officer.name × IsName officer.name
+    × ((digits : Text) × Gives (codes "digest") rows digits × Spells digits officer.digest)
+    × (length officer.digest ≡ 32)
 
--- the words have the form, they name the subcommand, and they give its options
+-- nowhere without one, to the standard error at `-`, and else to the file of that name
+abbrev pub GivesLog : List Row → Log → Type 0
+GivesLog rows Nowhere = first_of (codes "log") rows ≡ None
+GivesLog rows StandardError = Gives (codes "log") rows (codes "-")
+GivesLog rows (File file) =
+    Gives (codes "log") rows (string_bytes file) × (string_bytes file ≢ codes "-")
+
+pub record GivesService (rows : List Row) (service : Service) : Type 0 where
+  pub listen : Gives (codes "listen") rows (string_bytes service.listen)
+  pub connections : GivesNumber (codes "connections") 1 64 rows service.connections
+  pub workers : GivesNumber (codes "workers") 1 16 rows service.workers
+  pub ongoing : GivesFlag (codes "ongoing") rows service.is_ongoing
+  pub idle : GivesNumber (codes "idle") 1 86400 rows service.idle
+  pub log : GivesLog rows service.log
+  pub officer : GivesOfficer rows service.officer
+
+-- nothing is given
+abbrev pub GivesNone : {X : Type 0} → (X → Type 0) → Type 0
+GivesNone {X} Given = (x : X) → Given x → ⊥
+
+-- ---- what the words give
+
+-- the subcommand is named, and its rows give the settings
+abbrev pub AreOf : Option (Text × List Row) → Settings → Type 0
+AreOf named (Script officer) =
+    (rows : List Row) × (named ≡ Some (codes "script", rows)) × GivesOfficer rows officer
+AreOf named (Serve service) =
+    (rows : List Row) × (named ≡ Some (codes "serve", rows)) × GivesService rows service
+AreOf named (Help text) = ⊥
+
+-- the words have the form, they name a subcommand, and its rows give the settings; or they ask for help
 abbrev pub AreGiven : Settings → List Text → Type 0
-AreGiven settings words =
-    (fault_of program_app words ≡ [])
-    × ((rows : List Row) × (subcommand_of program_app words ≡ Some (codes "script", rows))
-    × AreOptions settings rows)
+AreGiven (Script officer) words =
+    (fault_of program_app words ≡ []) × AreOf (subcommand_of program_app words) (Script officer)
+AreGiven (Serve service) words =
+    (fault_of program_app words ≡ []) × AreOf (subcommand_of program_app words) (Serve service)
+AreGiven (Help text) words = IsAmong DisplayHelp (fault_of program_app words)
 
--- the options, or the words, give no settings
-abbrev pub GiveNoOptions : List Row → Type 0
-GiveNoOptions rows = (settings : Settings) → AreOptions settings rows → ⊥
-
-abbrev pub GiveNone : List Text → Type 0
-GiveNone words = (settings : Settings) → AreGiven settings words → ⊥
+-- the words have another form, or their subcommand gives no settings; and help isn't all that is told of them
+pub record GiveNone (words : List Text) : Type 0 where
+  pub unset : fault_of program_app words ≡ [] → GivesNone (AreOf (subcommand_of program_app words))
+  pub unhelped : fault_of program_app words ≢ DisplayHelp ∷ []
 
 -- a fault is want of memory, or tells what is so
 abbrev pub IsFaultOf : Type 0 → SettingsFault → Type 0

@@ -1,8 +1,16 @@
-//! The command line of the desk's program, `mpw script --officer NAME --digest HEX`, and the settings that it gives.
+//! The command line of the desk's program, `mpw script ..` or `mpw serve ..`, and the settings that it gives.
+//!
+//! [`read_settings`] reads the words by `clap`; each option's value is then that of its row of what `clap` found. An option that
+//! both subcommands have is read once, in `officer`.
 #![tactic(auto)]
 
 mod fault;
+mod officer;
+mod options;
+mod service;
 mod settings;
 
 pub use fault::SettingsFault;
+pub use officer::Officer;
+pub use service::{Log, MAX_CONNECTIONS, MAX_IDLE, MAX_WORKERS, Service};
 pub use settings::{Settings, read_settings};

@@ -1,115 +1,76 @@
 //! The command line.
-ghost use Rattle.std.specs.Prelude.{◌≡◌, IfOk, IfErr, map, codes, false, List, Some};
-ghost use Rattle.mpw_geom.specs.Name.{IsName};
-ghost use Rattle.clap.specs.Words.{Row, app_of, found_of, rows_of, rule_of, subcommand_rows_of};
-ghost use Rattle.clap.specs.declared.builder.command.Command.TheViews.{out-Command as fields_of};
-ghost use Rattle.mpw_settings.specs.Settings.{AreGiven, AreOptions, GiveNone, GiveNoOptions, IsFaultOf, required_option, script_app, program_app};
+ghost use Rattle.std.specs.Prelude.{◌≡◌, ◌≢◌, IfOk, IfErr, map};
+ghost use Rattle.clap.specs.Words.{app_of, kind_of, subcommand_rows_of};
+ghost use Rattle.mpw_settings.specs.Forms.{HasForm, program_app, script_app};
+ghost use Rattle.mpw_settings.specs.Settings.{AreGiven, AreOf, GiveNone, GivesNone, IsFaultOf};
 
 use crate::fault::SettingsFault;
+use crate::officer::{Officer, read_officer, with_officer};
+use crate::options::{new_command, usage};
+use crate::service::{Service, read_service, serve_command};
 use clap::error::ErrorKind;
-use clap::{Arg, ArgAction, ArgMatches, Command};
-use mpw_geom::{Name, NameFault};
-use mpw_requests::{Digest, read_digest};
+use clap::{ArgMatches, Command, Error};
 use std::alloc::{AllocError, Global};
 
 /// What the command line asks for.
 #[derive(Drop)]
 pub enum Settings {
-    /// Serve the standard input to the standard output, with a desk of this officer and its token's digest.
-    Script { officer: Name, digest: Digest },
-}
-
-/// An option that has to be given, with one value.
-fn required_option<'a>(alloc: Global, name: &'a str, value: &'a str, help: &'a str) -> Arg<'a>
-    ensures rule { rule_of result ≡ required_option name.entry.now }
-    ensures local { result.global ≡ false }
-{
-    Arg::new(alloc, name)
-        .long(name)
-        .value_name(value)
-        .required(true)
-        .action(ArgAction::Set)
-        .help(help)
+    /// Serve the standard input to the standard output, with a new desk of this officer.
+    Script(Officer),
+    /// Serve connections that share a desk.
+    Serve(Service),
+    /// Print this help.
+    Help(String),
 }
 
 /// The subcommand `script`.
 fn script_command<'a>(alloc: Global) -> Result<Command<'a>, AllocError>
-    ensures app { IfOk result (λ command. app_of command ≡ script_app) }
-    ensures local { IfOk result (λ command. (fields_of command).has_globals ≡ false) }
+    ensures { IfOk result (HasForm script_app) }
 {
-    let officer = required_option(alloc, "officer", "NAME", "The first user's name");
-    let digest = required_option(
-        alloc,
-        "digest",
-        "HEX",
-        "The SHA-256 of the first user's token, 64 hexadecimal digits",
-    );
-    Command::new(alloc, "script")
-        .about("Serves the lines of the standard input")
-        .arg(officer)?
-        .arg(digest)
+    let command = new_command(alloc, "script", "Serves the lines of the standard input");
+    with_officer(alloc, command)
 }
 
 /// The command line's form.
-#[tactic(auto, unfolding(crate::specs::Settings::program_app))]
+#[tactic(auto, unfolding(crate::specs::Forms::program_app))]
 fn program_command<'a>(alloc: Global) -> Result<Command<'a>, AllocError>
     ensures { IfOk result (λ command. app_of command ≡ program_app) }
 {
     Command::new(alloc, "mpw")
         .about("The sign-off desk of a multi-project wafer run")
         .subcommand_required(true)
-        .subcommand(script_command(alloc)?)
-}
-
-/// A fault of the command line, with its text.
-fn usage(alloc: Global, text: &str) -> SettingsFault {
-    match String::from_str(alloc, text) {
-        Ok(text) => SettingsFault::Usage(text),
-        Err(_) => SettingsFault::Memory,
-    }
-}
-
-/// The officer's name that a text is.
-fn read_officer(alloc: Global, text: &str) -> Result<Name, SettingsFault>
-    ensures ok { IfOk result (λ name. (name ≡ text.now) × IsName name) }
-    ensures refused { IfErr result (IsFaultOf (IsName text.now → ⊥)) }
-{
-    match Name::read(alloc, text.as_bytes()) {
-        Ok(officer) => Ok(officer),
-        Err(NameFault::BadName) => Err(usage(
-            alloc,
-            "error: --officer takes a name of 1 to 255 visible ASCII characters",
-        )),
-        Err(NameFault::Memory) => Err(SettingsFault::Memory),
-    }
-}
-
-/// The settings that the options of `script` give.
-fn script_settings(alloc: Global, options: &ArgMatches<'_>) -> Result<Settings, SettingsFault>
-    ensures ok { IfOk result (λ settings. AreOptions settings (rows_of (found_of options.now))) }
-    ensures refused { IfErr result (IsFaultOf (GiveNoOptions (rows_of (found_of options.now)))) }
-{
-    let Some(officer) = options.get_str("officer") else {
-        return Err(usage(alloc, "error: --officer has to be given"));
-    };
-    let Some(digits) = options.get_str("digest") else {
-        return Err(usage(alloc, "error: --digest has to be given"));
-    };
-    let officer = read_officer(alloc, officer)?;
-    match read_digest(digits) {
-        Some(digest) => Ok(Settings::Script { officer, digest }),
-        None => Err(usage(alloc, "error: --digest takes 64 hexadecimal digits")),
-    }
+        .subcommand(script_command(alloc)?)?
+        .subcommand(serve_command(alloc)?)
 }
 
 /// The settings of the subcommand that the words name.
 fn settings_of(alloc: Global, matches: &ArgMatches<'_>) -> Result<Settings, SettingsFault>
-    ensures ok { IfOk result (λ settings. (rows : List Row) × (subcommand_rows_of matches.now ≡ Some (codes "script", rows)) × AreOptions settings rows) }
-    ensures refused { IfErr result (IsFaultOf ((rows : List Row) → subcommand_rows_of matches.now ≡ Some (codes "script", rows) → GiveNoOptions rows)) }
+    ensures ok { IfOk result (AreOf (subcommand_rows_of matches.now)) }
+    ensures refused { IfErr result (IsFaultOf (GivesNone (AreOf (subcommand_rows_of matches.now)))) }
 {
     match matches.subcommand() {
-        Some((name, options)) if name == "script" => script_settings(alloc, options),
-        _ => Err(usage(alloc, "error: a subcommand has to be given: script")),
+        Some((name, options)) if name == "script" => Ok(Settings::Script(read_officer(
+            alloc, options,
+        )?)),
+        Some((name, options)) if name == "serve" => Ok(Settings::Serve(read_service(
+            alloc, options,
+        )?)),
+        _ => Err(usage(String::from_str(
+            alloc,
+            "error: a subcommand has to be given: script or serve",
+        ))),
+    }
+}
+
+/// The help that `clap` tells as an error.
+fn help_of(alloc: Global, error: &Error) -> Result<String, SettingsFault>
+    ensures ok { IfOk result (λ _. kind_of error.now ≡ ErrorKind.DisplayHelp) }
+    ensures refused { IfErr result (IsFaultOf ((kind_of error.now ≢ ErrorKind.OutOfMemory) × (kind_of error.now ≢ ErrorKind.DisplayHelp))) }
+{
+    match error.kind() {
+        ErrorKind::OutOfMemory => Err(SettingsFault::Memory),
+        ErrorKind::DisplayHelp => Ok(error.to_string(alloc)?),
+        _ => Err(SettingsFault::Usage(error.to_string(alloc)?)),
     }
 }
 
@@ -123,7 +84,6 @@ pub fn read_settings<'a>(alloc: Global, words: &'a [&'a str]) -> Result<Settings
 {
     match program_command(alloc)?.try_get_matches_from(words) {
         Ok(matches) => settings_of(alloc, &matches),
-        Err(error) if error.kind() == ErrorKind::OutOfMemory => Err(SettingsFault::Memory),
-        Err(error) => Err(SettingsFault::Usage(error.to_string(alloc)?)),
+        Err(error) => Ok(Settings::Help(help_of(alloc, &error)?)),
     }
 }

@@ -2,7 +2,7 @@ use Rattle.std.proofs.Common.{ap, ap₂, ◌∙◌, ◌≡◌, codes, true}
 use Rattle.std.proofs.lemmas.Result.{IfOk-weaker}
 use Rattle.clap.specs.Words.{App, app_of, new_app, with_subcommand}
 use Rattle.clap.specs.Simple.{app_of_fields}
-use Rattle.mpw_settings.specs.Settings.{program_app, top_app}
+use Rattle.mpw_settings.specs.Forms.{program_app, top_app}
 use Rattle.mpw_settings.proofs.settings.program_command.Goals as goal
 
 pub returns : goal.returns
@@ -15,5 +15,8 @@ returns c =
     ∙ ap (λ (a : App). record a { top = record a.top { subcommand_required = true } })
     about_is in
     let script = c.in_ok-script_command.ensures in
-    IfOk-weaker c.subcommand.result _ _ (λ r h. h.shape script.local
-    ∙ ap₂ with_subcommand top_is (ap (λ (a : App). a.top) script.app)) c.subcommand.ensures
+    let serve = c.in_ok-serve_command.ensures in
+    let first = c.in_ok-subcommand.ensures.shape script.1
+    ∙ ap₂ with_subcommand top_is (ap (λ (a : App). a.top) script.0) in
+    IfOk-weaker c.subcommand-2.result _ _ (λ r h. h.shape serve.1
+    ∙ ap₂ with_subcommand first (ap (λ (a : App). a.top) serve.0)) c.subcommand-2.ensures

@@ -1,10 +1,9 @@
-use Rattle.std.proofs.Common.{◌≡◌, ◌∙◌, sym, ap, refl, map, true, inr, subst, true≢false}
+use Rattle.std.proofs.Common.{◌≡◌, ◌∙◌, sym, ap, refl, map, subst, true}
 use Rattle.std.proofs.lemmas.Result.{IfOk-weaker}
-use Rattle.clap.specs.Words.{App, HasKind, kind_of, fault_of, is_simple, is_simple_and_free, subcommand_of}
-use Rattle.clap.specs.declared.error.kind.ErrorKind.TheVariants.{OutOfMemory}
+use Rattle.clap.specs.Words.{App, HasKind, fault_of, is_simple, is_simple_and_free, subcommand_of}
 use Rattle.clap.proofs.OnLiterals.{clap_on_literals}
-use Rattle.mpw_settings.specs.Settings.{program_app}
-use Rattle.mpw_settings.proofs.SettingsLemmas.{no-kind, refused-more}
+use Rattle.mpw_settings.specs.Forms.{program_app}
+use Rattle.mpw_settings.proofs.SettingsLemmas.{given-of, help-among, none-of, other-none, passed-on, refused-more}
 use Rattle.mpw_settings.proofs.settings.read_settings.Goals as goal
 
 is_ready : is_simple program_app ≡ true
@@ -18,31 +17,39 @@ is_free = refl
 pub returns-in-Ok-clause-ok : goal.returns-in-Ok-clause-ok
 returns-in-Ok-clause-ok c =
     let app_is = c.in_ok-program_command.ensures in
+    let words = map (λ word. word.now) c.args.words.now in
     let found = (c.in-Ok.ensures.matches (ap is_simple app_is ∙ is_ready)).1
-    ∙ ap (λ (a : App). subcommand_of a (map (λ word. word.now) c.args.words.now)) app_is in
-    let taken = ap (λ (a : App). fault_of a (map (λ word. word.now) c.args.words.now)) (sym app_is)
+    ∙ ap (λ (a : App). subcommand_of a words) app_is in
+    let taken = ap (λ (a : App). fault_of a words) (sym app_is)
     ∙ c.in-Ok.ensures.kinds (ap is_simple_and_free app_is ∙ is_free) in
-    IfOk-weaker c.settings_of.result _ _ (λ settings h. (taken, (h.0, sym found ∙ h.1, h.2)))
+    IfOk-weaker c.settings_of.result _ _ (λ settings h. given-of words settings _ taken found h)
     c.settings_of.ensures.ok
 
 pub returns-in-Ok-clause-refused : goal.returns-in-Ok-clause-refused
 returns-in-Ok-clause-refused c =
     let app_is = c.in_ok-program_command.ensures in
+    let words = map (λ word. word.now) c.args.words.now in
     let found = (c.in-Ok.ensures.matches (ap is_simple app_is ∙ is_ready)).1
-    ∙ ap (λ (a : App). subcommand_of a (map (λ word. word.now) c.args.words.now)) app_is in
-    refused-more c.settings_of.result _ _ (λ none settings given. none given.1.0 (found ∙ given.1.1)
-    settings given.1.2) c.settings_of.ensures.refused
+    ∙ ap (λ (a : App). subcommand_of a words) app_is in
+    let taken = ap (λ (a : App). fault_of a words) (sym app_is)
+    ∙ c.in-Ok.ensures.kinds (ap is_simple_and_free app_is ∙ is_free) in
+    refused-more c.settings_of.result _ _ (none-of words _ taken found)
+    c.settings_of.ensures.refused
 
-pub returns-in_ok-to_string-in-Err-2-clause-refused :
-    goal.returns-in_ok-to_string-in-Err-2-clause-refused
-returns-in_ok-to_string-in-Err-2-clause-refused c =
+pub returns-in_ok-help_of-in-Err-clause-ok : goal.returns-in_ok-help_of-in-Err-clause-ok
+returns-in_ok-help_of-in-Err-clause-ok c =
     let app_is = c.in_ok-program_command.ensures in
     let words = map (λ word. word.now) c.args.words.now in
-    let kinds = c.in-Err.ensures.kinds (ap is_simple_and_free app_is ∙ is_free) in
-    let other : kind_of c.in-Err.error ≡ OutOfMemory → ⊥ = λ memory.
-    let same : c.kind.result ≡ OutOfMemory = c.kind.ensures ∙ memory in
-    let equal = rw same at c.eq.ensures in
-    true≢false (sym equal ∙ c.if-eq.false) in
-    inr (λ settings given. no-kind c.in-Err.error other
-    (subst (λ k. HasKind k c.in-Err.error) (ap (λ (a : App). fault_of a words) app_is ∙ given.0)
-    kinds))
+    let kinds = subst (λ k. HasKind k c.in-Err.error) (ap (λ (a : App). fault_of a words) app_is)
+    (c.in-Err.ensures.kinds (ap is_simple_and_free app_is ∙ is_free)) in
+    help-among _ c.in-Err.error c.in_ok-help_of-in-Err.ensures.ok kinds
+
+pub returns-in_err-help_of-in-Err-clause-refused : goal.returns-in_err-help_of-in-Err-clause-refused
+returns-in_err-help_of-in-Err-clause-refused c =
+    let app_is = c.in_ok-program_command.ensures in
+    let words = map (λ word. word.now) c.args.words.now in
+    let kinds = subst (λ k. HasKind k c.in-Err.error) (ap (λ (a : App). fault_of a words) app_is)
+    (c.in-Err.ensures.kinds (ap is_simple_and_free app_is ∙ is_free)) in
+    passed-on c.from_residual-in_err-help_of-in-Err.result _ _ _
+    c.from_residual-in_err-help_of-in-Err.ensures.1
+    (λ other. other-none words c.in-Err.error other kinds) c.in_err-help_of-in-Err.ensures.refused

@@ -1,0 +1,17 @@
+use Rattle.mpw_settings.proofs.SettingsLemmas.{passed-on}
+use Rattle.mpw_settings.proofs.service.read_service.Goals as goal
+
+pub returns-in_err-connections-clause-refused : goal.returns-in_err-connections-clause-refused
+returns-in_err-connections-clause-refused c = passed-on c.from_residual-in_err-connections.result _ _ _
+    c.from_residual-in_err-connections.ensures.1
+    (λ none service given. none service.connections given.connections) c.in_err-connections.ensures.refused
+
+pub returns-in_err-workers-clause-refused : goal.returns-in_err-workers-clause-refused
+returns-in_err-workers-clause-refused c = passed-on c.from_residual-in_err-workers.result _ _ _
+    c.from_residual-in_err-workers.ensures.1
+    (λ none service given. none service.workers given.workers) c.in_err-workers.ensures.refused
+
+pub returns-in_err-idle-clause-refused : goal.returns-in_err-idle-clause-refused
+returns-in_err-idle-clause-refused c = passed-on c.from_residual-in_err-idle.result _ _ _
+    c.from_residual-in_err-idle.ensures.1
+    (λ none service given. none service.idle given.idle) c.in_err-idle.ensures.refused
