@@ -8,6 +8,7 @@ mod fault;
 mod officer;
 mod options;
 mod service;
+mod service_options;
 mod settings;
 
 pub use fault::SettingsFault;

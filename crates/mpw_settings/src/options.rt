@@ -1,5 +1,5 @@
 //! The options of a subcommand: their forms, and their values.
-ghost use Rattle.std.specs.Prelude.{◌≡◌, IfOk, IfErr, None, option_map};
+ghost use Rattle.std.specs.Prelude.{◌≡◌, ◌≤◌, IfOk, IfErr, None, option_map};
 ghost use Rattle.clap.specs.Words.{App, Rule, first_of, found_of, new_app, rows_of, with_rule};
 ghost use Rattle.mpw_settings.specs.Forms.{HasForm, IsOption, free_option, required_option};
 ghost use Rattle.mpw_settings.specs.Settings.{Gives, GivesFlag, GivesNone, GivesNumber, IsFaultOf};
@@ -81,6 +81,7 @@ pub fn value_of<'a>(
 ///
 /// # Errors
 /// `Usage` where none from `least` to `most` is, and `Memory`.
+#[tactic(auto, using(std::proofs::lemmas::Bool::Decides::nat_tests))]
 pub fn number_of(
     alloc: Global,
     options: &ArgMatches<'_>,
@@ -88,6 +89,7 @@ pub fn number_of(
     least: u32,
     most: u32,
 ) -> Result<u32, SettingsFault>
+    ensures within { IfOk result (λ number. (least ≤ number) × (number ≤ most)) }
     ensures ok { IfOk result (GivesNumber name.now least most (rows_of (found_of options.now))) }
     ensures refused { IfErr result (IsFaultOf (GivesNone (GivesNumber name.now least most (rows_of (found_of options.now))))) }
 {

@@ -1,17 +1,7 @@
 //! What a service is to do.
-ghost use Rattle.std.specs.Prelude.{◌≡◌, IfOk, IfErr, None, codes};
-ghost use Rattle.std.specs.String.{string_bytes};
-ghost use Rattle.clap.specs.Words.{App, first_of, found_of, rows_of};
-ghost use Rattle.mpw_settings.specs.Forms.{HasForm, IsOption, idle_option, ongoing_option, serve_app, with_required};
-ghost use Rattle.mpw_settings.specs.Settings.{Gives, GivesLog, GivesNone, GivesService, IsFaultOf};
+ghost use Rattle.std.specs.Prelude.{◌≤◌};
 
-use crate::fault::SettingsFault;
-use crate::officer::{Officer, read_officer, with_officer};
-use crate::options::{
-    free_option, given, is_given, new_command, number_of, required_option, value_of, with_option,
-};
-use clap::{Arg, ArgAction, ArgMatches, Command};
-use std::alloc::{AllocError, Global};
+use crate::officer::Officer;
 
 /// The greatest number of connections.
 pub const MAX_CONNECTIONS: u32 = 64;
@@ -50,116 +40,7 @@ pub struct Service {
     pub log: Log,
     /// The first user of its desk.
     pub officer: Officer,
-}
-
-/// The flag of a service that goes on.
-fn ongoing_option<'a>(alloc: Global) -> Arg<'a>
-    ensures { IsOption ongoing_option result }
-{
-    Arg::new(alloc, "ongoing")
-        .long("ongoing")
-        .action(ArgAction::SetTrue)
-        .help("Goes on where connections end; N is then how many there are at a time")
-}
-
-/// The option of the time in which a connection may send nothing.
-fn idle_option<'a>(alloc: Global) -> Arg<'a>
-    ensures { IsOption idle_option result }
-{
-    free_option(
-        alloc,
-        "idle",
-        "SECONDS",
-        "Ends a connection that sends nothing for so long, 1 to 86400",
-    )
-    .default_value("3600")
-}
-
-/// The subcommand with the options that a service has to be given.
-fn with_required<'a>(alloc: Global, command: Command<'a>) -> Result<Command<'a>, AllocError>
-    ensures { IfOk result (λ with. (app : App) → HasForm app command.entry → HasForm (with_required app) with) }
-{
-    let listen = required_option(
-        alloc,
-        "listen",
-        "ADDR",
-        "The address of its socket, as 127.0.0.1:7000; at port 0 any free one is taken",
-    );
-    let connections = required_option(
-        alloc,
-        "connections",
-        "N",
-        "How many connections are served in all, 1 to 64",
-    );
-    let workers = required_option(
-        alloc,
-        "workers",
-        "W",
-        "How many workers check tiles, 1 to 16",
-    );
-    let command = with_option(with_option(command, listen)?, connections)?;
-    with_officer(alloc, with_option(command, workers)?)
-}
-
-/// The subcommand `serve`.
-///
-/// # Errors
-/// Where there is no room for it.
-pub fn serve_command<'a>(alloc: Global) -> Result<Command<'a>, AllocError>
-    ensures { IfOk result (HasForm serve_app) }
-{
-    let log = free_option(
-        alloc,
-        "log",
-        "FILE",
-        "Logs to a file, or with - to the standard error",
-    );
-    let command = new_command(alloc, "serve", "Serves connections that share a desk");
-    let command = with_option(with_required(alloc, command)?, ongoing_option(alloc))?;
-    with_option(with_option(command, idle_option(alloc))?, log)
-}
-
-/// The text that is given for the address.
-fn read_listen(alloc: Global, options: &ArgMatches<'_>) -> Result<String, SettingsFault>
-    ensures ok { IfOk result (λ listen. Gives (codes "listen") (rows_of (found_of options.now)) (string_bytes listen)) }
-    ensures refused { IfErr result (IsFaultOf (first_of (codes "listen") (rows_of (found_of options.now)) ≡ None)) }
-{
-    let text = value_of(alloc, options, "listen")?;
-    Ok(String::from_str(alloc, text)?)
-}
-
-/// Where the log goes.
-fn read_log(alloc: Global, options: &ArgMatches<'_>) -> Result<Log, AllocError>
-    ensures { IfOk result (GivesLog (rows_of (found_of options.now))) }
-{
-    match given(options, "log") {
-        None => Ok(Log::Nowhere),
-        Some(file) if file == "-" => Ok(Log::StandardError),
-        Some(file) => Ok(Log::File(String::from_str(alloc, file)?)),
-    }
-}
-
-/// The service that the options give.
-///
-/// # Errors
-/// `Usage` where they give none, and `Memory`.
-pub fn read_service(alloc: Global, options: &ArgMatches<'_>) -> Result<Service, SettingsFault>
-    ensures ok { IfOk result (GivesService (rows_of (found_of options.now))) }
-    ensures refused { IfErr result (IsFaultOf (GivesNone (GivesService (rows_of (found_of options.now))))) }
-{
-    let listen = read_listen(alloc, options)?;
-    let connections = number_of(alloc, options, "connections", 1, MAX_CONNECTIONS)?;
-    let workers = number_of(alloc, options, "workers", 1, MAX_WORKERS)?;
-    let idle = number_of(alloc, options, "idle", 1, MAX_IDLE)?;
-    let log = read_log(alloc, options)?;
-    let officer = read_officer(alloc, options)?;
-    Ok(Service {
-        listen,
-        connections,
-        workers,
-        is_ongoing: is_given(options, "ongoing"),
-        idle: u64::from(idle),
-        log,
-        officer,
-    })
+    pub ghost connections_in_range: { (1 ≤ connections) × (connections ≤ 64) },
+    pub ghost workers_in_range: { (1 ≤ workers) × (workers ≤ 16) },
+    pub ghost idle_in_range: { (1 ≤ idle) × (idle ≤ 86400) },
 }

@@ -7,7 +7,8 @@ ghost use Rattle.mpw_settings.specs.Settings.{AreGiven, AreOf, GiveNone, GivesNo
 use crate::fault::SettingsFault;
 use crate::officer::{Officer, read_officer, with_officer};
 use crate::options::{new_command, usage};
-use crate::service::{Service, read_service, serve_command};
+use crate::service::Service;
+use crate::service_options::{read_service, serve_command};
 use clap::error::ErrorKind;
 use clap::{ArgMatches, Command, Error};
 use std::alloc::{AllocError, Global};

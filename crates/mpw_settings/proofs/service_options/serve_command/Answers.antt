@@ -2,7 +2,7 @@ use Rattle.std.proofs.Common.{codes}
 use Rattle.std.proofs.lemmas.Result.{IfOk-weaker}
 use Rattle.clap.specs.Words.{new_app, with_rule}
 use Rattle.mpw_settings.specs.Forms.{free_option, idle_option, ongoing_option, with_required}
-use Rattle.mpw_settings.proofs.service.serve_command.Goals as goal
+use Rattle.mpw_settings.proofs.service_options.serve_command.Goals as goal
 
 pub returns : goal.returns
 returns c =

@@ -2,7 +2,7 @@ use Rattle.std.proofs.Common.{codes}
 use Rattle.std.proofs.lemmas.Result.{IfOk-weaker}
 use Rattle.clap.specs.Words.{with_rule}
 use Rattle.mpw_settings.specs.Forms.{required_option}
-use Rattle.mpw_settings.proofs.service.with_required.Goals as goal
+use Rattle.mpw_settings.proofs.service_options.with_required.Goals as goal
 
 pub returns : goal.returns
 returns c =

@@ -1,5 +1,5 @@
 use Rattle.mpw_settings.proofs.SettingsLemmas.{passed-on}
-use Rattle.mpw_settings.proofs.service.read_service.Goals as goal
+use Rattle.mpw_settings.proofs.service_options.read_service.Goals as goal
 
 pub returns-in_err-connections-clause-refused : goal.returns-in_err-connections-clause-refused
 returns-in_err-connections-clause-refused c = passed-on c.from_residual-in_err-connections.result _ _ _
