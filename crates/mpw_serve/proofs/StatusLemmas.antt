@@ -9,25 +9,27 @@ use Rattle.mpw_wire.specs.declared.fault.WireFault.TheVariants as wire
 use Rattle.mpw_wire.specs.Writing.{fault_of}
 use Rattle.mpw_settings.specs.Settings.{GiveNone, IsFaultOf}
 use Rattle.mpw_settings.specs.declared.fault.SettingsFault.{SettingsFault}
+use Rattle.mpw_settings.specs.declared.officer.Officer.{Officer}
+use Rattle.mpw_settings.specs.declared.settings.Settings.{Settings}
 use Rattle.mpw_serve.specs.declared.fault.ProgramFault.{ProgramFault}
 use Rattle.mpw_serve.specs.declared.serve.End.{End}
 use Rattle.mpw_serve.specs.declared.serve.Served.{Served}
 use Rattle.mpw_serve.specs.Script.{fault_told}
 use Rattle.mpw_serve.specs.Serving.{write_failures}
-use Rattle.mpw_serve.specs.Status.{Devices, EndsByWords, Ends, ExitsWith, end_told, exit_of, fault_by, script_end}
+use Rattle.mpw_serve.specs.Status.{Devices, ExitsWith, ReadsCommandLine, ReadsWords, end_told, exit_of, fault_by, script_end}
 
 -- words that give no settings
-pub ends_unset : (words : List (List ℕ)) (d : Devices) (fault : SettingsFault) (told : ProgramFault)
-    → IsFaultOf (GiveNone words) fault → told ≡ fault_by fault → EndsByWords words d d (Err told)
-ends_unset words d fault told is same =
-    subst (λ f. EndsByWords words d d (Err f)) (sym same) (EndsByWords.unset fault is)
+pub reads_unset : (words : List (List ℕ)) (fault : SettingsFault) (told : ProgramFault)
+    → IsFaultOf (GiveNone words) fault → told ≡ fault_by fault → ReadsWords words (Err told)
+reads_unset words fault told is same =
+    subst (λ f. ReadsWords words (Err f)) (sym same) (ReadsWords.unset fault is)
 
 -- no words that can be told
-pub ends_wordless : (d : Devices) (fault : SettingsFault) (ended : Result End ProgramFault)
-    → IsErrAnd ended (λ told. told ≡ fault_by fault) → Ends d d ended
-ends_wordless d fault (Ok end) is = absurd is
-ends_wordless d fault (Err told) same =
-    subst (λ f. Ends d d (Err f)) (sym same) (Ends.wordless fault)
+pub reads_wordless : (fault : SettingsFault) (read : Result Settings ProgramFault)
+    → IsErrAnd read (λ told. told ≡ fault_by fault) → ReadsCommandLine read
+reads_wordless fault (Ok settings) is = absurd is
+reads_wordless fault (Err told) same =
+    subst (λ f. ReadsCommandLine (Err f)) (sym same) (ReadsCommandLine.wordless fault)
 
 -- a device failed
 abbrev pub Failed : Devices → Devices → Type 0
@@ -55,19 +57,9 @@ script_exits d d' (Ok served) reads writes failed =
     wire_exits d d' served.ended reads writes failed
 script_exits d d' (Err fault) reads writes failed = none_failed d d' 5 reads writes failed
 
-words_exit : {words : List (List ℕ)} (d d' : Devices) (ended : Result End ProgramFault)
-    → EndsByWords words d d' ended → Failed d d' → exit_of ended ≡ 3
-words_exit d d' ended (EndsByWords.unset fault is) failed =
-    none_failed d d (exit_of ended) refl refl failed
-words_exit d d' ended (EndsByWords.set settings behind told given served) failed =
-    ap exit_of served.ends ∙ script_exits d d' served.came served.reads served.writes failed
-
-ends_exit : (d d' : Devices) (ended : Result End ProgramFault) → Ends d d' ended → Failed d d'
-    → exit_of ended ≡ 3
-ends_exit d d' ended (Ends.wordless fault) failed =
-    none_failed d d (exit_of ended) refl refl failed
-ends_exit d d' ended (Ends.worded words behind told by) failed = words_exit d d' ended by failed
-
 -- where a device failed the program exits with 3
-pub failed_exits : (d d' : Devices) (status : ℕ) → ExitsWith d d' status → Failed d d' → status ≡ 3
-failed_exits d d' status (ended, by, is) failed = is ∙ ends_exit d d' ended by failed
+pub failed_exits : (officer : Officer) (d d' : Devices) (status : ℕ)
+    → ExitsWith officer d d' status
+    → Failed d d' → status ≡ 3
+failed_exits officer d d' status (ended, served, is) failed =
+    is ∙ ap exit_of served.ends ∙ script_exits d d' served.came served.reads served.writes failed

@@ -6,18 +6,17 @@ use Rattle.mpw_wire.specs.Writing.{fault_of}
 use Rattle.mpw_serve.specs.declared.serve.Served.{Served}
 use Rattle.mpw_serve.specs.Serving.{Serves}
 use Rattle.mpw_serve.specs.OwnDesk.{IsAnswer, IsGone}
-use Rattle.mpw_settings.specs.declared.settings.Settings.{Settings}
-use Rattle.mpw_settings.specs.declared.settings.Settings.TheVariants.{Script}
+use Rattle.mpw_settings.specs.declared.officer.Officer.{Officer}
 
 -- connection 1 is served from the new desk on, and no change could not be kept; or there is no room for that desk, and nothing
 -- is read or written
-abbrev pub ServesScript : {E : Type 0} → Settings → Option (List ℕ) → Option (List ℕ)
+abbrev pub ServesScript : {E : Type 0} → Officer → Option (List ℕ) → Option (List ℕ)
     → Option (List ℕ) → Option (List ℕ) → Result Served E → Type 0
-ServesScript (Script officer digest) input input' output output' (Ok served) =
+ServesScript officer input input' output output' (Ok served) =
     (desk : KeptDesk) × (desk.failures ≡ 0)
     × Serves (IsAnswer 1) (IsGone 1) input input' output output'
-    (kept_desk (new_desk officer digest) None 0) desk served
-ServesScript (Script officer digest) input input' output output' (Err fault) =
+    (kept_desk (new_desk officer.name officer.digest) None 0) desk served
+ServesScript officer input input' output output' (Err fault) =
     (input' ≡ input) × (output' ≡ output)
 
 -- the device that failed, of which there is none where there is no room for the desk

@@ -5,6 +5,7 @@ use Rattle.mpw_wire.specs.Reading.{read_failures}
 use Rattle.mpw_wire.specs.declared.fault.WireFault.{WireFault}
 use Rattle.mpw_wire.specs.declared.fault.WireFault.TheVariants as wire
 use Rattle.mpw_settings.specs.Settings.{AreGiven, GiveNone, IsFaultOf}
+use Rattle.mpw_settings.specs.declared.officer.Officer.{Officer}
 use Rattle.mpw_settings.specs.declared.fault.SettingsFault.{SettingsFault}
 use Rattle.mpw_settings.specs.declared.fault.SettingsFault.TheVariants as settings
 use Rattle.mpw_settings.specs.declared.settings.Settings.{Settings}
@@ -36,6 +37,20 @@ IsStatus status = (ended : Result End ProgramFault) × (status ≡ exit_of ended
 abbrev pub fault_by : SettingsFault → ProgramFault
 fault_by (settings.Usage text) = Usage text
 fault_by settings.Memory = Memory
+
+-- ---- the command line
+
+-- the words of the command line give the settings; or they give none, or there is no room to read them
+pub data ReadsWords (words : List (List ℕ)) : Result Settings ProgramFault → Type 0 where
+  set : (settings : Settings) → AreGiven settings words → ReadsWords words (Ok settings)
+  unset : (fault : SettingsFault) → IsFaultOf (GiveNone words) fault
+      → ReadsWords words (Err (fault_by fault))
+
+-- the command line had no words that can be told, or there was no room for them; or it had words
+pub data ReadsCommandLine : Result Settings ProgramFault → Type 0 where
+  wordless : (fault : SettingsFault) → ReadsCommandLine (Err (fault_by fault))
+  worded : (words : List (List ℕ)) (read : Result Settings ProgramFault) → ReadsWords words read
+      → ReadsCommandLine read
 
 -- ---- what came of serving
 
@@ -70,31 +85,16 @@ devices remaining read_failures contents write_failures pending reader writer = 
 }
 
 -- the script was served between these devices, and the program ends as that did
-pub record EndsAsServed (settings : Settings) (d d' : Devices) (ended : Result End ProgramFault) :
+pub record EndsAsServed (officer : Officer) (d d' : Devices) (ended : Result End ProgramFault) :
     Type 0 where
   pub came : Result Served AllocError
-  pub served : ServesScript settings d.input d'.input d.output d'.output came
+  pub served : ServesScript officer d.input d'.input d.output d'.output came
   pub reads : d'.failed_reads ≡ read_failures (fault_told came) d.failed_reads
   pub writes : d'.failed_writes ≡ write_failures (fault_told came) d.failed_writes
   pub leaves : LeavesNothingPending (fault_told came) d.pending d'.pending
   pub ends : ended ≡ script_end came
 
--- the words of the command line give no settings, or there is no room to read them, and nothing is read or written; or they
--- give settings, by which the script was served
-pub data EndsByWords (words : List (List ℕ)) (d : Devices) : Devices → Result End ProgramFault
-    → Type 0 where
-  unset : (fault : SettingsFault) → IsFaultOf (GiveNone words) fault
-      → EndsByWords words d d (Err (fault_by fault))
-  set : (settings : Settings) (d' : Devices) (ended : Result End ProgramFault)
-      → AreGiven settings words → EndsAsServed settings d d' ended → EndsByWords words d d' ended
-
--- the command line had no words that can be told, or there was no room for them, and nothing is read or written; or it had words
-pub data Ends (d : Devices) : Devices → Result End ProgramFault → Type 0 where
-  wordless : (fault : SettingsFault) → Ends d d (Err (fault_by fault))
-  worded : (words : List (List ℕ)) (d' : Devices) (ended : Result End ProgramFault)
-      → EndsByWords words d d' ended → Ends d d' ended
-
--- the program ended so, and its status is that
-abbrev pub ExitsWith : Devices → Devices → ℕ → Type 0
-ExitsWith d d' status =
-    (ended : Result End ProgramFault) × Ends d d' ended × (status ≡ exit_of ended)
+-- the script was served, the program ended as that did, and its status is that
+abbrev pub ExitsWith : Officer → Devices → Devices → ℕ → Type 0
+ExitsWith officer d d' status =
+    (ended : Result End ProgramFault) × EndsAsServed officer d d' ended × (status ≡ exit_of ended)

@@ -4,7 +4,8 @@
 //! `run` is worked off before its reply is written: the snapshot is cut, the jobs of its tiles are done in batches, and what
 //! comes of them is handed to the desk. Somebody is told how far they came ([`Progress`]).
 //!
-//! The desk's program is here as a library: a program gives [`run`] its input, its output, and who is told how far the work came.
+//! What the desk's program does is here as a library: [`command_line`] reads its settings, and [`run_script`] serves a script over its input and
+//! its output, with an [`Executor`] that says who is told how far the work came.
 #![tactic(auto)]
 
 mod executor;
@@ -20,7 +21,7 @@ mod working;
 pub use executor::Executor;
 pub use fault::{ProgramFault, exit_status};
 pub use own_desk::{OwnDesk, serve_core};
-pub use program::{run, run_over};
+pub use program::{command_line, print_help, run_script, run_script_over, tell};
 pub use progress::{Progress, Silent};
 pub use responder::Responder;
 pub use script::serve_script;

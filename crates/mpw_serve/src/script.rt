@@ -9,7 +9,7 @@ use crate::own_desk::{OwnDesk, serve_core};
 use crate::progress::Progress;
 use crate::serve::Served;
 use mpw_events::{Handler, NoKeeper};
-use mpw_settings::Settings;
+use mpw_settings::Officer;
 use mpw_wire::{Sink, Source};
 use std::alloc::AllocError;
 use std::thread::Threads;
@@ -17,24 +17,24 @@ use std::thread::Threads;
 /// The connection of a script.
 const CONNECTION: u32 = 1;
 
-/// Serves the reader to the writer as connection 1 of a new desk, whose keeper keeps nothing. Runs are worked off by the
+/// Serves the reader to the writer as connection 1 of a new desk with this officer, whose keeper keeps nothing. Runs are worked off by the
 /// executor. A script over another desk, with a keeper or a connection of its own, is served by [`serve_core`].
 ///
 /// # Errors
 /// Where there is no room for the new desk; nothing is read or written then.
 pub fn serve_script<H: Handler + Drop, T: Threads + Sync, P: Progress + Drop, R: Source, W: Sink>(
     executor: Executor<'_, T, P>,
-    settings: Settings,
+    officer: Officer,
     reader: &mut R,
     writer: &mut W,
 ) -> Result<Served, AllocError>
-    ensures served { ServesScript settings (R.remaining reader.old) (R.remaining reader.new) (W.contents writer.old) (W.contents writer.new) result }
+    ensures served { ServesScript officer (R.remaining reader.old) (R.remaining reader.new) (W.contents writer.old) (W.contents writer.new) result }
     ensures reader { R.failures reader.new ≡ read_failures (fault_told result) (R.failures reader.old) }
     ensures writer { W.failures writer.new ≡ write_failures (fault_told result) (W.failures writer.old) }
     ensures handed { LeavesNothingPending (fault_told result) (W.pending writer.old) (W.pending writer.new) }
 {
-    let Settings::Script { officer, digest } = settings;
-    let core = H::new_boxed(executor.alloc, officer, digest)?;
+    let Officer { name, digest } = officer;
+    let core = H::new_boxed(executor.alloc, name, digest)?;
     let mut own = OwnDesk::new(core, NoKeeper, CONNECTION, executor);
     let served = serve_core(&mut own, reader, writer);
     let (_core, _keeper) = own.into_parts();

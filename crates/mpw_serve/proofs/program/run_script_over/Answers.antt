@@ -1,10 +1,9 @@
 use Rattle.mpw_serve.proofs.StatusLemmas.{failed_exits}
-use Rattle.mpw_serve.proofs.program.run_over.Goals as goal
+use Rattle.mpw_serve.proofs.program.run_script_over.Goals as goal
 
 pub returns-clause-status : goal.returns-clause-status
-returns-clause-status g c =
-    (c.serve_command_line-ended.result, c.serve_command_line-ended.ensures, c.tell.ensures)
+returns-clause-status g c = (c.serve-ended.result, c.serve-ended.ensures, c.exit.ensures)
 
 pub returns-clause-failed : goal.returns-clause-failed
-returns-clause-failed g c = failed_exits _ _ _
-    (c.serve_command_line-ended.result, c.serve_command_line-ended.ensures, c.tell.ensures)
+returns-clause-failed g c = failed_exits _ _ _ _
+    (c.serve-ended.result, c.serve-ended.ensures, c.exit.ensures)

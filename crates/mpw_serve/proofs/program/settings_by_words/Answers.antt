@@ -1,11 +1,10 @@
-use Rattle.mpw_serve.specs.Status.{EndsByWords}
-use Rattle.mpw_serve.proofs.StatusLemmas.{ends_unset}
-use Rattle.mpw_serve.proofs.program.serve_by_words.Goals as goal
+use Rattle.mpw_serve.specs.Status.{ReadsWords}
+use Rattle.mpw_serve.proofs.StatusLemmas.{reads_unset}
+use Rattle.mpw_serve.proofs.program.settings_by_words.Goals as goal
 
 pub returns-in-Ok : goal.returns-in-Ok
-returns-in-Ok g c =
-    EndsByWords.set c.in-Ok.settings _ c.serve.result c.in-Ok.ensures.ok c.serve.ensures
+returns-in-Ok c = ReadsWords.set c.in-Ok.settings c.in-Ok.ensures.ok
 
 pub returns-in-Err : goal.returns-in-Err
-returns-in-Err g c = ends_unset _ _ c.in-Err.fault c.from.result c.in-Err.ensures.refused
-    c.from.ensures
+returns-in-Err c =
+    reads_unset _ c.in-Err.fault c.from.result c.in-Err.ensures.refused c.from.ensures
