@@ -1,17 +1,36 @@
-//! The program of the desk: `mpw script --officer NAME --digest HEX` serves the lines of the standard input to the standard
-//! output.
+//! The program of the desk: `mpw script ..` serves the lines of the standard input to the standard output, and `mpw serve ..`
+//! serves connections that share a desk.
 #![tactic(auto)]
 
 mod line;
+mod service;
 
 use line::Line;
 use mpw_core::Core;
-use mpw_serve::run;
+use mpw_serve::{Executor, command_line, print_help, run_script, tell};
+use mpw_settings::{Officer, Settings};
+use service::serve;
 use std::process::ExitCode;
+use std::thread::Threads;
 
-/// Exits with 0 where the connection ended, 2 at a usage fault, 3 where a device failed, and 5 where memory was
-/// wanting. A fault is told on the standard error, and where that is a terminal, how far a run that is worked off came.
+/// Serves the standard input to the standard output as a script of this officer. Where the standard error is a terminal, it is told
+/// there how far a run that is worked off came.
+fn script(rt: &HostRuntime, threads: &(impl Threads + Sync), officer: Officer) -> ExitCode {
+    let executor = Executor {
+        threads,
+        alloc: rt.alloc(),
+        progress: Line::new(rt),
+    };
+    run_script::<Core, _, _, _, _>(rt, executor, officer, rt.stdin(), rt.stdout())
+}
+
+/// Exits with 0 where the connections ended, and behind help, 2 at a usage fault, 3 where a device failed, and 5 where memory was
+/// wanting. A fault is told on the standard error.
 fn main(rt: HostRuntime) -> ExitCode {
-    let line = Line::new(&rt);
-    run::<Core, _, _, _>(&rt, &rt, rt.stdin(), rt.stdout(), line)
+    match command_line(&rt) {
+        Ok(Settings::Script(officer)) => script(&rt, &rt, officer),
+        Ok(Settings::Serve(service)) => serve(&rt, service),
+        Ok(Settings::Help(text)) => print_help(&rt, text.as_str()),
+        Err(fault) => tell(&rt, &fault),
+    }
 }
