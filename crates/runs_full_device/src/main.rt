@@ -2,10 +2,26 @@
 #![tactic(auto)]
 
 use mpw_core::Core;
-use mpw_serve::{Silent, run};
+use mpw_serve::{Executor, Silent, command_line, run_script, tell};
+use mpw_settings::Settings;
 use std::process::ExitCode;
 
 fn main(rt: HostRuntime) -> ExitCode {
     let mut room = [0u8; 8];
-    run::<Core, _, _, _>(&rt, &rt, rt.stdin(), &mut room[..], Silent)
+    let executor = Executor {
+        threads: &rt,
+        alloc: rt.alloc(),
+        progress: Silent,
+    };
+    match command_line(&rt) {
+        Ok(Settings::Script(officer)) => run_script::<Core, _, _, _, _>(
+            &rt,
+            executor,
+            officer,
+            rt.stdin(),
+            &mut room[..],
+        ),
+        Ok(_) => ExitCode::SUCCESS,
+        Err(fault) => tell(&rt, &fault),
+    }
 }
