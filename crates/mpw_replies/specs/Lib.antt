@@ -7,5 +7,8 @@ pub mod Sight
 pub mod Told
 pub mod Trail
 pub mod FirstLines
+pub mod FirstLineText
+pub mod RequestWords
+pub mod EntryText
 pub mod Views
 pub mod Internal

@@ -4,22 +4,30 @@
 #![tactic(auto)]
 
 mod entry;
+mod first_line;
 mod lines;
 mod listing;
 mod markers;
 mod masked;
 mod met;
 mod reply;
+mod request_words;
 mod row;
 mod sight;
 mod trail;
 
 pub use entry::{Entry, FirstLine};
+pub use first_line::{
+    code_words, deck_words, denial_word, fault_words, object_word, operation_word,
+};
 pub use lines::{Kept, Lines};
 pub use listing::{ShapeListing, ShapeView, ShapeViews};
 pub use markers::{MarkerLines, MarkerListing, MarkerView, MarkerViews};
 pub use masked::{MaskedView, MaskedViews};
 pub use met::MetCells;
 pub use reply::{Code, Denial, Line, Reply};
+pub use request_words::{
+    NONE, layout_object, policy_object, run_word, user_word, verb, wafer_object,
+};
 pub use row::{Ending, Fault, listing_reply, need};
 pub use trail::{Trail, TrailView, TrailViews};

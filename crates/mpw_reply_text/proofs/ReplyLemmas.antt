@@ -10,7 +10,7 @@ use Rattle.mpw_replies.specs.declared.reply.Code.{Code}
 use Rattle.mpw_replies.specs.declared.reply.Code.TheVariants.{Read, Deck, NoTop, Cycle, NoCell, Extent, Shapes, Deep, Full, Tiles, Opened, NoRun, Unknown, Known, Used, Loop, Running, NoDeck, Empty, NotFinished, NoMarker, NoWaiver, Ended, Store, Closed}
 use Rattle.mpw_reply_text.specs.Reply.{listed_text, accepted_text, reply_text, IsLedBy}
 use Rattle.mpw_reply_text.specs.Setting.{line_feed}
-use Rattle.mpw_reply_text.specs.FirstLine.{code_text, count_text, refused_text, refusal_of, first_line_text}
+use Rattle.mpw_replies.specs.FirstLineText.{code_text, count_text, refused_text, refusal_of, first_line_text}
 
 -- that of any but a text's fault has no place
 pub refused_alone : (code : Code) → ((f : ReadFault) → code ≡ Read f → ⊥)

@@ -20,10 +20,11 @@ use Rattle.mpw_replies.specs.declared.reply.Reply.{Reply}
 use Rattle.mpw_replies.specs.declared.reply.Reply.TheVariants as reply
 use Rattle.mpw_reply_text.specs.declared.reply.LineRefusal.{LineRefusal}
 use Rattle.mpw_reply_text.specs.declared.reply.LineRefusal.TheVariants as refusal
-use Rattle.mpw_wire.specs.Keys.{spot_of, key_text, marker_key}
-use Rattle.mpw_reply_text.specs.Rows.{entry_text}
+use Rattle.mpw_requests.specs.Words.{marker_key}
+use Rattle.mpw_wire.specs.Keys.{spot_of, key_text}
+use Rattle.mpw_replies.specs.EntryText.{entry_text}
 use Rattle.mpw_reply_text.specs.Setting.{line_feed}
-use Rattle.mpw_reply_text.specs.FirstLine.{count_text, denial_text, refused_text, refusal_of, first_line_text}
+use Rattle.mpw_replies.specs.FirstLineText.{count_text, denial_text, refused_text, refusal_of, first_line_text}
 
 -- a line of a word and a name
 abbrev pub named_text : List ℕ → List ℕ → List ℕ

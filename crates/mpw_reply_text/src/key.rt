@@ -1,15 +1,15 @@
 //! Keys of markers: the name of a rule, and behind colons where the marker lies.
 ghost use Rattle.std.specs.Prelude.{◌≡◌};
-ghost use Rattle.mpw_wire.specs.Keys.{spot_of, named_spot, axis_text, key_text, marker_key};
+ghost use Rattle.mpw_requests.specs.Words.{marker_key};
+ghost use Rattle.mpw_wire.specs.Keys.{spot_of, named_spot, key_text};
 ghost use Rattle.mpw_wire.specs.Writing.{Writes};
 ghost use Rattle.mpw_reply_text.specs.Internal.Setting.{set_text};
 
 use crate::setting::{Setting, write_set};
 use itoa::Buffer;
-use mpw_edges::Axis;
 use mpw_geom::Name;
 use mpw_markers::Key;
-use mpw_requests::MarkerName;
+use mpw_requests::{MarkerName, axis_letter};
 use mpw_text::with_colons;
 use mpw_wire::{Sink, Spot, WireFault};
 
@@ -38,17 +38,6 @@ fn named_spot(marker: &MarkerName) -> Spot
         x2: marker.x2,
         y0: marker.y0,
         y1: marker.y1,
-    }
-}
-
-/// The letter of an axis. It takes no memory.
-#[tactic(auto, unfolding(mpw_wire::specs::Keys::axis_text))]
-pub fn axis_letter(axis: &Axis) -> &str
-    ensures { result.now ≡ axis_text axis.now }
-{
-    match axis {
-        Axis::V => "V",
-        Axis::H => "H",
     }
 }
 

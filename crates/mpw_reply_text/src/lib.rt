@@ -16,7 +16,5 @@ mod shape;
 mod trail;
 mod write;
 
-pub use first_line::operation_word;
-pub use key::axis_letter;
+pub use mpw_requests::axis_letter;
 pub use reply::{LineRefusal, replies_begin_with_their_first_lines, write_refusal, write_reply};
-pub use trail::run_word;

@@ -9,6 +9,7 @@ mod request;
 mod run;
 mod sign_off;
 mod wafer;
+mod words;
 
 pub use digest::{digest_of, read_digest};
 pub use layouts::LayoutRequest;
@@ -17,3 +18,4 @@ pub use request::{Request, SharedRequest, kept_request};
 pub use run::RunRequest;
 pub use sign_off::{MarkerName, SignOffRequest};
 pub use wafer::WaferRequest;
+pub use words::{axis_letter, is_on_cells};

@@ -1,14 +1,13 @@
 -- The key of a marker, as a word of a line: the name of its rule, and behind colons its axis, its side and four coordinates in nm.
 -- It is read from its end, since a name may hold colons.
 use Rattle.std.specs.Prelude.{ℕ, ℤ, List, [], ◌∷◌, codes, Option, Some, None, ◌==◌, if◌then◌else◌}
-use Rattle.std.specs.Fmt.{decimal, signed_decimal}
 use Rattle.mpw_geom.specs.Names.{name_eq}
 use Rattle.mpw_text.specs.Text.{number_of}
-use Rattle.mpw_text.specs.Writing.{with_colons}
 use Rattle.mpw_edges.specs.declared.run.Axis.{Axis}
 use Rattle.mpw_edges.specs.declared.run.Axis.TheVariants.{V, H}
 use Rattle.mpw_markers.specs.declared.marker.Key.{Key}
 use Rattle.mpw_requests.specs.declared.sign_off.MarkerName.{MarkerName}
+use Rattle.mpw_requests.specs.Words.{marker_key}
 use Rattle.mpw_wire.specs.declared.key.Spot.{Spot}
 use Rattle.mpw_wire.specs.declared.operand.Origin.{Origin}
 use Rattle.mpw_wire.specs.declared.operand.Origin.TheVariants.{Connection, Store}
@@ -38,20 +37,9 @@ marker_at rule spot = record {
 
 -- ---- writing
 
--- the letter of an axis
-unfoldable pub axis_text : Axis → List ℕ
-axis_text V = codes "V"
-axis_text H = codes "H"
-
--- the name of the rule, and, each behind a colon, the axis, the side, where the edges lie and which rows there are
+-- the key of the marker of a rule that lies there
 abbrev pub key_text : List ℕ → Spot → List ℕ
-key_text rule spot =
-    with_colons (rule ∷ axis_text spot.axis ∷ decimal spot.side ∷ signed_decimal spot.x1
-    ∷ signed_decimal spot.x2 ∷ signed_decimal spot.y0 ∷ signed_decimal spot.y1 ∷ [])
-
--- the key of a marker that a request names
-abbrev pub marker_key : MarkerName → List ℕ
-marker_key m = key_text m.rule (named_spot m)
+key_text rule spot = marker_key (marker_at rule spot)
 
 -- ---- reading
 

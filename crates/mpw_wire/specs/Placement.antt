@@ -8,17 +8,6 @@ use Rattle.mpw_geom.specs.declared.plane.Orient.TheVariants.{R0, R90, R180, R270
 use Rattle.mpw_wire.specs.declared.operand.Origin.{Origin}
 use Rattle.mpw_wire.specs.declared.operand.Origin.TheVariants.{Connection, Store}
 
--- the word of an orientation
-unfoldable pub orient_text : Orient → List ℕ
-orient_text R0 = codes "R0"
-orient_text R90 = codes "R90"
-orient_text R180 = codes "R180"
-orient_text R270 = codes "R270"
-orient_text M0 = codes "M0"
-orient_text M90 = codes "M90"
-orient_text M180 = codes "M180"
-orient_text M270 = codes "M270"
-
 -- the orientation that a word names
 unfoldable pub orient_of : List ℕ → Option Orient
 orient_of word =

@@ -25,6 +25,7 @@ use Rattle.mpw_requests.specs.declared.wafer.WaferRequest.TheVariants as wafer
 use Rattle.mpw_requests.specs.declared.run.RunRequest.TheVariants as run
 use Rattle.mpw_requests.specs.declared.sign_off.SignOffRequest.{SignOffRequest}
 use Rattle.mpw_requests.specs.declared.sign_off.SignOffRequest.TheVariants as sign_off
+use Rattle.mpw_requests.specs.Words.{is_on_cells}
 use Rattle.mpw_wire.specs.declared.operand.Origin.{Origin}
 use Rattle.mpw_wire.specs.declared.operand.Origin.TheVariants.{Connection, Store}
 use Rattle.mpw_wire.specs.declared.request.LineAsk.{LineAsk}
@@ -58,20 +59,6 @@ operation_of word =
     else if name_eq word (codes "verdict") then Some Verdict
     else if name_eq word (codes "audit") then Some Audit
     else None
-
--- whether the operation is on cells; the others are on the desk
-unfoldable pub is_on_cells : Operation → Bool
-is_on_cells Submit = true
-is_on_cells Use = true
-is_on_cells Read = true
-is_on_cells Place = true
-is_on_cells Admin = false
-is_on_cells Deck = false
-is_on_cells Run = false
-is_on_cells Waive = false
-is_on_cells Sign = false
-is_on_cells Verdict = false
-is_on_cells Audit = false
 
 -- a cell by its name, or the desk by the word `desk`
 unfoldable pub object_by : Origin → Bool → List ℕ → Option Object

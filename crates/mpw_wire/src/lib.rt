@@ -20,6 +20,6 @@ pub use device::{Counted, DeviceFault, Sink, Source};
 pub use fault::WireFault;
 pub use key::Spot;
 pub use line::MAX_LINE;
-pub use operand::{Origin, is_on_cells};
+pub use operand::Origin;
 pub use read::{Asked, read_request};
 pub use request::{LineAsk, MAX_PAYLOAD, parse, parse_line};

@@ -4,14 +4,14 @@
 //! connection has a token where a store has the digits of its digest.
 ghost use Rattle.std.specs.Prelude.{◌≡◌, IfOk};
 ghost use Rattle.mpw_geom.specs.Names.{name_eq};
-ghost use Rattle.mpw_wire.specs.Request.{token_of, digest_of, operation_of, is_on_cells, object_by, object_of, grant_of, login_of, pair_of, names_of, set_of};
+ghost use Rattle.mpw_wire.specs.Request.{token_of, digest_of, operation_of, object_by, object_of, grant_of, login_of, pair_of, names_of, set_of};
 ghost use Rattle.mpw_wire.specs.Names.{visible_of, name_of};
 ghost use Rattle.mpw_wire.specs.Words.{words};
 
 use hex::FromHex;
 use mpw_geom::{Name, NameFault, Names, is_name};
 use mpw_permissions::{Grant, Object, Operation};
-use mpw_requests::{Digest, digest_of};
+use mpw_requests::{Digest, digest_of, is_on_cells};
 use mpw_separation::SeparationSet;
 use mpw_text::{parts, read_count};
 use std::alloc::{AllocError, Global};
@@ -112,17 +112,6 @@ fn operation(word: &[u8]) -> Option<Operation>
         Some(Operation::Audit)
     } else {
         None
-    }
-}
-
-/// Whether the operation is on cells. The others are on the desk. It takes no memory.
-#[tactic(auto, unfolding(crate::specs::Request::is_on_cells))]
-pub fn is_on_cells(operation: Operation) -> bool
-    ensures { result ≡ is_on_cells operation }
-{
-    match operation {
-        Operation::Submit | Operation::Use | Operation::Read | Operation::Place => true,
-        _ => false,
     }
 }
 

@@ -1,5 +1,5 @@
 use Rattle.std.proofs.Common.{ap, rules}
-use Rattle.mpw_wire.specs.Keys.{marker_key}
+use Rattle.mpw_requests.specs.Words.{marker_key}
 use Rattle.mpw_reply_text.specs.Reply.{signed_part, signed_text}
 use Rattle.mpw_wire.specs.Writing.{fault_of}
 use Rattle.mpw_reply_text.proofs.WritingLemmas.{Writes_first, Writes_both, handed_on}
