@@ -292,11 +292,11 @@ fn sign_off(
 fn trail_lines(alloc: Global, trail: &Trail) -> Result<Lines, AllocError>
     ensures { IfOk result (λ lines. lines ≡ trail_lines trail.now.entries) }
 {
-    let trail = trail.copy(alloc)?;
-    Lines::of_trail(alloc, trail)
+    let listing = trail.listing(alloc)?;
+    Lines::of_trail(alloc, listing)
 }
 
-/// Answers `trail`: a count for each 1024 requests so far, and for each of the last ones.
+/// Answers `trail`: a count for each 1024 requests so far, and the rows of the last ones.
 fn trail(alloc: Global, tables: &Tables, connection: u32) -> Result<Answer, AllocError>
     ensures { IfOk result (λ answer. Gives (open_state tables.now) (trail_outcome (open_state tables.now) (permitted tables.now.policy connection Audit Desk)) answer.response answer.next) }
 {

@@ -1,3 +1,5 @@
+mod EntryLemmas
+pub mod FirstLineLemmas
 mod ListingLemmas
 mod MarkerLemmas
 mod RankLemmas

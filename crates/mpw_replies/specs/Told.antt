@@ -11,10 +11,10 @@ abbrev pub told_lines : Told → List Listed
 told_lines (told.Stored lines) = map stored lines.items
 told_lines (told.Shapes listing) = listing
 told_lines (told.Markers listing) = listing
-told_lines (told.Trail trail) = trail_lines trail.entries
+told_lines (told.Trail listing) = trail_lines listing
 
 abbrev pub kept_lines : Kept → List Listed
 kept_lines (kept.Stored lines) = map stored lines.now
 kept_lines (kept.Shapes listing) = listing.now
 kept_lines (kept.Markers listing) = listing.now
-kept_lines (kept.Trail trail) = trail_lines trail.now.entries
+kept_lines (kept.Trail listing) = trail_lines listing.now

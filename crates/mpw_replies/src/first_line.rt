@@ -1,6 +1,9 @@
-//! The words of a first line: what a session lacks, or why a request is refused. They take no memory.
+//! What the first line of a reply says: how many lines follow, what the session lacks, or why the request is refused.
+//!
+//! The trail tells the same of each request. So its words are given here, for whoever writes them; they take no memory.
 ghost use Rattle.std.specs.Prelude.{◌≡◌};
-ghost use Rattle.mpw_replies.specs.FirstLineText.{operation_text, object_text, denial_word, fault_text, deck_text, code_text};
+ghost use Rattle.std.specs.List.{flat_map};
+ghost use Rattle.mpw_replies.specs.FirstLineText.{operation_text, object_text, denial_word, denial_text, fault_text, deck_text, code_text};
 
 use crate::reply::{Code, Denial};
 use mpw_deck::DeckKind;
@@ -29,7 +32,7 @@ pub fn operation_word(operation: &Operation) -> &str
 
 /// The word of an object.
 #[tactic(auto, unfolding(crate::specs::FirstLineText::object_text))]
-pub fn object_word(object: &Object) -> &str
+pub(crate) fn object_word(object: &Object) -> &str
     ensures { result.now ≡ object_text object.now }
 {
     match object {
@@ -40,7 +43,7 @@ pub fn object_word(object: &Object) -> &str
 
 /// How the text begins that says what a session lacks.
 #[tactic(auto, unfolding(crate::specs::FirstLineText::denial_word))]
-pub fn denial_word(denial: &Denial) -> &str
+fn denial_word(denial: &Denial) -> &str
     ensures { result.now ≡ denial_word denial.now }
 {
     match denial {
@@ -55,9 +58,27 @@ pub fn denial_word(denial: &Denial) -> &str
     }
 }
 
+/// The parts of what a session lacks, with empty ones behind the last.
+#[tactic(auto, unfolding(crate::specs::FirstLineText::denial_text))]
+pub fn denial_parts(denial: &Denial) -> [&str; 4]
+    ensures { flat_map (λ part. part.now) result ≡ denial_text denial.now }
+{
+    let word = denial_word(denial);
+    match denial {
+        Denial::Session | Denial::Login | Denial::Asker => [word, "", "", ""],
+        Denial::Permission(operation, object) => {
+            [word, operation_word(operation), " ", object_word(object)]
+        }
+        Denial::Activation(name)
+        | Denial::Ssd(name)
+        | Denial::Dsd(name)
+        | Denial::Submitter(name) => [word, name.as_str(), "", ""],
+    }
+}
+
 /// The number and the word of a text's fault.
 #[tactic(auto, unfolding(crate::specs::FirstLineText::fault_text))]
-pub fn fault_words(code: TextFault) -> &'static str
+fn fault_words(code: TextFault) -> &'static str
     ensures { result.now ≡ fault_text code }
 {
     match code {
@@ -83,7 +104,7 @@ pub fn fault_words(code: TextFault) -> &'static str
 
 /// The number and the word of a deck's fault.
 #[tactic(auto, unfolding(crate::specs::FirstLineText::deck_text))]
-pub fn deck_words(kind: DeckKind) -> &'static str
+fn deck_words(kind: DeckKind) -> &'static str
     ensures { result.now ≡ deck_text kind }
 {
     match kind {
@@ -98,7 +119,7 @@ pub fn deck_words(kind: DeckKind) -> &'static str
     }
 }
 
-/// The number and the word of a refusal.
+/// The number and the word of a refusal. It takes no memory.
 #[tactic(auto, unfolding(crate::specs::FirstLineText::code_text))]
 pub fn code_words(code: Code) -> &'static str
     ensures { result.now ≡ code_text code }

@@ -1,9 +1,10 @@
 //! What the desk replies: the lines of what is accepted, and what denies or refuses a request.
 //!
-//! A copy of a reply shares its lines, and a listing is kept as what it lists.
+//! A copy of a reply shares its lines, and a listing is kept as what it lists; the trail keeps the text of its rows.
 #![tactic(auto)]
 
 mod entry;
+mod entry_text;
 mod first_line;
 mod lines;
 mod listing;
@@ -17,17 +18,13 @@ mod sight;
 mod trail;
 
 pub use entry::{Entry, FirstLine};
-pub use first_line::{
-    code_words, deck_words, denial_word, fault_words, object_word, operation_word,
-};
+pub use first_line::{code_words, denial_parts, operation_word};
 pub use lines::{Kept, Lines};
 pub use listing::{ShapeListing, ShapeView, ShapeViews};
 pub use markers::{MarkerLines, MarkerListing, MarkerView, MarkerViews};
 pub use masked::{MaskedView, MaskedViews};
 pub use met::MetCells;
 pub use reply::{Code, Denial, Line, Reply};
-pub use request_words::{
-    NONE, layout_object, policy_object, run_word, user_word, verb, wafer_object,
-};
+pub use request_words::run_word;
 pub use row::{Ending, Fault, listing_reply, need};
-pub use trail::{Trail, TrailView, TrailViews};
+pub use trail::{Trail, TrailBlock, TrailListing};

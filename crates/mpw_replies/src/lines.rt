@@ -1,7 +1,7 @@
 //! The lines of an accepted request's reply.
 //!
 //! A copy of a reply shares its lines, and the history keeps each reply. So a listing of shapes, of markers or of requests is kept as
-//! what it lists ([`ShapeListing`], [`MarkerListing`], [`Trail`]), and its lines are made one by one where they are written.
+//! what it lists ([`ShapeListing`], [`MarkerListing`], [`TrailListing`]), and its lines are made one by one where they are written.
 ghost use Rattle.std.specs.Prelude.{◌≡◌, ◌∷◌, [], IfOk, length, map};
 ghost use Rattle.mpw_replies.specs.Listing.{stored};
 ghost use Rattle.mpw_replies.specs.Told.{kept_lines, told_lines};
@@ -10,7 +10,7 @@ ghost use Rattle.mpw_replies.specs.Trail.{trail_lines};
 use crate::listing::ShapeListing;
 use crate::markers::MarkerListing;
 use crate::reply::Line;
-use crate::trail::Trail;
+use crate::trail::TrailListing;
 use std::alloc::{AllocError, Global};
 use std::marker::Model;
 use std::sync::Arc;
@@ -20,7 +20,7 @@ enum Told {
     Stored(Vec<Line>),
     Shapes(ShapeListing),
     Markers(MarkerListing),
-    Trail(Trail),
+    Trail(TrailListing),
 }
 
 impl Drop for Told {
@@ -29,7 +29,7 @@ impl Drop for Told {
             Told::Stored(line) => drop(line),
             Told::Shapes(shape_listing) => drop(shape_listing),
             Told::Markers(marker_listing) => drop(marker_listing),
-            Told::Trail(trail) => drop(trail),
+            Told::Trail(trail_listing) => drop(trail_listing),
         }
     }
 }
@@ -66,7 +66,7 @@ pub enum Kept<'a> {
     /// The markers that they list.
     Markers(&'a MarkerListing),
     /// The requests that they list.
-    Trail(&'a Trail),
+    Trail(&'a TrailListing),
 }
 
 impl Lines {
@@ -122,14 +122,14 @@ impl Lines {
         Ok(Lines { told: Some(told) })
     }
 
-    /// The lines of a trail. One allocation.
+    /// The lines of a listing of the trail. One allocation.
     ///
     /// # Errors
     /// Where there is no room for it.
-    pub fn of_trail(alloc: Global, trail: Trail) -> Result<Lines, AllocError>
-        ensures { IfOk result (λ made. made ≡ trail_lines trail.entries) }
+    pub fn of_trail(alloc: Global, listing: TrailListing) -> Result<Lines, AllocError>
+        ensures { IfOk result (λ made. made ≡ trail_lines listing) }
     {
-        let told = Arc::new(alloc, Told::Trail(trail))?;
+        let told = Arc::new(alloc, Told::Trail(listing))?;
         Ok(Lines { told: Some(told) })
     }
 
@@ -151,7 +151,7 @@ impl Lines {
             Kept::Stored(lines) => lines.len(),
             Kept::Shapes(listing) => listing.len(),
             Kept::Markers(listing) => listing.len(),
-            Kept::Trail(trail) => trail.len(),
+            Kept::Trail(listing) => listing.len(),
         }
     }
 
@@ -187,6 +187,6 @@ fn kept_of(told: &Told) -> Kept<'_>
         Told::Stored(lines) => Kept::Stored(lines.as_slice()),
         Told::Shapes(listing) => Kept::Shapes(listing),
         Told::Markers(listing) => Kept::Markers(listing),
-        Told::Trail(trail) => Kept::Trail(trail),
+        Told::Trail(listing) => Kept::Trail(listing),
     }
 }

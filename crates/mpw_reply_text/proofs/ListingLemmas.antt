@@ -1,11 +1,14 @@
 -- A listing that is written item by item.
-use Rattle.std.proofs.Common.{◌≡◌, ◌∙◌, ℕ, List, [], ◌∷◌, ◌++◌, map, Option, Some, None, Result, refl, sym, ap, subst, append_assoc, append-nil}
+use Rattle.std.proofs.Common.{◌≡◌, ◌∙◌, ◌+◌, ℕ, List, [], ◌∷◌, ◌++◌, map, Option, Some, None, Result, refl, sym, ap, subst, append_assoc, append-nil}
 use Rattle.std.specs.List.{flat_map}
 use Rattle.std.specs.Io.KnownBytes.{Appends}
 use Rattle.std.specs.Result.{IsErrAnd}
 use Rattle.std.proofs.KnownBytes.{Appends-trans}
 use Rattle.std.proofs.lemmas.Grind.{flat_map-append}
 use Rattle.mpw_replies.specs.Listing.{stored}
+use Rattle.mpw_replies.specs.Trail.{numbered_entries}
+use Rattle.mpw_replies.specs.EntryText.{entry_text, entries_text}
+use Rattle.mpw_replies.specs.declared.entry.Entry.{Entry}
 use Rattle.mpw_replies.specs.declared.reply.Line.{Line}
 use Rattle.mpw_wire.specs.declared.fault.WireFault.{WireFault}
 use Rattle.mpw_reply_text.specs.Reply.{line_text, listed_text}
@@ -67,3 +70,11 @@ pub stored_text : (lines : List Line)
     → flat_map listed_text (map stored lines) ≡ flat_map line_text lines
 stored_text [] = refl
 stored_text (line ∷ lines) = ap (λ t. line_text line ++ t) (stored_text lines)
+
+-- the lines of a trail are its rows
+pub rows_text : (number : ℕ) (entries : List Entry)
+    → flat_map listed_text (numbered_entries number entries) ≡ entries_text number entries
+unfolding numbered_entries entries_text
+rows_text number [] = refl
+rows_text number (e ∷ entries) =
+    ap (λ text. entry_text number e ++ text) (rows_text (number + 1) entries)

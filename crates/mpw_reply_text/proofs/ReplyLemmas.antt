@@ -1,45 +1,12 @@
--- Why a request is refused, and how a reply begins.
-use Rattle.std.proofs.Common.{◌≡◌, [], length, refl, append_assoc}
+-- How a reply begins.
+use Rattle.std.proofs.Common.{[], length, refl, append_assoc}
 use Rattle.std.specs.List.{flat_map}
-use Rattle.mpw_deck.specs.declared.deck.DeckFault.{DeckFault}
-use Rattle.mpw_records.specs.declared.fault.ReadFault.{ReadFault}
 use Rattle.mpw_replies.specs.FirstLines.{first_line_of}
 use Rattle.mpw_replies.specs.declared.reply.Reply.{Reply}
 use Rattle.mpw_replies.specs.declared.reply.Reply.TheVariants as reply
-use Rattle.mpw_replies.specs.declared.reply.Code.{Code}
-use Rattle.mpw_replies.specs.declared.reply.Code.TheVariants.{Read, Deck, NoTop, Cycle, NoCell, Extent, Shapes, Deep, Full, Tiles, Opened, NoRun, Unknown, Known, Used, Loop, Running, NoDeck, Empty, NotFinished, NoMarker, NoWaiver, Ended, Store, Closed}
 use Rattle.mpw_reply_text.specs.Reply.{listed_text, accepted_text, reply_text, IsLedBy}
-use Rattle.mpw_reply_text.specs.Setting.{line_feed}
-use Rattle.mpw_replies.specs.FirstLineText.{code_text, count_text, refused_text, refusal_of, first_line_text}
-
--- that of any but a text's fault has no place
-pub refused_alone : (code : Code) → ((f : ReadFault) → code ≡ Read f → ⊥)
-    → ((f : DeckFault) → code ≡ Deck f → ⊥) → refused_text code ≡ refusal_of (code_text code)
-refused_alone (Read f) other another = absurd (other f refl)
-refused_alone (Deck f) other another = absurd (another f refl)
-refused_alone NoTop other another = refl
-refused_alone Cycle other another = refl
-refused_alone NoCell other another = refl
-refused_alone Extent other another = refl
-refused_alone Shapes other another = refl
-refused_alone Deep other another = refl
-refused_alone Full other another = refl
-refused_alone Tiles other another = refl
-refused_alone Opened other another = refl
-refused_alone NoRun other another = refl
-refused_alone Unknown other another = refl
-refused_alone Known other another = refl
-refused_alone Used other another = refl
-refused_alone Loop other another = refl
-refused_alone Running other another = refl
-refused_alone NoDeck other another = refl
-refused_alone Empty other another = refl
-refused_alone NotFinished other another = refl
-refused_alone NoMarker other another = refl
-refused_alone NoWaiver other another = refl
-refused_alone Ended other another = refl
-refused_alone Store other another = refl
-refused_alone Closed other another = refl
+use Rattle.mpw_reply_text.specs.Lines.{line_feed}
+use Rattle.mpw_replies.specs.FirstLineText.{count_text, first_line_text}
 
 pub led_by_first_line : (r : Reply) → IsLedBy (first_line_text (first_line_of r)) (reply_text r)
 unfolding reply_text accepted_text

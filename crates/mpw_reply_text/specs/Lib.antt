@@ -1,3 +1,2 @@
+pub mod Lines
 pub mod Reply
-pub mod Setting
-pub mod Internal

@@ -23,7 +23,7 @@ use Rattle.mpw_reply_text.specs.declared.reply.LineRefusal.TheVariants as refusa
 use Rattle.mpw_requests.specs.Words.{marker_key}
 use Rattle.mpw_wire.specs.Keys.{spot_of, key_text}
 use Rattle.mpw_replies.specs.EntryText.{entry_text}
-use Rattle.mpw_reply_text.specs.Setting.{line_feed}
+use Rattle.mpw_reply_text.specs.Lines.{line_feed}
 use Rattle.mpw_replies.specs.FirstLineText.{count_text, denial_text, refused_text, refusal_of, first_line_text}
 
 -- a line of a word and a name

@@ -3,9 +3,8 @@ ghost use Rattle.std.specs.Prelude.{◌≡◌};
 ghost use Rattle.mpw_requests.specs.Words.{marker_key};
 ghost use Rattle.mpw_wire.specs.Keys.{spot_of, named_spot, key_text};
 ghost use Rattle.mpw_wire.specs.Writing.{Writes};
-ghost use Rattle.mpw_reply_text.specs.Internal.Setting.{set_text};
 
-use crate::setting::{Setting, write_set};
+use crate::write::write_parts;
 use itoa::Buffer;
 use mpw_geom::Name;
 use mpw_markers::Key;
@@ -42,17 +41,11 @@ fn named_spot(marker: &MarkerName) -> Spot
 }
 
 /// Writes the key of a marker that lies there.
-pub(crate) fn write_key<W: Sink>(
-    writer: &mut W,
-    setting: Setting,
-    rule: &Name,
-    spot: Spot,
-) -> Result<(), WireFault>
-    ensures { Writes W.contents W.failures writer.old writer.new result (set_text setting (key_text rule.now spot)) }
+pub(crate) fn write_key<W: Sink>(writer: &mut W, rule: &Name, spot: Spot) -> Result<(), WireFault>
+    ensures { Writes W.contents W.failures writer.old writer.new result (key_text rule.now spot) }
 {
-    write_set(
+    write_parts(
         writer,
-        setting,
         &with_colons([
             rule.as_str(),
             axis_letter(&spot.axis),
@@ -68,10 +61,9 @@ pub(crate) fn write_key<W: Sink>(
 /// Writes the key of a marker that a request names.
 pub(crate) fn write_marker_key<W: Sink>(
     writer: &mut W,
-    setting: Setting,
     marker: &MarkerName,
 ) -> Result<(), WireFault>
-    ensures { Writes W.contents W.failures writer.old writer.new result (set_text setting (marker_key marker.now)) }
+    ensures { Writes W.contents W.failures writer.old writer.new result (marker_key marker.now) }
 {
-    write_key(writer, setting, &marker.rule, named_spot(marker))
+    write_key(writer, &marker.rule, named_spot(marker))
 }

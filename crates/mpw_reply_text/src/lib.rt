@@ -4,14 +4,11 @@
 //! gives its lines one by one, and each is written as it comes.
 #![tactic(auto)]
 
-mod escaped;
 mod first_line;
 mod key;
 mod markers;
-mod quotes;
 mod reply;
 mod reply_line;
-mod setting;
 mod shape;
 mod trail;
 mod write;

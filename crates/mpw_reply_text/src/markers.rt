@@ -9,7 +9,6 @@ ghost use Rattle.mpw_reply_text.specs.Reply.{cell_part, met_text, marker_text, m
 ghost use Rattle.mpw_wire.specs.Writing.{Writes};
 
 use crate::key::{spot_of, write_key};
-use crate::setting::Setting;
 use crate::write::write_parts;
 use itoa::Buffer;
 use mpw_geom::Name;
@@ -48,7 +47,7 @@ fn write_met<W: Sink>(writer: &mut W, cells: MetCells<'_>) -> Result<(), WireFau
 fn write_marker<W: Sink>(writer: &mut W, marker: MarkerView<'_>) -> Result<(), WireFault>
     ensures { Writes W.contents W.failures writer.old writer.new result (listed_text (marker_line marker.entry)) }
 {
-    write_key(writer, Setting::Within, marker.rule, spot_of(marker.key))?;
+    write_key(writer, marker.rule, spot_of(marker.key))?;
     write_met(writer, marker.cells)
 }
 

@@ -7,10 +7,9 @@ ghost use Rattle.mpw_wire.specs.Writing.{Writes};
 use crate::first_line::{write_code, write_count, write_denial};
 use crate::markers::write_markers;
 use crate::reply_line::write_line;
-use crate::setting::{Setting, write_set};
 use crate::shape::write_shapes;
 use crate::trail::write_trail;
-use crate::write::flush;
+use crate::write::{flush, write_whole_line};
 use mpw_replies::{Kept, Line, Lines, Reply};
 use mpw_wire::{Sink, WireFault};
 
@@ -32,7 +31,7 @@ fn write_lines<W: Sink>(writer: &mut W, lines: &Lines) -> Result<(), WireFault>
         Kept::Stored(lines) => write_stored(writer, lines),
         Kept::Shapes(listing) => write_shapes(writer, listing),
         Kept::Markers(listing) => write_markers(writer, listing),
-        Kept::Trail(trail) => write_trail(writer, trail),
+        Kept::Trail(listing) => write_trail(writer, listing),
     }
 }
 
@@ -41,7 +40,7 @@ fn write_lines<W: Sink>(writer: &mut W, lines: &Lines) -> Result<(), WireFault>
 fn write_accepted<W: Sink>(writer: &mut W, lines: &Lines) -> Result<(), WireFault>
     ensures { Writes W.contents W.failures writer.old writer.new result (accepted_text lines.now) }
 {
-    write_count(writer, Setting::Line, lines.len())?;
+    write_count(writer, lines.len())?;
     write_lines(writer, lines)
 }
 
@@ -80,7 +79,7 @@ pub fn write_refusal<W: Sink>(refusal: LineRefusal, writer: &mut W) -> Result<()
     ensures text { Writes W.contents W.failures writer.old writer.new result (refusal_text refusal) }
     ensures handed { IfOk result (λ _. W.pending writer.new ≡ false) }
 {
-    write_set(writer, Setting::Line, &["REFUSED ", refusal_words(refusal)])?;
+    write_whole_line(writer, &["REFUSED ", refusal_words(refusal)])?;
     flush(writer)
 }
 
@@ -91,8 +90,8 @@ fn write_text<W: Sink>(reply: &Reply, writer: &mut W) -> Result<(), WireFault>
 {
     match reply {
         Reply::Ok(lines) => write_accepted(writer, lines),
-        Reply::Denied(denial) => write_denial(writer, Setting::Line, denial),
-        Reply::Refused(code) => write_code(writer, Setting::Line, *code),
+        Reply::Denied(denial) => write_denial(writer, denial),
+        Reply::Refused(code) => write_code(writer, *code),
     }
 }
 

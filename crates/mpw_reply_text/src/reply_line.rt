@@ -4,7 +4,6 @@ ghost use Rattle.mpw_reply_text.specs.Reply.{named_text, numbered_text, checking
 ghost use Rattle.mpw_wire.specs.Writing.{Writes};
 
 use crate::key::write_marker_key;
-use crate::setting::Setting;
 use crate::write::write_parts;
 use itoa::Buffer;
 use mpw_geom::Name;
@@ -89,7 +88,7 @@ fn write_named<W: Sink>(writer: &mut W, word: &str, name: &Name) -> Result<(), W
 fn write_asked<W: Sink>(writer: &mut W, marker: &MarkerName, asker: &Name) -> Result<(), WireFault>
     ensures { Writes W.contents W.failures writer.old writer.new result (asked_text marker.now asker.now) }
 {
-    write_marker_key(writer, Setting::Within, marker)?;
+    write_marker_key(writer, marker)?;
     write_parts(writer, &[" asked ", asker.as_str(), "\n"])
 }
 
@@ -103,7 +102,7 @@ fn write_signed<W: Sink>(
 ) -> Result<(), WireFault>
     ensures { Writes W.contents W.failures writer.old writer.new result (signed_text marker.now asker.now signer.now) }
 {
-    write_marker_key(writer, Setting::Within, marker)?;
+    write_marker_key(writer, marker)?;
     write_parts(
         writer,
         &[" signed ", asker.as_str(), " ", signer.as_str(), "\n"],

@@ -1,6 +1,7 @@
 //! Writing all of some bytes to a sink.
 ghost use Rattle.std.specs.Prelude.{◌≡◌, [], ◌++◌, IfOk, false};
 ghost use Rattle.std.specs.List.{flat_map};
+ghost use Rattle.mpw_reply_text.specs.Lines.{line_feed};
 ghost use Rattle.mpw_wire.specs.Writing.{Writes};
 
 use mpw_wire::{Sink, WireFault};
@@ -30,6 +31,14 @@ pub(crate) fn write_parts<W: Sink>(writer: &mut W, parts: &[&str]) -> Result<(),
         write_bytes(writer, part.as_bytes())?;
     }
     Ok(())
+}
+
+/// Writes the texts in their order, and a line feed.
+pub(crate) fn write_whole_line<W: Sink>(writer: &mut W, parts: &[&str]) -> Result<(), WireFault>
+    ensures { Writes W.contents W.failures writer.old writer.new result (flat_map (λ part. part.now) parts.now ++ line_feed) }
+{
+    write_parts(writer, parts)?;
+    write_parts(writer, &["\n"])
 }
 
 /// Has the sink hand on what it took.

@@ -9,5 +9,5 @@ unfolding refusal_text
 returns-clause-text g c =
     let text = refusal_text c.args.refusal in
     subst (WritesKnown _ _ _ _ _) (append-nil text)
-    (Writes_both _ _ _ _ _ _ _ _ text [] (ap fault_of c.in_ok-write_set.was) (search rules)
+    (Writes_both _ _ _ _ _ _ _ _ text [] (ap fault_of c.in_ok-write_whole_line.was) (search rules)
     c.flush.ensures.text)

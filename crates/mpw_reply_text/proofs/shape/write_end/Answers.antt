@@ -1,6 +1,6 @@
 use Rattle.std.proofs.Common.{ap}
 use Rattle.mpw_reply_text.specs.Reply.{points_text, shape_end}
-use Rattle.mpw_reply_text.specs.Setting.{line_feed}
+use Rattle.mpw_reply_text.specs.Lines.{line_feed}
 use Rattle.mpw_wire.specs.Writing.{fault_of}
 use Rattle.mpw_reply_text.proofs.WritingLemmas.{Writes_first, Writes_both, handed_on}
 use Rattle.mpw_reply_text.proofs.shape.write_end.Goals as goal

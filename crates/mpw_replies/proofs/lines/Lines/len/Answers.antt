@@ -6,6 +6,6 @@ use Rattle.mpw_replies.proofs.lines.Lines.len.Goals as goal
 pub returns-in-Trail : goal.returns-in-Trail
 returns-in-Trail c =
     c.len-in-Trail.ensures
-    ∙ sym (numbered_length 1 c.in-Trail.trail.now.entries)
+    ∙ sym (numbered_length 1 c.in-Trail.listing.now)
     ∙ ap (λ k. length (kept_lines k)) (sym c.in-Trail.is)
     ∙ ap length c.contents.ensures
