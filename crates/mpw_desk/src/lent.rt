@@ -9,21 +9,75 @@ use crate::pass::Pass;
 use crate::room::Room;
 use crate::shared::Shared;
 use mpw_events::{Handler, Keeper, Response};
-use mpw_requests::SharedRequest;
+use mpw_requests::{Request, SharedRequest};
 use mpw_serve::{Responder, Served, serve_connection};
 use mpw_wire::{Sink, Source};
 use std::alloc::Global;
 use std::marker::Model;
 use std::sync::Wait;
 
-/// A shared desk with the pass of a connection, and what may wait for the lock. Contracts see the pass.
-struct Lent<'a, H: Handler + Drop, K: Keeper + Drop, N: Room, R: Wait> {
+/// Who is shown the requests of a connection with their answers, as one who keeps a log. It is called outside the lock, and takes no part in a
+/// contract.
+pub trait Witness {
+    /// The request is put to the desk.
+    fn asked(&mut self, request: &Request);
+
+    /// The request before was answered; with none where memory was wanting.
+    fn answered(&mut self, response: Option<&Response>);
+}
+
+/// A witness that looks away.
+#[derive(Clone, Copy)]
+pub struct Unwatched;
+
+impl Witness for Unwatched {
+    fn asked(&mut self, _request: &Request) {}
+
+    fn answered(&mut self, _response: Option<&Response>) {}
+}
+
+/// The pass of a connection, and who is shown its requests.
+pub struct Caller<N: Room, W: Witness + Drop> {
+    /// The pass.
+    pub pass: Pass<N>,
+    /// Who is shown the requests.
+    pub witness: W,
+}
+
+impl<N: Room, W: Witness + Drop> Drop for Caller<N, W> {
+    fn drop(self) {
+        let Caller { pass, witness } = self;
+        drop(pass);
+        drop(witness);
+    }
+}
+
+impl<N: Room, W: Witness + Drop> Caller<N, W> {
+    /// The pass and the witness.
+    fn into_parts(self) -> (Pass<N>, W)
+        ensures { result.0 ≡ self.pass }
+    {
+        let Caller { pass, witness } = self;
+        (pass, witness)
+    }
+}
+
+/// A shared desk with the pass of a connection, what may wait for the lock, and who is shown the requests. Contracts see the pass.
+struct Lent<'a, H: Handler + Drop, K: Keeper + Drop, N: Room, R: Wait, W: Witness + Drop> {
     rt: &'a R,
     shared: &'a Shared<H, K, N>,
     pass: Pass<N>,
+    witness: W,
 }
 
-impl<'a, H: Handler + Drop, K: Keeper + Drop, N: Room, R: Wait> Model for Lent<'a, H, K, N, R> {
+impl<'a, H, K, N, R, W> Model for Lent<'a, H, K, N, R, W>
+where
+    H: Handler + Drop,
+    K: Keeper + Drop,
+    N: Room,
+    R: Wait,
+    W: Witness + Drop,
+{
     ghost use Rattle.mpw_desk.specs.Values.{PassView};
 
     ghost Value = { PassView };
@@ -31,7 +85,14 @@ impl<'a, H: Handler + Drop, K: Keeper + Drop, N: Room, R: Wait> Model for Lent<'
     ghost view = { λ l. l.pass };
 }
 
-impl<'a, H: Handler + Drop, K: Keeper + Drop, N: Room, R: Wait> Responder for Lent<'a, H, K, N, R> {
+impl<'a, H, K, N, R, W> Responder for Lent<'a, H, K, N, R, W>
+where
+    H: Handler + Drop,
+    K: Keeper + Drop,
+    N: Room,
+    R: Wait,
+    W: Witness + Drop,
+{
     ghost use Rattle.mpw_desk.specs.Serving.{IsAsked, IsParted};
 
     ghost told = { IsAsked };
@@ -39,9 +100,16 @@ impl<'a, H: Handler + Drop, K: Keeper + Drop, N: Room, R: Wait> Responder for Le
     ghost parted = { IsParted };
 
     fn ask(&mut self, request: SharedRequest) -> Option<Response> {
+        self.witness.asked(request.get());
         match self.shared.ask(self.rt, &mut self.pass, request) {
-            Ok(response) => Some(response),
-            Err(_) => None,
+            Ok(response) => {
+                self.witness.answered(Some(&response));
+                Some(response)
+            }
+            Err(_) => {
+                self.witness.answered(None);
+                None
+            }
         }
     }
 
@@ -50,7 +118,14 @@ impl<'a, H: Handler + Drop, K: Keeper + Drop, N: Room, R: Wait> Responder for Le
     }
 }
 
-impl<'a, H: Handler + Drop, K: Keeper + Drop, N: Room, R: Wait> Lent<'a, H, K, N, R> {
+impl<'a, H, K, N, R, W> Lent<'a, H, K, N, R, W>
+where
+    H: Handler + Drop,
+    K: Keeper + Drop,
+    N: Room,
+    R: Wait,
+    W: Witness + Drop,
+{
     /// The pass.
     fn into_pass(self) -> Pass<N>
         ensures { result ≡ self.entry }
@@ -59,7 +134,9 @@ impl<'a, H: Handler + Drop, K: Keeper + Drop, N: Room, R: Wait> Lent<'a, H, K, N
             rt: _,
             shared: _,
             pass,
+            witness,
         } = self;
+        drop(witness);
         pass
     }
 }
@@ -87,7 +164,42 @@ where
     ensures writer { O.failures writer.new ≡ write_failures (fault_of result.1.ended) (O.failures writer.old) }
     ensures handed { LeavesNothingPending (fault_of result.1.ended) (O.pending writer.old) (O.pending writer.new) }
 {
-    let mut lent = Lent { rt, shared, pass };
+    let caller = Caller {
+        pass,
+        witness: Unwatched,
+    };
+    serve_caller(rt, alloc, shared, caller, reader, writer)
+}
+
+/// Serves a connection as [`serve_pass`] does, and shows a witness its requests with their answers.
+pub fn serve_caller<H, K, N, R, W, I, O>(
+    rt: &R,
+    alloc: Global,
+    shared: &Shared<H, K, N>,
+    caller: Caller<N, W>,
+    reader: &mut I,
+    writer: &mut O,
+) -> (Pass<N>, Served)
+where
+    H: Handler + Drop,
+    K: Keeper + Drop,
+    N: Room,
+    R: Wait,
+    W: Witness + Drop,
+    I: Source,
+    O: Sink,
+    ensures served { Serves IsAsked IsParted (I.remaining reader.old) (I.remaining reader.new) (O.contents writer.old) (O.contents writer.new) caller.pass result.0 result.1 }
+    ensures reader { I.failures reader.new ≡ read_failures (fault_of result.1.ended) (I.failures reader.old) }
+    ensures writer { O.failures writer.new ≡ write_failures (fault_of result.1.ended) (O.failures writer.old) }
+    ensures handed { LeavesNothingPending (fault_of result.1.ended) (O.pending writer.old) (O.pending writer.new) }
+{
+    let (pass, witness) = caller.into_parts();
+    let mut lent = Lent {
+        rt,
+        shared,
+        pass,
+        witness,
+    };
     let served = serve_connection(alloc, &mut lent, reader, writer);
     (lent.into_pass(), served)
 }

@@ -21,7 +21,7 @@ mod step;
 mod worker;
 
 pub use laws::passes_receive_the_calls_of_their_lines;
-pub use lent::serve_pass;
+pub use lent::{Caller, Unwatched, Witness, serve_caller, serve_pass};
 pub use locked::{Locked, MOST_PASSES, ask_in, event_in};
 pub use pass::Pass;
 pub use room::{Blank, Room};

@@ -134,11 +134,18 @@ impl<H: Handler + Drop, K: Keeper + Drop, N: Room> Locked<H, K, N> {
         &self.core
     }
 
+    /// The number of calls of the desk's history. Constant time.
+    pub fn calls(&self) -> usize
+        ensures { result ≡ length self.now.kept.desk.history }
+    {
+        self.core.calls().len()
+    }
+
     /// The number of calls since the desk was shared.
     fn len(&self) -> u64
         ensures { result ≡ length self.now.calls }
     {
-        (self.core.calls().len() - self.base) as u64
+        (self.calls() - self.base) as u64
     }
 
     /// The core with its keeper.

@@ -54,6 +54,11 @@ impl<H: Handler + Drop, K: Keeper + Drop, N: Room> Shared<H, K, N> {
         self.locked.lock(rt).admit()
     }
 
+    /// The number of calls of the desk's history, as it stood while the lock was held.
+    pub fn calls<R: Wait>(&self, rt: &R) -> usize {
+        self.locked.lock(rt).calls()
+    }
+
     /// Puts a request of the pass's connection to the desk. The lock is held for the desk's step alone.
     ///
     /// # Errors
