@@ -93,7 +93,7 @@ def lacking_requests(words):
 
 def lacking_codes(codes):
     """What the enums have and the wire or the table doesn't, and what the table has besides."""
-    wire = told("crates/mpw_reply_text/src/first_line.rt") + told("crates/mpw_reply_text/src/reply.rt")
+    wire = told("crates/mpw_replies/src/first_line.rt") + told("crates/mpw_reply_text/src/reply.rt")
     enums = (
         ("TextFault", "crates/mpw_records/src/fault.rt", "Code"),
         ("DeckKind", "crates/mpw_deck/src/deck.rt", "DeckKind"),
@@ -121,7 +121,7 @@ def lacking_faults(words):
 
 
 def lacking_denials(forms):
-    wire = read("crates/mpw_reply_text/src/first_line.rt")
+    wire = read("crates/mpw_replies/src/first_line.rt")
     words = re.findall(r'Denial::\w+(?:\(_(?:, _)?\))? => "(DENIED [^"]*)"', wire)
     enum = variants("crates/mpw_replies/src/reply.rt", "Denial")
     lost = [] if len(words) == len(enum) else ["a denial that the wire doesn't tell"]
