@@ -3,13 +3,12 @@
 #![tactic(auto)]
 
 mod line;
-mod service;
 
 use line::Line;
-use mpw_core::Core;
+use mpw_core::{Core, MAX_EVENTS};
 use mpw_serve::{Executor, command_line, print_help, run_script, tell};
+use mpw_server::run as run_service;
 use mpw_settings::{Officer, Settings};
-use service::serve;
 use std::process::ExitCode;
 use std::thread::Threads;
 
@@ -24,12 +23,12 @@ fn script(rt: &HostRuntime, threads: &(impl Threads + Sync), officer: Officer) -
     run_script::<Core, _, _, _, _>(rt, executor, officer, rt.stdin(), rt.stdout())
 }
 
-/// Exits with 0 where the connections ended, and behind help, 2 at a usage fault, 3 where a device failed, and 5 where memory was
-/// wanting. A fault is told on the standard error.
+/// Exits with 0 where the connections ended, and behind help, 2 at a usage fault, 3 where a device failed, 4 where the passes of a service don't
+/// account for every call, and 5 where memory or a thread was wanting. A fault is told on the standard error.
 fn main(rt: HostRuntime) -> ExitCode {
     match command_line(&rt) {
         Ok(Settings::Script(officer)) => script(&rt, &rt, officer),
-        Ok(Settings::Serve(service)) => serve(&rt, service),
+        Ok(Settings::Serve(service)) => run_service::<Core, _>(&rt, &rt, &service, MAX_EVENTS),
         Ok(Settings::Help(text)) => print_help(&rt, text.as_str()),
         Err(fault) => tell(&rt, &fault),
     }

@@ -1,0 +1,118 @@
+//! Why a service ends early.
+ghost use Rattle.std.specs.Prelude.{◌≡◌};
+ghost use Rattle.mpw_server.specs.Status.{exit_of, status_of, status_of_serving};
+ghost use Rattle.mpw_server.specs.declared.fault.ServeFault.TheVariants.{Memory};
+ghost use Rattle.mpw_server.specs.declared.fault.ServiceFault.TheVariants as service;
+
+use mpw_desk::Mismatch;
+use std::alloc::AllocError;
+use thiserror::Error;
+
+/// Why connections are served no further. All threads were joined.
+#[derive(Clone, Copy, PartialEq, Eq, Debug, Error)]
+pub enum ServeFault {
+    /// A connection can't be accepted.
+    #[error("a connection can't be accepted")]
+    Accept,
+    /// No pass is left for a connection or a worker.
+    #[error("no pass is left")]
+    Full,
+    /// A thread can't be started.
+    #[error("a thread can't be started")]
+    Thread,
+    /// There is no room for the lists of threads, connections or passes.
+    #[error("out of memory")]
+    Memory,
+}
+
+impl From<AllocError> for ServeFault {
+    ghost from_gives = { λ _ fault. fault ≡ Memory };
+
+    fn from(_error: AllocError) -> ServeFault {
+        ServeFault::Memory
+    }
+}
+
+impl ServeFault {
+    /// The exit status: 3 where a connection can't be accepted or no pass is left, 5 where a thread or memory is wanting.
+    fn status(self) -> u8
+        ensures { result ≡ status_of_serving self }
+    {
+        match self {
+            ServeFault::Accept | ServeFault::Full => 3,
+            ServeFault::Thread | ServeFault::Memory => 5,
+        }
+    }
+}
+
+/// Why a service gives no number of calls, in the order in which the faults are found.
+#[derive(Clone, Copy, PartialEq, Eq, Debug, Error)]
+pub enum ServiceFault {
+    /// There is no room for the new desk.
+    #[error("error: out of memory")]
+    Memory,
+    /// The file of the log can't be opened.
+    #[error("error: the file of the log can't be opened")]
+    Log,
+    /// The address isn't one, or can't be bound.
+    #[error("error: the address can't be bound")]
+    Bind,
+    /// The standard output failed.
+    #[error("error: the standard output failed")]
+    Print,
+    /// Serving ended early.
+    #[error("error: {0}")]
+    Serve(ServeFault),
+    /// The passes made another number of calls than the desk has.
+    #[error("error: the passes don't account for every call of the desk")]
+    Mismatch,
+}
+
+impl From<AllocError> for ServiceFault {
+    ghost from_gives = { λ _ fault. fault ≡ service.Memory };
+
+    fn from(_error: AllocError) -> ServiceFault {
+        ServiceFault::Memory
+    }
+}
+
+impl From<ServeFault> for ServiceFault {
+    ghost from_gives = { λ serving fault. fault ≡ service.Serve serving };
+
+    fn from(fault: ServeFault) -> ServiceFault {
+        ServiceFault::Serve(fault)
+    }
+}
+
+impl From<Mismatch> for ServiceFault {
+    ghost from_gives = { λ _ fault. fault ≡ service.Mismatch };
+
+    fn from(_mismatch: Mismatch) -> ServiceFault {
+        ServiceFault::Mismatch
+    }
+}
+
+impl ServiceFault {
+    /// The exit status: 3 where the log can't be opened, the address can't be bound, the standard output failed, a connection can't be accepted or no pass is left; 4
+    /// where the passes don't account for every call; 5 where memory or a thread is wanting.
+    pub fn status(self) -> u8
+        ensures { result ≡ status_of self }
+    {
+        match self {
+            ServiceFault::Log | ServiceFault::Bind | ServiceFault::Print => 3,
+            ServiceFault::Serve(fault) => fault.status(),
+            ServiceFault::Mismatch => 4,
+            ServiceFault::Memory => 5,
+        }
+    }
+}
+
+/// The exit status of a service by how it ended: 0 where it told its calls, and else the fault's.
+pub(crate) fn exit_status(ended: &Result<(), ServiceFault>) -> u8
+    ensures { result ≡ exit_of ended.now }
+{
+    match ended {
+        Ok(()) => 0,
+        Err(fault) => fault.status(),
+    }
+}

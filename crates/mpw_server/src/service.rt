@@ -1,0 +1,299 @@
+//! The threads of a service: one accepts connections, some serve them, and workers work runs off.
+
+use crate::arrival::Arrival;
+use crate::fault::ServeFault;
+use crate::log::Log;
+use crate::reception::Reception;
+use mpw_desk::{Pass, Room, Shared};
+use mpw_events::{Handler, Keeper};
+use mpw_job::Gate;
+use std::alloc::Global;
+use std::io::{self, ErrorKind};
+use std::net::{Net, TcpListener, TcpStream};
+use std::sync::Wait;
+use std::thread::{self, Threads};
+use std::time::{Clock, Duration};
+
+/// How often a call of the system that was broken off is made in all.
+const TRIES: u32 = 16;
+
+/// How many serve and work, and how long.
+#[derive(Clone, Copy)]
+pub struct Staff {
+    /// How many connections are served at once, 1 to 64.
+    pub connections: u32,
+    /// How many workers work runs off, 1 to 16.
+    pub workers: u32,
+    /// Whether a connection that ended makes room for another; else as many are served in all as at once.
+    pub is_ongoing: bool,
+    /// How long a client may send nothing.
+    pub idle: Duration,
+    /// How many calls the desk answers in its life.
+    pub calls: usize,
+}
+
+/// Where a service listens, who serves, and where that is taken down.
+pub struct Opening<'a> {
+    /// Accepts the connections.
+    pub listener: TcpListener,
+    /// How many serve and work.
+    pub staff: Staff,
+    /// Where a line for each connection and each request is kept.
+    pub log: &'a Log,
+}
+
+impl<'a> Drop for Opening<'a> {
+    fn drop(self) {
+        let Opening {
+            listener,
+            staff: _,
+            log: _,
+        } = self;
+        drop(listener);
+    }
+}
+
+impl<'a> Opening<'a> {
+    /// The listener, who serves, and the log.
+    fn into_parts(self) -> (TcpListener, Staff, &'a Log) {
+        let Opening {
+            listener,
+            staff,
+            log,
+        } = self;
+        (listener, staff, log)
+    }
+}
+
+/// Accepts a connection, again where the call was broken off.
+fn accept(listener: &TcpListener) -> Result<TcpStream, ServeFault> {
+    for _ in 0..TRIES {
+        match listener.accept() {
+            Ok((stream, _)) => return Ok(stream),
+            Err(error)
+                if matches!(
+                    error.kind(),
+                    ErrorKind::Interrupted | ErrorKind::ConnectionAborted
+                ) => {}
+            Err(_) => return Err(ServeFault::Accept),
+        }
+    }
+    Err(ServeFault::Accept)
+}
+
+/// Accepts one connection and hands it to a thread that is free; it tells whether more may come. A connection that the system gives no
+/// limits of time is closed at once.
+fn accept_one<H, K, N, R>(
+    rt: &R,
+    shared: &Shared<H, K, N>,
+    listener: &TcpListener,
+    reception: &Reception<N>,
+    idle: Duration,
+) -> Result<bool, ServeFault>
+where
+    H: Handler + Drop,
+    K: Keeper + Drop,
+    N: Room,
+    R: Wait,
+{
+    if !reception.is_awaited(rt) {
+        return Ok(false);
+    }
+    let stream = accept(listener)?;
+    if reception.is_closed(rt) {
+        return Ok(false);
+    }
+    let Some(pass) = shared.pass(rt) else {
+        return Err(ServeFault::Full);
+    };
+    if let Ok(arrival) = Arrival::new(stream, pass, idle) {
+        reception.hand_over(rt, arrival);
+    }
+    Ok(true)
+}
+
+/// Accepts connections until as many came as are served in all, or none is awaited any more. Then nobody listens.
+fn accept_all<H, K, N, R>(
+    rt: &R,
+    shared: &Shared<H, K, N>,
+    listener: TcpListener,
+    reception: &Reception<N>,
+    staff: Staff,
+) -> Result<(), ServeFault>
+where
+    H: Handler + Drop,
+    K: Keeper + Drop,
+    N: Room,
+    R: Wait,
+{
+    let most = if staff.is_ongoing {
+        u64::MAX
+    } else {
+        u64::from(staff.connections)
+    };
+    for _ in 0..most {
+        if !accept_one(rt, shared, &listener, reception, staff.idle)? {
+            break;
+        }
+    }
+    Ok(())
+}
+
+/// Serves connections, one after the other, until none arrives any more, and gives their passes. Where the desk has answered all its calls, or
+/// there is no room for a further pass, the service is ended.
+fn serve_arrivals<H, K, N, R>(
+    rt: &R,
+    alloc: Global,
+    shared: &Shared<H, K, N>,
+    reception: &Reception<N>,
+    log: &Log,
+) -> Vec<Pass<N>>
+where
+    H: Handler + Drop,
+    K: Keeper + Drop,
+    N: Room,
+    R: Wait + Clock + Net,
+{
+    let mut passes = Vec::new(alloc);
+    for _ in rt.forever() {
+        if passes.reserve(1).is_err() {
+            reception.end(rt, Some(ServeFault::Memory));
+        }
+        let Some(arrival) = reception.next(rt) else {
+            return passes;
+        };
+        let connection = arrival.connection();
+        let pass = arrival.serve(rt, alloc, shared, log);
+        reception.note_end(rt, connection);
+        if passes.push(pass).is_err() {
+            reception.end(rt, Some(ServeFault::Memory));
+        }
+        if shared.calls(rt) >= reception.calls() {
+            reception.end(rt, None);
+        }
+    }
+    unreachable!()
+}
+
+/// Works runs off until the desk is stopped, and gives the pass back.
+fn work<H, K, N, R, G>(
+    rt: &R,
+    alloc: Global,
+    shared: &Shared<H, K, N>,
+    mut pass: Pass<N>,
+    gate: &G,
+) -> Pass<N>
+where
+    H: Handler + Drop,
+    K: Keeper + Drop,
+    N: Room,
+    R: Wait + Clock,
+    G: Gate,
+{
+    let _ = shared.worker(rt, alloc, &mut pass, gate);
+    pass
+}
+
+/// Adds passes to others, and tells whether there was room.
+fn add_all<N: Room>(passes: &mut Vec<Pass<N>>, more: Vec<Pass<N>>) -> bool {
+    for pass in more {
+        if passes.push(pass).is_err() {
+            return false;
+        }
+    }
+    true
+}
+
+/// Serves the connections that the listener accepts, and works runs off, each in threads of their own, until as many connections ended
+/// as are served in all, or, where the service is ongoing, until the desk has answered all its calls. Then the workers work off what is left,
+/// and the passes are given back for [`Shared::finish`]. The listener is closed after the last connection was accepted. Tiles pass the gate
+/// before they are checked.
+///
+/// # Errors
+/// Where a connection can't be accepted, no pass is left, a thread can't be started, or memory is wanting. Connections are then ended, the
+/// workers are stopped, all threads are joined, and no pass is given back.
+pub fn serve<H, K, N, R, G>(
+    rt: &R,
+    alloc: Global,
+    shared: &Shared<H, K, N>,
+    opening: Opening<'_>,
+    gate: &G,
+) -> Result<Vec<Pass<N>>, ServeFault>
+where
+    H: Handler + Send + Drop,
+    K: Keeper + Send + Drop,
+    N: Room + Send + Sync,
+    R: Threads + Wait + Clock + Net<Listener = TcpListener, Stream = TcpStream> + Sync,
+    G: Gate + Sync,
+{
+    let (listener, staff, log) = opening.into_parts();
+    let Ok(address) = listener.local_addr() else {
+        return Err(ServeFault::Accept);
+    };
+    let reception: Reception<N> = Reception::new(alloc, address, staff)?;
+    let reception = &reception;
+    thread::scope(thread::scope_env(), rt, |scope| {
+        let mut working = Vec::new(alloc);
+        let mut serving = Vec::new(alloc);
+        let mut ended = Ok(());
+        for _ in 0..staff.workers {
+            let Some(pass) = shared.pass(rt) else {
+                ended = Err(ServeFault::Full);
+                break;
+            };
+            if working.reserve(1).is_err() {
+                ended = Err(ServeFault::Memory);
+                break;
+            }
+            match scope.spawn(move || work(rt, alloc, shared, pass, gate)) {
+                Ok(handle) => {
+                    let _ = working.push(handle);
+                }
+                Err(_) => {
+                    ended = Err(ServeFault::Thread);
+                    break;
+                }
+            }
+        }
+        for _ in 0..staff.connections {
+            if ended.is_err() {
+                break;
+            }
+            if serving.reserve(1).is_err() {
+                ended = Err(ServeFault::Memory);
+                break;
+            }
+            match scope.spawn(move || serve_arrivals(rt, alloc, shared, reception, log)) {
+                Ok(handle) => {
+                    let _ = serving.push(handle);
+                }
+                Err(_) => ended = Err(ServeFault::Thread),
+            }
+        }
+        if ended.is_ok() {
+            ended = accept_all(rt, shared, listener, reception, staff);
+        }
+        if ended.is_err() {
+            reception.shut(rt);
+        }
+        reception.close(rt);
+        let mut passes = Vec::new(alloc);
+        let mut is_whole = true;
+        for handle in serving {
+            is_whole &= add_all(&mut passes, handle.join(rt));
+        }
+        shared.stop(rt);
+        for handle in working {
+            is_whole &= passes.push(handle.join(rt)).is_ok();
+        }
+        ended?;
+        if let Some(fault) = reception.fault(rt) {
+            return Err(fault);
+        }
+        if is_whole {
+            Ok(passes)
+        } else {
+            Err(ServeFault::Memory)
+        }
+    })
+}
