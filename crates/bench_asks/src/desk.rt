@@ -1,0 +1,14 @@
+//! A new desk.
+
+use mpw_core::Core;
+use mpw_geom::Name;
+use mpw_requests::digest_of;
+use std::alloc::{AllocError, Global};
+
+/// A new desk of the officer `root`, whose token is `abc`. It stands behind a pointer, so that to let it go is one step.
+pub fn new_desk(alloc: Global) -> Result<Box<Core>, AllocError> {
+    match Name::read(alloc, b"root") {
+        Ok(officer) => Core::new_boxed(alloc, officer, digest_of(b"abc")),
+        Err(_) => Err(AllocError),
+    }
+}
