@@ -1,0 +1,347 @@
+"""The client against the proved program over loopback: `mpw serve` with users side by side, with clients that leave half-way, send
+nothing, send garbage or read nothing, and at its limits. The program is MPW_PROGRAM, else the one that the gate built."""
+import hashlib
+import json
+import os
+import re
+import resource
+import socket
+import subprocess
+import sys
+import tempfile
+import time
+import unittest
+from contextlib import contextmanager
+
+import layouts
+from asked import PROGRAM as ASK, environment
+from mpw_desk import Denied, Desk, State
+from stand_in import TOP
+
+sys.path.append(os.path.join(TOP, "examples"))
+
+from make import array, box, library, structure  # noqa: E402
+
+MPW = os.environ.get("MPW_PROGRAM", os.path.join(TOP, "crates", "mpw_main", "out", "mpw_main"))
+PAGE = os.path.join(os.path.dirname(ASK[-1]), "mpw-page")
+DIGEST = hashlib.sha256(b"abc").hexdigest()
+LIMIT = 60
+NOBODY = 65534
+DECK = b"tile 256\nwidth w 1/0 11\n"
+
+
+def words(connections, workers=1, *more, listen="127.0.0.1:0"):
+    """The command line of a service of the officer root."""
+    return [MPW, "serve", "--listen", listen, "--connections", str(connections), "--workers", str(workers), "--officer", "root",
+            "--digest", DIGEST, *more]
+
+
+class Service:
+    """A service that runs."""
+
+    def __init__(self, process):
+        self.process = process
+        told = process.stdout.readline().decode()
+        found = re.fullmatch(r"listening 127\.0\.0\.1:([0-9]+)\n", told)
+        if not found:
+            raise AssertionError(f"{told!r}: {process.communicate(timeout=LIMIT)[1]!r}")
+        self.port = int(found.group(1))
+
+    def connect(self):
+        return socket.create_connection(("127.0.0.1", self.port), LIMIT)
+
+    def desk(self, user="root", token="abc", role="officer"):
+        """A connection with a session."""
+        desk = Desk.connect("127.0.0.1", self.port)
+        desk.open(user, token)
+        desk.activate(role)
+        return desk
+
+    def end(self):
+        """Its exit status, what it printed after the first line, and what it told on the standard error."""
+        printed, told = self.process.communicate(timeout=LIMIT)
+        return self.process.returncode, printed.decode(), told.decode()
+
+
+@contextmanager
+def service(*given, **more):
+    popen = subprocess.Popen(
+        words(*given, **more), stdin=subprocess.DEVNULL, stdout=subprocess.PIPE, stderr=subprocess.PIPE)
+    with popen:
+        try:
+            yield Service(popen)
+        finally:
+            popen.kill()
+
+
+def read_all(end):
+    """What an end sends until it closes."""
+    found = b""
+    while True:
+        more = end.recv(65536)
+        if not more:
+            return found
+        found += more
+
+
+def grant_all(desk, *cells):
+    """The officer may do all, over these cells."""
+    for cell in cells:
+        for operation in ("submit", "read", "place"):
+            desk.grant(operation, cell, "officer")
+    for operation in ("deck", "run", "waive", "sign", "verdict", "audit"):
+        desk.grant(operation, "desk", "officer")
+
+
+@unittest.skipUnless(os.access(MPW, os.X_OK), f"{MPW} isn't built")
+class Served(unittest.TestCase):
+    def assert_calls(self, ended, least, most):
+        """The service ended well, and its desk answered so many calls."""
+        status, printed, told = ended
+        self.assertEqual((status, told), (0, ""))
+        found = re.fullmatch(r"calls ([0-9]+)\n", printed)
+        self.assertTrue(found, printed)
+        self.assertTrue(least <= int(found.group(1)) <= most, printed)
+
+
+class Sessions(Served):
+    def test_first_session(self):
+        with open(os.path.join(TOP, "examples", "first-session.txt"), "rb") as file:
+            lines = file.read()
+        with open(os.path.join(TOP, "crates", "mpw_main", "stdout"), "rb") as file:
+            expected = file.read()
+        with service(1) as served:
+            with served.connect() as end:
+                end.sendall(lines)
+                end.shutdown(socket.SHUT_WR)
+                self.assertEqual(read_all(end), expected)
+            # Twelve requests, the connection's end, and the worker's calls for a job: where it starts before the end, and as it is stopped.
+            self.assert_calls(served.end(), 14, 15)
+
+    def test_run(self):
+        with service(2, 2) as served:
+            desk = served.desk()
+            grant_all(desk, "pad")
+            self.assertEqual(desk.submit("pad", "PAD", layouts.pad()), 1)
+            desk.deck(DECK)
+            desk.place("pad", "p", "R0", 0, 0)
+            self.assertEqual(desk.run(), 1)
+            self.assertIs(desk.wait(poll=0.01, limit=LIMIT).state, State.FINISHED)
+            self.assertEqual([str(marker.key) for marker in desk.markers().full], ["w:V:0:0:10:0:100"])
+            with served.desk() as other:
+                self.assertIs(other.status().state, State.FINISHED)
+            desk.hang_up()
+            self.assertEqual(served.end()[::2], (0, ""))
+
+    def test_firms_side_by_side(self):
+        """Three firms, each by a process of its own: each submits its cell, waits for the run, and waives its marker."""
+        firms = ("alpha", "beta", "gamma")
+        with service(8, 3) as served, tempfile.TemporaryDirectory() as folder:
+            with open(os.path.join(folder, "pad.gds"), "wb") as file:
+                file.write(layouts.pad())
+            officer = served.desk()
+            grant_all(officer, *firms)
+            for firm in firms:
+                officer.adduser(firm, f"token-of-{firm}")
+                officer.addrole(f"of-{firm}")
+                officer.assign(firm, f"of-{firm}")
+                for operation, about in ("submit", firm), ("read", firm), ("waive", "desk"):
+                    officer.grant(operation, about, f"of-{firm}")
+
+            def asked(firm, *lines):
+                address = f"127.0.0.1:{served.port}"
+                options = ["--user", firm, "--role", f"of-{firm}", "--wait", "--poll", ".01"]
+                return subprocess.Popen(
+                    [*ASK, address, *options, *lines], cwd=folder, env=environment(f"token-of-{firm}"),
+                    stdin=subprocess.DEVNULL, stdout=subprocess.PIPE, stderr=subprocess.PIPE)
+
+            def replies(processes):
+                told = [process.communicate(timeout=LIMIT) for process in processes]
+                return [(process.returncode, *map(bytes.decode, texts)) for process, texts in zip(processes, told)]
+
+            submitted = replies([asked(firm, f"submit {firm} PAD @pad.gds", "cells") for firm in firms])
+            self.assertEqual(submitted, [(0, f"OK 1\nversion 1\nOK 1\n{firm} 1 {firm}\n", "") for firm in firms])
+            officer.deck(DECK)
+            for place, firm in enumerate(firms):
+                officer.place(firm, "p", "R0", 1000 * place, 0)
+            officer.run()
+            keys = [f"w:V:0:{1000 * place}:{1000 * place + 10}:0:100" for place in range(3)]
+            found = replies([asked(firm, "markers", f"waive {key}") for firm, key in zip(firms, keys)])
+            self.assertEqual(found, [(0, f"OK 1\n{key} {firm}\nOK 0\n", "") for firm, key in zip(firms, keys)])
+            self.assertEqual([(str(waiver.key), waiver.asker) for waiver in officer.waivers()], list(zip(keys, firms)))
+            for key in keys:
+                officer.sign(key)
+            self.assertEqual(officer.verdict().ruling.value, "clean")
+            officer.hang_up()
+            with served.connect():
+                pass
+            self.assertEqual(served.end()[::2], (0, ""))
+
+
+class Clients(Served):
+    def test_half_a_line(self):
+        with service(1) as served:
+            with served.connect() as end:
+                end.sendall(b"open ro")
+            # The connection's end alone, and the worker's.
+            self.assert_calls(served.end(), 2, 3)
+
+    def test_nothing_is_sent(self):
+        with service(2, 1, "--idle", "1") as served:
+            with served.connect() as silent:
+                begun = time.monotonic()
+                self.assertEqual(read_all(silent), b"")
+                self.assertTrue(0.5 < time.monotonic() - begun < 10)
+            with served.desk() as desk:
+                self.assertEqual(desk.whoami().user, "root")
+            self.assertEqual(served.end()[::2], (0, ""))
+
+    def test_garbage(self):
+        with service(3) as served:
+            for garbage, last in (b"\x00\xff\xfe GET / HTTP/1.1\r\n\r\n" * 3, b"REFUSED 40 form\n"), (b"x" * 5000, b"REFUSED 41 long\n"):
+                with served.connect() as end:
+                    end.sendall(garbage)
+                    end.shutdown(socket.SHUT_WR)
+                    self.assertTrue(read_all(end).endswith(last))
+            with served.connect() as end:
+                end.sendall(b"submit pad PAD 100\nabc")
+                end.shutdown(socket.SHUT_WR)
+                self.assertEqual(read_all(end), b"REFUSED 42 cut\n")
+            self.assertEqual(served.end()[::2], (0, ""))
+
+    def test_no_session(self):
+        """What is asked before a session is denied, with its payload read and let go."""
+        with service(1) as served:
+            with Desk.connect("127.0.0.1", served.port) as desk:
+                for _ in range(20):
+                    with self.assertRaises(Denied):
+                        desk.submit("pad", "PAD", bytes(2**20))
+                with self.assertRaises(Denied):
+                    desk.open("root", "abd")
+            self.assertEqual(served.end()[::2], (0, ""))
+
+    def test_who_reads_nothing(self):
+        """A listing of 2^20 boundaries that nobody reads keeps no other connection waiting."""
+        array_of_bars = structure("TOP", array("BAR", 0, 0, 1024, 1024, 20))
+        with service(2) as served:
+            lazy, desk = served.desk(), served.desk()
+            grant_all(desk, "big")
+            desk.submit("big", "TOP", library(structure("BAR", box(1, 0, 0, 10, 10)), array_of_bars))
+            lazy.channel.send(b"shapes big\n", LIMIT)
+            waits = []
+            for _ in range(50):
+                begun = time.monotonic()
+                desk.whoami()
+                waits.append(time.monotonic() - begun)
+                time.sleep(0.01)
+            self.assertLess(max(waits), 5)
+            lazy.hang_up()
+            desk.hang_up()
+            self.assertEqual(served.end()[::2], (0, ""))
+
+
+class Pages(Served):
+    """`mpw-page`, by the program's script."""
+
+    def test_page_of_a_structure(self):
+        with tempfile.TemporaryDirectory() as folder:
+            paths = {name: os.path.join(folder, name) for name in ("pad.gds", "rules.deck", "out.html")}
+            for name, data in ("pad.gds", layouts.pad()), ("rules.deck", DECK):
+                with open(paths[name], "wb") as file:
+                    file.write(data)
+
+            def page(top="PAD", out="out.html"):
+                options = ["--program", MPW, "--deck", paths["rules.deck"], "--top", top]
+                ended = subprocess.run([PAGE, *options, paths["pad.gds"], paths[out]], stderr=subprocess.PIPE, timeout=LIMIT)
+                return ended.returncode, ended.stderr.decode()
+
+            self.assertEqual(page(), (0, ""))
+            with open(paths["out.html"], encoding="ascii") as file:
+                found = file.read()
+            data = json.loads(re.search(r'id="data">(.*)</script>', found).group(1))
+            self.assertEqual(data["markers"], ["w:V:0:0:10:0:100 PAD"])
+            self.assertEqual(data["placements"], ["PAD top R0 0 0"])
+            self.assertEqual([cell for cell, _ in data["shapes"]], ["PAD"])
+            status, told = page(top="NONE")
+            self.assertEqual((status, "REFUSED 20 notop" in told), (4, True), told)
+            status, told = page(out="pad.gds")
+            self.assertEqual((status, "isn't written over" in told), (4, True), told)
+            with open(paths["pad.gds"], "rb") as file:
+                self.assertEqual(file.read(), layouts.pad())
+
+
+class Limits(Served):
+    def test_one_client_more(self):
+        with service(64) as served:
+            ends = [served.connect() for _ in range(64)]
+            for end in ends:
+                end.sendall(b"whoami\n")
+            for end in ends:
+                self.assertEqual(end.recv(100), b"DENIED session\n")
+            with self.assertRaises(OSError):
+                with served.connect() as more:
+                    more.sendall(b"whoami\n")
+                    if not more.recv(100):
+                        raise OSError
+            for end in ends:
+                end.close()
+            self.assert_calls(served.end(), 129, 130)
+
+    def test_ongoing(self):
+        """One that ended makes room for another, without an end."""
+        with service(2, 1, "--ongoing") as served:
+            for _ in range(10):
+                with served.desk() as one, served.desk() as another:
+                    self.assertEqual(one.whoami().user, another.whoami().user)
+            held = [served.connect(), served.connect()]
+            for end in held:
+                end.sendall(b"whoami\n")
+                self.assertEqual(end.recv(100), b"DENIED session\n")
+            waiting = served.connect()
+            waiting.sendall(b"whoami\n")
+            waiting.settimeout(0.3)
+            with self.assertRaises(socket.timeout):
+                waiting.recv(100)
+            held[0].close()
+            waiting.settimeout(LIMIT)
+            self.assertEqual(waiting.recv(100), b"DENIED session\n")
+            for end in waiting, held[1]:
+                end.close()
+            self.assertIsNone(served.process.poll())
+
+    def test_port_that_is_taken(self):
+        with socket.create_server(("127.0.0.1", 0)) as taken:
+            listen = f"127.0.0.1:{taken.getsockname()[1]}"
+            ended = subprocess.run(words(1, listen=listen), stdout=subprocess.PIPE, stderr=subprocess.PIPE, timeout=LIMIT)
+        self.assertEqual((ended.returncode, ended.stdout), (3, b""))
+        self.assertIn(b"bound", ended.stderr)
+
+    def test_usage(self):
+        for connections, workers in (0, 1), (65, 1), (1, 0), (1, 17):
+            ended = subprocess.run(
+                words(connections, workers), stdout=subprocess.PIPE, stderr=subprocess.PIPE, timeout=LIMIT)
+            self.assertEqual((ended.returncode, ended.stdout), (2, b""))
+
+    def test_output_that_is_full(self):
+        with open("/dev/full", "wb") as full:
+            ended = subprocess.run(words(1), stdout=full, stderr=subprocess.PIPE, timeout=LIMIT)
+        self.assertEqual(ended.returncode, 3)
+
+    @unittest.skipUnless(os.geteuid() == 0, "only root takes the place of a user who has no thread left")
+    def test_thread_that_cannot_be_started(self):
+        def limited():
+            resource.setrlimit(resource.RLIMIT_NPROC, (2, 2))
+            os.setgid(NOBODY)
+            os.setuid(NOBODY)
+
+        with tempfile.TemporaryDirectory() as folder:
+            os.chmod(folder, 0o755)
+            program = os.path.join(folder, "mpw")
+            with open(MPW, "rb") as given, open(program, "wb") as copy:
+                copy.write(given.read())
+            os.chmod(program, 0o755)
+            ended = subprocess.run(
+                [program, *words(8, 8)[1:]], stdout=subprocess.PIPE, stderr=subprocess.PIPE, timeout=LIMIT,
+                preexec_fn=limited, cwd=folder)
+        self.assertEqual(ended.returncode, 5)
+        self.assertIn(b"thread", ended.stderr)
