@@ -175,14 +175,8 @@ where
     unreachable!()
 }
 
-/// Works runs off until the desk is stopped, and gives the pass back.
-fn work<H, K, N, R, G>(
-    rt: &R,
-    alloc: Global,
-    shared: &Shared<H, K, N>,
-    mut pass: Pass<N>,
-    gate: &G,
-) -> Pass<N>
+/// Works runs off with a pass of its own until the desk is stopped, and gives the pass; none where none is left.
+fn work<H, K, N, R, G>(rt: &R, alloc: Global, shared: &Shared<H, K, N>, gate: &G) -> Option<Pass<N>>
 where
     H: Handler + Drop,
     K: Keeper + Drop,
@@ -190,8 +184,9 @@ where
     R: Wait + Clock,
     G: Gate,
 {
+    let mut pass = shared.pass(rt)?;
     let _ = shared.worker(rt, alloc, &mut pass, gate);
-    pass
+    Some(pass)
 }
 
 /// Adds passes to others, and tells whether there was room.
@@ -237,15 +232,11 @@ where
         let mut serving = Vec::new(alloc);
         let mut ended = Ok(());
         for _ in 0..staff.workers {
-            let Some(pass) = shared.pass(rt) else {
-                ended = Err(ServeFault::Full);
-                break;
-            };
             if working.reserve(1).is_err() {
                 ended = Err(ServeFault::Memory);
                 break;
             }
-            match scope.spawn(move || work(rt, alloc, shared, pass, gate)) {
+            match scope.spawn(move || work(rt, alloc, shared, gate)) {
                 Ok(handle) => {
                     let _ = working.push(handle);
                 }
@@ -284,7 +275,10 @@ where
         }
         shared.stop(rt);
         for handle in working {
-            is_whole &= passes.push(handle.join(rt)).is_ok();
+            match handle.join(rt) {
+                Some(pass) => is_whole &= passes.push(pass).is_ok(),
+                None => ended = Err(ServeFault::Full),
+            }
         }
         ended?;
         if let Some(fault) = reception.fault(rt) {
