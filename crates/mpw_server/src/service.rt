@@ -175,17 +175,23 @@ where
     unreachable!()
 }
 
+/// Lets every tile pass at once.
+struct Unheld;
+
+impl Gate for Unheld {
+    fn pass(&self, _run: u32, _tile: u32) {}
+}
+
 /// Works runs off with a pass of its own until the desk is stopped, and gives the pass; none where none is left.
-fn work<H, K, N, R, G>(rt: &R, alloc: Global, shared: &Shared<H, K, N>, gate: &G) -> Option<Pass<N>>
+fn work<H, K, N, R>(rt: &R, alloc: Global, shared: &Shared<H, K, N>) -> Option<Pass<N>>
 where
     H: Handler + Drop,
     K: Keeper + Drop,
     N: Room,
     R: Wait + Clock,
-    G: Gate,
 {
     let mut pass = shared.pass(rt)?;
-    let _ = shared.worker(rt, alloc, &mut pass, gate);
+    let _ = shared.worker(rt, alloc, &mut pass, &Unheld);
     Some(pass)
 }
 
@@ -201,25 +207,22 @@ fn add_all<N: Room>(passes: &mut Vec<Pass<N>>, more: Vec<Pass<N>>) -> bool {
 
 /// Serves the connections that the listener accepts, and works runs off, each in threads of their own, until as many connections ended
 /// as are served in all, or, where the service is ongoing, until the desk has answered all its calls. Then the workers work off what is left,
-/// and the passes are given back for [`Shared::finish`]. The listener is closed after the last connection was accepted. Tiles pass the gate
-/// before they are checked.
+/// and the passes are given back for [`Shared::finish`]. The listener is closed after the last connection was accepted.
 ///
 /// # Errors
 /// Where a connection can't be accepted, no pass is left, a thread can't be started, or memory is wanting. Connections are then ended, the
 /// workers are stopped, all threads are joined, and no pass is given back.
-pub fn serve<H, K, N, R, G>(
+pub fn serve<H, K, N, R>(
     rt: &R,
     alloc: Global,
     shared: &Shared<H, K, N>,
     opening: Opening<'_>,
-    gate: &G,
 ) -> Result<Vec<Pass<N>>, ServeFault>
 where
     H: Handler + Send + Drop,
     K: Keeper + Send + Drop,
     N: Room + Send + Sync,
     R: Threads + Wait + Clock + Net<Listener = TcpListener, Stream = TcpStream> + Sync,
-    G: Gate + Sync,
 {
     let (listener, staff, log) = opening.into_parts();
     let Ok(address) = listener.local_addr() else {
@@ -236,7 +239,7 @@ where
                 ended = Err(ServeFault::Memory);
                 break;
             }
-            match scope.spawn(move || work(rt, alloc, shared, gate)) {
+            match scope.spawn(move || work(rt, alloc, shared)) {
                 Ok(handle) => {
                     let _ = working.push(handle);
                 }
