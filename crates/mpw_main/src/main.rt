@@ -5,7 +5,7 @@
 mod line;
 
 use line::Line;
-use mpw_core::{Core, MAX_EVENTS};
+use mpw_core::Core;
 use mpw_serve::{Executor, command_line, print_help, run_script, tell};
 use mpw_server::run as run_service;
 use mpw_settings::{Officer, Settings};
@@ -28,7 +28,7 @@ fn script(rt: &HostRuntime, threads: &(impl Threads + Sync), officer: Officer) -
 fn main(rt: HostRuntime) -> ExitCode {
     match command_line(&rt) {
         Ok(Settings::Script(officer)) => script(&rt, &rt, officer),
-        Ok(Settings::Serve(service)) => run_service::<Core, _>(&rt, &rt, &service, MAX_EVENTS),
+        Ok(Settings::Serve(service)) => run_service(&rt, &rt, &service),
         Ok(Settings::Help(text)) => print_help(&rt, text.as_str()),
         Err(fault) => tell(&rt, &fault),
     }

@@ -21,6 +21,10 @@ struct Waiting<N: Room> {
     arrival: Option<Arrival<N>>,
     /// How many threads wait for one.
     free: u32,
+    /// How many threads have begun.
+    begun: u32,
+    /// How many of those that serve have ended.
+    left: usize,
     /// Nothing arrives any more.
     is_closed: bool,
     /// What a thread lacked.
@@ -34,6 +38,8 @@ impl<N: Room> Drop for Waiting<N> {
         let Waiting {
             arrival,
             free: _,
+            begun: _,
+            left: _,
             is_closed: _,
             fault: _,
             open,
@@ -49,6 +55,8 @@ pub(crate) struct Reception<N: Room> {
     changed: Condvar,
     /// Where connections are accepted.
     address: SocketAddr,
+    /// How many workers work runs off.
+    workers: u32,
     /// How many calls the desk answers in its life.
     calls: usize,
 }
@@ -59,6 +67,7 @@ impl<N: Room> Drop for Reception<N> {
             waiting,
             changed,
             address: _,
+            workers: _,
             calls: _,
         } = self;
         drop(waiting);
@@ -103,12 +112,15 @@ impl<N: Room> Reception<N> {
             waiting: Mutex::new(Waiting {
                 arrival: None,
                 free: 0,
+                begun: 0,
+                left: 0,
                 is_closed: false,
                 fault: None,
                 open,
             }),
             changed: Condvar::new(),
             address,
+            workers: staff.workers,
             calls: staff.calls,
         })
     }
@@ -116,6 +128,33 @@ impl<N: Room> Reception<N> {
     /// How many calls the desk answers in its life.
     pub(crate) fn calls(&self) -> usize {
         self.calls
+    }
+
+    /// Notes that a thread has begun, and tells whether it works runs off: the first that come do.
+    pub(crate) fn is_worker<R: Wait>(&self, rt: &R) -> bool {
+        let mut waiting = self.waiting.lock(rt);
+        waiting.begun = waiting.begun.saturating_add(1);
+        waiting.begun <= self.workers
+    }
+
+    /// Notes that a thread serves no more.
+    pub(crate) fn leave<R: Wait>(&self, rt: &R) {
+        let mut waiting = self.waiting.lock(rt);
+        waiting.left = waiting.left.saturating_add(1);
+        drop(waiting);
+        self.changed.notify_all();
+    }
+
+    /// Waits until of so many threads all but the workers have ended.
+    pub(crate) fn wait_for_all<R: Wait>(&self, rt: &R, threads: usize) {
+        let serving = threads.saturating_sub(self.workers as usize);
+        let mut waiting = self.waiting.lock(rt);
+        for _ in rt.forever() {
+            if waiting.left >= serving {
+                return;
+            }
+            waiting = self.changed.wait(rt, waiting);
+        }
     }
 
     /// Waits until a thread is free; it tells whether a connection may still arrive.

@@ -4,8 +4,9 @@ use crate::arrival::Arrival;
 use crate::fault::ServeFault;
 use crate::log::Log;
 use crate::reception::Reception;
+use mpw_core::Core;
 use mpw_desk::{Pass, Room, Shared};
-use mpw_events::{Handler, Keeper};
+use mpw_events::{Handler, Keeper, NoKeeper};
 use mpw_job::Gate;
 use std::alloc::Global;
 use std::io::{self, ErrorKind};
@@ -182,17 +183,54 @@ impl Gate for Unheld {
     fn pass(&self, _run: u32, _tile: u32) {}
 }
 
-/// Works runs off with a pass of its own until the desk is stopped, and gives the pass; none where none is left.
-fn work<H, K, N, R>(rt: &R, alloc: Global, shared: &Shared<H, K, N>) -> Option<Pass<N>>
+/// Works runs off with a pass of its own until the desk is stopped, and gives the pass. Where none is left, or there is no room for it, the
+/// service is ended.
+fn work<H, K, N, R>(
+    rt: &R,
+    alloc: Global,
+    shared: &Shared<H, K, N>,
+    reception: &Reception<N>,
+) -> Vec<Pass<N>>
 where
     H: Handler + Drop,
     K: Keeper + Drop,
     N: Room,
-    R: Wait + Clock,
+    R: Wait + Clock + Net,
 {
-    let mut pass = shared.pass(rt)?;
+    let mut passes = Vec::new(alloc);
+    if passes.reserve(1).is_err() {
+        reception.end(rt, Some(ServeFault::Memory));
+        return passes;
+    }
+    let Some(mut pass) = shared.pass(rt) else {
+        reception.end(rt, Some(ServeFault::Full));
+        return passes;
+    };
     let _ = shared.worker(rt, alloc, &mut pass, &Unheld);
-    Some(pass)
+    let _ = passes.push(pass);
+    passes
+}
+
+/// Takes part in a service: the first threads that come are its workers, and the others serve its connections. The passes are given back.
+fn take_part<H, K, N, R>(
+    rt: &R,
+    alloc: Global,
+    shared: &Shared<H, K, N>,
+    reception: &Reception<N>,
+    log: &Log,
+) -> Vec<Pass<N>>
+where
+    H: Handler + Drop,
+    K: Keeper + Drop,
+    N: Room,
+    R: Wait + Clock + Net,
+{
+    if reception.is_worker(rt) {
+        return work(rt, alloc, shared, reception);
+    }
+    let passes = serve_arrivals(rt, alloc, shared, reception, log);
+    reception.leave(rt);
+    passes
 }
 
 /// Adds passes to others, and tells whether there was room.
@@ -212,15 +250,13 @@ fn add_all<N: Room>(passes: &mut Vec<Pass<N>>, more: Vec<Pass<N>>) -> bool {
 /// # Errors
 /// Where a connection can't be accepted, no pass is left, a thread can't be started, or memory is wanting. Connections are then ended, the
 /// workers are stopped, all threads are joined, and no pass is given back.
-pub fn serve<H, K, N, R>(
+pub fn serve<N, R>(
     rt: &R,
     alloc: Global,
-    shared: &Shared<H, K, N>,
+    shared: &Shared<Core, NoKeeper, N>,
     opening: Opening<'_>,
 ) -> Result<Vec<Pass<N>>, ServeFault>
 where
-    H: Handler + Send + Drop,
-    K: Keeper + Send + Drop,
     N: Room + Send + Sync,
     R: Threads + Wait + Clock + Net<Listener = TcpListener, Stream = TcpStream> + Sync,
 {
@@ -231,37 +267,21 @@ where
     let reception: Reception<N> = Reception::new(alloc, address, staff)?;
     let reception = &reception;
     thread::scope(thread::scope_env(), rt, |scope| {
-        let mut working = Vec::new(alloc);
-        let mut serving = Vec::new(alloc);
+        let mut threads = Vec::new(alloc);
         let mut ended = Ok(());
-        for _ in 0..staff.workers {
-            if working.reserve(1).is_err() {
+        for _ in 0..staff.workers.saturating_add(staff.connections) {
+            if threads.reserve(1).is_err() {
                 ended = Err(ServeFault::Memory);
                 break;
             }
-            match scope.spawn(move || work(rt, alloc, shared)) {
+            match scope.spawn(move || take_part(rt, alloc, shared, reception, log)) {
                 Ok(handle) => {
-                    let _ = working.push(handle);
+                    let _ = threads.push(handle);
                 }
                 Err(_) => {
                     ended = Err(ServeFault::Thread);
                     break;
                 }
-            }
-        }
-        for _ in 0..staff.connections {
-            if ended.is_err() {
-                break;
-            }
-            if serving.reserve(1).is_err() {
-                ended = Err(ServeFault::Memory);
-                break;
-            }
-            match scope.spawn(move || serve_arrivals(rt, alloc, shared, reception, log)) {
-                Ok(handle) => {
-                    let _ = serving.push(handle);
-                }
-                Err(_) => ended = Err(ServeFault::Thread),
             }
         }
         if ended.is_ok() {
@@ -271,17 +291,12 @@ where
             reception.shut(rt);
         }
         reception.close(rt);
+        reception.wait_for_all(rt, threads.len());
+        shared.stop(rt);
         let mut passes = Vec::new(alloc);
         let mut is_whole = true;
-        for handle in serving {
+        for handle in threads {
             is_whole &= add_all(&mut passes, handle.join(rt));
-        }
-        shared.stop(rt);
-        for handle in working {
-            match handle.join(rt) {
-                Some(pass) => is_whole &= passes.push(pass).is_ok(),
-                None => ended = Err(ServeFault::Full),
-            }
         }
         ended?;
         if let Some(fault) = reception.fault(rt) {

@@ -10,7 +10,4 @@ abbrev pub ghosts-serve_desk-N-Naming : goal.ghosts-serve_desk-N-Naming
 ghosts-serve_desk-N-Naming g a = record { table = a.blank.table }
 
 abbrev pub ghosts-serve_desk-N-Room : goal.ghosts-serve_desk-N-Room
-ghosts-serve_desk-N-Room g a = record {
-  all = a.blank.parts;
-  begun = kept_desk (g.H.Handler.desk a.core.value) None 0;
-}
+ghosts-serve_desk-N-Room g a = record { all = a.blank.parts; begun = kept_desk a.core.value None 0 }
