@@ -84,6 +84,28 @@ def read_all(end):
         found += more
 
 
+def replies_of(lines):
+    """The texts of replies, one after the other."""
+    lines = iter(lines)
+    for first in lines:
+        count = int(first.split()[1]) if first.startswith("OK ") else 0
+        yield "".join(f"{line}\n" for line in [first, *(next(lines) for _ in range(count))])
+
+
+def sessions_of(file):
+    """The lines of a script with their payloads, a list for each session."""
+    sessions = []
+    for line in file:
+        words = line.decode().rstrip("\n").split(" ")
+        payload = None
+        if words[0] in ("submit", "deck"):
+            payload = file.read(int(words.pop()))
+        if words[0] == "open":
+            sessions.append([])
+        sessions[-1].append((" ".join(words), payload))
+    return sessions
+
+
 def grant_all(desk, *cells):
     """The officer may do all, over these cells."""
     for cell in cells:
@@ -131,6 +153,25 @@ class Sessions(Served):
             with served.desk() as other:
                 self.assertIs(other.status().state, State.FINISHED)
             desk.hang_up()
+            self.assertEqual(served.end()[::2], (0, ""))
+
+    def test_whole_shuttle(self):
+        """The script of examples/shuttle.txt, each of its sessions on a connection of its own, up to the trail, which has the questions for
+        the status too."""
+        with open(os.path.join(TOP, "examples", "shuttle.replies"), encoding="ascii") as file:
+            expected = replies_of(file.read().splitlines())
+        with open(os.path.join(TOP, "examples", "shuttle.txt"), "rb") as file:
+            sessions = sessions_of(file)
+        with service(len(sessions), 4) as served:
+            for session in sessions:
+                with Desk.connect("127.0.0.1", served.port) as desk:
+                    for line, payload in session:
+                        found, wanted = desk.tell(line, payload), next(expected)
+                        if line != "trail":
+                            self.assertEqual(found.text, wanted, line)
+                        if line == "run":
+                            desk.wait(poll=0.01, limit=LIMIT)
+            self.assertIsNone(next(expected, None))
             self.assertEqual(served.end()[::2], (0, ""))
 
     def test_firms_side_by_side(self):
