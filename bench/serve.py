@@ -35,6 +35,8 @@ MPW = os.path.join(TOP, "crates", "mpw_main", "out", "mpw_main")
 DIGEST = hashlib.sha256(b"abc")
 TIMES = 4000
 CALLS = 2**20
+# Of an array of 64 by 64 bars, 10 nm wide under a rule of 11 and 10 nm above one another under one of 11.
+MARKERS = 64 * 64 + 64 * 63
 
 
 @contextmanager
@@ -136,7 +138,7 @@ def waits(seconds=30):
                 begun = time.monotonic()
                 other.whoami()
                 found.append(time.monotonic() - begun)
-                time.sleep(0.001)
+                time.sleep(0.01)
 
         ask(time.monotonic() + 3, alone)
         until = time.monotonic() + seconds
@@ -284,8 +286,8 @@ def runs(port, until):
         desk.wait(poll=0.02, limit=120)
         taken.append(time.monotonic() - begun)
         found = desk.markers().full
-        if len(found) != 64 * 64:
-            raise SystemExit(f"{len(found)} markers in place of {64 * 64}")
+        if len(found) != MARKERS:
+            raise SystemExit(f"{len(found)} markers in place of {MARKERS}")
         for marker in found[:20]:
             desk.waive(marker.key)
         lines += 60
