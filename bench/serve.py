@@ -7,7 +7,7 @@
                                         model/, while another places, runs and waives; requests a second, the greatest waits,
                                         the program's memory, and which replies differ
 
-The program is crates/mpw_main's, as the gate built it. The exit status is 1 where a reply differs or the service ends otherwise than
+The program is MPW_PROGRAM, else crates/mpw_main's, as the gate built it. The exit status is 1 where a reply differs or the service ends otherwise than
 well. The calls of a desk are bounded, so `mixed` asks at a rate that lasts.
 """
 import hashlib
@@ -31,7 +31,7 @@ from forms import request_of  # noqa: E402
 from make import array, box, library, structure  # noqa: E402
 from mpw_desk import Desk, State  # noqa: E402
 
-MPW = os.path.join(TOP, "crates", "mpw_main", "out", "mpw_main")
+MPW = os.environ.get("MPW_PROGRAM", os.path.join(TOP, "crates", "mpw_main", "out", "mpw_main"))
 DIGEST = hashlib.sha256(b"abc")
 TIMES = 4000
 CALLS = 2**20
