@@ -35,6 +35,8 @@ MPW = os.environ.get("MPW_PROGRAM", os.path.join(TOP, "crates", "mpw_main", "out
 DIGEST = hashlib.sha256(b"abc")
 TIMES = 4000
 CALLS = 2**20
+# Of each client: all of them share a shelf of 4096, which the model of one doesn't know.
+SUBMISSIONS = 60
 # Of an array of 64 by 64 bars, 10 nm wide under a rule of 11 and 10 nm above one another under one of 11.
 MARKERS = 64 * 64 + 64 * 63
 
@@ -168,7 +170,7 @@ class Compared:
         self.port, self.number, self.random = port, number, random.Random(number)
         self.user, self.role, self.cell = f"u{number}", f"r{number}", f"c{number}"
         self.model, self.session = stand_in.model.Desk("root", DIGEST.digest()), None
-        self.end, self.given, self.asked, self.longest, self.differs = None, None, 0, 0.0, []
+        self.end, self.given, self.asked, self.longest, self.differs, self.submissions = None, None, 0, 0.0, [], 0
 
     def expected(self, line, payload):
         policy = self.model.policy
@@ -217,7 +219,8 @@ class Compared:
             self.ask(f"shapes {self.cell}")
         elif kind == 5:
             self.ask(f"shapes c{self.number + 1}")
-        elif kind == 6:
+        elif kind == 6 and self.submissions < SUBMISSIONS:
+            self.submissions += 1
             data = library(structure("TOP", *(box(1, 20 * k, 0, 20 * k + 10, 10) for k in range(self.random.randrange(1, 40)))))
             self.ask(f"submit {self.cell} TOP {len(data)}", data)
         elif kind == 7:
