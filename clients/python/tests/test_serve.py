@@ -9,9 +9,10 @@ import socket
 import subprocess
 import sys
 import tempfile
+import threading
 import time
 import unittest
-from contextlib import contextmanager
+from contextlib import contextmanager, suppress
 
 import layouts
 from asked import PROGRAM as ASK, environment
@@ -25,6 +26,7 @@ from make import array, box, library, structure  # noqa: E402
 MPW = os.environ.get("MPW_PROGRAM", os.path.join(TOP, "crates", "mpw_main", "out", "mpw_main"))
 PAGE = os.path.join(os.path.dirname(ASK[-1]), "mpw-page")
 DIGEST = hashlib.sha256(b"abc").hexdigest()
+BUILT = [os.path.join(TOP, "crates", crate, "out", crate) for crate in ("mpw_main", "mpw_firm")]
 LIMIT = 60
 NOBODY = 65534
 DECK = b"tile 256\nwidth w 1/0 11\n"
@@ -311,6 +313,68 @@ class Pages(Served):
                 self.assertEqual(file.read(), layouts.pad())
 
 
+    @unittest.skipUnless(all(os.access(program, os.X_OK) for program in BUILT), "the programs aren't built")
+    def test_option_of_a_check(self):
+        """`mpw check` with --page: both ways to write it, and an input is never written over."""
+        with tempfile.TemporaryDirectory() as folder:
+            names = "pad.gds", "rules.deck", "one.html", "two.html"
+            library_path, deck, one, two = (os.path.join(folder, name) for name in names)
+            for path, data in (library_path, layouts.pad()), (deck, DECK):
+                with open(path, "wb") as file:
+                    file.write(data)
+
+            def check(*page):
+                words = [os.path.join(TOP, "mpw"), "check", "--deck", deck, "--top=PAD", *page, library_path]
+                ended = subprocess.run(words, stdout=subprocess.PIPE, stderr=subprocess.PIPE, timeout=LIMIT)
+                self.assertEqual(ended.stdout, b"OK 1\nw:V:0:0:10:0:100 PAD\n")
+                return ended.returncode
+
+            self.assertEqual((check("--page", one), check(f"--page={two}"), check(f"--page={library_path}")), (1, 1, 4))
+            for path in one, two:
+                with open(path, encoding="ascii") as file:
+                    self.assertIn("w:V:0:0:10:0:100 PAD", file.read())
+            with open(library_path, "rb") as file:
+                self.assertEqual(file.read(), layouts.pad())
+
+
+class Logs(Served):
+    def test_log(self):
+        """A line for each connection as it begins and ends and for each of its lines, without a token; after what the file has."""
+        with tempfile.TemporaryDirectory() as folder:
+            path = os.path.join(folder, "desk.log")
+            with open(path, "w", encoding="ascii") as file:
+                file.write("{}\n")
+            with service(1, 1, "--log", path) as served:
+                with Desk.connect("127.0.0.1", served.port) as desk:
+                    for line in "open root wrong", "open root abc", "whoami", "no such line", "close":
+                        desk.tell(line)
+                self.assertEqual(served.end()[::2], (0, ""))
+            with open(path, encoding="ascii") as file:
+                text = file.read()
+        first, *lines = map(json.loads, text.splitlines())
+        self.assertEqual(first, {})
+        self.assertEqual([line["event"] for line in lines], ["begin", *["request"] * 5, "end"])
+        self.assertEqual([(line["user"], line["verb"], line["reply"], line["bytes"]) for line in lines[1:-1]], [
+            (None, "open", "DENIED login", 13), ("root", "open", "OK 0", 5),
+            ("root", "whoami", "OK 2", len("OK 2\nuser root\nauthorized officer\n")),
+            ("root", None, "REFUSED 40 form", 16), ("root", "close", "OK 0", 5)])
+        self.assertEqual(len({(line["connection"], line["peer"]) for line in lines}), 1)
+        self.assertNotIn("abc", text)
+        self.assertNotIn("wrong", text)
+
+    def test_log_that_cannot_be_opened(self):
+        ended = subprocess.run(
+            words(1, 1, "--log", "/none/desk.log"), stdout=subprocess.PIPE, stderr=subprocess.PIPE, timeout=LIMIT)
+        self.assertEqual((ended.returncode, ended.stdout), (3, b""))
+
+    def test_log_that_fails(self):
+        with service(1, 1, "--log", "/dev/full") as served:
+            with served.desk() as desk:
+                self.assertEqual(desk.whoami().user, "root")
+            status, _, told = served.end()
+        self.assertEqual((status, told), (0, "error: the log can't be written\n"))
+
+
 class Limits(Served):
     def test_one_client_more(self):
         with service(64) as served:
@@ -349,6 +413,31 @@ class Limits(Served):
             for end in waiting, held[1]:
                 end.close()
             self.assertIsNone(served.process.poll())
+
+    def test_history_that_is_full(self):
+        """An ongoing service ends by itself after its desk's 2^20 calls."""
+
+        def ask():
+            reply = b"DENIED session\n"
+            with suppress(OSError):
+                while True:
+                    with served.connect() as end:
+                        for _ in range(16):
+                            end.sendall(b"whoami\n" * 256)
+                            left = 256 * len(reply)
+                            while left > 0:
+                                found = end.recv(left)
+                                if not found:
+                                    break
+                                left -= len(found)
+
+        with service(16, 1, "--ongoing") as served:
+            asking = [threading.Thread(target=ask) for _ in range(16)]
+            for thread in asking:
+                thread.start()
+            self.assertEqual(served.end(), (0, f"calls {2**20}\n", ""))
+            for thread in asking:
+                thread.join()
 
     def test_port_that_is_taken(self):
         with socket.create_server(("127.0.0.1", 0)) as taken:
