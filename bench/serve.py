@@ -190,7 +190,7 @@ class Compared:
         self.longest = max(self.longest, time.monotonic() - begun)
         self.asked += 1
         if reply != self.expected(line, payload):
-            self.differs.append((line, reply))
+            self.differs.append((line, reply[:3]))
 
     def connect(self):
         self.end, self.session = connected(self.port), None
@@ -264,7 +264,7 @@ def compared(port, numbers, until, pause, told):
         thread.start()
     for thread in going:
         thread.join()
-    told.put([(client.asked, client.longest, client.differs[:3]) for client in clients])
+    told.put([(client.asked, client.longest, client.differs) for client in clients])
 
 
 def runs(port, until):
@@ -328,7 +328,7 @@ def mixed(seconds=600, clients=62):
     print(f"{len(taken)} runs, the longest {max(taken):.2f} s; memory in MB: {' '.join(map(str, sizes))}")
     differing = [pair for client in found for pair in client[2]]
     for line, reply in differing[:10]:
-        print(f"differs: {line}: {reply[:3]}")
+        print(f"differs: {line}: {reply}")
     print(f"{len(differing)} replies differ from the model's")
     return 1 if differing else 0
 
