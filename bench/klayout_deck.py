@@ -1,5 +1,6 @@
 """The rules of a deck on a library's structure TOP by KLayout, a line a rule: its name, how many
-pairs of edges were found, and their boxes. Projection, unshielded, on merged polygons.
+pairs of edges were found, and their boxes. Projection on merged polygons; `width` shielded, the others
+unshielded, as klayout_options.py tells.
 
 QT_QPA_PLATFORM=offscreen klayout -b -r klayout_deck.py -rd deck=DECK -rd library=FILE
 
@@ -25,7 +26,7 @@ for line in list(open(deck))[1:]:  # noqa: F821, given by -rd
     kind, name, *layers, distance = line.split()
     first, *others = map(region, layers)
     check = getattr(first, f'{kind}_check')
-    pairs = check(*others, int(distance), False, pya.Region.Projection, 90, 0, FARTHEST, False)
+    pairs = check(*others, int(distance), False, pya.Region.Projection, 90, 0, FARTHEST, kind == 'width')
     boxes = [pair.bbox() for pair in pairs.each()]
     found = sorted((box.left, box.bottom, box.right, box.top) for box in boxes)
     print(name, len(found), *(':'.join(map(str, box)) for box in found))

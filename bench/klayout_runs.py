@@ -1,7 +1,8 @@
 """The four checks of a library's structure TOP by KLayout, with the time that they take:
 klayout -b -r klayout_runs.py -rd library=FILE -rd mode=flat|tiled|deep -rd side=NM -rd threads=N -rd shielded=yes|no
 
-Shielded, KLayout leaves out a pair of edges with another edge between them, as the rules of bench_job don't."""
+Shielded, KLayout leaves out a pair of edges with another edge between them, as of the rules of bench_job `width` alone does: so that is shielded
+whatever is asked."""
 import time
 
 import pya
@@ -26,7 +27,7 @@ def whole(first, second):
     options = (False, pya.Region.Projection, 90, 0, FARTHEST, is_shielded)
     first.merge()
     second.merge()
-    return [first.width_check(CHECKS[0][1], *options).count(), first.space_check(CHECKS[1][1], *options).count(),
+    return [first.width_check(CHECKS[0][1], *options[:-1], True).count(), first.space_check(CHECKS[1][1], *options).count(),
             first.separation_check(second, CHECKS[2][1], *options).count(),
             first.enclosing_check(second, CHECKS[3][1], *options).count()]
 
@@ -40,12 +41,12 @@ def tiled():
     processor.threads = int(threads)  # noqa: F821
     for name, number in zip('ab', numbers):
         processor.input(name, layout, top.cell_index(), number)
-    options = f'false, Region.Projection, 90, 0, {FARTHEST}, {str(is_shielded).lower()}'
     outputs = []
     for name, distance in CHECKS:
         outputs.append(pya.EdgePairs())
         processor.output(name, outputs[-1])
         other = 'b, ' if name in ('separation', 'enclosing') else ''
+        options = f'false, Region.Projection, 90, 0, {FARTHEST}, {str(is_shielded or name == "width").lower()}'
         processor.queue(f'_output({name}, a.{name}_check({other}{distance}, {options}))')
     processor.execute('checks')
     return [output.count() for output in outputs]

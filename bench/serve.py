@@ -5,7 +5,8 @@
   serve.py waits [SECONDS]              one client submits 16 MB again and again, another asks `whoami`; how long each waits
   serve.py mixed [SECONDS] [CLIENTS]    clients with cells, users and roles of their own, each compared with the model of
                                         model/, while another places, runs and waives; requests a second, the greatest waits,
-                                        the program's memory, and which replies differ
+                                        the program's memory, and which replies differ; then the history is filled,
+                                        at which the service compares what its passes counted with it
 
 The program is MPW_PROGRAM, else crates/mpw_main's, as the gate built it. The exit status is 1 where a reply differs or the service ends otherwise than
 well. The calls of a desk are bounded, so `mixed` asks at a rate that lasts.
@@ -20,7 +21,7 @@ import subprocess
 import sys
 import threading
 import time
-from contextlib import contextmanager
+from contextlib import contextmanager, suppress
 
 HERE = os.path.dirname(os.path.abspath(__file__))
 TOP = os.path.dirname(HERE)
@@ -34,6 +35,7 @@ from mpw_desk import Desk, State  # noqa: E402
 MPW = os.environ.get("MPW_PROGRAM", os.path.join(TOP, "crates", "mpw_main", "out", "mpw_main"))
 DIGEST = hashlib.sha256(b"abc")
 TIMES = 4000
+WHOAMI = b"OK 2\nuser root\nauthorized officer\n"
 CALLS = 2**20
 # Of each client: all of them share a shelf of 4096, which the model of one doesn't know.
 SUBMISSIONS = 60
@@ -78,7 +80,6 @@ def read_exactly(end, count):
 
 def ask_often(port, ahead, gate, told):
     """Asks as often as a connection may, so many lines at a time, and tells the longest wait."""
-    reply = b"OK 2\nuser root\nauthorized officer\n"
     with connected(port) as end:
         end.sendall(b"open root abc\n")
         read_exactly(end, len(b"OK 0\n"))
@@ -87,7 +88,7 @@ def ask_often(port, ahead, gate, told):
         for _ in range(TIMES // ahead):
             begun = time.monotonic()
             end.sendall(b"whoami\n" * ahead)
-            read_exactly(end, len(reply) * ahead)
+            read_exactly(end, len(WHOAMI) * ahead)
             longest = max(longest, time.monotonic() - begun)
         told.put(longest)
 
@@ -299,6 +300,17 @@ def runs(port, until):
     return taken
 
 
+def fill(port):
+    """Asks at full speed, connection after connection, until the history is full and nobody listens."""
+    with suppress(OSError):
+        while True:
+            with connected(port) as end:
+                end.sendall(b"open root abc\n" + b"whoami\n" * TIMES)
+                end.shutdown(socket.SHUT_WR)
+                while end.recv(1 << 16):
+                    pass
+
+
 def memory_of(process):
     with open(f"/proc/{process.pid}/status", encoding="ascii") as file:
         return int(re.search(r"VmRSS:\s+([0-9]+)", file.read()).group(1)) // 1024
@@ -323,14 +335,16 @@ def mixed(seconds=600, clients=62):
         lasted = time.monotonic() - begun
         for part in asking:
             part.join()
+        fill(port)
+        status, printed = ended(process)
     asked, longest = sum(client[0] for client in found), max(client[1] for client in found)
     print(f"{clients} clients and one that runs, {lasted:.0f} s: {asked} requests, {asked / lasted:.0f} a second, greatest wait {1000 * longest:.0f} ms")
     print(f"{len(taken)} runs, the longest {max(taken):.2f} s; memory in MB: {' '.join(map(str, sizes))}")
     differing = [pair for client in found for pair in client[2]]
     for line, reply in differing[:10]:
         print(f"differs: {line}: {reply}")
-    print(f"{len(differing)} replies differ from the model's")
-    return 1 if differing else 0
+    print(f"{len(differing)} replies differ from the model's; filled up, the service printed '{printed}' and ended with {status}")
+    return 1 if differing or status != 0 or printed != f"calls {CALLS}" else 0
 
 
 def main(words):
