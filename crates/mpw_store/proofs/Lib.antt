@@ -1,0 +1,7 @@
+pub mod RunLemmas
+pub mod AppendLemmas
+pub mod CreateLemmas
+pub mod RowLemmas
+pub mod ReadLemmas
+pub mod TakenLemmas
+pub mod EntryLemmas

@@ -1,0 +1,12 @@
+//! What is so of every table of changes.
+ghost use Rattle.mpw_store.specs.Entries.{RowsAreAtTheirPlaces, AddedRowsAreLast};
+
+/// The rows that a table has are those that are found at the places from 1 on, in that order.
+pub fn rows_are_at_their_places()
+    ensures { RowsAreAtTheirPlaces }
+{}
+
+/// A table that has one row more, at the place behind the others, has those rows and then that one.
+pub fn added_rows_are_last()
+    ensures { AddedRowsAreLast }
+{}
