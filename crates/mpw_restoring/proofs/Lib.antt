@@ -1,0 +1,7 @@
+pub mod Again
+pub mod Accepted
+pub mod Planned
+pub mod Finishing
+pub mod RowLemmas
+pub mod SessionLemmas
+pub mod ChangeLemmas
