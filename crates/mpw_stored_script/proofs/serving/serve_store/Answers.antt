@@ -1,0 +1,32 @@
+use Rattle.sqlite.specs.Held.{state}
+use Rattle.mpw_keeper.specs.Kept.{kept_in}
+use Rattle.mpw_reopen.proofs.ClosingLemmas.{clean-before}
+use Rattle.mpw_stored_script.proofs.ServingLemmas.{begins, holds, known_clean, some_is}
+use Rattle.mpw_stored_script.proofs.serving.serve_store.Goals as goal
+
+pub serve_on-requires-after_bounds : goal.serve_on-requires-after_bounds
+serve_on-requires-after_bounds g c κs within clean =
+    let old = state g.S.Store c.args.conn in
+    let opened = state g.S.Store c.reopen.new.conn in
+    let idle = c.requires (clean-before old opened c.in-Ok.ensures.clean clean) in
+    holds c.args.officer.name c.args.officer.digest old opened
+    (g.H.Handler.desk c.in-Ok.reopened.core.value) c.in-Ok.reopened.rows (c.in-Ok.ensures.ok clean idle)
+
+pub returns-in-Some-clause-served : goal.returns-in-Some-clause-served
+returns-in-Some-clause-served g c =
+    let old = state g.S.Store c.args.conn in
+    let opened = state g.S.Store c.reopen.new.conn in
+    let rows = c.in-Ok.reopened.rows in
+    let desk = g.H.Handler.desk c.in-Ok.reopened.core.value in
+    record {
+      desk = desk;
+      kept = kept_in opened rows;
+      begins = λ known is.
+          let clean = known_clean opened rows known is in
+          let idle = c.requires (clean-before old opened c.in-Ok.ensures.clean clean) in
+          begins c.args.officer old opened desk rows known clean (c.in-Ok.ensures.ok clean idle) is;
+      connection = c.in-Some.connection;
+      next = some_is _ c.in-Ok.reopened.next c.in-Some.connection c.in-Some.is c.in-Ok.ensures.next;
+      left = c.serve_on.ensures.served.0;
+      serves = c.serve_on.ensures.served.1;
+    }
