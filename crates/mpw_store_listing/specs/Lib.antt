@@ -1,0 +1,3 @@
+pub mod Listing
+pub mod Checking
+pub mod Payload

@@ -1,0 +1,36 @@
+//! Writing all of some bytes to a sink.
+ghost use Rattle.std.specs.Prelude.{◌≡◌, [], IfOk, false};
+ghost use Rattle.mpw_wire.specs.Writing.{Writes};
+
+use mpw_wire::{Sink, WireFault};
+
+/// Writes the bytes, in as many calls as the sink takes.
+///
+/// # Errors
+/// `Write` where the sink failed; it then holds a part of the bytes.
+pub(crate) fn write_bytes<W: Sink>(writer: &mut W, bytes: &[u8]) -> Result<(), WireFault>
+    ensures { Writes W.contents W.failures writer.old writer.new result bytes.now }
+{
+    let mut written = 0;
+    while written < bytes.len() {
+        match writer.write(&bytes[written..]) {
+            Ok(taken) => written += taken,
+            Err(_) => return Err(WireFault::Write),
+        }
+    }
+    Ok(())
+}
+
+/// Has the sink hand on what it took.
+///
+/// # Errors
+/// `Write` where the sink failed.
+pub(crate) fn flush<W: Sink>(writer: &mut W) -> Result<(), WireFault>
+    ensures text { Writes W.contents W.failures writer.old writer.new result [] }
+    ensures handed { IfOk result (λ _. W.pending writer.new ≡ false) }
+{
+    match writer.flush() {
+        Ok(()) => Ok(()),
+        Err(_) => Err(WireFault::Write),
+    }
+}
