@@ -32,13 +32,15 @@ static COMMANDS: [Entry; 5] = [
         form: "mpw check --deck DECK --top STRUCTURE FILE",
         meaning: "checks a structure of a GDSII library by itself under a deck, and prints its \
             markers as the request markers does; --report OUT and --picture OUT write them to \
-            files for KLayout and as SVG, --marker KEY draws what lies round one, and --tiles \
-            TILES prints the part of some tiles for mpw stitch",
+            files for KLayout and as SVG, --marker KEY draws what lies round one, --tiles TILES \
+            prints the part of some tiles for mpw stitch, and --strict refuses a check of which a \
+            rule looks at nothing",
         detail: Detail::Command {
-            statuses: "0 no markers; 1 markers; 2 the command line isn't one, no marker has the key \
-                of --marker, or there aren't all the tiles of --tiles; 3 a file can't be read or \
-                written, or the output failed; 4 the library, the structure or the deck has a \
-                fault; 5 want of memory",
+            statuses: "0 no markers; 1 markers; 2 the command line isn't one, an output is an input \
+                or another output, no marker has the key of --marker, or there aren't all the \
+                tiles of --tiles; 3 a file can't be read or written, or the output failed; 4 the \
+                library, the structure or the deck has a fault, or with --strict a rule looks at \
+                nothing; 5 want of memory",
         },
     },
     Entry {
@@ -48,8 +50,9 @@ static COMMANDS: [Entry; 5] = [
             prints the markers that mpw check prints of the whole; --report OUT writes them to a \
             file for KLayout",
         detail: Detail::Command {
-            statuses: "0 no markers; 1 markers; 2 the command line isn't one; 3 a file can't be \
-                read or written, or the output failed; 4 a file is no part or one that was cut \
+            statuses: "0 no markers; 1 markers; 2 the command line isn't one, or an output is a part \
+                or another output; 3 a file can't be read or written, or the output failed; 4 a \
+                file is no part or one that was cut \
                 off, a part is of another library, deck, structure or plan, or a tile is in no \
                 part or in two; 5 want of memory",
         },

@@ -46,7 +46,8 @@ static LIBRARY: [Entry; 17] = [
         meaning: "a record has too much or too little data",
         detail: Detail::Refusal {
             number: "5",
-            remedy: "polygons of more than 8191 points have to be split",
+            remedy: "polygons of more than 8191 points have to be split (gdspy: \
+                .fracture(max_points=8190))",
         },
     },
     Entry {
@@ -85,8 +86,8 @@ static LIBRARY: [Entry; 17] = [
         meaning: "an angle isn't a multiple of 90 degrees, or is beyond -360 to 360",
         detail: Detail::Refusal {
             number: "9",
-            remedy: "resolve the reference before the export (KLayout: 'Flatten' that instance; \
-                gdspy: flatten() the cell that has it)",
+            remedy: "turn the reference by such an angle; flattened at another one, its edges would \
+                be refused too",
         },
     },
     Entry {
@@ -104,8 +105,8 @@ static LIBRARY: [Entry; 17] = [
         meaning: "a path has round ends (type 1)",
         detail: Detail::Refusal {
             number: "11",
-            remedy: "export it with ends of type 0, 2 or 4, or as a polygon (KLayout: 'Convert to \
-                polygon'; gdspy: ends='flush', or gdsii_path=False)",
+            remedy: "give it ends of type 0, 2 or 4 (KLayout: the path's properties; gdspy: \
+                ends='flush' or 'extended'); a polygon of it would be refused too",
         },
     },
     Entry {
@@ -142,7 +143,7 @@ static LIBRARY: [Entry; 17] = [
         meaning: "an array's step isn't a whole number of nm",
         detail: Detail::Refusal {
             number: "15",
-            remedy: "export its elements one by one",
+            remedy: "export its elements one by one (KLayout: open the file and save it again)",
         },
     },
     Entry {
@@ -179,7 +180,7 @@ static DECK: [Entry; 7] = [
         detail: Detail::Refusal {
             number: "51",
             remedy: "a line is 'tile SIDE', or 'CHECK NAME LAYER.. DISTANCE' with width, space, \
-                separation or enclosing; no line is empty or a comment",
+                separation or enclosing, and a NAME without a colon; no line is empty or a comment",
         },
     },
     Entry {

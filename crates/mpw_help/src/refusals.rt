@@ -55,7 +55,7 @@ static LIMITS: [Entry; 9] = [
         meaning: "the structure shows more than 2^20 shapes",
         detail: Detail::Refusal {
             number: "25",
-            remedy: "check its parts one by one; on the wafer, place less",
+            remedy: "split it, and check each piece with --top; on the wafer, place less",
         },
     },
     Entry {

@@ -10,7 +10,7 @@ use thiserror::Error;
 #[derive(Debug, Drop, Error)]
 pub enum HelpFault {
     /// The command line isn't one.
-    #[error("error: mpw help takes one word, a request or a code, or none")]
+    #[error("error: mpw help takes a request, a code or a line that the desk tells, or nothing")]
     Usage,
     /// There is nothing of that word.
     #[error("error: no request, denial, code or command is '{0}'; mpw help lists them")]

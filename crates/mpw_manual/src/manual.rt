@@ -1,15 +1,37 @@
 //! What the words of a command line ask for, told.
 
 use crate::fault::HelpFault;
-use mpw_help::{has_word, tables, write_help, write_words};
+use mpw_help::{Table, has_word, tables, write_help, write_words};
+use std::alloc::{AllocError, Global};
 use std::io::{self, BufWriter, Write};
 
-/// Writes the words of all tables, a line each.
+/// Whether a word stands in some of these tables.
+fn is_in(tables: &[Table], word: &str) -> bool {
+    tables.iter().any(|table| has_word(table.entries, word))
+}
+
+/// Writes the words of a table that stand in none before it, each once.
+fn list_table<W: Write>(writer: &mut W, before: &[Table], table: &Table) -> io::Result<()> {
+    write!(writer, "{}:", table.title)?;
+    for place in 0..table.entries.len() {
+        let (told, left) = table.entries.split_at(place);
+        if let Some(entry) = left.first() {
+            if !is_in(before, entry.word) && !has_word(told, entry.word) {
+                write_words(writer, &[*entry])?;
+            }
+        }
+    }
+    writeln!(writer)
+}
+
+/// Writes the words of all tables, each once, a line a table.
 fn list<W: Write>(writer: &mut W) -> io::Result<()> {
-    for table in tables().iter() {
-        write!(writer, "{}:", table.title)?;
-        write_words(writer, table.entries)?;
-        writeln!(writer)?;
+    let tables = tables();
+    for place in 0..tables.len() {
+        let (before, left) = tables.split_at(place);
+        if let Some(table) = left.first() {
+            list_table(writer, before, table)?;
+        }
     }
     writer.flush()
 }
@@ -46,14 +68,41 @@ fn tell_words(rt: &HostRuntime) -> Result<(), HelpFault> {
     list(&mut output).map_err(|_| HelpFault::Output)
 }
 
+/// The words of arguments, each parted at its blanks.
+fn parts_of<'a>(alloc: Global, words: &[&'a str]) -> Result<Vec<&'a str>, AllocError> {
+    let mut parts = Vec::new(alloc);
+    for word in words {
+        for part in word.split(' ') {
+            parts.push(part)?;
+        }
+    }
+    Ok(parts)
+}
+
+/// The word that is asked for. A line of a desk may be given whole, as `REFUSED 40 form`, or from its second word on, as `40 form`: its
+/// number is asked for, or what is denied.
+fn asked<'a>(parts: &[&'a str]) -> Option<&'a str> {
+    match parts {
+        [first, word, ..] if *first == "REFUSED" || *first == "DENIED" => Some(*word),
+        [word] | [word, _] => Some(*word),
+        _ => None,
+    }
+}
+
 /// Tells what the words of a command line ask for, the program's name first.
 ///
 /// # Errors
 /// `Usage` and `Unknown` for another command line, `Output` and `Memory`.
 pub fn tell(rt: &HostRuntime, words: &[&str]) -> Result<(), HelpFault> {
-    match words {
-        [] | [_] => tell_words(rt),
-        [_, word] => tell_word(rt, word),
-        _ => Err(HelpFault::Usage),
+    let [_, given @ ..] = words else {
+        return tell_words(rt);
+    };
+    if given.is_empty() {
+        return tell_words(rt);
+    }
+    let parts = parts_of(rt.alloc(), given)?;
+    match asked(parts.as_slice()) {
+        Some(word) => tell_word(rt, word),
+        None => Err(HelpFault::Usage),
     }
 }
