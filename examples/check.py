@@ -2,9 +2,11 @@
 """Compares what the programs print for the examples with what is expected, and tells which differ.
 
   examples/check.py            NAME.gds under NAME.deck by mpw check, for each NAME.markers and for each
-                               NAME.fault, which is told on the standard error; and what failed.awk
-                               tells of NAME.txt with NAME.replies, for each NAME.failed
-  examples/check.py --desk     then also NAME.txt by mpw script, for each NAME.replies
+                               NAME.fault, which is told on the standard error; what failed.awk
+                               tells of NAME.txt with NAME.replies, for each NAME.failed; and what
+                               becomes of a check's outputs (outputs.py)
+  examples/check.py --desk     then also NAME.txt by mpw script, for each NAME.replies, and what
+                               the commands tell of themselves (words.py)
 
 The exit status is 0 where all are the same, else 1. A program that isn't built is proved and built
 first.
@@ -14,6 +16,9 @@ import glob
 import os
 import subprocess
 import sys
+
+import outputs
+import words as told_words
 
 HERE = os.path.dirname(os.path.abspath(__file__))
 MPW = os.path.join(os.path.dirname(HERE), "mpw")
@@ -65,6 +70,15 @@ def is_same(path, run):
     return same
 
 
+def is_as_expected(name, case):
+    """Whether a case of outputs.py has nothing that differs; tells what does."""
+    lines = case()
+    print(f"{name}: {'differs' if lines else 'as expected'}", flush=True)
+    for line in lines:
+        print(f"  {line}")
+    return not lines
+
+
 def main(words):
     if words not in ([], ["--desk"]):
         sys.exit(__doc__)
@@ -73,6 +87,8 @@ def main(words):
     for kind, run in kinds:
         for path in sorted(glob.glob(os.path.join(HERE, f"*.{kind}"))):
             told.append(is_same(path, run))
+    cases = {**outputs.CASES, **(told_words.CASES if words else {})}
+    told += [is_as_expected(name, case) for name, case in cases.items()]
     return 0 if told and all(told) else 1
 
 

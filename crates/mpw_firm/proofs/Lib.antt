@@ -1,4 +1,6 @@
 -- The lemmas of the program that checks a cell.
+mod Growth
 mod KeyTexts
 mod Places
 pub mod SameLines
+mod Separate

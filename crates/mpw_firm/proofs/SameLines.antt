@@ -17,9 +17,8 @@ use Rattle.mpw_replies.specs.declared.reply.Reply.TheVariants as reply
 use Rattle.mpw_spread.specs.Spread.{PartsMakeTheLayout}
 use Rattle.mpw_tiles.specs.Snapshots.{Snapshot}
 use Rattle.mpw_reply_text.specs.Reply.{reply_text}
-use Rattle.mpw_wire.specs.declared.fault.WireFault.{WireFault}
-use Rattle.mpw_firm.specs.Listed.{listed_text, Lists, ListsAsEach}
-use Rattle.mpw_firm.specs.Stitched.{IsNamed, IsWholeOf, IsListedAsCheck, WholesAreListedAsChecks}
+use Rattle.mpw_firm.specs.Listed.{listed_text}
+use Rattle.mpw_firm.specs.Stitched.{IsWholeOf, IsListedAsCheck, IsListedAsEach, WholesAreListedAsChecks}
 use Rattle.mpw_firm.specs.declared.fault.FirmFault.{FirmFault}
 use Rattle.mpw_firm.specs.declared.whole.Whole.{Whole}
 
@@ -87,16 +86,6 @@ same_lines deck top text other s t book of_s of_t =
     ∙ text_same top of_s.library of_t.library deck book
     ∙ sym (ap (λ s. listed_text s book) of_t.drawn.snapshot_is)
 
--- What is written over a layout of that name is the listing of each.
-pub lists_as_each : {S A : Type 0} (contents : S → Option (List ℕ)) (failures : S → ℕ) (old new : S)
-    (result : Result A WireFault) (top : List ℕ) (s : Snapshot) (book kept : List Marker)
-    → IsNamed top s → kept ≡ book
-    → Lists contents failures old new result (listed_text s kept)
-    → ListsAsEach contents failures old new result s.deck top book
-lists_as_each contents failures old new result top s book kept named same lists text layout of =
-    subst (Lists contents failures old new result)
-    (ap (listed_text s) same ∙ same_lines s.deck top named.0 text s layout book named.1 of) lists
-
 -- ---- the whole of parts
 
 read_once : {A E : Type 0} (r s : Result A E) (x y : A) → r ≡ s → r ≡ Ok x → s ≡ Ok y → x ≡ y
@@ -110,15 +99,25 @@ listed_as_checks make one parts whole w texts first book at made beside are =
     let decks = read_once _ _ _ _ (ap deck_of (ap (λ (c : Checked). c.deck) told)) w.deck
     made.made.read in
     let tops = w.top ∙ ap (λ (c : Checked). c.top) told in
-    same_lines made.made.rules texts.top w.named.0 texts.library whole.layout made.snapshot whole.book
+    same_lines made.made.rules texts.top w.named.0 texts.library whole.layout made.snapshot
+    whole.book
     (subst (λ d. IsDrawnFrom d texts.top w.named.0 whole.layout) decks
     (subst (λ t. IsDrawnFrom whole.layout.deck t w.named.0 whole.layout) tops w.named.1))
     made.made.drawn
     ∙ ap (listed_text made.snapshot)
-    (one made.snapshot whole.book book (make texts first parts whole.book at made beside w.book) are)
+    (one made.snapshot whole.book book (make texts first parts whole.book at made beside w.book)
+    are)
 
 -- It holds of what comes of making a whole.
 pub listed_if : WholesAreListedAsChecks → (parts : List Found) (made : Result Whole FirmFault)
     → IfOk made (IsWholeOf parts) → IfOk made (IsListedAsCheck parts)
 listed_if law parts (Ok whole) is = law parts whole is
 listed_if law parts (Err fault) is = tt
+
+-- So does that it is the listing of each layout.
+pub listed_each : (parts : List Found) (made : Result Whole FirmFault)
+    → IfOk made (IsWholeOf parts) → IfOk made IsListedAsEach
+listed_each parts (Ok whole) is = λ text layout of.
+    same_lines whole.layout.deck whole.top is.named.0 text whole.layout layout whole.book is.named.1
+    of
+listed_each parts (Err fault) is = tt

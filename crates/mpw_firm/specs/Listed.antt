@@ -1,7 +1,5 @@
 -- What is printed of markers: the reply of a desk on which one who may read the only submission asks for them.
 use Rattle.std.specs.Prelude.{◌≡◌, ◌⊎◌, ℕ, List, [], ◌∷◌, true, Option, Result, Err}
-use Rattle.mpw_check.specs.Drawn.{IsDrawnFrom}
-use Rattle.mpw_deck.specs.Decks.{Deck}
 use Rattle.mpw_markers.specs.declared.marker.Marker.{Marker}
 use Rattle.mpw_replies.specs.Sight.{book_lines}
 use Rattle.mpw_replies.specs.declared.reply.Reply.TheVariants as reply
@@ -19,10 +17,3 @@ abbrev pub Lists : {S A : Type 0} → (S → Option (List ℕ)) → (S → ℕ) 
     → List ℕ → Type 0
 Lists contents failures old new result text =
     Writes contents failures old new result text ⊎ ((new ≡ old) × (result ≡ Err wire.Memory))
-
--- the same of the listing of each layout of a structure of that name under that deck
-abbrev pub ListsAsEach : {S A : Type 0} → (S → Option (List ℕ)) → (S → ℕ) → S → S
-    → Result A WireFault → Deck → List ℕ → List Marker → Type 0
-ListsAsEach contents failures old new result deck top markers =
-    (text : List ℕ) (layout : Snapshot) → IsDrawnFrom deck top text layout
-    → Lists contents failures old new result (listed_text layout markers)

@@ -9,8 +9,8 @@ use Rattle.mpw_tiles.specs.Snapshots.{Snapshot}
 use Rattle.mpw_firm.specs.declared.fault.FirmFault.{FirmFault}
 use Rattle.mpw_firm.specs.declared.fault.FirmFault.TheVariants.{Memory}
 use Rattle.mpw_firm.specs.declared.options.Options.{Options}
-use Rattle.mpw_firm.specs.Told.{Misuses, Refuses}
-use Rattle.mpw_firm.specs.ToldFaults.{tiles_text}
+use Rattle.mpw_firm.specs.Sides.{IsOfTiles}
+use Rattle.mpw_firm.specs.Told.{Misuses}
 use Rattle.mpw_firm.specs.ToldParts.{range_text}
 
 -- The part has just the tiles that are asked for, and the plan has these.
@@ -25,7 +25,7 @@ abbrev pub IsOfRange : Options → Snapshot → TileRange → FirmFault → Type
 IsOfRange options s range fault =
     (fault ≡ Memory)
     ⊎ ((tile_count s ≡ None)
-    × Refuses (tiles_text (string_bytes options.file) options.top) fault)
+    × IsOfTiles (string_bytes options.file) options.top s fault)
     ⊎ ((total : ℕ)
     × (tile_count s ≡ Some total)
     × (span_of range total ≡ None)

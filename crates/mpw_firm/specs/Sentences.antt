@@ -23,7 +23,7 @@ record_sentence code.Unexpected =
     ++ codes "geometry, as properties"
 record_sentence code.BadSize =
     codes "a record has too much or too little data: polygons of more than 8191 points have to "
-    ++ codes "be split"
+    ++ codes "be split (gdspy: .fracture(max_points=8190))"
 record_sentence code.BadName =
     codes "a name is empty, longer than 255 bytes, or has a blank or another byte outside 21 "
     ++ codes "to 7E hex: rename the structure (KLayout: 'Rename cell'; gdspy: rename_cell())"
@@ -34,15 +34,14 @@ record_sentence code.Magnification =
     codes "a reference is magnified: resolve it before the export (KLayout: 'Flatten' that "
     ++ codes "instance; gdspy: flatten() the cell that has it)"
 record_sentence code.Angle =
-    codes "an angle isn't a multiple of 90 degrees, or is beyond -360 to 360: resolve the "
-    ++ codes "reference before the export (KLayout: 'Flatten' that instance; gdspy: flatten() the "
-    ++ codes "cell that has it)"
+    codes "an angle isn't a multiple of 90 degrees, or is beyond -360 to 360: turn the "
+    ++ codes "reference by such an angle; flattened at another one, its edges would be refused too"
 record_sentence code.NotManhattan =
     codes "an edge is neither horizontal nor vertical, as one at 45 degrees: only such edges "
     ++ codes "are checked; draw it in steps, or export without that shape"
 record_sentence code.RoundPath =
-    codes "a path has round ends (type 1): export it with ends of type 0, 2 or 4, or as a "
-    ++ codes "polygon (KLayout: 'Convert to polygon'; gdspy: ends='flush', or gdsii_path=False)"
+    codes "a path has round ends (type 1): give it ends of type 0, 2 or 4 (KLayout: the path's "
+    ++ codes "properties; gdspy: ends='flush' or 'extended'); a polygon of it would be refused too"
 record_sentence code.OddWidth =
     codes "a path's width is odd: make it even, or export the path as a polygon (KLayout: "
     ++ codes "'Convert to polygon'; gdspy: gdsii_path=False)"
@@ -50,7 +49,8 @@ record_sentence code.PointPath = codes "all points of a path are one: remove it"
 record_sentence code.Columns =
     codes "an array has fewer than one column or row: remove it, or export its elements"
 record_sentence code.Pitch =
-    codes "an array's step isn't a whole number of nm: export its elements one by one"
+    codes "an array's step isn't a whole number of nm: export its elements one by one (KLayout: "
+    ++ codes "open the file and save it again)"
 record_sentence code.DoubleName = codes "two structures have one name: rename one of them"
 record_sentence code.Absolute = codes "an angle is absolute: export it relative to the reference"
 
@@ -60,7 +60,7 @@ cause_sentence told cause.Code = record_sentence told
 cause_sentence told cause.Split =
     codes "an element's points stand in several XY records: export polygons and paths of at "
     ++ codes "most 8191 points, each in one XY record (KLayout: switch off 'Multi-XY record mode "
-    ++ codes "for boundaries'; gdspy: max_points=8190)"
+    ++ codes "for boundaries'; gdspy: .fracture(max_points=8190))"
 cause_sentence told cause.Property =
     codes "a property of the library stands behind UNITS or between structures: export without "
     ++ codes "it (KLayout: switch off 'Write file properties'; gdspy writes none)"
@@ -82,7 +82,7 @@ structure_sentence hier.NoCell = codes "the structure can't be placed"
 structure_sentence hier.Extent =
     codes "a structure goes beyond 2^30 nm: move it nearer to its origin"
 structure_sentence hier.Shapes =
-    codes "the structure shows more than 2^20 shapes: check its parts one by one"
+    codes "the structure shows more than 2^20 shapes: split it, and check each piece with --top"
 structure_sentence hier.Deep = codes "the structure has more than 64 levels: flatten some of them"
 structure_sentence hier.Full = codes "the structure can't be placed"
 
@@ -90,7 +90,7 @@ structure_sentence hier.Full = codes "the structure can't be placed"
 unfoldable pub deck_sentence : DeckKind → List ℕ
 deck_sentence deck.Word =
     codes "a line is 'tile SIDE', or 'CHECK NAME LAYER.. DISTANCE' with width, space, "
-    ++ codes "separation or enclosing; no line is empty or a comment"
+    ++ codes "separation or enclosing, and a NAME without a colon; no line is empty or a comment"
 deck_sentence deck.Number =
     codes "a distance is 1 to 65535 nm, and a tile's side 256 to 2^30 nm; lines end with a "
     ++ codes "line feed alone"

@@ -116,6 +116,12 @@ pub record IsWholeOf (parts : List Found) (whole : Whole) : Type 0 where
   pub book : IsBookOf parts whole.book
   pub alone : are_alone (length whole.layout.deck.rules) whole.book ≡ true
 
+-- The listing of its markers is that of each layout of its name under its deck.
+abbrev pub IsListedAsEach : Whole → Type 0
+IsListedAsEach whole =
+    (text : List ℕ) (layout : Snapshot) → IsDrawnFrom whole.layout.deck whole.top text layout
+    → listed_text whole.layout whole.book ≡ listed_text layout whole.book
+
 -- ---- law
 
 -- Of parts, each made of files anywhere, what is listed of the whole is what a check lists of the files that the first was made of, where

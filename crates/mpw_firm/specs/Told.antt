@@ -1,8 +1,6 @@
 -- What a fault tells.
 use Rattle.std.specs.Prelude.{◌≡◌, ℕ, List, ◌++◌, codes, Option, None, Some}
 use Rattle.std.specs.String.{string_bytes}
-use Rattle.mpw_wire.specs.declared.fault.WireFault.{WireFault}
-use Rattle.mpw_wire.specs.declared.fault.WireFault.TheVariants as wire
 use Rattle.mpw_firm.specs.declared.fault.FirmFault.{FirmFault}
 use Rattle.mpw_firm.specs.declared.fault.FirmFault.TheVariants.{Usage, Device, Refused, Memory}
 
@@ -45,22 +43,18 @@ Misuses text Memory = Unit {0}
 
 -- ---- of files and devices
 
-unfoldable pub unread_text : List ℕ → List ℕ
-unread_text file = file ++ codes ": can't be read"
+-- What the system says of a file that it couldn't read, or write.
+unfoldable pub unread_text : (file reason : List ℕ) → List ℕ
+unread_text file reason = file ++ (codes ": can't be read: " ++ reason)
 
-unfoldable pub unwritten_text : List ℕ → List ℕ
-unwritten_text file = file ++ codes ": can't be written"
+unfoldable pub unwritten_text : (file reason : List ℕ) → List ℕ
+unwritten_text file reason = file ++ (codes ": can't be written: " ++ reason)
 
--- The file that is wanted can't be written, where one is.
-abbrev pub IsUnwritten : Option (List ℕ) → FirmFault → Type 0
-IsUnwritten None fault = ⊥
-IsUnwritten (Some file) fault = Fails (unwritten_text file) fault
+abbrev pub CannotBeRead : List ℕ → FirmFault → Type 0
+CannotBeRead file fault = (reason : List ℕ) × Fails (unread_text file reason) fault
+
+abbrev pub CannotBeWritten : List ℕ → FirmFault → Type 0
+CannotBeWritten file fault = (reason : List ℕ) × Fails (unwritten_text file reason) fault
 
 unfoldable pub output_text : List ℕ
 output_text = codes "the standard output failed"
-
--- What is told where the standard output didn't take a text: want of memory as such, and each other fault as the output's.
-abbrev pub IsOfOutput : WireFault → FirmFault → Type 0
-IsOfOutput wire.Memory fault = fault ≡ Memory
-IsOfOutput wire.Write fault = Fails output_text fault
-IsOfOutput wire.Read fault = Fails output_text fault

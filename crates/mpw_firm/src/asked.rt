@@ -1,28 +1,35 @@
 //! A check of a whole layout, done.
-ghost use Rattle.std.specs.Prelude.{◌⊎◌, codes, option_map, IfOk, IfErr};
+ghost use Rattle.std.specs.Prelude.{◌⊎◌, ℕ, List, codes, option_map, IfOk, IfErr};
 ghost use Rattle.std.specs.String.{string_bytes};
 ghost use Rattle.mpw_check.specs.Drawn.{IsDrawnFrom};
 ghost use Rattle.mpw_check.specs.Tiled.{IsOfPlan};
 ghost use Rattle.mpw_job.specs.Layout.{AreLayoutMarkers};
+ghost use Rattle.mpw_firm.specs.Came.{IsChecked, PutsAll, listing_texts};
 ghost use Rattle.mpw_firm.specs.Drawings.{IsOfLibrary, IsOfTexts, IsReadFrom};
-ghost use Rattle.mpw_firm.specs.Told.{Fails, IsOfOutput, IsUnwritten, Tells, output_text, unread_text};
+ghost use Rattle.mpw_firm.specs.Outputs.{AreApart, Grows, IsUnwritten};
+ghost use Rattle.mpw_firm.specs.Sides.{IsOfTiles};
+ghost use Rattle.mpw_firm.specs.Told.{CannotBeRead, Fails, Tells, output_text};
 ghost use Rattle.mpw_firm.specs.ToldFaults.{check_told};
+ghost use Rattle.mpw_firm.specs.Uses.{check_inputs, check_outputs};
 
 use crate::fault::FirmFault;
 use crate::line::Line;
-use crate::listing::write_markers;
+use crate::looked::{look, tell_looks};
 use crate::options::Options;
+use crate::outputs::Outputs;
 use crate::picture::{picture, window_of};
 use crate::progress::tell_summary;
-use crate::reading::{deck_of, read_file};
-use crate::report::report;
-use crate::told::{check_fault, device_fault, output_fault};
+use crate::reading::{Content, deck_of, read_file, read_library};
+use crate::report::{list, report};
+use crate::side::many_tiles;
+use crate::told::{check_fault, unread_by};
+use crate::tops::tell_tops;
 use mpw_check::{CheckFault, check_layout, read_layout};
 use mpw_deck::Deck;
+use mpw_hier::HierFault;
 use mpw_markers::Book;
 use mpw_tiles::Snapshot;
-use mpw_wire::{Counted, WireFault};
-use std::io::BufWriter;
+use std::alloc::Global;
 use std::thread::Threads;
 use std::time::Instant;
 
@@ -42,6 +49,11 @@ pub fn drawn_of(
     }
 }
 
+/// Whether a library has no structure of the name that is asked for.
+fn is_of_top(fault: &CheckFault) -> bool {
+    matches!(fault, CheckFault::Structure(HierFault::NoTop))
+}
+
 /// What is checked, of a deck and the text of a library.
 fn drawn_under(
     rt: &HostRuntime,
@@ -54,14 +66,21 @@ fn drawn_under(
 {
     match read_layout(rt.alloc(), deck, &options.top, text) {
         Ok(snapshot) => Ok(snapshot),
-        Err(fault) => Err(refusal_of(rt, options, &fault, text)),
+        Err(fault) => {
+            if is_of_top(&fault) {
+                let _ = tell_tops(rt, options.file.as_str(), text);
+            }
+            Err(refusal_of(rt, options, &fault, text))
+        }
     }
 }
 
 /// What is checked, of the files that the command line names.
-fn snapshot_of(rt: &HostRuntime, options: &Options) -> Result<Snapshot, FirmFault> {
-    let deck = read_file(rt, options.deck.as_str())?;
-    let text = read_file(rt, options.file.as_str())?;
+fn snapshot_of(rt: &HostRuntime, options: &Options) -> Result<Snapshot, FirmFault>
+    ensures { IfOk result (λ layout. (deck library : List ℕ) × IsReadFrom deck options.now.top library layout) }
+{
+    let deck = read_file(rt, options.deck.as_str(), Content::Deck)?;
+    let text = read_library(rt, options.file.as_str())?;
     drawn_of(rt, options, &deck, &text)
 }
 
@@ -73,74 +92,66 @@ pub fn refusal_of(rt: &HostRuntime, options: &Options, fault: &CheckFault, text:
     check_fault(rt.alloc(), file, top, fault, text)
 }
 
+/// What is told of a layout of which a plan would have too many tiles.
+pub fn tiles_of(rt: &HostRuntime, options: &Options, snapshot: &Snapshot) -> FirmFault
+    ensures { IsOfTiles (string_bytes options.now.file) options.now.top snapshot.now result }
+{
+    let (file, top) = (options.file.as_str(), options.top.as_str());
+    many_tiles(rt.alloc(), file, top, snapshot)
+}
+
 /// The time now.
 ///
 /// # Errors
 /// `Device` where there is no clock.
 pub fn now(rt: &HostRuntime) -> Result<Instant, FirmFault>
-    ensures { IfErr result (Fails (unread_text (codes "the clock"))) }
+    ensures { IfErr result (CannotBeRead (codes "the clock")) }
 {
     match Instant::now(rt) {
         Ok(now) => Ok(now),
-        Err(_) => Err(device_fault(rt.alloc(), "the clock")),
+        Err(error) => Err(unread_by(rt.alloc(), "the clock", error)),
     }
-}
-
-/// What came of writing to the standard output.
-pub fn outcome_of_print(rt: &HostRuntime, written: Result<(), WireFault>) -> Result<(), FirmFault>
-    ensures ok { IfOk written (λ _. IfErr result (λ _. ⊥)) }
-    ensures failed { IfErr written (λ _. IfOk result (λ _. ⊥)) }
-    ensures told { IfErr written (λ why. IfErr result (IsOfOutput why)) }
-    ensures failure { IfErr result (Fails output_text) }
-{
-    match written {
-        Ok(()) => Ok(()),
-        Err(WireFault::Memory) => Err(FirmFault::Memory),
-        Err(_) => Err(output_fault(rt.alloc())),
-    }
-}
-
-/// Prints the markers on the standard output.
-///
-/// # Errors
-/// `Device` where that failed, and `Memory`.
-pub fn print(rt: &HostRuntime, snapshot: &Snapshot, book: Book) -> Result<(), FirmFault>
-    ensures { IfErr result (Fails output_text) }
-{
-    let Ok(output) = BufWriter::new(rt.alloc(), rt.stdout()) else {
-        return Err(FirmFault::Memory);
-    };
-    let written = write_markers(rt.alloc(), snapshot, book, &mut Counted::new(output));
-    outcome_of_print(rt, written)
 }
 
 /// Prints the markers, and writes the report.
-fn write_listed(
-    rt: &HostRuntime,
+fn write_listed<O: Outputs>(
+    outputs: &mut O,
+    alloc: Global,
     options: &Options,
     snapshot: &Snapshot,
     book: &Book,
 ) -> Result<(), FirmFault>
-    ensures { IfErr result (λ fault. Fails output_text fault ⊎ IsUnwritten (option_map string_bytes options.now.report) fault) }
+    ensures kept { IfOk result (λ _. Grows (O.kept outputs.old) (O.kept outputs.new) (listing_texts (option_map string_bytes options.now.report) options.now.top snapshot.now book.now)) }
+    ensures refused { IfErr result (λ fault. Fails output_text fault ⊎ IsUnwritten (option_map string_bytes options.now.report) fault) }
 {
-    print(rt, snapshot, book.copy()?)?;
-    report(rt, &options.report, &options.top, snapshot, book)
+    list(outputs, alloc, snapshot, book)?;
+    report(
+        outputs,
+        alloc,
+        &options.report,
+        &options.top,
+        snapshot,
+        book,
+    )
 }
 
 /// Prints the markers, and writes the report and the picture.
-fn write_all(
-    rt: &HostRuntime,
+fn write_all<O: Outputs>(
+    outputs: &mut O,
+    alloc: Global,
     options: &Options,
     snapshot: &Snapshot,
     book: &Book,
-) -> Result<(), FirmFault> {
+) -> Result<(), FirmFault>
+    ensures { IfOk result (λ _. PutsAll options.now snapshot.now book.now (O.kept outputs.old) (O.kept outputs.new)) }
+{
     let Some(wanted) = &options.picture else {
-        return write_listed(rt, options, snapshot, book);
+        return write_listed(outputs, alloc, options, snapshot, book);
     };
-    let window = window_of(rt.alloc(), wanted, snapshot, book)?;
-    write_listed(rt, options, snapshot, book)?;
+    let window = window_of(alloc, wanted, snapshot, book)?;
+    write_listed(outputs, alloc, options, snapshot, book)?;
     let file = wanted.file.as_str();
-    picture(rt, file, window, &options.top, snapshot, book)
+    picture(outputs, alloc, file, window, &options.top, snapshot, book)
 }
 
 /// The markers of a layout, while a terminal is told how far the check came.
@@ -159,25 +170,43 @@ fn book_of(
     book
 }
 
+/// The markers of the layout that is checked.
+fn found_in(
+    rt: &HostRuntime,
+    threads: &(impl Threads + Sync),
+    options: &Options,
+    snapshot: &Snapshot,
+) -> Result<Book, FirmFault>
+    ensures { IfOk result (AreLayoutMarkers snapshot.now) }
+{
+    match book_of(rt, threads, snapshot) {
+        Ok(book) => Ok(book),
+        Err(CheckFault::Tiles) => Err(tiles_of(rt, options, snapshot)),
+        Err(fault) => Err(refusal_of(rt, options, &fault, &[])),
+    }
+}
+
 /// Checks what the command line asks for, prints its markers, writes its report and its picture and tells how many markers there
 /// are. A key that no marker has is refused before anything is printed.
 ///
 /// # Errors
 /// A file that can't be read or written, a key that no marker has, a library or a deck with a fault, a device that failed, or want
 /// of memory.
-pub fn check(
+pub fn check<O: Outputs>(
     rt: &HostRuntime,
     threads: &(impl Threads + Sync),
+    outputs: &mut O,
     options: &Options,
-) -> Result<usize, FirmFault> {
+) -> Result<usize, FirmFault>
+    requires apart { AreApart (O.files outputs.old) (check_inputs options.now) (check_outputs options.now) }
+    ensures { IfOk result (IsChecked options.now (O.kept outputs.old) (O.kept outputs.new)) }
+{
     let start = now(rt)?;
     let snapshot = snapshot_of(rt, options)?;
-    let book = match book_of(rt, threads, &snapshot) {
-        Ok(book) => book,
-        Err(fault) => return Err(refusal_of(rt, options, &fault, &[])),
-    };
-    let found = book.len();
+    let _ = tell_looks(rt, &snapshot);
+    look(rt.alloc(), options, &snapshot)?;
+    let book = found_in(rt, threads, options, &snapshot)?;
     let _ = tell_summary(rt, &snapshot, book.as_slice(), &start);
-    write_all(rt, options, &snapshot, &book)?;
-    Ok(found)
+    write_all(outputs, rt.alloc(), options, &snapshot, &book)?;
+    Ok(book.len())
 }

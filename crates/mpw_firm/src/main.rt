@@ -4,19 +4,26 @@
 //! With `--picture OUT` it draws what was checked, or with `--marker KEY` what lies round a marker, as SVG.
 #![tactic(auto)]
 
-ghost use Rattle.std.specs.Prelude.{◌≡◌, IfOk, IfErr};
+ghost use Rattle.std.specs.Prelude.{◌≡◌, ◌∷◌, [], IfOk, IfErr};
+ghost use Rattle.std.specs.Process.{exit_status};
+ghost use Rattle.mpw_firm.specs.Came.{Ends, IsCheckDone, IsDone, IsDoneOf, IsDoneOfSome, IsStitched, on_output};
+ghost use Rattle.mpw_firm.specs.Outputs.{Grows};
 ghost use Rattle.mpw_firm.specs.Told.{Fails, IsMisuse, output_text};
 
+mod apart;
 mod asked;
 mod blank;
 mod cause;
 mod fault;
+mod host;
 mod key;
 mod laws;
 mod line;
 mod listing;
+mod looked;
 mod options;
 mod out_file;
+mod outputs;
 mod part;
 mod picture;
 mod picture_options;
@@ -25,21 +32,30 @@ mod progress;
 mod reading;
 mod report;
 mod sentences;
+mod side;
+mod spot;
 mod stitch;
 mod stitch_options;
+mod texts;
 mod told;
 mod told_parts;
+mod tops;
 mod whole;
 
+use apart::{check_apart, stitch_apart};
 use asked::check;
 use fault::{FirmFault, exit_status};
+use host::Host;
 use options::{Asked, Options, read_options};
+use outputs::{Outputs, Place, put};
 use part::check_range;
+use std::alloc::Global;
 use std::process::ExitCode;
 use std::thread::Threads;
 use std::{env, io};
 use stitch::stitch;
-use told::output_fault;
+use stitch_options::StitchOptions;
+use texts::Text;
 
 /// The words of the command line.
 fn words(rt: &HostRuntime) -> Result<Vec<String>, FirmFault>
@@ -56,46 +72,98 @@ fn words(rt: &HostRuntime) -> Result<Vec<String>, FirmFault>
 }
 
 /// Prints the help or the version.
-fn print_told(rt: &HostRuntime, text: &str) -> Result<usize, FirmFault>
-    ensures none { IfOk result (λ markers. markers ≡ 0) }
+fn print_told<O: Outputs>(outputs: &mut O, alloc: Global, text: &str) -> Result<usize, FirmFault>
+    ensures told { IfOk result (λ found. Grows (O.kept outputs.old) (O.kept outputs.new) (on_output text.now ∷ []) × (found ≡ 0)) }
     ensures failed { IfErr result (Fails output_text) }
 {
-    match print!(rt; "{text}") {
-        Ok(()) => Ok(0),
-        Err(_) => Err(output_fault(rt.alloc())),
-    }
+    put(outputs, alloc, Place::Standard, &Text::Told(text))?;
+    Ok(0)
 }
 
-/// Checks the whole, or the tiles that are asked for.
-fn check_asked(
+/// Checks the whole, or the tiles that are asked for, where no output is an input or another output.
+fn check_asked<O: Outputs>(
     rt: &HostRuntime,
     threads: &(impl Threads + Sync),
+    outputs: &mut O,
     options: &Options,
-) -> Result<usize, FirmFault> {
+) -> Result<usize, FirmFault>
+    ensures { IfOk result (IsCheckDone options.now options.now.tiles (O.kept outputs.old) (O.kept outputs.new)) }
+{
+    check_apart(outputs, rt.alloc(), options)?;
     match options.tiles {
-        None => check(rt, threads, options),
-        Some(range) => check_range(rt, threads, options, range),
+        None => check(rt, threads, outputs, options),
+        Some(range) => check_range(rt, threads, outputs, options, range),
     }
 }
 
-/// Reads the command line, checks or stitches, and tells how many markers there are.
-fn run(rt: &HostRuntime, threads: &(impl Threads + Sync)) -> Result<usize, FirmFault> {
+/// Stitches the parts, where none of them is an output.
+fn stitch_asked<O: Outputs>(
+    rt: &HostRuntime,
+    outputs: &mut O,
+    options: &StitchOptions,
+) -> Result<usize, FirmFault>
+    ensures { IfOk result (IsStitched options.now (O.kept outputs.old) (O.kept outputs.new)) }
+{
+    stitch_apart(outputs, rt.alloc(), options)?;
+    stitch(rt, outputs, options)
+}
+
+/// Does what is asked for, and tells how many markers there are.
+fn done<O: Outputs>(
+    rt: &HostRuntime,
+    threads: &(impl Threads + Sync),
+    outputs: &mut O,
+    asked: &Asked,
+) -> Result<usize, FirmFault>
+    ensures { IfOk result (IsDone asked.now (O.kept outputs.old) (O.kept outputs.new)) }
+{
+    match asked {
+        Asked::Check(options) => check_asked(rt, threads, outputs, options),
+        Asked::Stitch(options) => stitch_asked(rt, outputs, options),
+        Asked::Told(text) => print_told(outputs, rt.alloc(), text.as_str()),
+    }
+}
+
+/// Does what these words ask for, and tells how many markers there are.
+fn done_of<O: Outputs>(
+    rt: &HostRuntime,
+    threads: &(impl Threads + Sync),
+    outputs: &mut O,
+    words: &[&str],
+) -> Result<usize, FirmFault>
+    ensures { IfOk result (IsDoneOf (λ word. word.now) words.now (O.kept outputs.old) (O.kept outputs.new)) }
+{
+    let asked = read_options(rt.alloc(), words)?;
+    done(rt, threads, outputs, &asked)
+}
+
+/// Does what the command line asks for, and tells how many markers there are.
+fn run<O: Outputs>(
+    rt: &HostRuntime,
+    threads: &(impl Threads + Sync),
+    outputs: &mut O,
+) -> Result<usize, FirmFault>
+    ensures { IfOk result (IsDoneOfSome (O.kept outputs.old) (O.kept outputs.new)) }
+{
     let words = words(rt)?;
     let words: Vec<&str> = words.iter().map(|word| word.as_str()).collect(rt.alloc())?;
-    match read_options(rt.alloc(), words.as_slice())? {
-        Asked::Check(options) => check_asked(rt, threads, &options),
-        Asked::Stitch(options) => stitch(rt, &options),
-        Asked::Told(text) => print_told(rt, text.as_str()),
+    done_of(rt, threads, outputs, words.as_slice())
+}
+
+/// Does what the command line asks for, tells a fault on the standard error, and gives the exit status.
+fn ended<O: Outputs>(rt: &HostRuntime, threads: &(impl Threads + Sync), outputs: &mut O) -> ExitCode
+    ensures { Ends (O.kept outputs.old) (O.kept outputs.new) (exit_status result) }
+{
+    let ended = run(rt, threads, outputs);
+    if let Err(fault) = &ended {
+        let _ = eprintln!(rt; "{fault}");
     }
+    ExitCode::from(exit_status(&ended))
 }
 
 /// Exits with 0 without markers and 1 with some, 2 at a usage fault, 3 where a file or a device failed, 4 where the library,
 /// the deck or a part has a fault, and 5 where memory was wanting; with 0 behind the help and the version too. A fault is told on the
 /// standard error.
 fn main(rt: HostRuntime) -> ExitCode {
-    let ended = run(&rt, &rt);
-    if let Err(fault) = &ended {
-        let _ = eprintln!(rt; "{fault}");
-    }
-    ExitCode::from(exit_status(&ended))
+    ended(&rt, &rt, &mut Host::new(&rt))
 }

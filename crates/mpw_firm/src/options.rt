@@ -1,8 +1,11 @@
 //! The command line.
-ghost use Rattle.std.specs.Prelude.{◌≡◌, ◌∷◌, ◌||◌, option_map, slice_get, IfOk, IfErr};
+ghost use Rattle.std.specs.Prelude.{◌≡◌, ◌∷◌, ◌||◌, option_map, slice_get, IfOk, IfErr, IfSome, None, Some};
 ghost use Rattle.std.specs.List.{list_any};
 ghost use Rattle.std.specs.String.{string_bytes};
 ghost use Rattle.mpw_geom.specs.Names.{name_eq};
+ghost use Rattle.clap.specs.Words.{found_of};
+ghost use Rattle.mpw_spread.specs.Ranges.{range_of};
+ghost use Rattle.mpw_firm.specs.Given.{IsGiven};
 ghost use Rattle.mpw_firm.specs.Commands.{IsOfCheck, IsOfWord, IsToldBy, telling_of};
 ghost use Rattle.mpw_firm.specs.Told.{IsMisuse, Misuses};
 
@@ -35,6 +38,8 @@ pub struct Options {
     pub picture: Option<Wanted>,
     /// The tiles whose part is wanted, in place of the markers of the whole.
     pub tiles: Option<TileRange>,
+    /// Whether a layout is refused of which a rule looks at nothing.
+    pub strict: bool,
 }
 
 /// A text that a command line asks for in place of what a command does.
@@ -94,13 +99,20 @@ fn command<'a>(alloc: Global) -> Result<Command<'a>, AllocError> {
         "Checks some tiles, and prints their part for 'mpw stitch': A-B, from tile A to tile B, \
         both included and counted from 0; or K/N, the K-th of N shares",
     );
+    let strict = Arg::new(alloc, "strict")
+        .long("strict")
+        .action(ArgAction::SetTrue)
+        .help("Refuses a deck without rules, and a rule on whose layers there is no shape");
     let command = Command::new(alloc, "mpw check")
         .version(VERSION)
         .about("Checks a structure of a GDSII library under a deck, and lists its markers")
         .arg(deck)?
         .arg(top)?
         .arg(report)?;
-    with_picture(alloc, command)?.arg(tiles)?.arg(file)
+    with_picture(alloc, command)?
+        .arg(tiles)?
+        .arg(strict)?
+        .arg(file)
 }
 
 /// A fault of the command line, with its text.
@@ -132,7 +144,9 @@ fn read_tiles(
     report: Option<&str>,
     picture: Option<&str>,
 ) -> Result<Option<TileRange>, FirmFault>
-    ensures { IfErr result IsMisuse }
+    ensures given { IfOk result (λ read. option_map range_of (option_map (λ text. text.now) tiles.entry) ≡ option_map Some read) }
+    ensures alone { IfOk result (λ read. IfSome read (λ _. (option_map (λ text. text.now) report.entry ≡ None) × (option_map (λ text. text.now) picture.entry ≡ None))) }
+    ensures refused { IfErr result IsMisuse }
 {
     let Some(tiles) = tiles else {
         return Ok(None);
@@ -161,7 +175,8 @@ fn read_tiles(
 
 /// What the command line's words give.
 fn options_in(alloc: Global, matches: &ArgMatches<'_>) -> Result<Options, FirmFault>
-    ensures { IfErr result IsMisuse }
+    ensures given { IfOk result (IsGiven (found_of matches.now)) }
+    ensures refused { IfErr result IsMisuse }
 {
     let words = (
         matches.get_str("deck"),
@@ -178,20 +193,20 @@ fn options_in(alloc: Global, matches: &ArgMatches<'_>) -> Result<Options, FirmFa
         ));
     }
     let (report, picture) = (matches.get_str("report"), matches.get_str("picture"));
+    let tiles = read_tiles(alloc, matches.get_str("tiles"), report, picture)?;
     let files = [deck, file, report.unwrap_or("-")];
+    let picture = read_wanted(alloc, picture, matches.get_str("marker"), &files)?;
+    let over = "the deck or the library";
+    let report = out_file(alloc, "report", report, &files[..2], over)?;
+    let top = read_top(alloc, top)?;
     Ok(Options {
         deck: String::from_str(alloc, deck)?,
-        top: read_top(alloc, top)?,
+        top,
         file: String::from_str(alloc, file)?,
-        report: out_file(
-            alloc,
-            "report",
-            report,
-            &files[..2],
-            "the deck or the library",
-        )?,
-        picture: read_wanted(alloc, picture, matches.get_str("marker"), &files)?,
-        tiles: read_tiles(alloc, matches.get_str("tiles"), report, picture)?,
+        report,
+        picture,
+        tiles,
+        strict: matches.get_flag("strict"),
     })
 }
 

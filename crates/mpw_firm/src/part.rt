@@ -1,41 +1,27 @@
 //! The check of some tiles, whose part is printed.
 ghost use Rattle.std.specs.Prelude.{IfOk, IfErr};
 ghost use Rattle.mpw_spread.specs.Spread.{IsPartOf};
+ghost use Rattle.mpw_firm.specs.Came.{IsPartChecked};
 ghost use Rattle.mpw_firm.specs.Drawings.{IsReadFrom};
 ghost use Rattle.mpw_firm.specs.Ranges.{HasTilesOf, IsOfRange};
-ghost use Rattle.mpw_firm.specs.Told.{Fails, output_text};
+ghost use Rattle.mpw_firm.specs.Outputs.{AreApart};
+ghost use Rattle.mpw_firm.specs.Uses.{check_inputs, check_outputs};
 
-use crate::asked::{drawn_of, now, refusal_of};
+use crate::asked::{drawn_of, now, tiles_of};
 use crate::fault::FirmFault;
 use crate::line::Line;
+use crate::looked::{look, tell_looks};
 use crate::options::Options;
+use crate::outputs::{Outputs, Place, put};
 use crate::progress::{count_of, tell_part};
-use crate::reading::read_file;
-use crate::told::output_fault;
+use crate::reading::{Content, read_file, read_library};
+use crate::texts::Text;
 use crate::told_parts::beyond_plan;
-use mpw_check::{CheckFault, tile_count};
-use mpw_parts::{Part, write_part};
+use mpw_check::tile_count;
+use mpw_parts::Part;
 use mpw_spread::{TileRange, check_part, subject_of};
 use mpw_tiles::Snapshot;
-use std::io::{self, BufWriter};
 use std::thread::Threads;
-
-/// Writes a part to the standard output.
-fn write_out(rt: &HostRuntime, part: &Part) -> io::Result<()> {
-    let mut writer = BufWriter::new(rt.alloc(), rt.stdout())?;
-    write_part(rt.alloc(), &mut writer, part)
-}
-
-/// Prints a part on the standard output.
-fn print_part(rt: &HostRuntime, part: &Part) -> Result<(), FirmFault>
-    ensures { IfErr result (Fails output_text) }
-{
-    match write_out(rt, part) {
-        Ok(()) => Ok(()),
-        Err(error) if error.kind() == io::ErrorKind::OutOfMemory => Err(FirmFault::Memory),
-        Err(_) => Err(output_fault(rt.alloc())),
-    }
-}
 
 /// The part of the tiles that are asked for, of a layout that was read of these texts.
 fn part_of(
@@ -53,7 +39,7 @@ fn part_of(
     ensures refused { IfErr result (IsOfRange options.now snapshot.now range) }
 {
     let Some(tiles) = tile_count(snapshot) else {
-        return Err(refusal_of(rt, options, &CheckFault::Tiles, &[]));
+        return Err(tiles_of(rt, options, snapshot));
     };
     let Some(span) = range.span(tiles) else {
         return Err(beyond_plan(rt.alloc(), tiles));
@@ -70,18 +56,24 @@ fn part_of(
 ///
 /// # Errors
 /// Tiles that the plan hasn't, a file that can't be read, a library or a deck with a fault, a device that failed, or want of memory.
-pub fn check_range(
+pub fn check_range<O: Outputs>(
     rt: &HostRuntime,
     threads: &(impl Threads + Sync),
+    outputs: &mut O,
     options: &Options,
     range: TileRange,
-) -> Result<usize, FirmFault> {
-    let deck = read_file(rt, options.deck.as_str())?;
-    let text = read_file(rt, options.file.as_str())?;
+) -> Result<usize, FirmFault>
+    requires apart { AreApart (O.files outputs.old) (check_inputs options.now) (check_outputs options.now) }
+    ensures { IfOk result (IsPartChecked options.now range (O.kept outputs.old) (O.kept outputs.new)) }
+{
+    let deck = read_file(rt, options.deck.as_str(), Content::Deck)?;
+    let text = read_library(rt, options.file.as_str())?;
     let snapshot = drawn_of(rt, options, &deck, &text)?;
     let start = now(rt)?;
+    let _ = tell_looks(rt, &snapshot);
+    look(rt.alloc(), options, &snapshot)?;
     let part = part_of(rt, threads, options, deck, &text, &snapshot, range)?;
     let _ = tell_part(rt, &snapshot, &part, &start);
-    print_part(rt, &part)?;
+    put(outputs, rt.alloc(), Place::Standard, &Text::Part(&part))?;
     Ok(count_of(part.lists()))
 }

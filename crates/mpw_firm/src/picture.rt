@@ -1,23 +1,26 @@
 //! The picture of a check.
-ghost use Rattle.std.specs.Prelude.{option_map, IfOk, IfErr};
+ghost use Rattle.std.specs.Prelude.{◌∷◌, [], option_map, IfOk, IfErr};
 ghost use Rattle.std.specs.String.{string_bytes};
 ghost use Rattle.mpw_geom.specs.Plane.{IsBoxInPlane};
+ghost use Rattle.mpw_picture.specs.Drawn.{IsPicture};
 ghost use Rattle.mpw_picture.specs.Text.{picture_text};
+ghost use Rattle.mpw_picture.specs.declared.picture.Picture.{Picture};
+ghost use Rattle.mpw_firm.specs.Came.{in_file};
 ghost use Rattle.mpw_firm.specs.Keys.{IsOfKey, IsRound, IsUnknown, IsWindowOf, unknown_text};
-ghost use Rattle.mpw_firm.specs.Told.{Fails, Misuses, unwritten_text};
-ghost use Rattle.mpw_text.specs.Writing.{Adds};
+ghost use Rattle.mpw_firm.specs.Outputs.{Grows};
+ghost use Rattle.mpw_firm.specs.Told.{CannotBeWritten, Misuses};
 
 use crate::fault::FirmFault;
 use crate::key::find_marker;
+use crate::outputs::{Outputs, Place, put};
 use crate::picture_options::Wanted;
-use crate::told::{misuse, unwritten_file};
+use crate::texts::Text;
+use crate::told::misuse;
 use mpw_geom::{Box2, Name};
 use mpw_markers::Book;
-use mpw_picture::{Picture, draw, marker_window, whole_window, write_picture};
+use mpw_picture::{draw, marker_window, whole_window};
 use mpw_tiles::Snapshot;
 use std::alloc::Global;
-use std::fs::File;
-use std::io::{self, BufWriter, Write};
 
 /// What is told of a key that no marker has.
 #[tactic(auto, unfolding(crate::specs::Keys::unknown_text))]
@@ -68,37 +71,13 @@ pub fn window_of(
     }
 }
 
-/// Writes a picture under the deck of a snapshot.
-fn write_drawn<W: Write>(
-    writer: &mut W,
-    snapshot: &Snapshot,
-    top: &Name,
-    picture: &Picture,
-) -> io::Result<()>
-    ensures { Adds W.contents writer.old writer.new result (picture_text snapshot.now.deck.rules top.now picture.now) }
-{
-    write_picture(writer, snapshot.deck().rules().as_slice(), top, picture)
-}
-
-/// Writes a picture to a file, in the place of what it held.
-fn write_file(
-    rt: &HostRuntime,
-    file: &str,
-    snapshot: &Snapshot,
-    top: &Name,
-    picture: &Picture,
-) -> io::Result<()> {
-    let file = File::create(rt, file)?;
-    let mut writer = BufWriter::new(rt.alloc(), file)?;
-    write_drawn(&mut writer, snapshot, top, picture)
-}
-
 /// Draws a window of what was checked into a file.
 ///
 /// # Errors
 /// `Device` where the file can't be written, and `Memory`.
-pub fn picture(
-    rt: &HostRuntime,
+pub fn picture<O: Outputs>(
+    outputs: &mut O,
+    alloc: Global,
     file: &str,
     window: Box2,
     top: &Name,
@@ -106,12 +85,10 @@ pub fn picture(
     book: &Book,
 ) -> Result<(), FirmFault>
     requires { IsBoxInPlane window }
-    ensures { IfErr result (Fails (unwritten_text file.now)) }
+    ensures kept { IfOk result (λ _. (drawn : Picture) × IsPicture snapshot.now book.now window drawn × Grows (O.kept outputs.old) (O.kept outputs.new) (in_file file.now (picture_text snapshot.now.deck.rules top.now drawn) ∷ [])) }
+    ensures refused { IfErr result (CannotBeWritten file.now) }
 {
-    let picture = draw(rt.alloc(), snapshot, book.as_slice(), window)?;
-    match write_file(rt, file, snapshot, top, &picture) {
-        Ok(()) => Ok(()),
-        Err(error) if error.kind() == io::ErrorKind::OutOfMemory => Err(FirmFault::Memory),
-        Err(_) => Err(unwritten_file(rt.alloc(), file)),
-    }
+    let drawn = draw(alloc, snapshot, book.as_slice(), window)?;
+    let text = Text::Picture(snapshot, top, &drawn);
+    put(outputs, alloc, Place::File(file), &text)
 }

@@ -1,5 +1,8 @@
 //! The picture that a command line asks for.
-ghost use Rattle.std.specs.Prelude.{IfErr};
+ghost use Rattle.std.specs.Prelude.{◌≡◌, option_map, IfOk, IfErr};
+ghost use Rattle.std.specs.String.{string_bytes};
+ghost use Rattle.mpw_firm.specs.Given.{picture_key};
+ghost use Rattle.mpw_firm.specs.Uses.{picture_file};
 ghost use Rattle.mpw_firm.specs.Told.{IsMisuse};
 
 use crate::fault::FirmFault;
@@ -35,7 +38,9 @@ pub fn with_picture<'a>(alloc: Global, command: Command<'a>) -> Result<Command<'
 }
 
 /// The key that is given.
-fn read_key(alloc: Global, key: Option<&str>) -> Result<Option<String>, AllocError> {
+fn read_key(alloc: Global, key: Option<&str>) -> Result<Option<String>, AllocError>
+    ensures { IfOk result (λ read. option_map string_bytes read ≡ option_map (λ text. text.now) key.entry) }
+{
     match key {
         Some(key) => Ok(Some(String::from_str(alloc, key)?)),
         None => Ok(None),
@@ -52,7 +57,9 @@ pub fn read_wanted(
     key: Option<&str>,
     others: &[&str],
 ) -> Result<Option<Wanted>, FirmFault>
-    ensures { IfErr result IsMisuse }
+    ensures file { IfOk result (λ wanted. picture_file wanted ≡ option_map (λ text. text.now) file.entry) }
+    ensures key { IfOk result (λ wanted. picture_key wanted ≡ option_map (λ text. text.now) key.entry) }
+    ensures refused { IfErr result IsMisuse }
 {
     match out_file(
         alloc,

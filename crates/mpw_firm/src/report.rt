@@ -1,64 +1,60 @@
-//! The report of a check, which KLayout's marker browser opens.
-ghost use Rattle.std.specs.Prelude.{option_map, IfErr};
+//! The listing and the report of a check. KLayout's marker browser opens the latter.
+ghost use Rattle.std.specs.Prelude.{◌∷◌, [], option_map, IfOk, IfErr};
 ghost use Rattle.std.specs.String.{string_bytes};
-ghost use Rattle.mpw_firm.specs.Told.{IsUnwritten};
-ghost use Rattle.mpw_report.specs.Report.{report_text};
-ghost use Rattle.mpw_text.specs.Writing.{Adds};
+ghost use Rattle.mpw_firm.specs.Came.{on_output, report_texts};
+ghost use Rattle.mpw_firm.specs.Listed.{listed_text};
+ghost use Rattle.mpw_firm.specs.Outputs.{Grows, IsUnwritten};
+ghost use Rattle.mpw_firm.specs.Told.{Fails, output_text};
 
 use crate::fault::FirmFault;
-use crate::told::unwritten_file;
+use crate::outputs::{Outputs, Place, put};
+use crate::texts::Text;
 use mpw_geom::Name;
 use mpw_markers::Book;
-use mpw_report::write_report;
 use mpw_tiles::Snapshot;
-use std::fs::File;
-use std::io::{self, BufWriter, Write};
+use std::alloc::Global;
 
-/// Writes the report of a book of a structure of that name.
-fn write_book<W: Write>(
-    writer: &mut W,
+/// Prints the markers of a layout on the standard output.
+///
+/// # Errors
+/// `Device` where that failed, and `Memory`.
+pub fn list<O: Outputs>(
+    outputs: &mut O,
+    alloc: Global,
     snapshot: &Snapshot,
-    top: &Name,
     book: &Book,
-) -> io::Result<()>
-    ensures { Adds W.contents writer.old writer.new result (report_text snapshot.now.deck.rules top.now book.now) }
+) -> Result<(), FirmFault>
+    ensures kept { IfOk result (λ _. Grows (O.kept outputs.old) (O.kept outputs.new) (on_output (listed_text snapshot.now book.now) ∷ [])) }
+    ensures refused { IfErr result (Fails output_text) }
 {
-    let rules = snapshot.deck().rules();
-    write_report(writer, rules.as_slice(), top, book.as_slice())
-}
-
-/// Writes the report to a file, in the place of what it held.
-fn write_file(
-    rt: &HostRuntime,
-    file: &str,
-    snapshot: &Snapshot,
-    top: &Name,
-    book: &Book,
-) -> io::Result<()> {
-    let file = File::create(rt, file)?;
-    let mut writer = BufWriter::new(rt.alloc(), file)?;
-    write_book(&mut writer, snapshot, top, book)
+    put(
+        outputs,
+        alloc,
+        Place::Standard,
+        &Text::Listing(snapshot, book),
+    )
 }
 
 /// Writes the report that the command line asks for; nothing where it asks for none.
 ///
 /// # Errors
 /// `Device` where the file can't be written, and `Memory`.
-pub fn report(
-    rt: &HostRuntime,
+pub fn report<O: Outputs>(
+    outputs: &mut O,
+    alloc: Global,
     file: &Option<String>,
     top: &Name,
     snapshot: &Snapshot,
     book: &Book,
 ) -> Result<(), FirmFault>
-    ensures { IfErr result (IsUnwritten (option_map string_bytes file.now)) }
+    ensures kept { IfOk result (λ _. Grows (O.kept outputs.old) (O.kept outputs.new) (report_texts (option_map string_bytes file.now) top.now snapshot.now book.now)) }
+    ensures refused { IfErr result (IsUnwritten (option_map string_bytes file.now)) }
 {
-    let Some(file) = file else {
-        return Ok(());
-    };
-    match write_file(rt, file.as_str(), snapshot, top, book) {
-        Ok(()) => Ok(()),
-        Err(error) if error.kind() == io::ErrorKind::OutOfMemory => Err(FirmFault::Memory),
-        Err(_) => Err(unwritten_file(rt.alloc(), file.as_str())),
+    match file {
+        Some(file) => {
+            let text = Text::Report(snapshot, top, book);
+            put(outputs, alloc, Place::File(file.as_str()), &text)
+        }
+        None => Ok(()),
     }
 }

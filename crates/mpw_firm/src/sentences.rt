@@ -14,8 +14,8 @@ fn of_reference(is_turned: bool) -> &'static str
     ensures { result.now ≡ record_sentence (if is_turned then code.Angle else code.Magnification) }
 {
     if is_turned {
-        "an angle isn't a multiple of 90 degrees, or is beyond -360 to 360: resolve the reference \
-        before the export (KLayout: 'Flatten' that instance; gdspy: flatten() the cell that has it)"
+        "an angle isn't a multiple of 90 degrees, or is beyond -360 to 360: turn the reference by \
+        such an angle; flattened at another one, its edges would be refused too"
     } else {
         "a reference is magnified: resolve it before the export (KLayout: 'Flatten' that instance; \
         gdspy: flatten() the cell that has it)"
@@ -37,7 +37,7 @@ fn of_record(code: Code) -> &'static str
             as properties",
         Code::BadSize =>
             "a record has too much or too little data: polygons of more than 8191 points have to \
-            be split",
+            be split (gdspy: .fracture(max_points=8190))",
         Code::BadName =>
             "a name is empty, longer than 255 bytes, or has a blank or another byte outside 21 to \
             7E hex: rename the structure (KLayout: 'Rename cell'; gdspy: rename_cell())",
@@ -50,15 +50,17 @@ fn of_record(code: Code) -> &'static str
             "an edge is neither horizontal nor vertical, as one at 45 degrees: only such edges are \
             checked; draw it in steps, or export without that shape",
         Code::RoundPath =>
-            "a path has round ends (type 1): export it with ends of type 0, 2 or 4, or as a \
-            polygon (KLayout: 'Convert to polygon'; gdspy: ends='flush', or gdsii_path=False)",
+            "a path has round ends (type 1): give it ends of type 0, 2 or 4 (KLayout: the path's \
+            properties; gdspy: ends='flush' or 'extended'); a polygon of it would be refused too",
         Code::OddWidth =>
             "a path's width is odd: make it even, or export the path as a polygon (KLayout: \
             'Convert to polygon'; gdspy: gdsii_path=False)",
         Code::PointPath => "all points of a path are one: remove it",
         Code::Columns =>
             "an array has fewer than one column or row: remove it, or export its elements",
-        Code::Pitch => "an array's step isn't a whole number of nm: export its elements one by one",
+        Code::Pitch =>
+            "an array's step isn't a whole number of nm: export its elements one by one (KLayout: \
+            open the file and save it again)",
         Code::DoubleName => "two structures have one name: rename one of them",
         Code::Absolute => "an angle is absolute: export it relative to the reference",
     }
@@ -74,7 +76,7 @@ pub fn of_library(fault: ReadFault, text: &[u8]) -> &'static str
         Cause::Split =>
             "an element's points stand in several XY records: export polygons and paths of at most \
             8191 points, each in one XY record (KLayout: switch off 'Multi-XY record mode for \
-            boundaries'; gdspy: max_points=8190)",
+            boundaries'; gdspy: .fracture(max_points=8190))",
         Cause::Property =>
             "a property of the library stands behind UNITS or between structures: export without \
             it (KLayout: switch off 'Write file properties'; gdspy writes none)",
@@ -94,7 +96,7 @@ pub fn of_structure(fault: HierFault) -> &'static str
         HierFault::Cycle => "a structure stands below itself: take one of the references away",
         HierFault::Extent => "a structure goes beyond 2^30 nm: move it nearer to its origin",
         HierFault::Shapes =>
-            "the structure shows more than 2^20 shapes: check its parts one by one",
+            "the structure shows more than 2^20 shapes: split it, and check each piece with --top",
         HierFault::Deep => "the structure has more than 64 levels: flatten some of them",
         _ => "the structure can't be placed",
     }
@@ -108,7 +110,7 @@ pub fn of_deck(kind: DeckKind) -> &'static str
     match kind {
         DeckKind::Word =>
             "a line is 'tile SIDE', or 'CHECK NAME LAYER.. DISTANCE' with width, space, separation \
-            or enclosing; no line is empty or a comment",
+            or enclosing, and a NAME without a colon; no line is empty or a comment",
         DeckKind::Number =>
             "a distance is 1 to 65535 nm, and a tile's side 256 to 2^30 nm; lines end with a line \
             feed alone",

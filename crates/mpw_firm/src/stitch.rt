@@ -1,21 +1,23 @@
 //! Parts stitched, and the markers of the whole.
-ghost use Rattle.std.specs.Prelude.{◌≡◌, Some, IfOk, IfErr};
+ghost use Rattle.std.specs.Prelude.{◌≡◌, List, Some, IfOk, IfErr};
+ghost use Rattle.mpw_parts.specs.Parts.{Found};
 ghost use Rattle.mpw_parts.specs.Reading.{part_of};
-ghost use Rattle.mpw_firm.specs.Stitched.{IsNamed, IsOfFile};
-ghost use Rattle.mpw_firm.specs.Told.{Fails, output_text};
+ghost use Rattle.mpw_firm.specs.Came.{IsStitched};
+ghost use Rattle.mpw_firm.specs.Outputs.{AreApart};
+ghost use Rattle.mpw_firm.specs.Stitched.{IsOfFile, IsWholeOf};
+ghost use Rattle.mpw_firm.specs.Uses.{stitch_inputs, stitch_outputs};
 
-use crate::asked::outcome_of_print;
 use crate::fault::FirmFault;
+use crate::outputs::Outputs;
 use crate::progress::tell_markers;
-use crate::reading::read_file;
-use crate::report::report;
+use crate::reading::{Content, read_file};
+use crate::report::{list, report};
 use crate::stitch_options::StitchOptions;
 use crate::told_parts::{PartFile, no_part};
-use crate::whole::{Whole, whole_of, write_whole};
+use crate::whole::{Whole, whole_of};
 use mpw_parts::{Part, read_part};
-use mpw_wire::Counted;
 use std::alloc::{AllocError, Global};
-use std::io::{self, BufWriter};
+use std::io;
 
 /// The part that a file's text is.
 fn part_in(alloc: Global, file: &str, text: &[u8]) -> Result<Part, FirmFault>
@@ -31,13 +33,13 @@ fn part_in(alloc: Global, file: &str, text: &[u8]) -> Result<Part, FirmFault>
 
 /// The whole of the parts of files, in order.
 fn whole_in(rt: &HostRuntime, names: &[String]) -> Result<Whole, FirmFault>
-    ensures named { IfOk result (λ whole. IsNamed whole.top whole.layout) }
+    ensures { IfOk result (λ whole. (parts : List Found) × IsWholeOf parts whole) }
 {
     let alloc = rt.alloc();
     let mut parts = Vec::new(alloc);
     let mut files = Vec::new(alloc);
     for name in names {
-        let text = read_file(rt, name.as_str())?;
+        let text = read_file(rt, name.as_str(), Content::Part)?;
         let part = part_in(alloc, name.as_str(), &text)?;
         files
             .push(PartFile::of(name.as_str(), &part))
@@ -55,26 +57,29 @@ fn tell_stitched(rt: &HostRuntime, parts: usize, whole: &Whole) -> io::Result<()
     eprintln!(rt; "")
 }
 
-/// Prints the markers of a whole on the standard output.
-fn print_whole(rt: &HostRuntime, whole: &Whole) -> Result<(), FirmFault>
-    requires { IsNamed whole.now.top whole.now.layout }
-    ensures { IfErr result (Fails output_text) }
-{
-    let Ok(output) = BufWriter::new(rt.alloc(), rt.stdout()) else {
-        return Err(FirmFault::Memory);
-    };
-    let written = write_whole(rt.alloc(), whole, &mut Counted::new(output));
-    outcome_of_print(rt, written)
-}
-
 /// Stitches the parts that the command line names, prints the markers, writes the report and tells how many markers there are.
 ///
 /// # Errors
 /// A file that can't be read or written, one that is no part, parts that don't fit, a device that failed, or want of memory.
-pub fn stitch(rt: &HostRuntime, options: &StitchOptions) -> Result<usize, FirmFault> {
+pub fn stitch<O: Outputs>(
+    rt: &HostRuntime,
+    outputs: &mut O,
+    options: &StitchOptions,
+) -> Result<usize, FirmFault>
+    requires apart { AreApart (O.files outputs.old) (stitch_inputs options.now) (stitch_outputs options.now) }
+    ensures { IfOk result (IsStitched options.now (O.kept outputs.old) (O.kept outputs.new)) }
+{
+    let alloc = rt.alloc();
     let whole = whole_in(rt, options.files.as_slice())?;
     let _ = tell_stitched(rt, options.files.len(), &whole);
-    print_whole(rt, &whole)?;
-    report(rt, &options.report, &whole.top, &whole.layout, &whole.book)?;
+    list(outputs, alloc, &whole.layout, &whole.book)?;
+    report(
+        outputs,
+        alloc,
+        &options.report,
+        &whole.top,
+        &whole.layout,
+        &whole.book,
+    )?;
     Ok(whole.book.len())
 }

@@ -1,6 +1,9 @@
 //! The command line of `mpw stitch`.
-ghost use Rattle.std.specs.Prelude.{IfOk, IfErr};
+ghost use Rattle.std.specs.Prelude.{◌≡◌, map, IfOk, IfErr};
+ghost use Rattle.std.specs.String.{string_bytes};
+ghost use Rattle.clap.specs.Words.{found_of};
 ghost use Rattle.mpw_firm.specs.Commands.{IsOfStitch};
+ghost use Rattle.mpw_firm.specs.Given.{IsGivenParts};
 ghost use Rattle.mpw_firm.specs.Told.{IsMisuse};
 
 use crate::fault::FirmFault;
@@ -48,7 +51,9 @@ fn inputs(words: &[&str]) -> usize {
 }
 
 /// The texts, each copied.
-fn copies_of(alloc: Global, words: &[&str]) -> Result<Vec<String>, AllocError> {
+fn copies_of(alloc: Global, words: &[&str]) -> Result<Vec<String>, AllocError>
+    ensures { IfOk result (λ texts. map string_bytes texts.items ≡ map (λ word. word.now) words.now) }
+{
     let mut texts = Vec::new(alloc);
     for word in words {
         texts.push(String::from_str(alloc, word)?)?;
@@ -58,7 +63,8 @@ fn copies_of(alloc: Global, words: &[&str]) -> Result<Vec<String>, AllocError> {
 
 /// What the command line's words give.
 fn options_in(alloc: Global, matches: &ArgMatches<'_>) -> Result<StitchOptions, FirmFault>
-    ensures { IfErr result IsMisuse }
+    ensures given { IfOk result (IsGivenParts (found_of matches.now)) }
+    ensures refused { IfErr result IsMisuse }
 {
     let Some(files) = matches.get_strs("part") else {
         return Err(usage(alloc, "error: a part has to be given"));
@@ -66,9 +72,10 @@ fn options_in(alloc: Global, matches: &ArgMatches<'_>) -> Result<StitchOptions, 
     if inputs(files) > 1 {
         return Err(usage(alloc, "error: only one part can be the standard input"));
     }
+    let report = out_file(alloc, "report", matches.get_str("report"), files, "a part")?;
     Ok(StitchOptions {
         files: copies_of(alloc, files)?,
-        report: out_file(alloc, "report", matches.get_str("report"), files, "a part")?,
+        report,
     })
 }
 

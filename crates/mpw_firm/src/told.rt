@@ -2,10 +2,13 @@
 ghost use Rattle.std.specs.Prelude.{◌≡◌, ℕ, List, IfOk};
 ghost use Rattle.std.specs.String.{string_bytes};
 ghost use Rattle.mpw_records.specs.Words.{fault_text};
-ghost use Rattle.mpw_firm.specs.Told.{Fails, Misuses, Refuses, Tells, output_text, unread_text, unwritten_text};
+ghost use Rattle.mpw_firm.specs.Outputs.{IsOfWrite, IsUnput};
+ghost use Rattle.mpw_firm.specs.Texts.{place_of};
+ghost use Rattle.mpw_firm.specs.Told.{CannotBeRead, CannotBeWritten, Fails, Misuses, Refuses, Tells, output_text, unread_text, unwritten_text};
 ghost use Rattle.mpw_firm.specs.ToldFaults.{check_told, deck_text, deck_told, library_text, named_text, outside_text, record_text, spaced, structure_text, tiles_text};
 
 use crate::fault::FirmFault;
+use crate::outputs::Place;
 use crate::place::structure_at;
 use crate::sentences::{of_deck, of_library, of_structure};
 use mpw_check::CheckFault;
@@ -13,7 +16,9 @@ use mpw_deck::{DeckFault, DeckKind};
 use mpw_geom::{Name, Names};
 use mpw_hier::HierFault;
 use mpw_records::ReadFault;
+use mpw_wire::WireFault;
 use std::alloc::{AllocError, Global};
+use std::io::{self, ErrorKind};
 
 /// A fault of a library, a deck or parts that was told, or want of memory.
 pub fn refusal(text: Result<String, AllocError>) -> FirmFault
@@ -135,7 +140,7 @@ fn structure_fault(alloc: Global, file: &str, top: &str, fault: HierFault) -> Fi
 
 /// What is told of a plan of too many tiles.
 #[tactic(auto, unfolding(crate::specs::ToldFaults::tiles_text))]
-fn tiles_fault(alloc: Global, file: &str, top: &str) -> FirmFault
+pub fn tiles_fault(alloc: Global, file: &str, top: &str) -> FirmFault
     ensures { Refuses (tiles_text file.now top.now) result }
 {
     refusal(format!(in alloc;
@@ -162,20 +167,46 @@ pub fn check_fault(
     }
 }
 
-/// What is told of a file or a device that failed.
+/// What is told of a file or a device that can't be read, for that reason.
 #[tactic(auto, unfolding(crate::specs::Told::unread_text))]
-pub fn device_fault(alloc: Global, file: &str) -> FirmFault
-    ensures { Fails (unread_text file.now) result }
+fn unread(alloc: Global, file: &str, reason: &str) -> FirmFault
+    ensures { Fails (unread_text file.now reason.now) result }
 {
-    failure(format!(in alloc; "{file}: can't be read"))
+    failure(format!(in alloc; "{file}: can't be read: {reason}"))
 }
 
-/// What is told of a file that can't be written.
+/// What is told of a file that can't be written, for that reason.
 #[tactic(auto, unfolding(crate::specs::Told::unwritten_text))]
-pub fn unwritten_file(alloc: Global, file: &str) -> FirmFault
-    ensures { Fails (unwritten_text file.now) result }
+fn unwritten(alloc: Global, file: &str, reason: &str) -> FirmFault
+    ensures { Fails (unwritten_text file.now reason.now) result }
 {
-    failure(format!(in alloc; "{file}: can't be written"))
+    failure(format!(in alloc; "{file}: can't be written: {reason}"))
+}
+
+/// What is told of a file or a device that can't be read, with what the system says of it.
+pub fn unread_by(alloc: Global, file: &str, error: io::Error) -> FirmFault
+    ensures { CannotBeRead file.now result }
+{
+    if error.kind() == ErrorKind::OutOfMemory {
+        return FirmFault::Memory;
+    }
+    match error.to_string(alloc) {
+        Ok(reason) => unread(alloc, file, reason.as_str()),
+        Err(_) => FirmFault::Memory,
+    }
+}
+
+/// What is told of a file that can't be written, with what the system says of it.
+pub fn unwritten_by(alloc: Global, file: &str, error: io::Error) -> FirmFault
+    ensures { CannotBeWritten file.now result }
+{
+    if error.kind() == ErrorKind::OutOfMemory {
+        return FirmFault::Memory;
+    }
+    match error.to_string(alloc) {
+        Ok(reason) => unwritten(alloc, file, reason.as_str()),
+        Err(_) => FirmFault::Memory,
+    }
 }
 
 /// What is told where the standard output failed.
@@ -184,4 +215,25 @@ pub fn output_fault(alloc: Global) -> FirmFault
     ensures { Fails output_text result }
 {
     failure(String::from_str(alloc, "the standard output failed"))
+}
+
+/// What is told of a place that doesn't take a text.
+fn untaken(alloc: Global, to: Place<'_>) -> FirmFault
+    ensures { IsUnput (place_of to.entry) result }
+{
+    match to {
+        Place::Standard => output_fault(alloc),
+        Place::File(file) => unwritten(alloc, file, "the device is full, or it failed"),
+    }
+}
+
+/// What is told of what came of writing a text for a place.
+pub fn unput(alloc: Global, to: Place<'_>, why: WireFault) -> FirmFault
+    ensures place { IsUnput (place_of to.entry) result }
+    ensures told { IsOfWrite (place_of to.entry) why result }
+{
+    match why {
+        WireFault::Memory => FirmFault::Memory,
+        WireFault::Read | WireFault::Write => untaken(alloc, to),
+    }
 }

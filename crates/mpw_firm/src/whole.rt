@@ -1,13 +1,11 @@
 //! The whole that parts make.
 ghost use Rattle.std.specs.Prelude.{◌≡◌, true, IfOk, IfErr};
 ghost use Rattle.mpw_parts.specs.Stitching.{IsBookOf};
-ghost use Rattle.mpw_firm.specs.Listed.{ListsAsEach};
-ghost use Rattle.mpw_firm.specs.Stitched.{are_alone, first_name, is_alone, IsListedAsCheck, IsNamed, IsSubjectOf, IsWholeOf, IsOfBlank, IsOfBook, IsOfFirst, IsOfMarkers, IsOfParts, IsOfWhole};
+ghost use Rattle.mpw_firm.specs.Stitched.{are_alone, first_name, is_alone, IsListedAsCheck, IsListedAsEach, IsNamed, IsSubjectOf, IsWholeOf, IsOfBlank, IsOfBook, IsOfFirst, IsOfMarkers, IsOfParts, IsOfWhole};
 
 use crate::blank::blank_layout;
 use crate::fault::FirmFault;
 use crate::laws::wholes_are_listed_as_checks;
-use crate::listing::write_markers;
 use crate::reading::deck_of;
 use crate::told::check_fault;
 use crate::told_parts::{PartFile, no_markers, parts_fault};
@@ -16,7 +14,6 @@ use mpw_geom::Name;
 use mpw_markers::{Book, Marker};
 use mpw_parts::{Part, stitch_parts};
 use mpw_tiles::Snapshot;
-use mpw_wire::{Sink, WireFault};
 use std::alloc::Global;
 
 /// What was checked: the deck, the structure's name, and the number of tiles.
@@ -171,20 +168,9 @@ fn make_whole(alloc: Global, files: &[PartFile<'_>], parts: Vec<Part>) -> Result
 pub fn whole_of(alloc: Global, files: &[PartFile<'_>], parts: Vec<Part>) -> Result<Whole, FirmFault>
     ensures whole { IfOk result (IsWholeOf parts.items) }
     ensures listed { IfOk result (IsListedAsCheck parts.items) }
+    ensures each { IfOk result IsListedAsEach }
     ensures refused { IfErr result (IsOfWhole files.now parts.items) }
 {
     wholes_are_listed_as_checks();
     make_whole(alloc, files, parts)
-}
-
-/// Writes the markers of a whole, just as a check lists them of any layout of a structure of that name under that deck.
-///
-/// # Errors
-/// `Write` where the sink failed, and `Memory`.
-pub fn write_whole<W: Sink>(alloc: Global, whole: &Whole, writer: &mut W) -> Result<(), WireFault>
-    requires { IsNamed whole.now.top whole.now.layout }
-    ensures { ListsAsEach W.contents W.failures writer.old writer.new result whole.now.layout.deck whole.now.top whole.now.book }
-{
-    let book = whole.book.copy()?;
-    write_markers(alloc, &whole.layout, book, writer)
 }

@@ -6,5 +6,6 @@ use Rattle.mpw_firm.proofs.options.read_options.Goals as goal
 pub returns-in-len2-up-clause-asked : goal.returns-in-len2-up-clause-asked
 returns-in-len2-up-clause-asked c =
     rw (← c.telling_of-telling.ensures)
-    (IfOk-weaker c.read_check.result (IsOfCheck c.telling_of-telling.result) _ (λ x p. inl (search rules, p))
+    (IfOk-weaker c.read_check.result (IsOfCheck c.telling_of-telling.result) _
+    (λ x p. inl (search rules, p))
     c.read_check.ensures.asked)

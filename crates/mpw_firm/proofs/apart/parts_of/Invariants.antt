@@ -1,0 +1,8 @@
+use Rattle.std.proofs.Common.{◌≡◌, map, take}
+use Rattle.std.specs.String.{string_bytes}
+use Rattle.mpw_firm.specs.Uses.{input_name, names_of}
+use Rattle.mpw_firm.proofs.apart.parts_of.Given as goal
+
+abbrev pub invariant-loop-file : goal.invariant-loop-file
+invariant-loop-file l =
+    names_of l.uses.items ≡ map (λ file. input_name (string_bytes file)) (take l.file-index l.files)

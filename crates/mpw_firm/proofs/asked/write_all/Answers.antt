@@ -1,0 +1,15 @@
+use Rattle.std.proofs.lemmas.Result.{IfOk-weaker}
+use Rattle.mpw_firm.proofs.Growth.{grows_named}
+use Rattle.mpw_firm.proofs.asked.write_all.Goals as goal
+
+pub returns : goal.returns
+returns g c =
+    IfOk-weaker c.picture.result _ _
+    (λ x p. rw c.in-Some.is (
+      c.in_ok-window.window,
+      p.0,
+      c.in_ok-window.ensures.window,
+      p.1,
+      grows_named _ _ _ _ _ _ _ c.as_str-file.ensures.value c.in_ok-write_listed.ensures.kept p.2,
+    ))
+    c.picture.ensures.kept

@@ -1,0 +1,148 @@
+-- What came of a command: the texts that stand in their places, and how many markers were found.
+use Rattle.std.specs.Prelude.{◌≡◌, ℕ, List, [], ◌∷◌, ◌++◌, length, slice_get, Option, None, Some, option_map, Result, IfOk}
+use Rattle.std.specs.String.{string_bytes}
+use Rattle.mpw_geom.specs.declared.plane.Box2.{Box2}
+use Rattle.mpw_job.specs.Layout.{AreLayoutMarkers}
+use Rattle.mpw_markers.specs.declared.marker.Marker.{Marker}
+use Rattle.mpw_parts.specs.Parts.{Found}
+use Rattle.mpw_parts.specs.Text.{part_text}
+use Rattle.mpw_picture.specs.Drawn.{IsPicture}
+use Rattle.mpw_picture.specs.Text.{picture_text}
+use Rattle.mpw_picture.specs.declared.picture.Picture.{Picture}
+use Rattle.mpw_report.specs.Report.{report_text}
+use Rattle.mpw_spread.specs.Spread.{IsPartOf}
+use Rattle.mpw_spread.specs.declared.range.TileRange.{TileRange}
+use Rattle.mpw_tiles.specs.Snapshots.{Snapshot}
+use Rattle.mpw_firm.specs.Commands.{IsOfWord, telling_of}
+use Rattle.mpw_firm.specs.Drawings.{IsReadFrom}
+use Rattle.mpw_firm.specs.Keys.{IsWindowOf}
+use Rattle.mpw_firm.specs.Listed.{listed_text}
+use Rattle.mpw_firm.specs.Looks.{IsLookedAt}
+use Rattle.mpw_firm.specs.Outputs.{Kept, Grows}
+use Rattle.mpw_firm.specs.Ranges.{HasTilesOf}
+use Rattle.mpw_firm.specs.Status.{count_of, exit_of}
+use Rattle.mpw_firm.specs.Stitched.{IsWholeOf}
+use Rattle.mpw_firm.specs.declared.fault.FirmFault.{FirmFault}
+use Rattle.mpw_firm.specs.declared.options.Asked.{Asked}
+use Rattle.mpw_firm.specs.declared.options.Asked.TheVariants as asked
+use Rattle.mpw_firm.specs.declared.options.Options.{Options}
+use Rattle.mpw_firm.specs.declared.options.Telling.{Telling}
+use Rattle.mpw_firm.specs.declared.picture_options.Wanted.{Wanted}
+use Rattle.mpw_firm.specs.declared.stitch_options.StitchOptions.{StitchOptions}
+use Rattle.mpw_firm.specs.declared.whole.Whole.{Whole}
+
+-- ---- texts in their places
+
+abbrev pub on_output : List ℕ → Kept
+on_output text = record { place = None; text = text }
+
+abbrev pub in_file : (name text : List ℕ) → Kept
+in_file name text = record { place = Some name; text = text }
+
+-- The report of a book, where a file for it is wanted.
+abbrev pub report_texts : Option (List ℕ) → List ℕ → Snapshot → List Marker → List Kept
+report_texts None top layout book = []
+report_texts (Some file) top layout book =
+    in_file file (report_text layout.deck.rules top book) ∷ []
+
+-- The listing, and the report that is wanted.
+abbrev pub listing_texts : Option (List ℕ) → List ℕ → Snapshot → List Marker → List Kept
+listing_texts report top layout book =
+    on_output (listed_text layout book) ∷ report_texts report top layout book
+
+-- ---- of a check
+
+-- The picture that is wanted stands behind them.
+abbrev pub PutsPicture : Option Wanted → (top : List ℕ) → Snapshot → List Marker
+    → Option (List Kept) → Option (List Kept) → List Kept → Type 0
+PutsPicture None top layout book old new texts = Grows old new texts
+PutsPicture (Some wanted) top layout book old new texts =
+    (window : Box2) × (picture : Picture)
+    × IsWindowOf (option_map string_bytes wanted.key) layout book window
+    × IsPicture layout book window picture
+    × Grows old new
+    (texts ++ (in_file (string_bytes wanted.file) (picture_text layout.deck.rules top picture)
+    ∷ []))
+
+-- The listing, and the report and the picture that are wanted.
+abbrev pub PutsAll : Options → Snapshot → List Marker → Option (List Kept) → Option (List Kept)
+    → Type 0
+PutsAll options layout book old new =
+    PutsPicture options.picture options.top layout book old new
+    (listing_texts (option_map string_bytes options.report) options.top layout book)
+
+-- A deck and a library were checked, their markers are told in all that is wanted, and they are so many.
+pub record IsChecked (options : Options) (old new : Option (List Kept)) (found : ℕ) : Type 0 where
+  pub deck : List ℕ
+  pub library : List ℕ
+  pub layout : Snapshot
+  pub book : List Marker
+  pub drawn : IsReadFrom deck options.top library layout
+  pub looked : IsLookedAt options.strict layout
+  pub markers : AreLayoutMarkers layout book
+  pub count : found ≡ length book
+  pub kept : PutsAll options layout book old new
+
+-- Some tiles of them were, and their part is printed.
+pub record IsPartChecked (options : Options) (range : TileRange) (old new : Option (List Kept))
+    (found : ℕ) : Type 0 where
+  pub deck : List ℕ
+  pub library : List ℕ
+  pub layout : Snapshot
+  pub part : Found
+  pub drawn : IsReadFrom deck options.top library layout
+  pub looked : IsLookedAt options.strict layout
+  pub made : IsPartOf (record { deck = deck; top = options.top; library = library }) part
+  pub tiles : HasTilesOf layout range part
+  pub count : found ≡ count_of part.lists
+  pub kept : Grows old new (on_output (part_text part) ∷ [])
+
+-- The whole, or the tiles that are asked for.
+abbrev pub IsCheckDone : Options → Option TileRange → Option (List Kept) → Option (List Kept) → ℕ
+    → Type 0
+IsCheckDone options None old new found = IsChecked options old new found
+IsCheckDone options (Some range) old new found = IsPartChecked options range old new found
+
+-- ---- of parts
+
+-- Parts were stitched, the markers of their whole are told in all that is wanted, and they are so many.
+pub record IsStitched (options : StitchOptions) (old new : Option (List Kept)) (found : ℕ) : Type 0
+  where
+    pub parts : List Found
+    pub whole : Whole
+    pub made : IsWholeOf parts whole
+    pub count : found ≡ length whole.book
+    pub kept : Grows old new
+        (listing_texts (option_map string_bytes options.report) whole.top whole.layout whole.book)
+
+-- ---- of a command line
+
+-- What is asked for was done.
+abbrev pub IsDone : Asked → Option (List Kept) → Option (List Kept) → ℕ → Type 0
+IsDone (asked.Check options) old new found = IsCheckDone options options.tiles old new found
+IsDone (asked.Stitch options) old new found = IsStitched options old new found
+IsDone (asked.Told text) old new found =
+    Grows old new (on_output (string_bytes text) ∷ []) × (found ≡ 0)
+
+-- The word behind the program's name, and what is to be told in place of what a command does, ask for something, and that was done.
+abbrev pub IsDoneBy : Option (List ℕ) → Option Telling → Option (List Kept) → Option (List Kept) → ℕ
+    → Type 0
+IsDoneBy word telling old new found =
+    (what : Asked) × IsOfWord word telling what × IsDone what old new found
+
+-- The same of the words of a command line.
+abbrev pub IsDoneOf : {A : Type 0} → (A → List ℕ) → List A → Option (List Kept) → Option (List Kept)
+    → ℕ → Type 0
+IsDoneOf text words old new found =
+    IsDoneBy (option_map text (slice_get words 1)) (telling_of text words) old new found
+
+-- The same of some command line.
+abbrev pub IsDoneOfSome : Option (List Kept) → Option (List Kept) → ℕ → Type 0
+IsDoneOfSome old new found =
+    (word : Option (List ℕ)) × (telling : Option Telling) × IsDoneBy word telling old new found
+
+-- The exit status is that of what came: 0 or 1 just where what the words ask for was done.
+pub record Ends (old new : Option (List Kept)) (status : ℕ) : Type 0 where
+  pub ended : Result ℕ FirmFault
+  pub done : IfOk ended (IsDoneOfSome old new)
+  pub exit : status ≡ exit_of ended

@@ -1,0 +1,27 @@
+-- The texts that a command writes, and where.
+use Rattle.std.specs.Prelude.{ℕ, List, [], ◌∷◌, Option, None, Some}
+use Rattle.mpw_firm.specs.declared.outputs.Place.{Place}
+use Rattle.mpw_firm.specs.declared.outputs.Place.TheVariants as place
+use Rattle.mpw_firm.specs.declared.texts.Text.{Text}
+use Rattle.mpw_firm.specs.declared.texts.Text.TheVariants as text
+use Rattle.mpw_firm.specs.Listed.{listed_text}
+use Rattle.mpw_firm.specs.Outputs.{Kept}
+use Rattle.mpw_parts.specs.Text.{part_text}
+use Rattle.mpw_picture.specs.Text.{picture_text}
+use Rattle.mpw_report.specs.Report.{report_text}
+
+-- The name of a place's file; none is the standard output's.
+abbrev pub place_of : Place → Option (List ℕ)
+place_of place.Standard = None
+place_of (place.File name) = Some name.now
+
+abbrev pub text_of : Text → List ℕ
+text_of (text.Listing layout book) = listed_text layout.now book.now
+text_of (text.Report layout top book) = report_text layout.now.deck.rules top.now book.now
+text_of (text.Picture layout top picture) = picture_text layout.now.deck.rules top.now picture.now
+text_of (text.Part part) = part_text part.now
+text_of (text.Told told) = told.now
+
+-- The text in its place.
+abbrev pub kept_of : Place → Text → List Kept
+kept_of to t = record { place = place_of to; text = text_of t } ∷ []

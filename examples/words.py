@@ -1,0 +1,43 @@
+"""What the commands tell of themselves: a line of a desk is found by its whole, by its number and by its word, no word is listed twice,
+and the help is told on the standard output.
+"""
+import os
+import subprocess
+
+MPW = os.path.join(os.path.dirname(os.path.dirname(os.path.abspath(__file__))), "mpw")
+COMMANDS = ["mpw script", "mpw serve", "mpw check", "mpw stitch", "mpw help"]
+
+
+def run(*words):
+    ended = subprocess.run([MPW, *words], stdin=subprocess.DEVNULL, stdout=subprocess.PIPE, stderr=subprocess.PIPE)
+    return ended.returncode, ended.stdout.decode(), ended.stderr.decode()
+
+
+def is_found():
+    """`REFUSED 40 form` by each of its forms."""
+    forms = [["REFUSED 40 form"], ["REFUSED", "40", "form"], ["REFUSED 40"], ["40 form"], ["40"], ["form"]]
+    told = {form: run("help", *words) for form, words in ((" ".join(words), words) for words in forms)}
+    return [f"{form}: {found}" for form, found in told.items() if found[0] != 0 or not found[1].startswith("REFUSED 40 form\n") or found[2]]
+
+
+def is_listed_once():
+    status, printed, _ = run("help")
+    words = [word for line in printed.splitlines() for word in line.partition(":")[2].split()]
+    twice = sorted({word for word in words if words.count(word) > 1})
+    lacking = [word for word in ("shapes", "form", "submit", "stitch", "login") if word not in words]
+    return [f"status {status}, twice {twice}, lacking {lacking}"] if status or twice or lacking else []
+
+
+def is_helped(*words, wanted):
+    status, printed, told = run(*words)
+    lacking = [text for text in wanted if text not in printed]
+    return [f"status {status}, lacking {lacking}, told {told!r}"] if status or lacking or told else []
+
+
+CASES = {
+    "help of a line of the desk": is_found,
+    "the words of help": is_listed_once,
+    "help of all commands": lambda: is_helped("--help", wanted=COMMANDS),
+    "help of script": lambda: is_helped("script", "--help", wanted=["--officer", "--digest"]),
+    "help of check": lambda: is_helped("check", "--help", wanted=["--deck", "--top", "--strict"]),
+}
