@@ -79,8 +79,8 @@ passed-on (Err told) fault first second is more of =
 pub given-of : (words : List Text) (settings : Settings) (named : Option (Text × List Row))
     → fault_of program_app words ≡ [] → named ≡ subcommand_of program_app words
     → AreOf named settings → AreGiven settings words
-given-of words (Script officer) named taken is of =
-    (taken, subst (λ n. AreOf n (Script officer)) is of)
+given-of words (Script script) named taken is of =
+    (taken, subst (λ n. AreOf n (Script script)) is of)
 given-of words (Serve service) named taken is of =
     (taken, subst (λ n. AreOf n (Serve service)) is of)
 given-of words (Help text) named taken is of = absurd of

@@ -36,8 +36,12 @@ abbrev pub with_officer : App → App
 with_officer app = with_rule (with_rule app (required_option (codes "officer")))
     (required_option (codes "digest"))
 
+-- a subcommand with the option of a store
+abbrev pub with_store : App → App
+with_store app = with_rule app (free_option (codes "store"))
+
 abbrev pub script_app : App
-script_app = with_officer (new_app (codes "script"))
+script_app = with_store (with_officer (new_app (codes "script")))
 
 -- a subcommand with the options that a service has to be given
 abbrev pub with_required : App → App
@@ -47,9 +51,10 @@ with_required app = with_officer
     (required_option (codes "connections"))) (required_option (codes "workers")))
 
 abbrev pub serve_app : App
-serve_app = with_rule
+serve_app = with_store
+    (with_rule
     (with_rule (with_rule (with_required (new_app (codes "serve"))) ongoing_option) idle_option)
-    (free_option (codes "log"))
+    (free_option (codes "log")))
 
 -- the subcommand has that form, and no option that another shares
 abbrev pub HasForm : App → Command → Type 0

@@ -1,6 +1,7 @@
 -- What the words of a command line give.
-use Rattle.std.specs.Prelude.{◌≡◌, ◌≢◌, ◌⊎◌, ◌↔◌, ℕ, Bool, IsTrue, List, [], ◌∷◌, codes, length, Option, None, Some}
+use Rattle.std.specs.Prelude.{◌≡◌, ◌≢◌, ◌⊎◌, ◌↔◌, ℕ, Bool, IsTrue, List, [], ◌∷◌, codes, length, Option, None, Some, String, option_map}
 use Rattle.std.specs.String.{string_bytes}
+use Rattle.std.specs.declared.alloc.Global.{Global}
 use Rattle.clap.specs.declared.error.kind.ErrorKind.TheVariants.{DisplayHelp}
 use Rattle.clap.specs.Words.{IsAmong, Row, Text, fault_of, first_of, subcommand_of}
 use Rattle.mpw_geom.specs.Name.{IsName}
@@ -10,6 +11,7 @@ use Rattle.mpw_settings.specs.Forms.{program_app}
 use Rattle.mpw_settings.specs.declared.fault.SettingsFault.{SettingsFault}
 use Rattle.mpw_settings.specs.declared.fault.SettingsFault.TheVariants.{Memory}
 use Rattle.mpw_settings.specs.declared.officer.Officer.{Officer}
+use Rattle.mpw_settings.specs.declared.script.Script.{Script as ScriptGiven}
 use Rattle.mpw_settings.specs.declared.service.Log.{Log}
 use Rattle.mpw_settings.specs.declared.service.Log.TheVariants.{Nowhere, StandardError, File}
 use Rattle.mpw_settings.specs.declared.service.Service.{Service}
@@ -45,6 +47,14 @@ GivesLog rows StandardError = Gives (codes "log") rows (codes "-")
 GivesLog rows (File file) =
     Gives (codes "log") rows (string_bytes file) × (string_bytes file ≢ codes "-")
 
+-- the name of a file where one is given, and else none
+abbrev pub GivesStore : List Row → Option (String Global) → Type 0
+GivesStore rows store = first_of (codes "store") rows ≡ option_map string_bytes store
+
+pub record GivesScript (rows : List Row) (script : ScriptGiven) : Type 0 where
+  pub officer : GivesOfficer rows script.officer
+  pub store : GivesStore rows script.store
+
 pub record GivesService (rows : List Row) (service : Service) : Type 0 where
   pub listen : Gives (codes "listen") rows (string_bytes service.listen)
   pub connections : GivesNumber (codes "connections") 1 64 rows service.connections
@@ -53,6 +63,7 @@ pub record GivesService (rows : List Row) (service : Service) : Type 0 where
   pub idle : GivesNumber (codes "idle") 1 86400 rows service.idle
   pub log : GivesLog rows service.log
   pub officer : GivesOfficer rows service.officer
+  pub store : GivesStore rows service.store
 
 -- nothing is given
 abbrev pub GivesNone : {X : Type 0} → (X → Type 0) → Type 0
@@ -62,16 +73,16 @@ GivesNone {X} Given = (x : X) → Given x → ⊥
 
 -- the subcommand is named, and its rows give the settings
 abbrev pub AreOf : Option (Text × List Row) → Settings → Type 0
-AreOf named (Script officer) =
-    (rows : List Row) × (named ≡ Some (codes "script", rows)) × GivesOfficer rows officer
+AreOf named (Script script) =
+    (rows : List Row) × (named ≡ Some (codes "script", rows)) × GivesScript rows script
 AreOf named (Serve service) =
     (rows : List Row) × (named ≡ Some (codes "serve", rows)) × GivesService rows service
 AreOf named (Help text) = ⊥
 
 -- the words have the form, they name a subcommand, and its rows give the settings; or they ask for help
 abbrev pub AreGiven : Settings → List Text → Type 0
-AreGiven (Script officer) words =
-    (fault_of program_app words ≡ []) × AreOf (subcommand_of program_app words) (Script officer)
+AreGiven (Script script) words =
+    (fault_of program_app words ≡ []) × AreOf (subcommand_of program_app words) (Script script)
 AreGiven (Serve service) words =
     (fault_of program_app words ≡ []) × AreOf (subcommand_of program_app words) (Serve service)
 AreGiven (Help text) words = IsAmong DisplayHelp (fault_of program_app words)

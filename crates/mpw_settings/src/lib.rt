@@ -7,11 +7,14 @@
 mod fault;
 mod officer;
 mod options;
+mod script;
 mod service;
 mod service_options;
 mod settings;
+mod store;
 
 pub use fault::SettingsFault;
 pub use officer::Officer;
+pub use script::Script;
 pub use service::{Log, MAX_CONNECTIONS, MAX_IDLE, MAX_WORKERS, Service};
 pub use settings::{Settings, read_settings};

@@ -40,6 +40,8 @@ pub struct Service {
     pub log: Log,
     /// The first user of its desk.
     pub officer: Officer,
+    /// The file in which its desk's changes are kept; none where they aren't.
+    pub store: Option<String>,
     pub ghost connections_in_range: { (1 ≤ connections) × (connections ≤ 64) },
     pub ghost workers_in_range: { (1 ≤ workers) × (workers ≤ 16) },
     pub ghost idle_in_range: { (1 ≤ idle) × (idle ≤ 86400) },

@@ -11,6 +11,7 @@ use crate::options::{
     free_option, given, is_given, new_command, number_of, required_option, value_of, with_option,
 };
 use crate::service::{Log, MAX_CONNECTIONS, MAX_IDLE, MAX_WORKERS, Service};
+use crate::store::{read_store, with_store};
 use clap::{Arg, ArgAction, ArgMatches, Command};
 use std::alloc::{AllocError, Global};
 
@@ -78,7 +79,8 @@ pub fn serve_command<'a>(alloc: Global) -> Result<Command<'a>, AllocError>
     );
     let command = new_command(alloc, "serve", "Serves connections that share a desk");
     let command = with_option(with_required(alloc, command)?, ongoing_option(alloc))?;
-    with_option(with_option(command, idle_option(alloc))?, log)
+    let command = with_option(with_option(command, idle_option(alloc))?, log)?;
+    with_store(alloc, command)
 }
 
 /// The text that is given for the address.
@@ -114,6 +116,7 @@ pub fn read_service(alloc: Global, options: &ArgMatches<'_>) -> Result<Service, 
     let workers = number_of(alloc, options, "workers", 1, MAX_WORKERS)?;
     let idle = number_of(alloc, options, "idle", 1, MAX_IDLE)?;
     let log = read_log(alloc, options)?;
+    let store = read_store(alloc, options)?;
     let officer = read_officer(alloc, options)?;
     Ok(Service {
         listen,
@@ -123,5 +126,6 @@ pub fn read_service(alloc: Global, options: &ArgMatches<'_>) -> Result<Service, 
         idle: u64::from(idle),
         log,
         officer,
+        store,
     })
 }

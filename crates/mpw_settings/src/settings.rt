@@ -1,12 +1,12 @@
 //! The command line.
 ghost use Rattle.std.specs.Prelude.{◌≡◌, ◌≢◌, IfOk, IfErr, map};
 ghost use Rattle.clap.specs.Words.{app_of, kind_of, subcommand_rows_of};
-ghost use Rattle.mpw_settings.specs.Forms.{HasForm, program_app, script_app};
+ghost use Rattle.mpw_settings.specs.Forms.{program_app};
 ghost use Rattle.mpw_settings.specs.Settings.{AreGiven, AreOf, GiveNone, GivesNone, IsFaultOf};
 
 use crate::fault::SettingsFault;
-use crate::officer::{Officer, read_officer, with_officer};
-use crate::options::{new_command, usage};
+use crate::options::usage;
+use crate::script::{Script, read_script, script_command};
 use crate::service::Service;
 use crate::service_options::{read_service, serve_command};
 use clap::error::ErrorKind;
@@ -16,20 +16,12 @@ use std::alloc::{AllocError, Global};
 /// What the command line asks for.
 #[derive(Drop)]
 pub enum Settings {
-    /// Serve the standard input to the standard output, with a new desk of this officer.
-    Script(Officer),
+    /// Serve the standard input to the standard output.
+    Script(Script),
     /// Serve connections that share a desk.
     Serve(Service),
     /// Print this help.
     Help(String),
-}
-
-/// The subcommand `script`.
-fn script_command<'a>(alloc: Global) -> Result<Command<'a>, AllocError>
-    ensures { IfOk result (HasForm script_app) }
-{
-    let command = new_command(alloc, "script", "Serves the lines of the standard input");
-    with_officer(alloc, command)
 }
 
 /// The command line's form.
@@ -50,7 +42,7 @@ fn settings_of(alloc: Global, matches: &ArgMatches<'_>) -> Result<Settings, Sett
     ensures refused { IfErr result (IsFaultOf (GivesNone (AreOf (subcommand_rows_of matches.now)))) }
 {
     match matches.subcommand() {
-        Some((name, options)) if name == "script" => Ok(Settings::Script(read_officer(
+        Some((name, options)) if name == "script" => Ok(Settings::Script(read_script(
             alloc, options,
         )?)),
         Some((name, options)) if name == "serve" => Ok(Settings::Serve(read_service(

@@ -14,10 +14,10 @@ fn main(rt: HostRuntime) -> ExitCode {
         progress: Silent,
     };
     match command_line(&rt) {
-        Ok(Settings::Script(officer)) => run_script::<Core, _, _, _, _>(
+        Ok(Settings::Script(script)) => run_script::<Core, _, _, _, _>(
             &rt,
             executor,
-            officer,
+            script.officer,
             rt.stdin(),
             &mut room[..],
         ),

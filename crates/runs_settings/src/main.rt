@@ -46,7 +46,16 @@ fn print_officer(rt: &(impl Print + AllocGlobal), officer: &Officer) -> Result<(
     Ok(())
 }
 
-/// Prints a service, its log and its officer on a line each.
+/// Prints where changes are kept, on a line of its own, if they are.
+fn print_store(rt: &impl Print, store: Option<&String>) -> Result<()> {
+    if let Some(file) = store {
+        let file = file.as_str();
+        println!(rt; "    store '{file}'")?;
+    }
+    Ok(())
+}
+
+/// Prints a service, its log, its store and its officer on a line each.
 fn print_service(rt: &(impl Print + AllocGlobal), service: &Service) -> Result<()> {
     let listen = service.listen.as_str();
     let (connections, workers, idle) = (service.connections, service.workers, service.idle);
@@ -63,15 +72,17 @@ fn print_service(rt: &(impl Print + AllocGlobal), service: &Service) -> Result<(
         Log::StandardError => println!(rt; "    log to the standard error")?,
         Log::File(file) => println!(rt; "    log to the file {file}")?,
     }
+    print_store(rt, service.store.as_ref())?;
     print_officer(rt, &service.officer)
 }
 
 /// Prints the settings.
 fn print_settings(rt: &(impl Print + AllocGlobal), settings: &Settings) -> Result<()> {
     match settings {
-        Settings::Script(officer) => {
+        Settings::Script(script) => {
             println!(rt; "    script")?;
-            print_officer(rt, officer)
+            print_store(rt, script.store.as_ref())?;
+            print_officer(rt, &script.officer)
         }
         Settings::Serve(service) => print_service(rt, service),
         Settings::Help(text) => {

@@ -12,6 +12,8 @@ returns c =
     let ongoing = c.in_ok-command.ensures app ongoing_option required c.ongoing_option.ensures in
     let idle = c.in_ok-with_option.ensures (with_rule app ongoing_option) idle_option ongoing
     c.idle_option.ensures in
-    IfOk-weaker c.with_option-3.result _ _ (λ with added.
-    added (with_rule (with_rule app ongoing_option) idle_option) (free_option (codes "log")) idle
-    c.free_option-log.ensures) c.with_option-3.ensures
+    let log = c.in_ok-command-2.ensures (with_rule (with_rule app ongoing_option) idle_option)
+    (free_option (codes "log")) idle c.free_option-log.ensures in
+    IfOk-weaker c.with_store.result _ _ (λ with added.
+    added (with_rule (with_rule (with_rule app ongoing_option) idle_option)
+    (free_option (codes "log"))) log) c.with_store.ensures
