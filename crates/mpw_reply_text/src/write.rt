@@ -10,7 +10,7 @@ use mpw_wire::{Sink, WireFault};
 ///
 /// # Errors
 /// `Write` where the sink failed; it then holds a part of the bytes.
-pub(crate) fn write_bytes<W: Sink>(writer: &mut W, bytes: &[u8]) -> Result<(), WireFault>
+pub fn write_bytes<W: Sink>(writer: &mut W, bytes: &[u8]) -> Result<(), WireFault>
     ensures { Writes W.contents W.failures writer.old writer.new result bytes.now }
 {
     let mut written = 0;
@@ -42,7 +42,10 @@ pub(crate) fn write_whole_line<W: Sink>(writer: &mut W, parts: &[&str]) -> Resul
 }
 
 /// Has the sink hand on what it took.
-pub(crate) fn flush<W: Sink>(writer: &mut W) -> Result<(), WireFault>
+///
+/// # Errors
+/// `Write` where the sink failed.
+pub fn flush<W: Sink>(writer: &mut W) -> Result<(), WireFault>
     ensures text { Writes W.contents W.failures writer.old writer.new result [] }
     ensures handed { IfOk result (λ _. W.pending writer.new ≡ false) }
 {

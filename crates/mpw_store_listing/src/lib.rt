@@ -9,7 +9,6 @@ mod fault;
 mod listed;
 mod payload;
 mod row_text;
-mod write;
 
 pub use checked::check_rows;
 pub use fault::ListingFault;
