@@ -2,17 +2,21 @@
 use Rattle.std.proofs.Common.{◌≡◌, ◌∙◌, ℕ, ◌+◌, List, ◌++◌, length, Option, Some, inl, inr, refl, sym, ap, subst, length-append}
 use Rattle.std.specs.Prelude.{IfSome}
 use Rattle.std.proofs.lemmas.Bool.{cases_Bool}
-use Rattle.sqlite.specs.State.{State, HasCleanDisk}
+use Rattle.sqlite.specs.State.{State, HasCleanDisk, Opens}
 use Rattle.sqlite.specs.View.{doubt}
 use Rattle.mpw_events.specs.History.{Desk}
 use Rattle.mpw_events.specs.declared.keeper.KeptChange.{KeptChange}
 use Rattle.mpw_keeper.specs.Kept.{HoldsRows, kept_in}
 use Rattle.mpw_keeper.proofs.HoldLemmas.{kept_at_first}
 use Rattle.mpw_store.proofs.EntryLemmas.{at_their_places}
-use Rattle.mpw_reopen.specs.Reopening.{Reopens, gone_rows}
+use Rattle.mpw_reopen.specs.Reopening.{CantGoOn, IsIdle, Reopens, gone_rows}
 use Rattle.mpw_reopen.proofs.ClosingLemmas.{rows-length}
 use Rattle.mpw_settings.specs.declared.officer.Officer.{Officer}
-use Rattle.mpw_stored_script.specs.Serving.{BeginsWith}
+use Rattle.mpw_store.specs.declared.fault.StoreFault.{StoreFault}
+use Rattle.mpw_store.specs.declared.fault.StoreFault.TheVariants as store
+use Rattle.mpw_store_file.specs.declared.fault.FileFault.TheVariants as file
+use Rattle.mpw_stored_script.specs.Serving.{BeginsWith, IsUnopened}
+use Rattle.mpw_stored_script.specs.declared.fault.StoredFault.TheVariants.{File}
 
 pub known_clean : (s : State) (count : ℕ) (known : List KeptChange) → kept_in s count ≡ Some known
     → HasCleanDisk s
@@ -54,3 +58,17 @@ begins officer s opened d rows known clean r is = record {
 
 pub some_is : {X : Type 0} (P : X → Type 0) (o : Option X) (x : X) → o ≡ Some x → IfSome o P → P x
 some_is P o x is holds = subst (λ p. IfSome p P) is holds
+
+-- a database that was opened waits between two transactions
+pub idle_of : (s : State) → Opens s → IsIdle s
+idle_of s opens =
+    record { is_open = opens.is_open; alone = opens.autocommit; settled = sym opens.clean }
+
+pub unopened_by : (officer : Officer) (s s' : State) (fault : StoreFault)
+    → (HasCleanDisk s' → (place : ℕ) → fault ≡ store.Rows place
+    → CantGoOn officer.name officer.digest s place)
+    → IsUnopened officer s s' (File (file.Store fault))
+unopened_by officer s s' (store.Rows place) bad = λ clean. bad clean place refl
+unopened_by officer s s' (store.Sql error) bad = tt
+unopened_by officer s s' store.Memory bad = tt
+unopened_by officer s s' store.Other bad = tt

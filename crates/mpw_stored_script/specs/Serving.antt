@@ -1,18 +1,23 @@
 -- A connection over the desk of a store.
-use Rattle.std.specs.Prelude.{◌≡◌, ℕ, ◌+◌, List, ◌++◌, length, Option, Some, true}
-use Rattle.sqlite.specs.State.{State}
+use Rattle.std.specs.Prelude.{◌≡◌, ◌↔◌, ◌≤◌, ◌^◌, ℕ, ◌+◌, List, ◌++◌, length, Option, None, Some, true}
+use Rattle.sqlite.specs.State.{HasCleanDisk, State}
 use Rattle.mpw_events.specs.History.{Desk, KeptDesk, answering, kept_desk, new_desk}
 use Rattle.mpw_events.specs.declared.event.Event.TheVariants as event
 use Rattle.mpw_stored_rows.specs.Rows.{Entry}
 use Rattle.mpw_events.specs.declared.keeper.KeptChange.{KeptChange}
-use Rattle.mpw_keeper.specs.Kept.{changes_in}
-use Rattle.mpw_reopen.specs.Reopening.{Finds, gone_rows}
+use Rattle.mpw_keeper.specs.Kept.{IsKeptIn, changes_in}
+use Rattle.mpw_reopen.specs.Reopening.{CantGoOn, Finds, Reopens, gone_rows}
 use Rattle.mpw_restoring.specs.Sessions.{AreOpen, greatest_connection}
 use Rattle.mpw_restoring.specs.Restoring.{Folds}
 use Rattle.mpw_serve.specs.OwnDesk.{IsAnswer, IsGone}
 use Rattle.mpw_serve.specs.Serving.{Serves}
 use Rattle.mpw_serve.specs.declared.serve.Served.{Served}
 use Rattle.mpw_settings.specs.declared.officer.Officer.{Officer}
+use Rattle.mpw_store.specs.declared.fault.StoreFault.{StoreFault}
+use Rattle.mpw_store.specs.declared.fault.StoreFault.TheVariants as store
+use Rattle.mpw_store_file.specs.declared.fault.FileFault.TheVariants as file
+use Rattle.mpw_stored_script.specs.declared.fault.StoredFault.{StoredFault}
+use Rattle.mpw_stored_script.specs.declared.fault.StoredFault.TheVariants.{File, Full, Wire, Closed}
 
 -- the store's rows lead to this desk, and what is kept are their changes, with the ends of the sessions that they left
 pub record BeginsWith (officer : Officer) (s : State) (desk : Desk) (kept : List KeptChange) :
@@ -26,14 +31,44 @@ pub record BeginsWith (officer : Officer) (s : State) (desk : Desk) (kept : List
   pub restarted : desk ≡ (answering whole event.Restart true).desk
   pub changes : kept ≡ changes_in (found ++ gone_rows (length found + 1) closing)
 
--- a connection, whose number is above each before, is served from that desk on; and where the keeper's list is known it begins so
-pub record ServesStore (officer : Officer) (s : State)
-    (input input' output output' : Option (List ℕ)) (served : Served) : Type 0 where
+-- a connection of that number is served from a desk on with what its keeper has. There is a fault just where a change could not be kept,
+-- and without one the store has just the changes that are kept, while its disk is clean
+pub record ServesOver (connection : ℕ) (d : KeptDesk)
+    (input input' output output' : Option (List ℕ)) (served : Served) (fault : Option StoreFault)
+    (s' : State) : Type 0 where
+  pub left : KeptDesk
+  pub serves : Serves (IsAnswer connection) (IsGone connection) input input' output output' d left
+      served
+  pub told : (fault ≡ None) ↔ (left.failures ≡ 0)
+  pub stored : HasCleanDisk s' → fault ≡ None → IsKeptIn s' left.kept
+
+-- a connection, whose number is above each before, is served over the store, from that desk on; and where the keeper's list is known it
+-- begins so
+pub record ServesStore (officer : Officer) (s s' : State)
+    (input input' output output' : Option (List ℕ)) (served : Served) (fault : Option StoreFault) :
+    Type 0 where
   pub desk : Desk
   pub kept : Option (List KeptChange)
   pub begins : (known : List KeptChange) → kept ≡ Some known → BeginsWith officer s desk known
   pub connection : ℕ
   pub next : connection ≡ greatest_connection desk + 1
-  pub left : KeptDesk
-  pub serves : Serves (IsAnswer connection) (IsGone connection) input input' output output'
-      (kept_desk desk kept 0) left served
+  pub over : ServesOver connection (kept_desk desk kept 0) input input' output output' served fault
+      s'
+
+-- why no connection is served over the store: a bad row is told only where the rows can't stand, and that no number is left only where the
+-- greatest one was given
+abbrev pub IsUnopened : Officer → State → State → StoredFault → Type 0
+IsUnopened officer s s' (File (file.Store (store.Rows place))) =
+    HasCleanDisk s' → CantGoOn officer.name officer.digest s place
+IsUnopened officer s s' (File (file.Store (store.Sql error))) = Unit {0}
+IsUnopened officer s s' (File (file.Store store.Memory)) = Unit {0}
+IsUnopened officer s s' (File (file.Store store.Other)) = Unit {0}
+IsUnopened officer s s' (File file.Missing) = ⊥
+IsUnopened officer s s' (File file.NoFile) = ⊥
+IsUnopened officer s s' (File file.Linked) = ⊥
+IsUnopened officer s s' (File file.Unmade) = ⊥
+IsUnopened officer s s' Full =
+    (desk : Desk) × (2 ^ 32 ≤ greatest_connection desk + 1)
+    × (HasCleanDisk s' → (count : ℕ) × Reopens officer.name officer.digest s s' desk count)
+IsUnopened officer s s' (Wire fault) = ⊥
+IsUnopened officer s s' (Closed fault) = ⊥

@@ -23,8 +23,8 @@ abbrev pub exit_of : Result End StoredFault → ℕ
 exit_of (Ok end) = 0
 exit_of (Err fault) = status_of fault
 
--- what came of serving, and why a change could not be kept: a device's fault is told first
+-- what came of serving, and why a change could not be kept, which is told before a device's fault
 abbrev pub end_told : Result End WireFault → Option StoreFault → Result End StoredFault
-end_told (Err fault) kept = Err (Wire fault)
+end_told ended (Some fault) = Err (Closed fault)
 end_told (Ok end) None = Ok end
-end_told (Ok end) (Some fault) = Err (Closed fault)
+end_told (Err fault) None = Err (Wire fault)

@@ -1,11 +1,10 @@
 //! Serving a connection over the desk of a store.
-ghost use Rattle.std.specs.Prelude.{◌≡◌, ◌+◌, IfErr, IfOk};
-ghost use Rattle.mpw_events.specs.History.{KeptDesk, kept_desk};
+ghost use Rattle.std.specs.Prelude.{◌≡◌, ◌+◌, IfErr, IfOk, None};
+ghost use Rattle.mpw_events.specs.History.{kept_desk};
 ghost use Rattle.mpw_keeper.specs.Kept.{HoldsRows, kept_in};
 ghost use Rattle.mpw_reopen.specs.Reopening.{IsIdle};
-ghost use Rattle.mpw_stored_script.specs.Serving.{ServesStore};
-ghost use Rattle.mpw_serve.specs.OwnDesk.{IsAnswer, IsGone};
-ghost use Rattle.mpw_serve.specs.Serving.{LeavesNothingPending, Serves, write_failures};
+ghost use Rattle.mpw_stored_script.specs.Serving.{IsUnopened, ServesOver, ServesStore};
+ghost use Rattle.mpw_serve.specs.Serving.{LeavesNothingPending, write_failures};
 ghost use Rattle.mpw_wire.specs.Reading.{read_failures};
 ghost use Rattle.mpw_wire.specs.Writing.{fault_of};
 ghost use Rattle.sqlite.specs.Held.{state};
@@ -49,10 +48,11 @@ where
     R: Source,
     W: Sink,
     requires { HasCleanDisk (state S.Store conn) → HoldsRows (state S.Store conn) reopened.rows }
-    ensures served { (left : KeptDesk) × Serves (IsAnswer connection) (IsGone connection) (R.remaining reader.old) (R.remaining reader.new) (W.contents writer.old) (W.contents writer.new) (kept_desk (H.desk reopened.entry.core.value) (kept_in (state S.Store conn) reopened.entry.rows) 0) left result.served }
+    ensures served { ServesOver connection (kept_desk (H.desk reopened.entry.core.value) (kept_in (state S.Store conn) reopened.entry.rows) 0) (R.remaining reader.old) (R.remaining reader.new) (W.contents writer.old) (W.contents writer.new) result.served result.fault (state S.Store result.conn) }
     ensures reader { R.failures reader.new ≡ read_failures (fault_of result.served.ended) (R.failures reader.old) }
     ensures writer { W.failures writer.new ≡ write_failures (fault_of result.served.ended) (W.failures writer.old) }
     ensures handed { LeavesNothingPending (fault_of result.served.ended) (W.pending writer.old) (W.pending writer.new) }
+    ensures idle { HasCleanDisk (state S.Store result.conn) → result.fault ≡ None → IsIdle (state S.Store result.conn) }
 {
     let Reopened {
         core,
@@ -93,10 +93,14 @@ where
     R: Source,
     W: Sink,
     requires { HasCleanDisk (state S.Store conn) → IsIdle (state S.Store conn) }
-    ensures served { IfOk result (λ stopped. ServesStore officer (state S.Store conn) (R.remaining reader.old) (R.remaining reader.new) (W.contents writer.old) (W.contents writer.new) stopped.served) }
+    ensures served { IfOk result (λ stopped. ServesStore officer (state S.Store conn) (state S.Store stopped.conn) (R.remaining reader.old) (R.remaining reader.new) (W.contents writer.old) (W.contents writer.new) stopped.served stopped.fault) }
     ensures reader { IfOk result (λ stopped. R.failures reader.new ≡ read_failures (fault_of stopped.served.ended) (R.failures reader.old)) }
     ensures writer { IfOk result (λ stopped. W.failures writer.new ≡ write_failures (fault_of stopped.served.ended) (W.failures writer.old)) }
     ensures handed { IfOk result (λ stopped. LeavesNothingPending (fault_of stopped.served.ended) (W.pending writer.old) (W.pending writer.new)) }
+
+    // The store may be served again, where each change was kept.
+    ensures idle { IfOk result (λ stopped. HasCleanDisk (state S.Store stopped.conn) → stopped.fault ≡ None → IsIdle (state S.Store stopped.conn)) }
+    ensures unopened { IfErr result (λ e. IsUnopened officer (state S.Store conn) (state S.Store e.1) e.0) }
     ensures untouched { IfErr result (λ _. (reader.new ≡ reader.old) × (writer.new ≡ writer.old)) }
 {
     let mut conn = conn;

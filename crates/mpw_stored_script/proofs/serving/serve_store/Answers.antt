@@ -1,7 +1,10 @@
+use Rattle.std.proofs.Common.{◌∙◌, ap, subst, sym}
 use Rattle.sqlite.specs.Held.{state}
 use Rattle.mpw_keeper.specs.Kept.{kept_in}
 use Rattle.mpw_reopen.proofs.ClosingLemmas.{clean-before}
-use Rattle.mpw_stored_script.proofs.ServingLemmas.{begins, holds, known_clean, some_is}
+use Rattle.mpw_stored_script.proofs.ServingLemmas.{begins, holds, known_clean, some_is, unopened_by}
+use Rattle.mpw_stored_script.specs.Serving.{IsUnopened}
+use Rattle.mpw_stored_script.specs.declared.fault.StoredFault.TheVariants.{File}
 use Rattle.mpw_stored_script.proofs.serving.serve_store.Goals as goal
 
 pub serve_on-requires-after_bounds : goal.serve_on-requires-after_bounds
@@ -27,6 +30,13 @@ returns-in-Some-clause-served g c =
           begins c.args.officer old opened desk rows known clean (c.in-Ok.ensures.ok clean idle) is;
       connection = c.in-Some.connection;
       next = some_is _ c.in-Ok.reopened.next c.in-Some.connection c.in-Some.is c.in-Ok.ensures.next;
-      left = c.serve_on.ensures.served.0;
-      serves = c.serve_on.ensures.served.1;
+      over = c.serve_on.ensures.served;
     }
+
+pub returns-in-Err-clause-unopened : goal.returns-in-Err-clause-unopened
+returns-in-Err-clause-unopened g c =
+    let old = state g.S.Store c.args.conn in
+    let new = state g.S.Store c.reopen.new.conn in
+    subst (IsUnopened c.args.officer old new) (sym (c.from-in-Err.ensures ∙ ap File c.from.ensures))
+    (unopened_by c.args.officer old new c.in-Err.fault (λ clean.
+    c.in-Err.ensures.rows clean (c.requires (clean-before old new c.in-Err.ensures.clean clean))))

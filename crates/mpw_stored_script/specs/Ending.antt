@@ -1,0 +1,42 @@
+-- How a script over a store ends the program.
+use Rattle.std.specs.Prelude.{◌≡◌, ℕ, Option, Result, Err}
+use Rattle.sqlite.specs.State.{State}
+use Rattle.mpw_serve.specs.Serving.{LeavesNothingPending, write_failures}
+use Rattle.mpw_serve.specs.Status.{Devices}
+use Rattle.mpw_serve.specs.declared.serve.End.{End}
+use Rattle.mpw_serve.specs.declared.serve.Served.{Served}
+use Rattle.mpw_settings.specs.declared.officer.Officer.{Officer}
+use Rattle.mpw_store.specs.declared.fault.StoreFault.{StoreFault}
+use Rattle.mpw_stored_script.specs.Serving.{IsUnopened, ServesStore}
+use Rattle.mpw_stored_script.specs.Status.{end_told, exit_of}
+use Rattle.mpw_stored_script.specs.declared.fault.StoredFault.{StoredFault}
+use Rattle.mpw_wire.specs.Reading.{read_failures}
+use Rattle.mpw_wire.specs.Writing.{fault_of}
+
+-- a connection was served over the store between these devices, and the program ends as that did
+pub record EndsAsServed (officer : Officer) (s s' : State) (d d' : Devices)
+    (ended : Result End StoredFault) : Type 0 where
+  pub served : Served
+  pub fault : Option StoreFault
+  pub serves : ServesStore officer s s' d.input d'.input d.output d'.output served fault
+  pub reads : d'.failed_reads ≡ read_failures (fault_of served.ended) d.failed_reads
+  pub writes : d'.failed_writes ≡ write_failures (fault_of served.ended) d.failed_writes
+  pub leaves : LeavesNothingPending (fault_of served.ended) d.pending d'.pending
+  pub ends : ended ≡ end_told served.ended fault
+
+-- so it was; or none is served over the store, which is told with its reason, and the devices are as before
+pub data EndsAs (officer : Officer) (s s' : State) (d d' : Devices) :
+    Result End StoredFault → Type 0 where
+  served : (ended : Result End StoredFault) → EndsAsServed officer s s' d d' ended
+      → EndsAs officer s s' d d' ended
+  unopened : (fault : StoredFault) → IsUnopened officer s s' fault → d' ≡ d
+      → EndsAs officer s s' d d' (Err fault)
+
+-- the program ended so, and its status is that
+abbrev pub ExitsWith : Officer → State → State → Devices → Devices → ℕ → Type 0
+ExitsWith officer s s' d d' status =
+    (ended : Result End StoredFault) × EndsAs officer s s' d d' ended × (status ≡ exit_of ended)
+
+-- the status is that of some end
+abbrev pub IsStatus : ℕ → Type 0
+IsStatus status = (ended : Result End StoredFault) × (status ≡ exit_of ended)
