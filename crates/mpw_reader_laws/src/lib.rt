@@ -1,0 +1,13 @@
+//! Laws of the reader of GDSII texts that none of its calls rests on: where the first fault of a refused text stands, and what is
+//! told of a good text that is cut off or changed.
+//!
+//! Each function does nothing: its contract is the law, and it speaks of the definitions of `mpw_records`, `mpw_elements` and
+//! `mpw_library` alone. No program links this crate.
+#![tactic(auto)]
+
+mod laws;
+
+pub use laws::{
+    changed_lengths_are_tested, changed_records_are_told, first_fault_is_refused,
+    first_fault_is_told, fronts_are_short,
+};
