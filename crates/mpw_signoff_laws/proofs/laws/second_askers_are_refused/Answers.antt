@@ -1,0 +1,5 @@
+use Rattle.mpw_signoff_laws.proofs.SignedOnce as laws
+use Rattle.mpw_signoff_laws.proofs.laws.second_askers_are_refused.Goals as goal
+
+pub returns : goal.returns
+returns c = laws.second_askers_are_refused

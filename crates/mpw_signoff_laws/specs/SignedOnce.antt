@@ -1,0 +1,83 @@
+-- A waiver that was asked for and signed stays so: what requests that sign a run off leave of it.
+use Rattle.std.specs.Prelude.{◌≡◌, ℕ, List, [], length, Option, Some, Ok}
+use Rattle.mpw_permissions.specs.declared.permission.Operation.{Operation}
+use Rattle.mpw_permissions.specs.declared.permission.Operation.TheVariants as operation
+use Rattle.mpw_permissions.specs.declared.permission.Object.TheVariants as object
+use Rattle.mpw_rbac.specs.Policy.{Policy}
+use Rattle.mpw_requests.specs.declared.sign_off.MarkerName.{MarkerName}
+use Rattle.mpw_requests.specs.declared.sign_off.SignOffRequest.{SignOffRequest}
+use Rattle.mpw_requests.specs.declared.sign_off.SignOffRequest.TheVariants as ask
+use Rattle.mpw_replies.specs.declared.reply.Code.TheVariants as code
+use Rattle.mpw_replies.specs.declared.reply.Reply.TheVariants as reply
+use Rattle.mpw_access.specs.Permitted.{permitted}
+use Rattle.mpw_placings.specs.declared.wafer.Wafer.{Wafer}
+use Rattle.mpw_run.specs.declared.phase.Checked.{Checked}
+use Rattle.mpw_run.specs.declared.phase.Phase.TheVariants.{Finished}
+use Rattle.mpw_run.specs.Step.{Run, book_size}
+use Rattle.mpw_waiver.specs.declared.waiver.Waiver.{Waiver}
+use Rattle.mpw_waiver.specs.Waivers.{waiver_at}
+use Rattle.mpw_signoff.specs.Named.{Named}
+use Rattle.mpw_signoff.specs.SigningOff.{Outcome, full_marker, no_change, outcome_of}
+
+-- ---- what any request leaves
+
+-- A signed waiver stays as it is.
+abbrev pub SignaturesStay : Type 0
+SignaturesStay =
+    (policy : Policy) (wafer : Wafer) (run : Run) (waivers : List (Option Waiver)) (connection : ℕ)
+    (request : SignOffRequest) (place : ℕ) (waiver : Waiver) (signer : List ℕ)
+    → waiver_at waivers place ≡ Some waiver → waiver.signer ≡ Some signer
+    → waiver_at (outcome_of policy wafer run waivers connection request).waivers place
+    ≡ Some waiver
+
+-- The waiver of a marker is still there, and was asked for by this user.
+pub record IsAskedBy (waivers : List (Option Waiver)) (place : ℕ) (asker : List ℕ) : Type 0 where
+  pub waiver : Waiver
+  pub is : waiver_at waivers place ≡ Some waiver
+  pub by : waiver.asker ≡ asker
+
+-- A waiver that was asked for stays, and so does who asked.
+abbrev pub AskersStay : Type 0
+AskersStay =
+    (policy : Policy) (wafer : Wafer) (run : Run) (waivers : List (Option Waiver)) (connection : ℕ)
+    (request : SignOffRequest) (place : ℕ) (asker : List ℕ)
+    → IsAskedBy waivers place asker
+    → IsAskedBy (outcome_of policy wafer run waivers connection request).waivers place asker
+
+-- ---- who comes second
+
+-- The session may do the operation on the desk, the run is finished, and the name is that of a marker which is shown in full.
+pub record Reaches (policy : Policy) (run : Run) (connection : ℕ) (asked : Operation)
+    (name : MarkerName) : Type 0 where
+  pub checked : Checked
+  pub named : Named
+  pub allowed : permitted policy connection asked object.Desk ≡ Ok tt
+  pub finished : run.phase ≡ Finished checked
+  pub shown : full_marker policy connection checked name ≡ Ok named
+
+-- A request is refused as known, and leaves the waivers.
+abbrev pub IsKnown : Outcome → List (Option Waiver) → Type 0
+IsKnown outcome waivers = outcome ≡ no_change (reply.Refused code.Known) waivers
+
+-- Once a marker's waiver was signed, nobody else signs it, whoever that is and whatever the policy is then: who reaches it is
+-- refused.
+abbrev pub SecondSignaturesAreRefused : Type 0
+SecondSignaturesAreRefused =
+    (policy other : Policy) (wafer later : Wafer) (run : Run) (waivers : List (Option Waiver))
+    (connection another : ℕ) (name : MarkerName)
+    → (outcome_of policy wafer run waivers connection (ask.Sign name)).reply ≡ reply.Ok []
+    → Reaches other run another operation.Sign name
+    → let after : List (Option Waiver) = (outcome_of policy wafer run waivers connection
+    (ask.Sign name)).waivers in
+    IsKnown (outcome_of other later run after another (ask.Sign name)) after
+
+-- Once a marker's waiver was asked for, nobody else asks for it, where each marker of the book has a place for its waiver.
+abbrev pub SecondAskersAreRefused : Type 0
+SecondAskersAreRefused =
+    (policy other : Policy) (wafer later : Wafer) (run : Run) (waivers : List (Option Waiver))
+    (connection another : ℕ) (name : MarkerName) → length waivers ≡ book_size run.phase
+    → (outcome_of policy wafer run waivers connection (ask.Waive name)).reply ≡ reply.Ok []
+    → Reaches other run another operation.Waive name
+    → let after : List (Option Waiver) = (outcome_of policy wafer run waivers connection
+    (ask.Waive name)).waivers in
+    IsKnown (outcome_of other later run after another (ask.Waive name)) after

@@ -1,0 +1,13 @@
+//! Laws of waivers that none of the desk's calls rests on: that a waiver is asked for once, and signed once.
+//!
+//! [`ask_once`] and [`sign_once`] make the two calls that a request makes, the test and the change, one behind the other. The laws
+//! do nothing: their contracts speak of the rows of requests. No program links this crate.
+#![tactic(auto)]
+
+mod calls;
+mod laws;
+
+pub use calls::{ask_once, sign_once};
+pub use laws::{
+    askers_stay, second_askers_are_refused, second_signatures_are_refused, signatures_stay,
+};
