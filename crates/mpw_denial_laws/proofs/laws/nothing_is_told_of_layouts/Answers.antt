@@ -1,0 +1,5 @@
+use Rattle.mpw_denial_laws.proofs.Blind as laws
+use Rattle.mpw_denial_laws.proofs.laws.nothing_is_told_of_layouts.Goals as goal
+
+pub returns : goal.returns
+returns c = laws.nothing_is_told_of_layouts

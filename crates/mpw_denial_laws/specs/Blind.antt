@@ -1,0 +1,27 @@
+-- What a session that may do nothing is told of what others have on the desk: nothing.
+use Rattle.std.specs.Prelude.{◌≡◌, ℕ, Bool, false}
+use Rattle.mpw_permissions.specs.declared.permission.Operation.{Operation}
+use Rattle.mpw_permissions.specs.declared.permission.Object.{Object}
+use Rattle.mpw_rbac.specs.Policy.{Policy, permits}
+use Rattle.mpw_requests.specs.declared.request.Request.{Request}
+use Rattle.mpw_events.specs.declared.event.Event.TheVariants as event
+use Rattle.mpw_events.specs.Step.{State, response_of}
+
+-- No operation on any object is permitted to the connection: it has no session, or one that acts in no role that was granted any.
+abbrev pub MayNothing : Policy → ℕ → Type 0
+MayNothing policy connection =
+    (operation : Operation) (object : Object) → permits policy connection operation object ≡ false
+
+-- Two desks that may differ in their submissions, placings, decks and trails.
+pub record DifferInLayouts (a b : State) : Type 0 where
+  pub policy : a.policy ≡ b.policy
+  pub run : a.run ≡ b.run
+  pub waivers : a.waivers ≡ b.waivers
+
+-- They answer it alike, whatever it asks, where both or neither keep what it changes.
+abbrev pub NothingIsToldOfLayouts : Type 0
+NothingIsToldOfLayouts =
+    (a b : State) (connection : ℕ) (request : Request) (kept : Bool) → DifferInLayouts a b
+    → MayNothing a.policy connection
+    → response_of a (event.Ask connection request) kept
+    ≡ response_of b (event.Ask connection request) kept
