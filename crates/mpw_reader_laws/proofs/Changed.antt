@@ -73,8 +73,11 @@ record_starts text r h =
     let s = stands text 0 h.before (Ok r) h.behind (omega arith) h.parts in
     (s, record_at text (place 0 h.before) r s.within s.is)
 
-pub changed_records_are_told : ChangedRecordsAreTold
-changed_records_are_told text changed ss r fault good has same there =
+-- the records before are those of the good text
+pub changed_parts : (text changed : List ℕ) (r : RawRecord) (has : HasRecord text r)
+    → take r.offset changed ≡ take r.offset text
+    → outcomes_of changed ≡ records_then has.before (outcomes_from changed r.offset)
+changed_parts text changed r has same =
     let s = record_starts text r has in
     let q : r.offset ≡ place 0 has.before = s.1.offset in
     let cut : take r.offset text ++ drop r.offset text ≡ text = take-append-drop r.offset text in
@@ -87,14 +90,17 @@ changed_records_are_told text changed ss r fault good has same there =
     records_same (take r.offset text) (drop r.offset text) (drop r.offset changed) 0 has.before
     (Ok r) has.behind (omega arith)
     (ap (λ (l : List ℕ). outcomes_of l) cut ∙ has.parts) (omega (arith, q, long, within)) in
-    let all : outcomes_of changed ≡ records_then has.before (outcomes_from changed r.offset) =
     subst (λ (l : List ℕ). outcomes_of l ≡ records_then has.before (outcomes_from l r.offset))
     other
     (subst (λ (p : ℕ). outcomes_from (take r.offset text ++ drop r.offset changed) 0
     ≡ records_then has.before (outcomes_from (take r.offset text ++ drop r.offset changed) p))
-    (sym q) records) in
+    (sym q) records)
+
+pub changed_records_are_told : ChangedRecordsAreTold
+changed_records_are_told text changed ss r fault good has same there =
     ap library
-    (all ∙ ap (records_then has.before) (step_err changed r.offset fault there))
+    (changed_parts text changed r has same
+    ∙ ap (records_then has.before) (step_err changed r.offset fault there))
     ∙ waits_there text ss has.before (Ok r) has.behind good has.parts fault []
 
 -- ---- a text cut off

@@ -379,9 +379,9 @@ not_whole (x ∷ xs) (y ∷ ys) g os e =
     not_whole xs ys g os others
 
 -- the first records of some
-record Begins (xs ys : List RawRecord) (r : RawRecord) : Type 0 where
-  more : List RawRecord
-  is : xs ≡ ys ++ r ∷ more
+pub record Begins (xs ys : List RawRecord) (r : RawRecord) : Type 0 where
+  pub more : List RawRecord
+  pub is : xs ≡ ys ++ r ∷ more
 
 cons_begins : (x y : RawRecord) (xs ys : List RawRecord) (r : RawRecord) → x ≡ y → Begins xs ys r
     → Begins (x ∷ xs) (y ∷ ys) r
@@ -390,7 +390,7 @@ cons_begins x y xs ys r e b = record {
   is = ap (λ (z : RawRecord). z ∷ xs) e ∙ ap (λ (l : List RawRecord). y ∷ l) b.is;
 }
 
-among : (xs ys : List RawRecord) (r : RawRecord) (os : List RecordOutcome)
+pub among : (xs ys : List RawRecord) (r : RawRecord) (os : List RecordOutcome)
     → records_then xs [] ≡ records_then ys (Ok r ∷ os) → Begins xs ys r
 among [] [] r os e = absurd cc
 among [] (y ∷ ys) r os e = absurd cc
@@ -403,14 +403,14 @@ among (x ∷ xs) (y ∷ ys) r os e =
     cons_begins x y xs ys r first (among xs ys r os others)
 
 -- how two ways to part a list differ
-data Compared (xs ys : List RawRecord) (o u : RecordOutcome) : Type 0 where
-  same : o ≡ u → Compared xs ys o u
+pub data Compared (xs ys : List RawRecord) (o u : RecordOutcome) : Type 0 where
+  same : xs ≡ ys → o ≡ u → Compared xs ys o u
   shorter : (r : RawRecord) → o ≡ Ok r → Begins ys xs r → Compared xs ys o u
   longer : (r : RawRecord) → u ≡ Ok r → Begins xs ys r → Compared xs ys o u
 
-compared : (xs ys : List RawRecord) (o u : RecordOutcome) (os us : List RecordOutcome)
+pub compared : (xs ys : List RawRecord) (o u : RecordOutcome) (os us : List RecordOutcome)
     → records_then xs (o ∷ os) ≡ records_then ys (u ∷ us) → Compared xs ys o u
-compared [] [] o u os us e = let first : o ≡ u = cc in Compared.same first
+compared [] [] o u os us e = let first : o ≡ u = cc in Compared.same refl first
 compared [] (y ∷ ys) o u os us e =
     let first : o ≡ Ok y = cc in
     Compared.shorter y first (record { more = ys; is = refl })
@@ -423,7 +423,9 @@ compared (x ∷ xs) (y ∷ ys) o u os us e =
     go first (compared xs ys o u os us others)
   where
     go : x ≡ y → Compared xs ys o u → Compared (x ∷ xs) (y ∷ ys) o u
-    go f (Compared.same s) = Compared.same s
+    go f (Compared.same e s) =
+        Compared.same
+        (ap (λ (z : RawRecord). z ∷ xs) f ∙ ap (λ (l : List RawRecord). y ∷ l) e) s
     go f (Compared.shorter r s b) = Compared.shorter r s (cons_begins y x ys xs r (sym f) b)
     go f (Compared.longer r s b) = Compared.longer r s (cons_begins x y xs ys r f b)
 
@@ -448,7 +450,7 @@ one_first_fault text f g h k =
     go (compared h.before k.before h.there k.there h.rest k.rest (sym h.parts ∙ k.parts))
   where
     go : Compared h.before k.before h.there k.there → f.offset ≡ g.offset
-    go (Compared.same s) =
+    go (Compared.same e s) =
         same_place h.there f g h.is (subst (λ (o : RecordOutcome). IsFaultThere o g) (sym s) k.is)
     go (Compared.shorter r s b) =
         absurd (no_front h.before k.before h.there r s h.ends b k.goes_on)

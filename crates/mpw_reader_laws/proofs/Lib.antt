@@ -6,3 +6,4 @@ pub mod Texts
 pub mod Changed
 pub mod Offsets
 pub mod FirstFault
+pub mod Later

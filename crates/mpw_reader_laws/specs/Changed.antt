@@ -1,5 +1,5 @@
 -- A good text that is cut off, or in which a record is changed: what is told of it.
-use Rattle.std.specs.Prelude.{◌≡◌, ◌<◌, ◌≤◌, ◌⊎◌, ℕ, ◌+◌, ◌*◌, ◌%◌, List, ◌∷◌, ◌++◌, length, take, drop, Ok, Err}
+use Rattle.std.specs.Prelude.{◌≡◌, ◌<◌, ◌≤◌, ◌⊎◌, ℕ, ◌+◌, ◌*◌, ◌^◌, ◌%◌, List, ◌∷◌, ◌++◌, length, take, drop, Ok, Err}
 use Rattle.mpw_structures.specs.declared.structures.Structure.{Structure}
 use Rattle.mpw_records.specs.declared.fault.Code.{Code}
 use Rattle.mpw_records.specs.declared.fault.Code.TheVariants.{Short, BadLength}
@@ -29,6 +29,14 @@ ChangedRecordsAreTold =
     (text changed : List ℕ) (ss : List Structure) (r : RawRecord) (fault : ReadFault)
     → library_of text ≡ Ok ss → HasRecord text r → take r.offset changed ≡ take r.offset text
     → front changed r.offset ≡ Err fault → library_of changed ≡ Err fault
+
+-- And whatever it is told behind that start, no fault is told before it.
+abbrev pub FaultsComeNoEarlier : Type 0
+FaultsComeNoEarlier =
+    (text changed : List ℕ) (ss : List Structure) (r : RawRecord) (fault : ReadFault)
+    → length changed < 2 ^ 63 → library_of text ≡ Ok ss → HasRecord text r
+    → take r.offset changed ≡ take r.offset text → library_of changed ≡ Err fault
+    → r.offset ≤ fault.offset
 
 -- A text cut off within a record, from its first byte to before its last, is short there.
 pub record IsCutShort (text : List ℕ) (n : ℕ) : Type 0 where

@@ -1,7 +1,7 @@
 //! The laws. Each function has an empty body: its contract is the law.
 
 ghost use Rattle.mpw_reader_laws.specs.FirstFault.{FirstFaultIsTold, FirstFaultIsRefused};
-ghost use Rattle.mpw_reader_laws.specs.Changed.{ChangedRecordsAreTold, FrontsAreShort, LengthsAreTested};
+ghost use Rattle.mpw_reader_laws.specs.Changed.{ChangedRecordsAreTold, FaultsComeNoEarlier, FrontsAreShort, LengthsAreTested};
 
 /// Where a text of less than 2^63 bytes is refused, with whatever code, it has its first fault there: the records before it are all
 /// without fault and some library's records begin with them, and there stands no record, or one with which no library's records
@@ -20,6 +20,11 @@ pub fn first_fault_is_refused()
 /// that stands there.
 pub fn changed_records_are_told()
     ensures { ChangedRecordsAreTold }
+{}
+
+/// Whatever a good text of which the bytes before a record are left is changed to, no fault is told before that record.
+pub fn faults_come_no_earlier()
+    ensures { FaultsComeNoEarlier }
 {}
 
 /// A good text that is cut off before its ENDLIB ends is `short`, at the start of the record in which the cut is: the greatest

@@ -8,6 +8,6 @@
 mod laws;
 
 pub use laws::{
-    changed_lengths_are_tested, changed_records_are_told, first_fault_is_refused,
-    first_fault_is_told, fronts_are_short,
+    changed_lengths_are_tested, changed_records_are_told, faults_come_no_earlier,
+    first_fault_is_refused, first_fault_is_told, fronts_are_short,
 };

@@ -4,6 +4,7 @@ use Rattle.std.specs.Prelude.{slice_get}
 use Rattle.std.proofs.lemmas.Option.{slice_get_within}
 use Rattle.mpw_replies.proofs.RowParts.{passed}
 use Rattle.mpw_permissions.specs.declared.permission.Object.TheVariants as objects
+use Rattle.mpw_permissions.specs.declared.permission.Operation.{Operation}
 use Rattle.mpw_permissions.specs.declared.permission.Operation.TheVariants as operations
 use Rattle.mpw_rbac.specs.Policy.{Policy}
 use Rattle.mpw_rbac.specs.Rows.{user_of}
@@ -35,7 +36,7 @@ use Rattle.mpw_waiver.specs.Waivers.{waiver_at, with_asker, signed_by, with_sign
 use Rattle.mpw_signoff.specs.declared.rows.ByUser.{ByUser}
 use Rattle.mpw_signoff.specs.Named.{Named, named_in, found_at, found_by, with_place, key_by, rule_place}
 use Rattle.mpw_signoff.specs.SigningOff.{if_full, if_shown, full_marker, passes, apart, by_user, waive_row, sign_row, waivers_row, verdict_row, waived_outcome, signed_outcome, listing_outcome, no_change, outcome_of}
-use Rattle.mpw_signoff_laws.specs.SignedOnce.{SignaturesStay, IsAskedBy, AskersStay, Reaches, SecondSignaturesAreRefused, SecondAskersAreRefused}
+use Rattle.mpw_signoff_laws.specs.SignedOnce.{SignaturesStay, IsAskedBy, AskersStay, Reaches, IsSignable, SignedExactly, IsAskable, AskedExactly, SecondSignaturesAreRefused, SecondAskersAreRefused}
 use Rattle.mpw_signoff_laws.proofs.Places.{at_within, put_same, put_other, Same, same_place}
 
 -- ---- rows that were passed
@@ -52,11 +53,16 @@ pub passes_is : (told : Result (Unit {0}) WaiverFault) (x : Unit {0}) → passes
 passes_is (Ok tt) x e = refl
 passes_is (Err fault) x e = absurd cc
 
+unit_ok : (r : Result (Unit {0}) Ending) (x : Unit {0}) → r ≡ Ok x → r ≡ Ok tt
+unit_ok (Ok tt) x e = refl
+unit_ok (Err why) x e = absurd cc
+
 -- what a row that gives a user has passed
-pub record Passed (policy : Policy) (run : Run) (connection : ℕ) (name : MarkerName) (by : ByUser)
-    (Free : Checked → Named → Type 0) : Type 0 where
+pub record Passed (policy : Policy) (run : Run) (connection : ℕ) (asked : Operation)
+    (name : MarkerName) (by : ByUser) (Free : Checked → Named → Type 0) : Type 0 where
   pub f : Checked
   pub n : Named
+  pub allowed : permitted policy connection asked objects.Desk ≡ Ok tt
   pub phase : run.phase ≡ Finished f
   pub shown : full_marker policy connection f name ≡ Ok n
   pub free : Free f n
@@ -72,7 +78,7 @@ IsApart policy waivers connection f n =
 
 pub waive_passed : (policy : Policy) (run : Run) (waivers : List (Option Waiver)) (connection : ℕ)
     (name : MarkerName) (by : ByUser) → waive_row policy run waivers connection name ≡ Ok by
-    → Passed policy run connection name by (IsFree waivers)
+    → Passed policy run connection operations.Waive name by (IsFree waivers)
 unfolding waive_row
 waive_passed policy run waivers connection name by e =
     let allowed =
@@ -83,6 +89,7 @@ waive_passed policy run waivers connection name by e =
     record {
       f = f.0;
       n = n.0;
+      allowed = unit_ok (permitted policy connection operations.Waive objects.Desk) allowed.0 allowed.1;
       phase = finished_is run.phase f.0 f.1;
       shown = n.1;
       free = passes_is (ask_test (waiver_at waivers n.0.place)) free.0 free.1;
@@ -91,7 +98,7 @@ waive_passed policy run waivers connection name by e =
 
 pub sign_passed : (policy : Policy) (run : Run) (waivers : List (Option Waiver)) (connection : ℕ)
     (name : MarkerName) (by : ByUser) → sign_row policy run waivers connection name ≡ Ok by
-    → Passed policy run connection name by (IsApart policy waivers connection)
+    → Passed policy run connection operations.Sign name by (IsApart policy waivers connection)
 unfolding sign_row
 sign_passed policy run waivers connection name by e =
     let allowed =
@@ -102,6 +109,7 @@ sign_passed policy run waivers connection name by e =
     record {
       f = f.0;
       n = n.0;
+      allowed = unit_ok (permitted policy connection operations.Sign objects.Desk) allowed.0 allowed.1;
       phase = finished_is run.phase f.0 f.1;
       shown = n.1;
       free = passes_is
@@ -439,3 +447,89 @@ second_askers_are_refused policy other wafer later run waivers connection anothe
         ∙ put_same waivers by.place (Some asked) (omega (arith, at, within, size)) in
         ap (waived_outcome (with_asker waivers by.place by.user))
         (second_asks other run (with_asker waivers by.place by.user) another name r asked there)
+
+-- ---- who signs, and who asks
+
+passes_of : (told : Result (Unit {0}) WaiverFault) → told ≡ Ok tt → passes told ≡ Ok tt
+passes_of told e = rw e refl
+
+asks_of : (o : Option Waiver) → o ≡ None → ask_test o ≡ Ok tt
+asks_of o e = rw e refl
+
+module _ (policy : Policy) (wafer : Wafer) (run : Run) (waivers : List (Option Waiver))
+    (connection : ℕ) (name : MarkerName) where
+  signs : IsSignable policy run waivers connection name
+      → (signed_outcome waivers (sign_row policy run waivers connection name)).reply ≡ reply.Ok []
+  unfolding sign_row
+  signs s =
+      let r = s.reaches in
+      rw (
+        r.allowed,
+        r.finished,
+        r.shown,
+        passes_of
+            (sign_test r.checked.planned.snapshot.shelf r.named.marker.met
+            (user_of policy connection) (waiver_at waivers r.named.place)) s.passes,
+      ) refl
+
+  signable : (row : Result ByUser Ending) → sign_row policy run waivers connection name ≡ row
+      → (signed_outcome waivers row).reply ≡ reply.Ok []
+      → IsSignable policy run waivers connection name
+  signable (Err why) is e = absurd (no_lines why [] e)
+  signable (Ok by) is e =
+      let p = sign_passed policy run waivers connection name by is in
+      record {
+        reaches = record {
+          checked = p.f;
+          named = p.n;
+          allowed = p.allowed;
+          finished = p.phase;
+          shown = p.shown;
+        };
+        passes = p.free;
+      }
+
+  asks : IsAskable policy run waivers connection name
+      → (waived_outcome waivers (waive_row policy run waivers connection name)).reply
+      ≡ reply.Ok []
+  unfolding waive_row
+  asks s =
+      let r = s.reaches in
+      rw (
+        r.allowed,
+        r.finished,
+        r.shown,
+        passes_of (ask_test (waiver_at waivers r.named.place))
+            (asks_of (waiver_at waivers r.named.place) s.none),
+      ) refl
+
+  askable : (row : Result ByUser Ending) → waive_row policy run waivers connection name ≡ row
+      → (waived_outcome waivers row).reply ≡ reply.Ok []
+      → IsAskable policy run waivers connection name
+  askable (Err why) is e = absurd (no_lines why [] e)
+  askable (Ok by) is e =
+      let p = waive_passed policy run waivers connection name by is in
+      record {
+        reaches = record {
+          checked = p.f;
+          named = p.n;
+          allowed = p.allowed;
+          finished = p.phase;
+          shown = p.shown;
+        };
+        none = asks_none (waiver_at waivers p.n.place) p.free;
+      }
+
+pub signed_exactly : SignedExactly
+signed_exactly policy wafer run waivers connection name = (
+  λ e. signable policy wafer run waivers connection name
+      (sign_row policy run waivers connection name) refl e,
+  λ s. signs policy wafer run waivers connection name s,
+)
+
+pub asked_exactly : AskedExactly
+asked_exactly policy wafer run waivers connection name = (
+  λ e. askable policy wafer run waivers connection name
+      (waive_row policy run waivers connection name) refl e,
+  λ s. asks policy wafer run waivers connection name s,
+)

@@ -1,9 +1,10 @@
 -- A waiver that was asked for and signed stays so: what requests that sign a run off leave of it.
-use Rattle.std.specs.Prelude.{◌≡◌, ℕ, List, [], length, Option, Some, Ok}
+use Rattle.std.specs.Prelude.{◌≡◌, ◌↔◌, ℕ, List, [], length, Option, None, Some, Ok}
 use Rattle.mpw_permissions.specs.declared.permission.Operation.{Operation}
 use Rattle.mpw_permissions.specs.declared.permission.Operation.TheVariants as operation
 use Rattle.mpw_permissions.specs.declared.permission.Object.TheVariants as object
 use Rattle.mpw_rbac.specs.Policy.{Policy}
+use Rattle.mpw_rbac.specs.Rows.{user_of}
 use Rattle.mpw_requests.specs.declared.sign_off.MarkerName.{MarkerName}
 use Rattle.mpw_requests.specs.declared.sign_off.SignOffRequest.{SignOffRequest}
 use Rattle.mpw_requests.specs.declared.sign_off.SignOffRequest.TheVariants as ask
@@ -15,6 +16,7 @@ use Rattle.mpw_run.specs.declared.phase.Checked.{Checked}
 use Rattle.mpw_run.specs.declared.phase.Phase.TheVariants.{Finished}
 use Rattle.mpw_run.specs.Step.{Run, book_size}
 use Rattle.mpw_waiver.specs.declared.waiver.Waiver.{Waiver}
+use Rattle.mpw_waiver.specs.Signing.{sign_test}
 use Rattle.mpw_waiver.specs.Waivers.{waiver_at}
 use Rattle.mpw_signoff.specs.Named.{Named}
 use Rattle.mpw_signoff.specs.SigningOff.{Outcome, full_marker, no_change, outcome_of}
@@ -44,7 +46,7 @@ AskersStay =
     → IsAskedBy waivers place asker
     → IsAskedBy (outcome_of policy wafer run waivers connection request).waivers place asker
 
--- ---- who comes second
+-- ---- who reaches a marker
 
 -- The session may do the operation on the desk, the run is finished, and the name is that of a marker which is shown in full.
 pub record Reaches (policy : Policy) (run : Run) (connection : ℕ) (asked : Operation)
@@ -54,6 +56,40 @@ pub record Reaches (policy : Policy) (run : Run) (connection : ℕ) (asked : Ope
   pub allowed : permitted policy connection asked object.Desk ≡ Ok tt
   pub finished : run.phase ≡ Finished checked
   pub shown : full_marker policy connection checked name ≡ Ok named
+
+-- ---- who signs
+
+-- Such a session's user passes the test of the marker's waiver: it is there, nobody signed it, and the user neither asked for it nor
+-- submitted what the marker meets.
+pub record IsSignable (policy : Policy) (run : Run) (waivers : List (Option Waiver)) (connection : ℕ)
+    (name : MarkerName) : Type 0 where
+  pub reaches : Reaches policy run connection operation.Sign name
+  pub passes : sign_test reaches.checked.planned.snapshot.shelf reaches.named.marker.met
+      (user_of policy connection) (waiver_at waivers reaches.named.place)
+      ≡ Ok tt
+
+-- A `sign` is accepted of such a session, and of no other.
+abbrev pub SignedExactly : Type 0
+SignedExactly =
+    (policy : Policy) (wafer : Wafer) (run : Run) (waivers : List (Option Waiver)) (connection : ℕ)
+    (name : MarkerName)
+    → (outcome_of policy wafer run waivers connection (ask.Sign name)).reply ≡ reply.Ok []
+    ↔ IsSignable policy run waivers connection name
+
+-- The same of who asks: the marker has no waiver.
+pub record IsAskable (policy : Policy) (run : Run) (waivers : List (Option Waiver)) (connection : ℕ)
+    (name : MarkerName) : Type 0 where
+  pub reaches : Reaches policy run connection operation.Waive name
+  pub none : waiver_at waivers reaches.named.place ≡ None
+
+abbrev pub AskedExactly : Type 0
+AskedExactly =
+    (policy : Policy) (wafer : Wafer) (run : Run) (waivers : List (Option Waiver)) (connection : ℕ)
+    (name : MarkerName)
+    → (outcome_of policy wafer run waivers connection (ask.Waive name)).reply ≡ reply.Ok []
+    ↔ IsAskable policy run waivers connection name
+
+-- ---- who comes second
 
 -- A request is refused as known, and leaves the waivers.
 abbrev pub IsKnown : Outcome → List (Option Waiver) → Type 0

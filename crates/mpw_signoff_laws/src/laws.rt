@@ -1,6 +1,18 @@
 //! Laws of the requests that sign a run off. Each function has an empty body: its contract is the law.
 
-ghost use Rattle.mpw_signoff_laws.specs.SignedOnce.{SignaturesStay, AskersStay, SecondSignaturesAreRefused, SecondAskersAreRefused};
+ghost use Rattle.mpw_signoff_laws.specs.SignedOnce.{SignedExactly, AskedExactly, SignaturesStay, AskersStay, SecondSignaturesAreRefused, SecondAskersAreRefused};
+
+/// A `sign` is accepted exactly where the session may sign, the run is finished, the marker is shown in full to it, its waiver is there
+/// and nobody signed it, and the session's user neither asked for it nor submitted what the marker meets: `sign_test` of `mpw_waiver`.
+pub fn signed_exactly()
+    ensures { SignedExactly }
+{}
+
+/// A `waive` is accepted exactly where the session may waive, the run is finished, and the marker is shown in full to it and has no
+/// waiver.
+pub fn asked_exactly()
+    ensures { AskedExactly }
+{}
 
 /// A signed waiver stays as it is, whatever request comes, and of whom.
 pub fn signatures_stay()

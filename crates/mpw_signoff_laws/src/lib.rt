@@ -1,4 +1,4 @@
-//! Laws of waivers that none of the desk's calls rests on: that a waiver is asked for once, and signed once.
+//! Laws of waivers that none of the desk's calls rests on: who asks for one and who signs it, and that both come once.
 //!
 //! [`ask_once`] and [`sign_once`] make the two calls that a request makes, the test and the change, one behind the other. The laws
 //! do nothing: their contracts speak of the rows of requests. No program links this crate.
@@ -9,5 +9,6 @@ mod laws;
 
 pub use calls::{ask_once, sign_once};
 pub use laws::{
-    askers_stay, second_askers_are_refused, second_signatures_are_refused, signatures_stay,
+    asked_exactly, askers_stay, second_askers_are_refused, second_signatures_are_refused,
+    signatures_stay, signed_exactly,
 };

@@ -1,0 +1,5 @@
+use Rattle.mpw_reader_laws.proofs.Later as laws
+use Rattle.mpw_reader_laws.proofs.laws.faults_come_no_earlier.Goals as goal
+
+pub returns : goal.returns
+returns c = laws.faults_come_no_earlier

@@ -1,0 +1,5 @@
+use Rattle.mpw_signoff_laws.proofs.SignedOnce as laws
+use Rattle.mpw_signoff_laws.proofs.laws.asked_exactly.Goals as goal
+
+pub returns : goal.returns
+returns c = laws.asked_exactly
