@@ -254,7 +254,8 @@ static LINES: [Entry; 9] = [
         meaning: "the change could not be kept; nothing has changed, and the desk is closed",
         detail: Detail::Refusal {
             number: "60",
-            remedy: "look at the device that keeps, and begin the desk anew",
+            remedy: "look at the store's disk, and start the program again: it goes on from what \
+                is kept",
         },
     },
     Entry {
@@ -263,7 +264,7 @@ static LINES: [Entry; 9] = [
         meaning: "an earlier change could not be kept, so the desk answers no request",
         detail: Detail::Refusal {
             number: "61",
-            remedy: "begin the desk anew",
+            remedy: "start the program again: it goes on from what is kept",
         },
     },
 ];
