@@ -48,7 +48,7 @@ fn serve_script(
     officer: Officer,
     name: &str,
 ) -> Result<Shelf> {
-    let path = format!(in rt.alloc(); "data/{name}.txt")?;
+    let path = format!(in rt.alloc(); "{name}.txt")?;
     let text = fs::read_to_string(rt, path.as_str())?;
     let script: Transcript = read_transcript(rt.alloc(), text.as_str())?;
     match serve(threads, rt.alloc(), store, officer, script.input.as_slice()) {
