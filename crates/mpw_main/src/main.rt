@@ -8,27 +8,49 @@ use line::Line;
 use mpw_core::Core;
 use mpw_serve::{Executor, command_line, print_help, run_script, tell};
 use mpw_server::run as run_service;
-use mpw_settings::{Officer, Settings};
+use mpw_settings::{Script, Settings};
+use mpw_stored_script::run_stored_script;
 use std::process::ExitCode;
 use std::thread::Threads;
 
-/// Serves the standard input to the standard output as a script of this officer. Where the standard error is a terminal, it is told
-/// there how far a run that is worked off came.
-fn script(rt: &HostRuntime, threads: &(impl Threads + Sync), officer: Officer) -> ExitCode {
+/// Serves the standard input to the standard output as a script, over the desk of a store where one is named. Where the standard error is a terminal, it is
+/// told there how far a run that is worked off came.
+fn script(rt: &HostRuntime, threads: &(impl Threads + Sync), script: Script) -> ExitCode {
     let executor = Executor {
         threads,
         alloc: rt.alloc(),
         progress: Line::new(rt),
     };
-    run_script::<Core, _, _, _, _>(rt, executor, officer, rt.stdin(), rt.stdout())
+    let Script { officer, store } = script;
+    match store {
+        None => run_script::<Core, _, _, _, _>(rt, executor, officer, rt.stdin(), rt.stdout()),
+        Some(path) => run_stored_script::<Core, _, _, _, _>(
+            rt,
+            executor,
+            (path.as_str(), officer),
+            rt.stdin(),
+            rt.stdout(),
+        ),
+    }
 }
 
-/// Exits with 0 where the connections ended, and behind help, 2 at a usage fault, 3 where a device failed, 4 where the passes of a service don't
+/// Tells that a service keeps no store: it is refused rather than begun without one.
+fn refuse_store(rt: &HostRuntime) -> ExitCode {
+    let _ = eprintln!(rt; "error: mpw serve keeps no store yet; mpw script does");
+    ExitCode::from(2)
+}
+
+/// Exits with 0 where the connections ended, and behind help, 2 at a usage fault, and where a service is to keep a store, 3 where a device or a store failed, 4 where the passes of a service don't
 /// account for every call, and 5 where memory or a thread was wanting. A fault is told on the standard error.
 fn main(rt: HostRuntime) -> ExitCode {
     match command_line(&rt) {
-        Ok(Settings::Script(officer)) => script(&rt, &rt, officer),
-        Ok(Settings::Serve(service)) => run_service(&rt, &rt, &service),
+        Ok(Settings::Script(asked)) => script(&rt, &rt, asked),
+        Ok(Settings::Serve(service)) => {
+            if service.store.is_some() {
+                return refuse_store(&rt);
+            }
+            run_service(&rt, &rt, &service)
+        }
         Ok(Settings::Help(text)) => print_help(&rt, text.as_str()),
         Err(fault) => tell(&rt, &fault),
     }
