@@ -1,0 +1,2 @@
+-- The lemmas of what a check is given.
+mod Names

@@ -1,0 +1,2 @@
+-- The lemmas of the parts that are left out.
+mod Passing
