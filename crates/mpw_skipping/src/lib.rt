@@ -16,4 +16,4 @@ mod span;
 pub use cut::{Cut, original, without};
 pub use elements::elements_of;
 pub use layers::{cuts_of_layers, is_named};
-pub use span::ElementSpan;
+pub use span::{ElementSpan, NODETYPE, TEXTTYPE};
