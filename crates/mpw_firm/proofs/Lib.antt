@@ -1,4 +1,5 @@
 -- The lemmas of the program that checks a cell.
+pub mod Flat
 mod Growth
 mod KeyTexts
 mod Places

@@ -14,14 +14,19 @@ use Rattle.mpw_spread.specs.Spread.{IsPartOf}
 use Rattle.mpw_spread.specs.declared.range.TileRange.{TileRange}
 use Rattle.mpw_tiles.specs.Snapshots.{Snapshot}
 use Rattle.mpw_firm.specs.Commands.{IsOfWord, telling_of}
-use Rattle.mpw_firm.specs.Drawings.{IsReadFrom}
+use Rattle.mpw_firm.specs.Drawings.{AreFlatOf, IsReadBy, IsReadFrom, IsTopOf}
 use Rattle.mpw_firm.specs.Keys.{IsWindowOf}
 use Rattle.mpw_firm.specs.Listed.{listed_text}
 use Rattle.mpw_firm.specs.Looks.{IsLookedAt}
 use Rattle.mpw_firm.specs.Outputs.{Kept, Grows}
 use Rattle.mpw_firm.specs.Ranges.{HasTilesOf}
+use Rattle.mpw_firm.specs.Sources.{kept_text}
 use Rattle.mpw_firm.specs.Status.{count_of, exit_of}
 use Rattle.mpw_firm.specs.Stitched.{IsWholeOf}
+use Rattle.mpw_firm.specs.declared.checked.Drawn.{Drawn}
+use Rattle.mpw_firm.specs.declared.choices.Choices.{Choices}
+use Rattle.mpw_firm.specs.declared.choices.Portion.{Portion}
+use Rattle.mpw_firm.specs.declared.choices.Portion.TheVariants as portion
 use Rattle.mpw_firm.specs.declared.fault.FirmFault.{FirmFault}
 use Rattle.mpw_firm.specs.declared.options.Asked.{Asked}
 use Rattle.mpw_firm.specs.declared.options.Asked.TheVariants as asked
@@ -65,43 +70,46 @@ PutsPicture (Some wanted) top layout book old new texts =
     ∷ []))
 
 -- The listing, and the report and the picture that are wanted.
-abbrev pub PutsAll : Options → Snapshot → List Marker → Option (List Kept) → Option (List Kept)
-    → Type 0
-PutsAll options layout book old new =
-    PutsPicture options.picture options.top layout book old new
-    (listing_texts (option_map string_bytes options.report) options.top layout book)
+abbrev pub PutsAll : Options → (top : List ℕ) → Snapshot → List Marker → Option (List Kept)
+    → Option (List Kept) → Type 0
+PutsAll options top layout book old new =
+    PutsPicture options.picture top layout book old new
+    (listing_texts (option_map string_bytes options.report) top layout book)
 
--- A deck and a library were checked, their markers are told in all that is wanted, and they are so many.
-pub record IsChecked (options : Options) (old new : Option (List Kept)) (found : ℕ) : Type 0 where
+-- A deck and a library were checked, their markers are told in all that is wanted, and they are so many. The markers are those of the
+-- flat list of the structure, whatever the side of the tiles is.
+pub record IsChecked (options : Options) (choices : Choices) (old new : Option (List Kept))
+    (found : ℕ) : Type 0 where
   pub deck : List ℕ
   pub library : List ℕ
-  pub layout : Snapshot
+  pub drawn : Drawn
   pub book : List Marker
-  pub drawn : IsReadFrom deck options.top library layout
-  pub looked : IsLookedAt options.strict layout
-  pub markers : AreLayoutMarkers layout book
+  pub read : IsReadBy options.top choices deck library drawn
+  pub looked : IsLookedAt options.strict drawn.layout
+  pub markers : AreLayoutMarkers drawn.layout book
+  pub flat : AreFlatOf deck drawn.top (kept_text choices.skip.items library) book
   pub count : found ≡ length book
-  pub kept : PutsAll options layout book old new
+  pub kept : PutsAll options drawn.top drawn.layout book old new
 
 -- Some tiles of them were, and their part is printed.
 pub record IsPartChecked (options : Options) (range : TileRange) (old new : Option (List Kept))
     (found : ℕ) : Type 0 where
   pub deck : List ℕ
   pub library : List ℕ
-  pub layout : Snapshot
+  pub drawn : Drawn
   pub part : Found
-  pub drawn : IsReadFrom deck options.top library layout
-  pub looked : IsLookedAt options.strict layout
-  pub made : IsPartOf (record { deck = deck; top = options.top; library = library }) part
-  pub tiles : HasTilesOf layout range part
+  pub top : IsTopOf options.top library drawn.top
+  pub read : IsReadFrom deck drawn.top library drawn.layout
+  pub looked : IsLookedAt options.strict drawn.layout
+  pub made : IsPartOf (record { deck = deck; top = drawn.top; library = library }) part
+  pub tiles : HasTilesOf drawn.layout range part
   pub count : found ≡ count_of part.lists
   pub kept : Grows old new (on_output (part_text part) ∷ [])
 
 -- The whole, or the tiles that are asked for.
-abbrev pub IsCheckDone : Options → Option TileRange → Option (List Kept) → Option (List Kept) → ℕ
-    → Type 0
-IsCheckDone options None old new found = IsChecked options old new found
-IsCheckDone options (Some range) old new found = IsPartChecked options range old new found
+abbrev pub IsCheckDone : Options → Portion → Option (List Kept) → Option (List Kept) → ℕ → Type 0
+IsCheckDone options (portion.Whole choices) old new found = IsChecked options choices old new found
+IsCheckDone options (portion.Tiles range) old new found = IsPartChecked options range old new found
 
 -- ---- of parts
 
@@ -119,7 +127,7 @@ pub record IsStitched (options : StitchOptions) (old new : Option (List Kept)) (
 
 -- What is asked for was done.
 abbrev pub IsDone : Asked → Option (List Kept) → Option (List Kept) → ℕ → Type 0
-IsDone (asked.Check options) old new found = IsCheckDone options options.tiles old new found
+IsDone (asked.Check options) old new found = IsCheckDone options options.portion old new found
 IsDone (asked.Stitch options) old new found = IsStitched options old new found
 IsDone (asked.Told text) old new found =
     Grows old new (on_output (string_bytes text) ∷ []) × (found ≡ 0)

@@ -1,16 +1,27 @@
 -- What is checked, by the texts of a deck and a library; and why it can't be.
-use Rattle.std.specs.Prelude.{◌≡◌, ◌⊎◌, ℕ, List, Ok, Err}
+use Rattle.std.specs.Prelude.{◌≡◌, ◌⊎◌, ◌++◌, ℕ, List, codes, Option, None, Some, Ok, Err}
 use Rattle.std.specs.String.{string_bytes}
-use Rattle.mpw_check.specs.Drawn.{IsDrawnFrom, IsOfText}
+use Rattle.mpw_check.specs.Drawn.{drawn_shelf, IsDrawnFrom, IsOfText}
 use Rattle.mpw_check.specs.declared.fault.CheckFault.{CheckFault}
+use Rattle.mpw_choices.specs.Sides.{with_side}
+use Rattle.mpw_choices.specs.Tops.{only_top}
 use Rattle.mpw_deck.specs.Decks.{Deck}
 use Rattle.mpw_deck.specs.Reading.{deck_of}
 use Rattle.mpw_deck.specs.declared.deck.DeckFault.{DeckFault}
 use Rattle.mpw_firm.specs.declared.fault.FirmFault.{FirmFault}
 use Rattle.mpw_firm.specs.declared.fault.FirmFault.TheVariants.{Memory}
+use Rattle.mpw_firm.specs.declared.checked.Drawn.{Drawn}
+use Rattle.mpw_firm.specs.declared.choices.Choices.{Choices}
 use Rattle.mpw_firm.specs.declared.options.Options.{Options}
-use Rattle.mpw_firm.specs.Told.{Tells}
-use Rattle.mpw_firm.specs.ToldFaults.{check_told, deck_told}
+use Rattle.mpw_firm.specs.Sources.{Source, kept_text, moved, moved_fault}
+use Rattle.mpw_hier.specs.Values.{flat}
+use Rattle.mpw_job.specs.Layout.{AreFlatMarkers, AreLayoutMarkers}
+use Rattle.mpw_library.specs.Grammar.{library_of}
+use Rattle.mpw_markers.specs.declared.marker.Marker.{Marker}
+use Rattle.mpw_records.specs.declared.fault.ReadFault.{ReadFault}
+use Rattle.mpw_structures.specs.declared.structures.Structure.{Structure}
+use Rattle.mpw_firm.specs.Told.{Refuses, Tells}
+use Rattle.mpw_firm.specs.ToldFaults.{check_told, deck_told, library_text}
 use Rattle.mpw_tiles.specs.Snapshots.{Snapshot}
 
 -- A deck's text is refused that has a fault, and that is told of the file; or there is no room.
@@ -24,15 +35,86 @@ abbrev pub IsReadFrom : (deck top library : List ℕ) → Snapshot → Type 0
 IsReadFrom deck top library snapshot =
     (rules : Deck) × (deck_of deck ≡ Ok rules) × IsDrawnFrom rules top library snapshot
 
--- The same of a library's text, and of the structure that is checked.
-abbrev pub IsOfLibrary : (file top text : List ℕ) → FirmFault → Type 0
-IsOfLibrary file top text fault =
+-- ---- the structure that is checked
+
+-- It is the one that is named, or the only one that nothing places.
+abbrev pub IsTopOf : Option (List ℕ) → (text top : List ℕ) → Type 0
+IsTopOf (Some name) text top = top ≡ name
+IsTopOf None text top = only_top text ≡ Some top
+
+-- It is drawn under the deck, of a library's text as it is read.
+pub record IsDrawnBy (top : Option (List ℕ)) (deck : Deck) (source : Source) (drawn : Drawn) :
+    Type 0 where
+  pub named : IsTopOf top (kept_text source.skip source.text) drawn.top
+  pub from : IsDrawnFrom deck drawn.top (kept_text source.skip source.text) drawn.layout
+
+-- The deck is that of the text, with that side where there is one.
+abbrev pub IsDeckOf : Option ℕ → List ℕ → Deck → Type 0
+IsDeckOf side text deck = (rules : Deck) × (deck_of text ≡ Ok rules) × (deck ≡ with_side side rules)
+
+-- It is drawn of the texts of a deck and a library, with that side where there is one.
+pub record IsDrawnOf (top : Option (List ℕ)) (side : Option ℕ) (deck : List ℕ) (source : Source)
+    (drawn : Drawn) : Type 0 where
+  pub made : Deck
+  pub read : IsDeckOf side deck made
+  pub by : IsDrawnBy top made source drawn
+
+-- The same as it is chosen.
+abbrev pub IsReadBy : Option (List ℕ) → Choices → (deck library : List ℕ) → Drawn → Type 0
+IsReadBy top choices deck library drawn =
+    IsDrawnOf top choices.tile deck (record { skip = choices.skip.items; text = library }) drawn
+
+-- ---- the markers of it
+
+-- They are those of the flat list of a library's structure, by itself, under the deck's rules: no tile has a part in them.
+abbrev pub AreFlatOf : (deck top library : List ℕ) → List Marker → Type 0
+AreFlatOf deck top library book =
+    (rules : Deck) × (structures : List Structure) × (deck_of deck ≡ Ok rules)
+    × (library_of library ≡ Ok structures)
+    × AreFlatMarkers rules.rules (flat (drawn_shelf top structures) 0) book
+
+-- A layout's markers are, whatever the side of the tiles is.
+abbrev pub AreFlatByEachSide : Type 0
+AreFlatByEachSide =
+    (side : Option ℕ) (deck top library : List ℕ) (made : Deck) (layout : Snapshot)
+    (book : List Marker)
+    → IsDeckOf side deck made → IsDrawnFrom made top library layout
+    → AreLayoutMarkers layout book
+    → AreFlatOf deck top library book
+
+-- ---- why it isn't checked
+
+-- The structure of that name can't be, of a library's text as it is read, and that is told with the place in the text; or there is no
+-- room.
+abbrev pub IsOfSource : (file top : List ℕ) → Source → FirmFault → Type 0
+IsOfSource file top source fault =
     (fault ≡ Memory)
-    ⊎ ((why : CheckFault) × IsOfText top text why × Tells (check_told file top why text) fault)
+    ⊎ ((why : CheckFault) × IsOfText top (kept_text source.skip source.text) why
+    × Tells (check_told file top (moved source.skip source.text why) source.text) fault)
+
+unfoldable pub no_top_text : List ℕ → List ℕ
+no_top_text file =
+    file
+    ++ codes ": not just one structure is placed by no other: name the one to check with --top"
+
+-- No structure is named, and the text has a fault, or not just one of its structures is placed by no other; or there is no room.
+abbrev pub IsOfNoTop : List ℕ → Source → FirmFault → Type 0
+IsOfNoTop file source fault =
+    (fault ≡ Memory)
+    ⊎ ((why : ReadFault) × (library_of (kept_text source.skip source.text) ≡ Err why)
+    × Refuses (library_text file (moved_fault source.skip source.text why) source.text) fault)
+    ⊎ ((only_top (kept_text source.skip source.text) ≡ None) × Refuses (no_top_text file) fault)
+
+-- One of the two.
+abbrev pub IsOfDrawing : List ℕ → Option (List ℕ) → Source → FirmFault → Type 0
+IsOfDrawing file top source fault =
+    IsOfNoTop file source fault
+    ⊎ ((name : List ℕ) × IsTopOf top (kept_text source.skip source.text) name
+    × IsOfSource file name source fault)
 
 -- Nothing is checked of these texts: the deck's is refused; or it is a deck's, and the library's is refused.
-abbrev pub IsOfTexts : Options → (deck text : List ℕ) → FirmFault → Type 0
-IsOfTexts options deck text fault =
+abbrev pub IsOfTexts : Options → Option ℕ → List ℕ → Source → FirmFault → Type 0
+IsOfTexts options side deck source fault =
     IsOfDeck (string_bytes options.deck) deck fault
-    ⊎ ((rules : Deck) × (deck_of deck ≡ Ok rules)
-    × IsOfLibrary (string_bytes options.file) options.top text fault)
+    ⊎ ((made : Deck) × IsDeckOf side deck made
+    × IsOfDrawing (string_bytes options.file) options.top source fault)

@@ -13,6 +13,7 @@ pub mod Places
 pub mod Ranges
 pub mod Sentences
 pub mod Sides
+pub mod Sources
 pub mod Status
 pub mod Stitched
 pub mod Texts

@@ -9,10 +9,9 @@ use Rattle.mpw_structures.specs.declared.element.Element.{Element}
 use Rattle.mpw_structures.specs.declared.element.Element.TheVariants.{Boundary, Path, Reference}
 use Rattle.mpw_tiles.specs.Snapshots.{Snapshot}
 use Rattle.mpw_walk.specs.Turns.{flat_roots}
-use Rattle.std.specs.String.{string_bytes}
 use Rattle.mpw_firm.specs.Told.{Refuses}
 use Rattle.mpw_firm.specs.declared.fault.FirmFault.{FirmFault}
-use Rattle.mpw_firm.specs.declared.options.Options.{Options}
+use Rattle.mpw_firm.specs.declared.checked.Target.{Target}
 
 abbrev pub same_layer : Layer → Layer → Bool
 same_layer a b = (a.layer == b.layer) && (a.datatype == b.datatype)
@@ -53,7 +52,7 @@ idle_text file top =
     ++ codes ": a rule looks at nothing, or there is none, as the notes say: --strict asks for shapes on each layer of each rule"))
 
 -- Else it is refused, and that is told; or there is no room.
-abbrev pub IsOfLook : Options → Snapshot → FirmFault → Type 0
-IsOfLook options s fault =
-    (options.strict ≡ true) × (looks s s.deck.rules ≡ false)
-    × Refuses (idle_text (string_bytes options.file) options.top) fault
+abbrev pub IsOfLook : Target → Bool → Snapshot → FirmFault → Type 0
+IsOfLook target strict s fault =
+    (strict ≡ true) × (looks s s.deck.rules ≡ false)
+    × Refuses (idle_text target.file.now target.top.now) fault

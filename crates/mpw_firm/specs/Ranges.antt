@@ -1,6 +1,5 @@
 -- The tiles that are asked for, of a layout's plan.
 use Rattle.std.specs.Prelude.{◌≡◌, ◌⊎◌, ◌+◌, ℕ, length, None, Some}
-use Rattle.std.specs.String.{string_bytes}
 use Rattle.mpw_check.specs.Lists.{tile_count}
 use Rattle.mpw_parts.specs.Parts.{Found}
 use Rattle.mpw_spread.specs.Ranges.{span_of}
@@ -8,7 +7,7 @@ use Rattle.mpw_spread.specs.declared.range.TileRange.{TileRange}
 use Rattle.mpw_tiles.specs.Snapshots.{Snapshot}
 use Rattle.mpw_firm.specs.declared.fault.FirmFault.{FirmFault}
 use Rattle.mpw_firm.specs.declared.fault.FirmFault.TheVariants.{Memory}
-use Rattle.mpw_firm.specs.declared.options.Options.{Options}
+use Rattle.mpw_firm.specs.declared.checked.Target.{Target}
 use Rattle.mpw_firm.specs.Sides.{IsOfTiles}
 use Rattle.mpw_firm.specs.Told.{Misuses}
 use Rattle.mpw_firm.specs.ToldParts.{range_text}
@@ -21,11 +20,11 @@ HasTilesOf s range part =
     ≡ Some (record { first = part.first; end = part.first + length part.lists }))
 
 -- The plan would have too many tiles, or it hasn't those that are asked for, and that is told; or there is no room.
-abbrev pub IsOfRange : Options → Snapshot → TileRange → FirmFault → Type 0
-IsOfRange options s range fault =
+abbrev pub IsOfRange : Target → Snapshot → TileRange → FirmFault → Type 0
+IsOfRange target s range fault =
     (fault ≡ Memory)
     ⊎ ((tile_count s ≡ None)
-    × IsOfTiles (string_bytes options.file) options.top s fault)
+    × IsOfTiles target.file.now target.top.now s fault)
     ⊎ ((total : ℕ)
     × (tile_count s ≡ Some total)
     × (span_of range total ≡ None)

@@ -18,7 +18,8 @@ least_text file top side =
     file
     ++ (codes ": "
     ++ (top
-    ++ (codes ": more than 4096 tiles: the deck's first line has to be at least 'tile " ++ (decimal side ++ codes "'"))))
+    ++ (codes ": more than 4096 tiles: the deck's first line has to be at least 'tile "
+    ++ (decimal side ++ (codes "', or --tile at least " ++ decimal side)))))
 
 -- A plan of too many tiles is told with the least side that isn't too small; or without, where none is found.
 abbrev pub IsOfTiles : (file top : List ℕ) → Snapshot → FirmFault → Type 0

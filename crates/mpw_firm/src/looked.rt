@@ -4,8 +4,8 @@ ghost use Rattle.std.specs.List.{list_all};
 ghost use Rattle.mpw_firm.specs.Looks.{IsLookedAt, IsOfLook, empty_layer, idle_text, is_on, looks, same_layer, shows};
 ghost use Rattle.mpw_firm.specs.Told.{Refuses};
 
+use crate::checked::Target;
 use crate::fault::FirmFault;
-use crate::options::Options;
 use crate::told::refusal;
 use mpw_deck::{Check, Rule};
 use mpw_geom::Layer;
@@ -112,12 +112,17 @@ fn told_of_nothing(alloc: Global, file: &str, top: &str) -> FirmFault
 ///
 /// # Errors
 /// `Refused`, and `Memory`.
-pub fn look(alloc: Global, options: &Options, snapshot: &Snapshot) -> Result<(), FirmFault>
-    ensures looked { IfOk result (λ _. IsLookedAt options.now.strict snapshot.now) }
-    ensures refused { IfErr result (IsOfLook options.now snapshot.now) }
+pub fn look(
+    alloc: Global,
+    strict: bool,
+    target: &Target<'_>,
+    snapshot: &Snapshot,
+) -> Result<(), FirmFault>
+    ensures looked { IfOk result (λ _. IsLookedAt strict snapshot.now) }
+    ensures refused { IfErr result (IsOfLook target.now strict snapshot.now) }
 {
-    if options.strict && !looks(snapshot, snapshot.deck().rules().as_slice()) {
-        return Err(told_of_nothing(alloc, options.file.as_str(), options.top.as_str()));
+    if strict && !looks(snapshot, snapshot.deck().rules().as_slice()) {
+        return Err(told_of_nothing(alloc, target.file, target.top.as_str()));
     }
     Ok(())
 }

@@ -14,9 +14,13 @@ mod apart;
 mod asked;
 mod blank;
 mod cause;
+mod checked;
+mod choices;
+mod drawing;
 mod fault;
 mod host;
 mod key;
+mod laps;
 mod laws;
 mod line;
 mod listing;
@@ -33,17 +37,20 @@ mod reading;
 mod report;
 mod sentences;
 mod side;
+mod source;
 mod spot;
 mod stitch;
 mod stitch_options;
 mod texts;
 mod told;
+mod told_faults;
 mod told_parts;
 mod tops;
 mod whole;
 
 use apart::{check_apart, stitch_apart};
 use asked::check;
+use choices::Portion;
 use fault::{FirmFault, exit_status};
 use host::Host;
 use options::{Asked, Options, read_options};
@@ -87,12 +94,12 @@ fn check_asked<O: Outputs>(
     outputs: &mut O,
     options: &Options,
 ) -> Result<usize, FirmFault>
-    ensures { IfOk result (IsCheckDone options.now options.now.tiles (O.kept outputs.old) (O.kept outputs.new)) }
+    ensures { IfOk result (IsCheckDone options.now options.now.portion (O.kept outputs.old) (O.kept outputs.new)) }
 {
     check_apart(outputs, rt.alloc(), options)?;
-    match options.tiles {
-        None => check(rt, threads, outputs, options),
-        Some(range) => check_range(rt, threads, outputs, options, range),
+    match &options.portion {
+        Portion::Whole(choices) => check(rt, threads, outputs, options, choices),
+        Portion::Tiles(range) => check_range(rt, threads, outputs, options, *range),
     }
 }
 

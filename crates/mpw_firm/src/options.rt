@@ -1,14 +1,14 @@
 //! The command line.
-ghost use Rattle.std.specs.Prelude.{◌≡◌, ◌∷◌, ◌||◌, option_map, slice_get, IfOk, IfErr, IfSome, None, Some};
+ghost use Rattle.std.specs.Prelude.{◌≡◌, ◌∷◌, ◌||◌, option_map, slice_get, IfOk, IfErr};
 ghost use Rattle.std.specs.List.{list_any};
 ghost use Rattle.std.specs.String.{string_bytes};
 ghost use Rattle.mpw_geom.specs.Names.{name_eq};
 ghost use Rattle.clap.specs.Words.{found_of};
-ghost use Rattle.mpw_spread.specs.Ranges.{range_of};
 ghost use Rattle.mpw_firm.specs.Given.{IsGiven};
 ghost use Rattle.mpw_firm.specs.Commands.{IsOfCheck, IsOfWord, IsToldBy, telling_of};
 ghost use Rattle.mpw_firm.specs.Told.{IsMisuse, Misuses};
 
+use crate::choices::{Portion, read_portion, with_choices};
 use crate::fault::FirmFault;
 use crate::out_file::{free_option, is_among, out_file};
 use crate::picture_options::{Wanted, read_wanted, with_picture};
@@ -17,7 +17,6 @@ use crate::told::misuse;
 use clap::error::ErrorKind;
 use clap::{Arg, ArgAction, ArgMatches, Command, Error};
 use mpw_geom::{Name, NameFault};
-use mpw_spread::{TileRange, read_range};
 use std::alloc::{AllocError, Global};
 
 /// The version that `--version` tells.
@@ -28,16 +27,16 @@ pub const VERSION: &str = "1";
 pub struct Options {
     /// The file of the deck.
     pub deck: String,
-    /// The structure that is checked.
-    pub top: Name,
+    /// The structure that is checked; without one that which nothing places.
+    pub top: Option<Name>,
     /// The file of the library.
     pub file: String,
     /// The file that the report is written to, if one is wanted.
     pub report: Option<String>,
     /// The picture, if one is wanted.
     pub picture: Option<Wanted>,
-    /// The tiles whose part is wanted, in place of the markers of the whole.
-    pub tiles: Option<TileRange>,
+    /// What is checked of the layout.
+    pub portion: Portion,
     /// Whether a layout is refused of which a rule looks at nothing.
     pub strict: bool,
 }
@@ -62,25 +61,21 @@ pub enum Asked {
     Told(String),
 }
 
-/// An option that has to be given, with one value.
-fn required_option<'a>(alloc: Global, name: &'a str, value: &'a str, help: &'a str) -> Arg<'a> {
-    Arg::new(alloc, name)
-        .long(name)
-        .value_name(value)
-        .required(true)
-        .action(ArgAction::Set)
-        .help(help)
-}
-
 /// The command line's form.
 fn command<'a>(alloc: Global) -> Result<Command<'a>, AllocError> {
-    let deck = required_option(
+    let deck = free_option(
         alloc,
         "deck",
         "DECK",
         "The file of the rules, - for the standard input",
+    )
+    .required(true);
+    let top = free_option(
+        alloc,
+        "top",
+        "STRUCTURE",
+        "The structure that is checked; without it the one that nothing places, where there is one",
     );
-    let top = required_option(alloc, "top", "STRUCTURE", "The structure that is checked");
     let file = Arg::new(alloc, "file")
         .value_name("FILE")
         .required(true)
@@ -92,13 +87,6 @@ fn command<'a>(alloc: Global) -> Result<Command<'a>, AllocError> {
         "OUT",
         "A file for the markers as a report database, which KLayout opens",
     );
-    let tiles = free_option(
-        alloc,
-        "tiles",
-        "TILES",
-        "Checks some tiles, and prints their part for 'mpw stitch': A-B, from tile A to tile B, \
-        both included and counted from 0; or K/N, the K-th of N shares",
-    );
     let strict = Arg::new(alloc, "strict")
         .long("strict")
         .action(ArgAction::SetTrue)
@@ -109,8 +97,7 @@ fn command<'a>(alloc: Global) -> Result<Command<'a>, AllocError> {
         .arg(deck)?
         .arg(top)?
         .arg(report)?;
-    with_picture(alloc, command)?
-        .arg(tiles)?
+    with_choices(alloc, with_picture(alloc, command)?)?
         .arg(strict)?
         .arg(file)
 }
@@ -122,13 +109,16 @@ pub fn usage(alloc: Global, text: &str) -> FirmFault
     misuse(String::from_str(alloc, text))
 }
 
-/// The name of a structure that a text is.
-fn read_top(alloc: Global, text: &str) -> Result<Name, FirmFault>
-    ensures top { IfOk result (λ top. top ≡ text.now) }
+/// The name of a structure that a text is, if there is one.
+fn read_top(alloc: Global, text: Option<&str>) -> Result<Option<Name>, FirmFault>
+    ensures top { IfOk result (λ top. option_map (λ text. text.now) text.entry ≡ top) }
     ensures refused { IfErr result IsMisuse }
 {
+    let Some(text) = text else {
+        return Ok(None);
+    };
     match Name::read(alloc, text.as_bytes()) {
-        Ok(top) => Ok(top),
+        Ok(top) => Ok(Some(top)),
         Err(NameFault::BadName) => Err(usage(
             alloc,
             "error: --top takes a name of 1 to 255 visible ASCII characters",
@@ -137,54 +127,13 @@ fn read_top(alloc: Global, text: &str) -> Result<Name, FirmFault>
     }
 }
 
-/// The tiles whose part is wanted, where neither a report nor a picture is.
-fn read_tiles(
-    alloc: Global,
-    tiles: Option<&str>,
-    report: Option<&str>,
-    picture: Option<&str>,
-) -> Result<Option<TileRange>, FirmFault>
-    ensures given { IfOk result (λ read. option_map range_of (option_map (λ text. text.now) tiles.entry) ≡ option_map Some read) }
-    ensures alone { IfOk result (λ read. IfSome read (λ _. (option_map (λ text. text.now) report.entry ≡ None) × (option_map (λ text. text.now) picture.entry ≡ None))) }
-    ensures refused { IfErr result IsMisuse }
-{
-    let Some(tiles) = tiles else {
-        return Ok(None);
-    };
-    if report.is_some() {
-        return Err(usage(
-            alloc,
-            "error: a part has no report: give --report to 'mpw stitch'",
-        ));
-    }
-    if picture.is_some() {
-        return Err(usage(
-            alloc,
-            "error: a part has no picture: draw it with a check of all tiles",
-        ));
-    }
-    match read_range(alloc, tiles.as_bytes())? {
-        Some(range) => Ok(Some(range)),
-        None => Err(usage(
-            alloc,
-            "error: --tiles takes A-B, from tile A to tile B, both included and counted from 0; or \
-            K/N, the K-th of N shares",
-        )),
-    }
-}
-
 /// What the command line's words give.
 fn options_in(alloc: Global, matches: &ArgMatches<'_>) -> Result<Options, FirmFault>
     ensures given { IfOk result (IsGiven (found_of matches.now)) }
     ensures refused { IfErr result IsMisuse }
 {
-    let words = (
-        matches.get_str("deck"),
-        matches.get_str("top"),
-        matches.get_str("file"),
-    );
-    let (Some(deck), Some(top), Some(file)) = words else {
-        return Err(usage(alloc, "error: --deck, --top and a file have to be given"));
+    let (Some(deck), Some(file)) = (matches.get_str("deck"), matches.get_str("file")) else {
+        return Err(usage(alloc, "error: --deck and a file have to be given"));
     };
     if deck == "-" && file == "-" {
         return Err(usage(
@@ -193,19 +142,19 @@ fn options_in(alloc: Global, matches: &ArgMatches<'_>) -> Result<Options, FirmFa
         ));
     }
     let (report, picture) = (matches.get_str("report"), matches.get_str("picture"));
-    let tiles = read_tiles(alloc, matches.get_str("tiles"), report, picture)?;
+    let portion = read_portion(alloc, matches)?;
     let files = [deck, file, report.unwrap_or("-")];
     let picture = read_wanted(alloc, picture, matches.get_str("marker"), &files)?;
     let over = "the deck or the library";
     let report = out_file(alloc, "report", report, &files[..2], over)?;
-    let top = read_top(alloc, top)?;
+    let top = read_top(alloc, matches.get_str("top"))?;
     Ok(Options {
         deck: String::from_str(alloc, deck)?,
         top,
         file: String::from_str(alloc, file)?,
         report,
         picture,
-        tiles,
+        portion,
         strict: matches.get_flag("strict"),
     })
 }

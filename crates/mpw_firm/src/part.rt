@@ -1,5 +1,5 @@
 //! The check of some tiles, whose part is printed.
-ghost use Rattle.std.specs.Prelude.{IfOk, IfErr};
+ghost use Rattle.std.specs.Prelude.{◌≡◌, IfOk, IfErr};
 ghost use Rattle.mpw_spread.specs.Spread.{IsPartOf};
 ghost use Rattle.mpw_firm.specs.Came.{IsPartChecked};
 ghost use Rattle.mpw_firm.specs.Drawings.{IsReadFrom};
@@ -7,7 +7,9 @@ ghost use Rattle.mpw_firm.specs.Ranges.{HasTilesOf, IsOfRange};
 ghost use Rattle.mpw_firm.specs.Outputs.{AreApart};
 ghost use Rattle.mpw_firm.specs.Uses.{check_inputs, check_outputs};
 
-use crate::asked::{drawn_of, now, tiles_of};
+use crate::asked::tiles_of;
+use crate::checked::Target;
+use crate::drawing::drawn_of;
 use crate::fault::FirmFault;
 use crate::line::Line;
 use crate::looked::{look, tell_looks};
@@ -15,39 +17,62 @@ use crate::options::Options;
 use crate::outputs::{Outputs, Place, put};
 use crate::progress::{count_of, tell_part};
 use crate::reading::{Content, read_file, read_library};
+use crate::source::Source;
 use crate::texts::Text;
 use crate::told_parts::beyond_plan;
 use mpw_check::tile_count;
 use mpw_parts::Part;
 use mpw_spread::{TileRange, check_part, subject_of};
 use mpw_tiles::Snapshot;
+use std::alloc::{AllocError, Global};
 use std::thread::Threads;
 
-/// The part of the tiles that are asked for, of a layout that was read of these texts.
+/// A structure of which some tiles are checked, and the texts that it was read of.
+#[derive(Clone, Copy, Drop)]
+pub struct PartAsked<'a> {
+    /// The library's file, and the structure.
+    pub target: Target<'a>,
+    /// The structure under the deck.
+    pub layout: &'a Snapshot,
+    /// The deck's text.
+    pub deck: &'a [u8],
+    /// The library's text.
+    pub library: &'a [u8],
+}
+
+/// The same bytes.
+fn copy_of(alloc: Global, bytes: &[u8]) -> Result<Vec<u8>, AllocError>
+    ensures { IfOk result (λ copy. copy.items ≡ bytes.now) }
+{
+    let mut copy = Vec::new(alloc);
+    copy.extend_from_slice(bytes)?;
+    Ok(copy)
+}
+
+/// The part of the tiles that are asked for.
 fn part_of(
     rt: &HostRuntime,
     threads: &(impl Threads + Sync),
-    options: &Options,
-    deck: Vec<u8>,
-    text: &[u8],
-    snapshot: &Snapshot,
+    asked: &PartAsked<'_>,
     range: TileRange,
+    line: &mut Line<'_>,
 ) -> Result<Part, FirmFault>
-    requires { IsReadFrom deck.items options.now.top text.now snapshot.now }
-    ensures made { IfOk result (IsPartOf (record { deck = deck.items; top = options.now.top; library = text.now })) }
-    ensures asked { IfOk result (HasTilesOf snapshot.now range) }
-    ensures refused { IfErr result (IsOfRange options.now snapshot.now range) }
+    requires { IsReadFrom asked.now.deck.now asked.now.target.top.now asked.now.library.now asked.now.layout.now }
+    ensures made { IfOk result (IsPartOf (record { deck = asked.now.deck.now; top = asked.now.target.top.now; library = asked.now.library.now })) }
+    ensures asked { IfOk result (HasTilesOf asked.now.layout.now range) }
+    ensures refused { IfErr result (IsOfRange asked.now.target asked.now.layout.now range) }
 {
-    let Some(tiles) = tile_count(snapshot) else {
-        return Err(tiles_of(rt, options, snapshot));
+    let (alloc, layout) = (rt.alloc(), asked.layout);
+    let Some(tiles) = tile_count(layout) else {
+        return Err(tiles_of(rt, &asked.target, layout));
     };
     let Some(span) = range.span(tiles) else {
-        return Err(beyond_plan(rt.alloc(), tiles));
+        return Err(beyond_plan(alloc, tiles));
     };
-    let subject = subject_of(text, deck, options.top.copy()?, tiles);
-    let mut line = Line::new(rt);
-    line.tell_read(snapshot);
-    let part = check_part(threads, rt.alloc(), subject, snapshot, span, &mut line);
+    let (deck, top) = (copy_of(alloc, asked.deck)?, asked.target.top.copy()?);
+    let subject = subject_of(asked.library, deck, top, tiles);
+    line.tell_read(layout);
+    let part = check_part(threads, alloc, subject, layout, span, line);
     line.end();
     Ok(part?)
 }
@@ -56,6 +81,7 @@ fn part_of(
 ///
 /// # Errors
 /// Tiles that the plan hasn't, a file that can't be read, a library or a deck with a fault, a device that failed, or want of memory.
+#[tactic(auto, using(crate::proofs::Flat::part_read, crate::proofs::Flat::part_named))]
 pub fn check_range<O: Outputs>(
     rt: &HostRuntime,
     threads: &(impl Threads + Sync),
@@ -66,14 +92,26 @@ pub fn check_range<O: Outputs>(
     requires apart { AreApart (O.files outputs.old) (check_inputs options.now) (check_outputs options.now) }
     ensures { IfOk result (IsPartChecked options.now range (O.kept outputs.old) (O.kept outputs.new)) }
 {
+    let mut line = Line::new(rt);
     let deck = read_file(rt, options.deck.as_str(), Content::Deck)?;
-    let text = read_library(rt, options.file.as_str())?;
-    let snapshot = drawn_of(rt, options, &deck, &text)?;
-    let start = now(rt)?;
-    let _ = tell_looks(rt, &snapshot);
-    look(rt.alloc(), options, &snapshot)?;
-    let part = part_of(rt, threads, options, deck, &text, &snapshot, range)?;
-    let _ = tell_part(rt, &snapshot, &part, &start);
+    let library = read_library(rt, options.file.as_str())?;
+    let source = Source::new(rt.alloc(), &[], library)?;
+    let drawn = drawn_of(rt, options, &None, &deck, &source)?;
+    let target = Target {
+        file: options.file.as_str(),
+        top: &drawn.top,
+    };
+    let _ = tell_looks(rt, &drawn.layout);
+    look(rt.alloc(), options.strict, &target, &drawn.layout)?;
+    let asked = PartAsked {
+        target,
+        layout: &drawn.layout,
+        deck: deck.as_slice(),
+        library: source.text(),
+    };
+    let part = part_of(rt, threads, &asked, range, &mut line)?;
+    let _ = tell_part(rt, &drawn.layout, &part, &line);
     put(outputs, rt.alloc(), Place::Standard, &Text::Part(&part))?;
+    line.tell_times();
     Ok(count_of(part.lists()))
 }

@@ -10,13 +10,14 @@ ghost use Rattle.mpw_firm.specs.Keys.{IsOfKey, IsRound, IsUnknown, IsWindowOf, u
 ghost use Rattle.mpw_firm.specs.Outputs.{Grows};
 ghost use Rattle.mpw_firm.specs.Told.{CannotBeWritten, Misuses};
 
+use crate::checked::Checked;
 use crate::fault::FirmFault;
 use crate::key::find_marker;
 use crate::outputs::{Outputs, Place, put};
 use crate::picture_options::Wanted;
 use crate::texts::Text;
 use crate::told::misuse;
-use mpw_geom::{Box2, Name};
+use mpw_geom::Box2;
 use mpw_markers::Book;
 use mpw_picture::{draw, marker_window, whole_window};
 use mpw_tiles::Snapshot;
@@ -80,15 +81,13 @@ pub fn picture<O: Outputs>(
     alloc: Global,
     file: &str,
     window: Box2,
-    top: &Name,
-    snapshot: &Snapshot,
-    book: &Book,
+    checked: &Checked<'_>,
 ) -> Result<(), FirmFault>
     requires { IsBoxInPlane window }
-    ensures kept { IfOk result (λ _. (drawn : Picture) × IsPicture snapshot.now book.now window drawn × Grows (O.kept outputs.old) (O.kept outputs.new) (in_file file.now (picture_text snapshot.now.deck.rules top.now drawn) ∷ [])) }
+    ensures kept { IfOk result (λ _. (drawn : Picture) × IsPicture checked.now.layout.now checked.now.book.now window drawn × Grows (O.kept outputs.old) (O.kept outputs.new) (in_file file.now (picture_text checked.now.layout.now.deck.rules checked.now.top.now drawn) ∷ [])) }
     ensures refused { IfErr result (CannotBeWritten file.now) }
 {
-    let drawn = draw(alloc, snapshot, book.as_slice(), window)?;
-    let text = Text::Picture(snapshot, top, &drawn);
+    let drawn = draw(alloc, checked.layout, checked.book.as_slice(), window)?;
+    let text = Text::Picture(checked.layout, checked.top, &drawn);
     put(outputs, alloc, Place::File(file), &text)
 }

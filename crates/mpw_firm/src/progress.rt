@@ -3,13 +3,14 @@ ghost use Rattle.std.specs.Prelude.{◌≡◌, nat_lt};
 ghost use Rattle.std.specs.List.{list_any};
 ghost use Rattle.mpw_firm.specs.Status.{count_of, has_some};
 
+use crate::checked::Checked;
+use crate::line::Line;
 use mpw_check::tile_count;
 use mpw_deck::Rules;
 use mpw_markers::{Marker, TileMarkers};
 use mpw_parts::Part;
 use mpw_tiles::Snapshot;
 use std::io;
-use std::time::Instant;
 
 /// How many tiles the layout has.
 fn tiles_of(snapshot: &Snapshot) -> u32 {
@@ -36,24 +37,22 @@ pub fn tell_markers(rt: &HostRuntime, rules: &Rules, markers: &[Marker]) -> io::
     Ok(())
 }
 
-/// Ends a line with the time that was taken.
-fn tell_time(rt: &HostRuntime, start: &Instant) -> io::Result<()> {
-    let taken = start.elapsed(rt)?.as_millis();
-    eprintln!(rt; ", {taken} ms")
+/// Ends a line with the time that was taken, if the clock can be read.
+fn tell_time(rt: &HostRuntime, taken: Option<u64>) -> io::Result<()> {
+    match taken {
+        Some(taken) => eprintln!(rt; ", {taken} ms"),
+        None => eprintln!(rt; ""),
+    }
 }
 
 /// Tells what was checked and found, and the time that it took.
-pub fn tell_summary(
-    rt: &HostRuntime,
-    snapshot: &Snapshot,
-    markers: &[Marker],
-    start: &Instant,
-) -> io::Result<()> {
-    let tiles = tiles_of(snapshot);
-    let shapes = snapshot.shelf().count(0);
+pub fn tell_summary(rt: &HostRuntime, checked: &Checked<'_>, line: &Line<'_>) -> io::Result<()> {
+    let layout = checked.layout;
+    let tiles = tiles_of(layout);
+    let shapes = layout.shelf().count(0);
     eprint!(rt; "{shapes} shapes, {tiles} tiles, ")?;
-    tell_markers(rt, snapshot.deck().rules(), markers)?;
-    tell_time(rt, start)
+    tell_markers(rt, layout.deck().rules(), checked.book.as_slice())?;
+    tell_time(rt, line.taken())
 }
 
 /// How many markers the lists have together, up to 2^64 - 1.
@@ -73,7 +72,7 @@ pub fn tell_part(
     rt: &HostRuntime,
     snapshot: &Snapshot,
     part: &Part,
-    start: &Instant,
+    line: &Line<'_>,
 ) -> io::Result<()> {
     let (tiles, checked) = (tiles_of(snapshot), part.lists().len());
     let shapes = snapshot.shelf().count(0);
@@ -82,5 +81,5 @@ pub fn tell_part(
         part.first(),
         count_of(part.lists())
     )?;
-    tell_time(rt, start)
+    tell_time(rt, line.taken())
 }

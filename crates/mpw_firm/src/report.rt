@@ -6,12 +6,10 @@ ghost use Rattle.mpw_firm.specs.Listed.{listed_text};
 ghost use Rattle.mpw_firm.specs.Outputs.{Grows, IsUnwritten};
 ghost use Rattle.mpw_firm.specs.Told.{Fails, output_text};
 
+use crate::checked::Checked;
 use crate::fault::FirmFault;
 use crate::outputs::{Outputs, Place, put};
 use crate::texts::Text;
-use mpw_geom::Name;
-use mpw_markers::Book;
-use mpw_tiles::Snapshot;
 use std::alloc::Global;
 
 /// Prints the markers of a layout on the standard output.
@@ -21,18 +19,13 @@ use std::alloc::Global;
 pub fn list<O: Outputs>(
     outputs: &mut O,
     alloc: Global,
-    snapshot: &Snapshot,
-    book: &Book,
+    checked: &Checked<'_>,
 ) -> Result<(), FirmFault>
-    ensures kept { IfOk result (λ _. Grows (O.kept outputs.old) (O.kept outputs.new) (on_output (listed_text snapshot.now book.now) ∷ [])) }
+    ensures kept { IfOk result (λ _. Grows (O.kept outputs.old) (O.kept outputs.new) (on_output (listed_text checked.now.layout.now checked.now.book.now) ∷ [])) }
     ensures refused { IfErr result (Fails output_text) }
 {
-    put(
-        outputs,
-        alloc,
-        Place::Standard,
-        &Text::Listing(snapshot, book),
-    )
+    let text = Text::Listing(checked.layout, checked.book);
+    put(outputs, alloc, Place::Standard, &text)
 }
 
 /// Writes the report that the command line asks for; nothing where it asks for none.
@@ -43,16 +36,14 @@ pub fn report<O: Outputs>(
     outputs: &mut O,
     alloc: Global,
     file: &Option<String>,
-    top: &Name,
-    snapshot: &Snapshot,
-    book: &Book,
+    checked: &Checked<'_>,
 ) -> Result<(), FirmFault>
-    ensures kept { IfOk result (λ _. Grows (O.kept outputs.old) (O.kept outputs.new) (report_texts (option_map string_bytes file.now) top.now snapshot.now book.now)) }
+    ensures kept { IfOk result (λ _. Grows (O.kept outputs.old) (O.kept outputs.new) (report_texts (option_map string_bytes file.now) checked.now.top.now checked.now.layout.now checked.now.book.now)) }
     ensures refused { IfErr result (IsUnwritten (option_map string_bytes file.now)) }
 {
     match file {
         Some(file) => {
-            let text = Text::Report(snapshot, top, book);
+            let text = Text::Report(checked.layout, checked.top, checked.book);
             put(outputs, alloc, Place::File(file.as_str()), &text)
         }
         None => Ok(()),

@@ -72,7 +72,8 @@ fn least_fault(alloc: Global, file: &str, top: &str, side: u32) -> FirmFault
     ensures { Refuses (least_text file.now top.now side) result }
 {
     refusal(format!(in alloc;
-        "{file}: {top}: more than 4096 tiles: the deck's first line has to be at least 'tile {side}'"
+        "{file}: {top}: more than 4096 tiles: the deck's first line has to be at least 'tile {side}', or \
+        --tile at least {side}"
     ))
 }
 

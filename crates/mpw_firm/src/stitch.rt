@@ -7,6 +7,7 @@ ghost use Rattle.mpw_firm.specs.Outputs.{AreApart};
 ghost use Rattle.mpw_firm.specs.Stitched.{IsOfFile, IsWholeOf};
 ghost use Rattle.mpw_firm.specs.Uses.{stitch_inputs, stitch_outputs};
 
+use crate::checked::Checked;
 use crate::fault::FirmFault;
 use crate::outputs::Outputs;
 use crate::progress::tell_markers;
@@ -72,14 +73,12 @@ pub fn stitch<O: Outputs>(
     let alloc = rt.alloc();
     let whole = whole_in(rt, options.files.as_slice())?;
     let _ = tell_stitched(rt, options.files.len(), &whole);
-    list(outputs, alloc, &whole.layout, &whole.book)?;
-    report(
-        outputs,
-        alloc,
-        &options.report,
-        &whole.top,
-        &whole.layout,
-        &whole.book,
-    )?;
+    let checked = Checked {
+        top: &whole.top,
+        layout: &whole.layout,
+        book: &whole.book,
+    };
+    list(outputs, alloc, &checked)?;
+    report(outputs, alloc, &options.report, &checked)?;
     Ok(whole.book.len())
 }

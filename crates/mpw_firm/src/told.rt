@@ -118,7 +118,7 @@ fn record_fault(alloc: Global, file: &str, fault: ReadFault, sentence: &str) -> 
 }
 
 /// What is told of a fault of a library's records: the code and the byte, the structure, and what it means.
-fn library_fault(alloc: Global, file: &str, fault: ReadFault, text: &[u8]) -> FirmFault
+pub fn library_fault(alloc: Global, file: &str, fault: ReadFault, text: &[u8]) -> FirmFault
     ensures { Refuses (library_text file.now fault text.now) result }
 {
     let sentence = of_library(fault, text);

@@ -1,0 +1,75 @@
+-- The markers of a structure, whatever the side of the tiles is.
+use Rattle.std.proofs.Common.{◌≡◌, ℕ, List, [], Option, None, Some, subst, refl}
+use Rattle.mpw_check.specs.Drawn.{drawn_shelf, IsDrawnFrom}
+use Rattle.mpw_check.specs.Tiled.{MarkersAreTheLibrarys}
+use Rattle.mpw_choices.specs.Sides.{with_side}
+use Rattle.mpw_deck.specs.Decks.{Deck}
+use Rattle.mpw_deck.specs.declared.rule.Rule.{Rule}
+use Rattle.mpw_hier.specs.Values.{flat}
+use Rattle.mpw_job.specs.Layout.{AreFlatMarkers, AreLayoutMarkers}
+use Rattle.mpw_firm.specs.Drawings.{AreFlatByEachSide, AreFlatOf, IsDeckOf, IsDrawnBy, IsDrawnOf, IsReadBy, IsReadFrom, IsTopOf}
+use Rattle.mpw_firm.specs.Sources.{Source, kept_text}
+use Rattle.mpw_firm.specs.declared.checked.Drawn.{Drawn}
+use Rattle.mpw_firm.specs.declared.choices.Choices.{Choices}
+use Rattle.mpw_geom.specs.declared.plane.Layer.{Layer}
+use Rattle.mpw_markers.specs.declared.marker.Marker.{Marker}
+use Rattle.mpw_tiles.specs.Snapshots.{Snapshot}
+
+-- A side changes no rule.
+same_rules : (side : Option ℕ) (deck : Deck) → (with_side side deck).rules ≡ deck.rules
+same_rules None deck = refl
+same_rules (Some side) deck = refl
+
+pub flat_by : MarkersAreTheLibrarys → AreFlatByEachSide
+flat_by law side deck top library made layout book of drawn are =
+    let by_made = law made top drawn.library layout book drawn.drawn are in
+    let items = flat (drawn_shelf top drawn.library) 0 in
+    let by_side = subst (λ (d : Deck). AreFlatMarkers d.rules items book) of.2 by_made in (
+      of.0,
+      drawn.library,
+      of.1,
+      drawn.read,
+      subst (λ (rules : List Rule). AreFlatMarkers rules items book) (same_rules side of.0) by_side,
+    )
+
+-- Without a side of its own the texts are read as a part's are.
+read_from : (deck top library : List ℕ) (made : Deck) (layout : Snapshot)
+    → IsDeckOf None deck made → IsDrawnFrom made top library layout
+    → IsReadFrom deck top library layout
+read_from deck top library made layout of drawn =
+    (of.0, of.1, subst (λ d. IsDrawnFrom d top library layout) of.2 drawn)
+
+pub part_read : (top : Option (List ℕ)) (side : Option ℕ) (deck library : List ℕ)
+    (source : Source) (drawn : Drawn) → side ≡ None
+    → source ≡ record { skip = []; text = library } → IsDrawnOf top side deck source drawn
+    → IsReadFrom deck drawn.top library drawn.layout
+part_read top side deck library source drawn none is of =
+    let by = subst (λ s. IsDrawnBy top of.made s drawn) is of.by in
+    read_from deck drawn.top library of.made drawn.layout
+    (subst (λ s. IsDeckOf s deck of.made) none of.read) by.from
+
+pub part_named : (top : Option (List ℕ)) (side : Option ℕ) (deck library : List ℕ)
+    (source : Source) (drawn : Drawn) → source ≡ record { skip = []; text = library }
+    → IsDrawnOf top side deck source drawn → IsTopOf top library drawn.top
+part_named top side deck library source drawn is of =
+    let by = subst (λ s. IsDrawnBy top of.made s drawn) is of.by in by.named
+
+-- What is drawn of a source is read as it is chosen.
+pub read_by : (top : Option (List ℕ)) (choices : Choices) (deck library : List ℕ)
+    (skip : List Layer) (source : Source) (drawn : Drawn) → skip ≡ choices.skip.items
+    → source ≡ record { skip = skip; text = library }
+    → IsDrawnOf top choices.tile deck source drawn
+    → IsReadBy top choices deck library drawn
+read_by top choices deck library skip source drawn same is of =
+    subst (λ (layers : List Layer). IsDrawnOf top choices.tile deck
+    (record { skip = layers; text = library }) drawn) same
+    (subst (λ s. IsDrawnOf top choices.tile deck s drawn) is of)
+
+-- The markers of what is read so are flat.
+pub flat_of : AreFlatByEachSide → (top : Option (List ℕ)) (choices : Choices)
+    (deck library : List ℕ) (drawn : Drawn) (book : List Marker)
+    → IsReadBy top choices deck library drawn → AreLayoutMarkers drawn.layout book
+    → AreFlatOf deck drawn.top (kept_text choices.skip.items library) book
+flat_of law top choices deck library drawn book read are =
+    law choices.tile deck drawn.top (kept_text choices.skip.items library) read.made drawn.layout
+    book read.read read.by.from are

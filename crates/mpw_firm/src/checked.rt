@@ -1,0 +1,34 @@
+//! What a check is of, and what came of it.
+
+use mpw_geom::Name;
+use mpw_markers::Book;
+use mpw_tiles::Snapshot;
+
+/// What is told of where something is refused: the library's file, and the structure.
+#[derive(Clone, Copy, Drop)]
+pub struct Target<'a> {
+    /// The name of the library's file.
+    pub file: &'a str,
+    /// The structure that is checked.
+    pub top: &'a Name,
+}
+
+/// A layout that was checked: the structure's name, the layout, and its markers.
+#[derive(Clone, Copy, Drop)]
+pub struct Checked<'a> {
+    /// The structure.
+    pub top: &'a Name,
+    /// The structure under the deck, as it was checked.
+    pub layout: &'a Snapshot,
+    /// Its markers.
+    pub book: &'a Book,
+}
+
+/// A structure that is to be checked.
+#[derive(Drop)]
+pub struct Drawn {
+    /// Its name.
+    pub top: Name,
+    /// The structure under the deck.
+    pub layout: Snapshot,
+}

@@ -1,0 +1,204 @@
+//! What is checked, of the texts of a deck and a library. `specs/Drawings.antt` has what contracts say of it.
+ghost use Rattle.std.specs.Prelude.{◌≡◌, ℕ, List, None, IfOk, IfErr};
+ghost use Rattle.std.specs.String.{string_bytes};
+ghost use Rattle.mpw_check.specs.Drawn.{IsDrawnFrom};
+ghost use Rattle.mpw_choices.specs.Tops.{only_top};
+ghost use Rattle.mpw_firm.specs.Drawings.{IsDeckOf, IsDrawnBy, IsDrawnOf, IsOfDeck, IsOfDrawing, IsOfNoTop, IsOfSource, IsOfTexts, IsReadBy, IsTopOf, no_top_text};
+ghost use Rattle.mpw_firm.specs.Sources.{kept_text};
+ghost use Rattle.mpw_firm.specs.Told.{Refuses, Tells};
+ghost use Rattle.mpw_firm.specs.ToldFaults.{check_told};
+
+use crate::checked::{Drawn, Target};
+use crate::choices::Choices;
+use crate::fault::FirmFault;
+use crate::options::Options;
+use crate::reading::{Content, deck_of, read_file, read_library};
+use crate::source::Source;
+use crate::told::{check_fault, library_fault, refusal};
+use crate::told_faults::tell_faults;
+use crate::tops::tell_tops;
+use mpw_check::{CheckFault, read_layout};
+use mpw_choices::{TileSide, only_top, with_side};
+use mpw_deck::Deck;
+use mpw_elements::ReadError;
+use mpw_geom::Name;
+use mpw_hier::HierFault;
+use mpw_tiles::Snapshot;
+use std::alloc::Global;
+
+/// Whether a library has no structure of the name that is asked for.
+fn is_of_top(fault: &CheckFault) -> bool {
+    matches!(fault, CheckFault::Structure(HierFault::NoTop))
+}
+
+/// What is told of a library of that text that isn't checked.
+pub fn refusal_of(
+    rt: &HostRuntime,
+    target: &Target<'_>,
+    fault: &CheckFault,
+    text: &[u8],
+) -> FirmFault
+    ensures { Tells (check_told target.now.file.now target.now.top.now fault.now text.now) result }
+{
+    check_fault(rt.alloc(), target.file, target.top.as_str(), fault, text)
+}
+
+/// What is told of a library where no structure is named, and not just one isn't placed.
+#[tactic(auto, unfolding(crate::specs::Drawings::no_top_text))]
+fn several_tops(alloc: Global, file: &str) -> FirmFault
+    ensures { Refuses (no_top_text file.now) result }
+{
+    refusal(format!(in alloc;
+        "{file}: not just one structure is placed by no other: name the one to check with --top"
+    ))
+}
+
+/// The same, or what is told of its first fault, if it has one.
+fn no_top(rt: &HostRuntime, file: &str, source: &Source<'_>) -> FirmFault
+    requires { only_top (kept_text source.now.skip source.now.text) ≡ None }
+    ensures { IsOfNoTop file.now source.now result }
+{
+    match mpw_library::read_library(rt.alloc(), source.kept()) {
+        Ok(_) => {
+            let _ = tell_tops(rt, file, source.kept());
+            several_tops(rt.alloc(), file)
+        }
+        Err(ReadError::Fault(fault)) => {
+            library_fault(rt.alloc(), file, source.moved_fault(fault), source.text())
+        }
+        Err(ReadError::Memory) => FirmFault::Memory,
+    }
+}
+
+/// The name of the structure that is checked.
+fn top_of(rt: &HostRuntime, options: &Options, source: &Source<'_>) -> Result<Name, FirmFault>
+    ensures top { IfOk result (IsTopOf options.now.top (kept_text source.now.skip source.now.text)) }
+    ensures refused { IfErr result (IsOfNoTop (string_bytes options.now.file) source.now) }
+{
+    match &options.top {
+        Some(top) => Ok(top.copy()?),
+        None => match only_top(rt.alloc(), source.kept())? {
+            Some(top) => Ok(top),
+            None => Err(no_top(rt, options.file.as_str(), source)),
+        },
+    }
+}
+
+/// The structure of that name under a deck.
+fn drawn_at(
+    rt: &HostRuntime,
+    target: &Target<'_>,
+    deck: Deck,
+    source: &Source<'_>,
+) -> Result<Snapshot, FirmFault>
+    ensures drawn { IfOk result (IsDrawnFrom deck target.now.top.now (kept_text source.now.skip source.now.text)) }
+    ensures refused { IfErr result (IsOfSource target.now.file.now target.now.top.now source.now) }
+{
+    match read_layout(rt.alloc(), deck, target.top, source.kept()) {
+        Ok(layout) => Ok(layout),
+        Err(fault) => {
+            if is_of_top(&fault) {
+                let _ = tell_tops(rt, target.file, source.kept());
+            }
+            Err(refusal_of(rt, target, &source.moved(fault), source.text()))
+        }
+    }
+}
+
+/// The same, with its name.
+fn drawn_with(
+    rt: &HostRuntime,
+    file: &str,
+    top: Name,
+    deck: Deck,
+    source: &Source<'_>,
+) -> Result<Drawn, FirmFault>
+    ensures top { IfOk result (λ drawn. drawn.top ≡ top) }
+    ensures drawn { IfOk result (λ drawn. IsDrawnFrom deck top (kept_text source.now.skip source.now.text) drawn.layout) }
+    ensures refused { IfErr result (IsOfSource file.now top source.now) }
+{
+    let target = Target { file, top: &top };
+    match drawn_at(rt, &target, deck, source) {
+        Ok(layout) => Ok(Drawn { top, layout }),
+        Err(fault) => Err(fault),
+    }
+}
+
+/// The structure that is checked, under a deck. Where that isn't there, what nothing places is told on the standard error.
+///
+/// # Errors
+/// `Refused` where the library's text has a fault, or the structure can't be checked; and `Memory`.
+fn drawn_under(
+    rt: &HostRuntime,
+    options: &Options,
+    deck: Deck,
+    source: &Source<'_>,
+) -> Result<Drawn, FirmFault>
+    ensures drawn { IfOk result (IsDrawnBy options.now.top deck source.now) }
+    ensures refused { IfErr result (IsOfDrawing (string_bytes options.now.file) options.now.top source.now) }
+{
+    match top_of(rt, options, source) {
+        Ok(top) => drawn_with(rt, options.file.as_str(), top, deck, source),
+        Err(fault) => Err(fault),
+    }
+}
+
+/// The deck of a text, with that side of its tiles where there is one.
+fn deck_under(
+    alloc: Global,
+    options: &Options,
+    side: &Option<TileSide>,
+    text: &[u8],
+) -> Result<Deck, FirmFault>
+    ensures deck { IfOk result (IsDeckOf side.now text.now) }
+    ensures refused { IfErr result (IsOfDeck (string_bytes options.now.deck) text.now) }
+{
+    match deck_of(alloc, options.deck.as_str(), text) {
+        Ok(deck) => Ok(with_side(deck, side)?),
+        Err(fault) => Err(fault),
+    }
+}
+
+/// What is checked, of the texts of a deck and a library, with that side of the tiles where there is one.
+///
+/// # Errors
+/// `Refused` where the deck's text has a fault, and where it hasn't, as [`drawn_under`]; and `Memory`.
+pub fn drawn_of(
+    rt: &HostRuntime,
+    options: &Options,
+    side: &Option<TileSide>,
+    text: &[u8],
+    source: &Source<'_>,
+) -> Result<Drawn, FirmFault>
+    ensures drawn { IfOk result (IsDrawnOf options.now.top side.now text.now source.now) }
+    ensures refused { IfErr result (IsOfTexts options.now side.now text.now source.now) }
+{
+    match deck_under(rt.alloc(), options, side, text) {
+        Ok(deck) => drawn_under(rt, options, deck, source),
+        Err(fault) => Err(fault),
+    }
+}
+
+/// What is checked of the whole, of the files that the command line names. What is left out of the library is told on the standard
+/// error, and, where that is asked for, each fault of its elements.
+///
+/// # Errors
+/// A file that can't be read, a deck or a library with a fault, a structure that can't be checked, or want of memory.
+#[tactic(auto, using(crate::proofs::Flat::read_by))]
+pub fn drawn_by(rt: &HostRuntime, options: &Options, choices: &Choices) -> Result<Drawn, FirmFault>
+    ensures { IfOk result (λ drawn. (deck library : List ℕ) × IsReadBy options.now.top choices.now deck library drawn) }
+{
+    let text = read_file(rt, options.deck.as_str(), Content::Deck)?;
+    let library = read_library(rt, options.file.as_str())?;
+    let source = Source::new(rt.alloc(), choices.skip.as_slice(), library)?;
+    let _ = source.tell(rt, options.file.as_str());
+    match drawn_of(rt, options, &choices.tile, &text, &source) {
+        Ok(drawn) => Ok(drawn),
+        Err(fault) => {
+            if choices.faults {
+                let _ = tell_faults(rt, options.file.as_str(), &source);
+            }
+            Err(fault)
+        }
+    }
+}
