@@ -4,7 +4,8 @@
   examples/check.py            NAME.gds under NAME.deck by mpw check, for each NAME.markers and for each
                                NAME.fault, which is told on the standard error; what failed.awk
                                tells of NAME.txt with NAME.replies, for each NAME.failed; and what
-                               becomes of a check's outputs (outputs.py)
+                               becomes of a check's outputs (outputs.py), and of what it is given
+                               beside its files (choices.py)
   examples/check.py --desk     then also NAME.txt by mpw script, for each NAME.replies, and what
                                the commands tell of themselves (words.py)
 
@@ -17,6 +18,7 @@ import os
 import subprocess
 import sys
 
+import choices
 import outputs
 import words as told_words
 
@@ -87,7 +89,7 @@ def main(words):
     for kind, run in kinds:
         for path in sorted(glob.glob(os.path.join(HERE, f"*.{kind}"))):
             told.append(is_same(path, run))
-    cases = {**outputs.CASES, **(told_words.CASES if words else {})}
+    cases = {**outputs.CASES, **choices.CASES, **(told_words.CASES if words else {})}
     told += [is_as_expected(name, case) for name, case in cases.items()]
     return 0 if told and all(told) else 1
 

@@ -30,12 +30,14 @@ static COMMANDS: [Entry; 5] = [
     },
     Entry {
         word: "check",
-        form: "mpw check --deck DECK --top STRUCTURE FILE",
+        form: "mpw check --deck DECK [--top STRUCTURE] FILE",
         meaning: "checks a structure of a GDSII library by itself under a deck, and prints its \
-            markers as the request markers does; --report OUT and --picture OUT write them to \
-            files for KLayout and as SVG, --marker KEY draws what lies round one, --tiles TILES \
-            prints the part of some tiles for mpw stitch, and --strict refuses a check of which a \
-            rule looks at nothing",
+            markers as the request markers does; without --top the one that no other places; \
+            --report OUT and --picture OUT write them to files for KLayout and as SVG, --marker \
+            KEY draws what lies round one, --tile SIDE takes tiles of that side in place of the \
+            deck's, --tiles TILES prints the part of some tiles for mpw stitch, --skip-layers \
+            L/D,.. leaves out the elements on these layers, --faults tells the fault of each \
+            element, and --strict refuses a check of which a rule looks at nothing",
         detail: Detail::Command {
             statuses: "0 no markers; 1 markers; 2 the command line isn't one, an output is an input \
                 or another output, no marker has the key of --marker, or there aren't all the \

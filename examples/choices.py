@@ -1,0 +1,155 @@
+"""What a check is given beside its files: a side for the tiles, the structure where none is named, layers that are left out, and all faults.
+Each case gives what differs from what is expected, which is written here by hand: an element's bytes are laid out below, so where its
+records stand is known.
+"""
+import os
+import struct
+
+from outputs import CHECK, HERE, LISTING, Folder, differing
+
+ENDSTR = bytes([0, 4, 7, 0])
+UNNAMED = ["--deck", "bars.deck", "two-bars.gds"]
+
+
+def record(kind, data_type, data=b""):
+    return struct.pack(">HBB", 4 + len(data), kind, data_type) + data
+
+
+def boundary(layer, points):
+    """22 bytes stand before the points' data: BOUNDARY takes 4, LAYER and DATATYPE 6 each, and XY's head 4."""
+    data = b"".join(struct.pack(">ii", *point) for point in points)
+    return record(8, 0) + record(13, 2, struct.pack(">H", layer)) + record(14, 2, bytes(2)) + record(16, 3, data) + record(17, 0)
+
+
+def triangle(layer, x):
+    """An edge of it is at 45 degrees. It lies far from the two bars."""
+    return boundary(layer, [(x, 9000), (x + 90, 9000), (x + 90, 9090), (x, 9000)])
+
+
+def with_elements(text, elements):
+    """The library with further elements at the end of its last structure, and where these begin."""
+    place = text.rindex(ENDSTR)
+    return text[:place] + elements + text[place:], place
+
+
+def summary_left_out(lines):
+    return [line for line in lines if " tiles, " not in line and not line.startswith("times: ")]
+
+
+def by_sides():
+    """The pad ring's markers are those of its own deck by each side."""
+    differ = []
+    with open(os.path.join(HERE, "pad-ring.markers"), "rb") as file:
+        markers = file.read()
+    for side in (6157, 20000, 1 << 30):
+        with Folder() as folder:
+            words = ["check", "--deck", os.path.join(HERE, "pad-ring.deck"), "--tile", str(side), os.path.join(HERE, "pad-ring.gds")]
+            status, printed, _ = folder.run(*words)
+            differ += differing({"status": status, "printed": printed}, {"status": 1, "printed": markers})
+    return differ
+
+
+def is_no_side(word):
+    with Folder() as folder:
+        status, printed, told = folder.run(*CHECK, "--tile", word, "two-bars.gds")
+        sentence = "error: --tile takes the side of the tiles in nm, from 256 to 1073741824"
+        return differing({"status": status, "printed": printed, "told": told}, {"status": 2, "printed": b"", "told": [sentence]})
+
+
+def is_part_alone(words, sentence):
+    with Folder() as folder:
+        status, printed, told = folder.run(*CHECK, "--tiles", "1/1", *words, "two-bars.gds")
+        return differing({"status": status, "printed": printed, "told": told}, {"status": 2, "printed": b"", "told": [sentence]})
+
+
+def is_only_top():
+    with Folder() as folder:
+        status, printed, told = folder.run("check", *UNNAMED)
+        found = {"status": status, "printed": printed, "told": summary_left_out(told)}
+        return differing(found, {"status": 1, "printed": LISTING, "told": []})
+
+
+def are_several_tops():
+    """A second structure, OTHER, that nothing places."""
+    with Folder() as folder:
+        text = folder.read("two-bars.gds")
+        place = text.rindex(record(4, 0))
+        other = record(5, 2, bytes(24)) + record(6, 6, b"OTHER\0") + ENDSTR
+        folder.write("two-bars.gds", text[:place] + other + text[place:])
+        status, printed, told = folder.run("check", *UNNAMED)
+        lines = [
+            "note: two-bars.gds: structures that nothing places: TOP OTHER",
+            "error: two-bars.gds: not just one structure is placed by no other: name the one to check with --top",
+        ]
+        return differing({"status": status, "printed": printed, "told": told}, {"status": 4, "printed": b"", "told": lines})
+
+
+def has_times():
+    """The parts of a check are told behind the summary, in their order, each with whole ms."""
+    with Folder() as folder:
+        _, _, told = folder.run(*CHECK, "two-bars.gds")
+        parts = [part.split() for part in told[-1].removeprefix("times: ").split(", ")]
+        found = {"names": [part[0] for part in parts], "units": {part[2] for part in parts}, "numbers": all(part[1].isdigit() for part in parts)}
+        return differing(found, {"names": ["read", "cut", "check", "stitch", "write"], "units": {"ms"}, "numbers": True})
+
+
+LEFT_OUT = (
+    "note: two-bars.gds: elements left out, on skipped layers: 1; the desk reads them, and refuses the file as it stands where one of them has a"
+    " fault"
+)
+SLANTED = (
+    "an edge is neither horizontal nor vertical, as one at 45 degrees: only such edges are checked; draw it in steps, or export without that shape"
+)
+
+
+def of_elements(elements, words, status, printed, told):
+    """What comes of a library with these elements besides; told is a function of where they begin."""
+    with Folder() as folder:
+        text, place = with_elements(folder.read("two-bars.gds"), elements)
+        folder.write("two-bars.gds", text)
+        ended = folder.run(*CHECK, *words, "two-bars.gds")
+        found = {"status": ended[0], "printed": ended[1], "told": summary_left_out(ended[2])}
+        return differing(found, {"status": status, "printed": printed, "told": told(place)})
+
+
+def slanted(at):
+    return f"error: two-bars.gds: notmanhattan at byte {at} in TOP: {SLANTED}"
+
+
+def fault(at, layer, x):
+    return f"fault: two-bars.gds: notmanhattan at byte {at} in TOP, layer {layer}/0, at {x},9000"
+
+
+# A triangle's XY begins 16 bytes behind its front, and it has 56 bytes: 4, 6, 6, 4 and 32 of four points, and 4.
+ONE = triangle(5, 0)
+TWO = triangle(5, 0) + boundary(1, [(0, 5000), (90, 5000), (90, 5090), (0, 5090), (0, 5000)]) + triangle(6, 300)
+# The square between them has five points: 64 bytes.
+BEHIND = 56 + 64 + 16
+
+CASES = {
+    "tiles of other sides": by_sides,
+    "a side that is too small": lambda: is_no_side("255"),
+    "a side that is no number": lambda: is_no_side("1e3"),
+    "a part with a side": lambda: is_part_alone(["--tile", "300"], "error: a part has the deck's tiles: --tile is for a check of all"),
+    "a part without layers": lambda: is_part_alone(
+        ["--skip-layers", "5/0"], "error: a part is of the whole library: --skip-layers is for a check of all tiles"
+    ),
+    "a structure that isn't named": is_only_top,
+    "structures of which none is named": are_several_tops,
+    "the times of a check's parts": has_times,
+    "an element with a fault": lambda: of_elements(ONE, [], 4, b"", lambda at: [slanted(at + 16)]),
+    "an element with a fault, left out": lambda: of_elements(ONE, ["--skip-layers", "5/0"], 1, LISTING, lambda at: [LEFT_OUT]),
+    "an element on another layer than those left out": lambda: of_elements(
+        ONE, ["--skip-layers", "5/1,4/0"], 4, b"", lambda at: [LEFT_OUT.replace(": 1;", ": 0;"), slanted(at + 16)]
+    ),
+    "a fault behind an element that is left out": lambda: of_elements(
+        TWO, ["--skip-layers", "5/0"], 4, b"", lambda at: [LEFT_OUT, slanted(at + BEHIND)]
+    ),
+    "all faults": lambda: of_elements(
+        TWO, ["--faults"], 4, b"", lambda at: [fault(at + 16, 5, 0), fault(at + BEHIND, 6, 300), slanted(at + 16)]
+    ),
+    "all faults behind an element that is left out": lambda: of_elements(
+        TWO, ["--faults", "--skip-layers", "5/0"], 4, b"", lambda at: [LEFT_OUT, fault(at + BEHIND, 6, 300), slanted(at + BEHIND)]
+    ),
+    "all faults of a library without one": lambda: of_elements(b"", ["--faults"], 1, LISTING, lambda at: []),
+}
