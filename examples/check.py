@@ -7,7 +7,7 @@
                                becomes of a check's outputs (outputs.py), and of what it is given
                                beside its files (choices.py)
   examples/check.py --desk     then also NAME.txt by mpw script, for each NAME.replies, and what
-                               the commands tell of themselves (words.py)
+                               the commands tell of themselves (words.py) and keep in a store (stores.py)
 
 The exit status is 0 where all are the same, else 1. A program that isn't built is proved and built
 first.
@@ -20,6 +20,7 @@ import sys
 
 import choices
 import outputs
+import stores
 import words as told_words
 
 HERE = os.path.dirname(os.path.abspath(__file__))
@@ -89,7 +90,7 @@ def main(words):
     for kind, run in kinds:
         for path in sorted(glob.glob(os.path.join(HERE, f"*.{kind}"))):
             told.append(is_same(path, run))
-    cases = {**outputs.CASES, **choices.CASES, **(told_words.CASES if words else {})}
+    cases = {**outputs.CASES, **choices.CASES, **({**told_words.CASES, **stores.CASES} if words else {})}
     told += [is_as_expected(name, case) for name, case in cases.items()]
     return 0 if told and all(told) else 1
 

@@ -5,7 +5,7 @@ import os
 import subprocess
 
 MPW = os.path.join(os.path.dirname(os.path.dirname(os.path.abspath(__file__))), "mpw")
-COMMANDS = ["mpw script", "mpw serve", "mpw check", "mpw stitch", "mpw help"]
+COMMANDS = ["mpw script", "mpw serve", "mpw check", "mpw stitch", "mpw trail", "mpw store", "mpw help"]
 
 
 def run(*words):

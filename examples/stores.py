@@ -1,0 +1,139 @@
+"""What a desk over a store keeps, and what becomes of files that are none: each case runs the program in a folder of its own and gives what
+differs from what is expected, which is written here by hand.
+"""
+import os
+import shutil
+import signal
+import sqlite3
+import subprocess
+import tempfile
+
+HERE = os.path.dirname(os.path.abspath(__file__))
+MPW = os.path.join(os.path.dirname(HERE), "mpw")
+DIGEST = "ba7816bf8f01cfea414140de5dae2223b00361a396177a9cb410ff61f20015ad"
+SCRIPT = ["script", "--officer", "root", "--digest", DIGEST, "--store"]
+ASKED = ["open root abc", "activate officer", "adduser ann abc", "addrole alpha", "assign ann alpha", "grant read pad alpha", "close", "open ann abc", "activate alpha"]
+ROWS = ["place,connection,kind,line"] + [f"{place},1,request,{line.replace(' abc', ' ' + DIGEST)}" for place, line in enumerate(ASKED, 1)]
+GONE = "10,1,gone,"
+
+
+class Folder:
+    """A folder for stores."""
+
+    def __init__(self):
+        self.path = tempfile.mkdtemp(prefix="mpw-stores-")
+
+    def __enter__(self):
+        return self
+
+    def __exit__(self, *_):
+        shutil.rmtree(self.path)
+
+    def file(self, name):
+        return os.path.join(self.path, name)
+
+    def names(self):
+        return sorted(os.listdir(self.path))
+
+    def run(self, *words, lines=()):
+        """The status, the lines that were printed, and those of the standard error."""
+        text = "".join(f"{line}\n" for line in lines)
+        ended = subprocess.run([MPW, *words], cwd=self.path, input=text, text=True, capture_output=True)
+        return ended.returncode, ended.stdout.splitlines(), ended.stderr.splitlines()
+
+    def begin(self, lines):
+        """A script that goes on after these lines, each of which was answered with a line."""
+        process = subprocess.Popen([MPW, *SCRIPT, "desk.db"], cwd=self.path, text=True, stdin=subprocess.PIPE, stdout=subprocess.PIPE)
+        for line in lines:
+            process.stdin.write(f"{line}\n")
+            process.stdin.flush()
+            assert process.stdout.readline() == "OK 0\n", line
+        return process
+
+
+def differing(what, found, expected):
+    """What is found, where it isn't what is expected."""
+    return [] if found == expected else [f"{what}: {found!r}, expected {expected!r}"]
+
+
+def kept():
+    """A session's changes are kept; the desk goes on from them, with connections of greater numbers."""
+    with Folder() as folder:
+        found = differing("the first session", folder.run(*SCRIPT, "desk.db", lines=ASKED), (0, ["OK 0"] * 9, []))
+        found += differing("its files", folder.names(), ["desk.db"])
+        found += differing("its mode", os.stat(folder.file("desk.db")).st_mode & 0o777, 0o600)
+        found += differing("its rows", folder.run("trail", "desk.db"), (0, [*ROWS, GONE], []))
+        found += differing("its soundness", folder.run("store", "check", "desk.db")[0], 0)
+        again = ["whoami", "open ann abc", "whoami"]
+        replies = ["DENIED session", "OK 0", "OK 2", "user ann", "authorized alpha"]
+        found += differing("the desk that goes on", folder.run(*SCRIPT, "desk.db", lines=again), (0, replies, []))
+        more = [f"11,2,request,open ann {DIGEST}", "12,2,gone,"]
+        return found + differing("the rows then", folder.run("trail", "desk.db"), (0, [*ROWS, GONE, *more], []))
+
+
+def killed():
+    """What was answered before a kill is kept, and the end of its connection is stored when the desk goes on, once."""
+    with Folder() as folder:
+        process = folder.begin(ASKED)
+        found = differing("a second process", folder.run(*SCRIPT, "desk.db")[0], 3)
+        process.send_signal(signal.SIGKILL)
+        process.communicate()
+        for what in ("the desk that goes on", "the same again"):
+            found += differing(what, folder.run(*SCRIPT, "desk.db"), (0, [], []))
+            found += differing(f"its rows, {what}", folder.run("trail", "desk.db"), (0, [*ROWS, GONE], []))
+        return found
+
+
+def refused(what, folder, words, name="desk.db"):
+    """The file is refused with status 3 and a sentence that has the words; nothing is answered, and no file is another than before."""
+    def contents():
+        files = [file for file in folder.names() if os.path.isfile(folder.file(file))]
+        return {file: open(folder.file(file), "rb").read() for file in files}
+
+    before = contents()
+    status, printed, told = folder.run(*SCRIPT, name, lines=["open root abc"])
+    found = differing(what, (status, printed, len(told)), (3, [], 1))
+    found += [f"{what}: told {line!r}, which has no {words!r}" for line in told if not (line.startswith("error: the store: ") and words in line)]
+    return found + differing(f"{what}: the files", contents(), before)
+
+
+def other_files():
+    """What is no store is refused, and stays as it is."""
+    with Folder() as folder:
+        with sqlite3.connect(folder.file("desk.db")) as other:
+            other.execute("create table notes(text)")
+        other.close()
+        found = refused("another database", folder, "another database")
+        os.mkdir(folder.file("below"))
+        found += refused("a folder", folder, "no regular file", "below")
+        found += refused("a folder that isn't there", folder, "can't be made", "nowhere/desk.db")
+        return found
+
+
+def two_names():
+    """A file with a second name is refused, since its log would lie beside one of them."""
+    with Folder() as folder:
+        folder.run(*SCRIPT, "desk.db", lines=ASKED)
+        os.link(folder.file("desk.db"), folder.file("second.db"))
+        return refused("two names", folder, "two names") + refused("the second name", folder, "two names", "second.db")
+
+
+def bad_rows():
+    """A row that is no change of the desk there is told by its place."""
+    with Folder() as folder:
+        folder.run(*SCRIPT, "desk.db", lines=ASKED)
+        with sqlite3.connect(folder.file("desk.db")) as store:
+            store.execute("insert into changes values (11, 2, 1, 'addrole x', null)")
+        store.close()
+        found = refused("a bad row", folder, "row 11 is no change")
+        another = [word.replace("root", "ann") for word in SCRIPT]
+        return found + differing("another officer", folder.run(*another, "desk.db")[0], 3)
+
+
+CASES = {
+    "a desk over a store": kept,
+    "a desk over a store that is killed": killed,
+    "files that are no store": other_files,
+    "a store with two names": two_names,
+    "a store with a bad row": bad_rows,
+}
