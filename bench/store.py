@@ -21,7 +21,7 @@ import tempfile
 import threading
 import time
 from collections import Counter
-from contextlib import suppress
+from contextlib import closing, suppress
 from typing import NamedTuple
 
 HERE = os.path.dirname(os.path.abspath(__file__))
@@ -69,10 +69,15 @@ def serve(store, text, **more):
 
 
 def rows_of(store):
-    """The rows of a store, as the database's own library reads a copy of it and of its log."""
+    """The rows of a store, as the database's own library reads a copy of it and of its log; none where the file was being made when the program was
+    killed."""
     with tempfile.TemporaryDirectory() as folder:
-        copy = copied(store, folder)
-        with sqlite3.connect(copy) as connection:
+        with closing(sqlite3.connect(copied(store, folder))) as connection:
+            try:
+                if not connection.execute("select count(*) from sqlite_schema").fetchone()[0]:
+                    return []
+            except sqlite3.DatabaseError:
+                return []
             found = connection.execute("select k, conn, kind, cast(line as blob), payload from changes order by k").fetchall()
     assert [row[0] for row in found] == list(range(1, len(found) + 1)), "places"
     return [Row(*row[1:]) for row in found]
@@ -259,14 +264,15 @@ def try_kill(number, folder, tally):
         connection = kept.reopen()
         start = list(kept.rows)
         answered = kept.answers(text, connection)
-        told, status = kill_at_some_time(store, text, chance.uniform(.02, .02 + .002 * len(answered)))
+        told, status = kill_at_some_time(store, text, chance.uniform(.003, .006 + .0002 * len(answered)))
         after = rows_of(store)
         if len(after) < len(start):
             # It was killed before it had stored the ends of the sessions.
             if told or after != start[:len(after)] or len(after) < len(before):
                 raise Difference("the ends of sessions")
         else:
-            tally["rows more"] += check_killed(start, after, answered, told)
+            more = check_killed(start, after, answered, told)
+            tally["rows more"] += more if status < 0 else 0
         tally["killed" if status < 0 else "ended"] += 1
         tally["rows"] += len(after)
         before = after
@@ -339,12 +345,12 @@ def refused():
         os.mkdir(place("folder"))
         with open(place("text"), "wb") as file:
             file.write(b"this is no database\n" * 100)
-        with sqlite3.connect(place("other.db")) as other:
+        with closing(sqlite3.connect(place("other.db"))) as other:
             other.execute("create table notes(text)")
         shutil.copyfile(place("desk.db"), place("linked.db"))
         os.link(place("linked.db"), place("second.db"))
         shutil.copyfile(place("desk.db"), place("bad.db"))
-        with sqlite3.connect(place("bad.db")) as bad:
+        with closing(sqlite3.connect(place("bad.db"))) as bad, bad:
             bad.execute("insert into changes values (3, 1, 1, 'addrole x', null)")
         cases = [("folder", "is no regular file"), ("text", ""), ("other.db", "another database"), ("second.db", "two names"),
                  ("bad.db", "row 3 is no change"), ("no/desk.db", "can't be made"), ("desk.db", None)]

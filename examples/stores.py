@@ -1,6 +1,7 @@
 """What a desk over a store keeps, and what becomes of files that are none: each case runs the program in a folder of its own and gives what
 differs from what is expected, which is written here by hand.
 """
+import hashlib
 import os
 import shutil
 import signal
@@ -60,7 +61,7 @@ def kept():
     """A session's changes are kept; the desk goes on from them, with connections of greater numbers."""
     with Folder() as folder:
         found = differing("the first session", folder.run(*SCRIPT, "desk.db", lines=ASKED), (0, ["OK 0"] * 9, []))
-        found += differing("its files", folder.names(), ["desk.db"])
+        found += differing("its files", folder.names(), ["desk.db", "desk.db-wal"])
         found += differing("its mode", os.stat(folder.file("desk.db")).st_mode & 0o777, 0o600)
         found += differing("its rows", folder.run("trail", "desk.db"), (0, [*ROWS, GONE], []))
         found += differing("its soundness", folder.run("store", "check", "desk.db")[0], 0)
@@ -85,16 +86,17 @@ def killed():
 
 
 def refused(what, folder, words, name="desk.db"):
-    """The file is refused with status 3 and a sentence that has the words; nothing is answered, and no file is another than before."""
-    def contents():
-        files = [file for file in folder.names() if os.path.isfile(folder.file(file))]
-        return {file: open(folder.file(file), "rb").read() for file in files}
+    """The file is refused with status 3 and a sentence that has the words; nothing is answered, and no file but a database's log is another than
+    before."""
+    def sums():
+        files = [file for file in folder.names() if os.path.isfile(folder.file(file)) and not file.endswith("-wal")]
+        return {file: hashlib.sha256(open(folder.file(file), "rb").read()).hexdigest() for file in files}
 
-    before = contents()
+    before = sums()
     status, printed, told = folder.run(*SCRIPT, name, lines=["open root abc"])
     found = differing(what, (status, printed, len(told)), (3, [], 1))
     found += [f"{what}: told {line!r}, which has no {words!r}" for line in told if not (line.startswith("error: the store: ") and words in line)]
-    return found + differing(f"{what}: the files", contents(), before)
+    return found + differing(f"{what}: the files", sums(), before)
 
 
 def other_files():
