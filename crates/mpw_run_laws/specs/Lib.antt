@@ -1,1 +1,5 @@
+pub mod Calls
+pub mod Finishing
+pub mod Restarts
+pub mod Right
 pub mod Windows

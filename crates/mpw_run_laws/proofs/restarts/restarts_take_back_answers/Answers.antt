@@ -1,0 +1,5 @@
+use Rattle.mpw_run_laws.proofs.RestartLemmas.{takes_back}
+use Rattle.mpw_run_laws.proofs.restarts.restarts_take_back_answers.Goals as goal
+
+pub returns : goal.returns
+returns c = takes_back

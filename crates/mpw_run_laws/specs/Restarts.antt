@@ -1,0 +1,54 @@
+-- What a restart leaves, and what it takes back.
+use Rattle.std.specs.Prelude.{◌≡◌, ℕ, Bool, false, Option, None, Some}
+use Rattle.mpw_rbac.specs.Policy.{Policy}
+use Rattle.mpw_job.specs.Jobs.{CutWindows, FoundMarkers}
+use Rattle.mpw_job.specs.declared.job.CutJob.{CutJob}
+use Rattle.mpw_job.specs.declared.job.Job.TheVariants as job
+use Rattle.mpw_run.specs.declared.phase.Phase.{Phase}
+use Rattle.mpw_run.specs.declared.phase.Phase.TheVariants.{Idle, Cutting, Checking, Finished}
+use Rattle.mpw_run.specs.declared.phase.RunReply.TheVariants as reply
+use Rattle.mpw_run.specs.Run.{Planned, Checks, answered}
+use Rattle.mpw_wafer.specs.Run.Checking.{markers}
+use Rattle.mpw_events.specs.declared.event.Event.TheVariants as event
+use Rattle.mpw_events.specs.declared.event.Response.TheVariants as response
+use Rattle.mpw_events.specs.Step.{State, response_of, after}
+use Rattle.mpw_run_laws.specs.Calls.{is_kept}
+
+-- What a run looks at that began and was not left.
+abbrev pub looked_at : Phase → Option Planned
+looked_at Idle = None
+looked_at (Cutting planned) = Some planned
+looked_at (Checking c) = Some c.planned
+looked_at (Finished f) = Some f.planned
+
+-- What a run looks at that is not finished.
+abbrev pub worked_on : Phase → Option Planned
+worked_on Idle = None
+worked_on (Cutting planned) = Some planned
+worked_on (Checking c) = Some c.planned
+worked_on (Finished f) = None
+
+-- The job of cutting what a run looks at.
+abbrev pub cutting : ℕ → Planned → CutJob
+cutting number planned = record { run = number; snapshot = planned.snapshot }
+
+-- The run keeps its number and what it looks at, and whoever asks is listed the same markers, with the waivers of before. No answer of a
+-- tile counts: none is kept, who calls for a job of a run that is not finished is handed the cut, and behind the windows no tile is
+-- answered.
+pub record TakesBack (state behind : State) : Type 0 where
+  pub number : behind.run.number ≡ state.run.number
+  pub looks_at : looked_at behind.run.phase ≡ looked_at state.run.phase
+  pub lists : (policy : Policy) (connection : ℕ)
+      → markers policy behind.run connection ≡ markers policy state.run connection
+  pub waivers : behind.waivers ≡ state.waivers
+  pub keeps_none : (answer : FoundMarkers) (kept : Bool)
+      → is_kept (response_of behind (event.Tile answer) kept) ≡ false
+  pub hands_out : (planned : Planned) (worker : ℕ) (kept : Bool)
+      → worked_on state.run.phase ≡ Some planned
+      → response_of behind (event.Take worker) kept
+      ≡ response.Run (reply.Taken (job.Cut (cutting state.run.number planned)))
+  pub begins_again : (answer : CutWindows) (kept : Bool) (c : Checks)
+      → (after behind (event.Cut answer) kept).run.phase ≡ Checking c → answered c.tiles ≡ 0
+
+abbrev pub RestartsTakeBack : Type 0
+RestartsTakeBack = (state : State) (kept : Bool) → TakesBack state (after state event.Restart kept)
