@@ -1,0 +1,200 @@
+-- The keys of runs that stand apart are those of the maximal runs of their places.
+use Rattle.std.proofs.Common.{◌≡◌, ℕ, ◌<◌, ◌+◌, ℤ, pos, ◌-ℤ◌, ◌≤ℤ◌, ◌<ℤ◌, List, [], ◌∷◌, ◌++◌, length, get_or, take, map, Option, Some, ◌⊎◌, inl, inr, subst, refl, sym, ap, ◌∙◌, arith, append_assoc}
+use Rattle.std.specs.Prelude.{◌↔◌, Contains, slice_get}
+use Rattle.std.proofs.lemmas.Int.{ints, by_lt_z}
+use Rattle.std.proofs.lemmas.List.{map_more}
+use Rattle.std.proofs.lemmas.List.Elements.{All-contains, Contains-append_left, Contains-append_right, Contains-append_cases}
+use Rattle.mpw_geom.specs.declared.plane.Box2.{Box2}
+use Rattle.mpw_deck.specs.declared.rule.Rule.{Rule}
+use Rattle.mpw_region.specs.declared.runs.Line.{Line}
+use Rattle.mpw_region.specs.declared.runs.Run.{Run}
+use Rattle.mpw_region.specs.Runs.{CoversPlace, IsFilled, StandsBefore, AreApart}
+use Rattle.mpw_region.proofs.Order.{line_before}
+use Rattle.mpw_region.proofs.Held.{held_map, map_held, one_or_before}
+use Rattle.mpw_region.proofs.Joins.{no_run}
+use Rattle.mpw_edges.specs.declared.run.Axis.{Axis}
+use Rattle.mpw_edges.specs.Pieces.{HasVerticalStep}
+use Rattle.mpw_markers.specs.declared.marker.Key.{Key}
+use Rattle.mpw_job.specs.Layers.{Coverage, first_squares, second_squares}
+use Rattle.mpw_columns.specs.Internal.Found.{IsRun, HasStepAt, IsFound, AddsRule, AddsFirst, key_of_run}
+
+-- ---- runs that stand apart
+
+-- two runs of one line are one, or apart
+alike : (runs : List Run) (r s : Run) → AreApart runs → Contains runs r → Contains runs s
+    → r.line ≡ s.line → (r ≡ s) ⊎ ((r.to <ℤ s.from) ⊎ (s.to <ℤ r.from))
+alike runs r s h p q e =
+    elim (one_or_before StandsBefore runs no_run r s h.ordered p q) [
+      | inl same ↦ inl same
+      | inr (inl before) ↦ inr (inl (apart r s before e))
+      | inr (inr behind) ↦ inr (inr (apart s r behind (sym e)))
+    ]
+  where
+    apart : (x y : Run) → StandsBefore x y → x.line ≡ y.line → x.to <ℤ y.from
+    apart x y (inl less) f = absurd (line_before x.line y.line less f)
+    apart x y (inr stands) f = stands.1
+
+-- the runs hold just the places of P
+abbrev pub HoldJust : List Run → (Line → ℤ → Type 0) → Type 0
+HoldJust runs P = (line : Line) (j : ℤ) → CoversPlace runs line j ↔ P line j
+
+pub run_is_maximal : (runs : List Run) (P : Line → ℤ → Type 0) (r : Run) → AreApart runs
+    → HoldJust runs P → Contains runs r → IsRun (P r.line) r.from r.to
+run_is_maximal runs P r h same c = record {
+  filled = filled;
+  rows = λ j l g. (same r.line j).0 (r, c, (refl, l, g));
+  below = λ p. below p;
+  above = λ p. above p;
+}
+  where
+    filled : r.from <ℤ r.to
+    filled = All-contains IsFilled runs r h.filled c
+
+    below : P r.line (r.from -ℤ pos 1) → ⊥
+    below p =
+        let s = (same r.line (r.from -ℤ pos 1)).1 p in
+        elim (alike runs r s.0 h c s.1 (sym s.2.0)) [
+          | inl e ↦ omega (arith, ints, ap (λ (x : Run). x.from) e, s.2.1)
+          | inr (inl left) ↦ omega (arith, ints, left, s.2.1, filled)
+          | inr (inr right) ↦ omega (arith, ints, right, s.2.2)
+        ]
+
+    above : P r.line r.to → ⊥
+    above p =
+        let s = (same r.line r.to).1 p in
+        elim (alike runs r s.0 h c s.1 (sym s.2.0)) [
+          | inl e ↦ omega (arith, ints, ap (λ (x : Run). x.to) e, s.2.2)
+          | inr (inl left) ↦ omega (arith, ints, left, s.2.1)
+          | inr (inr right) ↦ omega (arith, ints, right, filled, s.2.2)
+        ]
+
+same_run : (r s : Run) → s.line ≡ r.line → s.from ≡ r.from → s.to ≡ r.to → s ≡ r
+same_run r s e f g =
+    ap (λ (l : Line). let x : Run = record { line = l; from = s.from; to = s.to } in x) e
+    ∙ ap (λ (n : ℤ). let x : Run = record { line = r.line; from = n; to = s.to } in x) f
+    ∙ ap (λ (n : ℤ). let x : Run = record { line = r.line; from = r.from; to = n } in x) g
+
+pub maximal_is_run : (runs : List Run) (P : Line → ℤ → Type 0) (r : Run) → AreApart runs
+    → HoldJust runs P → IsRun (P r.line) r.from r.to → Contains runs r
+maximal_is_run runs P r h same m =
+    let s = (same r.line r.from).1 (m.rows r.from (omega (arith, ints)) m.filled) in
+    let first : s.0.from ≡ r.from = by_lt_z s.0.from r.from
+    (λ less. absurd (m.below ((same r.line (r.from -ℤ pos 1)).0
+    (s.0, s.1, (s.2.0, omega (arith, ints, less), omega (arith, ints, s.2.2))))))
+    (λ more. omega (arith, ints, more, s.2.1)) in
+    let last : s.0.to ≡ r.to = by_lt_z s.0.to r.to
+    (λ less. absurd (cut s.0 s.1 s.2.0 s.2.1 s.2.2 less))
+    (λ more. by_lt_z r.to s.0.to
+    (λ less. absurd (m.above ((same r.line r.to).0
+    (s.0, s.1, (s.2.0, omega (arith, ints, s.2.1, m.filled), less)))))
+    (λ no_more. omega (arith, ints, more, no_more))) in
+    subst (λ x. Contains runs x) (same_run r s.0 s.2.0 first last) s.1
+  where
+    cut : (s : Run) → Contains runs s → s.line ≡ r.line → s.from ≤ℤ r.from → r.from <ℤ s.to
+        → s.to <ℤ r.to → ⊥
+    cut s c e l g less =
+        let t = (same r.line s.to).1 (m.rows s.to (omega (arith, ints, g)) less) in
+        elim (alike runs s t.0 h c t.1 (e ∙ sym t.2.0)) [
+          | inl f ↦ omega (arith, ints, ap (λ (x : Run). x.to) f, t.2.2)
+          | inr (inl left) ↦ omega (arith, ints, left, t.2.1)
+          | inr (inr right) ↦ omega (arith, ints, right, l, g, t.2.2)
+        ]
+
+-- ---- keys
+
+abbrev run_at : Key → Run
+run_at k =
+    record { line = record { side = k.side; first = k.x1; second = k.x2 }; from = k.y0; to = k.y1 }
+
+same_key : (place : ℕ) (axis : Axis) (k : Key) → k.rule ≡ place → k.axis ≡ axis
+    → key_of_run place axis (run_at k) ≡ k
+same_key place axis k e f =
+    ap (λ (n : ℕ). key_of_run n axis (run_at k)) (sym e)
+    ∙ ap (λ (a : Axis). key_of_run k.rule a (run_at k)) (sym f)
+
+same_rule : (o : Option Rule) (a b : Rule) → o ≡ Some a → o ≡ Some b → a ≡ b
+same_rule o a b e f = cc
+
+abbrev pub RowsOf : Rule → Coverage → Box2 → Line → ℤ → Type 0
+RowsOf rule on core line j = HasVerticalStep rule (first_squares rule.check on)
+    (second_squares rule.check on) core line.side line.first line.second j
+
+pub rule_keys : (place : ℕ) (rules : List Rule) (axis : Axis) (on : Coverage) (core : Box2)
+    (rule : Rule) (runs : List Run) (old new : List Key) → slice_get rules place ≡ Some rule
+    → AreApart runs → HoldJust runs (RowsOf rule on core)
+    → new ≡ old ++ map (key_of_run place axis) runs
+    → AddsRule place rules axis on core old new
+rule_keys place rules axis on core rule runs old new at apart just is k =
+    subst (λ (ks : List Key). Contains ks k
+    ↔ (Contains old k ⊎ ((k.rule ≡ place) × IsFound rules axis on core k))) (sym is) (to, from)
+  where
+    to : Contains (old ++ map (key_of_run place axis) runs) k
+        → Contains old k ⊎ ((k.rule ≡ place) × IsFound rules axis on core k)
+    to c = elim (Contains-append_cases old (map (key_of_run place axis) runs) k c) [
+      | inl o ↦ inl o
+      | inr m ↦
+          let h = held_map (key_of_run place axis) runs no_run (λ q. q ≡ k) (k, m, refl) in
+          inr (subst (λ (q : Key). (q.rule ≡ place) × IsFound rules axis on core q) h.2 (
+            refl,
+            record {
+              rule = rule;
+              at = at;
+              on_axis = refl;
+              run = run_is_maximal runs (RowsOf rule on core) h.0 apart just h.1;
+            },
+          ))
+    ]
+
+    from : Contains old k ⊎ ((k.rule ≡ place) × IsFound rules axis on core k)
+        → Contains (old ++ map (key_of_run place axis) runs) k
+    from (inl o) = Contains-append_left old (map (key_of_run place axis) runs) k o
+    from (inr f) =
+        let same : f.1.rule ≡ rule = same_rule (slice_get rules place) f.1.rule rule
+        (ap (slice_get rules) (sym f.0) ∙ f.1.at) at in
+        let run = subst (λ (r : Rule). IsRun (HasStepAt r on core k) k.y0 k.y1) same f.1.run in
+        let there = maximal_is_run runs (RowsOf rule on core) (run_at k) apart just run in
+        let m = map_held (key_of_run place axis) runs (λ q. q ≡ k) (run_at k) there
+        (same_key place axis k f.0 f.1.on_axis) in
+        Contains-append_right old (map (key_of_run place axis) runs) k
+        (subst (λ (q : Key). Contains (map (key_of_run place axis) runs) q) m.2 m.1)
+
+-- ---- the keys of runs, one by one
+
+pub adds_one : (place : ℕ) (axis : Axis) (runs : List Run) (n : ℕ) (d : Run) (old new : List Key)
+    (k : Key) → n < length runs
+    → new ≡ old ++ map (key_of_run place axis) (take n runs)
+    → k ≡ key_of_run place axis (get_or runs n d)
+    → new ++ k ∷ [] ≡ old ++ map (key_of_run place axis) (take (n + 1) runs)
+adds_one place axis runs n d old new k lt e f =
+    ap (λ (ks : List Key). ks ++ k ∷ []) e
+    ∙ append_assoc old (map (key_of_run place axis) (take n runs)) (k ∷ [])
+    ∙ ap (λ (x : Key). old ++ (map (key_of_run place axis) (take n runs) ++ x ∷ [])) f
+    ∙ ap (λ (ks : List Key). old ++ ks) (sym (map_more (key_of_run place axis) runs n d lt))
+
+-- ---- rule by rule
+
+pub no_rules : (rules : List Rule) (axis : Axis) (on : Coverage) (core : Box2) (old : List Key)
+    → AddsFirst 0 rules axis on core old old
+no_rules rules axis on core old k =
+    (λ c. inl c, λ f. elim f [ inl c ↦ c | inr g ↦ absurd (omega (arith, g.0)) ])
+
+pub rule_more : (n : ℕ) (rules : List Rule) (axis : Axis) (on : Coverage) (core : Box2)
+    (old mid new : List Key) → AddsFirst n rules axis on core old mid
+    → AddsRule n rules axis on core mid new
+    → AddsFirst (n + 1) rules axis on core old new
+rule_more n rules axis on core old mid new f g k = (
+  λ c. elim ((g k).0 c) [
+    | inl m ↦ elim ((f k).0 m) [ inl o ↦ inl o | inr h ↦ inr (omega (arith, h.0), h.1) ]
+    | inr h ↦ inr (omega (arith, h.0), h.1)
+  ],
+  λ c. elim c [
+    | inl o ↦ (g k).1 (inl ((f k).1 (inl o)))
+    | inr h ↦ elim (cases_place k.rule n h.0) [
+      | inl less ↦ (g k).1 (inl ((f k).1 (inr (less, h.1))))
+      | inr same ↦ (g k).1 (inr (same, h.1))
+    ]
+  ],
+)
+  where
+    cases_place : (place n : ℕ) → place < n + 1 → (place < n) ⊎ (place ≡ n)
+    cases_place place n lt = grind arith

@@ -1,0 +1,16 @@
+pub mod Areas
+pub mod Keyed
+pub mod Agreeing
+pub mod Dividing
+pub mod Parted
+pub mod BandsLaid
+pub mod LayersHad
+pub mod Showing
+pub mod Windowed
+pub mod SeenSteps
+pub mod Covering
+pub mod Zipped
+pub mod Making
+pub mod Telling
+pub mod Looking
+pub mod Sorted

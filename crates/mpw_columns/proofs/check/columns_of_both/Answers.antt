@@ -1,0 +1,10 @@
+use Rattle.mpw_columns.proofs.check.columns_of_both.Goals as goal
+
+pub returns : goal.returns
+returns c = record {
+  upright = c.in_ok-columns.columns.items;
+  sideways = c.in_ok-sideways.sideways.items;
+  are = c.in_ok-append.ensures.items;
+  on_v = c.in_ok-columns.ensures;
+  on_h = c.in_ok-sideways.ensures;
+}

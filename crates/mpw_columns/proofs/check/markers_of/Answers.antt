@@ -1,0 +1,29 @@
+use Rattle.std.proofs.Common.{◌≡◌, ◌∙◌, ◌++◌, [], ◌∷◌, map, ap, sym, subst}
+use Rattle.std.specs.Prelude.{All}
+use Rattle.std.proofs.lemmas.List.{take_all, take_more, map_push}
+use Rattle.std.proofs.lemmas.List.Elements.{All-push}
+use Rattle.mpw_markers.specs.Markers.{key_of}
+use Rattle.mpw_markers.specs.declared.marker.Marker.{Marker}
+use Rattle.mpw_columns.proofs.check.markers_of.Goals as goal
+
+pub loop-key-preserved : goal.loop-key-preserved
+loop-key-preserved c =
+    let old = c.loop-key.markers.items in
+    let added = c.in_ok-push.ensures.items in
+    let Meets = λ (m : Marker). m.met ≡ 0 ∷ [] in
+    record {
+      keys = ap (map key_of) added ∙ map_push key_of old c.marker.result
+          ∙ (λ k. c.loop-key.invariant.keys k ++ c.marker.ensures.key k ∷ [])
+          ∙ sym (take_more c.args.keys.now c.loop-key.key-index _ c.loop-key-test.true);
+      mets = subst (All Meets) (sym added)
+          (All-push Meets old c.marker.result c.loop-key.invariant.mets
+          (c.marker.ensures.met ∙ c.in_ok-met.ensures));
+    }
+
+pub returns-clause-keys : goal.returns-clause-keys
+returns-clause-keys c =
+    c.loop-key.invariant.keys
+    ∙ take_all c.loop-key.key-index c.args.keys.now c.loop-key-test.false
+
+pub returns-clause-mets : goal.returns-clause-mets
+returns-clause-mets c = c.loop-key.invariant.mets

@@ -1,0 +1,10 @@
+use Rattle.std.proofs.Common.{◌≡◌, [], ◌∷◌, map, take}
+use Rattle.std.specs.Prelude.{All}
+use Rattle.mpw_markers.specs.Markers.{key_of}
+use Rattle.mpw_columns.proofs.check.markers_of.Given as goal
+
+abbrev pub invariant-loop-key : goal.invariant-loop-key
+invariant-loop-key l = record {
+  keys : map key_of l.markers.items ≡ take l.key-index l.keys;
+  mets : All (λ m. m.met ≡ 0 ∷ []) l.markers.items;
+}

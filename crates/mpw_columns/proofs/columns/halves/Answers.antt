@@ -1,0 +1,16 @@
+use Rattle.std.proofs.Common.{arith, refl}
+use Rattle.std.proofs.lemmas.Int.{ints}
+use Rattle.mpw_columns.proofs.columns.halves.Goals as goal
+
+pub returns : goal.returns
+returns c =
+    let low = c.middle-at.ensures.left in
+    let high = c.middle-at.ensures.right in record {
+      left_axis = refl;
+      right_axis = refl;
+      from_is = omega (arith, ints);
+      at = refl;
+      to_is = omega (arith, ints);
+      some_left = omega (arith, ints, low, high);
+      some_right = omega (arith, ints, low, high);
+    }

@@ -1,0 +1,5 @@
+use Rattle.mpw_columns.proofs.Agreeing.{window_along}
+use Rattle.mpw_columns.proofs.laws.window_decides_along.Goals as goal
+
+pub returns : goal.returns
+returns c = window_along

@@ -1,0 +1,18 @@
+use Rattle.std.proofs.Common.{◌∙◌, ◌++◌, map, ap}
+use Rattle.std.proofs.lemmas.List.{take_all}
+use Rattle.mpw_columns.specs.Internal.Found.{key_of_run}
+use Rattle.mpw_columns.proofs.Keyed.{adds_one}
+use Rattle.mpw_columns.proofs.leaf.add_keys.Goals as goal
+
+pub loop-run-preserved : goal.loop-run-preserved
+loop-run-preserved c =
+    rw c.in_ok-push.ensures.items
+    (adds_one c.args.place c.args.axis c.args.runs.now c.loop-run.run-index _
+    c.args.keys.now.items c.loop-run.keys.items c.key.result c.loop-run-test.true
+    c.loop-run.invariant c.key.ensures)
+
+pub returns : goal.returns
+returns c =
+    c.loop-run.invariant
+    ∙ ap (λ ys. c.args.keys.now.items ++ map (key_of_run c.args.place c.args.axis) ys)
+    (take_all c.loop-run.run-index c.args.runs.now c.loop-run-test.false)

@@ -1,0 +1,7 @@
+use Rattle.mpw_columns.specs.Internal.Bands.{banded_on}
+use Rattle.mpw_columns.specs.Internal.Found.{AddsFirst}
+use Rattle.mpw_columns.proofs.leaf.add_rules.Given as goal
+
+abbrev pub invariant-loop-place : goal.invariant-loop-place
+invariant-loop-place l = AddsFirst l.place l.look.rules.now l.look.axis (banded_on l.banded) l.core
+    l.initial.keys.items l.keys.items

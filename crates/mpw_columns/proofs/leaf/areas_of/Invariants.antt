@@ -1,0 +1,5 @@
+use Rattle.mpw_columns.proofs.Areas.{HaveSquares}
+use Rattle.mpw_columns.proofs.leaf.areas_of.Given as goal
+
+abbrev pub invariant-loop-rectangle : goal.invariant-loop-rectangle
+invariant-loop-rectangle l = HaveSquares l.rectangles l.layer l.rectangle-index l.areas.items

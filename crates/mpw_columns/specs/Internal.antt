@@ -1,0 +1,5 @@
+-- What private functions and proofs alone need: no public contract speaks of it.
+pub mod Bands
+pub mod Checked
+pub mod Found
+pub mod Listed

@@ -1,0 +1,123 @@
+-- The runs that a column finds, as keys; all is seen along the column's axis.
+use Rattle.std.specs.Prelude.{◌≡◌, ◌≤◌, ◌<◌, ◌^◌, ℕ, ℤ, pos, neg_ℤ, ◌-ℤ◌, ◌≤ℤ◌, ◌<ℤ◌, List, length, All, Contains, Some, slice_get, ◌⊎◌, ◌↔◌}
+use Rattle.mpw_geom.specs.declared.plane.Box2.{Box2}
+use Rattle.mpw_geom.specs.declared.plane.Layer.{Layer}
+use Rattle.mpw_deck.specs.declared.rule.Check.{Check}
+use Rattle.mpw_deck.specs.declared.rule.Check.TheVariants.{Width, Space, Separation, Enclosing}
+use Rattle.mpw_deck.specs.declared.rule.Rule.{Rule}
+use Rattle.mpw_edges.specs.declared.run.Axis.{Axis}
+use Rattle.mpw_edges.specs.Laws.{AreSameIn}
+use Rattle.mpw_edges.specs.Pieces.{HasVerticalStep}
+use Rattle.mpw_region.specs.declared.runs.Run.{Run}
+use Rattle.mpw_markers.specs.declared.marker.Key.{Key}
+use Rattle.mpw_job.specs.Layers.{Coverage, first_squares, second_squares}
+use Rattle.mpw_columns.specs.declared.column.Column.{Column}
+
+-- The rows from y0 to before y1 are a maximal run of rows that have P.
+pub record IsRun (P : ℤ → Type 0) (y0 y1 : ℤ) : Type 0 where
+  pub filled : y0 <ℤ y1
+  pub rows : (j : ℤ) → y0 ≤ℤ j → j <ℤ y1 → P j
+  pub below : P (y0 -ℤ pos 1) → ⊥
+  pub above : P y1 → ⊥
+
+-- The row has a pair step of the rule in the core, on the key's line.
+abbrev pub HasStepAt : Rule → Coverage → Box2 → Key → ℤ → Type 0
+HasStepAt rule on core k j = HasVerticalStep rule (first_squares rule.check on)
+    (second_squares rule.check on) core k.side k.x1 k.x2 j
+
+-- The key is that of a maximal run of a rule of the list in the core.
+pub record IsFound (rules : List Rule) (axis : Axis) (on : Coverage) (core : Box2) (k : Key) :
+    Type 0 where
+  pub rule : Rule
+  pub at : slice_get rules k.rule ≡ Some rule
+  pub on_axis : k.axis ≡ axis
+  pub run : IsRun (HasStepAt rule on core k) k.y0 k.y1
+
+-- To the keys were added those that are found, and no others; of those of the first n rules alone.
+abbrev pub AddsFound : List Rule → Axis → Coverage → Box2 → (old new : List Key) → Type 0
+AddsFound rules axis on core old new =
+    (k : Key) → Contains new k ↔ (Contains old k ⊎ IsFound rules axis on core k)
+
+abbrev pub AddsFirst : ℕ → List Rule → Axis → Coverage → Box2 → (old new : List Key) → Type 0
+AddsFirst n rules axis on core old new = (k : Key)
+    → Contains new k ↔ (Contains old k ⊎ ((k.rule < n) × IsFound rules axis on core k))
+
+-- Those of the rule at a place.
+abbrev pub AddsRule : ℕ → List Rule → Axis → Coverage → Box2 → (old new : List Key) → Type 0
+AddsRule place rules axis on core old new = (k : Key)
+    → Contains new k ↔ (Contains old k ⊎ ((k.rule ≡ place) × IsFound rules axis on core k))
+
+-- The key of a run of the rule at that place.
+abbrev pub key_of_run : ℕ → Axis → Run → Key
+key_of_run place axis r = record {
+  rule = place;
+  axis = axis;
+  side = r.line.side;
+  x1 = r.line.first;
+  x2 = r.line.second;
+  y0 = r.from;
+  y1 = r.to;
+}
+
+-- The layers that the check looks at are among these.
+abbrev pub HasLayers : List Layer → Check → Type 0
+HasLayers layers (Width layer) = Contains layers layer
+HasLayers layers (Space layer) = Contains layers layer
+HasLayers layers (Separation first second) = Contains layers first × Contains layers second
+HasLayers layers (Enclosing outer inner) = Contains layers outer × Contains layers inner
+
+-- What is looked for: at most 256 rules, with their layers, and a distance that is no less than any of theirs.
+pub record IsLook (rules : List Rule) (layers : List Layer) (distance : ℕ) : Type 0 where
+  pub few : length rules ≤ 256
+  pub near : All (λ rule. rule.distance ≤ distance) rules
+  pub layered : All (λ rule. HasLayers layers rule.check) rules
+
+-- On these layers the two have the same squares in the window.
+abbrev pub AgreeIn : List Layer → Box2 → Coverage → Coverage → Type 0
+AgreeIn layers window on other =
+    (layer : Layer) → Contains layers layer → AreSameIn window (on layer) (other layer)
+
+-- On all layers.
+abbrev pub AgreeAll : Box2 → Coverage → Coverage → Type 0
+AgreeAll window on other = (layer : Layer) → AreSameIn window (on layer) (other layer)
+
+-- The core left and right of a place.
+abbrev pub left_of : Box2 → ℤ → Box2
+left_of core at = record { x0 = core.x0; y0 = core.y0; x1 = at; y1 = core.y1 }
+
+abbrev pub right_of : Box2 → ℤ → Box2
+right_of core at = record { x0 = at; y0 = core.y0; x1 = core.x1; y1 = core.y1 }
+
+-- A core that is seen along its axis: its first place is no later than the one behind its last, and none is far off.
+pub record IsUpright (core : Box2) : Type 0 where
+  pub ordered : core.x0 ≤ℤ core.x1
+  pub left : neg_ℤ (pos (2 ^ 40)) ≤ℤ core.x0
+  pub right : core.x1 ≤ℤ pos (2 ^ 40)
+  pub bottom : neg_ℤ (pos (2 ^ 40)) ≤ℤ core.y0
+  pub top : core.y1 ≤ℤ pos (2 ^ 40)
+
+-- A column with some place, not far off.
+pub record IsStretch (c : Column) : Type 0 where
+  pub left : neg_ℤ (pos (2 ^ 40)) ≤ℤ c.from
+  pub some : c.from <ℤ c.to
+  pub right : c.to ≤ℤ pos (2 ^ 40)
+
+-- The rows of the box, and its columns, are not far off.
+pub record IsTall (b : Box2) : Type 0 where
+  pub bottom : neg_ℤ (pos (2 ^ 40)) ≤ℤ b.y0
+  pub top : b.y1 ≤ℤ pos (2 ^ 40)
+
+pub record IsWide (b : Box2) : Type 0 where
+  pub left : neg_ℤ (pos (2 ^ 40)) ≤ℤ b.x0
+  pub ordered : b.x0 ≤ℤ b.x1
+  pub right : b.x1 <ℤ pos (2 ^ 40)
+
+-- The two columns are the halves of the first.
+pub record AreHalvesOf (c left right : Column) : Type 0 where
+  pub left_axis : left.axis ≡ c.axis
+  pub right_axis : right.axis ≡ c.axis
+  pub from_is : left.from ≡ c.from
+  pub at : left.to ≡ right.from
+  pub to_is : right.to ≡ c.to
+  pub some_left : left.from <ℤ left.to
+  pub some_right : right.from <ℤ right.to

@@ -1,0 +1,56 @@
+-- Laws of columns.
+use Rattle.std.specs.Prelude.{◌≡◌, ◌≤◌, ◌+◌, ℕ, ℤ, ◌≤ℤ◌, ◌<ℤ◌, List, ◌++◌, Some, ◌↔◌}
+use Rattle.std.specs.List.{AllZip}
+use Rattle.mpw_geom.specs.declared.plane.Box2.{Box2}
+use Rattle.mpw_deck.specs.declared.rule.Rule.{Rule}
+use Rattle.mpw_edges.specs.declared.run.Axis.{Axis}
+use Rattle.mpw_edges.specs.declared.run.Axis.TheVariants.{V, H}
+use Rattle.mpw_edges.specs.Edges.{Squares}
+use Rattle.mpw_edges.specs.Laws.{AreSameIn}
+use Rattle.mpw_edges.specs.Pieces.{HasStep}
+use Rattle.mpw_tiles.specs.Snapshots.{Snapshot, shown, shown_extent}
+use Rattle.mpw_markers.specs.declared.marker.Key.{Key}
+use Rattle.mpw_markers.specs.declared.marker.Marker.{Marker}
+use Rattle.mpw_markers.specs.Laws.{steps_in}
+use Rattle.mpw_markers.specs.Stitched.{IsStitched}
+use Rattle.mpw_markers.specs.Whole.{IsMaximal}
+use Rattle.mpw_job.specs.Layers.{steps_of}
+use Rattle.mpw_job.specs.Layout.{shown_on, AreLayoutMarkers}
+use Rattle.mpw_columns.specs.declared.column.Column.{Column}
+use Rattle.mpw_columns.specs.Columns.{widened_along, AreColumnsOf}
+use Rattle.mpw_columns.specs.Markers.{is_in_column, AreColumnMarkers}
+
+-- Which pair steps of an axis lie in a half-open core depends on the squares of its window along that axis alone: the core, wider by the
+-- greatest distance and 1 across the edges, and no wider along them.
+abbrev pub WindowDecidesAlong : Type 0
+WindowDecidesAlong =
+    (rule : Rule) (greatest : ℕ) (a b a' b' : Squares) (core : Box2) (axis : Axis)
+    → rule.distance ≤ greatest
+    → AreSameIn (widened_along axis core (greatest + 1)) a a'
+    → AreSameIn (widened_along axis core (greatest + 1)) b b'
+    → (side : ℕ) (x1 x2 j : ℤ) → HasStep rule a b core axis side x1 x2 j
+    ↔ HasStep rule a' b' core axis side x1 x2 j
+
+-- The run of the key is one of the whole layout, on the column's axis, and its x1 lies in the column.
+pub record IsRunWithin (s : Snapshot) (c : Column) (k : Key) : Type 0 where
+  pub run : IsMaximal (steps_of s.deck.rules (shown_on (shown s))) k
+  pub on_axis : k.axis ≡ c.axis
+  pub left : c.from ≤ℤ k.x1
+  pub right : k.x1 <ℤ c.to
+
+-- The maximal runs of a column over all rows of the layout's extent are those of the whole layout on its axis whose x1 lies in it. So none
+-- goes on in another column.
+abbrev pub ColumnsHaveWholeRuns : Type 0
+ColumnsHaveWholeRuns =
+    (s : Snapshot) (extent : Box2) (c : Column) (k : Key) → shown_extent s ≡ Some extent
+    → IsMaximal (steps_in (steps_of s.deck.rules (shown_on (shown s))) (is_in_column extent c)) k
+    ↔ IsRunWithin s c k
+
+-- Where columns of both axes cover the extent, the book of their markers has just the markers of the flat layout.
+abbrev pub ColumnsMakeTheLayout : Type 0
+ColumnsMakeTheLayout =
+    (s : Snapshot) (extent : Box2) (upright across : List Column) (lists : List (List Marker))
+    (book : List Marker) → shown_extent s ≡ Some extent → AreColumnsOf V extent upright
+    → AreColumnsOf H extent across
+    → AllZip (AreColumnMarkers s extent) (upright ++ across) lists → IsStitched lists book
+    → AreLayoutMarkers s book

@@ -1,0 +1,5 @@
+pub mod Seen
+pub mod Columns
+pub mod Markers
+pub mod Laws
+pub mod Internal

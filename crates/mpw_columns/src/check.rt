@@ -1,0 +1,244 @@
+//! Checking by columns.
+
+ghost use Rattle.std.specs.Prelude.{◌≡◌, ◌+◌, ◌↔◌, ◌∷◌, [], Some, length, map, All, Contains, IfOk, true};
+ghost use Rattle.std.specs.List.{AllZip};
+ghost use Rattle.mpw_geom.specs.Plane.{IsOrdered};
+ghost use Rattle.mpw_hier.specs.Boxes.{is_box_near};
+ghost use Rattle.mpw_markers.specs.declared.marker.Key.{Key as KeyValue};
+ghost use Rattle.mpw_markers.specs.Markers.{key_of};
+ghost use Rattle.mpw_tiles.specs.Snapshots.{shown, shown_extent};
+ghost use Rattle.mpw_job.specs.Answers.{listed_on};
+ghost use Rattle.mpw_job.specs.Layout.{shown_on, AreLayoutMarkers};
+ghost use Rattle.mpw_columns.specs.Seen.{seen_box, seen_on};
+ghost use Rattle.mpw_columns.specs.Columns.{upright, across, AreColumnsOf};
+ghost use Rattle.mpw_columns.specs.Markers.{AreColumnMarkers};
+ghost use Rattle.mpw_columns.specs.Internal.Found.{IsFound, IsUpright, AgreeIn};
+ghost use Rattle.mpw_columns.specs.Internal.Checked.{IsLayout, AreColumnsOfBoth};
+
+use crate::column::Column;
+use crate::columns::{View, columns_of, upright, walk_within};
+use crate::divide::add_column;
+use crate::laws::columns_make_the_layout;
+use crate::list::{list_shapes, seen_box};
+use crate::look::{Look, layers_of};
+use crate::part::{parts_in, window_of};
+use mpw_edges::{Axis, test_decides_pair_steps};
+use mpw_geom::{Box2, Layer};
+use mpw_job::no_shapes_no_markers;
+use mpw_markers::{Book, Key, Marker, Met, TileMarkers, stitch};
+use mpw_tiles::{Rectangle, Snapshot, greatest_distance, squares_lie_in_boxes};
+use mpw_walk::shapes_come_from_the_shelf;
+use std::alloc::{AllocError, Global};
+
+/// Halvings of a column.
+const MAX_DEPTH: u32 = 60;
+
+/// How many shapes a column may show.
+const MAX_SHOWN: u32 = 1 << 16;
+
+/// What is checked: a layout with its extent, the layers that its deck's rules look at, and the greatest of their distances.
+#[derive(Clone, Copy)]
+pub(crate) struct Layout<'a> {
+    pub(crate) snapshot: &'a Snapshot,
+    pub(crate) extent: Box2,
+    pub(crate) layers: &'a [Layer],
+    pub(crate) distance: u32,
+}
+
+/// The layer's place among all layers.
+fn layer_code(layer: Layer) -> u64 {
+    u64::from(layer.layer) * 65536 + u64::from(layer.datatype)
+}
+
+/// The rectangles by layer. A sort of them.
+fn by_layer(rectangles: Vec<Rectangle>) -> Vec<Rectangle>
+    ensures { listed_on result.items ≡ listed_on rectangles.items }
+{
+    let mut rectangles = rectangles;
+    rectangles.sort_unstable_by_key(|r| layer_code(r.layer));
+    rectangles
+}
+
+/// The rectangles of the layout in the window of a core, by layer, as they are seen along the axis.
+fn rectangles_in(
+    alloc: Global,
+    layout: &Layout<'_>,
+    axis: Axis,
+    core: &Box2,
+) -> Result<Vec<Rectangle>, AllocError>
+    requires layout { IsLayout layout.now }
+    requires upright { IsUpright core.now }
+    ensures { IfOk result (λ v. AgreeIn layout.now.layers.now (across core.now (layout.now.distance + 1))
+        (seen_on axis (shown_on (shown layout.now.snapshot.now))) (listed_on v.items)) }
+{
+    squares_lie_in_boxes();
+    let mut walk = walk_within(layout.snapshot, axis, core, layout.distance);
+    let listed = list_shapes(alloc, layout.layers, axis, &mut walk)?;
+    let parts = parts_in(alloc, listed.as_slice(), &window_of(core, layout.distance))?;
+    Ok(by_layer(parts))
+}
+
+/// The keys of the maximal runs in a core that is seen along the axis.
+fn keys_in(
+    alloc: Global,
+    layout: &Layout<'_>,
+    axis: Axis,
+    core: &Box2,
+) -> Result<Vec<Key>, AllocError>
+    requires layout { IsLayout layout.now }
+    requires upright { IsUpright core.now }
+    ensures { IfOk result (λ v. (k : KeyValue) → Contains v.items k
+        ↔ IsFound layout.now.snapshot.now.deck.rules axis (seen_on axis (shown_on (shown layout.now.snapshot.now))) core.now k) }
+{
+    let rectangles = rectangles_in(alloc, layout, axis, core)?;
+    let look = Look {
+        rules: layout.snapshot.deck().rules().as_slice(),
+        layers: layout.layers,
+        axis,
+        distance: layout.distance,
+    };
+    let mut keys = Vec::new(alloc);
+    add_column(
+        alloc,
+        &mut keys,
+        &look,
+        rectangles.as_slice(),
+        core,
+        MAX_DEPTH,
+    )?;
+    Ok(keys)
+}
+
+/// The marker of this key, which meets these submissions.
+fn marker(key: &Key, met: Met) -> Marker
+    ensures key { key_of result ≡ key.now }
+    ensures met { result.met ≡ met }
+{
+    Marker {
+        rule: key.rule,
+        axis: key.axis,
+        side: key.side,
+        x1: key.x1,
+        x2: key.x2,
+        y0: key.y0,
+        y1: key.y1,
+        met,
+    }
+}
+
+/// The markers of these keys, each of which meets the first submission alone.
+fn markers_of(alloc: Global, keys: &[Key]) -> Result<Vec<Marker>, AllocError>
+    ensures keys { IfOk result (λ v. map key_of v.items ≡ keys.now) }
+    ensures mets { IfOk result (λ v. All (λ m. m.met ≡ 0 ∷ []) v.items) }
+{
+    let mut markers = Vec::with_capacity(alloc, keys.len())?;
+    for key in keys {
+        let met = Met::of(alloc, &[0])?;
+        markers.push(marker(key, met))?;
+    }
+    Ok(markers)
+}
+
+/// The markers of a column of the layout. What the walk within its window takes, the rectangles of what it gives, a sort of them, and
+/// what [`add_column`] takes. An error is want of memory.
+fn check_column(
+    alloc: Global,
+    layout: &Layout<'_>,
+    column: &Column,
+) -> Result<TileMarkers, AllocError>
+    requires layout { IsLayout layout.now }
+    requires upright { IsUpright (upright (seen_box column.now.axis layout.now.extent) column.now) }
+    ensures { IfOk result (AreColumnMarkers layout.now.snapshot.now layout.now.extent column.now) }
+{
+    test_decides_pair_steps();
+    shapes_come_from_the_shelf();
+    let core = upright(&seen_box(column.axis, &layout.extent), column);
+    let keys = keys_in(alloc, layout, column.axis, &core)?;
+    let markers = markers_of(alloc, keys.as_slice())?;
+    TileMarkers::from_vec(alloc, markers)
+}
+
+/// The markers of columns, a list for each.
+fn lists_of(
+    alloc: Global,
+    layout: &Layout<'_>,
+    columns: &[Column],
+) -> Result<Vec<TileMarkers>, AllocError>
+    requires layout { IsLayout layout.now }
+    requires upright { All (λ c. IsUpright (upright (seen_box c.axis layout.now.extent) c)) columns.now }
+    ensures { IfOk result (λ v. AllZip (AreColumnMarkers layout.now.snapshot.now layout.now.extent) columns.now v.items) }
+{
+    let mut lists = Vec::with_capacity(alloc, columns.len())?;
+    for column in columns {
+        lists.push(check_column(alloc, layout, column)?)?;
+    }
+    Ok(lists)
+}
+
+/// The columns of an axis.
+fn columns_along(alloc: Global, layout: &Layout<'_>, axis: Axis) -> Result<Vec<Column>, AllocError>
+    requires near { is_box_near layout.now.extent ≡ true }
+    requires ordered { IsOrdered layout.now.extent }
+    ensures { IfOk result (λ v. AreColumnsOf axis layout.now.extent v.items) }
+{
+    let seen = seen_box(axis, &layout.extent);
+    let view = View {
+        snapshot: layout.snapshot,
+        axis,
+        seen,
+        distance: layout.distance,
+        most: MAX_SHOWN,
+    };
+    columns_of(alloc, &view)
+}
+
+/// The columns of both axes, those of axis `V` first.
+fn columns_of_both(alloc: Global, layout: &Layout<'_>) -> Result<Vec<Column>, AllocError>
+    requires near { is_box_near layout.now.extent ≡ true }
+    requires ordered { IsOrdered layout.now.extent }
+    ensures { IfOk result (λ v. AreColumnsOfBoth layout.now.extent v.items) }
+{
+    let mut columns = columns_along(alloc, layout, Axis::V)?;
+    let mut sideways = columns_along(alloc, layout, Axis::H)?;
+    columns.append(&mut sideways)?;
+    Ok(columns)
+}
+
+/// The book of an extent's markers.
+fn check_extent(alloc: Global, snapshot: &Snapshot, extent: Box2) -> Result<Book, AllocError>
+    requires alone { length snapshot.now.shelf ≡ 1 }
+    requires extent { shown_extent snapshot.now ≡ Some extent }
+    requires near { is_box_near extent ≡ true }
+    requires ordered { IsOrdered extent }
+    ensures { IfOk result (AreLayoutMarkers snapshot.now) }
+{
+    columns_make_the_layout();
+    snapshot.is_snapshot();
+    let rules = snapshot.deck().rules().as_slice();
+    let layers = layers_of(alloc, rules)?;
+    let layout = Layout {
+        snapshot,
+        extent,
+        layers: layers.as_slice(),
+        distance: greatest_distance(rules),
+    };
+    let columns = columns_of_both(alloc, &layout)?;
+    let lists = lists_of(alloc, &layout, columns.as_slice())?;
+    stitch(alloc, lists.as_slice())
+}
+
+/// The markers of the flat layout of a snapshot's roots under its deck, in the order of their keys, where the shelf has one submission
+/// alone, which each marker then meets.
+///
+/// # Errors
+/// Want of memory.
+pub fn check_columns(alloc: Global, snapshot: &Snapshot) -> Result<Book, AllocError>
+    requires { length snapshot.now.shelf ≡ 1 }
+    ensures { IfOk result (AreLayoutMarkers snapshot.now) }
+{
+    no_shapes_no_markers();
+    match snapshot.extent() {
+        Some(extent) => check_extent(alloc, snapshot, extent),
+        None => Ok(Book::new()),
+    }
+}

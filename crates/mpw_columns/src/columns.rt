@@ -1,0 +1,167 @@
+//! The columns of a layout.
+//!
+//! The extent is halved across, again and again, until a column shows few shapes. Left comes before right, so the columns come in order.
+
+ghost use Rattle.std.specs.Prelude.{◌≡◌, ◌+◌, ◌≤ℤ◌, ◌<ℤ◌, ◌+ℤ◌, pos, ℤ, IfOk, IfSome, OnOk};
+ghost use Rattle.mpw_walk.specs.Turns.{given};
+ghost use Rattle.mpw_walk.specs.Window.{items_met};
+ghost use Rattle.mpw_tiles.specs.Snapshots.{shown};
+ghost use Rattle.mpw_columns.specs.Seen.{seen_box};
+ghost use Rattle.mpw_columns.specs.Columns.{upright, across, AreColumns};
+ghost use Rattle.mpw_columns.specs.Internal.Found.{IsUpright, IsStretch, IsTall, IsWide, AreHalvesOf};
+
+use crate::column::Column;
+use crate::list::seen_box;
+use crate::part::window_of;
+use mpw_edges::Axis;
+use mpw_geom::{Box2, Point};
+use mpw_tiles::Snapshot;
+use mpw_walk::Walk;
+use std::alloc::{AllocError, Global};
+
+/// Halvings of an extent.
+const MAX_DEPTH: u32 = 32;
+
+/// A layout with its extent as it is seen along an axis, how far windows reach beyond columns, and how many shapes a column may show.
+#[derive(Clone, Copy)]
+pub(crate) struct View<'a> {
+    pub(crate) snapshot: &'a Snapshot,
+    pub(crate) axis: Axis,
+    pub(crate) seen: Box2,
+    pub(crate) distance: u32,
+    pub(crate) most: u32,
+}
+
+/// The core of a column, seen along its axis, of an extent that is seen so too.
+pub(crate) fn upright(seen: &Box2, column: &Column) -> Box2
+    ensures { result ≡ upright seen.now column.now }
+{
+    Box2 {
+        x0: column.from,
+        y0: seen.y0,
+        x1: column.to,
+        y1: seen.y1,
+    }
+}
+
+/// The walk over the shapes whose boxes meet the window of a core that is seen along the axis.
+pub(crate) fn walk_within<'a>(
+    snapshot: &'a Snapshot,
+    axis: Axis,
+    core: &Box2,
+    distance: u32,
+) -> Walk<'a>
+    requires { IsUpright core.now }
+    ensures { given result.left ≡ items_met (seen_box axis (across core.now (distance + 1))) (shown snapshot.now) }
+{
+    snapshot.is_snapshot();
+    let window = seen_box(axis, &window_of(core, distance));
+    Walk::within(snapshot.shelf(), snapshot.roots(), window)
+}
+
+/// Whether more shapes than wanted meet the column's window. The walk ends behind so many.
+fn is_crowded(view: &View<'_>, column: &Column) -> bool
+    requires stretch { IsStretch column.now }
+    requires tall { IsTall view.now.seen }
+{
+    let core = upright(&view.seen, column);
+    let mut walk = walk_within(view.snapshot, view.axis, &core, view.distance);
+    for _ in 0..view.most {
+        if walk.next().is_none() {
+            return false;
+        }
+    }
+    walk.next().is_some()
+}
+
+/// A point in the middle of a column; its first place, where it has no other.
+fn middle(column: &Column) -> Point
+    requires { IsStretch column.now }
+    ensures left { column.now.from ≤ℤ result.x }
+    ensures right { result.x <ℤ column.now.to }
+{
+    Point {
+        x: column.from + (column.to - column.from) / 2,
+        y: 0,
+    }
+}
+
+/// The column left of its middle, and the one right of it; none where it has one place alone.
+fn halves(column: &Column) -> Option<(Column, Column)>
+    requires { IsStretch column.now }
+    ensures { IfSome result (λ h. AreHalvesOf column.now h.0 h.1) }
+{
+    let at = middle(column);
+    if at.x == column.from {
+        return None;
+    }
+    let left = Column {
+        axis: column.axis,
+        from: column.from,
+        to: at.x,
+    };
+    let right = Column {
+        axis: column.axis,
+        from: at.x,
+        to: column.to,
+    };
+    Some((left, right))
+}
+
+/// Adds a column behind others.
+fn add_one(columns: &mut Vec<Column>, column: &Column) -> Result<(), AllocError>
+    requires { column.now.from <ℤ column.now.to }
+    ensures { (low : ℤ) → AreColumns column.now.axis low column.now.from columns.old.items →
+        OnOk result (AreColumns column.now.axis low column.now.to columns.new.items) }
+{
+    columns.push(*column)?;
+    Ok(())
+}
+
+/// Adds the columns into which a column is halved, at most `depth` times. An error is want of memory.
+fn add_columns(
+    columns: &mut Vec<Column>,
+    view: &View<'_>,
+    column: &Column,
+    depth: u32,
+) -> Result<(), AllocError>
+    requires stretch { IsStretch column.now }
+    requires tall { IsTall view.now.seen }
+    ensures { (low : ℤ) → AreColumns column.now.axis low column.now.from columns.old.items →
+        OnOk result (AreColumns column.now.axis low column.now.to columns.new.items) }
+{
+    if depth == 0 || !is_crowded(view, column) {
+        return add_one(columns, column);
+    }
+    let Some((left, right)) = halves(column) else {
+        return add_one(columns, column);
+    };
+    add_columns(columns, view, &left, depth - 1)?;
+    add_columns(columns, view, &right, depth - 1)
+}
+
+/// The column of all places of an extent that is seen along the axis: one more than those of its squares, since edges stand at its end too.
+fn whole(axis: Axis, seen: &Box2) -> Column
+    requires { IsWide seen.now }
+    ensures axis { result.axis ≡ axis }
+    ensures from { result.from ≡ seen.now.x0 }
+    ensures to { result.to ≡ (seen.now.x1 +ℤ pos 1) }
+{
+    Column {
+        axis,
+        from: seen.x0,
+        to: seen.x1 + 1,
+    }
+}
+
+/// The columns of the view, each of which shows at most so many shapes in its window where that can be had by halving.
+pub(crate) fn columns_of(alloc: Global, view: &View<'_>) -> Result<Vec<Column>, AllocError>
+    requires wide { IsWide view.now.seen }
+    requires tall { IsTall view.now.seen }
+    ensures { IfOk result (λ v. AreColumns view.now.axis view.now.seen.x0 (view.now.seen.x1 +ℤ pos 1) v.items) }
+{
+    let whole = whole(view.axis, &view.seen);
+    let mut columns = Vec::new(alloc);
+    add_columns(&mut columns, view, &whole, MAX_DEPTH)?;
+    Ok(columns)
+}

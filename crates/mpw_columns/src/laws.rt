@@ -1,0 +1,31 @@
+//! Laws of the definitions alone. Each function calls at most the laws on which its own rests: its contract is the law.
+
+ghost use Rattle.mpw_columns.specs.Laws.{WindowDecidesAlong, ColumnsHaveWholeRuns, ColumnsMakeTheLayout};
+
+use mpw_edges::test_decides_pair_steps;
+use mpw_markers::stitched_is_whole;
+use mpw_tiles::squares_lie_in_boxes;
+
+/// Which pair steps of an axis lie in a half-open core depends on the squares of its window along that axis alone: wider than the core
+/// by the greatest distance plus 1 across the edges, and no wider along them.
+pub fn window_decides_along()
+    ensures { WindowDecidesAlong }
+{}
+
+/// The maximal runs of a column over all rows of the extent are those of the whole layout whose `x1` lies in it: none goes on in another
+/// column.
+pub fn columns_have_whole_runs()
+    ensures { ColumnsHaveWholeRuns }
+{
+    test_decides_pair_steps();
+    squares_lie_in_boxes();
+}
+
+/// Where columns of both axes cover the extent, the book of their markers is the flat layout's.
+pub fn columns_make_the_layout()
+    ensures { ColumnsMakeTheLayout }
+{
+    test_decides_pair_steps();
+    squares_lie_in_boxes();
+    stitched_is_whole();
+}
