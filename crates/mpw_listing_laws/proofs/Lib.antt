@@ -1,0 +1,5 @@
+pub mod Handled
+pub mod MarkerLines
+pub mod OneListing
+pub mod Places
+pub mod Reading
