@@ -14,3 +14,5 @@ pub mod Making
 pub mod Telling
 pub mod Looking
 pub mod Sorted
+pub mod Collected
+pub mod Following

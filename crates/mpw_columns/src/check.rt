@@ -28,21 +28,25 @@ use mpw_job::no_shapes_no_markers;
 use mpw_markers::{Book, Key, Marker, Met, TileMarkers, stitch};
 use mpw_tiles::{Rectangle, Snapshot, greatest_distance, squares_lie_in_boxes};
 use mpw_walk::shapes_come_from_the_shelf;
+use rayon::prelude::*;
 use std::alloc::{AllocError, Global};
+use std::thread::Threads;
 
 /// Halvings of a column.
 const MAX_DEPTH: u32 = 60;
 
-/// How many shapes a column may show.
-const MAX_SHOWN: u32 = 1 << 16;
+/// How many shapes a column may show: with the walks and rectangles of so many a thread stays within some ten megabytes.
+pub const MAX_SHOWN: u32 = 1 << 16;
 
-/// What is checked: a layout with its extent, the layers that its deck's rules look at, and the greatest of their distances.
+/// What is checked: a layout with its extent, the layers that its deck's rules look at, the greatest of their distances, and how many
+/// shapes a column may show.
 #[derive(Clone, Copy)]
 pub(crate) struct Layout<'a> {
     pub(crate) snapshot: &'a Snapshot,
     pub(crate) extent: Box2,
     pub(crate) layers: &'a [Layer],
     pub(crate) distance: u32,
+    pub(crate) most: u32,
 }
 
 /// The layer's place among all layers.
@@ -158,8 +162,9 @@ fn check_column(
     TileMarkers::from_vec(alloc, markers)
 }
 
-/// The markers of columns, a list for each.
+/// The markers of columns, a list for each, found in at most two threads for each processor.
 fn lists_of(
+    rt: &(impl Threads + Sync),
     alloc: Global,
     layout: &Layout<'_>,
     columns: &[Column],
@@ -168,11 +173,16 @@ fn lists_of(
     requires upright { All (λ c. IsUpright (upright (seen_box c.axis layout.now.extent) c)) columns.now }
     ensures { IfOk result (λ v. AllZip (AreColumnMarkers layout.now.snapshot.now layout.now.extent) columns.now v.items) }
 {
-    let mut lists = Vec::with_capacity(alloc, columns.len())?;
-    for column in columns {
-        lists.push(check_column(alloc, layout, column)?)?;
-    }
-    Ok(lists)
+    columns
+        .par_iter()
+        .with_min_len(1)
+        .map(
+            |column: &Column| -> Result<TileMarkers, AllocError>
+                requires { IsLayout layout.now × IsUpright (upright (seen_box column.now.axis layout.now.extent) column.now) }
+                ensures { IfOk result (AreColumnMarkers layout.entry.now.snapshot.now layout.entry.now.extent column.now) }
+            { check_column(alloc, layout, column) },
+        )
+        .collect::<Result<Vec<TileMarkers>, AllocError>>(rt, alloc)?
 }
 
 /// The columns of an axis.
@@ -187,7 +197,7 @@ fn columns_along(alloc: Global, layout: &Layout<'_>, axis: Axis) -> Result<Vec<C
         axis,
         seen,
         distance: layout.distance,
-        most: MAX_SHOWN,
+        most: layout.most,
     };
     columns_of(alloc, &view)
 }
@@ -205,7 +215,13 @@ fn columns_of_both(alloc: Global, layout: &Layout<'_>) -> Result<Vec<Column>, Al
 }
 
 /// The book of an extent's markers.
-fn check_extent(alloc: Global, snapshot: &Snapshot, extent: Box2) -> Result<Book, AllocError>
+fn check_extent(
+    rt: &(impl Threads + Sync),
+    alloc: Global,
+    snapshot: &Snapshot,
+    extent: Box2,
+    most: u32,
+) -> Result<Book, AllocError>
     requires alone { length snapshot.now.shelf ≡ 1 }
     requires extent { shown_extent snapshot.now ≡ Some extent }
     requires near { is_box_near extent ≡ true }
@@ -221,24 +237,36 @@ fn check_extent(alloc: Global, snapshot: &Snapshot, extent: Box2) -> Result<Book
         extent,
         layers: layers.as_slice(),
         distance: greatest_distance(rules),
+        most,
     };
     let columns = columns_of_both(alloc, &layout)?;
-    let lists = lists_of(alloc, &layout, columns.as_slice())?;
+    let lists = lists_of(rt, alloc, &layout, columns.as_slice())?;
     stitch(alloc, lists.as_slice())
 }
 
 /// The markers of the flat layout of a snapshot's roots under its deck, in the order of their keys, where the shelf has one submission
 /// alone, which each marker then meets.
 ///
+/// The extent is halved into columns of which each shows at most `most` shapes in its window, where halving can have that; with
+/// [`MAX_SHOWN`] a column fits some ten megabytes. In at most two threads for each processor, one walk a column gives the shapes whose
+/// boxes meet its window, and the rectangles of those on the rules' layers are listed; so what is held is the rectangles of as many columns
+/// as there are threads, and the markers. A column costs its walk, its rectangles, a sort of them by layer, a pass over them a halving, and
+/// the bands and pairs of each part.
+///
 /// # Errors
 /// Want of memory.
-pub fn check_columns(alloc: Global, snapshot: &Snapshot) -> Result<Book, AllocError>
+pub fn check_columns(
+    rt: &(impl Threads + Sync),
+    alloc: Global,
+    snapshot: &Snapshot,
+    most: u32,
+) -> Result<Book, AllocError>
     requires { length snapshot.now.shelf ≡ 1 }
     ensures { IfOk result (AreLayoutMarkers snapshot.now) }
 {
     no_shapes_no_markers();
     match snapshot.extent() {
-        Some(extent) => check_extent(alloc, snapshot, extent),
+        Some(extent) => check_extent(rt, alloc, snapshot, extent, most),
         None => Ok(Book::new()),
     }
 }

@@ -1,10 +1,21 @@
-//! A layout checked by columns.
+//! A layout checked by columns: half-open cores over all rows of its extent, for vertical edges, and over all columns of it, for
+//! horizontal ones.
+//!
+//! A pair step of row `j` asks of row `j` alone, so a column's window is wider than the column to the left and to the right, and no
+//! wider up or down ([`window_decides_along`]). What a column finds is whole, and no other column has it
+//! ([`columns_have_whole_runs`]): so no flat list is held, and only the rectangles of the columns at work are. [`check_columns`] takes a
+//! snapshot apart into columns, checks each by itself, and makes the book of what they find, which is the flat layout's
+//! ([`columns_make_the_layout`]).
+//!
+//! Within a column its halves are columns again (`divide`), down to leaves with few rectangles side by side, whose bands serve all
+//! rules (`leaf`). For horizontal edges all is seen with the coordinates exchanged, from where shapes are listed on (`list`).
 #![tactic(auto)]
 
 mod check;
 mod column;
 mod columns;
 mod divide;
+mod follow;
 mod laws;
 mod leaf;
 mod list;
@@ -12,6 +23,7 @@ mod load;
 mod look;
 mod part;
 
-pub use check::check_columns;
+pub use check::{MAX_SHOWN, check_columns};
 pub use column::Column;
+pub use follow::columns_follow_on;
 pub use laws::{columns_have_whole_runs, columns_make_the_layout, window_decides_along};

@@ -1,24 +1,22 @@
+-- Each list is that of the column at its place.
+use Rattle.std.proofs.Common.{ap, ◌∙◌, sym, subst}
+use Rattle.std.specs.List.{AllZip}
+use Rattle.std.proofs.lemmas.Result.{MatchResult-weaker}
+use Rattle.rayon.proofs.ToStd.{slice-AllZip}
 use Rattle.mpw_columns.specs.Markers.{AreColumnMarkers}
-use Rattle.mpw_columns.proofs.Zipped.{zip_more, zip_all}
+use Rattle.mpw_columns.proofs.Collected.{IsFor, all_zipped}
 use Rattle.mpw_columns.proofs.check.lists_of.Goals as goal
 
-pub loop-column-init : goal.loop-column-init
-loop-column-init c = rw c.in_ok-lists.ensures.items tt
-
-pub check_column-requires-clause-upright : goal.check_column-requires-clause-upright
-check_column-requires-clause-upright c =
-    c.requires.upright c.loop-column.column-index _ c.loop-column-test.true
-
-pub loop-column-preserved : goal.loop-column-preserved
-loop-column-preserved c =
-    let layout = c.args.layout.now in
-    zip_more (AreColumnMarkers layout.snapshot.now layout.extent) c.args.columns.now
-    c.loop-column.column-index _ c.loop-column.lists.items _ _ c.loop-column-test.true
-    c.loop-column.invariant c.in_ok-push.ensures.items c.in_ok-check_column.ensures
-
 pub returns : goal.returns
-returns c =
+returns g c =
     let layout = c.args.layout.now in
-    zip_all (AreColumnMarkers layout.snapshot.now layout.extent) c.args.columns.now
-    c.loop-column.column-index c.loop-column.lists.items c.loop-column-test.false
-    c.loop-column.invariant
+    let columns = c.args.columns.now in
+    let slice = ap (λ it. it.base.slice.now) c.map.ensures.base
+    ∙ ap (λ it. it.slice.now) c.with_min_len.ensures.base ∙ c.par_iter.ensures in
+    let Is = AreColumnMarkers layout.snapshot.now layout.extent in
+    let results = c.in_ok-collect.ensures.0 in
+    let chain = rw c.map.ensures.f at c.in_ok-collect.ensures.1 in
+    MatchResult-weaker c.in_ok-collect.field-0 c.in_ok-collect.ensures.2 (λ lists made.
+    subst (AllZip Is columns) (sym made.2)
+    (all_zipped _ Is columns results made.0 made.1
+    (slice-AllZip chain.0 columns (chain.1 ∙ slice) (IsFor _ Is) results chain.2))) (λ _ _. tt)

@@ -1,0 +1,31 @@
+-- The lists of columns that follow on one another.
+use Rattle.std.specs.Prelude.{◌≡◌, ℕ, ℤ, List, AllPairs, Contains, ◌↔◌}
+use Rattle.std.specs.List.{AllZip, flat_map}
+use Rattle.std.specs.Ordering.{int_cmp, ordering_then}
+use Rattle.std.specs.declared.cmp.Ordering.TheVariants.{Less}
+use Rattle.mpw_edges.specs.declared.run.Axis.{Axis}
+use Rattle.mpw_tiles.specs.Snapshots.{Snapshot}
+use Rattle.mpw_markers.specs.declared.marker.Key.{Key}
+use Rattle.mpw_columns.specs.declared.column.Column.{Column}
+use Rattle.mpw_columns.specs.Columns.{AreColumns}
+use Rattle.mpw_columns.specs.Laws.{IsRunWithin}
+
+-- Keys of one rule, axis and side in the order of a book: by x1, x2 and y0.
+abbrev pub ComesFirst : Key → Key → Type 0
+ComesFirst k l =
+    ordering_then (int_cmp k.x1 l.x1) (ordering_then (int_cmp k.x2 l.x2) (int_cmp k.y0 l.y0)) ≡ Less
+
+-- The keys are those of a rule's runs of that side whose x1 lies in the column, in order.
+pub record IsListFor (s : Snapshot) (rule side : ℕ) (c : Column) (keys : List Key) : Type 0 where
+  pub exact : (k : Key) → Contains keys k
+      ↔ ((k.rule ≡ rule) × (k.side ≡ side) × IsRunWithin s c k)
+  pub ordered : AllPairs ComesFirst keys
+
+-- The list of a rule, an axis and a side is that of its columns, one behind another, where the columns follow on one another.
+abbrev pub ColumnsFollowOn : Type 0
+ColumnsFollowOn =
+    (s : Snapshot) (rule side : ℕ) (axis : Axis) (low high : ℤ) (columns : List Column)
+    (lists : List (List Key)) → AreColumns axis low high columns
+    → AllZip (IsListFor s rule side) columns lists
+    → IsListFor s rule side (record { axis = axis; from = low; to = high })
+    (flat_map (λ list. list) lists)
