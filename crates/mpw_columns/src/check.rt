@@ -17,6 +17,7 @@ ghost use Rattle.mpw_columns.specs.Internal.Checked.{IsLayout, AreColumnsOfBoth}
 
 use crate::column::Column;
 use crate::columns::{View, columns_of, upright, walk_within};
+use crate::counts::Counts;
 use crate::divide::add_column;
 use crate::laws::columns_make_the_layout;
 use crate::list::{list_shapes, seen_box};
@@ -192,8 +193,9 @@ fn columns_along(alloc: Global, layout: &Layout<'_>, axis: Axis) -> Result<Vec<C
     ensures { IfOk result (λ v. AreColumnsOf axis layout.now.extent v.items) }
 {
     let seen = seen_box(axis, &layout.extent);
+    let counts = Counts::of(alloc, layout.snapshot, axis, &seen)?;
     let view = View {
-        snapshot: layout.snapshot,
+        counts: &counts,
         axis,
         seen,
         distance: layout.distance,

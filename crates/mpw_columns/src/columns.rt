@@ -8,9 +8,10 @@ ghost use Rattle.mpw_walk.specs.Window.{items_met};
 ghost use Rattle.mpw_tiles.specs.Snapshots.{shown};
 ghost use Rattle.mpw_columns.specs.Seen.{seen_box};
 ghost use Rattle.mpw_columns.specs.Columns.{upright, across, AreColumns};
-ghost use Rattle.mpw_columns.specs.Internal.Found.{IsUpright, IsStretch, IsTall, IsWide, AreHalvesOf};
+ghost use Rattle.mpw_columns.specs.Internal.Found.{IsUpright, IsStretch, IsWide, AreHalvesOf};
 
 use crate::column::Column;
+use crate::counts::Counts;
 use crate::list::seen_box;
 use crate::part::window_of;
 use mpw_edges::Axis;
@@ -22,10 +23,11 @@ use std::alloc::{AllocError, Global};
 /// Halvings of an extent.
 const MAX_DEPTH: u32 = 32;
 
-/// A layout with its extent as it is seen along an axis, how far windows reach beyond columns, and how many shapes a column may show.
+/// How many shapes a layout shows where, its extent as it is seen along an axis, how far windows reach beyond columns, and how many shapes
+/// a column may show.
 #[derive(Clone, Copy)]
 pub(crate) struct View<'a> {
-    pub(crate) snapshot: &'a Snapshot,
+    pub(crate) counts: &'a Counts,
     pub(crate) axis: Axis,
     pub(crate) seen: Box2,
     pub(crate) distance: u32,
@@ -59,21 +61,6 @@ pub(crate) fn walk_within<'a>(
     Walk::within(snapshot.shelf(), snapshot.roots(), window)
 }
 
-/// Whether more shapes than wanted meet the column's window. The walk ends behind so many.
-fn is_crowded(view: &View<'_>, column: &Column) -> bool
-    requires stretch { IsStretch column.now }
-    requires tall { IsTall view.now.seen }
-{
-    let core = upright(&view.seen, column);
-    let mut walk = walk_within(view.snapshot, view.axis, &core, view.distance);
-    for _ in 0..view.most {
-        if walk.next().is_none() {
-            return false;
-        }
-    }
-    walk.next().is_some()
-}
-
 /// A point in the middle of a column; its first place, where it has no other.
 fn middle(column: &Column) -> Point
     requires { IsStretch column.now }
@@ -84,6 +71,24 @@ fn middle(column: &Column) -> Point
         x: column.from + (column.to - column.from) / 2,
         y: 0,
     }
+}
+
+/// Whether the column shows more shapes than wanted, and its halves fewer together than one and a half times as many: of wires that go
+/// on over all columns halves would show as many again. None is narrower than four of the margins of its window.
+fn is_crowded(view: &View<'_>, column: &Column) -> bool
+    requires { IsStretch column.now }
+{
+    let width = column.from.abs_diff(column.to);
+    if width <= u64::from(view.distance).saturating_add(1).saturating_mul(4) {
+        return false;
+    }
+    let margin = i64::from(view.distance) + 1;
+    let at = middle(column);
+    let (from, to) = (column.from - margin, column.to + margin);
+    let shown = view.counts.shown(from, to);
+    let left = view.counts.shown(from, at.x + margin);
+    let right = view.counts.shown(at.x - margin, to);
+    shown > u64::from(view.most) && left.saturating_add(right) < shown.saturating_add(shown / 2)
 }
 
 /// The column left of its middle, and the one right of it; none where it has one place alone.
@@ -125,8 +130,7 @@ fn add_columns(
     column: &Column,
     depth: u32,
 ) -> Result<(), AllocError>
-    requires stretch { IsStretch column.now }
-    requires tall { IsTall view.now.seen }
+    requires { IsStretch column.now }
     ensures { (low : ℤ) → AreColumns column.now.axis low column.now.from columns.old.items →
         OnOk result (AreColumns column.now.axis low column.now.to columns.new.items) }
 {
@@ -156,8 +160,7 @@ fn whole(axis: Axis, seen: &Box2) -> Column
 
 /// The columns of the view, each of which shows at most so many shapes in its window where that can be had by halving.
 pub(crate) fn columns_of(alloc: Global, view: &View<'_>) -> Result<Vec<Column>, AllocError>
-    requires wide { IsWide view.now.seen }
-    requires tall { IsTall view.now.seen }
+    requires { IsWide view.now.seen }
     ensures { IfOk result (λ v. AreColumns view.now.axis view.now.seen.x0 (view.now.seen.x1 +ℤ pos 1) v.items) }
 {
     let whole = whole(view.axis, &view.seen);

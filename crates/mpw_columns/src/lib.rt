@@ -14,6 +14,7 @@
 mod check;
 mod column;
 mod columns;
+mod counts;
 mod divide;
 mod follow;
 mod laws;
