@@ -88,7 +88,8 @@ unkept_quiet call r told goes unkept = record {
   keeps_none = λ tile k. true≢false (sym k.kept ∙ kept_told call r told ∙ unkept);
 }
 
-pub keeps_tile : (call : Call) (answer : FoundMarkers) (r : RunReply) → call.event ≡ event.Tile answer
+pub keeps_tile : (call : Call) (answer : FoundMarkers) (r : RunReply)
+    → call.event ≡ event.Tile answer
     → call.response ≡ response.Run r → keeps r ≡ true → KeepsTile answer.job.tile call
 keeps_tile call answer r is told kept =
     record { answer = answer; is = is; of_tile = refl; kept = kept_told call r told ∙ kept }

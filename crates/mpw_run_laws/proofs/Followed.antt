@@ -113,7 +113,8 @@ holds_more done call answer c x is at h = λ j y g w.
     (tile_is k.answer answer (sym k.is ∙ is))))))
 
 holds_on : (done : List Call) (s : State) (call : Call) (s' : State) → Does s call s' → GoesOn call
-    → is_restart call.event ≡ false → Holds done s.run.phase → Holds (done ++ call ∷ []) s'.run.phase
+    → is_restart call.event ≡ false → Holds done s.run.phase
+    → Holds (done ++ call ∷ []) s'.run.phase
 holds_on done s call s' (Does.begun q began stood planned e) goes r h =
     absurd (true≢false (sym began ∙ goes.same))
 holds_on done s call s' (Does.left left not e) goes r h =

@@ -1,5 +1,5 @@
 -- What a restart leaves, and what it takes back.
-use Rattle.std.proofs.Common.{◌≡◌, ◌∙◌, ℕ, Bool, false, Option, Some, Ok, refl, sym, ap}
+use Rattle.std.proofs.Common.{◌≡◌, ◌∙◌, ℕ, Bool, true, false, Option, Some, Ok, refl, sym, ap, None}
 use Rattle.std.proofs.lemmas.Option.{none-some, same_Some}
 use Rattle.mpw_rbac.specs.Policy.{Policy}
 use Rattle.mpw_tiles.specs.Plan.{tiles}
@@ -21,7 +21,7 @@ use Rattle.mpw_events.specs.declared.event.Event.TheVariants as event
 use Rattle.mpw_events.specs.declared.event.Response.TheVariants as response
 use Rattle.mpw_events.specs.Step.{State, after, event_outcome, of_run, response_of, step}
 use Rattle.mpw_run_laws.specs.Calls.{is_kept}
-use Rattle.mpw_run_laws.specs.Restarts.{looked_at, worked_on, cutting, RestartsTakeBack}
+use Rattle.mpw_run_laws.specs.Restarts.{looked_at, worked_on, cutting, TakesBack, RestartsTakeBack, OnlyRestartsTakeBack}
 use Rattle.mpw_run_laws.proofs.Moves.{Cuts, Answered, takes, cuts, answers}
 use Rattle.mpw_run_laws.proofs.Calls.{Settled, settled, unfinished, taken_goes, cut_goes, run_of, told_of}
 use Rattle.mpw_run_laws.proofs.Counted.{kept_as}
@@ -60,7 +60,8 @@ unchecked (Checking d) c e = cc
 unchecked (Finished f) c e = cc
 
 lists_by : (policy : Policy) (a b : machine.Run) (connection : ℕ)
-    → findings a.phase ≡ findings b.phase → markers policy a connection ≡ markers policy b connection
+    → findings a.phase ≡ findings b.phase
+    → markers policy a connection ≡ markers policy b connection
 unfolding markers
 lists_by policy a b connection e = ap (λ (o : Option Checked).
     session_test policy connection >>= λ inside.
@@ -129,6 +130,7 @@ pub takes_back : RestartsTakeBack
 takes_back s kept = record {
   number = ap (λ (r : machine.Run). r.number) run_is;
   looks_at = ap looked_at phase_is ∙ looks_same s.run.phase;
+  finds = ap findings phase_is ∙ finds_same s.run.phase;
   lists = λ policy connection. lists_by policy behind.run s.run connection
       (ap findings phase_is ∙ finds_same s.run.phase);
   waivers = restart_keeps s kept;
@@ -151,3 +153,74 @@ takes_back s kept = record {
 
     none : (c : Checks) → behind.run.phase ≡ Checking c → ⊥
     none c e = unchecked s.run.phase c (sym phase_is ∙ e)
+
+-- ---- nothing else
+
+handed_no_cut : (r : machine.Run) (c : Checks) (number : ℕ) (planned : Planned)
+    (o : Option machine.Offer)
+    → response.Run (machine.handed r c o).reply
+    ≡ response.Run (reply.Taken (job.Cut (cutting number planned))) → ⊥
+handed_no_cut r c number planned None e = cc
+handed_no_cut r c number planned (Some offer) e = cc
+
+-- a call for a job that is handed the cut is of a run that is cutting
+cuts_only : (r : machine.Run) (number : ℕ) (planned : Planned) (phase : Phase)
+    → response.Run (machine.taken_in r phase).reply
+    ≡ response.Run (reply.Taken (job.Cut (cutting number planned)))
+    → (q : Planned) × (phase ≡ Cutting q)
+cuts_only r number planned Idle e = absurd cc
+cuts_only r number planned (Cutting q) e = (q, refl)
+cuts_only r number planned (Checking c) e =
+    absurd (handed_no_cut r c number planned (machine.next_from 0 c.tiles) e)
+cuts_only r number planned (Finished f) e = absurd cc
+
+taken_reply : (s : State) (worker : ℕ) (kept : Bool)
+    → response_of s (event.Take worker) kept ≡ response.Run (machine.taken s.run).reply
+unfolding event_outcome
+taken_reply s worker kept = told_of (unfinished s (event.Take worker) kept (machine.taken s.run)
+    refl (taken_goes s.run _ (takes s.run)))
+
+-- a run that is cut and looks at that
+cut_phase : (phase : Phase) (q planned : Planned) → phase ≡ Cutting q
+    → looked_at phase ≡ Some planned → phase ≡ Cutting planned
+cut_phase phase q planned e looks =
+    e ∙ ap Cutting (same_Some q planned (ap looked_at (sym e) ∙ looks))
+
+idle_phase : (phase : Phase) → looked_at phase ≡ None → phase ≡ Idle
+idle_phase Idle e = refl
+idle_phase (Cutting planned) e = absurd (none-some planned (sym e))
+idle_phase (Checking c) e = absurd (none-some c.planned (sym e))
+idle_phase (Finished f) e = absurd (none-some f.planned (sym e))
+
+done_phase : (phase : Phase) (f : Checked) → findings phase ≡ Some f → phase ≡ Finished f
+done_phase Idle f e = absurd (none-some f e)
+done_phase (Cutting planned) f e = absurd (none-some f e)
+done_phase (Checking c) f e = absurd (none-some f e)
+done_phase (Finished g) f e = ap Finished (same_Some g f e)
+
+cut_behind : (state behind : State) (planned : Planned) → TakesBack state behind
+    → worked_on state.run.phase ≡ Some planned → looked_at state.run.phase ≡ Some planned
+    → behind.run.phase ≡ Cutting planned
+cut_behind state behind planned t works looks =
+    let q = cuts_only behind.run state.run.number planned behind.run.phase
+    (sym (taken_reply behind 0 true) ∙ t.hands_out planned 0 true works) in
+    cut_phase behind.run.phase q.0 planned q.1 (t.looks_at ∙ looks)
+
+phase_behind : (state behind : State) (phase : Phase) → state.run.phase ≡ phase
+    → TakesBack state behind → behind.run.phase ≡ restarted_phase phase
+phase_behind state behind Idle e t =
+    idle_phase behind.run.phase (t.looks_at ∙ ap looked_at e)
+phase_behind state behind (Cutting planned) e t =
+    cut_behind state behind planned t (ap worked_on e) (ap looked_at e)
+phase_behind state behind (Checking c) e t =
+    cut_behind state behind c.planned t (ap worked_on e) (ap looked_at e)
+phase_behind state behind (Finished f) e t =
+    done_phase behind.run.phase f (t.finds ∙ ap findings e)
+
+pub only_restarts : OnlyRestartsTakeBack
+only_restarts state behind t =
+    let phase : behind.run.phase ≡ restarted_phase state.run.phase =
+    phase_behind state behind state.run.phase refl t in
+    let first : ℕ → machine.Run = λ n. record { number = n; phase = behind.run.phase } in
+    let second : Phase → machine.Run = λ p. record { number = state.run.number; phase = p } in
+    ap first t.number ∙ ap second phase

@@ -1,6 +1,7 @@
 -- Behind a history of right answers, the book of a finished run is that of the flat layout.
-use Rattle.std.proofs.Common.{◌≡◌, ◌∙◌, ℕ, List, [], ◌∷◌, Some, sym, subst, arith, length-set}
+use Rattle.std.proofs.Common.{◌≡◌, ◌∙◌, ℕ, ◌<◌, List, [], ◌∷◌, length, get_or, Some, sym, ap, subst, arith, length-set}
 use Rattle.std.specs.Prelude.{All}
+use Rattle.std.proofs.lemmas.List.{get_or_default}
 use Rattle.std.proofs.lemmas.List.Elements.{All-head, All-tail}
 use Rattle.mpw_tiles.specs.Plan.{tiles}
 use Rattle.mpw_tiles.specs.Snapshots.{Snapshot, IsSnapshot, plan_for, StandFor}
@@ -125,7 +126,8 @@ good_on law computes s call s' (Does.cut answer o ev q r (Cuts.begins p ph own s
       checks = begins s.run.number p answer.windows
           (subst (λ (t : Snapshot). StandFor t answer.windows) own g.windows);
     })
-good_on law computes s call s' (Does.answered answer o ev told g r (Answered.stays same k f) e) right
+good_on law computes s call s' (Does.answered answer o ev told g r (Answered.stays same k f) e)
+    right
     h = good_run s'.run s.run (e ∙ same) h
 good_on law computes s call s'
     (Does.answered answer o ev told g r (Answered.more c x a reply same ne) e) right h =
@@ -156,6 +158,13 @@ books_are law computes officer digest calls f right e =
     (good_after law computes (new_state officer digest) calls right (new_good officer digest))
 
 -- ---- a legal history of right answers
+
+-- the call at a place of the list
+pub right_call : (calls : List Call) (i k : ℕ) (d x : Call) → k ≡ i → i < length calls
+    → x ≡ get_or calls i x → IsRight x.event → IsRight (get_or calls k d).event
+right_call calls i k d x same l is right =
+    subst (λ (call : Call). IsRight call.event)
+    (is ∙ get_or_default calls i x d l ∙ ap (λ n. get_or calls n d) (sym same)) right
 
 pub right_history : (s : State) (calls : List Call) → IsLegal s calls
     → All (λ (call : Call). IsRight call.event) calls → IsRightHistory s calls

@@ -139,7 +139,8 @@ raised_on : (first : State) (calls : List Call) (call : Call) (c : Checks) (k : 
     → IsChecking first calls c
     → IsChecking first (calls ++ call ∷ []) (with_tiles c (slice_set c.tiles k (raised x)))
 raised_on first calls call c k x q r at t =
-    let u : IsChecking first (calls ++ call ∷ []) c = quiet_on first calls call (Checking c) q r t in
+    let u : IsChecking first (calls ++ call ∷ []) c = quiet_on first calls call (Checking c) q r t
+    in
     record {
       since = u.since;
       stretch = u.stretch;

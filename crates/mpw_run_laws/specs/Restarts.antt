@@ -8,6 +8,7 @@ use Rattle.mpw_run.specs.declared.phase.Phase.{Phase}
 use Rattle.mpw_run.specs.declared.phase.Phase.TheVariants.{Idle, Cutting, Checking, Finished}
 use Rattle.mpw_run.specs.declared.phase.RunReply.TheVariants as reply
 use Rattle.mpw_run.specs.Run.{Planned, Checks, answered}
+use Rattle.mpw_run.specs.Step.{findings, restarted}
 use Rattle.mpw_wafer.specs.Run.Checking.{markers}
 use Rattle.mpw_events.specs.declared.event.Event.TheVariants as event
 use Rattle.mpw_events.specs.declared.event.Response.TheVariants as response
@@ -32,12 +33,13 @@ worked_on (Finished f) = None
 abbrev pub cutting : ℕ → Planned → CutJob
 cutting number planned = record { run = number; snapshot = planned.snapshot }
 
--- The run keeps its number and what it looks at, and whoever asks is listed the same markers, with the waivers of before. No answer of a
--- tile counts: none is kept, who calls for a job of a run that is not finished is handed the cut, and behind the windows no tile is
--- answered.
+-- The run keeps its number, what it looks at, and what it found where it is finished: whoever asks is listed the same markers, and the
+-- waivers are as they were. No answer of a tile counts: none is kept, who calls for a job of a run that is not finished is handed the
+-- cut, and behind the windows no tile is answered.
 pub record TakesBack (state behind : State) : Type 0 where
   pub number : behind.run.number ≡ state.run.number
   pub looks_at : looked_at behind.run.phase ≡ looked_at state.run.phase
+  pub finds : findings behind.run.phase ≡ findings state.run.phase
   pub lists : (policy : Policy) (connection : ℕ)
       → markers policy behind.run connection ≡ markers policy state.run connection
   pub waivers : behind.waivers ≡ state.waivers
@@ -52,3 +54,8 @@ pub record TakesBack (state behind : State) : Type 0 where
 
 abbrev pub RestartsTakeBack : Type 0
 RestartsTakeBack = (state : State) (kept : Bool) → TakesBack state (after state event.Restart kept)
+
+-- No other run is so: whatever else takes a run back is a restart of it.
+abbrev pub OnlyRestartsTakeBack : Type 0
+OnlyRestartsTakeBack = (state behind : State) → TakesBack state behind
+    → behind.run ≡ restarted state.run

@@ -11,5 +11,5 @@ mod windows;
 
 pub use finishing::a_run_is_finished_once_all_was_kept;
 pub use restarts::restarts_take_back_answers;
-pub use right::right_answers_make_the_layout;
+pub use right::{histories_are_right, right_answers_make_the_layout};
 pub use windows::squares_decide;
